@@ -1,7 +1,7 @@
 #!/usr/bin/env python3
 """Writes inputs that aim at cost, runs the built program over each, and prints what each run took: it is to end within
-3 seconds of processor time (10 with --sums, which digests each byte twice at each level), in a peak of memory of at most
-twice its input, or the multiple in RATIOS, and 64 MiB. README.md says more."""
+3 seconds of processor time (10 with --sums, which digests each byte twice at each level), or that for each 16 MiB of a
+larger input, in a peak of memory of at most twice its input, or the multiple in RATIOS, and 64 MiB. README.md says more."""
 
 import argparse
 import os
@@ -222,6 +222,8 @@ INPUTS += (small_groups, groups_of_three, nested_sections, entries, small_volume
 # How many times its input a run may hold where it is not twice.
 RATIOS = {names: 10, replaced_names: 8, mixed_names: 8, late_pair: 10, empty_sections: 8, empty_expressions: 8}
 RATIOS |= {small_groups: 10, groups_of_three: 11, nested_sections: 9, entries: 14}
+# Of these an input of 16 MiB takes less.
+RATIOS |= {stubs: 5, pads: 4, levels: 8, level_groups: 8, small_volumes: 5}
 
 
 def write(make, size, path):
@@ -263,6 +265,7 @@ def main():
                 status, seconds, peak = measure(options.program, command, path)
                 most = RATIOS.get(make, 2) * size * (2 if command == "compare" else 1) + 64 * MIB
                 most_seconds = MOST_SUMS_SECONDS if command == "list --sums" else MOST_SECONDS
+                most_seconds *= max(options.mib / 16, 1)
                 holds = 0 <= status <= 2 and seconds <= most_seconds and peak <= most
                 over += not holds
                 figures = f"{status:6} {seconds:8.2f} {peak / MIB:9.1f} {most / MIB:9.1f}"

@@ -1,5 +1,5 @@
+pub mod ArgumentReadLemmas
 pub mod NumberLemmas
-pub mod ReadLemmas
 pub mod RefusalLemmas
 pub mod TaskLemmas
 pub mod TypeLemmas

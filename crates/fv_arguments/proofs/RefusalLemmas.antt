@@ -1,5 +1,5 @@
 -- Arguments that are rejected as wrong are not right. The reader finds a fault in them (refused). Or a text of theirs is not read,
--- and right arguments have one that is (right_input, right_part, right_image, right_volumes), or a byte is given with `--all`
+-- and right arguments have one that is (no_input, right_part, right_image, right_volumes), or a byte is given with `--all`
 -- (no_place).
 use Rattle.std.proofs.Common.{◌≡◌, ◌≢◌, ◌∙◌, ◌&&◌, ℕ, Bool, List, [], ◌∷◌, IfErr, Result, Ok, Err, Option, Some, None, ap, codes, inl, inr}
 use Rattle.std.proofs.Common.{drop, not, refl, subst, sym, true, false, true≢false}
@@ -20,9 +20,9 @@ use Rattle.fv_plan.specs.declared.plan.Part.{Part}
 use Rattle.fv_plan.specs.declared.plan.VolumeFile.{VolumeFile}
 use Rattle.fv_plan.specs.declared.plan.Task.TheVariants.{Normalise, NormaliseAll, List as Listing, ListSums, Extract, Check}
 use Rattle.fv_plan.specs.declared.plan.Task.TheVariants.{Cells, Scan}
-use Rattle.fv_arguments.proofs.ReadLemmas.{by_name, faults_read}
+use Rattle.fv_arguments.proofs.ArgumentReadLemmas.{by_name, faults_read}
 use Rattle.fv_arguments.specs.Options.{compare_app, extract_app, faults_in, flag_in, hobs_app, normalise_app, text_in}
-use Rattle.fv_arguments.specs.inner.CommandWords.{AreRightFor, IsRead, Reads, app_named}
+use Rattle.fv_arguments.specs.inner.CommandWords.{AreRightFor, AsksFor, IsRead, Reads, app_named}
 use Rattle.fv_arguments.specs.Words.{HasInput, HasTexts, IsAtWord, IsImageWords, IsPartBy, IsVolumeWords, command_app, command_name}
 use Rattle.fv_arguments.specs.declared.words.WordFault.{WordFault}
 use Rattle.fv_arguments.specs.declared.words.WordFault.TheVariants.{Words, OutOfMemory}
@@ -85,10 +85,10 @@ abbrev is_on_volume : List ℕ → Bool
 is_on_volume name =
     not (bytes_eq name (codes "hobs")) && (not (bytes_eq name (codes "compare")) && not (bytes_eq name (codes "scan")))
 
-abbrev pub SomeInput : List ℕ → List (List ℕ) → Type 0
+abbrev SomeInput : List ℕ → List (List ℕ) → Type 0
 SomeInput name rest = (i : Option ℕ × Option (String Global)) × HasInput (app_named name) rest i.0 i.1
 
-pub right_input : (name : List ℕ) (rest : List (List ℕ)) → is_on_volume name ≡ true → AreRightFor name rest → SomeInput name rest
+right_input : (name : List ℕ) (rest : List (List ℕ)) → is_on_volume name ≡ true → AreRightFor name rest → SomeInput name rest
 right_input name rest volume right =
     let is = right.1.command in
     subst (λ n. SomeInput n rest) (sym is) (go right.0.command (subst (λ n. is_on_volume n ≡ true) is volume) right.1.texts)
@@ -102,6 +102,13 @@ right_input name rest volume right =
     go (Single Check at file) volume texts = ((at, file), texts)
     go (Single Cells at file) volume texts = ((at, file), texts)
     go c volume texts = absurd (true≢false (sym volume))
+
+-- so a command on one volume is rejected if its input is
+pub no_input : {m : ArgMatches} (f : WordFault) (name : List ℕ) → is_on_volume name ≡ true
+    → ((app : App) (rest : List (List ℕ)) → IsRead app rest m
+    → Reads (λ (i : Option ℕ × Option (String Global)). HasInput app rest i.0 i.1) (Err f)) → AsksFor name m (Err f)
+no_input f name volume read = λ words rest r right.
+    let input = right_input name rest volume right in read (app_named name) rest r words input.0 input.1
 
 -- a byte of an input is not given where each volume of it is meant
 pub no_place : (rest : List (List ℕ)) (given : Option ℕ) → flag_in normalise_app (codes "all") rest ≡ true

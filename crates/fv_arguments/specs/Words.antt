@@ -1,6 +1,6 @@
 -- What a command line asks for.
 use Rattle.std.specs.Prelude.{◌≡◌, ◌<◌, ◌≤◌, ◌^◌, ◌++◌, ◌⊎◌, ℕ, true, false, List, [], ◌∷◌, length}
-use Rattle.std.specs.Prelude.{Option, Some, None, String, codes, option_and_then, option_map}
+use Rattle.std.specs.Prelude.{Option, Some, None, IsSomeAnd, String, codes, option_and_then, option_map}
 use Rattle.std.specs.Str.Parse.{IsNumeral, digits_value, without_leading_plus}
 use Rattle.std.specs.Global.{Global}
 use Rattle.std.specs.String.{string_bytes}
@@ -78,15 +78,11 @@ pub record IsPartBy (name section which : Option (List ℕ)) (part : Part) : Typ
   pub section_is : IsSectionTypeWord section part.section
   pub instance_is : IsInstanceWord which part.instance
 
--- the address of an image's first byte
-abbrev pub IsBaseWord : Option (List ℕ) → ℕ → Type 0
-IsBaseWord None n = ⊥
-IsBaseWord (Some text) n = IsNumberWord 64 text n
-
--- a named image with its base: both are given, or neither
+-- a named image with its base, the address of its first byte: both are given, or neither
 abbrev pub IsImageWords : (path base : Option (List ℕ)) → Option ImageFile → Type 0
 IsImageWords path base None = (path ≡ None) × (base ≡ None)
-IsImageWords path base (Some image) = (path ≡ Some (string_bytes image.path)) × IsBaseWord base image.base
+IsImageWords path base (Some image) =
+    (path ≡ Some (string_bytes image.path)) × IsSomeAnd base (λ text. IsNumberWord 64 text image.base)
 
 -- the byte at which a volume begins: a decimal number, or `0x` and a hexadecimal one
 abbrev pub IsPlaceWord : List ℕ → ℕ → Type 0

@@ -3,14 +3,16 @@
 -- 2. The first fault is that of the first check which does not hold (`first_is`), also where two tables are joined (`first_front`,
 --    `first_whole`).
 -- 3. What is true of the faults of all checks is true of one that fails (`first_among`, `fails_among`). If all hold, none fails
---    (`none_fails`).
+--    (`none_fails`). A table has one first fault (`one_fault`), and it is one of those that fail (`any_fails`).
 -- 4. A verdict is the first fault, or else a value (`verdict_ok`, `verdict_err`, `verdict_none`).
-use Rattle.std.proofs.Common.{◌≡◌, List, [], ◌∷◌, ◌++◌, refl, ap, subst, sym, Bool, true, false}
+use Rattle.std.proofs.Common.{◌≡◌, List, [], ◌∷◌, ◌++◌, refl, ap, subst, sym, ◌∙◌, inl, inr, Bool, true, false}
 use Rattle.std.specs.Prelude.{◌&&◌, Option, None, Some, Ok, Err, if◌then◌else◌}
 use Rattle.std.specs.List.{AllByRecursion}
 use Rattle.fv_base.specs.Checks.{Check, AllHold, FailsAfter, IsFirstFault, GuardsHold, Which, First, Any, Fails}
 use Rattle.fv_base.specs.inner.Verdicts.{first_fault, verdict_by}
 use Rattle.fv_base.specs.declared.fault.Fault.{Fault}
+use Rattle.fv_base.proofs.ListLaws.{TwoCuts, in_middle, two_cuts}
+use Rattle.fv_base.proofs.TestLemmas.{up_is_not_down}
 
 pub and_split : (a b : Bool) → (a && b) ≡ true → (a ≡ true) × (b ≡ true)
 and_split true b h = (refl, h)
@@ -60,18 +62,12 @@ first_whole {F} (c ∷ cs) ds is = go c.holds (first_whole cs ds) is where
   go true rest k = rest k
   go false rest k = cc
 
--- what holds of all checks of a table holds of each
-in_table : {F : Type 0} → (P : Check F → Type 0) (before : List (Check F)) (c : Check F) (after : List (Check F))
-    → AllByRecursion P (before ++ c ∷ after) → P c
-in_table P [] c after h = h.0
-in_table P (d ∷ ds) c after h = in_table P ds c after h.1
-
 -- what is true of the faults of all checks is true of the fault of one that fails
 among : {F : Type 0} → (H : List (Check F) → Type 0) (P : F → Type 0) (cs : List (Check F)) (f : F) → AllByRecursion (λ c. P c.fault) cs
     → FailsAfter H cs f → P f
 among {F} H P cs f all (before, c, after, is, held, bad, fault) =
     let Q : Check F → Type 0 = λ d. P d.fault in
-    subst P (sym fault) (in_table Q before c after (subst (λ (l : List (Check F)). AllByRecursion Q l) is all))
+    subst P (sym fault) (in_middle Q before c after (subst (λ (l : List (Check F)). AllByRecursion Q l) is all))
 
 pub first_among : {F : Type 0} → (P : F → Type 0) (cs : List (Check F)) (f : F) → AllByRecursion (λ c. P c.fault) cs → IsFirstFault cs f
     → P f
@@ -82,13 +78,15 @@ pub fails_among : (which : Which) (P : Fault → Type 0) (cs : List (Check Fault
 fails_among First P cs f all bad = among AllHold P cs f all bad
 fails_among Any P cs f all bad = among GuardsHold P cs f all bad
 
--- where all checks hold, none fails
+-- where all checks hold, each does
+holds_in : {F : Type 0} → (cs before : List (Check F)) (c : Check F) (after : List (Check F)) → cs ≡ before ++ (c ∷ after) → AllHold cs
+    → c.holds ≡ true
+holds_in {F} cs before c after is all =
+    in_middle (λ (d : Check F). d.holds ≡ true) before c after (subst (λ (l : List (Check F)). AllHold l) is all)
+
+-- so none fails
 not_failing : {F : Type 0} → (H : List (Check F) → Type 0) (cs : List (Check F)) (f : F) → FailsAfter H cs f → AllHold cs → ⊥
-not_failing {F} H cs f (before, c, after, is, held, bad, fault) all =
-    never c.holds (in_table (λ (d : Check F). d.holds ≡ true) before c after (subst (λ (l : List (Check F)). AllHold l) is all)) bad
-  where
-    never : (b : Bool) → b ≡ true → b ≡ false → ⊥
-    never b t n = cc
+not_failing H cs f (before, c, after, is, held, bad, fault) all = up_is_not_down c.holds (holds_in cs before c after is all) bad
 
 pub none_fails : (which : Which) (cs : List (Check Fault)) (f : Fault) → Fails which cs f → AllHold cs → ⊥
 none_fails First cs f bad all = not_failing AllHold cs f bad all
@@ -97,6 +95,24 @@ none_fails Any cs f bad all = not_failing GuardsHold cs f bad all
 -- where there is no first fault, none is it
 pub not_first : {F : Type 0} → (cs : List (Check F)) (f : F) → IsFirstFault cs f → first_fault cs ≡ None → ⊥
 not_first {F} cs f first none = not_failing AllHold cs f first (all_hold cs none)
+
+-- a table has one first fault: no check before which all hold is after one that fails
+pub one_fault : {F : Type 0} (cs : List (Check F)) (f g : F) → IsFirstFault cs f → IsFirstFault cs g → f ≡ g
+one_fault {F} cs f g (before, c, after, is, held, fails, fault) (before', d, after', is', held', fails', fault') =
+    go (two_cuts before c after before' d after' (sym is ∙ is'))
+  where
+    go : TwoCuts before c after before' d after' → f ≡ g
+    go (inl (same, item)) = fault ∙ ap (λ (k : Check F). k.fault) item ∙ sym fault'
+    go (inr (inl (mid, late, rest))) = absurd (up_is_not_down c.holds (holds_in before' before c mid late held') fails)
+    go (inr (inr (mid, late, rest))) = absurd (up_is_not_down d.holds (holds_in before before' d mid late held) fails')
+
+-- where all checks hold, the guards do; so the first fault is one of those that fail
+guards : (cs : List (Check Fault)) → AllHold cs → GuardsHold cs
+guards [] all = tt
+guards (c ∷ cs) all = (λ guard. all.0, guards cs all.1)
+
+pub any_fails : (cs : List (Check Fault)) (f : Fault) → Fails First cs f → Fails Any cs f
+any_fails cs f (before, c, after, is, held, bad, fault) = (before, c, after, is, guards before held, bad, fault)
 
 -- ---- a fault, or else the value
 

@@ -1,8 +1,17 @@
--- A fault that `?` passes on, and what is one of two.
+-- A fault that `?` passes on, what is one of two, and whether a fault is out of memory.
 -- 1. A result that passes a fault on is that fault (err_is). So what has to be said of the result is said of the fault, by `rw`.
 -- 2. Of one of two, the second gives another (or_more), or there is only the first (first_only). Mostly the first is out of memory.
-use Rattle.std.proofs.Common.{◌≡◌, ◌⊎◌, inl, inr, ap}
+-- 3. A fault is out of memory, or it is not (want_known).
+use Rattle.std.proofs.lemmas.Grind.{common_steps}
+use Rattle.std.proofs.Common.{◌≡◌, ◌≢◌, ◌⊎◌, Bool, true, false, ℕ, refl, inl, inr, ap, arith, rules}
+use Rattle.std.proofs.lemmas.Bool.{cases_eq}
 use Rattle.std.specs.Prelude.{Result, Ok, Err, IsErrAnd}
+use denote.Enum.Bare.{sameb, same_false, same_true}
+use Rattle.fv_base.specs.Faults.{out_of_memory}
+use Rattle.fv_base.specs.contracts.fault.FaultKind.{the_type}
+use Rattle.fv_base.specs.declared.fault.Fault.{Fault}
+use Rattle.fv_base.specs.declared.fault.FaultKind.{FaultKind}
+use Rattle.fv_base.specs.declared.fault.FaultKind.TheVariants as kinds
 
 pub err_is : {A F : Type 0} {r : Result A F} {f : F} → IsErrAnd r (λ g. g ≡ f) → r ≡ Err f
 err_is {r = Ok a} is = absurd is
@@ -15,3 +24,17 @@ or_more (inr u) more = inr (more u)
 pub first_only : {P U : Type 0} → P ⊎ U → (U → ⊥) → P
 first_only (inl p) none = p
 first_only (inr u) none = absurd (none u)
+
+-- ---- out of memory
+
+kind_known : (k : FaultKind) → (k ≡ kinds.OutOfMemory) ⊎ (k ≢ kinds.OutOfMemory)
+kind_known k = go (sameb the_type k kinds.OutOfMemory) refl where
+  go : (t : Bool) → sameb the_type k kinds.OutOfMemory ≡ t → (k ≡ kinds.OutOfMemory) ⊎ (k ≢ kinds.OutOfMemory)
+  go true same = inl (same_true the_type (search rules) _ _ same)
+  go false other = inr (same_false the_type _ _ other)
+
+number_known : (n : ℕ) → (n ≡ 0) ⊎ (n ≢ 0)
+number_known n = cases_eq n 0
+
+pub want_known : (f : Fault) → (f ≡ out_of_memory) ⊎ (f ≢ out_of_memory)
+want_known f = grind (arith, common_steps, kind_known, number_known)

@@ -2,12 +2,15 @@
 -- 1. What is cut from bytes, or joined of them, is bytes (`bytes_take`, `bytes_drop`, `bytes_append`).
 -- 2. Bytes and the number that they spell give one another back (`le_bytes-le`, `field_is`, `le-le_bytes`).
 -- 3. A field of a part is a field of the whole (`field-take`, `field-append_front`, `drop-append_behind`).
+-- 4. Bytes up to a place are those up to an earlier place and some between (`take_past`, `some_between`). Two places are one if neither is
+--    before the other (`same_place`).
 use Rattle.std.proofs.lemmas.Grind.{common_steps}
 use Rattle.std.proofs.Common.{◌≡◌, ◌≤◌, ◌<◌, ◌+◌, ◌-◌, ◌*◌, ◌/◌, ◌%◌, ◌^◌, ℕ, zero, suc, List, [], ◌∷◌, ◌++◌, length, take, drop, refl, sym}
-use Rattle.std.proofs.Common.{ap, ◌∙◌, subst, arith, length-drop}
+use Rattle.std.proofs.Common.{◌⊎◌, ap, ◌∙◌, subst, arith, inl, inr, length-drop}
 use Rattle.std.specs.Prelude.{slice_index}
 use Rattle.std.proofs.Math.Nat.{pow-suc}
-use Rattle.std.proofs.Math.Seq.{drop-append-add}
+use Rattle.std.proofs.Math.Seq.{drop-append-add, take-add}
+use Rattle.std.proofs.lemmas.Bool.{cases_lt}
 use Rattle.std.proofs.lemmas.List.{drop-take, length-take-le, take-append-le, drop-append-le}
 use Rattle.fv_base.specs.Value.{IsBytes, le, le_bytes, field}
 
@@ -136,3 +139,24 @@ two_bytes at b small = below (field at 2 b) (drop at b) refl (bytes_drop at b sm
   below f [] is small = rw is (omega arith)
   below f (x ∷ []) is small = rw is (one x (small 0))
   below f (x ∷ y ∷ xs) is small = rw is (low x y (small 0) (small 1))
+
+-- ---- two places
+
+-- they are one if neither is before the other
+pub same_place : (m n : ℕ) → (m < n → ⊥) → (n < m → ⊥) → m ≡ n
+same_place m n low high = go (cases_lt m n) (cases_lt n m) where
+  go : (m < n) ⊎ (n ≤ m) → (n < m) ⊎ (m ≤ n) → m ≡ n
+  go (inl l) _ = absurd (low l)
+  go (inr _) (inl l) = absurd (high l)
+  go (inr a) (inr b) = omega (arith, a, b)
+
+-- the bytes up to the later one, cut at the earlier one
+pub take_past : (b : List ℕ) (m n : ℕ) → m < n → take n b ≡ take m b ++ take (n - m) (drop m b)
+take_past b m n l = ap (λ (k : ℕ). take k b) (split m n l) ∙ take-add m (n - m) b
+  where
+    split : (m n : ℕ) → m < n → n ≡ m + (n - m)
+    split m n l = omega arith
+
+-- there are some between them
+pub some_between : (b : List ℕ) (m n : ℕ) → m < n → n < length b → 0 < length (take (n - m) (drop m b))
+some_between b m n l within = omega (arith, length-take-le (n - m) (drop m b) (omega (arith, length-drop m b, l, within)), l)

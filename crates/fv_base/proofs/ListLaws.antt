@@ -1,6 +1,15 @@
--- What holds of every item of a list, of one item and of some, and where an item is.
-use Rattle.std.proofs.Common.{◌≡◌, ◌⊎◌, ℕ, zero, suc, ◌<◌, Bool, true, false, List, [], ◌∷◌, ◌++◌, length, get_or, refl, inl, inr, arith}
-use Rattle.std.specs.List.{AllByRecursion, Contains, filter}
+-- Lists. What is proved of them:
+-- 1. What holds of every item holds of one and of some (`at_index`, `in_middle`, `after_middle`, `all_filter`). An item is the first or one
+--    after it (`first_or_behind`, `one_behind`).
+-- 2. Of two cuts of one list at an item, both are at one item, or one is before the other (`two_cuts`).
+-- 3. The items from one on, and up to one (`item_at`, `more_items`, `seam_items`).
+-- 4. What is kept by a note of it is kept by a test (`kept_noted`); a list in the place of another (`in_place`).
+use Rattle.std.proofs.lemmas.Grind.{common_steps}
+use Rattle.std.proofs.Common.{◌≡◌, ◌⊎◌, ℕ, zero, suc, ◌+◌, ◌<◌, Bool, true, false, not, List, [], ◌∷◌, ◌++◌, length, take, drop, get_or, map}
+use Rattle.std.proofs.Common.{refl, sym, ap, ◌∙◌, inl, inr, arith}
+use Rattle.std.specs.List.{All, AllByRecursion, Contains, filter}
+use Rattle.std.proofs.lemmas.List.{append-nil, drop_all, drop_more, get_or-map, length-map, take-append-drop, take_all, take_more}
+use Rattle.std.proofs.lemmas.List.Elements.{recursion_from_All}
 
 -- of the one at a place
 pub at_index : {X : Type 0} (P : X → Type 0) (xs : List X) (i : ℕ) (d : X) → AllByRecursion P xs → i < length xs → P (get_or xs i d)
@@ -14,6 +23,12 @@ at_index P (x ∷ xs) (suc i) d all l = at_index P xs i d all.1 (omega arith)
 pub in_middle : {X : Type 0} (P : X → Type 0) (before : List X) (x : X) (after : List X) → AllByRecursion P (before ++ (x ∷ after)) → P x
 in_middle P [] x after all = all.0
 in_middle P (z ∷ zs) x after all = in_middle P zs x after all.1
+
+-- of those after the one where it is cut
+pub after_middle : {X : Type 0} (P : X → Type 0) (before : List X) (x : X) (after : List X) → AllByRecursion P (before ++ (x ∷ after))
+    → AllByRecursion P after
+after_middle P [] x after all = all.1
+after_middle P (z ∷ zs) x after all = after_middle P zs x after all.1
 
 -- of those that a test keeps
 pub all_filter : {X : Type 0} (test : X → Bool) (P : X → Type 0) (xs : List X) → AllByRecursion P xs → AllByRecursion P (filter test xs)
@@ -30,3 +45,74 @@ first_or_behind x xs y (suc k, l, e) = inr (k, omega (arith, l), e)
 
 pub one_behind : {X : Type 0} (x : X) (xs : List X) (y : X) → Contains xs y → Contains (x ∷ xs) y
 one_behind x xs y (k, l, e) = (suc k, omega (arith, l), e)
+
+-- ---- two cuts
+
+-- the first cut is before the second: its item is among those before the second's
+abbrev pub Earlier : {A : Type 0} → List A → A → List A → List A → A → List A → Type 0
+Earlier {A} before x after before' y after' = (mid : List A) × (before' ≡ before ++ (x ∷ mid)) × (after ≡ mid ++ (y ∷ after'))
+
+-- two cuts of one list are at one item, or one is before the other
+abbrev pub TwoCuts : {A : Type 0} → List A → A → List A → List A → A → List A → Type 0
+TwoCuts before x after before' y after' =
+    ((before ≡ before') × (x ≡ y)) ⊎ (Earlier before x after before' y after' ⊎ Earlier before' y after' before x after)
+
+pub two_cuts : {A : Type 0} (before : List A) (x : A) (after before' : List A) (y : A) (after' : List A)
+    → before ++ (x ∷ after) ≡ before' ++ (y ∷ after') → TwoCuts before x after before' y after'
+two_cuts [] x after [] y after' e = let same : x ≡ y = cc in inl (refl, same)
+two_cuts [] x after (z ∷ zs) y after' e =
+    let head : z ≡ x = cc in
+    let tail : after ≡ zs ++ (y ∷ after') = cc in
+    inr (inl (zs, ap (λ w. w ∷ zs) head, tail))
+two_cuts (z ∷ zs) x after [] y after' e =
+    let head : z ≡ y = cc in
+    let tail : after' ≡ zs ++ (x ∷ after) = cc in
+    inr (inr (zs, ap (λ w. w ∷ zs) head, tail))
+two_cuts {A} (z ∷ zs) x after (w ∷ ws) y after' e =
+    let head : z ≡ w = cc in
+    let tail : zs ++ (x ∷ after) ≡ ws ++ (y ∷ after') = cc in
+    go head (two_cuts zs x after ws y after' tail)
+  where
+    go : z ≡ w → TwoCuts zs x after ws y after' → TwoCuts (z ∷ zs) x after (w ∷ ws) y after'
+    go h (inl (same, item)) = inl (ap (λ l. z ∷ l) same ∙ ap (λ v. v ∷ ws) h, item)
+    go h (inr (inl (mid, is, rest))) = inr (inl (mid, ap (λ l. w ∷ l) is ∙ ap (λ v. v ∷ (zs ++ (x ∷ mid))) (sym h), rest))
+    go h (inr (inr (mid, is, rest))) = inr (inr (mid, ap (λ l. z ∷ l) is ∙ ap (λ v. v ∷ (ws ++ (y ∷ mid))) h, rest))
+
+-- ---- one item more
+
+-- the list from a place on
+pub item_at : {X : Type 0} (xs : List X) (i : ℕ) (x : X) → i < length xs → x ≡ get_or xs i x → drop i xs ≡ x ∷ drop (i + 1) xs
+item_at xs i x l is = drop_more xs i x l ∙ ap (λ y. y ∷ drop (i + 1) xs) (sym is)
+
+-- of a list that a function made
+module _ {X A : Type 0} (form : X → A) (items : List X) (i : ℕ) (d : X) where
+  pub more_items : i < length items → take (i + 1) (map form items) ≡ take i (map form items) ++ form (get_or items i d) ∷ []
+  more_items l =
+      let lt : i < length (map form items) = omega (arith, l, length-map items form) in
+      take_more (map form items) i (form d) lt ∙ ap (λ f. take i (map form items) ++ f ∷ []) (get_or-map form items i d (form d) l)
+
+  pub seam_items : i < length items → map form items ≡ take i (map form items) ++ form (get_or items i d) ∷ drop (i + 1) (map form items)
+  seam_items l =
+      let lt : i < length (map form items) = omega (arith, l, length-map items form) in
+      sym (take-append-drop i (map form items)) ∙ ap (λ r. take i (map form items) ++ r) (drop_more (map form items) i (form d) lt
+      ∙ ap (λ f. f ∷ drop (i + 1) (map form items)) (get_or-map form items i d (form d) l))
+
+-- ---- what is kept
+
+-- where a note says of each item what a test says, those without the note are those that the test is false of
+pub kept_noted : {X A : Type 0} (form : X → A) (note : X → Bool) (test : A → Bool) (xs : List X)
+    → All (λ x. note x ≡ test (form x)) xs → map form (filter (λ x. not (note x)) xs) ≡ filter (λ f. not (test f)) (map form xs)
+kept_noted {X} {A} form note test xs all = go xs (recursion_from_All (λ x. note x ≡ test (form x)) xs all) where
+  go : (ys : List X) → AllByRecursion (λ x. note x ≡ test (form x)) ys
+      → map form (filter (λ x. not (note x)) ys) ≡ filter (λ f. not (test f)) (map form ys)
+  go [] h = refl
+  go (y ∷ ys) h = one (test (form y)) refl (go ys h.1) where
+    one : (t : Bool) → test (form y) ≡ t → map form (filter (λ x. not (note x)) ys) ≡ filter (λ f. not (test f)) (map form ys)
+        → map form (filter (λ x. not (note x)) (y ∷ ys)) ≡ filter (λ f. not (test f)) (map form (y ∷ ys))
+    one true is rest = rw (h.0, is) rest
+    one false is rest = rw (h.0, is) (ap (λ (l : List A). form y ∷ l) rest)
+
+-- a list in the place of one as long
+pub in_place : {X : Type 0} (new old : List X) (n : ℕ) → length new ≡ length old → n ≡ length old
+    → take n (new ++ drop (length new) old) ≡ new
+in_place {X} new old n long count = grind (arith, common_steps, drop_all, append-nil, take_all)

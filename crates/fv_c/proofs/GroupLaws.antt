@@ -7,8 +7,9 @@ use Rattle.std.specs.List.{filter}
 use Rattle.std.specs.Prelude.{◌==◌, ◌≢◌, ◌&&◌, Bool, not, Option, slice_get}
 use Rattle.fv_tree.specs.Meaning.{ContentMeaning, SectionMeanings, NoSections, MoreSections}
 use Rattle.fv_tree.specs.Meaning.{SectionMeaning, Section, BodyMeaning, Leaf, Group, Nested}
-use Rattle.fv_c.specs.ReportedSections.{SectionRow, is_in, is_root, no_parent, rows_in_body, rows_of_section, rows_of_sections, rows_under}
-use Rattle.fv_c.specs.ReportedSections.{rows_under_row, section_rows, sections_in, sections_in_data}
+use Rattle.fv_tree.specs.MeaningParts.{sections_in, sections_in_data}
+use Rattle.fv_c.specs.ReportedFiles.{SectionRow, is_in, is_root, no_parent, rows_in_body, rows_of_section, rows_of_sections, rows_under}
+use Rattle.fv_c.specs.ReportedFiles.{rows_under_row, section_rows}
 
 -- ---- the rows of some sections, without those in their groups
 

@@ -1,6 +1,6 @@
 -- The part of a volume that two numbers ask for.
 use Rattle.std.proofs.lemmas.Grind.{common_steps}
-use Rattle.std.proofs.Common.{◌≡◌, ◌∙◌, ◌⊎◌, ℕ, List, true, false, Some, None, map, refl, sym, ap, subst, inl, inr, arith}
+use Rattle.std.proofs.Common.{◌≡◌, ◌∙◌, ◌⊎◌, ℕ, List, true, false, Some, None, refl, sym, ap, subst, inl, inr, arith}
 use Rattle.std.specs.Option.{option_and_then}
 use Rattle.std.specs.Prelude.{◌==◌, ◌≢◌, Bool, cond, Option, option_map, slice_get, IfSome, IfNone}
 use Rattle.std.proofs.lemmas.Bool.Decides.{Decides-eqb}
@@ -9,17 +9,18 @@ use Rattle.fv_base.proofs.Laws.{or_more}
 use Rattle.fv_base.specs.Faults.{out_of_memory}
 use Rattle.fv_base.specs.declared.fault.Fault.{Fault}
 use Rattle.fv_canon.specs.LayoutFaults.{FirstUnfit}
-use Rattle.fv_tree.specs.Inputs.{NotRead}
+use Rattle.fv_tree.specs.InputFaults.{NotRead}
 use Rattle.fv_tree.specs.Denotes.{Accepted}
 use Rattle.fv_head.specs.Head.{HeadFields}
-use Rattle.fv_tree.specs.Meaning.{Meaning, Volume, FileMeaning, files_of, content_of}
-use Rattle.fv_tree.specs.MeaningParts.{body_of, files_from}
+use Rattle.fv_tree.specs.LookupInstances.{preorder}
+use Rattle.fv_tree.specs.Meaning.{Meaning, Volume, FileMeaning, SectionMeaning, files_of, content_of}
+use Rattle.fv_tree.specs.MeaningParts.{body_of, files_from, sections_in_data}
 use Rattle.fv_tree.proofs.Laws.{files_list_back}
 use Rattle.fv_c.specs.ExtractedParts.{PartMeaning, Data, Body, whole_file, part_of_file, part_in, IsPartImage}
 use Rattle.fv_c.specs.ExtractedParts.{volumes_in_part, ExtractsTo, HasNoPart, HasUnfitPart}
-use Rattle.fv_c.specs.ReportedSections.{SectionRow, section_rows}
-use Rattle.fv_c.specs.declared.parts.PlacedSection.{PlacedSection}
-use Rattle.fv_c.specs.inner.PlacedSections.{row_form, ShowsPart, StopsPart}
+use Rattle.fv_c.specs.ReportedFiles.{SectionRow, no_parent, section_rows}
+use Rattle.fv_c.specs.inner.Rows.{ShowsPart, StopsPart}
+use Rattle.fv_c.proofs.PreorderLaws.{sections_listed}
 
 -- ---- the file
 
@@ -37,24 +38,31 @@ part_at m h fs file section o is found = ap (option_and_then (part_of_file secti
 
 -- ---- its part
 
--- the body of the section of a row
-abbrev row_part : SectionRow → PartMeaning
-row_part r = Body (body_of r.section)
-
 is_not : (a b : ℕ) → a ≢ b → (a == b) ≡ false
 is_not a b ne = grind (arith, common_steps)
 
 pub whole_part : (section : ℕ) (f : FileMeaning) → section ≡ whole_file → part_of_file section f ≡ Some (Data (content_of f))
 whole_part section f is = let test : (section == whole_file) ≡ true = (Decides-eqb section whole_file).1 is in rw test refl
 
-pub row_at : (section : ℕ) (f : FileMeaning) (rows : List PlacedSection) (o : Option PlacedSection) → section ≢ whole_file
-    → map row_form rows ≡ section_rows (content_of f) → o ≡ slice_get rows section
-    → part_of_file section f ≡ option_map row_part (option_map row_form o)
-row_at section f rows o ne are found =
-    ap (λ (t : Bool). cond t (Some (Data (content_of f))) (option_map row_part (slice_get (section_rows (content_of f)) section)))
+-- the body of a section, by its row or by itself
+abbrev pub body_part : SectionMeaning → PartMeaning
+body_part s = Body (body_of s)
+
+by_row : (o : Option SectionRow)
+    → option_map (λ (r : SectionRow). Body (body_of r.section)) o ≡ option_map body_part (option_map (λ (r : SectionRow). r.section) o)
+by_row None = refl
+by_row (Some r) = refl
+
+pub section_at : (section : ℕ) (f : FileMeaning) (o : Option SectionMeaning) → section ≢ whole_file
+    → o ≡ slice_get (preorder (sections_in_data (content_of f))) section
+    → part_of_file section f ≡ option_map body_part o
+section_at section f o ne found =
+    let rows : List SectionRow = section_rows (content_of f) in
+    ap (λ (t : Bool). cond t (Some (Data (content_of f))) (option_map (λ (r : SectionRow). Body (body_of r.section)) (slice_get rows section)))
     (is_not section whole_file ne)
-    ∙ ap (λ (l : List SectionRow). option_map row_part (slice_get l section)) (sym are)
-    ∙ ap (option_map row_part) (slice_get-map row_form rows section ∙ ap (option_map row_form) (sym found))
+    ∙ by_row (slice_get rows section)
+    ∙ ap (option_map body_part) (sym (slice_get-map (λ (r : SectionRow). r.section) rows section)
+    ∙ ap (λ (l : List SectionMeaning). slice_get l section) (sections_listed 0 no_parent 0 (sections_in_data (content_of f))) ∙ sym found)
 
 -- ---- what is promised of it
 

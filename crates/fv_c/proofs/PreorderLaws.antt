@@ -3,7 +3,7 @@ use Rattle.std.proofs.Common.{◌≡◌, ◌∙◌, ◌∷◌, ◌++◌, ℕ, �
 use Rattle.std.proofs.lemmas.List.{map-append}
 use Rattle.fv_tree.specs.LookupInstances.{preorder, inside_section, inside_body}
 use Rattle.fv_tree.specs.Meaning.{SectionMeanings, NoSections, MoreSections, SectionMeaning, Section, BodyMeaning, Leaf, Group, Nested}
-use Rattle.fv_c.specs.ReportedSections.{SectionRow, rows_of_sections, rows_of_section, rows_in_body}
+use Rattle.fv_c.specs.ReportedFiles.{SectionRow, rows_of_sections, rows_of_section, rows_in_body}
 
 -- the sections of some rows
 abbrev pub sections_of : List SectionRow → List SectionMeaning

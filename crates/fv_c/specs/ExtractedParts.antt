@@ -8,7 +8,7 @@ use Rattle.fv_tree.specs.Volumes.{Inside, volumes_in_body, volumes_in_content}
 use Rattle.fv_tree.specs.Denotes.{Accepted}
 use Rattle.fv_tree.specs.Meaning.{Meaning, FileMeaning, ContentMeaning, BodyMeaning, files_of, content_of}
 use Rattle.fv_tree.specs.MeaningParts.{body_of}
-use Rattle.fv_c.specs.ReportedSections.{SectionRow, section_rows}
+use Rattle.fv_c.specs.ReportedFiles.{SectionRow, section_rows}
 
 -- the data of a file, or the body of a section
 pub data PartMeaning : Type 0 where

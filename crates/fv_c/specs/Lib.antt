@@ -1,10 +1,8 @@
 -- The definitions in the order in which they can be read.
 pub mod Reports
 pub mod ReportedCells
-pub mod ReportedComparisons
 pub mod ReportedTruths
 pub mod ReportedHobs
-pub mod ReportedSections
 pub mod ReportedFiles
 pub mod ExtractedParts
 pub mod inner

@@ -1,5 +1,5 @@
--- Extents and faults, as they are reported to C.
-use Rattle.std.specs.Prelude.{ℕ}
+-- Extents, faults and comparisons, as they are reported to C.
+use Rattle.std.specs.Prelude.{ℕ, ◌≡◌, ◌↔◌, ◌≤◌, length}
 use Rattle.fv_base.specs.Faults.{fault_number}
 use Rattle.fv_base.specs.Flash.{erased_byte}
 use Rattle.fv_base.specs.declared.fault.Fault.{Fault}
@@ -9,6 +9,10 @@ pub use Rattle.fv_head.specs.HeadChecks.{BeginsWithHeader}
 use Rattle.fv_head.specs.declared.extent.Extent.{Extent}
 use Rattle.fv_c.specs.declared.reports.FvExtent.{FvExtent}
 use Rattle.fv_c.specs.declared.reports.FvFault.{FvFault}
+use Rattle.fv_compare.specs.ComparisonLines.{compare_line}
+use Rattle.fv_compare.specs.Difference.{difference}
+use Rattle.fv_tree.specs.Meaning.{Meaning}
+use Rattle.fv_c.specs.declared.compare.FvComparison.{FvComparison}
 
 -- the number of a file system
 abbrev pub system_number : FileSystem → ℕ
@@ -32,3 +36,16 @@ reported_fault f = record { offset = f.place.offset; number = fault_number f.kin
 -- that there is no fault
 abbrev pub no_fault : FvFault
 no_fault = record { offset = 0; number = 0; depth = 0 }
+
+-- no input was rejected; whether the two have the same meaning, and the length of the line that says where they first
+-- differ
+pub record IsReported (m k : Meaning) (found : FvComparison) : Type 0 where
+  pub same : (found.same ≡ 1) ↔ (m ≡ k)
+  pub flag : found.same ≤ 1
+  pub line : found.line_len ≡ length (compare_line (difference m k))
+  pub side : found.side ≡ 0
+  pub fault : found.fault ≡ no_fault
+
+-- the input of this side was rejected with this fault
+abbrev pub reported_stop : ℕ → Fault → FvComparison
+reported_stop side f = record { line_len = 0; same = 0; side = side; fault = reported_fault f }

@@ -1,3 +1,2 @@
 -- Definitions that serve only private clauses: there is nothing to believe here.
-pub mod WrittenRows
-pub mod PlacedSections
+pub mod Rows

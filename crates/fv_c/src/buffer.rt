@@ -1,9 +1,10 @@
 //! The caller's buffer.
 
 ghost use Rattle.std.specs.Prelude.{◌≡◌, ◌≤◌, ◌++◌, length, drop};
-ghost use Rattle.fv_c.specs.inner.WrittenRows.{IsWritten};
+ghost use Rattle.fv_c.specs.Reports.{no_fault};
+ghost use Rattle.fv_c.specs.inner.Rows.{IsWritten};
 
-use crate::reports::BUFFER_TOO_SMALL;
+use crate::reports::{BUFFER_TOO_SMALL, FvFault, NO_FAULT};
 
 // Writes the elements at the start of the buffer, and keeps what the buffer holds after them.
 pub(crate) fn put_first<T: Copy>(rows: &[T], buffer: &mut [T])
@@ -33,4 +34,19 @@ pub(crate) fn put_rows<T: Copy>(rows: &[T], buffer: &mut [T], count: &mut u64) -
 {
     *count = rows.len() as u64;
     put_all(rows, buffer)
+}
+
+// Does the same as `put_rows`, and reports that there is no fault.
+pub(crate) fn put_found<T: Copy>(
+    rows: &[T],
+    buffer: &mut [T],
+    count: &mut u64,
+    fault: &mut FvFault,
+) -> u32
+    ensures written { IsWritten rows.now buffer.old buffer.new result }
+    ensures count { count.new ≡ length rows.now }
+    ensures fault { fault.new ≡ no_fault }
+{
+    *fault = NO_FAULT;
+    put_rows(rows, buffer, count)
 }

@@ -10,8 +10,8 @@ ghost use Rattle.fv_tree.specs.LocatedFiles.{BeginsTiled, NotTiled};
 ghost use Rattle.fv_c.specs.ReportedCells.{dead_number, of_bytes, of_file, reported_cell};
 ghost use Rattle.fv_c.specs.Reports.{BeginsWithHeader, reported_fault, no_fault};
 
-use crate::buffer::put_rows;
-use crate::reports::{FvFault, NO_FAULT, refused};
+use crate::buffer::put_found;
+use crate::reports::{FvFault, refused};
 use crate::translate::{Translate, translate_all};
 use fv_base::Fault;
 use fv_file::{Cell, Cells, FileHead, FileState};
@@ -150,10 +150,7 @@ pub extern "C" fn fv_cells(
         × (result ≡ fault_number f.kind) × (fault.new ≡ reported_fault f) × (count.new ≡ count.old) }
 {
     match cell_rows(alloc, bytes) {
-        Ok(rows) => {
-            *fault = NO_FAULT;
-            put_rows(rows.as_slice(), buffer, count)
-        }
+        Ok(rows) => put_found(rows.as_slice(), buffer, count, fault),
         Err(f) => refused(f, fault),
     }
 }

@@ -4,12 +4,11 @@ ghost use Rattle.std.specs.Prelude.{◌≡◌, ◌≢◌, ◌⊎◌, ◌↔◌, 
 ghost use Rattle.fv_base.specs.Faults.{fault_number, out_of_memory};
 ghost use Rattle.fv_base.specs.declared.fault.Fault.{Fault};
 ghost use Rattle.fv_compare.specs.ComparisonLines.{compare_line};
-ghost use Rattle.fv_tree.specs.Inputs.{NotRead};
+ghost use Rattle.fv_tree.specs.InputFaults.{NotRead};
 ghost use Rattle.fv_tree.specs.Denotes.{Accepted};
 ghost use Rattle.fv_compare.specs.Difference.{difference};
 ghost use Rattle.fv_tree.specs.Meaning.{Meaning};
-ghost use Rattle.fv_c.specs.ReportedComparisons.{IsReported, reported_stop};
-ghost use Rattle.fv_c.specs.Reports.{BeginsWithHeader};
+ghost use Rattle.fv_c.specs.Reports.{IsReported, reported_stop, BeginsWithHeader};
 
 use crate::buffer::put_all;
 use crate::reports::{FvFault, NO_FAULT, flag, reported_fault};

@@ -4,7 +4,7 @@ ghost use Rattle.std.specs.Prelude.{◌≡◌, ◌≢◌, ◌⊎◌, ◌<◌, �
 ghost use Rattle.std.specs.Prelude.{IfOk, IfErr, IfSome, IfNone};
 ghost use Rattle.fv_base.specs.Faults.{fault_number, out_of_memory};
 ghost use Rattle.fv_base.specs.declared.fault.Fault.{Fault};
-ghost use Rattle.fv_tree.specs.Inputs.{NotRead};
+ghost use Rattle.fv_tree.specs.InputFaults.{NotRead};
 ghost use Rattle.fv_c.specs.ExtractedParts.{ExtractsTo, HasNoPart, HasUnfitPart};
 ghost use Rattle.fv_c.specs.Reports.{BeginsWithHeader, reported_fault, no_fault};
 

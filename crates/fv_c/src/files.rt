@@ -3,16 +3,16 @@
 ghost use Rattle.std.specs.Prelude.{◌≡◌, ◌≢◌, ◌⊎◌, ◌<◌, ◌++◌, List, length, drop, map, IfOk, IfErr};
 ghost use Rattle.fv_base.specs.Faults.{fault_number, out_of_memory};
 ghost use Rattle.fv_base.specs.declared.fault.Fault.{Fault};
-ghost use Rattle.fv_tree.specs.Inputs.{NotRead};
+ghost use Rattle.fv_tree.specs.InputFaults.{NotRead};
 ghost use Rattle.fv_tree.specs.Denotes.{Accepted};
 ghost use Rattle.fv_tree.specs.LocatedFiles.{file_form};
 ghost use Rattle.fv_c.specs.ReportedFiles.{HasFileRows, reported_file, reported_files};
 ghost use Rattle.fv_c.specs.Reports.{BeginsWithHeader, reported_fault, no_fault};
 ghost use Rattle.fv_c.specs.declared.files.FvFile.{FvFile};
 
-use crate::buffer::put_rows;
+use crate::buffer::put_found;
 use crate::parts::sections_of;
-use crate::reports::{FvFault, NO_FAULT, refused};
+use crate::reports::{FvFault, refused};
 use fv_base::Fault;
 use fv_canon::whole_volume;
 use fv_tree::{FileView, LocatedFile, VolumeView, located_files};
@@ -124,10 +124,7 @@ pub extern "C" fn fv_files(
         × (result ≡ fault_number f.kind) × (fault.new ≡ reported_fault f) × (count.new ≡ count.old) }
 {
     match rows_in(alloc, input) {
-        Ok(rows) => {
-            *fault = NO_FAULT;
-            put_rows(rows.as_slice(), buffer, count)
-        }
+        Ok(rows) => put_found(rows.as_slice(), buffer, count, fault),
         Err(f) => refused(f, fault),
     }
 }

@@ -8,8 +8,8 @@ ghost use Rattle.fv_hob.specs.declared.fault.HobFault.{HobFault};
 ghost use Rattle.fv_c.specs.ReportedHobs.{NoHobs, reported_hob, reported_hob_fault};
 ghost use Rattle.fv_c.specs.Reports.{no_fault};
 
-use crate::buffer::put_rows;
-use crate::reports::{FvFault, NO_FAULT, refused_at};
+use crate::buffer::put_found;
+use crate::reports::{FvFault, refused_at};
 use crate::translate::{Translate, translate_all};
 use fv_hob::{Hob, HobFault, Span, read_hobs};
 use std::alloc::Global;
@@ -96,8 +96,7 @@ pub extern "C" fn fv_hobs(
     match hob_rows(alloc, bytes) {
         Ok((rows, len)) => {
             *consumed = len;
-            *fault = NO_FAULT;
-            put_rows(rows.as_slice(), buffer, count)
+            put_found(rows.as_slice(), buffer, count, fault)
         }
         Err(f) => refused_at(f.offset, f.number(), fault),
     }

@@ -3,14 +3,13 @@
 ghost use Rattle.std.specs.Prelude.{◌≡◌, ◌≤◌, ◌++◌, length, map, IfOk, IfErr, OnOk};
 ghost use Rattle.fv_tree.specs.MeaningParts.{body_of, sections_from};
 ghost use Rattle.fv_tree.specs.Meaning.{content_of};
-ghost use Rattle.fv_tree.specs.Views.{body_view};
 ghost use Rattle.fv_c.specs.ExtractedParts.{part_in, part_of_file};
-ghost use Rattle.fv_c.specs.ReportedSections.{held_number, rows_of_sections, section_rows, sections_in};
-ghost use Rattle.fv_c.specs.inner.PlacedSections.{row_form, ShowsPart, StopsPart};
+ghost use Rattle.fv_c.specs.ReportedFiles.{held_number, rows_of_sections, section_rows};
+ghost use Rattle.fv_c.specs.inner.Rows.{row_form, ShowsPart, StopsPart};
 
 use fv_base::{ByteList, Fault};
 use fv_canon::{body_bytes, file_bytes};
-use fv_tree::{Body, Content, FileView, SectionView, VolumeView};
+use fv_tree::{Body, FileView, SectionView, SectionWalk, VolumeView};
 use std::alloc::{AllocError, Global};
 
 /// That a section is in no group.
@@ -28,24 +27,6 @@ pub(crate) struct PlacedSection<'v, 'a> {
     pub(crate) depth: u64,
     // The section.
     pub(crate) section: &'v SectionView<'a>,
-}
-
-// The sections in a body: those of a group; none in any other.
-fn sections_in_body<'v, 'a>(body: Body<'v, 'a>) -> &'v [SectionView<'a>]
-    ensures { sections_from result.now ≡ sections_in (body_view body.entry) }
-{
-    let mut inside: &'v [SectionView<'a>] = &[];
-    if let Body::Group { sections, .. } = body {
-        inside = sections;
-    }
-    inside
-}
-
-// The sections in a section.
-fn sections_in<'v, 'a>(section: &'v SectionView<'a>) -> &'v [SectionView<'a>]
-    ensures { sections_from result.now ≡ sections_in (body_of section.now) }
-{
-    sections_in_body(section.body())
 }
 
 // What a section holds, for C: 1 bytes, 2 sections, 3 a volume.
@@ -77,7 +58,7 @@ fn add_sections<'v, 'a>(
             depth,
             section,
         })?;
-        add_sections(sections_in(section), number, depth + 1, rows)?;
+        add_sections(section.sections(), number, depth + 1, rows)?;
     }
     Ok(())
 }
@@ -90,12 +71,7 @@ pub(crate) fn sections_of<'v, 'a>(
     ensures { IfOk result (λ v. map row_form v.items ≡ section_rows (content_of file.now)) }
 {
     let mut rows = Vec::new(alloc);
-    match file.content() {
-        Content::Plain(_) => {}
-        Content::Stream { sections, .. } => {
-            add_sections(sections.as_slice(), NO_PARENT, 0, &mut rows)?;
-        }
-    }
+    add_sections(file.sections(), NO_PARENT, 0, &mut rows)?;
     Ok(rows)
 }
 
@@ -107,11 +83,10 @@ fn file_part(alloc: Global, file: &FileView<'_>, section: u64) -> Result<Option<
     if section == WHOLE_FILE {
         return Ok(Some(file_bytes(alloc, file)?));
     }
-    let rows = sections_of(alloc, file)?;
-    let Some(row) = rows.as_slice().get(section as usize) else {
+    let Some(section) = SectionWalk::of(file).nth(section as usize) else {
         return Ok(None);
     };
-    Ok(Some(body_bytes(alloc, row.section)?))
+    Ok(Some(body_bytes(alloc, section)?))
 }
 
 // The bytes of the part that the number of a file and that of a section ask for, if there is one.

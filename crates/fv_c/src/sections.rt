@@ -4,12 +4,12 @@ ghost use Rattle.std.specs.Prelude.{◌≡◌, ◌≢◌, ◌⊎◌, ◌<◌, �
 ghost use Rattle.std.specs.Prelude.{IfOk, IfErr, IfSome, IfNone};
 ghost use Rattle.fv_base.specs.Faults.{fault_number, out_of_memory};
 ghost use Rattle.fv_base.specs.declared.fault.Fault.{Fault};
-ghost use Rattle.fv_tree.specs.Inputs.{NotRead};
+ghost use Rattle.fv_tree.specs.InputFaults.{NotRead};
 ghost use Rattle.fv_tree.specs.Denotes.{Accepted};
 ghost use Rattle.fv_tree.specs.Meaning.{Meaning, FileMeaning, content_of, files_of};
-ghost use Rattle.fv_c.specs.ReportedSections.{reported_section, section_rows};
+ghost use Rattle.fv_c.specs.ReportedFiles.{reported_section, section_rows};
 ghost use Rattle.fv_c.specs.Reports.{BeginsWithHeader, reported_fault, no_fault};
-ghost use Rattle.fv_c.specs.inner.PlacedSections.{row_form};
+ghost use Rattle.fv_c.specs.inner.Rows.{row_form};
 
 use crate::buffer::put_rows;
 use crate::parts::{PlacedSection, held_number, sections_of};

@@ -5,7 +5,7 @@ ghost use Rattle.fv_caller.specs.declared.fault.CallerFault.TheVariants.{Volume}
 ghost use Rattle.fv_base.specs.Faults.{out_of_memory};
 ghost use Rattle.fv_base.specs.declared.fault.Fault.{Fault};
 ghost use Rattle.fv_canon.specs.Image.{IsImage};
-ghost use Rattle.fv_canon.specs.Refusals.{Refuses};
+ghost use Rattle.fv_canon.specs.InputRefusals.{Refuses};
 ghost use Rattle.fv_tree.specs.Denotes.{Accepted};
 ghost use Rattle.fv_tree.specs.Meaning.{Meaning, files_of};
 

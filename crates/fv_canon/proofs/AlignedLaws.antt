@@ -6,10 +6,10 @@ use Rattle.std.specs.List.{AllByRecursion}
 use Rattle.fv_base.specs.declared.flash.Polarity.{Polarity}
 use Rattle.fv_file.specs.Cells.{CellForm, Tiles}
 use Rattle.fv_file.proofs.Laws.{only_one}
-use Rattle.fv_head.specs.Attributes.{polarity_of}
 use Rattle.fv_head.specs.Head.{BeginsVolume}
 use Rattle.fv_head.specs.HeadReads.{extent_of}
 use Rattle.fv_head.specs.ExtImage.{first_edge}
+use Rattle.fv_head.specs.VolumeAttributes.{polarity_of}
 use Rattle.fv_head.specs.declared.extent.Extent.{Extent}
 use Rattle.fv_head.proofs.Laws.{one_front}
 use Rattle.fv_tree.specs.Denotes.{IsMeaning, MeansSection, Stream}
@@ -17,8 +17,8 @@ use Rattle.fv_tree.specs.Meaning.{Meaning, Volume, head_of}
 use Rattle.fv_canon.specs.Headline.{DataAligned, DataAreAligned}
 use Rattle.fv_canon.specs.Image.{IsImage}
 use Rattle.fv_canon.proofs.StoredTilingLaws.{PadErased}
-use Rattle.fv_canon.proofs.StreamLaws.{stream_again}
-use Rattle.fv_canon.proofs.VolumeLaws.{known, image_front, image_tiled, sections_again}
+use Rattle.fv_canon.proofs.StreamImageLaws.{stream_again}
+use Rattle.fv_canon.proofs.VolumeImageLaws.{known, image_front, image_tiled, sections_again}
 
 -- ---- 1. one tiling
 

@@ -9,13 +9,13 @@ use Rattle.fv_base.specs.declared.flash.FileSystem.{FileSystem}
 use Rattle.fv_base.specs.declared.flash.Polarity.{Polarity}
 use Rattle.fv_base.proofs.Laws.{bytes_append, bytes_back, bytes_front, bytes_le_bytes, none_at}
 use Rattle.fv_file.specs.NewHeaders.{pad_head_of}
-use Rattle.fv_head.specs.Attributes.{polarity_of}
 use Rattle.fv_head.specs.Ext.{Extension, SplitsEntries, kept_payload, is_used_size, zero_used_size}
 use Rattle.fv_head.specs.HeadReads.{IsReadExt, IfRead}
 use Rattle.fv_head.specs.Head.{HeadFields}
 use Rattle.fv_head.specs.HeadImage.{canonical_head}
 use Rattle.fv_head.specs.ExtImage.{canonical_end, first_edge, payload_with, entry_bytes, entries_bytes}
 use Rattle.fv_head.specs.ExtImage.{ext_len, ext_spelled}
+use Rattle.fv_head.specs.VolumeAttributes.{polarity_of}
 use Rattle.fv_head.proofs.Laws.{canonical_is}
 use Rattle.fv_canon.specs.StoredFiles.{StoredFile, stored_len, stored_bytes, pad_bytes, pads, long_pad, gap_bytes}
 use Rattle.fv_canon.specs.inner.ImageOf.{files_bytes, volume_bytes}

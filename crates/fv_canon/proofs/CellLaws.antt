@@ -17,9 +17,9 @@ use Rattle.fv_base.specs.declared.flash.FileSystem.TheVariants.{Ffs3}
 use Rattle.fv_base.specs.declared.flash.Polarity.{Polarity}
 use Rattle.fv_base.specs.declared.flash.Polarity.TheVariants.{Ones, Zeros}
 use Rattle.fv_base.proofs.Laws.{bytes_append, bytes_replicate}
-use Rattle.fv_file.specs.Attributes.{is_large, is_fixed, is_summed}
 use Rattle.fv_file.specs.Cells.{Valid, Pad, IsCell}
-use Rattle.fv_file.specs.Files.{pad_kind, file_sum_right, fixed_checksum}
+use Rattle.fv_file.specs.FileAttributes.{is_large, is_fixed, is_summed}
+use Rattle.fv_file.specs.FileHeaders.{pad_kind, file_sum_right, fixed_checksum}
 use Rattle.fv_file.specs.NewHeaders.{file_sum_for, needs_large, with_large, complement, pad_name, state_byte}
 use Rattle.fv_file.specs.HeaderReads.{file_fields, pad_fields}
 use Rattle.fv_file.specs.NewHeaders.{file_head_of, pad_head_of}

@@ -9,10 +9,10 @@ use Rattle.fv_placement.specs.Starts.{IsFirstPlacement}
 use Rattle.fv_placement.proofs.Laws.{agree, placed_or_not, top_none}
 use Rattle.fv_tree.specs.Meaning.{Meaning, head_of, length_of}
 use Rattle.fv_tree.specs.Volumes.{Inside, volumes_in}
+use Rattle.fv_canon.specs.InputRefusals.{IsOfLayout, Refuses, WhatDoesNotFitIsRefused}
 use Rattle.fv_canon.specs.Layouts.{layout_items, AreStarts, IsPlaced, Fits}
 use Rattle.fv_canon.specs.LayoutForms.{AreLeast, Laid, LaysVolume, LeastVolume}
 use Rattle.fv_canon.specs.LayoutFaults.{layout_fault, AllFit, UnfitHere, FirstUnfit, Unfit}
-use Rattle.fv_canon.specs.Refusals.{IsOfLayout, Refuses, WhatDoesNotFitIsRefused}
 use Rattle.fv_canon.proofs.UnfitKinds.{unfit_is}
 use Rattle.fv_canon.proofs.VolumeListLaws.{laid_fit, fit_laid}
 

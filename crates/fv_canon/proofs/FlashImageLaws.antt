@@ -11,6 +11,7 @@ use Rattle.std.proofs.Common.{sym, ap, ◌∙◌, subst, arith, inl, inr, append
 use Rattle.std.specs.List.{AllByRecursion, Contains}
 use Rattle.std.proofs.lemmas.Bool.{cases_lt}
 use Rattle.std.proofs.lemmas.List.{drop_more, ext_get_or, get_or-drop, get_or-take, length-drop, length-take-le}
+use Rattle.std.proofs.lemmas.List.Elements.{All-contains, All-from_recursion}
 use Rattle.std.proofs.Math.ListN.{drop_of_length-le}
 use Rattle.std.proofs.Math.Seq.{drop-append_seam, take-append_seam}
 use Rattle.fv_base.specs.Faults.{out_of_memory}
@@ -18,18 +19,19 @@ use Rattle.fv_base.specs.Sinks.{WalkLaws}
 use Rattle.fv_base.specs.Value.{field}
 use Rattle.fv_base.specs.declared.fault.Fault.{Fault}
 use Rattle.fv_base.specs.Limits.{depth_limit}
-use Rattle.fv_tree.specs.FoundVolumes.{Found, IsCovered, VolumeAt}
-use Rattle.fv_tree.specs.inner.FoundWalks.{FoundFrom}
+use Rattle.fv_flash.specs.FoundVolumes.{Found, IsCovered, VolumeAt}
+use Rattle.fv_flash.specs.inner.FoundWalks.{FoundFrom}
 use Rattle.fv_tree.specs.Meaning.{Meaning}
-use Rattle.fv_tree.proofs.Laws.{at_within, found_walk, one_found, one_length, one_meaning, one_of}
+use Rattle.fv_flash.proofs.Laws.{at_within, found_walk, one_found, one_length}
+use Rattle.fv_tree.proofs.Laws.{one_meaning}
 use Rattle.fv_base.proofs.Laws.{first_or_behind, in_middle, one_behind, first_only}
 use Rattle.fv_canon.specs.Image.{IsImage}
 use Rattle.fv_canon.specs.Headline.{NormalisesTo}
-use Rattle.fv_canon.specs.Refusals.{Refuses}
+use Rattle.fv_canon.specs.InputRefusals.{Refuses}
 use Rattle.fv_canon.specs.FlashImages.{FirstRefused, IsRenewed, NormalisesAll, Renewed}
 use Rattle.fv_canon.proofs.FaultPlaces.{refused_within}
 use Rattle.fv_canon.proofs.FitLaws.{unfit_none}
-use Rattle.fv_canon.proofs.InputLaws.{image_fits}
+use Rattle.fv_canon.proofs.RejectedInputLaws.{image_fits}
 use Rattle.fv_canon.proofs.ImageLaws.{image_stays_long}
 use Rattle.fv_canon.proofs.OneImageLaws.{image_one}
 
@@ -253,7 +255,7 @@ covered_known b o (p ∷ ps) k ((n, v, to), all) = go (cases_lt k p) (cases_lt k
 image_at : (b places o : List ℕ) (p n : ℕ) → Renewed b places o → Contains places p → VolumeAt b p n
     → NormalisesTo (field p n b) (field p n o)
 image_at b places o p n r has v =
-    let is = one_of (IsRenewed b o) places p r.volumes has in
+    let is = All-contains (IsRenewed b o) places p (All-from_recursion (IsRenewed b o) places r.volumes) has in
     subst (λ (k : ℕ). NormalisesTo (field p k b) (field p k o)) (one_length b p is.0 n is.1 v) is.2
 
 pub renewed_one : (b places o other : List ℕ) → Renewed b places o → Renewed b places other → o ≡ other

@@ -2,18 +2,18 @@
 use Rattle.std.proofs.Common.{◌≡◌, ◌≤◌, ◌+◌, ◌-◌, ℕ, zero, suc, List, [], ◌∷◌, sym, ◌∙◌, subst, arith}
 use Rattle.fv_base.specs.Value.{IsBytes}
 use Rattle.fv_section.specs.Frames.{FrameForm}
-use Rattle.fv_tree.specs.Files.{FileForm}
 use Rattle.fv_tree.specs.Meaning.{Meaning, FileMeaning, File, ContentMeaning, Plain, Sectioned, SectionMeaning, Section, Leaf, Group}
 use Rattle.fv_tree.specs.Meaning.{Nested, sections_list, files_of}
 use Rattle.fv_tree.specs.Denotes.{SectionRelation, StreamRelation, VolumeRelation, Pairwise, StreamOver, SectionOver, VolumeOver, MeansContent, MeansFile}
+use Rattle.fv_tree.specs.VolumeFiles.{FileForm}
 use Rattle.fv_base.specs.Limits.{depth_limit}
 use Rattle.fv_tree.specs.Denotes.{MeansSection, Stream, Denotes, Accepted}
 use Rattle.fv_canon.specs.Image.{IsImage}
 use Rattle.fv_canon.specs.Headline.{MeanSame, SameMeaningIffSameImage, ImageKeepsLengthAndMeaning, ImageIsItsOwnImage}
-use Rattle.fv_canon.specs.ImageLaws.{OneMeaning}
+use Rattle.fv_canon.specs.ImageRules.{OneMeaning}
 use Rattle.fv_tree.proofs.Laws.{one_meaning}
 use Rattle.fv_canon.proofs.OneImageLaws.{image_one}
-use Rattle.fv_canon.proofs.VolumeLaws.{image_bytes, image_denotes, image_long, volume_of}
+use Rattle.fv_canon.proofs.VolumeImageLaws.{image_bytes, image_denotes, image_long, volume_of}
 
 -- ---- what nests to a depth at most nests to a greater one at most
 pairs_more : {A B : Type 0} (p q : A → B → Type 0) → ((x : A) (y : B) → p x y → q x y) → (xs : List A) (ys : List B) → Pairwise p xs ys

@@ -15,7 +15,7 @@ use Rattle.fv_canon.proofs.WrittenImageLaws.{image_made}
 use Rattle.fv_canon.proofs.HeadlineLaws.{accepted, image_keeps_length_and_meaning, image_is_its_own_image}
 use Rattle.fv_canon.proofs.ImageFits.{image_fits}
 use Rattle.fv_canon.proofs.OneImageLaws.{image_one}
-use Rattle.fv_canon.proofs.VolumeLaws.{image_bytes, image_denotes, image_long}
+use Rattle.fv_canon.proofs.VolumeImageLaws.{image_bytes, image_denotes, image_long}
 
 -- what is written for starts that begin with those of a meaning that some bytes have is its image
 pub image_begun : (m : Meaning) (starts : List ℕ) → IsMeaning m → BeginsWithStarts (volumes_in m) starts → IsImage m (image_of m starts)

@@ -6,10 +6,10 @@ use Rattle.std.specs.Prelude.{map}
 use Rattle.std.proofs.lemmas.List.{take-append-drop}
 use Rattle.fv_base.specs.Value.{up_to_8}
 use Rattle.fv_base.specs.declared.flash.Polarity.{Polarity}
-use Rattle.fv_file.specs.Attributes.{attributes_by}
+use Rattle.fv_file.specs.FileAttributes.{attributes_by}
 use Rattle.fv_file.specs.NewHeaders.{file_sum_for, file_head_of}
-use Rattle.fv_head.specs.Attributes.{polarity_of}
 use Rattle.fv_head.specs.ExtImage.{first_edge}
+use Rattle.fv_head.specs.VolumeAttributes.{polarity_of}
 use Rattle.fv_section.specs.Frames.{FrameForm, frame_len, up_to_4}
 use Rattle.fv_section.specs.SectionImage.{section_head_of, stream_of}
 use Rattle.fv_tree.specs.Meaning.{Meaning, Volume, FileMeanings, NoFiles, MoreFiles, FileMeaning, File, ContentMeaning, Plain, Sectioned}

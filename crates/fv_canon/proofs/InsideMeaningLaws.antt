@@ -6,16 +6,16 @@ use Rattle.fv_base.specs.declared.flash.FileSystem.{FileSystem}
 use Rattle.fv_base.proofs.Laws.{bytes_back}
 use Rattle.fv_section.specs.Frames.{FrameForm, frame_len, up_to_4, SplitsFrom}
 use Rattle.fv_section.proofs.Laws.{begun_bytes}
-use Rattle.fv_tree.specs.Files.{FileForm}
 use Rattle.fv_tree.specs.Meaning.{Meaning, Volume, FileMeanings, NoFiles, MoreFiles, FileMeaning, File, ContentMeaning, Plain, Sectioned}
 use Rattle.fv_tree.specs.Meaning.{SectionMeanings, NoSections, MoreSections, SectionMeaning, Section, Leaf, Group, Nested, files_list}
 use Rattle.fv_tree.specs.Meaning.{sections_list}
 use Rattle.fv_tree.specs.Denotes.{SectionRelation, StreamRelation, VolumeRelation, Pairwise, StreamOver, SectionOver, VolumeOver, MeansContent, MeansFile}
 use Rattle.fv_tree.specs.Denotes.{MeansSection, Stream, IsMeaning}
+use Rattle.fv_tree.specs.VolumeFiles.{FileForm}
 use Rattle.fv_tree.specs.Volumes.{Inside, volumes_in, volumes_in_files, volumes_in_file, volumes_in_content, volumes_in_sections}
 use Rattle.fv_tree.specs.Volumes.{volumes_in_section}
 use Rattle.fv_canon.proofs.ReadLaws.{FileIsAccepted}
-use Rattle.fv_canon.proofs.VolumeLaws.{files_read}
+use Rattle.fv_canon.proofs.VolumeImageLaws.{files_read}
 use Rattle.fv_canon.proofs.VolumeListLaws.{each_joined, each_deeper}
 
 abbrev AllMeant : List Inside → Type 0

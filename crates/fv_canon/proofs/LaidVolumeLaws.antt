@@ -13,15 +13,15 @@ use Rattle.fv_base.specs.Limits.{depth_limit, volume_limit}
 use Rattle.fv_base.specs.Sinks.{WalkLaws}
 use Rattle.fv_base.specs.Value.{field}
 use Rattle.fv_base.specs.declared.fault.Fault.{Fault}
-use Rattle.fv_base.proofs.Laws.{at_index, or_more}
+use Rattle.fv_base.proofs.Laws.{at_index, or_more, want_known}
+use Rattle.fv_flash.proofs.Laws.{at_within}
 use Rattle.fv_tree.specs.Denotes.{Accepted, IsMeaning}
 use Rattle.fv_tree.specs.FirstFault.{moved_fault}
-use Rattle.fv_tree.specs.FoundVolumes.{Found, VolumeAt}
+use Rattle.fv_flash.specs.FoundVolumes.{Found, VolumeAt}
 use Rattle.fv_tree.specs.Meaning.{Meaning, head_of}
-use Rattle.fv_tree.proofs.Laws.{at_within, want_known}
 use Rattle.fv_canon.specs.Image.{IsImage}
 use Rattle.fv_canon.specs.Headline.{NormalisesTo}
-use Rattle.fv_canon.specs.Refusals.{Refuses}
+use Rattle.fv_canon.specs.InputRefusals.{Refuses}
 use Rattle.fv_canon.specs.FlashImages.{FirstRefused, HasImageAt, NormalisesAll, RefusedAt, AreLaid, IsLaid, IsLaidOut, starts_of}
 use Rattle.fv_canon.specs.inner.ImageOf.{image_of}
 use Rattle.fv_canon.specs.declared.flash_image.LaidVolume.{LaidVolume}

@@ -15,11 +15,11 @@ pub use Rattle.fv_canon.proofs.FitLaws.{laid_fits, fits_laid, unfit_none}
 -- starts that begin with those of some volumes begin with those of the first of them, and of the same volumes one level higher
 pub use Rattle.fv_canon.proofs.VolumeListLaws.{begins_first, begins_higher}
 -- an input that is no volume, or one that does not fit, is rejected; one that has an image is neither
-pub use Rattle.fv_canon.proofs.InputLaws.{not_read, not_placed, not_read_never}
+pub use Rattle.fv_canon.proofs.RejectedInputLaws.{not_read, not_placed, not_read_never}
 -- the data of a file that was read are shorter than a volume may be
 pub use Rattle.fv_canon.proofs.PartBytesLaws.{data_short}
 -- the faults of a layout are none of a reader or a writer
 pub use Rattle.fv_canon.proofs.UnfitKinds.{unfit_is}
-pub use Rattle.fv_canon.proofs.InputLaws.{unfit_kind}
+pub use Rattle.fv_canon.proofs.RejectedInputLaws.{unfit_kind}
 -- what a run wrote, or what stopped it, by what is known of the meaning
 pub use Rattle.fv_canon.proofs.NormaliseRunLaws.{input_writes, writer_stops, refused_stops, behind_stops, of_some_kind}

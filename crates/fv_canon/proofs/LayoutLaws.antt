@@ -6,7 +6,7 @@ use Rattle.fv_tree.specs.Meaning.{Meaning, Volume, FileMeaning, files_list, file
 use Rattle.fv_tree.specs.MeaningParts.{files_from}
 use Rattle.fv_canon.specs.Layouts.{AreStarts, layout_items}
 use Rattle.fv_canon.specs.LayoutForms.{Laid, LaysVolume, Places, IsLayout}
-use Rattle.fv_canon.specs.inner.Depths.{Grew}
+use Rattle.fv_canon.specs.inner.FileWalks.{Grew}
 use Rattle.fv_tree.specs.Volumes.{Inside, volumes_in}
 use Rattle.fv_placement.proofs.Laws.{starts_one}
 use Rattle.fv_canon.proofs.VolumeListLaws.{laid_count, own_count}

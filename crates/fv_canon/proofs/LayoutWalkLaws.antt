@@ -9,13 +9,13 @@ use Rattle.fv_head.specs.Head.{HeadFields}
 use Rattle.fv_section.specs.Frames.{FrameForm}
 use Rattle.fv_tree.specs.Denotes.{IsMeaning, MeansFile, MeansSection, Stream}
 use Rattle.fv_tree.specs.ReadParts.{IsReadFile, IsReadSection}
-use Rattle.fv_tree.specs.Files.{FileForm}
+use Rattle.fv_tree.specs.VolumeFiles.{FileForm}
 use Rattle.fv_tree.specs.Meaning.{Meaning, Volume, head_of, FileMeanings, NoFiles, MoreFiles, files_of, FileMeaning}
 use Rattle.fv_tree.specs.MeaningParts.{files_from, sections_from, body_of}
 use Rattle.fv_tree.specs.Meaning.{SectionMeanings, SectionMeaning, Group, Nested}
 use Rattle.fv_canon.specs.inner.ImageOf.{data_body, starts_in}
-use Rattle.fv_tree.specs.inner.Depths.{NestsVolume, NestsFiles, NestsSections, NestsBody}
-use Rattle.fv_canon.specs.inner.Depths.{Grew, Shallow}
+use Rattle.fv_tree.specs.inner.NestingDepths.{NestsVolume, NestsFiles, NestsSections, NestsBody}
+use Rattle.fv_canon.specs.inner.FileWalks.{Grew, Shallow}
 use Rattle.fv_canon.specs.Layouts.{AreStarts}
 use Rattle.fv_canon.specs.LayoutForms.{Laid}
 use Rattle.fv_canon.specs.LayoutFaults.{FirstUnfit, Unfit}

@@ -13,8 +13,8 @@ use Rattle.fv_head.specs.HeadChecks.{BeginsWithHeader}
 use Rattle.fv_tree.specs.Denotes.{Accepted}
 use Rattle.fv_tree.specs.Meaning.{Meaning}
 use Rattle.fv_canon.specs.Image.{IsImage}
-use Rattle.fv_canon.specs.Refusals.{Refuses}
-use Rattle.fv_canon.specs.Runs.{InputWrites, InputStops, RunStops}
+use Rattle.fv_canon.specs.InputRefusals.{Refuses}
+use Rattle.fv_canon.specs.NormaliseRuns.{InputWrites, InputStops, RunStops}
 use Rattle.fv_tree.proofs.Laws.{ran_out}
 
 -- the image of the meaning was written

@@ -10,9 +10,9 @@ use Rattle.std.proofs.lemmas.Bool.{cases_lt}
 use Rattle.std.proofs.lemmas.List.{ext_get_or, get_or-take, get_or-drop}
 use Rattle.fv_base.specs.Flash.{erased_byte}
 use Rattle.fv_base.specs.declared.guid.Guid.{Guid}
-use Rattle.fv_head.specs.Attributes.{polarity_of}
 use Rattle.fv_head.specs.ExtImage.{first_edge}
 use Rattle.fv_head.specs.Head.{HeadFields}
+use Rattle.fv_head.specs.VolumeAttributes.{polarity_of}
 use Rattle.fv_placement.proofs.Laws.{starts_one}
 use Rattle.fv_section.specs.Frames.{FrameForm, frame_len, up_to_4}
 use Rattle.fv_section.specs.SectionImage.{stream_of}

@@ -13,18 +13,19 @@ use Rattle.fv_base.specs.Value.{up_to_8}
 use Rattle.fv_base.specs.declared.flash.FileSystem.{FileSystem}
 use Rattle.fv_base.specs.declared.flash.Polarity.{Polarity}
 use Rattle.fv_file.specs.NewHeaders.{pad_head_of}
-use Rattle.fv_head.specs.Attributes.{polarity_of}
 use Rattle.fv_head.specs.Ext.{Extension}
 use Rattle.fv_head.specs.Head.{HeadFields, header_len_of}
 use Rattle.fv_head.specs.HeadReads.{IsReadHead, IfRead}
 use Rattle.fv_head.specs.HeadImage.{canonical_head}
 use Rattle.fv_head.specs.ExtImage.{canonical_end, first_edge, ext_len, ext_spelled}
+use Rattle.fv_head.specs.VolumeAttributes.{polarity_of}
 use Rattle.fv_head.proofs.Laws.{ext_again, length-canonical}
 use Rattle.fv_placement.specs.Starts.{StartsFollow}
 use Rattle.fv_canon.specs.PlacedBytes.{PlacedBytes, ShowsPlaced}
-use Rattle.fv_canon.specs.ImageLaws.{painted, InOrder}
+use Rattle.fv_canon.specs.ImageRules.{painted, InOrder}
 use Rattle.fv_canon.specs.StoredFiles.{StoredFile, stored_len, stored_bytes, gap_bytes, placed_files, ext_pad, placed_in_volume, used_size}
-use Rattle.fv_canon.specs.inner.ImageOf.{stored_item, files_bytes, volume_bytes}
+use Rattle.fv_canon.specs.inner.ImageOf.{files_bytes, volume_bytes}
+use Rattle.fv_canon.proofs.ImageParts.{stored_item}
 use Rattle.fv_canon.proofs.CellLaws.{Storable, length-stored, length-pad_head}
 use Rattle.fv_canon.proofs.PositionLaws.{shows_walk, one_image}
 use Rattle.fv_canon.proofs.StoredTilingLaws.{apart, filler_is, length-gap}

@@ -7,7 +7,7 @@ use Rattle.fv_base.specs.declared.flash.FileSystem.{FileSystem}
 use Rattle.fv_base.specs.declared.flash.Polarity.{Polarity}
 use Rattle.fv_file.specs.Cells.{CellForm, Valid, Pad, Dead, Stub, Free, Tiles}
 use Rattle.fv_file.proofs.Laws.{FileRead as HeadRead, IsRead, tiles_read}
-use Rattle.fv_tree.specs.Files.{FileForm, files_in, replaced_by, current_in}
+use Rattle.fv_tree.specs.VolumeFiles.{FileForm, files_in, replaced_by, current_in}
 use Rattle.fv_base.proofs.Laws.{all_filter}
 
 abbrev pub FileIsAccepted : FileSystem → ℕ → FileForm → Type 0

@@ -5,11 +5,10 @@ use Rattle.std.proofs.lemmas.List.Sums.{sum_by-append}
 use Rattle.fv_base.specs.Guids.{bytes_of}
 use Rattle.fv_base.specs.Value.{le_bytes}
 use Rattle.fv_base.specs.declared.flash.Polarity.{Polarity}
-use Rattle.fv_file.specs.Attributes.{is_summed}
+use Rattle.fv_file.specs.FileAttributes.{is_summed}
 use Rattle.fv_file.specs.NewHeaders.{file_sum_for, complement, header_with, header_bytes, needs_large, with_large, state_byte}
-use Rattle.fv_file.specs.Files.{fixed_checksum}
+use Rattle.fv_file.specs.FileHeaders.{fixed_checksum}
 use Rattle.fv_canon.specs.StoredFiles.{StoredFile, stored_bytes, head_len_for}
-use Rattle.fv_canon.specs.inner.ImageOf.{file_adds}
 
 -- the sum of a header is that of the same with its two sums and State taken as zero, and these
 header_sum : (c file_sum : ℕ) (name : List ℕ) (kind attributes size : ℕ) (large : Bool) (state : ℕ)
@@ -49,6 +48,11 @@ header_adds file_sum name kind attributes size large state =
   where
     off : (n f s : ℕ) → (n + (complement n + f + s)) % 256 ≡ (f + s) % 256
     off n f s = omega arith
+
+-- a file with the checksum attribute adds only its State, whatever its data are; any other adds 0xAA, State and its
+-- data
+abbrev pub file_adds : Polarity → StoredFile → ℕ
+file_adds p f = if is_summed f.attributes then state_byte p else (fixed_checksum + state_byte p + sum f.payload)
 
 pub stored_adds : (p : Polarity) (f : StoredFile) → sum (stored_bytes p f) % 256 ≡ file_adds p f % 256
 unfolding stored_bytes

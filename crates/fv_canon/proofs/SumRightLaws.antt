@@ -13,17 +13,17 @@ use Rattle.fv_base.specs.Value.{up_to_8}
 use Rattle.fv_base.specs.declared.flash.FileSystem.{FileSystem}
 use Rattle.fv_base.specs.declared.flash.Polarity.{Polarity}
 use Rattle.fv_file.specs.Cells.{CellForm, Valid, Pad, Dead, Stub, Free, IsCell, IsFilled, Tiles, offset_of}
-use Rattle.fv_file.specs.Files.{header_sum_of}
+use Rattle.fv_file.specs.FileHeaders.{header_sum_of}
 use Rattle.fv_file.specs.HeaderReads.{pad_fields}
 use Rattle.fv_file.specs.NewHeaders.{pad_head_of}
 use Rattle.fv_file.specs.declared.head.FileHead.{FileHead}
 use Rattle.fv_file.proofs.Laws.{head_of_pad, pad_written}
-use Rattle.fv_head.specs.Attributes.{polarity_of}
 use Rattle.fv_head.specs.Ext.{Extension}
 use Rattle.fv_head.specs.HeadReads.{IfRead, extent_of}
 use Rattle.fv_head.specs.ExtImage.{canonical_end, first_edge, ext_len, ext_spelled}
 use Rattle.fv_head.specs.Head.{HeadFields, BeginsVolume, header_len_of}
 use Rattle.fv_head.specs.HeadImage.{canonical_head}
+use Rattle.fv_head.specs.VolumeAttributes.{polarity_of}
 use Rattle.fv_head.proofs.Laws.{ext_again, ext_len_most, length-canonical}
 use Rattle.fv_tree.specs.Denotes.{MeansSection, Stream}
 use Rattle.fv_tree.specs.Meaning.{Volume}
@@ -33,8 +33,8 @@ use Rattle.fv_canon.specs.inner.ImageOf.{files_bytes}
 use Rattle.fv_canon.proofs.CellLaws.{bytes_pad_head, length-pad_head}
 use Rattle.fv_canon.proofs.PlacedBytesLaws.{first_is, volume_shows}
 use Rattle.fv_canon.proofs.StoredTilingLaws.{PadFixed, body_tiles}
-use Rattle.fv_canon.proofs.StreamLaws.{stream_again}
-use Rattle.fv_canon.proofs.VolumeLaws.{known, image_front, sections_again}
+use Rattle.fv_canon.proofs.StreamImageLaws.{stream_again}
+use Rattle.fv_canon.proofs.VolumeImageLaws.{known, image_front, sections_again}
 
 -- ---- cells that tile bytes
 

@@ -2,9 +2,9 @@
 use Rattle.std.proofs.Common.{◌≡◌, ◌+◌, ◌%◌, ℕ, Bool, true, false, List, [], ◌∷◌, ap, ◌∙◌, arith}
 use Rattle.std.specs.Prelude.{sum, if◌then◌else◌}
 use Rattle.fv_base.specs.declared.flash.Polarity.{Polarity}
-use Rattle.fv_file.specs.Attributes.{is_summed}
+use Rattle.fv_file.specs.FileAttributes.{is_summed}
 use Rattle.fv_file.specs.NewHeaders.{state_byte}
-use Rattle.fv_file.specs.Files.{fixed_checksum}
+use Rattle.fv_file.specs.FileHeaders.{fixed_checksum}
 use Rattle.fv_tree.specs.Meaning.{FileMeaning, File, attributes_of}
 use Rattle.fv_canon.specs.inner.ImageOf.{stored_file, data_of}
 use Rattle.fv_canon.specs.inner.SummingSinks.{AddsOrPuts}

@@ -4,7 +4,7 @@ use Rattle.fv_base.specs.declared.fault.Fault.{Fault}
 use Rattle.fv_base.specs.declared.fault.FaultKind.{FaultKind}
 use Rattle.fv_base.specs.declared.fault.FaultKind.TheVariants as kinds
 use Rattle.fv_tree.specs.Meaning.{Meaning}
-use Rattle.fv_canon.specs.Refusals.{IsOfLayout}
+use Rattle.fv_canon.specs.InputRefusals.{IsOfLayout}
 use Rattle.fv_canon.specs.LayoutFaults.{layout_fault, FirstUnfit, Unfit}
 use Rattle.fv_tree.specs.Volumes.{Inside, volumes_in}
 

@@ -5,18 +5,19 @@ use Rattle.std.proofs.Common.{ap, ◌∙◌, subst, arith, append_assoc, drop-dr
 use Rattle.std.specs.Prelude.{map, Option, None, Some}
 use Rattle.std.proofs.lemmas.List.{length-map}
 use Rattle.fv_base.specs.Flash.{erased_byte}
-use Rattle.fv_head.specs.Attributes.{polarity_of}
 use Rattle.fv_head.specs.Ext.{Extension}
 use Rattle.fv_head.specs.Head.{HeadFields}
 use Rattle.fv_head.specs.HeadImage.{canonical_head}
 use Rattle.fv_head.specs.ExtImage.{canonical_end, first_edge}
+use Rattle.fv_head.specs.VolumeAttributes.{polarity_of}
 use Rattle.fv_placement.specs.Starts.{StartsFollow}
 use Rattle.fv_placement.specs.declared.first_placement.LayoutItem.{LayoutItem}
 use Rattle.fv_base.specs.Value.{up_to_8}
 use Rattle.fv_tree.specs.Meaning.{Meaning, Volume, FileMeanings, FileMeaning, head_of, data_len_of}
 use Rattle.fv_tree.specs.MeaningParts.{files_from}
 use Rattle.fv_tree.specs.Denotes.{IsMeaning, MeansSection, Stream}
-use Rattle.fv_canon.specs.inner.ImageOf.{image_of, stored_of, starts_in, stored_item, files_bytes}
+use Rattle.fv_canon.specs.inner.ImageOf.{image_of, stored_of, starts_in, files_bytes}
+use Rattle.fv_canon.proofs.ImageParts.{stored_item}
 use Rattle.fv_canon.specs.LayoutForms.{BeginsWithStarts}
 use Rattle.fv_canon.specs.Image.{AreStored}
 use Rattle.fv_canon.specs.Layouts.{layout_items, layout_item}
@@ -25,9 +26,9 @@ use Rattle.fv_canon.specs.StoredFiles.{StoredFile, size_for, stored_len, used_si
 use Rattle.fv_canon.proofs.WrittenImageLaws.{files_made, stream_made, sections_made, front_is, behind_is}
 use Rattle.fv_placement.proofs.Laws.{follow_length}
 use Rattle.fv_canon.proofs.PlacedBytesLaws.{first_is}
-use Rattle.fv_canon.proofs.StreamLaws.{stream_again}
-use Rattle.fv_canon.proofs.VolumeLaws.{known, files_read, sections_again}
-use Rattle.fv_canon.specs.inner.Depths.{ArePlaced, used_by}
+use Rattle.fv_canon.proofs.StreamImageLaws.{stream_again}
+use Rattle.fv_canon.proofs.VolumeImageLaws.{known, files_read, sections_again}
+use Rattle.fv_canon.specs.inner.FileWalks.{ArePlaced, used_by}
 use Rattle.fv_tree.proofs.Laws.{files_list_back}
 
 -- ---- the used size

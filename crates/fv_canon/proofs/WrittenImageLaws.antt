@@ -10,12 +10,12 @@ use Rattle.std.proofs.lemmas.List.{take_at, drop_at}
 use Rattle.fv_base.specs.Value.{IsBytes}
 use Rattle.fv_base.specs.declared.flash.FileSystem.{FileSystem}
 use Rattle.fv_section.specs.Frames.{FrameForm, frame_len, up_to_4, SplitsFrom}
-use Rattle.fv_tree.specs.Files.{FileForm}
 use Rattle.fv_tree.specs.Meaning.{Meaning, Volume, FileMeanings, NoFiles, MoreFiles, FileMeaning, File, ContentMeaning, Plain, Sectioned}
 use Rattle.fv_tree.specs.Meaning.{SectionMeanings, NoSections, MoreSections, SectionMeaning, Section, Leaf, Group, Nested}
 use Rattle.fv_tree.specs.Meaning.{files_list, sections_list}
 use Rattle.fv_tree.specs.Denotes.{SectionRelation, StreamRelation, VolumeRelation, Pairwise, StreamOver, SectionOver, VolumeOver, MeansContent, MeansFile}
 use Rattle.fv_tree.specs.Denotes.{MeansSection, Stream, Denotes}
+use Rattle.fv_tree.specs.VolumeFiles.{FileForm}
 use Rattle.fv_canon.specs.Image.{IsImage, AreStored, IsStored, IsData, AreFrames, IsFrame}
 use Rattle.fv_canon.specs.inner.ImageOf.{starts_in, image_of, stored_of, stored_file, data_of, frames_of, frame_of}
 use Rattle.fv_canon.specs.inner.ImageOf.{volume_bytes}
@@ -25,10 +25,10 @@ use Rattle.fv_tree.specs.Volumes.{volumes_in, volumes_in_files, volumes_in_file,
 use Rattle.fv_tree.specs.Volumes.{volumes_in_section}
 use Rattle.fv_canon.proofs.VolumeListLaws.{laid_split, laid_higher, laid_count, own_count}
 use Rattle.fv_canon.proofs.PlacedBytesLaws.{volume_written}
-use Rattle.fv_canon.proofs.StreamLaws.{StreamsAgain, stream_again}
+use Rattle.fv_canon.proofs.StreamImageLaws.{StreamsAgain, stream_again}
 use Rattle.fv_section.proofs.Laws.{begun_bytes}
 use Rattle.fv_base.proofs.Laws.{bytes_back}
-use Rattle.fv_canon.proofs.VolumeLaws.{known, files_read, sections_again}
+use Rattle.fv_canon.proofs.VolumeImageLaws.{known, files_read, sections_again}
 use Rattle.fv_canon.proofs.ReadLaws.{FileIsAccepted}
 
 -- ---- what is to be shown of what lies inside

@@ -7,9 +7,9 @@ use Rattle.fv_base.specs.Value.{field}
 use Rattle.fv_base.specs.declared.fault.Fault.{Fault}
 use Rattle.fv_base.specs.declared.fault.FaultKind.TheVariants as kinds
 use Rattle.fv_tree.specs.FirstFault.{moved_fault}
-use Rattle.fv_tree.specs.FoundVolumes.{Found, IsCovered, VolumeAt}
+use Rattle.fv_flash.specs.FoundVolumes.{Found, IsCovered, VolumeAt}
 use Rattle.fv_canon.specs.Headline.{NormalisesTo}
-use Rattle.fv_canon.specs.Refusals.{Refuses}
+use Rattle.fv_canon.specs.InputRefusals.{Refuses}
 use Rattle.fv_tree.specs.Denotes.{Accepted}
 use Rattle.fv_canon.specs.LayoutForms.{IsLayout}
 use Rattle.fv_canon.specs.declared.flash_image.LaidVolume.{LaidVolume}

@@ -3,14 +3,14 @@ use Rattle.std.specs.Prelude.{◌≡◌, ◌↔◌, ◌+◌, ◌%◌, ◌++◌, 
 use Rattle.std.specs.List.{AllByRecursion}
 use Rattle.fv_base.specs.Alignment.{alignment_of}
 use Rattle.fv_base.specs.Sums.{sum16_of}
-use Rattle.fv_file.specs.Attributes.{attribute_bits}
 use Rattle.fv_file.specs.Cells.{CellForm, Valid, Pad, Tiles}
-use Rattle.fv_file.specs.Files.{file_sum_right, fixed_checksum, header_sum_of}
+use Rattle.fv_file.specs.FileAttributes.{attribute_bits}
+use Rattle.fv_file.specs.FileHeaders.{file_sum_right, fixed_checksum, header_sum_of}
 use Rattle.fv_head.specs.Head.{BeginsVolume}
 use Rattle.fv_head.specs.declared.extent.Extent.{Extent}
 use Rattle.fv_tree.specs.Denotes.{Accepted, IsMeaning}
-use Rattle.fv_tree.specs.Files.{files_in}
 use Rattle.fv_tree.specs.Meaning.{Meaning, head_of}
+use Rattle.fv_tree.specs.VolumeFiles.{files_in}
 use Rattle.fv_canon.specs.Image.{IsImage}
 use Rattle.fv_canon.specs.Layouts.{Fits}
 use Rattle.fv_tree.specs.Volumes.{Inside, volumes_in}

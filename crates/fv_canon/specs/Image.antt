@@ -1,7 +1,7 @@
 -- The canonical image of a volume (PI specification, volume 3, section 3.2).
 use Rattle.std.specs.Prelude.{◌≡◌, ℕ, ◌+◌, List, [], ◌∷◌}
 use Rattle.fv_base.specs.Flash.{erased_byte}
-use Rattle.fv_head.specs.Attributes.{polarity_of}
+use Rattle.fv_head.specs.VolumeAttributes.{polarity_of}
 use Rattle.fv_section.specs.Frames.{FrameForm, frame_len, up_to_4}
 use Rattle.fv_section.specs.SectionImage.{stream_of}
 use Rattle.fv_tree.specs.Meaning.{Meaning, Volume, FileMeanings, NoFiles, MoreFiles, FileMeaning, File, ContentMeaning}

@@ -5,9 +5,9 @@ use Rattle.std.specs.Str.{bytes_eq}
 use Rattle.fv_base.specs.Alignment.{alignment_of}
 use Rattle.fv_base.specs.Guids.{bytes_of}
 use Rattle.fv_head.specs.ExtImage.{first_edge}
-use Rattle.fv_tree.specs.Files.{top_name}
 use Rattle.fv_tree.specs.Meaning.{Meaning, FileMeaning, head_of, files_of, length_of, data_len_of, file_name_of}
 use Rattle.fv_tree.specs.Meaning.{attributes_of}
+use Rattle.fv_tree.specs.VolumeFiles.{top_name}
 use Rattle.fv_placement.specs.Starts.{IsFirstPlacement}
 use Rattle.fv_placement.specs.declared.first_placement.LayoutItem.{LayoutItem}
 use Rattle.fv_canon.specs.StoredFiles.{head_len_for, size_for}

@@ -3,11 +3,11 @@ pub mod PlacedBytes
 pub mod StoredFiles
 pub mod Layouts
 pub mod Image
-pub mod Refusals
+pub mod InputRefusals
 pub mod Headline
 pub mod LayoutFaults
-pub mod ImageLaws
+pub mod ImageRules
 pub mod LayoutForms
 pub mod FlashImages
-pub mod Runs
+pub mod NormaliseRuns
 pub mod inner

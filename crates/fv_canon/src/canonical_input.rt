@@ -9,7 +9,7 @@ ghost use Rattle.fv_canon.specs.inner.ImageOf.{image_of};
 ghost use Rattle.fv_canon.specs.inner.Matching.{MatchTakes, matches_by};
 ghost use Rattle.fv_head.specs.HeadChecks.{BeginsWithHeader};
 ghost use Rattle.fv_tree.specs.Denotes.{Accepted};
-ghost use Rattle.fv_tree.specs.Inputs.{NotRead};
+ghost use Rattle.fv_tree.specs.InputFaults.{NotRead};
 ghost use Rattle.fv_tree.specs.Meaning.{Meaning, files_of};
 
 use crate::image_walk::put_image;

@@ -8,10 +8,10 @@ ghost use Rattle.fv_base.specs.Port.{inner_of, has_erred};
 ghost use Rattle.fv_base.specs.Value.{field};
 ghost use Rattle.fv_canon.specs.FlashImages.{FirstRefused, NormalisesAll, RefusedAt, RefusesAll, AreLaid, IsLaid, IsLaidOut};
 ghost use Rattle.fv_canon.specs.LayoutForms.{IsLayout};
-ghost use Rattle.fv_canon.specs.Runs.{ImageWrites, ImageStops};
-ghost use Rattle.fv_canon.specs.Refusals.{Refuses};
+ghost use Rattle.fv_canon.specs.NormaliseRuns.{ImageWrites, ImageStops};
+ghost use Rattle.fv_canon.specs.InputRefusals.{Refuses};
 ghost use Rattle.fv_tree.specs.Denotes.{Accepted};
-ghost use Rattle.fv_tree.specs.FoundVolumes.{Found, VolumeAt};
+ghost use Rattle.fv_flash.specs.FoundVolumes.{Found, VolumeAt};
 
 use crate::canonical_image::put_canonical;
 use crate::known_layout::Layout;

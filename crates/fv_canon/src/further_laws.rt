@@ -6,12 +6,12 @@ ghost use Rattle.fv_base.specs.declared.fault.Fault.{Fault};
 ghost use Rattle.fv_tree.specs.Denotes.{Accepted};
 ghost use Rattle.fv_tree.specs.Meaning.{Meaning};
 ghost use Rattle.fv_canon.specs.Headline.{MeanSame};
-ghost use Rattle.fv_canon.specs.ImageLaws.{OneImage, OneMeaning, InOrder, painted, PadsRule};
+ghost use Rattle.fv_canon.specs.ImageRules.{OneImage, OneMeaning, InOrder, painted, PadsRule};
+ghost use Rattle.fv_canon.specs.InputRefusals.{OnlyWhatDoesNotFitIsRefused, WhatDoesNotFitIsRefused};
 ghost use Rattle.fv_canon.specs.Layouts.{Fits};
 ghost use Rattle.fv_canon.specs.LayoutForms.{LaysVolume, LeastVolume};
 ghost use Rattle.fv_canon.specs.LayoutFaults.{Unfit};
 ghost use Rattle.fv_canon.specs.PlacedBytes.{ShowsPlaced, PlacedBytes};
-ghost use Rattle.fv_canon.specs.Refusals.{OnlyWhatDoesNotFitIsRefused, WhatDoesNotFitIsRefused};
 
 /// A meaning has at most one image, and an image has one meaning.
 pub fn one_image()

@@ -2,7 +2,7 @@
 
 ghost use Rattle.std.specs.Prelude.{◌≡◌, ◌≤◌, ◌<◌, ◌-◌, ◌%◌, [], drop, true, false};
 ghost use Rattle.fv_base.specs.Measures.{data_limit};
-ghost use Rattle.fv_file.specs.Attributes.{is_summed};
+ghost use Rattle.fv_file.specs.FileAttributes.{is_summed};
 ghost use Rattle.fv_file.specs.NewHeaders.{file_sum_for};
 ghost use Rattle.fv_section.specs.SectionImage.{stream_of};
 ghost use Rattle.fv_tree.specs.MeaningParts.{files_from, sections_from};
@@ -14,7 +14,7 @@ ghost use Rattle.fv_canon.specs.LayoutForms.{BeginsWithStarts};
 ghost use Rattle.fv_tree.specs.Volumes.{volumes_in, volumes_in_files, volumes_in_file, volumes_in_sections};
 ghost use Rattle.fv_tree.specs.Volumes.{volumes_in_body};
 ghost use Rattle.fv_canon.specs.StoredFiles.{stored_bytes};
-ghost use Rattle.fv_canon.specs.inner.Depths.{ArePlaced};
+ghost use Rattle.fv_canon.specs.inner.FileWalks.{ArePlaced};
 ghost use Rattle.fv_canon.specs.inner.SummingSinks.{ImageTakes, sums};
 
 use crate::data_body::data_body;

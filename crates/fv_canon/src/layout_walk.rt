@@ -3,8 +3,8 @@
 ghost use Rattle.std.specs.Prelude.{◌≡◌, ◌≢◌, ◌<◌, ◌≤◌, ◌⊎◌, ◌+◌, ◌++◌, ℕ, List, [], All, length, take, get_or, IfOk, IfErr, OnOk};
 ghost use Rattle.fv_base.specs.Faults.{out_of_memory};
 ghost use Rattle.fv_head.specs.ExtImage.{first_edge};
-ghost use Rattle.fv_tree.specs.inner.Depths.{NestsVolume, NestsFiles, NestsSections, NestsBody};
-ghost use Rattle.fv_canon.specs.inner.Depths.{Grew, Shallow};
+ghost use Rattle.fv_tree.specs.inner.NestingDepths.{NestsVolume, NestsFiles, NestsSections, NestsBody};
+ghost use Rattle.fv_canon.specs.inner.FileWalks.{Grew, Shallow};
 ghost use Rattle.fv_canon.specs.LayoutFaults.{layout_fault, AllFit, FirstUnfit, Unfit};
 ghost use Rattle.fv_canon.specs.Layouts.{layout_item, layout_items, AreStarts, Fits};
 ghost use Rattle.fv_canon.specs.LayoutForms.{Laid, LaysVolume, IsLayout};

@@ -5,8 +5,8 @@ ghost use Rattle.fv_base.specs.Faults.{out_of_memory};
 ghost use Rattle.fv_base.specs.Port.{inner_of, has_erred};
 ghost use Rattle.fv_head.specs.HeadChecks.{BeginsWithHeader};
 ghost use Rattle.fv_canon.specs.Headline.{MeanSame, NormalisesTo};
-ghost use Rattle.fv_canon.specs.Refusals.{IsNoVolume, IsOfLayout, IsUnfit, NotPlaced, Refuses};
-ghost use Rattle.fv_canon.specs.Runs.{InputWrites, InputStops, RunWrites, RunStops};
+ghost use Rattle.fv_canon.specs.InputRefusals.{IsNoVolume, IsOfLayout, IsUnfit, NotPlaced, Refuses};
+ghost use Rattle.fv_canon.specs.NormaliseRuns.{InputWrites, InputStops, RunWrites, RunStops};
 ghost use Rattle.fv_tree.specs.Denotes.{Accepted};
 
 use crate::canonical_image::{canonical, write_canonical};

@@ -1,7 +1,7 @@
 //! The pieces of a canonical image: pads, gaps, and the headers of files and sections.
 
 ghost use Rattle.std.specs.Prelude.{◌⊎◌, ◌≡◌, ◌≤◌, ◌<◌, ◌+◌, ◌-◌, ◌%◌, ◌^◌, ℕ, [], ◌∷◌, ◌++◌, replicate};
-ghost use Rattle.fv_file.specs.Attributes.{attributes_by};
+ghost use Rattle.fv_file.specs.FileAttributes.{attributes_by};
 ghost use Rattle.fv_section.specs.Frames.{up_to_4};
 ghost use Rattle.fv_section.specs.StreamReads.{FitsForm};
 ghost use Rattle.fv_section.specs.SectionImage.{section_head_of};
@@ -11,16 +11,16 @@ ghost use Rattle.fv_tree.specs.MeaningParts.{body_of, section_is_extended, secti
 ghost use Rattle.fv_tree.specs.Meaning.{body_len, section_len};
 ghost use Rattle.fv_file.specs.NewHeaders.{file_head_of, state_byte};
 ghost use Rattle.fv_canon.specs.StoredFiles.{ext_pad, gap_bytes, head_len_for, pad_bytes, size_for};
-ghost use Rattle.fv_canon.specs.inner.Depths.{ArePlaced, used_by};
+ghost use Rattle.fv_canon.specs.inner.FileWalks.{ArePlaced, used_by};
 ghost use Rattle.fv_base.specs.Flash.{erased_byte};
 ghost use Rattle.fv_base.specs.Measures.{data_limit};
 ghost use Rattle.fv_base.specs.Limits.{volume_limit};
-ghost use Rattle.fv_head.specs.Attributes.{polarity_of};
 ghost use Rattle.fv_head.specs.ExtImage.{canonical_end, first_edge};
+ghost use Rattle.fv_head.specs.VolumeAttributes.{polarity_of};
 
 use fv_base::field::up_to_8;
 use fv_base::{Polarity, Sink, fill};
-use fv_file::layout::{HEADER_LEN, LARGE_HEADER_LEN, SHORT_SIZE_LIMIT};
+use fv_file::offsets::{HEADER_LEN, LARGE_HEADER_LEN, SHORT_SIZE_LIMIT};
 use fv_file::{NEW_STATE_ON_ONES, NEW_STATE_ON_ZEROS, file_head_bytes, pad_head_bytes};
 use fv_head::{VolumeHead, len_of_ext, put_ext};
 use fv_section::{section_head_bytes, section_header_len};

@@ -1,4 +1,4 @@
-pub mod CheckLemmas
+pub mod CheckTextLemmas
 pub mod EndLemmas
 pub mod InputLemmas
 pub mod OpenerLemmas

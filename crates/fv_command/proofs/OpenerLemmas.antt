@@ -5,9 +5,8 @@ use Rattle.std.specs.Prelude.{Option}
 use Rattle.fv_base.specs.Port.{has_erred, inner_of}
 use Rattle.fv_base.specs.declared.port.Port.{Port}
 use Rattle.fv_text.specs.PortViews.{Change, Ports, Shown, change, seen, shown}
-use Rattle.fv_command.specs.Runs.{Runs, RunsOver}
-use Rattle.fv_command.specs.Sources.{IsFirstSource, IsSecondSource, unread}
-use Rattle.fv_plan.specs.Files.{first_file, second_file}
+use Rattle.fv_command.specs.PlanRuns.{Runs, RunsOver, IsFirstSource, IsSecondSource, unread}
+use Rattle.fv_plan.specs.CommandFiles.{first_file, second_file}
 use Rattle.fv_plan.specs.declared.plan.Plan.{Plan}
 use Rattle.fv_command.specs.declared.ending.Ending.{Ending}
 use Rattle.fv_command.specs.declared.source.Source.{Source}

@@ -9,11 +9,11 @@ use Rattle.fv_file.specs.Cells.{CellForm, Tiles}
 use Rattle.fv_head.proofs.Laws.{one_front}
 use Rattle.fv_head.specs.Head.{BeginsVolume}
 use Rattle.fv_head.specs.declared.extent.Extent.{Extent}
-use Rattle.fv_tree.proofs.Laws.{want_known}
+use Rattle.fv_base.proofs.Laws.{want_known}
 use Rattle.fv_tree.specs.Denotes.{Accepted}
 use Rattle.fv_tree.specs.Meaning.{Meaning, head_of}
 use Rattle.fv_tree.specs.LocatedFiles.{BeginsTiled}
-use Rattle.fv_command.specs.CheckTexts.{AreCells}
+use Rattle.fv_command.specs.Tasks.{AreCells}
 
 -- bytes with as many as the volume says are all its bytes
 all_of : (b : List ℕ) (e : Extent) → length b ≡ e.length → take e.length b ≡ b

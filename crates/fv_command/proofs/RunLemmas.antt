@@ -2,11 +2,10 @@
 use Rattle.std.proofs.Common.{◌≡◌, ◌≢◌, ◌≤◌, ◌⊎◌, ℕ, Bool, true, false, List, length, take, arith, rules, refl, sym, subst, inl, inr}
 use Rattle.std.proofs.lemmas.Grind.{common_steps}
 use Rattle.std.specs.Prelude.{◌↔◌, Option}
-use Rattle.fv_base.proofs.Laws.{or_more}
+use Rattle.fv_base.proofs.Laws.{or_more, want_known}
 use Rattle.fv_base.specs.Faults.{out_of_memory}
 use Rattle.fv_base.specs.Limits.{depth_limit}
 use Rattle.fv_base.specs.declared.fault.Fault.{Fault}
-use Rattle.fv_tree.proofs.Laws.{want_known}
 use Rattle.fv_canon.specs.LayoutFaults.{Unfit}
 use Rattle.fv_compare.specs.declared.side.Side.{Side}
 use Rattle.fv_compare.specs.declared.side.Side.TheVariants as sides
@@ -17,8 +16,8 @@ use Rattle.fv_tree.specs.FileNames.{file_named}
 use Rattle.fv_hob.specs.HobChecks.{IsFirstHobFault, hob_out_of_memory}
 use Rattle.fv_hob.specs.declared.fault.HobFault.{HobFault}
 use Rattle.fv_command.specs.Extractions.{StopsPart}
-use Rattle.fv_command.specs.Inputs.{Gives, GivesAt, TakenAt, BeginsNone, BeginsWith}
-use Rattle.fv_command.specs.SideRuns.{GivesVolume, IsVerdict, SideStops, VolumeInputStops}
+use Rattle.fv_command.specs.PairRuns.{GivesVolume, IsVerdict, SideStops, VolumeInputStops}
+use Rattle.fv_command.specs.RunInputs.{Gives, GivesAt, TakenAt, BeginsNone, BeginsWith}
 use Rattle.fv_command.specs.Tasks.{Denies}
 use Rattle.fv_command.specs.inner.RunSteps.{verdict_of}
 use Rattle.fv_plan.specs.declared.plan.Part.{Part}

@@ -1,32 +1,72 @@
 -- What the tasks over one input say of it, and what stops them.
-use Rattle.std.specs.Prelude.{◌≡◌, ◌⊎◌, ℕ, Bool, true, false, List, Option, codes}
+use Rattle.std.specs.Prelude.{◌≡◌, ◌↔◌, ℕ, Bool, true, List, ◌++◌, drop, Option, Some, ◌⊎◌, false, codes}
+use Rattle.fv_base.specs.declared.flash.Polarity.{Polarity}
+use Rattle.fv_canon.specs.Image.{IsImage, IsData}
+use Rattle.fv_file.specs.Cells.{CellForm, Tiles}
+use Rattle.fv_head.specs.Head.{BeginsVolume}
+use Rattle.fv_head.specs.declared.extent.Extent.{Extent}
+use Rattle.fv_tree.specs.Denotes.{Accepted}
+use Rattle.fv_tree.specs.Meaning.{Meaning, files_of, head_of, FileMeaning, content_of}
+use Rattle.fv_lines.specs.Notes.{AreNotes, depex_lines, depexes_in, pad_notes, verdict_line}
+use Rattle.fv_lines.specs.declared.depex_notes.DepexNote.{DepexNote}
+use Rattle.sha2.specs.Sha256.{sha256}
+use Rattle.fv_lines.specs.ListTexts.{VolumeLines, ListText}
 use Rattle.fv_base.specs.Faults.{out_of_memory}
 use Rattle.fv_base.specs.declared.fault.Fault.{Fault}
 use Rattle.fv_canon.specs.Headline.{NormalisesTo}
 use Rattle.fv_canon.specs.LayoutFaults.{Unfit}
-use Rattle.fv_tree.specs.Inputs.{NotRead}
-use Rattle.fv_canon.specs.Refusals.{Refuses}
+use Rattle.fv_tree.specs.InputFaults.{NotRead}
+use Rattle.fv_canon.specs.InputRefusals.{Refuses}
 use Rattle.fv_canon.specs.FlashImages.{NormalisesAll, RefusesAll}
-use Rattle.fv_tree.specs.FoundVolumes.{Found}
-use Rattle.fv_tree.specs.Meaning.{Meaning, files_of}
+use Rattle.fv_flash.specs.FoundVolumes.{Found}
 use Rattle.fv_tree.specs.FileNames.{file_named}
 use Rattle.fv_lines.specs.CellTexts.{CellsText}
 use Rattle.fv_tree.specs.LocatedFiles.{NotTiled}
-use Rattle.fv_command.specs.CheckTexts.{CheckText}
 use Rattle.fv_text.specs.HexText.{ShowsBytes}
 use Rattle.fv_text.specs.PortViews.{Change}
-use Rattle.fv_command.specs.Inputs.{BeginsWith, BeginsNone, GivesAt, GivingStops}
+use Rattle.fv_command.specs.RunInputs.{BeginsWith, BeginsNone, GivesAt, GivingStops}
 use Rattle.fv_lines.specs.ScanLines.{ScanText}
-use Rattle.fv_lines.specs.ListTexts.{ListText}
-use Rattle.fv_command.specs.SumTexts.{SumsText}
 use Rattle.fv_command.specs.Extractions.{IsPart, StopsPart}
 use Rattle.fv_command.specs.declared.status.Status.{Status}
 use Rattle.fv_command.specs.declared.status.Status.TheVariants.{Done, Different}
 use Rattle.fv_command.specs.declared.extracting.Extraction.{Extraction}
 use Rattle.fv_command.specs.declared.extracting.Extraction.TheVariants.{Made, Stored, NotFound, NotSectioned}
 use Rattle.fv_plan.specs.declared.plan.Task.{Task}
-use Rattle.fv_plan.specs.declared.plan.Task.TheVariants.{Normalise, NormaliseAll, List as Listing, ListSums, Extract, Check}
-use Rattle.fv_plan.specs.declared.plan.Task.TheVariants.{Cells, Scan}
+use Rattle.fv_plan.specs.declared.plan.Task.TheVariants.{Normalise, NormaliseAll, List as Listing, ListSums, Extract}
+use Rattle.fv_plan.specs.declared.plan.Task.TheVariants.{Check, Cells, Scan}
+
+-- a volume with this meaning has these cells, which tile it from its first file's offset on, and its erased bytes are
+-- of this polarity
+pub record AreCells (m : Meaning) (b : List ℕ) (polarity : Polarity) (cells : List CellForm) : Type 0 where
+  pub extent : Extent
+  pub front : BeginsVolume (head_of m) extent b
+  pub polarity_is : polarity ≡ extent.polarity
+  pub tiles : Tiles extent.file_system polarity extent.first cells (drop extent.first b)
+
+-- the input is a volume. The text has a line for each pad that holds bytes which are not erased, and for each
+-- dependency expression that is rejected. Its last line says whether the input is the canonical image of its meaning
+pub record CheckText (input : List ℕ) (same : Bool) (text : List ℕ) : Type 0 where
+  pub meaning : Meaning
+  pub accepted : Accepted input meaning
+  pub polarity : Polarity
+  pub cells : List CellForm
+  pub are_cells : AreCells meaning input polarity cells
+  pub notes : List DepexNote
+  pub are_notes : AreNotes (depexes_in (files_of meaning)) notes
+  pub text_is : text ≡ pad_notes polarity cells ++ (depex_lines notes ++ verdict_line same)
+  pub same_is : (same ≡ true) ↔ IsImage meaning input
+
+-- the digest of a volume: the SHA-256 of its canonical image
+abbrev pub VolumeDigest : Meaning → Option (List ℕ) → Type 0
+VolumeDigest m digest = (image : List ℕ) × IsImage m image × (digest ≡ Some (sha256 image))
+
+-- the digest of a file: the SHA-256 of its data, as they are in the canonical image of its volume
+abbrev pub FileDigest : FileMeaning → Option (List ℕ) → Type 0
+FileDigest f digest = (bytes : List ℕ) × IsData (content_of f) bytes × (digest ≡ Some (sha256 bytes))
+
+-- the text with these digests
+abbrev pub SumsText : Meaning → List ℕ → Type 0
+SumsText m text = VolumeLines VolumeDigest FileDigest 0 m text
 
 -- what is written of a part, and with which status: its bytes, or that there is no such part
 abbrev pub PartText : Bool → Extraction → Status → List ℕ → Type 0

@@ -1,5 +1,4 @@
 -- Definitions that serve only private clauses: there is nothing to believe here.
 pub mod CheckRuns
-pub mod DigestSinks
+pub mod Digests
 pub mod RunSteps
-pub mod StartWalks

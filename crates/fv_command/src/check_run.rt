@@ -2,7 +2,7 @@
 
 ghost use Rattle.std.specs.Prelude.{◌≡◌, ◌⊎◌, ℕ, Bool, List, option_copied, IfErr, IfOk, OnErr};
 ghost use Rattle.fv_base.specs.Faults.{out_of_memory};
-ghost use Rattle.fv_command.specs.CheckTexts.{CheckText};
+ghost use Rattle.fv_command.specs.Tasks.{CheckText};
 ghost use Rattle.fv_command.specs.inner.CheckRuns.{NotedText};
 ghost use Rattle.fv_command.specs.inner.RunSteps.{Performs};
 ghost use Rattle.fv_tree.specs.Denotes.{Accepted};

@@ -1,11 +1,11 @@
 //! Two volumes, compared.
 
 ghost use Rattle.std.specs.Prelude.{◌≡◌, ℕ, List, IfErr, IfOk, Option};
-ghost use Rattle.fv_compare.specs.Runs.{VolumeStops};
+ghost use Rattle.fv_compare.specs.CompareRuns.{VolumeStops};
 ghost use Rattle.fv_tree.specs.Denotes.{Accepted};
-ghost use Rattle.fv_command.specs.Inputs.{Gives, GivingStops};
+ghost use Rattle.fv_command.specs.RunInputs.{Gives, GivingStops};
 ghost use Rattle.fv_text.specs.PortViews.{Change, change, shown};
-ghost use Rattle.fv_command.specs.SideRuns.{GivesVolume};
+ghost use Rattle.fv_command.specs.PairRuns.{GivesVolume};
 ghost use Rattle.fv_command.specs.inner.RunSteps.{Compares, verdict_of};
 
 use crate::inputs::{read_bytes, taken_at};

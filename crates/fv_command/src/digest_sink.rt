@@ -3,7 +3,7 @@
 ghost use Rattle.std.specs.Prelude.{◌≡◌, ℕ, List, []};
 ghost use Rattle.sha2.specs.Hashers.{Holds256};
 ghost use Rattle.sha2.specs.Sha256.{sha256};
-ghost use Rattle.fv_command.specs.inner.DigestSinks.{DigestTakes, digest_by};
+ghost use Rattle.fv_command.specs.inner.Digests.{DigestTakes, digest_by};
 
 use fv_base::Sink;
 use sha2::{Digest, Sha256};

@@ -1,8 +1,8 @@
 //! A run over a hand-off list, and the image in which its volumes are looked for.
 
 ghost use Rattle.std.specs.Prelude.{◌≡◌, ℕ, List, IfOk, IfErr};
-ghost use Rattle.fv_command.specs.HobRuns.{GivesImage, HobImageStops, HobInputStops, SaysHobs, StopsHobs};
-ghost use Rattle.fv_command.specs.Inputs.{Gives};
+ghost use Rattle.fv_command.specs.PairRuns.{GivesImage, HobImageStops, HobInputStops, SaysHobs, StopsHobs};
+ghost use Rattle.fv_command.specs.RunInputs.{Gives};
 ghost use Rattle.fv_command.specs.inner.RunSteps.{Puts};
 ghost use Rattle.fv_lines.specs.HobLines.{held_image, image_form};
 ghost use Rattle.fv_text.specs.PortViews.{change, shown};

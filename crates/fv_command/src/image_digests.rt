@@ -1,8 +1,8 @@
 //! The SHA-256 of the volumes and of the files in a volume, as they are in a canonical image.
 
 ghost use Rattle.std.specs.Prelude.{◌≡◌};
-ghost use Rattle.fv_command.specs.SumTexts.{FileDigest, VolumeDigest};
-ghost use Rattle.fv_command.specs.inner.StartWalks.{BeginWith, begin_with};
+ghost use Rattle.fv_command.specs.Tasks.{FileDigest, VolumeDigest};
+ghost use Rattle.fv_command.specs.inner.Digests.{BeginWith, begin_with};
 
 use crate::digest_sink::DigestSink;
 use fv_canon::{put_laid_data, put_laid_volume, starts_inside};

@@ -1,7 +1,7 @@
 //! The bytes of an input.
 
 ghost use Rattle.std.specs.Prelude.{IfOk, IfErr};
-ghost use Rattle.fv_command.specs.Inputs.{Gives, GivingStops, TakenAt};
+ghost use Rattle.fv_command.specs.RunInputs.{Gives, GivingStops, TakenAt};
 ghost use Rattle.fv_text.specs.PortViews.{shown};
 
 use fv_base::{Fault, Port, read_input};

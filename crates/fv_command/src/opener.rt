@@ -2,9 +2,8 @@
 
 ghost use Rattle.std.specs.Prelude.{◌≡◌, ◌≢◌, ℕ, List, Option, true, false};
 ghost use Rattle.fv_base.specs.Port.{has_erred, inner_of, is_flushed};
-ghost use Rattle.fv_command.specs.Runs.{RunsOver};
-ghost use Rattle.fv_command.specs.Sources.{IsFirstSource, IsOpened, IsSecondSource};
-ghost use Rattle.fv_plan.specs.Files.{first_file, second_file};
+ghost use Rattle.fv_command.specs.PlanRuns.{RunsOver, IsFirstSource, IsOpened, IsSecondSource};
+ghost use Rattle.fv_plan.specs.CommandFiles.{first_file, second_file};
 ghost use Rattle.fv_text.specs.PortViews.{change};
 
 use crate::ending::Ending;

@@ -5,7 +5,7 @@ ghost use Rattle.fv_base.specs.Faults.{out_of_memory};
 ghost use Rattle.fv_tree.specs.Denotes.{Accepted};
 ghost use Rattle.fv_tree.specs.Meaning.{Meaning};
 ghost use Rattle.fv_command.specs.inner.CheckRuns.{NotedCells, noted_pads};
-ghost use Rattle.fv_command.specs.CheckTexts.{AreCells};
+ghost use Rattle.fv_command.specs.Tasks.{AreCells};
 
 use fv_base::{Fault, Polarity, Sink};
 use fv_file::Cells;

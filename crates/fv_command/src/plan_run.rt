@@ -4,7 +4,7 @@ ghost use Rattle.std.specs.Prelude.{◌≡◌, ◌≢◌, ℕ, Bool, List, optio
 ghost use Rattle.fv_base.specs.Port.{is_flushed};
 ghost use Rattle.fv_command.specs.inner.RunSteps.{PutsCommand};
 ghost use Rattle.fv_text.specs.PortViews.{Change, change};
-ghost use Rattle.fv_command.specs.Runs.{HasText, Runs};
+ghost use Rattle.fv_command.specs.PlanRuns.{HasText, Runs};
 
 use crate::comparison_run::put_compared;
 use crate::ending::{Ending, Refusal};

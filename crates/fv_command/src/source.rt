@@ -4,7 +4,7 @@ ghost use Rattle.std.specs.Io.{ReadsAtMost};
 ghost use Rattle.std.specs.Io.KnownBytes.{ReadConsumes};
 ghost use Rattle.std.specs.IoError.{error_kind};
 ghost use Rattle.std.specs.Prelude.{◌≡◌, IsErrAnd, Ok};
-ghost use Rattle.fv_command.specs.Sources.{unread};
+ghost use Rattle.fv_command.specs.PlanRuns.{unread};
 
 use std::io;
 use std::io::{ErrorKind, Read};

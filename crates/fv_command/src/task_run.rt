@@ -6,7 +6,7 @@ ghost use Rattle.fv_text.specs.PortViews.{change};
 ghost use Rattle.fv_tree.specs.FileNames.{file_named};
 ghost use Rattle.fv_tree.specs.Meaning.{Meaning, files_of};
 ghost use Rattle.fv_command.specs.Extractions.{IsPart};
-ghost use Rattle.fv_command.specs.Inputs.{BeginsNone, BeginsWith};
+ghost use Rattle.fv_command.specs.RunInputs.{BeginsNone, BeginsWith};
 ghost use Rattle.fv_command.specs.Tasks.{Denies, PartText, SaysTask, StopsTask};
 ghost use Rattle.fv_command.specs.inner.RunSteps.{Performs, Puts};
 

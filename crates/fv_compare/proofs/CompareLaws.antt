@@ -9,7 +9,7 @@ use Rattle.fv_base.specs.declared.fault.Fault.{Fault}
 use Rattle.fv_base.specs.declared.fault.FaultKind.TheVariants as kinds
 use Rattle.fv_tree.specs.Denotes.{Accepted}
 use Rattle.fv_tree.specs.Meaning.{Meaning}
-use Rattle.fv_compare.specs.Runs.{Compares, ComparisonStops, ReadsVolume, VolumeStops, RunCompares, SideStopsRun}
+use Rattle.fv_compare.specs.CompareRuns.{Compares, ComparisonStops, ReadsVolume, VolumeStops, RunCompares, SideStopsRun}
 use Rattle.fv_compare.specs.declared.side.Side.{Side}
 use Rattle.fv_compare.specs.declared.side.Side.TheVariants as sides
 

@@ -7,6 +7,7 @@
 use Rattle.std.proofs.lemmas.Grind.{common_steps}
 use Rattle.std.proofs.Common.{◌≡◌, ℕ, ◌+◌, List, [], ◌∷◌, refl, ap, ◌∙◌, Bool, true, false, Option, Some, None, arith}
 use Rattle.std.specs.Prelude.{◌==◌, ◌&&◌}
+use Rattle.std.specs.Option.{option_or}
 use Rattle.std.specs.Bool.{beq}
 use Rattle.std.specs.Cmp.{booleans_Decides}
 use Rattle.std.specs.Str.{bytes_eq}
@@ -19,7 +20,7 @@ use Rattle.fv_base.specs.declared.flash.FileSystem.{FileSystem}
 use Rattle.fv_base.specs.declared.flash.FileSystem.TheVariants.{Ffs2, Ffs3}
 use Rattle.fv_head.specs.Ext.{Extension}
 use Rattle.fv_head.specs.Head.{HeadFields}
-use Rattle.fv_compare.specs.Difference.{is_ffs3, Differs, unless_one, or_else, under, blocks_eq, entries_eq, ext_eq}
+use Rattle.fv_compare.specs.Difference.{is_ffs3, Differs, unless_one, under, blocks_eq, entries_eq, ext_eq}
 use Rattle.fv_compare.specs.Difference.{head_differs, difference, files_differ, file_differs, content_differs}
 use Rattle.fv_compare.specs.Difference.{sections_differ, section_differs, body_differs}
 use Rattle.fv_tree.specs.Meaning.{Meaning, Volume, FileMeanings, NoFiles, MoreFiles, FileMeaning, File, ContentMeaning, Plain, Sectioned}
@@ -27,15 +28,15 @@ use Rattle.fv_tree.specs.Meaning.{SectionMeanings, NoSections, MoreSections, Sec
 use Rattle.fv_compare.specs.declared.difference.Step.{Step}
 use Rattle.fv_compare.specs.declared.difference.Word.{Word}
 
-both_none : (a b : Differs) → or_else a b ≡ None → (a ≡ None) × (b ≡ None)
+both_none : (a b : Differs) → option_or a b ≡ None → (a ≡ None) × (b ≡ None)
 both_none None b e = (refl, e)
 both_none (Some d) b e = cc
 
-none_both : (a b : Differs) → a ≡ None → b ≡ None → or_else a b ≡ None
+none_both : (a b : Differs) → a ≡ None → b ≡ None → option_or a b ≡ None
 none_both a b p q = rw p q
 
 -- nothing differs in the first items of two lists, and nothing in the others
-item_none : (s : Step) (a b : Differs) → or_else (under s a) b ≡ None → (a ≡ None) × (b ≡ None)
+item_none : (s : Step) (a b : Differs) → option_or (under s a) b ≡ None → (a ≡ None) × (b ≡ None)
 item_none s None b e = (refl, e)
 item_none s (Some d) b e = cc
 

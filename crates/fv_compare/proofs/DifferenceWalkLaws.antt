@@ -1,12 +1,12 @@
 -- What the turns of a walk through two meanings return.
 use Rattle.std.proofs.lemmas.Grind.{common_steps}
-use Rattle.std.proofs.Common.{◌≡◌, ℕ, zero, suc, ◌<◌, ◌≤◌, List, [], ◌∷◌, length, drop, refl, sym, ap, ◌∙◌, arith}
+use Rattle.std.proofs.Common.{◌≡◌, ℕ, zero, suc, ◌≤◌, List, [], ◌∷◌, length, drop, min, refl, sym, ap, ◌∙◌, arith}
 use Rattle.std.proofs.Common.{Bool, true, false, Option, Some, None}
 use Rattle.std.specs.Prelude.{◌==◌, ◌&&◌}
+use Rattle.std.specs.Option.{option_or}
 use Rattle.std.specs.Str.{bytes_eq}
-use Rattle.std.proofs.lemmas.List.{drop_all}
 use Rattle.fv_head.specs.Head.{HeadFields}
-use Rattle.fv_compare.specs.Difference.{Differs, has_steps, differ_in, or_else, entries_eq}
+use Rattle.fv_compare.specs.Difference.{Differs, has_steps, differ_in, entries_eq}
 use Rattle.fv_compare.specs.inner.FoundDifferences.{in_word, outermost_first}
 use Rattle.fv_compare.specs.Difference.{head_differs, difference, files_differ, sections_differ}
 use Rattle.fv_compare.specs.declared.difference.Step.{Step}
@@ -18,7 +18,7 @@ use Rattle.fv_compare.proofs.DifferenceLaws.{no_difference}
 
 -- ---- the first of two
 
-ends_first : (a t : Differs) (w : Word) → a ≡ differ_in w → or_else a t ≡ differ_in w
+ends_first : (a t : Differs) (w : Word) → a ≡ differ_in w → option_or a t ≡ differ_in w
 ends_first a t w p = rw p refl
 
 -- ---- entries of an extended header
@@ -35,31 +35,40 @@ entries_long (p ∷ ps) (q ∷ qs) h =
     and_false true = refl
     and_false false = refl
 
--- ---- past the last of the first
+-- ---- past the last that both have
 
-more_left : {X : Type 0} (xs : List X) (i : ℕ) → i < length xs → (x : X) × (rest : List X) × (drop i xs ≡ x ∷ rest)
-more_left [] i l = absurd (omega (arith, l))
-more_left (x ∷ xs) zero l = (x, xs, refl)
-more_left (x ∷ xs) (suc i) l = more_left xs i (omega (arith, l))
+-- where two lists are of different lengths, one of them goes on
+uneven : {X : Type 0} (P : List X → List X → Type 0) → ((x : X) (xs : List X) → P (x ∷ xs) []) → ((y : X) (ys : List X) → P [] (y ∷ ys))
+    → (xs ys : List X) (i : ℕ) → min (length xs) (length ys) ≤ i → i ≤ min (length xs) (length ys) → (length xs ≡ length ys → ⊥)
+    → P (drop i xs) (drop i ys)
+uneven P first second [] [] i past within ne = absurd (ne refl)
+uneven P first second [] (y ∷ ys) zero past within ne = second y ys
+uneven P first second [] (y ∷ ys) (suc i) past within ne = absurd (omega (arith, within))
+uneven P first second (x ∷ xs) [] zero past within ne = first x xs
+uneven P first second (x ∷ xs) [] (suc i) past within ne = absurd (omega (arith, within))
+uneven P first second (x ∷ xs) (y ∷ ys) zero past within ne = absurd (omega (arith, past))
+uneven P first second (x ∷ xs) (y ∷ ys) (suc i) past within ne =
+    uneven P first second xs ys i (omega (arith, past)) (omega (arith, within)) (λ e. ne (omega (arith, e)))
 
--- the other stream has more sections
-pub sections_more : (ss rs : List SectionMeaning) (i : ℕ) (t : Differs) → length ss ≤ i → i ≤ length ss → length ss < length rs
+-- the streams have different numbers of sections
+pub sections_uneven : (ss rs : List SectionMeaning) (i : ℕ) (t : Differs) → min (length ss) (length rs) ≤ i
+    → i ≤ min (length ss) (length rs) → (length ss ≡ length rs → ⊥)
     → sections_differ 0 (sections_from ss) (sections_from rs) ≡ sections_differ i (sections_from (drop i ss)) (sections_from (drop i rs))
-    → or_else (sections_differ 0 (sections_from ss) (sections_from rs)) t ≡ differ_in words.SectionCount
-sections_more ss rs i t past within more e =
-    let r = more_left rs i (omega (arith, within, more)) in
+    → option_or (sections_differ 0 (sections_from ss) (sections_from rs)) t ≡ differ_in words.SectionCount
+sections_uneven ss rs i t past within ne e =
+    let Ends : List SectionMeaning → List SectionMeaning → Type 0 =
+    λ x y. sections_differ i (sections_from x) (sections_from y) ≡ differ_in words.SectionCount in
     ends_first (sections_differ 0 (sections_from ss) (sections_from rs)) t words.SectionCount
-    (e ∙ ap (λ x. sections_differ i (sections_from x) (sections_from (drop i rs))) (drop_all i ss past)
-    ∙ ap (λ y. sections_differ i (sections_from []) (sections_from y)) r.2)
+    (e ∙ uneven Ends (λ x xs. refl) (λ y ys. refl) ss rs i past within ne)
 
--- the other volume has more files
-pub files_more : (fs gs : List FileMeaning) (i : ℕ) → length fs ≤ i → i ≤ length fs → length fs < length gs
+-- the volumes have different numbers of files
+pub files_uneven : (fs gs : List FileMeaning) (i : ℕ) → min (length fs) (length gs) ≤ i → i ≤ min (length fs) (length gs)
+    → (length fs ≡ length gs → ⊥)
     → files_differ 0 (files_from fs) (files_from gs) ≡ files_differ i (files_from (drop i fs)) (files_from (drop i gs))
     → files_differ 0 (files_from fs) (files_from gs) ≡ differ_in words.FileCount
-files_more fs gs i past within more e =
-    let r = more_left gs i (omega (arith, within, more)) in
-    e ∙ ap (λ x. files_differ i (files_from x) (files_from (drop i gs))) (drop_all i fs past)
-    ∙ ap (λ y. files_differ i (files_from []) (files_from y)) r.2
+files_uneven fs gs i past within ne e =
+    e ∙ uneven (λ (x y : List FileMeaning). files_differ i (files_from x) (files_from y) ≡ differ_in words.FileCount) (λ x xs. refl)
+    (λ y ys. refl) fs gs i past within ne
 
 -- ---- volumes
 

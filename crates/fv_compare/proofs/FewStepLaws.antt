@@ -5,12 +5,13 @@
 use Rattle.std.proofs.lemmas.Grind.{common_steps}
 use Rattle.std.proofs.Common.{◌≤◌, ◌+◌, ◌*◌, ℕ, length, arith, Bool, true, false}
 use Rattle.std.specs.Prelude.{◌==◌, Some, None, IfSome}
+use Rattle.std.specs.Option.{option_or}
 use Rattle.std.specs.Bool.{beq}
 use Rattle.std.specs.Str.{bytes_eq}
 use Rattle.fv_base.specs.Guids.{bytes_of}
 use Rattle.fv_head.specs.Head.{HeadFields}
 use Rattle.fv_tree.specs.Denotes.{IsMeaning}
-use Rattle.fv_compare.specs.Difference.{Differs, unless_one, or_else, under, head_differs, difference, files_differ}
+use Rattle.fv_compare.specs.Difference.{Differs, unless_one, under, head_differs, difference, files_differ}
 use Rattle.fv_compare.specs.Difference.{file_differs, content_differs, sections_differ, section_differs, body_differs}
 use Rattle.fv_tree.specs.Meaning.{Meaning, Volume, FileMeanings, NoFiles, MoreFiles, FileMeaning, File, content_of, ContentMeaning}
 use Rattle.fv_tree.specs.Meaning.{Plain, Sectioned, SectionMeanings, NoSections, MoreSections, SectionMeaning, Section}
@@ -20,7 +21,7 @@ use Rattle.fv_compare.specs.declared.difference.Step.{Step}
 use Rattle.fv_compare.specs.declared.difference.Step.TheVariants as steps
 use Rattle.fv_compare.specs.declared.difference.Word.{Word}
 use Rattle.fv_compare.specs.declared.difference.Word.TheVariants as words
-use Rattle.fv_tree.specs.inner.Depths.{NestsVolume, NestsFiles, NestsContent, NestsSections, NestsBody}
+use Rattle.fv_tree.specs.inner.NestingDepths.{NestsVolume, NestsFiles, NestsContent, NestsSections, NestsBody}
 use Rattle.fv_tree.proofs.Laws.{nests_files, nests_content, nests_sections, nests_body, nests_group, nests_nested}
 
 -- ---- 1. bounds on the steps
@@ -34,7 +35,7 @@ within_unless : (same : Bool) (word : Word) (n : ℕ) → Within (unless_one sam
 within_unless true word n = tt
 within_unless false word n = omega arith
 
-within_or : (d e : Differs) (n : ℕ) → Within d n → Within e n → Within (or_else d e) n
+within_or : (d e : Differs) (n : ℕ) → Within d n → Within e n → Within (option_or d e) n
 within_or None e n p q = q
 within_or (Some d) e n p q = p
 
@@ -43,7 +44,7 @@ within_more None n k less p = tt
 within_more (Some d) n k less p = omega (arith, less, p)
 
 -- one item after another, a step down to each
-within_item : (s : Step) (d e : Differs) (n k : ℕ) → n + 1 ≤ k → Within d n → Within e k → Within (or_else (under s d) e) k
+within_item : (s : Step) (d e : Differs) (n k : ℕ) → n + 1 ≤ k → Within d n → Within e k → Within (option_or (under s d) e) k
 within_item s None e n k less p q = q
 within_item s (Some d) e n k less p q = omega (arith, p, less)
 

@@ -3,6 +3,7 @@ use Rattle.std.specs.Prelude.{Bool, true, false, ℕ, ◌+◌, ◌==◌, ◌&&�
 use Rattle.fv_base.specs.declared.flash.FileSystem.{FileSystem}
 use Rattle.fv_base.specs.declared.flash.FileSystem.TheVariants.{Ffs2, Ffs3}
 use Rattle.std.specs.Bool.{beq}
+use Rattle.std.specs.Option.{option_eq, option_or}
 use Rattle.std.specs.Str.{bytes_eq}
 use Rattle.fv_base.specs.Guids.{bytes_of}
 use Rattle.fv_head.specs.Ext.{Extension}
@@ -34,11 +35,8 @@ entries_eq (p ∷ ps) [] = false
 entries_eq (p ∷ ps) (q ∷ qs) = (p.0 == q.0) && bytes_eq p.1 q.1 && entries_eq ps qs
 
 abbrev pub ext_eq : Option Extension → Option Extension → Bool
-ext_eq None None = true
-ext_eq None (Some y) = false
-ext_eq (Some x) None = false
-ext_eq (Some x) (Some y) =
-    bytes_eq (bytes_of x.name) (bytes_of y.name) && entries_eq x.entries y.entries && bytes_eq x.tail y.tail
+ext_eq = option_eq (λ (x : Extension) (y : Extension).
+    bytes_eq (bytes_of x.name) (bytes_of y.name) && entries_eq x.entries y.entries && bytes_eq x.tail y.tail)
 
 -- ---- a path and a kind of difference
 
@@ -60,11 +58,6 @@ abbrev pub unless_one : Bool → Word → Differs
 unless_one true word = None
 unless_one false word = differ_in word
 
--- the first of two differences
-abbrev pub or_else : Differs → Differs → Differs
-or_else None o = o
-or_else (Some d) o = Some d
-
 -- the same difference, seen from one level further out
 abbrev pub under : Step → Differs → Differs
 under s None = None
@@ -74,17 +67,17 @@ under s (Some d) = Some (s ∷ d.0, d.1)
 
 abbrev pub head_differs : HeadFields → HeadFields → Differs
 head_differs h g =
-    or_else (unless_one (bytes_eq h.zero_vector g.zero_vector) words.ZeroVector)
-    (or_else (unless_one (beq (is_ffs3 h.file_system) (is_ffs3 g.file_system)) words.FileSystem)
-    (or_else (unless_one (h.length == g.length) words.Length)
-    (or_else (unless_one (h.attributes == g.attributes) words.VolumeAttributes)
-    (or_else (unless_one (h.reserved == g.reserved) words.Reserved)
-    (or_else (unless_one (blocks_eq h.blocks g.blocks) words.BlockMap)
+    option_or (unless_one (bytes_eq h.zero_vector g.zero_vector) words.ZeroVector)
+    (option_or (unless_one (beq (is_ffs3 h.file_system) (is_ffs3 g.file_system)) words.FileSystem)
+    (option_or (unless_one (h.length == g.length) words.Length)
+    (option_or (unless_one (h.attributes == g.attributes) words.VolumeAttributes)
+    (option_or (unless_one (h.reserved == g.reserved) words.Reserved)
+    (option_or (unless_one (blocks_eq h.blocks g.blocks) words.BlockMap)
     (unless_one (ext_eq h.ext g.ext) words.ExtendedHeader))))))
 
 abbrev mutual
   pub difference : Meaning → Meaning → Differs
-  difference (Volume h fs) (Volume g gs) = or_else (head_differs h g) (files_differ 0 fs gs)
+  difference (Volume h fs) (Volume g gs) = option_or (head_differs h g) (files_differ 0 fs gs)
 
   -- compares lists of files; i is the number of the first file
   pub files_differ : ℕ → FileMeanings → FileMeanings → Differs
@@ -92,18 +85,20 @@ abbrev mutual
   files_differ i NoFiles (MoreFiles g gs) = differ_in words.FileCount
   files_differ i (MoreFiles f fs) NoFiles = differ_in words.FileCount
   files_differ i (MoreFiles f fs) (MoreFiles g gs) =
-      or_else (under (steps.File i) (file_differs f g)) (files_differ (i + 1) fs gs)
+      option_or (under (steps.File i) (file_differs f g)) (files_differ (i + 1) fs gs)
 
   pub file_differs : FileMeaning → FileMeaning → Differs
   file_differs (File n k a c) (File m l b d) =
-      or_else (unless_one (bytes_eq (bytes_of n) (bytes_of m)) words.Name)
-      (or_else (unless_one (k == l) words.Type) (or_else (unless_one (a == b) words.Attributes) (content_differs c d)))
+      option_or (unless_one (bytes_eq (bytes_of n) (bytes_of m)) words.Name)
+      (option_or (unless_one (k == l) words.Type)
+      (option_or (unless_one (a == b) words.Attributes) (content_differs c d)))
 
   pub content_differs : ContentMeaning → ContentMeaning → Differs
   content_differs (Plain b) (Plain c) = unless_one (bytes_eq b c) words.Data
   content_differs (Plain b) (Sectioned ss t) = differ_in words.Data
   content_differs (Sectioned ss t) (Plain b) = differ_in words.Data
-  content_differs (Sectioned ss t) (Sectioned rs u) = or_else (sections_differ 0 ss rs) (unless_one (t == u) words.Tail)
+  content_differs (Sectioned ss t) (Sectioned rs u) =
+      option_or (sections_differ 0 ss rs) (unless_one (t == u) words.Tail)
 
   -- compares lists of sections; i is the number of the first section
   pub sections_differ : ℕ → SectionMeanings → SectionMeanings → Differs
@@ -111,18 +106,18 @@ abbrev mutual
   sections_differ i NoSections (MoreSections r rs) = differ_in words.SectionCount
   sections_differ i (MoreSections s ss) NoSections = differ_in words.SectionCount
   sections_differ i (MoreSections s ss) (MoreSections r rs) =
-      or_else (under (steps.Section i) (section_differs s r)) (sections_differ (i + 1) ss rs)
+      option_or (under (steps.Section i) (section_differs s r)) (sections_differ (i + 1) ss rs)
 
   pub section_differs : SectionMeaning → SectionMeaning → Differs
   section_differs (Section k e b) (Section l f c) =
-      or_else (unless_one (k == l) words.Type) (or_else (unless_one (beq e f) words.Form) (body_differs b c))
+      option_or (unless_one (k == l) words.Type) (option_or (unless_one (beq e f) words.Form) (body_differs b c))
 
   pub body_differs : BodyMeaning → BodyMeaning → Differs
   body_differs (Leaf b) (Leaf c) = unless_one (bytes_eq b c) words.Body
   body_differs (Leaf b) (Group rs u) = differ_in words.Shape
   body_differs (Leaf b) (Nested w) = differ_in words.Shape
   body_differs (Group ss t) (Leaf c) = differ_in words.Shape
-  body_differs (Group ss t) (Group rs u) = or_else (sections_differ 0 ss rs) (unless_one (t == u) words.Tail)
+  body_differs (Group ss t) (Group rs u) = option_or (sections_differ 0 ss rs) (unless_one (t == u) words.Tail)
   body_differs (Group ss t) (Nested w) = differ_in words.Shape
   body_differs (Nested v) (Leaf c) = differ_in words.Shape
   body_differs (Nested v) (Group rs u) = differ_in words.Shape

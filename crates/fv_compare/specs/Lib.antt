@@ -1,5 +1,5 @@
 -- The definitions in the order in which they can be read.
 pub mod Difference
 pub mod ComparisonLines
-pub mod Runs
+pub mod CompareRuns
 pub mod inner

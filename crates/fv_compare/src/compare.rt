@@ -1,12 +1,11 @@
 //! From two inputs to the line that says where their volumes first differ.
 
-ghost use Rattle.std.specs.Prelude.{◌≡◌, ◌≢◌, ◌↔◌, ◌≤◌, ℕ, List, Option, length, true, false};
+ghost use Rattle.std.specs.Prelude.{◌≡◌, ◌≢◌, ◌↔◌, ◌≤◌, length, true, false};
 ghost use Rattle.std.specs.Prelude.{IfOk, IfErr, OnOk, OnErr};
 ghost use Rattle.fv_base.specs.Faults.{out_of_memory};
 ghost use Rattle.fv_base.specs.Input.{ReadsWhole, ReadStops};
 ghost use Rattle.fv_base.specs.Port.{inner_of, has_erred};
-ghost use Rattle.fv_compare.specs.Runs.{Compares, ComparisonStops, ReadsVolume, RunCompares, SideStopsRun};
-ghost use Rattle.fv_compare.specs.Runs.{VolumeStops};
+ghost use Rattle.fv_compare.specs.CompareRuns.{Compares, ComparisonStops, RunCompares, SideStopsRun, VolumeStops};
 ghost use Rattle.fv_compare.specs.ComparisonLines.{compare_line};
 ghost use Rattle.fv_tree.specs.Denotes.{Accepted};
 ghost use Rattle.fv_compare.specs.Difference.{difference};
@@ -152,34 +151,7 @@ pub fn run_compare<R: Read, Q: Read, W: Write>(
 {
     let input = read_side(alloc, Side::First, first)?;
     let view = accept_side(alloc, Side::First, &input)?;
-    compare_second(alloc, &view, second, writer)
-}
-
-// Reads the second input to its end, and writes the line of `write_comparison` for the first volume
-// and that of the second input.
-fn compare_second<Q: Read, W: Write>(
-    alloc: Global,
-    first: &VolumeView<'_>,
-    second: &mut Port<Q>,
-    writer: &mut Port<W>,
-) -> Result<bool, (Side, Fault)>
-    ensures ok { (unread left : Option (List ℕ)) → ReadsVolume unread left first.now
-        → IfOk result (RunCompares unread left
-        (Q.remaining (inner_of second.old)) (Q.remaining (inner_of second.new))
-        (W.contents (inner_of writer.old)) (W.contents (inner_of writer.new))) }
-    ensures err { (unread left : Option (List ℕ)) → ReadsVolume unread left first.now
-        → IfErr result (λ e. SideStopsRun e.0 unread left
-        (Q.remaining (inner_of second.old)) (Q.remaining (inner_of second.new))
-        (W.contents (inner_of writer.old)) (W.contents (inner_of writer.new)) e.1) }
-
-    // No fault of a reader has the first side.
-    ensures first_read { IfErr result (λ e. e.0 ≡ Side.First → e.1.kind ≢ FaultKind.ReadFault) }
-    ensures second_erred { has_erred second.old ≡ false
-        → IfErr result (λ e. e.0 ≡ Side.Second → e.1.kind ≡ FaultKind.ReadFault → has_erred second.new ≡ true) }
-    ensures writer_erred { IfErr result (λ e. e.1.kind ≡ FaultKind.WriteFault
-        → (e.0 ≡ Side.Output) × (has_erred writer.new ≡ true)) }
-{
-    let input = read_side(alloc, Side::Second, second)?;
-    let view = accept_side(alloc, Side::Second, &input)?;
-    write_comparison(alloc, first, &view, writer)
+    let other_input = read_side(alloc, Side::Second, second)?;
+    let other = accept_side(alloc, Side::Second, &other_input)?;
+    write_comparison(alloc, &view, &other, writer)
 }

@@ -1,8 +1,9 @@
 //! Where the meanings of two volumes first differ.
 
 ghost use Rattle.std.specs.Prelude.{◌≡◌, ◌≢◌, ◌==◌, true, Some, IfOk, IfErr, IfSome, IfNone};
+ghost use Rattle.std.specs.Option.{option_or};
 ghost use Rattle.fv_base.specs.Faults.{out_of_memory};
-ghost use Rattle.fv_compare.specs.Difference.{has_steps, differ_in, unless_one, or_else, under};
+ghost use Rattle.fv_compare.specs.Difference.{has_steps, differ_in, unless_one, under};
 ghost use Rattle.fv_compare.specs.inner.FoundDifferences.{outermost_first, ReturnsDifference};
 ghost use Rattle.fv_compare.specs.Difference.{difference, files_differ, file_differs, content_differs};
 ghost use Rattle.fv_compare.specs.Difference.{sections_differ, section_differs, body_differs};
@@ -121,6 +122,18 @@ fn under(step: Step, found: Difference) -> Result<Difference, Fault>
     Ok(found)
 }
 
+// What a walk returns that looks for a difference.
+type Found = Result<Option<Difference>, Fault>;
+
+// Returns a difference of this kind, with no step, unless this holds.
+macro_rules! return_unless {
+    ($alloc:expr, $holds:expr, $word:expr) => {
+        if !$holds {
+            return Ok(Some(differ_in($alloc, $word)));
+        }
+    };
+}
+
 // Where two streams first differ, with the steps from the innermost out.
 #[cycle(differ)]
 fn stream_difference(
@@ -129,56 +142,39 @@ fn stream_difference(
     tail: u8,
     others: &[SectionView],
     other_tail: u8,
-) -> Result<Option<Difference>, Fault>
-    ensures { ReturnsDifference result (or_else (sections_differ 0 (sections_from sections.now)
+) -> Found
+    ensures { ReturnsDifference result (option_or (sections_differ 0 (sections_from sections.now)
         (sections_from others.now)) (unless_one (tail == other_tail) words.Tail)) }
 {
-    for (i, section) in sections.iter().enumerate() {
-        let Some(other) = others.get(i) else {
-            return Ok(Some(differ_in(alloc, Word::SectionCount)));
-        };
-        if let Some(found) = section_difference(alloc, section, other)? {
+    for i in 0..sections.len().min(others.len()) {
+        if let Some(found) = section_difference(alloc, &sections[i], &others[i])? {
             return Ok(Some(under(Step::Section(i as u64), found)?));
         }
     }
-    if sections.len() < others.len() {
-        return Ok(Some(differ_in(alloc, Word::SectionCount)));
-    }
-    if tail != other_tail {
-        return Ok(Some(differ_in(alloc, Word::Tail)));
-    }
+    return_unless!(alloc, sections.len() == others.len(), Word::SectionCount);
+    return_unless!(alloc, tail == other_tail, Word::Tail);
     Ok(None)
 }
 
 // The same for two sections.
 #[cycle(differ)]
-fn section_difference(
-    alloc: Global,
-    section: &SectionView,
-    other: &SectionView,
-) -> Result<Option<Difference>, Fault>
+fn section_difference(alloc: Global, section: &SectionView, other: &SectionView) -> Found
     ensures { ReturnsDifference result (section_differs section.now other.now) }
 {
-    if section.kind() != other.kind() {
-        return Ok(Some(differ_in(alloc, Word::Type)));
-    }
-    if section.extended() != other.extended() {
-        return Ok(Some(differ_in(alloc, Word::Form)));
-    }
+    return_unless!(alloc, section.kind() == other.kind(), Word::Type);
+    return_unless!(alloc, section.extended() == other.extended(), Word::Form);
     body_difference(alloc, section.body(), other.body())
 }
 
 // The same for the bodies of two sections.
 #[cycle(differ)]
-fn body_difference(alloc: Global, body: Body, other: Body) -> Result<Option<Difference>, Fault>
+fn body_difference(alloc: Global, body: Body, other: Body) -> Found
     ensures { ReturnsDifference result (body_differs (body_view body.entry) (body_view other.entry)) }
 {
     match (body, other) {
         (Body::Leaf(x), Body::Leaf(y)) => {
-            if x == y {
-                return Ok(None);
-            }
-            Ok(Some(differ_in(alloc, Word::Body)))
+            return_unless!(alloc, x == y, Word::Body);
+            Ok(None)
         }
         (
             Body::Group {
@@ -197,20 +193,11 @@ fn body_difference(alloc: Global, body: Body, other: Body) -> Result<Option<Diff
 
 // The same for the contents of two files.
 #[cycle(differ)]
-fn content_difference(
-    alloc: Global,
-    content: &Content,
-    other: &Content,
-) -> Result<Option<Difference>, Fault>
+fn content_difference(alloc: Global, content: &Content, other: &Content) -> Found
     ensures { ReturnsDifference result (content_differs (content_view content.now) (content_view other.now)) }
 {
     match (content, other) {
-        (Content::Plain(x), Content::Plain(y)) => {
-            if x == y {
-                return Ok(None);
-            }
-            Ok(Some(differ_in(alloc, Word::Data)))
-        }
+        (Content::Plain(x), Content::Plain(y)) if x == y => Ok(None),
         (
             Content::Stream {
                 sections: x,
@@ -227,55 +214,36 @@ fn content_difference(
 
 // The same for two files.
 #[cycle(differ)]
-fn file_difference(
-    alloc: Global,
-    file: &FileView,
-    other: &FileView,
-) -> Result<Option<Difference>, Fault>
+fn file_difference(alloc: Global, file: &FileView, other: &FileView) -> Found
     ensures { ReturnsDifference result (file_differs file.now other.now) }
 {
-    if file.name() != other.name() {
-        return Ok(Some(differ_in(alloc, Word::Name)));
-    }
-    if file.kind() != other.kind() {
-        return Ok(Some(differ_in(alloc, Word::Type)));
-    }
-    if file.attributes() != other.attributes() {
-        return Ok(Some(differ_in(alloc, Word::Attributes)));
-    }
+    return_unless!(alloc, file.name() == other.name(), Word::Name);
+    return_unless!(alloc, file.kind() == other.kind(), Word::Type);
+    return_unless!(
+        alloc,
+        file.attributes() == other.attributes(),
+        Word::Attributes
+    );
     content_difference(alloc, file.content(), other.content())
 }
 
 // The same for the files of two volumes.
 #[cycle(differ)]
-fn files_difference(
-    alloc: Global,
-    files: &[FileView],
-    others: &[FileView],
-) -> Result<Option<Difference>, Fault>
+fn files_difference(alloc: Global, files: &[FileView], others: &[FileView]) -> Found
     ensures { ReturnsDifference result (files_differ 0 (files_from files.now) (files_from others.now)) }
 {
-    for (i, file) in files.iter().enumerate() {
-        let Some(other) = others.get(i) else {
-            return Ok(Some(differ_in(alloc, Word::FileCount)));
-        };
-        if let Some(found) = file_difference(alloc, file, other)? {
+    for i in 0..files.len().min(others.len()) {
+        if let Some(found) = file_difference(alloc, &files[i], &others[i])? {
             return Ok(Some(under(Step::File(i as u64), found)?));
         }
     }
-    if files.len() < others.len() {
-        return Ok(Some(differ_in(alloc, Word::FileCount)));
-    }
+    return_unless!(alloc, files.len() == others.len(), Word::FileCount);
     Ok(None)
 }
 
 // The same for two volumes.
 #[cycle(differ)]
-fn volume_difference(
-    alloc: Global,
-    volume: &VolumeView,
-    other: &VolumeView,
-) -> Result<Option<Difference>, Fault>
+fn volume_difference(alloc: Global, volume: &VolumeView, other: &VolumeView) -> Found
     ensures { ReturnsDifference result (difference volume.now other.now) }
 {
     if let Some(word) = head_word(volume.head(), other.head()) {

@@ -8,4 +8,4 @@ pub use Rattle.fv_depex.proofs.TruthLemmas.{one_tree, tree_no_order, truth_of_tr
 -- bytes begin with one op at most; it is there where its checks hold, and its checks hold where it may be
 pub use Rattle.fv_depex.proofs.OpLemmas.{same_op, op_stands, checks_hold}
 -- bytes that have a first fault are spelled by no expression; a check that does not hold is no out of memory
-pub use Rattle.fv_depex.proofs.ReadLemmas.{none_after, no_want}
+pub use Rattle.fv_depex.proofs.OpReadLemmas.{none_after, no_want}

@@ -1,5 +1,5 @@
 pub mod Laws
 pub mod OpLemmas
+pub mod OpReadLemmas
 pub mod PathLemmas
-pub mod ReadLemmas
 pub mod TruthLemmas

@@ -4,28 +4,33 @@ ghost use Rattle.std.specs.Prelude.{◌≡◌};
 ghost use Rattle.fv_depex.specs.OpChecks.{depex_fault_number, depex_out_of_memory};
 
 use std::alloc::{AllocError, AllocFailed};
-use std::fmt;
 use thiserror::Error;
 
 /// Why an expression was rejected. Each variant also says at which offset, in bytes from the first
 /// byte that was passed to the call. (PI specification, volume 1, section 3.4, and volume 2,
 /// section 10.7.)
-#[derive(Clone, Copy, Debug, PartialEq, Eq)]
+#[derive(Clone, Copy, Debug, PartialEq, Eq, Error)]
 pub enum DepexFaultKind {
     /// Fewer than 16 bytes are left for the GUID of BEFORE, AFTER or PUSH. At the op's code.
+    #[error("the GUID of an op is cut")]
     Short,
     /// An op code that the phase does not have: PEI has 0x02 to 0x08, DXE 0x00 to 0x09. At that
     /// code.
+    #[error("the code of an op is not known")]
     Opcode,
     /// The stack holds fewer than two values at AND or OR, none at NOT, or not exactly one at END
     /// (after BEFORE or AFTER, END takes none). At the op's code.
+    #[error("the stack does not hold what an op takes")]
     Stack,
     /// The bytes end before END. At their end.
+    #[error("the expression has no end")]
     NoEnd,
     /// BEFORE, AFTER or SOR that is not first, or an op other than END after BEFORE or AFTER. At
     /// the op's code.
+    #[error("an op stands where it may not")]
     Position,
     /// Memory ran out. At 0.
+    #[error("out of memory")]
     OutOfMemory,
 }
 
@@ -43,27 +48,7 @@ impl DepexFaultKind {
             DepexFaultKind::OutOfMemory => 6,
         }
     }
-
-    // What `Display` writes of the kind.
-    fn text(self) -> &'static str {
-        match self {
-            DepexFaultKind::Short => "the GUID of an op is cut",
-            DepexFaultKind::Opcode => "the code of an op is not known",
-            DepexFaultKind::Stack => "the stack does not hold what an op takes",
-            DepexFaultKind::NoEnd => "the expression has no end",
-            DepexFaultKind::Position => "an op stands where it may not",
-            DepexFaultKind::OutOfMemory => "out of memory",
-        }
-    }
 }
-
-impl fmt::Display for DepexFaultKind {
-    fn fmt<W: fmt::Write>(&self, f: &mut fmt::Formatter<W>) -> fmt::Result {
-        f.write_str(self.text())
-    }
-}
-
-impl std::error::Error for DepexFaultKind {}
 
 /// Why an expression was rejected, and where.
 #[derive(Clone, Copy, Debug, PartialEq, Eq, Error)]

@@ -22,9 +22,9 @@ use Rattle.fv_file.specs.inner.CellVerdicts.{cell_verdict}
 use Rattle.fv_file.specs.declared.cell.Cell.{Cell}
 use Rattle.fv_base.proofs.Laws.{all_are-true}
 use Rattle.fv_file.proofs.CellFoundLemmas.{CellStandsAt}
-use Rattle.fv_file.proofs.CellLemmas.{verdict_stands, verdict_first, one_cell, no_cell}
 use Rattle.fv_file.proofs.CellPartLemmas.{cell_span, made_up, not_empty}
-use Rattle.fv_file.proofs.ErasedLemmas.{not_erased, some_left}
+use Rattle.fv_file.proofs.CellVerdictLemmas.{verdict_stands, verdict_first, one_cell, no_cell}
+use Rattle.fv_file.proofs.ErasedByteLemmas.{not_erased, some_left}
 use Rattle.fv_file.proofs.TilingLemmas.{no_rest, one_tiling, cut, one_more, none_more}
 
 -- ---- the loop

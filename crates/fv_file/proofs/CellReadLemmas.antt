@@ -11,10 +11,10 @@ use Rattle.fv_base.specs.declared.fault.Fault.{Fault}
 use Rattle.fv_base.specs.declared.flash.FileSystem.{FileSystem}
 use Rattle.fv_base.specs.declared.flash.Polarity.{Polarity}
 use Rattle.fv_base.proofs.Laws.{and_join, if_false, if_true, none_faulty, not_equal}
-use Rattle.fv_file.specs.Attributes.{is_large}
 use Rattle.fv_file.specs.Cells.{CellForm, Valid, Pad, Dead, Stub, Free, offset_of, is_free, IsFilled, IsCell}
+use Rattle.fv_file.specs.FileAttributes.{is_large}
 use Rattle.fv_file.specs.FileChecks.{file_header_len_at, payload_at, file_checks, state_checks, cell_checks}
-use Rattle.fv_file.specs.Files.{file_header_len, head_in, pad_kind}
+use Rattle.fv_file.specs.FileHeaders.{file_header_len, head_in, pad_kind}
 use Rattle.fv_file.specs.inner.CellVerdicts.{cell_in, cell_of, StateSort, sort_of, sort_checks}
 use Rattle.fv_file.specs.inner.CellVerdicts as sorts
 use Rattle.fv_file.specs.States.{StateOf, bits_of, state_of, is_alive}

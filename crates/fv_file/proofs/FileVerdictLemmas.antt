@@ -8,8 +8,8 @@ use Rattle.fv_base.specs.Faults.{outer_fault}
 use Rattle.fv_base.specs.declared.fault.FaultKind.TheVariants as kinds
 use Rattle.fv_base.specs.declared.flash.FileSystem.{FileSystem}
 use Rattle.fv_file.specs.FileChecks.{file_header_len_at, has_file_size, has_file_sum, has_header_sum, may_be_large, skips_data}
-use Rattle.fv_file.specs.Attributes.{is_fixed}
-use Rattle.fv_file.specs.Files.{attributes_at, head_in}
+use Rattle.fv_file.specs.FileAttributes.{is_fixed}
+use Rattle.fv_file.specs.FileHeaders.{attributes_at, head_in}
 use Rattle.fv_file.specs.States.{is_alive}
 use Rattle.fv_file.specs.inner.CellVerdicts.{file_verdict}
 use Rattle.fv_file.specs.declared.state.FileState.{FileState}
@@ -49,23 +49,29 @@ module _ (s : FileSystem) (st : FileState) (at : ℕ) (r : List ℕ) (form : may
   unfolding file_verdict
   size_wrong sum size = rw (form, whole, sum, size) refl
 
-  pub data_skipped : has_header_sum r ≡ true → has_file_size r ≡ true → skips_data (is_alive st) r ≡ true
-      → file_verdict s st at r ≡ Ok (head_in st r)
-  unfolding file_verdict
-  data_skipped sum size skips = rw (form, whole, sum, size, skips) refl
+-- the checks of the header hold
+pub record IsHeaderRight (s : FileSystem) (r : List ℕ) : Type 0 where
+  pub form : may_be_large s r ≡ true
+  pub whole : nat_le (file_header_len_at r) (length r) ≡ true
+  pub sum : has_header_sum r ≡ true
+  pub size : has_file_size r ≡ true
 
-  pub file_fixed : has_header_sum r ≡ true → has_file_size r ≡ true → skips_data (is_alive st) r ≡ false
-      → not (is_fixed (attributes_at r)) ≡ false → file_verdict s st at r ≡ Err (outer_fault kinds.Fixed (at + 19))
+module _ (s : FileSystem) (st : FileState) (at : ℕ) (r : List ℕ) (head : IsHeaderRight s r) where
+  pub data_skipped : skips_data (is_alive st) r ≡ true → file_verdict s st at r ≡ Ok (head_in st r)
   unfolding file_verdict
-  file_fixed sum size skips fixed = rw (form, whole, sum, size, skips, fixed) refl
+  data_skipped skips = rw (head.form, head.whole, head.sum, head.size, skips) refl
 
-  pub data_wrong : has_header_sum r ≡ true → has_file_size r ≡ true → skips_data (is_alive st) r ≡ false
-      → not (is_fixed (attributes_at r)) ≡ true → has_file_sum r ≡ false
+  pub file_fixed : skips_data (is_alive st) r ≡ false → not (is_fixed (attributes_at r)) ≡ false
+      → file_verdict s st at r ≡ Err (outer_fault kinds.Fixed (at + 19))
+  unfolding file_verdict
+  file_fixed skips fixed = rw (head.form, head.whole, head.sum, head.size, skips, fixed) refl
+
+  pub data_wrong : skips_data (is_alive st) r ≡ false → not (is_fixed (attributes_at r)) ≡ true → has_file_sum r ≡ false
       → file_verdict s st at r ≡ Err (outer_fault kinds.FileSum (at + 17))
   unfolding file_verdict
-  data_wrong sum size skips fixed payload = rw (form, whole, sum, size, skips, fixed, payload) refl
+  data_wrong skips fixed payload = rw (head.form, head.whole, head.sum, head.size, skips, fixed, payload) refl
 
-  pub data_right : has_header_sum r ≡ true → has_file_size r ≡ true → skips_data (is_alive st) r ≡ false
-      → not (is_fixed (attributes_at r)) ≡ true → has_file_sum r ≡ true → file_verdict s st at r ≡ Ok (head_in st r)
+  pub data_right : skips_data (is_alive st) r ≡ false → not (is_fixed (attributes_at r)) ≡ true → has_file_sum r ≡ true
+      → file_verdict s st at r ≡ Ok (head_in st r)
   unfolding file_verdict
-  data_right sum size skips fixed payload = rw (form, whole, sum, size, skips, fixed, payload) refl
+  data_right skips fixed payload = rw (head.form, head.whole, head.sum, head.size, skips, fixed, payload) refl

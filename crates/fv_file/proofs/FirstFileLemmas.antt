@@ -12,7 +12,7 @@ use Rattle.fv_base.specs.declared.fault.FaultKind.TheVariants as kinds
 use Rattle.fv_base.specs.declared.flash.FileSystem.{FileSystem}
 use Rattle.fv_base.specs.declared.flash.Polarity.{Polarity}
 use Rattle.fv_file.specs.FileChecks.{file_size_at, payload_at, file_checks, is_standing, verify_checks}
-use Rattle.fv_file.specs.Files.{pad_kind, head_in, IsSound}
+use Rattle.fv_file.specs.FileHeaders.{pad_kind, head_in, IsSound}
 use Rattle.fv_file.specs.HeaderReads.{BeginsFile}
 use Rattle.fv_file.specs.inner.CellVerdicts.{file_verdict, standing_verdict, verify_verdict}
 use Rattle.fv_file.specs.States.{state_of, is_alive}

@@ -26,9 +26,9 @@ use Rattle.fv_base.specs.declared.flash.Polarity.{Polarity}
 use Rattle.fv_base.specs.declared.flash.Polarity.TheVariants.{Ones, Zeros}
 use Rattle.fv_base.specs.declared.guid.Guid.{Guid}
 use Rattle.fv_base.proofs.Laws.{field_is, le-le_bytes}
-use Rattle.fv_file.specs.Attributes.{attribute_bits, is_large}
 use Rattle.fv_file.specs.Cells.{IsFilled}
-use Rattle.fv_file.specs.Files.{file_header_len, head_in, header_sum_of, pad_kind, file_size_in, IsFileHeader}
+use Rattle.fv_file.specs.FileAttributes.{attribute_bits, is_large}
+use Rattle.fv_file.specs.FileHeaders.{file_header_len, head_in, header_sum_of, pad_kind, file_size_in, IsFileHeader}
 use Rattle.fv_file.specs.States.{StateOf, is_alive, state_of}
 use Rattle.fv_file.specs.inner.NewHeaderParts.{file_header, new_header_bytes}
 use Rattle.fv_file.specs.HeaderReads.{IsNewHeader, IsHeadOfFile, IsHeadOfPad, fields_of, file_fields, pad_fields}
@@ -38,7 +38,7 @@ use Rattle.fv_file.specs.declared.attributes.FileAttributes.{FileAttributes}
 use Rattle.fv_file.specs.declared.head.FileHead.{FileHead}
 use Rattle.fv_file.specs.declared.new_header.NewHeader.{NewHeader}
 use Rattle.fv_file.specs.declared.state.FileState.TheVariants as states
-use Rattle.fv_file.proofs.AttributeLemmas.{set_large}
+use Rattle.fv_file.proofs.FileAttributeLemmas.{set_large}
 use Rattle.fv_file.proofs.FileLemmas.{header_least}
 
 -- the eight bytes of a number, as they are written

@@ -12,19 +12,19 @@ use Rattle.fv_base.specs.Flash.{erased_byte}
 use Rattle.fv_base.specs.Value.{up_to_8}
 use Rattle.fv_base.specs.declared.flash.FileSystem.{FileSystem}
 use Rattle.fv_base.specs.declared.flash.Polarity.{Polarity}
-use Rattle.fv_file.specs.Attributes.{is_large}
 use Rattle.fv_file.specs.Cells.{CellForm, Valid, Pad, Dead, Stub, Free, offset_of, is_free, IsFilled, IsCell, Tiles}
+use Rattle.fv_file.specs.FileAttributes.{is_large}
 use Rattle.fv_file.specs.FileChecks.{cell_checks, file_header_len_at, file_size_at}
-use Rattle.fv_file.specs.Files.{file_header_len}
+use Rattle.fv_file.specs.FileHeaders.{file_header_len}
 use Rattle.fv_file.specs.States.{StateOf, bits_of, state_of}
 use Rattle.fv_file.specs.inner.CellVerdicts.{is_unfinished}
 use Rattle.fv_file.specs.declared.head.FileHead.{FileHead}
 use Rattle.fv_file.specs.declared.state.FileState.{FileState}
 use Rattle.fv_file.specs.declared.state.FileState.TheVariants as states
-use Rattle.fv_file.proofs.CellLemmas.{no_bits}
 use Rattle.fv_file.proofs.CellPartLemmas.{file_made_up, filled_span, made_up, not_empty, free_all}
 use Rattle.fv_file.proofs.CellReadLemmas.{cell_reads}
-use Rattle.fv_file.proofs.ErasedLemmas.{all_at}
+use Rattle.fv_file.proofs.CellVerdictLemmas.{no_bits}
+use Rattle.fv_file.proofs.ErasedByteLemmas.{all_at}
 use Rattle.fv_file.proofs.FileLemmas.{header_least, front_byte, file_reads}
 use Rattle.fv_file.proofs.SortLemmas.{sorted}
 use Rattle.fv_file.proofs.TilingLemmas.{no_rest}

@@ -3,8 +3,8 @@ use Rattle.std.specs.Prelude.{◌≡◌, ℕ, ◌+◌, ◌%◌, ◌<◌, ◌⊎�
 use Rattle.fv_base.specs.Flash.{AllAre, erased_byte}
 use Rattle.fv_base.specs.declared.flash.FileSystem.{FileSystem}
 use Rattle.fv_base.specs.declared.flash.Polarity.{Polarity}
-use Rattle.fv_file.specs.Attributes.{is_large}
-use Rattle.fv_file.specs.Files.{attributes_at, file_header_len, pad_kind, state_at, IsFile, IsSound}
+use Rattle.fv_file.specs.FileAttributes.{is_large}
+use Rattle.fv_file.specs.FileHeaders.{attributes_at, file_header_len, pad_kind, state_at, IsFile, IsSound}
 use Rattle.fv_file.specs.States.{StateOf, is_alive}
 use Rattle.fv_file.specs.declared.head.FileHead.{FileHead}
 use Rattle.fv_file.specs.declared.state.FileState.{FileState}

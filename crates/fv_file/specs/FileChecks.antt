@@ -10,10 +10,10 @@ use Rattle.fv_base.specs.declared.fault.FaultKind.TheVariants as kinds
 use Rattle.fv_base.specs.declared.flash.FileSystem.{FileSystem}
 use Rattle.fv_base.specs.declared.flash.FileSystem.TheVariants.{Ffs2, Ffs3}
 use Rattle.fv_base.specs.declared.flash.Polarity.{Polarity}
-use Rattle.fv_file.specs.Attributes.{is_large, is_fixed}
 use Rattle.fv_file.specs.Cells.{CellForm, Tiles, is_free}
-use Rattle.fv_file.specs.Files.{attributes_at, file_header_len, file_size_in, file_sum_at, file_sum_right, file_type_at}
-use Rattle.fv_file.specs.Files.{header_sum_of, pad_kind, state_at}
+use Rattle.fv_file.specs.FileAttributes.{is_large, is_fixed}
+use Rattle.fv_file.specs.FileHeaders.{attributes_at, file_header_len, file_size_in, file_sum_at, file_sum_right}
+use Rattle.fv_file.specs.FileHeaders.{file_type_at, header_sum_of, pad_kind, state_at}
 use Rattle.fv_file.specs.States.{bits_of, state_of, is_alive}
 use Rattle.fv_file.specs.declared.state.FileState.{FileState}
 use Rattle.fv_file.specs.declared.state.FileState.TheVariants as states

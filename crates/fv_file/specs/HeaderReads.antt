@@ -7,9 +7,10 @@ use Rattle.fv_base.specs.declared.flash.FileSystem.{FileSystem}
 use Rattle.fv_base.specs.declared.flash.FileSystem.TheVariants.{Ffs3}
 use Rattle.fv_base.specs.declared.flash.Polarity.{Polarity}
 use Rattle.fv_base.specs.declared.guid.Guid.{Guid}
-use Rattle.fv_file.specs.Attributes.{attribute_bits, attributes_by, is_large}
 use Rattle.fv_file.specs.Cells.{IsCell, Valid, Pad}
-use Rattle.fv_file.specs.Files.{pad_kind, file_header_len, state_at, fixed_checksum, IsFileHeader, IsFile, IsSound}
+use Rattle.fv_file.specs.FileAttributes.{attribute_bits, attributes_by, is_large}
+use Rattle.fv_file.specs.FileHeaders.{pad_kind, file_header_len, state_at, fixed_checksum, IsFileHeader, IsFile}
+use Rattle.fv_file.specs.FileHeaders.{IsSound}
 use Rattle.fv_file.specs.NewHeaders.{needs_large, with_large, state_byte, pad_name}
 use Rattle.fv_file.specs.States.{is_alive}
 use Rattle.fv_file.specs.declared.attributes.FileAttributes.{FileAttributes}

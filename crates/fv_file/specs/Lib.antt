@@ -1,7 +1,7 @@
 -- The definitions in the order in which they can be read.
-pub mod Attributes
+pub mod FileAttributes
 pub mod States
-pub mod Files
+pub mod FileHeaders
 pub mod Cells
 pub mod NewHeaders
 pub mod HeaderReads

@@ -5,8 +5,8 @@ use Rattle.fv_base.specs.Value.{le_bytes}
 use Rattle.fv_base.specs.declared.flash.Polarity.{Polarity}
 use Rattle.fv_base.specs.declared.flash.Polarity.TheVariants.{Ones, Zeros}
 use Rattle.fv_base.specs.declared.guid.Guid.{Guid}
-use Rattle.fv_file.specs.Attributes.{attribute_bits, is_summed}
-use Rattle.fv_file.specs.Files.{file_header_len, fixed_checksum, pad_kind}
+use Rattle.fv_file.specs.FileAttributes.{attribute_bits, is_summed}
+use Rattle.fv_file.specs.FileHeaders.{file_header_len, fixed_checksum, pad_kind}
 use Rattle.fv_file.specs.declared.attributes.FileAttributes.{FileAttributes}
 
 -- a file with this much data has a large header: with a short one its size would be more than 0xFFFFFF

@@ -1,7 +1,7 @@
 //! The attribute bits of a file.
 
 ghost use Rattle.std.specs.Prelude.{⊤, ◌≡◌, [], ◌∷◌, codes};
-ghost use Rattle.fv_file.specs.Attributes.{attribute_bits, is_large, is_fixed, is_summed, without_large};
+ghost use Rattle.fv_file.specs.FileAttributes.{attribute_bits, is_large, is_fixed, is_summed, without_large};
 
 use bitflags::{Flag, Flags, bitflag_items};
 

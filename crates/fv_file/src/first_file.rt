@@ -8,7 +8,7 @@ ghost use Rattle.fv_file.specs.inner.CellVerdicts.{verify_verdict};
 ghost use Rattle.fv_file.specs.declared.head.FileHead.{FileHead};
 
 use crate::head::{FileHead, file_at};
-use crate::layout::{HEADER_LEN, SIZE_OFFSET, STATE_OFFSET};
+use crate::offsets::{HEADER_LEN, SIZE_OFFSET, STATE_OFFSET};
 use crate::state::file_state;
 use fv_base::{Fault, FaultKind, FileSystem, Polarity, check};
 

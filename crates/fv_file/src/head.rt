@@ -2,15 +2,16 @@
 
 ghost use Rattle.std.specs.Prelude.{◌≡◌, ◌==◌, ◌≤◌, ◌<◌, ◌^◌, ◌&&◌, ◌||◌, not, nat_le, length, IfOk};
 ghost use Rattle.fv_base.specs.Value.{le_at};
-ghost use Rattle.fv_file.specs.Attributes.{attribute_bits, is_large};
+ghost use Rattle.fv_file.specs.FileAttributes.{attribute_bits, is_large};
 ghost use Rattle.fv_file.specs.FileChecks.{file_header_len_at, file_size_at, has_header_sum, may_be_large};
-ghost use Rattle.fv_file.specs.Files.{head_in, header_sum_of, attributes_at, file_header_len, file_sum_right, pad_kind};
+ghost use Rattle.fv_file.specs.FileHeaders.{head_in, header_sum_of, attributes_at, file_header_len, file_sum_right};
+ghost use Rattle.fv_file.specs.FileHeaders.{pad_kind};
 ghost use Rattle.fv_file.specs.States.{is_alive};
 ghost use Rattle.fv_file.specs.inner.CellVerdicts.{file_verdict};
 
 use crate::attributes::FileAttributes;
 use crate::file_type::FFS_PAD;
-use crate::layout::{
+use crate::offsets::{
     ATTRIBUTES_OFFSET, EXTENDED_SIZE_OFFSET, FILE_SUM_OFFSET, HEADER_LEN, HEADER_SUM_OFFSET,
     LARGE_HEADER_LEN, NAME_OFFSET, SIZE_OFFSET, STATE_OFFSET, TYPE_OFFSET,
 };
@@ -144,9 +145,10 @@ fn has_file_size(head: &FileHead, rest: &[u8]) -> bool
     ensures { result ≡ (nat_le head.now.header_len head.now.size && (nat_le head.now.size (length rest.now)
         && (not (is_large (attribute_bits head.now.attributes)) || (le_at 20 3 rest.now == 0)))) }
 {
-    head.header_len <= head.size
-        && head.size <= rest.len() as u64
-        && (!head.attributes.is_large() || short_size(rest) == 0)
+    if head.size < head.header_len || head.size > rest.len() as u64 {
+        return false;
+    }
+    !head.attributes.is_large() || short_size(rest) == 0
 }
 
 // Whether the file sum is right: with it the data sum to zero, or it is the fixed one.

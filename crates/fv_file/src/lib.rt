@@ -8,9 +8,9 @@ mod cell_walk;
 pub mod file_type;
 mod first_file;
 mod head;
-pub mod layout;
 mod leading;
 mod new_header;
+pub mod offsets;
 mod state;
 
 pub use attributes::FileAttributes;

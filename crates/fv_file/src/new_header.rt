@@ -4,8 +4,8 @@ ghost use Rattle.std.specs.Prelude.{◌≡◌, ℕ, List, ◌≢◌, ◌<◌, �
 ghost use Rattle.fv_base.specs.Guids.{bytes_of};
 ghost use Rattle.fv_base.specs.Measures.{data_limit};
 ghost use Rattle.fv_base.specs.Value.{IsBytes};
-ghost use Rattle.fv_file.specs.Attributes.{attribute_bits, is_large, is_fixed};
-ghost use Rattle.fv_file.specs.Files.{header_sum_at, pad_kind};
+ghost use Rattle.fv_file.specs.FileAttributes.{attribute_bits, is_large, is_fixed};
+ghost use Rattle.fv_file.specs.FileHeaders.{header_sum_at, pad_kind};
 ghost use Rattle.fv_file.specs.inner.NewHeaderParts.{HasPlace, size_fields, whole_bytes, header_of, new_header_bytes};
 ghost use Rattle.fv_file.specs.inner.NewHeaderParts.{file_header, pad_header};
 ghost use Rattle.fv_file.specs.HeaderReads.{IsNewHeader, IsHeadOfFile, IsHeadOfPad, file_fields, pad_fields};
@@ -14,7 +14,7 @@ ghost use Rattle.fv_file.specs.NewHeaders.{file_head_of, pad_head_of, with_large
 use crate::attributes::FileAttributes;
 use crate::file_type::FFS_PAD;
 use crate::head::{FIXED_CHECKSUM, header_len};
-use crate::layout::{
+use crate::offsets::{
     ATTRIBUTES_OFFSET, EXTENDED_SIZE_OFFSET, FILE_SUM_OFFSET, HEADER_LEN, HEADER_SUM_OFFSET,
     LARGE_HEADER_LEN, SHORT_SIZE_LIMIT, SIZE_OFFSET, STATE_OFFSET, TYPE_OFFSET,
 };

@@ -26,7 +26,7 @@ use Rattle.fv_head.specs.Pairs.{pairs_of, pairs_bytes}
 use Rattle.fv_head.specs.ExtImage.{ext_spelled, canonical_end, first_edge}
 use Rattle.fv_head.specs.HeadImage.{head_spelled, checksum_of, canonical_head}
 use Rattle.fv_head.specs.inner.WordSums.{word_weight}
-use Rattle.fv_head.proofs.BlockLemmas.{by_eights}
+use Rattle.fv_head.proofs.BlockMapLemmas.{by_eights}
 use Rattle.fv_head.proofs.ExtImageLemmas.{ext_again}
 
 -- ---- pairs

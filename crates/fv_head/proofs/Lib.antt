@@ -1,5 +1,4 @@
-pub mod AttributeLemmas
-pub mod BlockLemmas
+pub mod BlockMapLemmas
 pub mod ExtImageLemmas
 pub mod ExtLemmas
 pub mod HeadCheckLemmas
@@ -8,3 +7,4 @@ pub mod HeadImageLemmas
 pub mod HeadPlaceLemmas
 pub mod HeadWalkLemmas
 pub mod Laws
+pub mod VolumeAttributeLemmas

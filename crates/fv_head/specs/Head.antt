@@ -8,9 +8,9 @@ use Rattle.fv_base.specs.Value.{IsBytes, field, le_at, up_to_8}
 use Rattle.fv_base.specs.declared.flash.FileSystem.{FileSystem}
 use Rattle.fv_base.specs.declared.flash.FileSystem.TheVariants.{Ffs2, Ffs3}
 use Rattle.fv_head.specs.declared.extent.Extent.{Extent}
-use Rattle.fv_head.specs.Attributes.{polarity_of}
 use Rattle.fv_head.specs.Ext.{Extension, IsExt}
 use Rattle.fv_head.specs.Pairs.{pairs_of, bytes_in}
+use Rattle.fv_head.specs.VolumeAttributes.{polarity_of}
 
 -- the signature `_FVH`
 abbrev pub signature_bytes : List ℕ

@@ -2,10 +2,10 @@
 -- 3.2.1).
 use Rattle.std.specs.Prelude.{◌≡◌, ℕ, List, ◌++◌, length, Option, None, Some}
 use Rattle.fv_base.specs.Value.{IsBytes, le_at}
-use Rattle.fv_head.specs.Attributes.{polarity_of}
 use Rattle.fv_head.specs.Ext.{Extension, IsExt}
 use Rattle.fv_head.specs.ExtImage.{ext_spelled}
 use Rattle.fv_head.specs.Head.{HeadFields, header_len_of, IsHead, canonical_offset}
+use Rattle.fv_head.specs.VolumeAttributes.{polarity_of}
 use Rattle.fv_head.specs.declared.extent.Extent.{Extent}
 
 -- some bytes are an extended header with this meaning

@@ -1,5 +1,5 @@
 -- The definitions in the order in which they can be read.
-pub mod Attributes
+pub mod VolumeAttributes
 pub mod Pairs
 pub mod Ext
 pub mod Head

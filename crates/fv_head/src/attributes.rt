@@ -1,7 +1,7 @@
 //! The attribute bits of a volume.
 
 ghost use Rattle.std.specs.Prelude.{⊤, ◌≡◌, [], ◌∷◌, codes};
-ghost use Rattle.fv_head.specs.Attributes.{polarity_of};
+ghost use Rattle.fv_head.specs.VolumeAttributes.{polarity_of};
 
 use bitflags::{Flag, Flags, bitflag_items};
 use fv_base::Polarity;

@@ -3,7 +3,7 @@
 ghost use Rattle.std.specs.Prelude.{◌≡◌, ◌+◌, ◌<◌, ◌∷◌, IfSome, IfNone, List, ℕ, length};
 ghost use Rattle.fv_head.specs.Pairs.{pairs_of};
 
-use crate::layout::{BLOCK_ENTRY_LEN, BLOCK_LENGTH_OFFSET, NUM_BLOCKS_OFFSET};
+use crate::offsets::{BLOCK_ENTRY_LEN, BLOCK_LENGTH_OFFSET, NUM_BLOCKS_OFFSET};
 use fv_base::field::u32_at;
 use std::marker::Model;
 

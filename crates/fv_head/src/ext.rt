@@ -7,7 +7,7 @@ ghost use Rattle.fv_base.specs.Value.{le_at};
 ghost use Rattle.fv_head.specs.Ext.{BeginNoEntry, SplitsEntries, IsExt, kept_payload, is_used_size};
 ghost use Rattle.fv_head.specs.HeadReads.{IsReadExt};
 
-use crate::layout::{
+use crate::offsets::{
     EXT_ENTRY_HEADER_LEN, EXT_ENTRY_SIZE_OFFSET, EXT_ENTRY_TYPE_OFFSET, EXT_HEADER_LEN,
     FV_NAME_OFFSET,
 };

@@ -15,7 +15,7 @@ use crate::block_map::{BlockMap, first_pair};
 use crate::ext::{ExtHeader, ext_of};
 use crate::extent::Extent;
 use crate::header_checks::verify_fv;
-use crate::layout::{
+use crate::offsets::{
     ATTRIBUTES_OFFSET, BLOCK_MAP_OFFSET, HEADER_LEAST, RESERVED_OFFSET, ZERO_VECTOR_OFFSET,
     ext_bytes_at, ext_offset_at, volume_len_at,
 };

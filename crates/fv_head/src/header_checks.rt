@@ -16,7 +16,7 @@ ghost use Rattle.fv_head.specs.declared.extent.Extent.{Extent};
 use crate::attributes::FvAttributes;
 use crate::block_map::first_pair;
 use crate::extent::Extent;
-use crate::layout::{
+use crate::offsets::{
     ATTRIBUTES_OFFSET, BLOCK_ENTRY_LEN, BLOCK_LENGTH_OFFSET, BLOCK_MAP_OFFSET, EXT_HEADER_LEN,
     EXT_HEADER_OFFSET_OFFSET, FILE_SYSTEM_GUID_OFFSET, FV_LENGTH_OFFSET, HEADER_LEAST,
     HEADER_LENGTH_OFFSET, NUM_BLOCKS_OFFSET, REVISION_OFFSET, SIGNATURE_OFFSET, ext_offset_at,

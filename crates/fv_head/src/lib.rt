@@ -9,7 +9,7 @@ mod extent;
 mod head;
 mod head_image;
 mod header_checks;
-mod layout;
+mod offsets;
 mod write;
 
 pub use attributes::FvAttributes;

@@ -16,7 +16,7 @@ use Rattle.fv_hob.specs.Hobs.{HobForm, IsHob, hob_type, has_shape, kind_by, hob_
 use Rattle.fv_hob.specs.Hobs.{list_spelled}
 use Rattle.fv_hob.specs.declared.hob.HobKind.TheVariants as kinds
 use Rattle.fv_hob.specs.Lists.{IsHobList, IsUsedHob, JoinsHobs}
-use Rattle.fv_hob.proofs.BlockLemmas.{code_is, len_is}
+use Rattle.fv_hob.proofs.HobCheckLemmas.{code_is, len_is}
 use Rattle.fv_hob.proofs.BlockKindLemmas.{body_by}
 
 -- the header is written as it was read

@@ -1,7 +1,7 @@
 pub mod BlockKindLemmas
-pub mod BlockLemmas
+pub mod HobCheckLemmas
 pub mod HobImageLemmas
+pub mod HobListLemmas
+pub mod HobReadLemmas
 pub mod Laws
-pub mod ListLemmas
-pub mod ReadLemmas
 pub mod WriteLemmas

@@ -2,11 +2,11 @@
 use Rattle.std.proofs.lemmas.Grind.{common_steps}
 use Rattle.std.proofs.Common.{◌≡◌, ◌<◌, ℕ, ◌+◌, List, [], ◌∷◌, ◌++◌, length, take, get_or, refl, sym, ap, ◌∙◌, append_assoc, append-nil, arith}
 use Rattle.std.specs.Prelude.{Option, None, Some}
-use Rattle.std.specs.List.{concat}
+use Rattle.std.specs.List.{concat, cons_option}
 use Rattle.std.proofs.lemmas.List.{map-append, take_more}
 use Rattle.std.proofs.lemmas.List.Folds.{concat-append}
 use Rattle.fv_hob.specs.Hobs.{HobForm, hob_spelled, list_spelled}
-use Rattle.fv_hob.specs.Lists.{with_span, span_of, spans_of}
+use Rattle.fv_hob.specs.Lists.{span_of, spans_of}
 use Rattle.fv_hob.specs.declared.span.Span.{Span}
 
 -- after some bytes these fields were written
@@ -31,21 +31,21 @@ pub spelled_more : (hs : List HobForm) (i : ℕ) (h : HobForm) (old new : List �
     → new ≡ list_spelled (take (i + 1) hs)
 spelled_more hs i h old new within is p q = grind (arith, common_steps, take_more, spelled_join)
 
-spans_join : (hs : List HobForm) (h : HobForm) → spans_of (hs ++ h ∷ []) ≡ spans_of hs ++ with_span (span_of h.kind) []
+spans_join : (hs : List HobForm) (h : HobForm) → spans_of (hs ++ h ∷ []) ≡ spans_of hs ++ cons_option (span_of h.kind) []
 spans_join [] h = refl
 spans_join (g ∷ gs) h =
-    ap (with_span (span_of g.kind)) (spans_join gs h) ∙ first (span_of g.kind) (spans_of gs) (with_span (span_of h.kind) []) where
-      first : (o : Option Span) (ss ts : List Span) → with_span o (ss ++ ts) ≡ with_span o ss ++ ts
+    ap (cons_option (span_of g.kind)) (spans_join gs h) ∙ first (span_of g.kind) (spans_of gs) (cons_option (span_of h.kind) []) where
+      first : (o : Option Span) (ss ts : List Span) → cons_option o (ss ++ ts) ≡ cons_option o ss ++ ts
       first None ss ts = refl
       first (Some s) ss ts = refl
 
 pub spans_more : (hs : List HobForm) (i : ℕ) (h : HobForm) (o : Option Span) (old new : List Span) → i < length hs → h ≡ get_or hs i h
     → o ≡ span_of h.kind → old ≡ spans_of (take i hs)
-    → new ≡ old ++ with_span o [] → new ≡ spans_of (take (i + 1) hs)
+    → new ≡ old ++ cons_option o [] → new ≡ spans_of (take (i + 1) hs)
 spans_more hs i h o old new within is span p q = grind (arith, common_steps, take_more, spans_join)
 
-pub span_some : (o : Option Span) (s : Span) (old new : List Span) → o ≡ Some s → new ≡ old ++ s ∷ [] → new ≡ old ++ with_span o []
-span_some o s old new e p = p ∙ sym (ap (λ (x : Option Span). old ++ with_span x []) e)
+pub span_some : (o : Option Span) (s : Span) (old new : List Span) → o ≡ Some s → new ≡ old ++ s ∷ [] → new ≡ old ++ cons_option o []
+span_some o s old new e p = p ∙ sym (ap (λ (x : Option Span). old ++ cons_option x []) e)
 
-pub span_none : (o : Option Span) (old new : List Span) → o ≡ None → new ≡ old → new ≡ old ++ with_span o []
-span_none o old new e p = p ∙ sym (append-nil old) ∙ sym (ap (λ (x : Option Span). old ++ with_span x []) e)
+pub span_none : (o : Option Span) (old new : List Span) → o ≡ None → new ≡ old → new ≡ old ++ cons_option o []
+span_none o old new e p = p ∙ sym (append-nil old) ∙ sym (ap (λ (x : Option Span). old ++ cons_option x []) e)

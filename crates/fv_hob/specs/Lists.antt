@@ -1,6 +1,6 @@
 -- Lists of hand-off blocks (PI specification, volume 3, section 5), and the volumes that they name.
 use Rattle.std.specs.Prelude.{◌≡◌, ◌≢◌, ℕ, ⊤, List, [], ◌∷◌, ◌++◌, Option, None, Some}
-use Rattle.std.specs.List.{AllByRecursion}
+use Rattle.std.specs.List.{AllByRecursion, filter_map}
 use Rattle.fv_hob.specs.Hobs.{HobForm, IsHob, hob_type}
 use Rattle.fv_hob.specs.declared.hob.HobKind.{HobKind}
 use Rattle.fv_hob.specs.declared.hob.HobKind.TheVariants as kinds
@@ -47,12 +47,6 @@ span_of (kinds.FirmwareVolume base len) = Some (record { base = base; length = l
 span_of (kinds.FirmwareVolume2 base len volume file) = Some (record { base = base; length = len })
 span_of _ = None
 
--- the span, if there is one, in front of the others
-abbrev pub with_span : Option Span → List Span → List Span
-with_span None ss = ss
-with_span (Some s) ss = s ∷ ss
-
 -- the base and the length of each volume that the blocks describe, in order
 abbrev pub spans_of : List HobForm → List Span
-spans_of [] = []
-spans_of (h ∷ hs) = with_span (span_of h.kind) (spans_of hs)
+spans_of hs = filter_map (λ h. span_of h.kind) hs

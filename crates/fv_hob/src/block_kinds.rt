@@ -7,7 +7,7 @@ ghost use Rattle.fv_hob.specs.Hobs.{resource_in};
 
 use crate::hob::{Handoff, Hob, HobKind, MemoryAllocation, Resource};
 use crate::hob_type;
-use crate::layout::{allocation, cpu, extension, handoff, header, resource, span, volume2};
+use crate::offsets::{allocation, cpu, extension, handoff, header, resource, span, volume2};
 use fv_base::field::{bytes_from, field, u16_at, u32_at, u64_at};
 use fv_base::{ByteList, guid_at};
 use std::alloc::{AllocError, Global};

@@ -4,25 +4,30 @@ ghost use Rattle.std.specs.Prelude.{◌≡◌};
 ghost use Rattle.fv_hob.specs.HobChecks.{hob_fault_number, hob_out_of_memory};
 
 use std::alloc::{AllocError, AllocFailed};
-use std::fmt;
 use thiserror::Error;
 
 /// Why a hand-off list was rejected. Each variant also says at which offset, in bytes from the
 /// first byte of the list. (PI specification, volume 3, section 5.)
-#[derive(Clone, Copy, Debug, PartialEq, Eq)]
+#[derive(Clone, Copy, Debug, PartialEq, Eq, Error)]
 pub enum HobFaultKind {
     /// Fewer than the 8 bytes of a header are left, or fewer than HobLength says. At the block's
     /// header.
+    #[error("a block is cut")]
     Short,
     /// HobLength is not a multiple of 8, or is below 8. At the block's header.
+    #[error("the length of a block is no multiple of 8 from 8 on")]
     Length,
     /// The first block is not a hand-off information table (PHIT). At 0.
+    #[error("the first block is no hand-off information table")]
     First,
     /// HobLength is not one that the block's HobType may have. At the block's header.
+    #[error("the length of a block is not that of its type")]
     Shape,
     /// The bytes end before an end block (EFI_HOB_TYPE_END_OF_HOB_LIST). At their end.
+    #[error("the list has no end block")]
     NoEnd,
     /// Memory ran out. At 0.
+    #[error("out of memory")]
     OutOfMemory,
 }
 
@@ -40,27 +45,7 @@ impl HobFaultKind {
             HobFaultKind::OutOfMemory => 6,
         }
     }
-
-    // What `Display` writes of the kind.
-    fn text(self) -> &'static str {
-        match self {
-            HobFaultKind::Short => "a block is cut",
-            HobFaultKind::Length => "the length of a block is no multiple of 8 from 8 on",
-            HobFaultKind::First => "the first block is no hand-off information table",
-            HobFaultKind::Shape => "the length of a block is not that of its type",
-            HobFaultKind::NoEnd => "the list has no end block",
-            HobFaultKind::OutOfMemory => "out of memory",
-        }
-    }
 }
-
-impl fmt::Display for HobFaultKind {
-    fn fmt<W: fmt::Write>(&self, f: &mut fmt::Formatter<W>) -> fmt::Result {
-        f.write_str(self.text())
-    }
-}
-
-impl std::error::Error for HobFaultKind {}
 
 /// Why a list was rejected, and where.
 #[derive(Clone, Copy, Debug, PartialEq, Eq, Error)]

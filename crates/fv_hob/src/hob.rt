@@ -4,7 +4,7 @@ ghost use Rattle.std.specs.Prelude.{◌≡◌};
 ghost use Rattle.fv_hob.specs.Hobs.{IsReadHob, hob_type, hob_len};
 
 use crate::hob_type;
-use crate::layout::{allocation, cpu, extension, handoff, header, resource, span, volume2};
+use crate::offsets::{allocation, cpu, extension, handoff, header, resource, span, volume2};
 use fv_base::{ByteList, Guid};
 use std::marker::Model;
 

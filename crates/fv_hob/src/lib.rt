@@ -7,7 +7,7 @@ mod fault;
 mod hob;
 mod hob_list;
 mod hob_type;
-mod layout;
+mod offsets;
 mod read;
 mod span;
 mod write;

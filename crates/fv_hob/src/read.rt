@@ -13,7 +13,7 @@ use crate::fault::{HobFault, HobFaultKind};
 use crate::hob::Hob;
 use crate::hob_list::HobList;
 use crate::hob_type;
-use crate::layout::header;
+use crate::offsets::header;
 use fv_base::field::{bytes_from, u16_at};
 use std::alloc::Global;
 

@@ -1,11 +1,11 @@
 -- A walk over a volume has the digests of what is left of it.
-use Rattle.std.proofs.Common.{◌≡◌, ◌≤◌, ◌<◌, ◌+◌, ℕ, List, [], ◌++◌, length, drop, get_or, sym, ap, ◌∙◌, subst, append_assoc, append-nil}
-use Rattle.std.proofs.lemmas.List.{drop_all}
-use Rattle.fv_lines.specs.DigestWalks.{CoverLaws, Leaves}
+use Rattle.std.proofs.Common.{◌≡◌, ◌<◌, ◌+◌, ℕ, List, [], ◌++◌, length, drop, get_or, sym, ap, ◌∙◌, subst, append_assoc, append-nil}
+use Rattle.fv_lines.specs.ListTexts.{CoverLaws, Leaves}
 use Rattle.fv_tree.specs.Meaning.{BodyMeaning, ContentMeaning, FileMeaning, SectionMeaning, content_of}
 use Rattle.fv_tree.specs.MeaningParts.{body_of, files_from, sections_from}
 use Rattle.fv_tree.specs.Volumes.{Inside, deeper, volumes_in_body, volumes_in_content, volumes_in_files, volumes_in_sections}
-use Rattle.fv_tree.proofs.Laws.{in_file, in_section, item_at}
+use Rattle.fv_base.proofs.Laws.{item_at}
+use Rattle.fv_tree.proofs.Laws.{in_file, in_section}
 
 -- ---- what a walk has left
 
@@ -21,11 +21,6 @@ pub left_next : {D : Type 0} (covers : D → List Inside → Type 0) {d e f : D}
     → Leaves covers d vs e (first ++ rest) → Leaves covers e first f [] → Leaves covers d vs f rest
 left_next covers {d} {e} {f} vs first rest left walked =
     λ more now. walked (rest ++ more) (subst (covers e) (append_assoc first rest more) (left more now))
-
--- after the last item nothing is left
-pub none_left : {D X : Type 0} (covers : D → List Inside → Type 0) {d e : D} (vs : List Inside) (held : List X → List Inside) (xs : List X)
-    (i : ℕ) → length xs ≤ i → Leaves covers d vs e (held (drop i xs)) → Leaves covers d vs e (held [])
-none_left covers {d} {e} vs held xs i end left = subst (Leaves covers d vs e) (ap held (drop_all i xs end)) left
 
 -- ---- in a walk over sections
 

@@ -1,8 +1,8 @@
-pub mod CellLemmas
+pub mod CellSumLemmas
 pub mod CoverLemmas
 pub mod DepexNoteLemmas
 pub mod HobLemmas
-pub mod ListLemmas
+pub mod ListTextLemmas
 pub mod PadNoteLemmas
 pub mod ScanLemmas
 pub mod StandingLemmas

@@ -5,7 +5,7 @@ use Rattle.std.proofs.Common.{refl, arith}
 use Rattle.std.specs.List.{AllByRecursion}
 use Rattle.std.proofs.lemmas.List.{length-drop}
 use Rattle.fv_base.specs.Sinks.{WalkLaws}
-use Rattle.fv_tree.specs.FoundVolumes.{IsPlace, VolumeAt}
+use Rattle.fv_flash.specs.FoundVolumes.{IsPlace, VolumeAt}
 use Rattle.fv_lines.specs.ScanLines.{ScanText, volume_line}
 use Rattle.fv_text.proofs.Laws.{Tells, tells_more}
 

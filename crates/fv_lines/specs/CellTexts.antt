@@ -5,8 +5,8 @@ use Rattle.fv_base.specs.Guids.{bytes_of}
 use Rattle.fv_base.specs.GuidTexts.{guid_text}
 use Rattle.fv_base.specs.Value.{up_to_8}
 use Rattle.fv_text.specs.HexText.{line_feed, two_digits}
-use Rattle.fv_file.specs.Attributes.{attribute_bits}
 use Rattle.fv_file.specs.Cells.{CellForm, Valid, Pad, Dead, Stub, Free}
+use Rattle.fv_file.specs.FileAttributes.{attribute_bits}
 use Rattle.fv_file.specs.declared.head.FileHead.{FileHead}
 use Rattle.fv_file.specs.declared.state.FileState.{FileState}
 use Rattle.fv_file.specs.declared.state.FileState.TheVariants as states

@@ -4,5 +4,4 @@ pub mod HobLines
 pub mod CellTexts
 pub mod Notes
 pub mod ListTexts
-pub mod DigestWalks
 pub mod inner

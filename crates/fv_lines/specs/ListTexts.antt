@@ -15,9 +15,10 @@ use Rattle.fv_head.specs.Ext.{Extension}
 use Rattle.fv_section.specs.Texts.{IsText, IsVersion, IsFreeform}
 use Rattle.fv_tree.specs.Meaning.{Meaning, Volume, FileMeanings, NoFiles, MoreFiles, FileMeaning, File, ContentMeaning}
 use Rattle.fv_tree.specs.Meaning.{Plain, Sectioned, SectionMeanings, NoSections, MoreSections, SectionMeaning, Section}
-use Rattle.fv_tree.specs.Meaning.{BodyMeaning, Leaf, Group, Nested, body_len}
-use Rattle.fv_tree.specs.Meaning.{head_of, files_of, file_name_of, attributes_of, data_len_of}
+use Rattle.fv_tree.specs.Meaning.{BodyMeaning, Leaf, Group, Nested, body_len, head_of, files_of, file_name_of}
+use Rattle.fv_tree.specs.Meaning.{attributes_of, data_len_of}
 use Rattle.fv_tree.specs.MeaningParts.{file_kind_of, section_kind_of, section_is_extended, body_of}
+use Rattle.fv_tree.specs.Volumes.{Inside, deeper}
 
 -- ---- what a leaf shows
 
@@ -167,3 +168,14 @@ NoDigest x digest = digest ≡ None
 -- the text of `list` for a volume with this meaning
 abbrev pub ListText : Meaning → List ℕ → Type 0
 ListText m text = VolumeLines NoDigest NoDigest 0 m text
+
+-- `covers d vs`: in the state d the digests of these volumes, and of the files in them, are at hand. Then those of the
+-- first volumes are, too, however deep these are nested
+pub record CoverLaws {D : Type 0} (covers : D → List Inside → Type 0) : Type 0 where
+  pub first : (d : D) (vs ws : List Inside) → covers d (vs ++ ws) → covers d vs
+  pub higher : (d : D) (vs ws : List Inside) → covers d (deeper vs ++ ws) → covers d (vs ++ ws)
+
+-- a walk in the state d, with the volumes vs to come, goes on in the state e with the volumes ws: whatever follows vs is
+-- covered after ws
+abbrev pub Leaves : {D : Type 0} (covers : D → List Inside → Type 0) → D → List Inside → D → List Inside → Type 0
+Leaves covers d vs e ws = (more : List Inside) → covers d (vs ++ more) → covers e (ws ++ more)

@@ -1,3 +1,2 @@
 -- Definitions that serve only private clauses: there is nothing to believe here.
-pub mod CellRuns
-pub mod Indents
+pub mod LineRuns

@@ -6,12 +6,12 @@ ghost use Rattle.fv_base.specs.Value.{up_to_8};
 ghost use Rattle.fv_file.specs.CellForms.{cell_form, cell_len};
 ghost use Rattle.fv_lines.specs.CellTexts.{cell_line, cell_lines, dead_name, file_line, span_line, span_text};
 ghost use Rattle.fv_lines.specs.CellTexts.{sums_line, sums_of};
-ghost use Rattle.fv_lines.specs.inner.CellRuns.{FitTogether, Fits, counted, sums_with};
+ghost use Rattle.fv_lines.specs.inner.LineRuns.{FitTogether, Fits, counted, sums_with};
 
 use fv_base::Sink;
 use fv_base::field::up_to_8;
 use fv_file::{Cell, FileHead, FileState};
-use fv_text::{GatheringSink, LentSink, put_decimal, put_two_digits};
+use fv_text::{put_decimal, put_two_digits};
 
 /// How many bytes the cells of a volume have.
 #[derive(Clone, Copy)]
@@ -171,33 +171,13 @@ fn put_sums<S: Sink>(out: &mut S, sums: LengthSums)
     out.put(b"\n");
 }
 
-// Puts the lines of `put_lines`.
-fn put_all<S: Sink>(out: &mut S, first: u64, list: &[Cell<'_>])
-    requires { FitTogether (map cell_form list.now) }
-    ensures { S.takes out.old (cell_lines first (map cell_form list.now)) out.new }
-{
-    put_span_line(out, b"header", 0, first);
-    put_list(out, list);
-    put_sums(out, sums_of(list));
-}
-
-// Puts the lines of `put_lines`, and returns the sink. A line has many small pieces. They are
-// gathered in a sink that no other text is put into, so that the compiler copies them where they are
-// put.
-fn gather_lines<S: Sink>(below: S, first: u64, list: &[Cell<'_>]) -> S
-    requires { FitTogether (map cell_form list.now) }
-    ensures { S.takes below (cell_lines first (map cell_form list.now)) result }
-{
-    let mut out = GatheringSink::new(below);
-    put_all(&mut out, first, list);
-    out.finish()
-}
-
 /// Puts a line for the header of a volume, which ends at the offset `first`, a line for each of its
 /// cells, and a line with the sums of their bytes. The cells fit into a volume.
 pub fn put_lines<S: Sink>(out: &mut S, first: u64, list: &[Cell<'_>])
     requires { FitTogether (map cell_form list.now) }
     ensures { S.takes out.old (cell_lines first (map cell_form list.now)) out.new }
 {
-    let _lent = gather_lines(LentSink::new(out), first, list);
+    put_span_line(out, b"header", 0, first);
+    put_list(out, list);
+    put_sums(out, sums_of(list));
 }

@@ -1,19 +1,17 @@
 //! What is noted of the dependency expressions in a volume, a line for each.
 
-ghost use Rattle.std.specs.Prelude.{◌≡◌, ◌∷◌, List, Some};
-ghost use Rattle.fv_tree.specs.LookupInstances.{inside_section, preorder};
+ghost use Rattle.std.specs.Prelude.{◌≡◌, List, Some};
 ghost use Rattle.fv_tree.specs.Meaning.{files_of};
-ghost use Rattle.fv_tree.specs.MeaningParts.{sections_from};
 ghost use Rattle.fv_lines.specs.Notes.{AreNotes, depex_line, depex_lines, depexes_in, file_depexes, phase_of, read_by};
-ghost use Rattle.fv_lines.specs.Notes.{sections_depexes};
-ghost use Rattle.fv_lines.specs.inner.CellRuns.{PutsNotes};
+ghost use Rattle.fv_lines.specs.Notes.{section_depex};
+ghost use Rattle.fv_lines.specs.inner.LineRuns.{PutsNotes};
 ghost use Rattle.fv_lines.specs.declared.depex_notes.DepexNote.{DepexNote};
 
 use fv_base::{Guid, Sink};
 use fv_depex::{Phase, depex_fault};
 use fv_section::section_type::{DXE_DEPEX, MM_DEPEX, PEI_DEPEX};
 use fv_text::put_decimal;
-use fv_tree::{Body, Content, FileView, SectionView, VolumeView};
+use fv_tree::{FileView, SectionView, SectionWalk, VolumeView};
 
 /// What is noted of a dependency expression that is rejected.
 #[derive(Clone, Copy, Debug, PartialEq, Eq)]
@@ -78,25 +76,12 @@ fn put_leaf<S: Sink>(out: &mut S, name: Guid, kind: u8, bytes: &[u8])
     }
 }
 
-// Puts the notes of the expressions of a section and of those in it.
-#[cycle(notes)]
+// Puts the note of the expression that a section is, if it is one.
 fn put_section<S: Sink>(out: &mut S, name: Guid, section: &SectionView<'_>)
-    ensures { PutsNotes S.takes (sections_depexes name (section.now ∷ inside_section section.now)) out.old out.new }
+    ensures { PutsNotes S.takes (section_depex name section.now) out.old out.new }
 {
-    match section.body() {
-        Body::Leaf(bytes) => put_leaf(out, name, section.kind(), bytes),
-        Body::Group { sections, .. } => put_sections(out, name, sections),
-        Body::Nested(_) => {}
-    }
-}
-
-// Puts the notes of the expressions of some sections and of those in them.
-#[cycle(notes)]
-fn put_sections<S: Sink>(out: &mut S, name: Guid, sections: &[SectionView<'_>])
-    ensures { PutsNotes S.takes (sections_depexes name (preorder (sections_from sections.now))) out.old out.new }
-{
-    for section in sections {
-        put_section(out, name, section);
+    if let Some(bytes) = section.leaf() {
+        put_leaf(out, name, section.kind(), bytes);
     }
 }
 
@@ -104,9 +89,9 @@ fn put_sections<S: Sink>(out: &mut S, name: Guid, sections: &[SectionView<'_>])
 fn put_file<S: Sink>(out: &mut S, file: &FileView<'_>)
     ensures { PutsNotes S.takes (file_depexes file.now) out.old out.new }
 {
-    match file.content() {
-        Content::Plain(_) => {}
-        Content::Stream { sections, .. } => put_sections(out, file.name(), sections.as_slice()),
+    let name = file.name();
+    for section in SectionWalk::of(file) {
+        put_section(out, name, section);
     }
 }
 

@@ -1,8 +1,7 @@
 //! The digests that a list shows of volumes and of files, or none.
 
 ghost use Rattle.std.specs.Prelude.{◌≡◌, ℕ, List, Option, drop};
-ghost use Rattle.fv_lines.specs.DigestWalks.{CoverLaws, Leaves};
-ghost use Rattle.fv_lines.specs.ListTexts.{NoDigest};
+ghost use Rattle.fv_lines.specs.ListTexts.{CoverLaws, Leaves, NoDigest};
 ghost use Rattle.fv_tree.specs.Meaning.{FileMeaning, Meaning, content_of};
 ghost use Rattle.fv_tree.specs.Volumes.{Inside, volumes_in, volumes_in_content};
 

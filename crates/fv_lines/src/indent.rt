@@ -1,7 +1,7 @@
 //! How far a line of a list is indented.
 
 ghost use Rattle.fv_lines.specs.ListTexts.{spaces};
-ghost use Rattle.fv_lines.specs.inner.Indents.{levels};
+ghost use Rattle.fv_lines.specs.inner.LineRuns.{levels};
 
 use fv_base::Sink;
 

@@ -1,4 +1,4 @@
-//! Every line that commands write, except those of faults and of `compare`.
+//! The lines of `scan`, `hobs`, `cells`, `list` and `check`.
 //!
 //! A module `.._text` has lines, and a module `.._notes` those of what deserves a note. `cell_run`
 //! makes a command of them.

@@ -6,11 +6,10 @@ ghost use Rattle.fv_tree.specs.MeaningParts.{files_from, sections_from, section_
 ghost use Rattle.fv_tree.specs.Views.{body_view, content_view};
 ghost use Rattle.fv_tree.specs.Volumes.{volumes_in, volumes_in_body, volumes_in_content, volumes_in_files};
 ghost use Rattle.fv_tree.specs.Volumes.{volumes_in_sections};
-ghost use Rattle.fv_lines.specs.DigestWalks.{Leaves};
-ghost use Rattle.fv_lines.specs.ListTexts.{form_text, system_text, name_text};
-ghost use Rattle.fv_lines.specs.ListTexts.{volume_text, file_text, section_text, BodyShown, ListText};
-ghost use Rattle.fv_lines.specs.ListTexts.{VolumeLines, FilesLines, ContentLines, SectionsLines, BodyLines};
-ghost use Rattle.fv_lines.specs.inner.Indents.{levels};
+ghost use Rattle.fv_lines.specs.ListTexts.{Leaves, form_text, system_text, name_text, volume_text, file_text};
+ghost use Rattle.fv_lines.specs.ListTexts.{section_text, BodyShown, ListText, VolumeLines, FilesLines, ContentLines};
+ghost use Rattle.fv_lines.specs.ListTexts.{SectionsLines, BodyLines};
+ghost use Rattle.fv_lines.specs.inner.LineRuns.{levels};
 
 use crate::digest_text::put_digest;
 use crate::digests::{Digests, NoDigests};
@@ -18,7 +17,7 @@ use crate::indent::{Indent, put_indent};
 use crate::leaf_text::put_section_body;
 use fv_base::{FileSystem, Sink};
 use fv_head::VolumeHead;
-use fv_text::{GatheringSink, LentSink, put_decimal, put_two_digits};
+use fv_text::{put_decimal, put_two_digits};
 use fv_tree::{Body, Content, FileView, SectionView, VolumeView};
 
 // The text for the form of a section's header, which comes before the length of its body.
@@ -233,18 +232,6 @@ fn put_volume<S: Sink, D: Digests>(
     put_files(out, volume.files(), &further, digests.inside(volume))
 }
 
-// Puts the lines of the volume and of all that it holds, and returns the sink. A line has many small
-// pieces. They are gathered in a sink that no other text is put into, so that the compiler copies
-// them where they are put.
-fn gather_list<S: Sink, D: Digests>(below: S, volume: &VolumeView<'_>, digests: D) -> S
-    requires { D.covers digests (volumes_in volume.now) }
-    ensures { (text : List ℕ) × VolumeLines D.of_volume D.of_file 0 volume.now text × S.takes below text result }
-{
-    let mut out = GatheringSink::new(below);
-    put_volume(&mut out, volume, &Indent::Margin, digests);
-    out.finish()
-}
-
 /// Puts a line for the volume, for each of its files and for each section in these, and likewise for
 /// what groups and nested volumes hold. The line of a volume and that of a file end with their
 /// digest, if there is one. (PI specification, volume 3, section 3.2.)
@@ -252,7 +239,7 @@ pub fn put_list_with<S: Sink, D: Digests>(volume: &VolumeView<'_>, digests: D, o
     requires { D.covers digests (volumes_in volume.now) }
     ensures { (text : List ℕ) × VolumeLines D.of_volume D.of_file 0 volume.now text × S.takes out.old text out.new }
 {
-    let _lent = gather_list(LentSink::new(out), volume, digests);
+    put_volume(out, volume, &Indent::Margin, digests);
 }
 
 /// Puts the lines of `put_list_with` without digests.

@@ -1,2 +1,2 @@
 -- The definitions in the order in which they can be read.
-pub mod Files
+pub mod CommandFiles

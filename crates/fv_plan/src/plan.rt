@@ -1,7 +1,7 @@
 //! What a run is to do.
 
 ghost use Rattle.std.specs.Prelude.{◌≡◌, option_copied};
-ghost use Rattle.fv_plan.specs.Files.{first_file, second_file};
+ghost use Rattle.fv_plan.specs.CommandFiles.{first_file, second_file};
 
 use fv_base::Guid;
 

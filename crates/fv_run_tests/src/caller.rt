@@ -1,65 +1,50 @@
 //! The calls of fv_caller: an empty volume, and what a boot reads beside it.
 
+use crate::row_bytes::bytes_of;
 use fv_caller::{CallerFault, archive_volume, check_boot};
 use std::alloc::Global;
 
-/// A volume of 128 bytes without files.
-const VOLUME: [u8; 128] = [
-    0x00, 0x00, 0x00, 0x00, 0x00, 0x00, 0x00, 0x00, 0x00, 0x00, 0x00, 0x00, 0x00, 0x00, 0x00, 0x00,
-    0x78, 0xe5, 0x8c, 0x8c, 0x3d, 0x8a, 0x1c, 0x4f, 0x99, 0x35, 0x89, 0x61, 0x85, 0xc3, 0x2d, 0xd3,
-    0x80, 0x00, 0x00, 0x00, 0x00, 0x00, 0x00, 0x00, 0x5f, 0x46, 0x56, 0x48, 0xff, 0xfe, 0x04, 0x00,
-    0x48, 0x00, 0xce, 0xf5, 0x00, 0x00, 0x00, 0x02, 0x01, 0x00, 0x00, 0x00, 0x80, 0x00, 0x00, 0x00,
-    0x00, 0x00, 0x00, 0x00, 0x00, 0x00, 0x00, 0x00, 0xff, 0xff, 0xff, 0xff, 0xff, 0xff, 0xff, 0xff,
-    0xff, 0xff, 0xff, 0xff, 0xff, 0xff, 0xff, 0xff, 0xff, 0xff, 0xff, 0xff, 0xff, 0xff, 0xff, 0xff,
-    0xff, 0xff, 0xff, 0xff, 0xff, 0xff, 0xff, 0xff, 0xff, 0xff, 0xff, 0xff, 0xff, 0xff, 0xff, 0xff,
-    0xff, 0xff, 0xff, 0xff, 0xff, 0xff, 0xff, 0xff, 0xff, 0xff, 0xff, 0xff, 0xff, 0xff, 0xff, 0xff,
-];
-
 /// A hand-off information table, and the end of its list.
-const TABLE: [u8; 64] = [
-    0x01, 0x00, 0x38, 0x00, 0x00, 0x00, 0x00, 0x00, 0x09, 0x00, 0x00, 0x00, 0x00, 0x00, 0x00, 0x00,
-    0x00, 0x00, 0x00, 0x10, 0x00, 0x00, 0x00, 0x00, 0x00, 0x00, 0x00, 0x08, 0x00, 0x00, 0x00, 0x00,
-    0x00, 0x00, 0x00, 0x0f, 0x00, 0x00, 0x00, 0x00, 0x00, 0x00, 0x00, 0x09, 0x00, 0x00, 0x00, 0x00,
-    0x98, 0x00, 0x00, 0x08, 0x00, 0x00, 0x00, 0x00, 0xff, 0xff, 0x08, 0x00, 0x00, 0x00, 0x00, 0x00,
-];
+const LIST: &str = "PHIT ffff080000000000";
 
 /// TRUE and END.
 const ALWAYS: [u8; 2] = [0x06, 0x08];
 
-// Whether the archive keeps these bytes as they are, and counts no file.
-fn archive_keeps(alloc: Global, volume: &[u8]) -> bool {
-    match archive_volume(alloc, volume) {
-        Ok(kept) => kept.image.as_slice() == volume && kept.files == 0,
-        Err(_) => false,
-    }
+// Whether the archive keeps an empty volume as it is, counts no file in it, and rejects its header
+// alone.
+fn archive_keeps_an_empty_volume(alloc: Global) -> Option<bool> {
+    let volume = bytes_of(alloc, "empty")?;
+    let kept = archive_volume(alloc, &volume).ok()?;
+    let cut = archive_volume(alloc, volume.get(..72)?).err();
+    let is_cut = matches!(cut, Some(CallerFault::Volume(_)));
+    Some(is_cut && kept.files == 0 && kept.image.as_slice() == volume.as_slice())
 }
 
-// The fault of a boot with this expression and this hand-off list.
-fn boot_fault(alloc: Global, expression: &[u8], hand_off: &[u8]) -> Option<CallerFault> {
-    check_boot(alloc, &VOLUME, expression, hand_off).err()
+// What a boot with an empty volume, this expression and this hand-off list returns.
+fn boot(alloc: Global, expression: &[u8], hand_off: &str) -> Option<Result<(), CallerFault>> {
+    let volume = bytes_of(alloc, "empty")?;
+    let list = bytes_of(alloc, hand_off)?;
+    Some(check_boot(alloc, &volume, expression, &list))
 }
 
 // Whether a boot with this expression and this hand-off list has a fault with this text.
-fn has_fault(alloc: Global, expression: &[u8], hand_off: &[u8], wanted: &str) -> Option<bool> {
-    let fault = boot_fault(alloc, expression, hand_off)?;
+fn has_fault(alloc: Global, expression: &[u8], hand_off: &str, wanted: &str) -> Option<bool> {
+    let fault = boot(alloc, expression, hand_off)?.err()?;
     let text = format!(in alloc; "{fault}").ok()?;
     Some(text.as_str() == wanted)
 }
 
 #[test]
 fn archive_keeps_the_canonical_image(rt: HostRuntime) {
-    let alloc = rt.alloc();
-    assert!(rt; archive_keeps(alloc, &VOLUME));
-    let cut = archive_volume(alloc, &VOLUME[..72]).err();
-    assert!(rt; matches!(cut, Some(CallerFault::Volume(_))));
+    assert!(rt; archive_keeps_an_empty_volume(rt.alloc()) == Some(true));
 }
 
 #[test]
 fn boot_is_rejected_by_its_first_fault(rt: HostRuntime) {
     let alloc = rt.alloc();
-    assert!(rt; boot_fault(alloc, &ALWAYS, &TABLE).is_none());
+    assert!(rt; matches!(boot(alloc, &ALWAYS, LIST), Some(Ok(()))));
     let wanted = "expression: the stack does not hold what an op takes (depex fault 3) at offset 0";
-    assert!(rt; has_fault(alloc, &ALWAYS[1..], &TABLE, wanted) == Some(true));
+    assert!(rt; has_fault(alloc, &ALWAYS[1..], LIST, wanted) == Some(true));
     let wanted = "hand-off list: the list has no end block (hob fault 5) at offset 56";
-    assert!(rt; has_fault(alloc, &ALWAYS, &TABLE[..56], wanted) == Some(true));
+    assert!(rt; has_fault(alloc, &ALWAYS, "PHIT", wanted) == Some(true));
 }

@@ -1,7 +1,7 @@
+pub mod FrameFaultLemmas
 pub mod FrameLemmas
 pub mod FrameWalkLemmas
 pub mod Laws
 pub mod SectionImageLemmas
-pub mod StreamLaws
+pub mod SectionTextLemmas
 pub mod StreamLemmas
-pub mod TextLemmas

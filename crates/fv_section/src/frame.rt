@@ -9,7 +9,7 @@ ghost use Rattle.fv_section.specs.inner.FrameVerdicts.{frame_verdict};
 ghost use Rattle.fv_section.specs.Frames.{FrameForm, section_header_len};
 ghost use Rattle.fv_section.specs.StreamReads.{FrameStandsAt, frame_form, frame_in};
 
-use crate::layout::{
+use crate::offsets::{
     EXTENDED_HEADER_LEN, EXTENDED_SIZE_OFFSET, HEADER_LEN, SIZE_OFFSET, TYPE_OFFSET,
 };
 use byteorder::{ByteOrder, LittleEndian};
@@ -88,7 +88,11 @@ fn has_section_size(rest: &[u8]) -> bool
     ensures { result ≡ has_section_size rest.now }
 {
     let header = head_len(rest);
-    header <= rest.len() && header <= size_of(rest) && size_of(rest) <= rest.len()
+    if rest.len() < header {
+        return false;
+    }
+    let size = size_of(rest);
+    header <= size && size <= rest.len()
 }
 
 // The frame at the front.

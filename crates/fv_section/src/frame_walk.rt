@@ -2,6 +2,7 @@
 
 ghost use Rattle.std.specs.Prelude.{◌≡◌, ◌≢◌, ◌+◌, ◌<◌, ◌≤◌, ◌^◌, ◌∷◌, [], ℕ, List, length, drop};
 ghost use Rattle.std.specs.Prelude.{IfOk, IfErr, IfSome, IfNone};
+ghost use Rattle.std.specs.Iterator.{YieldsFirstBy, item_count};
 ghost use Rattle.fv_base.specs.Faults.{out_of_memory};
 ghost use Rattle.fv_section.specs.FrameChecks.{IsFirstFrameFault};
 ghost use Rattle.fv_section.specs.Frames.{FrameForm, Splits, frame_len, up_to_4};
@@ -139,6 +140,18 @@ impl<'a> FrameWalk<'a> {
         ensures { result ≡ self.now.1 }
     {
         self.tail
+    }
+}
+
+impl<'a> Iterator for FrameWalk<'a> {
+    type Item = Frame<'a>;
+
+    ghost next_gives = { YieldsFirstBy frame_form (λ walk. walk.0) };
+
+    ghost remaining = { item_count (λ walk. walk.0) };
+
+    fn next(&mut self) -> Option<Frame<'a>> {
+        self.next_frame()
     }
 }
 

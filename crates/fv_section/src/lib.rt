@@ -4,7 +4,7 @@
 mod frame;
 mod frame_list;
 mod frame_walk;
-pub mod layout;
+pub mod offsets;
 mod section_head;
 pub mod section_type;
 mod texts;

@@ -6,7 +6,7 @@ ghost use Rattle.fv_section.specs.Frames.{IsSectionHeader};
 ghost use Rattle.fv_section.specs.StreamReads.{FitsForm, IsHeadOfFrame, StreamsAreRead};
 ghost use Rattle.fv_section.specs.SectionImage.{section_head_of};
 
-use crate::layout::{EXTENDED_HEADER_LEN, EXTENDED_SIZE_OFFSET, HEADER_LEN, TYPE_OFFSET};
+use crate::offsets::{EXTENDED_HEADER_LEN, EXTENDED_SIZE_OFFSET, HEADER_LEN, TYPE_OFFSET};
 use byteorder::{ByteOrder, LittleEndian};
 use std::marker::Model;
 

@@ -5,7 +5,7 @@ ghost use Rattle.fv_base.specs.Sums.{words_of};
 ghost use Rattle.fv_section.specs.Texts.{IsText, IsVersion, IsFreeform};
 ghost use Rattle.fv_section.specs.inner.FrameVerdicts.{none_zero, is_text};
 
-use crate::layout::{SUBTYPE_DATA_OFFSET, VERSION_STRING_OFFSET};
+use crate::offsets::{SUBTYPE_DATA_OFFSET, VERSION_STRING_OFFSET};
 use byteorder::{ByteOrder, LittleEndian};
 use fv_base::{Guid, guid_at};
 

@@ -5,8 +5,8 @@ mod inputs;
 mod ports;
 mod sinks;
 
+use crate::checks::is_printed_as;
 use fv_base::{Align, Fault, FaultKind, Guid, Place, guid_at, sum8, sum16};
-use std::alloc::Global;
 
 /// The names of the two file systems and of the volume top file: their bytes and their text.
 const NAMES: [([u8; 16], &str); 3] = [
@@ -192,14 +192,6 @@ fn each_fault_has_its_number(rt: HostRuntime) {
     }
 }
 
-// Whether a fault is printed as this text.
-fn is_printed_as(alloc: Global, fault: Fault, expected: &str) -> bool {
-    match format!(in alloc; "{fault}") {
-        Ok(text) => text.as_str() == expected,
-        Err(_) => false,
-    }
-}
-
 #[test]
 fn faults_have_their_texts(rt: HostRuntime) {
     let inner = Fault {
@@ -212,6 +204,6 @@ fn faults_have_their_texts(rt: HostRuntime) {
     let outer = Fault::outer(FaultKind::Signature, 40);
     let free = "the free space of a volume is not erased (fault 16) at offset 4096, depth 2";
     let sign = "no volume begins here: its signature is missing (fault 2) at offset 40, depth 0";
-    assert!(rt; is_printed_as(rt.alloc(), inner, free));
-    assert!(rt; is_printed_as(rt.alloc(), outer, sign));
+    assert!(rt; is_printed_as(rt.alloc(), &inner, free));
+    assert!(rt; is_printed_as(rt.alloc(), &outer, sign));
 }

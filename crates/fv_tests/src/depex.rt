@@ -5,6 +5,7 @@ mod memory;
 mod read;
 mod written;
 
+use crate::checks::is_printed_as;
 use fv_base::Guid;
 use fv_depex::{Depex, DepexFault, DepexFaultKind, Op, depex_bytes};
 use std::alloc::Global;
@@ -63,14 +64,14 @@ fn each_op_has_its_code(rt: HostRuntime) {
     }
 }
 
-/// The kinds of faults, and their numbers.
-const KINDS: &[(DepexFaultKind, u8)] = &[
-    (DepexFaultKind::Short, 1),
-    (DepexFaultKind::Opcode, 2),
-    (DepexFaultKind::Stack, 3),
-    (DepexFaultKind::NoEnd, 4),
-    (DepexFaultKind::Position, 5),
-    (DepexFaultKind::OutOfMemory, 6),
+/// The kinds of faults, in the order of their numbers.
+const KINDS: [DepexFaultKind; 6] = [
+    DepexFaultKind::Short,
+    DepexFaultKind::Opcode,
+    DepexFaultKind::Stack,
+    DepexFaultKind::NoEnd,
+    DepexFaultKind::Position,
+    DepexFaultKind::OutOfMemory,
 ];
 
 // Whether a kind has this number, and its faults too.
@@ -80,16 +81,10 @@ fn has_number(kind: DepexFaultKind, number: u8) -> bool {
 
 #[test]
 fn each_fault_has_its_number(rt: HostRuntime) {
-    for (kind, number) in KINDS {
-        assert!(rt; has_number(*kind, *number), "{number}");
-    }
-}
-
-// Whether a fault is printed as this text.
-fn is_printed_as(alloc: Global, fault: &DepexFault, expected: &str) -> bool {
-    match format!(in alloc; "{fault}") {
-        Ok(text) => text.as_str() == expected,
-        Err(_) => false,
+    let mut number = 0u8;
+    for kind in KINDS {
+        number = number.wrapping_add(1);
+        assert!(rt; has_number(kind, number), "{number}");
     }
 }
 

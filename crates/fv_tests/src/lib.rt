@@ -5,6 +5,8 @@
 #[cfg(test)]
 mod base;
 #[cfg(test)]
+mod checks;
+#[cfg(test)]
 mod depex;
 #[cfg(test)]
 mod faults;

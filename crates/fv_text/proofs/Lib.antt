@@ -2,6 +2,6 @@ pub mod GatheringLemmas
 pub mod HexDigitLemmas
 pub mod HexInLemmas
 pub mod HexTextLemmas
+pub mod JoinedTextLemmas
 pub mod Laws
-pub mod TextLemmas
 pub mod WhiteSpaceLemmas

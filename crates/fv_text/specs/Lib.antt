@@ -2,6 +2,5 @@
 pub mod HexText
 pub mod PortViews
 pub mod HexIn
-pub mod HexSinks
-pub mod LentSinks
+pub mod SinkAdapters
 pub mod inner

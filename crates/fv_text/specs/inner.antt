@@ -1,4 +1,3 @@
 -- Definitions that serve only private clauses: there is nothing to believe here.
 pub mod HexDecoding
-pub mod HexLaws
-pub mod LentLaws
+pub mod SinkAdapterLaws

@@ -1,8 +1,8 @@
 //! A sink that gathers small pieces.
 
 ghost use Rattle.std.specs.Prelude.{◌≡◌, ◌≤◌, ◌+◌, [], length, take};
-ghost use Rattle.fv_text.specs.HexSinks.{GatheringTakes};
-ghost use Rattle.fv_text.specs.inner.HexLaws.{gathered_by};
+ghost use Rattle.fv_text.specs.SinkAdapters.{GatheringTakes};
+ghost use Rattle.fv_text.specs.inner.SinkAdapterLaws.{gathered_by};
 
 use crate::placing::place;
 use fv_base::Sink;
@@ -36,7 +36,9 @@ impl<S: Sink> GatheringSink<S> {
         }
     }
 
-    // Puts what waits.
+    // Puts what waits. It is not inlined, so that the compiler copies small pieces where they are
+    // put.
+    #[inline(never)]
     fn pass(&mut self)
         ensures takes { GatheringTakes S.takes (λ s. s.below) (λ s. take s.filled s.room) self.old [] self.new }
         ensures filled { self.new.filled ≡ 0 }
@@ -57,6 +59,7 @@ impl<S: Sink> GatheringSink<S> {
     }
 
     // Puts what waits, and the bytes after it.
+    #[inline(never)]
     fn pass_on(&mut self, bytes: &[u8])
         ensures { GatheringTakes S.takes (λ s. s.below) (λ s. take s.filled s.room) self.old bytes.now self.new }
     {

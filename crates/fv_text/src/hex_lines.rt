@@ -1,8 +1,8 @@
 //! Bytes, put as lines of hexadecimal digits.
 
 ghost use Rattle.std.specs.Prelude.{◌≡◌, ◌≤◌, ◌<◌, ℕ, List, length, take};
-ghost use Rattle.fv_text.specs.inner.HexLaws.{hex_by};
-ghost use Rattle.fv_text.specs.HexSinks.{HexTakes};
+ghost use Rattle.fv_text.specs.inner.SinkAdapterLaws.{hex_by};
+ghost use Rattle.fv_text.specs.SinkAdapters.{HexTakes};
 ghost use Rattle.fv_text.specs.HexText.{IsHexText, ShowsBytes, last_text, line_text};
 
 use crate::lent_sink::LentSink;

@@ -1,8 +1,8 @@
 //! A sink that is lent.
 
 ghost use Rattle.std.specs.Prelude.{◌≡◌};
-ghost use Rattle.fv_text.specs.LentSinks.{LentTakes};
-ghost use Rattle.fv_text.specs.inner.LentLaws.{lent_by};
+ghost use Rattle.fv_text.specs.SinkAdapters.{LentTakes};
+ghost use Rattle.fv_text.specs.inner.SinkAdapterLaws.{lent_by};
 
 use fv_base::Sink;
 

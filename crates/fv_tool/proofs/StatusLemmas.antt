@@ -4,7 +4,7 @@ use Rattle.std.specs.Prelude.{Option, None, Some}
 use Rattle.fv_base.specs.Port.{has_erred, inner_of}
 use Rattle.fv_base.specs.declared.port.Port.{Port}
 use Rattle.fv_text.specs.PortViews.{Change, Ports, seen, shown}
-use Rattle.fv_command.specs.Runs.{HasText, Runs, RunsOver, SaysCommand, fresh}
+use Rattle.fv_command.specs.PlanRuns.{HasText, Runs, RunsOver, SaysCommand, fresh}
 use Rattle.fv_command.specs.Tasks.{PartText, Says}
 use Rattle.fv_command.specs.declared.ending.Ending.{Ending}
 use Rattle.fv_command.specs.declared.ending.Refusal.{Refusal}

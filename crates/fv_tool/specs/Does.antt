@@ -5,10 +5,10 @@ use Rattle.std.specs.String.{string_bytes}
 use Rattle.std.specs.declared.io.ErrorKind.{ErrorKind}
 use Rattle.std.specs.declared.io.ErrorKind.TheVariants as kinds
 use Rattle.fv_text.specs.PortViews.{Change}
-use Rattle.fv_command.specs.Runs.{RunsOver}
+use Rattle.fv_command.specs.PlanRuns.{RunsOver}
 use Rattle.fv_plan.specs.declared.plan.Plan.{Plan}
 use Rattle.fv_command.specs.declared.ending.Ending.{Ending}
-use Rattle.fv_tool.specs.Refusals.{EndsRejected}
+use Rattle.fv_tool.specs.ArgumentRefusals.{EndsRejected}
 use Rattle.fv_arguments.specs.Words.{AreRight, Asks}
 use Rattle.fv_arguments.specs.declared.words.WordFault.{WordFault}
 use Rattle.fv_arguments.specs.declared.words.WordFault.TheVariants.{Words, OutOfMemory}

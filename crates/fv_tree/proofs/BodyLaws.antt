@@ -19,7 +19,7 @@ use Rattle.fv_head.specs.declared.extent.Extent.{Extent}
 use Rattle.fv_tree.specs.inner.ReadingParts.{IsReadyFile, AllStored}
 use Rattle.fv_tree.specs.LocatedFiles.{StandIn}
 use Rattle.fv_tree.specs.Denotes.{Stream, MeansFile}
-use Rattle.fv_tree.specs.Files.{FileForm, files_in, AreCurrent, replaced_by}
+use Rattle.fv_tree.specs.VolumeFiles.{FileForm, files_in, AreCurrent, replaced_by}
 use Rattle.fv_base.specs.declared.fault.Place.{Place}
 use Rattle.fv_tree.specs.FirstFault.{Faulty, FileFault, BodyFault, OneOf}
 

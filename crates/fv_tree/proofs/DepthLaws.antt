@@ -1,14 +1,15 @@
--- What is inside something that was read nests one level less deep.
+-- What is inside something that was read nests one level less deep; the volumes in a section and in a file.
 use Rattle.std.proofs.Common.{◌≡◌, ℕ, zero, suc, List, [], ◌∷◌, refl}
 use Rattle.std.specs.List.{AllByRecursion}
 use Rattle.fv_section.specs.Frames.{FrameForm}
 use Rattle.fv_tree.specs.Denotes.{MeansFile, MeansSection, Pairwise, Stream}
-use Rattle.fv_tree.specs.Files.{FileForm}
 use Rattle.fv_tree.specs.Meaning.{Meaning, Volume, FileMeanings, files_list, FileMeaning, File, content_of, Sectioned}
 use Rattle.fv_tree.specs.Meaning.{SectionMeanings, SectionMeaning, Section, Group, Nested, sections_list}
 use Rattle.fv_tree.specs.MeaningParts.{body_of}
+use Rattle.fv_tree.specs.VolumeFiles.{FileForm}
+use Rattle.fv_tree.specs.Volumes.{deeper, volumes_in_body, volumes_in_content, volumes_in_file, volumes_in_section}
 use Rattle.fv_head.specs.Head.{HeadFields}
-use Rattle.fv_tree.specs.inner.Depths.{NestsVolume, NestsFiles, NestsContent, NestsSections, NestsBody}
+use Rattle.fv_tree.specs.inner.NestingDepths.{NestsVolume, NestsFiles, NestsContent, NestsSections, NestsBody}
 
 -- each item of the second list has one in the first
 each_paired : {A B : Type 0} (R : A → B → Type 0) (xs : List A) (ys : List B) → Pairwise R xs ys → AllByRecursion (λ y. (x : A) × R x y) ys
@@ -45,3 +46,11 @@ nests_group ss tail (suc k) (f, kind, extended, (a, b, (c, stream))) = (k, refl,
 pub nests_nested : (m : Meaning) (n : ℕ) → NestsBody (Nested m) n → (k : ℕ) × (n ≡ suc k) × NestsVolume m k
 nests_nested m zero (f, kind, extended, (a, b, (c, opens, none))) = absurd none
 nests_nested m (suc k) (f, kind, extended, (a, b, (c, opens, volume))) = (k, refl, (f.body, volume))
+
+-- ---- the volumes in a section and in a file
+
+pub in_section : (s : SectionMeaning) → volumes_in_section s ≡ deeper (volumes_in_body (body_of s))
+in_section (Section kind extended body) = refl
+
+pub in_file : (f : FileMeaning) → volumes_in_file f ≡ volumes_in_content (content_of f)
+in_file (File name kind attributes content) = refl

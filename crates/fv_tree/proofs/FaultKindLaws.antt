@@ -22,7 +22,7 @@ use Rattle.fv_section.specs.Frames.{FrameForm}
 use Rattle.fv_base.specs.declared.fault.Place.{Place}
 use Rattle.fv_base.specs.Limits.{depth_limit}
 use Rattle.fv_tree.specs.FirstFault.{Moved, LayoutFault, InSection, InStream, InVolume, FaultStands, outermost}
-use Rattle.fv_base.proofs.Laws.{fails_among}
+use Rattle.fv_base.proofs.Laws.{fails_among, up_is_not_down}
 
 -- a fault that is found in bytes, and none of memory, of input and output, or of writing: the first 21 kinds
 abbrev pub is_reading : FaultKind → Bool
@@ -107,7 +107,4 @@ stands_reading b e stands = volume_kind depth_limit (section_kind depth_limit) e
 
 -- and is of no other kind
 pub stands_other : (b : List ℕ) (e : Fault) (k : FaultKind) → is_reading k ≡ false → FaultStands b e → e.kind ≢ k
-stands_other b e k other stands same = never (is_reading k) (sym (ap is_reading same) ∙ stands_reading b e stands) other
-  where
-    never : (t : Bool) → t ≡ true → t ≡ false → ⊥
-    never t p q = cc
+stands_other b e k other stands same = up_is_not_down (is_reading k) (sym (ap is_reading same) ∙ stands_reading b e stands) other

@@ -1,39 +1,19 @@
 -- The condition of a first fault holds at its place.
-use Rattle.std.proofs.lemmas.Grind.{common_steps}
-use Rattle.std.proofs.Common.{ℕ, zero, suc, List, [], ◌∷◌, take, drop, inl, inr, arith}
-use Rattle.fv_base.specs.Checks.{Check, AllHold, First, Any, GuardsHold, Fails}
+use Rattle.std.proofs.Common.{ℕ, zero, suc, List, take, drop, inl, inr}
+use Rattle.fv_base.specs.Checks.{First, Any}
 use Rattle.fv_base.specs.declared.fault.Fault.{Fault}
 use Rattle.fv_base.specs.declared.fault.Place.{Place}
-use Rattle.fv_base.specs.declared.flash.FileSystem.{FileSystem}
-use Rattle.fv_base.specs.declared.flash.Polarity.{Polarity}
-use Rattle.fv_file.specs.FileChecks.{CellFault}
+use Rattle.fv_base.proofs.Laws.{any_fails}
+use Rattle.fv_file.proofs.Laws.{cell_fails}
 use Rattle.fv_head.specs.declared.extent.Extent.{Extent}
-use Rattle.fv_section.specs.FrameChecks.{FrameFault}
+use Rattle.fv_section.proofs.Laws.{frame_fails}
 use Rattle.fv_section.specs.Frames.{FrameForm}
 use Rattle.fv_base.specs.Limits.{depth_limit}
-use Rattle.fv_tree.specs.Files.{FileForm}
 use Rattle.fv_tree.specs.FirstFault.{Moved, OneOf, NamesFault, LayoutFault, FileFault, data_at, outermost}
 use Rattle.fv_tree.specs.FirstFault.{InSection, InStream, InVolume, IsFirstOfVolume, FaultStands}
+use Rattle.fv_tree.specs.VolumeFiles.{FileForm}
 
 -- ---- one level
-
--- where all checks hold, the guards do
-guards : (cs : List (Check Fault)) → AllHold cs → GuardsHold cs
-guards [] all = tt
-guards (c ∷ cs) all = (λ guard. all.0, guards cs all.1)
-
--- of checks in their order
-fails : (cs : List (Check Fault)) (f : Fault) → Fails First cs f → Fails Any cs f
-fails cs f (before, c, after, is, held, bad, fault) = (before, c, after, is, guards before held, bad, fault)
-
--- of the checks of a section header
-frame_fails : (b : List ℕ) (f : Fault) → FrameFault First b f → FrameFault Any b f
-frame_fails b f first = grind (arith, common_steps, fails)
-
--- of the checks of a cell
-cell_fails : (s : FileSystem) (p : Polarity) (from : ℕ) (body : List ℕ) (f : Fault) → CellFault First s p from body f
-    → CellFault Any s p from body f
-cell_fails s p from body f first = grind (arith, common_steps, fails)
 
 -- of items
 one_of : {A B : Type 0} (R : A → B → Type 0) (P Q : A → Type 0) (xs : List A) → ((x : A) → P x → Q x) → OneOf First R P xs
@@ -66,7 +46,7 @@ stream_by n stands e b at (inr (frames, tail, split, first)) =
     inr (frames, tail, split, one_of _ _ _ frames (λ f h. stands e f at h) first)
 
 volume_by : (n : ℕ) → SectionStands n → (e : Fault) (b : List ℕ) (at : Place) → InVolume First n e b at → InVolume Any n e b at
-volume_by n stands e b at (inl moved) = inl (moved_stands _ _ at e (fails _) moved)
+volume_by n stands e b at (inl moved) = inl (moved_stands _ _ at e (any_fails _) moved)
 volume_by n stands e b at (inr (h, x, front, inl moved)) =
     inr (h, x, front, inl (moved_stands _ _ at e (layout_stands x (take x.length b)) moved))
 volume_by n stands e b at (inr (h, x, front, inr (cells, tiles, right, first))) =

@@ -1,14 +1,14 @@
 -- The first fault of bytes is within them, or at their end, and no deeper than groups and volumes may nest. The steps:
--- 1. The fault of each check is within the bytes that it is of (`frame_within`, `cell_within`, `body_within`).
--- 2. Frames and the data of files end within the bytes that they are in (`frame_ends`, `files_end`).
+-- 1. The data of files end within the volume that they are in (`files_end`).
+-- 2. The fault of the names of files, and of the layout of a body, is within the volume (`names_within`, `layout_within`).
 -- 3. So the first fault of a stream, a body and a volume is within it, if that of each section is (`stream_by`, `body_by`, `volume_by`).
 -- 4. By the depth of the nesting that of each section is (`section_lies`), and so that of a volume (`first_within`).
 use Rattle.std.proofs.lemmas.Grind.{common_steps}
-use Rattle.std.proofs.Common.{◌≡◌, ◌≢◌, ◌≤◌, ◌⊎◌, ℕ, zero, suc, ◌+◌, List, [], ◌∷◌, ◌++◌, length, take, drop, subst, sym}
+use Rattle.std.proofs.Common.{◌≡◌, ◌≢◌, ◌≤◌, ◌⊎◌, ℕ, zero, suc, ◌+◌, List, [], ◌∷◌, length, take, drop, subst, sym}
 use Rattle.std.proofs.Common.{arith, not, inl, inr}
 use Rattle.std.specs.List.{AllByRecursion, list_any}
 use Rattle.std.proofs.lemmas.List.{length-drop, length-take-le}
-use Rattle.fv_base.proofs.Laws.{all_filter, first_among, in_middle}
+use Rattle.fv_base.proofs.Laws.{all_filter, in_middle, want_known}
 use Rattle.fv_base.specs.Checks.{First}
 use Rattle.fv_base.specs.Faults.{out_of_memory}
 use Rattle.fv_base.specs.declared.fault.Fault.{Fault}
@@ -18,33 +18,16 @@ use Rattle.fv_file.specs.CellForms.{CellsWithin}
 use Rattle.fv_file.proofs.Laws.{all_within, body_within}
 use Rattle.fv_head.specs.declared.extent.Extent.{Extent}
 use Rattle.fv_head.proofs.Laws.{fault_within, first_lies}
-use Rattle.fv_section.specs.FrameChecks.{frame_checks}
-use Rattle.fv_section.specs.FrameChecks as section
 use Rattle.fv_section.specs.Frames.{FrameForm, frame_len}
 use Rattle.fv_section.specs.StreamReads.{FramesWithin}
-use Rattle.fv_section.proofs.Laws.{whole_within}
+use Rattle.fv_section.proofs.Laws.{frame_within, whole_within}
 use Rattle.fv_base.specs.Limits.{depth_limit}
-use Rattle.fv_tree.specs.Files.{FileForm, files_in, current_in, replaced_by}
 use Rattle.fv_tree.specs.FirstFault.{Moved, NamesFault, LayoutFault, BodyFault, InSection, InStream, InVolume, IsFirstOfVolume}
 use Rattle.fv_tree.specs.FirstFault.{data_at, data_place, outermost}
+use Rattle.fv_tree.specs.VolumeFiles.{FileForm, files_in, current_in, replaced_by}
 use Rattle.fv_tree.proofs.NameLaws.{files_within, top_within, twin_within}
-use Rattle.fv_tree.proofs.WantLaws.{want_known}
 
--- ---- the checks
-
--- of the checks of a section header
-frame_within : (b : List ℕ) (f : Fault) → section.IsFirstFrameFault b f → f.place.offset ≤ length b
-frame_within b f first =
-    let low : first.at ≤ length b = omega (arith, first.inside) in
-    first_among (λ (g : Fault). g.place.offset ≤ length b) (frame_checks first.at (drop first.at b)) f (low, (low, tt)) first.fails
-
--- ---- frames and files
-
--- a frame of a stream ends within it
-frame_ends : (end : ℕ) (before : List FrameForm) (f : FrameForm) (behind : List FrameForm)
-    → FramesWithin end (before ++ (f ∷ behind)) → f.offset + frame_len f ≤ end
-frame_ends end [] f behind all = all.0
-frame_ends end (g ∷ gs) f behind all = frame_ends end gs f behind all.1
+-- ---- files
 
 -- the data of a file of a volume end within it
 abbrev EndsBy : ℕ → FileForm → Type 0
@@ -101,7 +84,8 @@ SectionLies n = (e : Fault) (f : FrameForm) (at : Place) → InSection First n e
 stream_by : (n : ℕ) → SectionLies n → (e : Fault) (b : List ℕ) (at : Place) → InStream First n e b at → LiesIn at (length b) n e
 stream_by n low e b at (inl moved) = moved_lies _ at (length b) n e (frame_within b) moved
 stream_by n low e b at (inr (frames, tail, split, (before, f, behind, is, read, first))) =
-    let ends = frame_ends (length b) before f behind (subst (FramesWithin (length b)) is (whole_within frames tail b split)) in
+    let ends = in_middle (λ g. g.offset + frame_len g ≤ length b) before f behind (subst (FramesWithin (length b)) is
+    (whole_within frames tail b split)) in
     let lies = low e f at first in
     (omega (arith, lies.0, ends), lies.1)
 

@@ -1,15 +1,16 @@
 -- A volume has fewer files than bytes.
-use Rattle.std.proofs.Common.{◌≡◌, ◌≤◌, ◌<◌, ℕ, ◌^◌, List, [], ◌∷◌, length, drop, Bool, true, false, refl, ap}
+use Rattle.std.proofs.Common.{◌≡◌, ◌≤◌, ◌<◌, ℕ, ◌^◌, List, [], ◌∷◌, length, drop, Bool, refl, ap}
 use Rattle.std.proofs.Common.{arith}
-use Rattle.std.specs.Prelude.{not, cond}
+use Rattle.std.specs.Prelude.{not}
 use Rattle.std.specs.List.{filter, list_any}
 use Rattle.std.proofs.lemmas.List.{length-drop}
+use Rattle.std.proofs.lemmas.List.Sums.{count_by-le-length, length-filter}
 use Rattle.fv_file.specs.Cells.{CellForm, Valid, Pad, Dead, Stub, Free}
 use Rattle.fv_file.proofs.Laws.{cells_few}
 use Rattle.fv_head.proofs.Laws.{front_lies}
 use Rattle.fv_tree.specs.Denotes.{Pairwise, Stream, Denotes, MeansFile, IsMeaning}
-use Rattle.fv_tree.specs.Files.{FileForm, files_in, replaced_by}
 use Rattle.fv_tree.specs.Meaning.{Meaning, files_of, head_of}
+use Rattle.fv_tree.specs.VolumeFiles.{FileForm, files_in, replaced_by}
 
 pub files_few : (cs : List CellForm) → length (files_in cs) ≤ length cs
 files_few [] = omega arith
@@ -20,11 +21,7 @@ files_few (Stub at len ∷ cs) = omega (arith, files_few cs)
 files_few (Free at len ∷ cs) = omega (arith, files_few cs)
 
 pub filter_few : (test : FileForm → Bool) (fs : List FileForm) → length (filter test fs) ≤ length fs
-filter_few test [] = omega arith
-filter_few test (f ∷ fs) = go (test f) (filter_few test fs) where
-  go : (t : Bool) → length (filter test fs) ≤ length fs → length (cond t (f ∷ filter test fs) (filter test fs)) ≤ length (f ∷ fs)
-  go true h = omega (arith, h)
-  go false h = omega (arith, h)
+filter_few test fs = omega (arith, length-filter test fs, count_by-le-length test fs)
 
 pairs_length : {A B : Type 0} (R : A → B → Type 0) (xs : List A) (ys : List B) → Pairwise R xs ys → length ys ≡ length xs
 pairs_length R [] [] p = refl

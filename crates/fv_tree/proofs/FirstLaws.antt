@@ -6,34 +6,33 @@
 use Rattle.std.proofs.Common.{◌≡◌, ◌≢◌, ◌≤◌, ℕ, zero, suc, List, length, take, drop, refl, sym, ap, ◌∙◌, subst, inl, inr}
 use Rattle.std.specs.Prelude.{Result, Ok, Err, IfOk, IfErr}
 use Rattle.fv_base.specs.Checks.{First, Any}
-use Rattle.fv_base.proofs.Laws.{none_fails}
+use Rattle.fv_base.proofs.Laws.{none_fails, one_fault}
 use Rattle.fv_base.specs.Faults.{outer_fault, out_of_memory}
 use Rattle.fv_base.specs.declared.fault.Fault.{Fault}
 use Rattle.fv_base.specs.declared.fault.FaultKind.TheVariants as kinds
 use Rattle.fv_base.specs.declared.fault.Place.{Place}
 use Rattle.fv_file.specs.Cells.{CellForm}
-use Rattle.fv_file.proofs.Laws.{only_one}
+use Rattle.fv_file.proofs.Laws.{one_cell_fault, only_one}
 use Rattle.fv_file.proofs.Laws as cellular
 use Rattle.fv_head.specs.HeadChecks.{head_checks}
 use Rattle.fv_head.specs.declared.extent.Extent.{Extent}
 use Rattle.fv_head.proofs.Laws.{front_holds, one_front}
 use Rattle.fv_section.specs.Frames.{FrameForm}
-use Rattle.fv_section.proofs.Laws.{one_split}
+use Rattle.fv_section.proofs.Laws.{one_frame_fault, one_split}
 use Rattle.fv_section.proofs.Laws as framed
 use Rattle.fv_base.specs.Limits.{depth_limit}
 use Rattle.fv_tree.specs.Denotes.{MeansFile, MeansSection, Stream, Denotes}
-use Rattle.fv_tree.specs.Files.{FileForm, AreCurrent, NoTwins, TopAtEnd, files_in, current_in}
 use Rattle.fv_tree.specs.FirstFault.{moved_fault, Moved, OneOf, NamesFault, LayoutFault, FileFault, BodyFault, data_at, outermost}
 use Rattle.fv_tree.specs.FirstFault.{InSection, InStream, InVolume, IsFirstOfVolume, FaultStands}
 use Rattle.fv_tree.specs.Meaning.{Meaning, length_of}
+use Rattle.fv_tree.specs.VolumeFiles.{FileForm, AreCurrent, NoTwins, TopAtEnd, files_in, current_in}
 use Rattle.fv_tree.specs.inner.ReadingParts.{Reads}
-use Rattle.fv_tree.proofs.CurrentLaws.{twin_none}
-use Rattle.fv_tree.proofs.OneFaultLaws.{one_cell_fault, one_frame_fault}
-use Rattle.fv_tree.proofs.ListCuts.{one_fault, first_of_once}
+use Rattle.fv_tree.proofs.ListPairs.{first_of_once}
 use Rattle.fv_tree.proofs.MeaningLaws.{one_beginning}
+use Rattle.fv_tree.proofs.NamesFaultLaws.{twin_none}
 use Rattle.fv_tree.proofs.RefusalLaws.{StreamRefuses, layout_by, file_by, section_refuses, stream_refuses, fault_refuses}
 use Rattle.fv_tree.proofs.TwinLaws.{one_twin, one_top}
-use Rattle.fv_tree.proofs.SectionLaws.{group_is_no_volume}
+use Rattle.fv_tree.proofs.SectionShapeLaws.{group_is_no_volume}
 
 -- ---- one level
 

@@ -3,7 +3,7 @@
 -- ---- a meaning
 
 -- the list of files from a list is that list
-pub use Rattle.fv_tree.proofs.VolumeLaws.{files_list_back}
+pub use Rattle.fv_tree.proofs.VolumePartLaws.{files_list_back}
 -- a stream, a section, a body and a content have as many bytes as those that they were read from
 pub use Rattle.fv_tree.proofs.LengthLaws.{AsLong, stream_long, section_long, body_long, content_long}
 -- a volume has fewer files than bytes
@@ -11,19 +11,19 @@ pub use Rattle.fv_tree.proofs.FileCountLaws.{few_files, few_of}
 -- what is in a list is smaller than the list
 pub use Rattle.fv_tree.proofs.SizeLaws.{section_falls, body_falls, section_body_falls, file_falls, content_falls}
 pub use Rattle.fv_tree.proofs.SizeLaws.{file_content_falls}
--- the volumes in a section and in a file; the items of a list from one on
-pub use Rattle.fv_tree.proofs.InsideLaws.{in_section, in_file, item_at}
+-- the volumes in a section and in a file
+pub use Rattle.fv_tree.proofs.DepthLaws.{in_section, in_file}
 -- what is inside something that was read nests one level less deep
 pub use Rattle.fv_tree.proofs.DepthLaws.{nests_files, nests_content, nests_sections, nests_body, nests_group, nests_nested}
 -- ---- a volume
 
 -- a volume that bytes begin with has its header there
-pub use Rattle.fv_tree.proofs.VolumeLaws.{front_of}
+pub use Rattle.fv_tree.proofs.VolumePartLaws.{front_of}
 -- bytes are a volume of one meaning
 pub use Rattle.fv_tree.proofs.MeaningLaws.{one_meaning}
 -- current files have different names; two have one name, whichever is first
 pub use Rattle.fv_tree.proofs.TwinLaws.{names_differ}
-pub use Rattle.fv_tree.proofs.CurrentLaws.{same_name_back}
+pub use Rattle.fv_tree.proofs.NamesFaultLaws.{same_name_back}
 -- ---- a fault
 
 -- bytes have one first fault at most, and no fault where they begin with a volume; the condition of the first fault holds
@@ -32,24 +32,16 @@ pub use Rattle.fv_tree.proofs.RefusalLaws.{fault_refuses}
 pub use Rattle.fv_tree.proofs.FaultLaws.{fault_stands}
 -- it is within the bytes, or at their end
 pub use Rattle.fv_tree.proofs.FaultPlaceLaws.{first_within}
--- a fault is out of memory, or it is not
-pub use Rattle.fv_tree.proofs.WantLaws.{want_known}
 -- the kinds of the faults of reading
 pub use Rattle.fv_tree.proofs.FaultKindLaws.{is_reading, stands_reading, stands_other}
 -- ---- a whole input
 
 -- it is the volume that it begins with where it ends there, and is none where it begins with none or goes on
-pub use Rattle.fv_tree.proofs.InputLaws.{input_prefix, end_found, end_only, volume_refused, end_refused}
+pub use Rattle.fv_tree.proofs.WholeInputLaws.{input_prefix, end_found, end_only, volume_refused, end_refused}
 -- why it is rejected where memory runs out only if it begins with the header of a volume
-pub use Rattle.fv_tree.proofs.InputLaws.{ran_out}
+pub use Rattle.fv_tree.proofs.WholeInputLaws.{ran_out}
 -- its faults are none of a reader or a writer
-pub use Rattle.fv_tree.proofs.InputLaws.{IsOfInput, input_kind, stood_kind}
--- ---- the volumes in some bytes
-
--- they begin at one list of places, and each of them is within the bytes
-pub use Rattle.fv_tree.proofs.ScanLaws.{one_found, found_within, found_walk, one_of}
--- a volume at a place has one length, 64 at least and a multiple of 8, and is within the bytes
-pub use Rattle.fv_tree.proofs.ScanLaws.{one_length, at_least, at_multiple, at_within}
+pub use Rattle.fv_tree.proofs.WholeInputLaws.{IsOfInput, input_kind, stood_kind}
 -- ---- the files as they are stored
 
 -- bytes that are a volume begin with its files

@@ -6,10 +6,10 @@ use Rattle.fv_section.specs.Frames.{FrameForm, SplitsFrom, frame_len, up_to_4}
 use Rattle.fv_section.proofs.Laws.{length_begun}
 use Rattle.fv_tree.specs.Denotes.{Pairwise, SectionRelation, StreamRelation, StreamOver, VolumeOver, SectionOver, MeansSection, Stream}
 use Rattle.fv_tree.specs.Denotes.{MeansFile}
-use Rattle.fv_tree.specs.Files.{FileForm}
 use Rattle.fv_tree.specs.Meaning.{Meaning, Volume, File, ContentMeaning, Plain, Sectioned, SectionMeaning, Section}
 use Rattle.fv_tree.specs.Meaning.{SectionMeanings, NoSections, MoreSections, BodyMeaning, Leaf, Group, Nested, sections_list}
 use Rattle.fv_tree.specs.Meaning.{body_len, section_len, sections_end, content_len, length_of}
+use Rattle.fv_tree.specs.VolumeFiles.{FileForm}
 
 -- a section has as many bytes as its frame
 abbrev pub AsLong : SectionRelation → Type 0

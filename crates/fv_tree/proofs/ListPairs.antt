@@ -1,13 +1,12 @@
--- Lists that agree item by item, and the first item that is rejected.
-use Rattle.std.proofs.Common.{◌≡◌, ℕ, ◌+◌, ◌<◌, ◌≤◌, List, [], ◌∷◌, ◌++◌, length, take, drop, get_or, map, sym}
-use Rattle.std.proofs.Common.{subst, arith}
+-- Lists that agree item by item, and the item that is rejected.
+use Rattle.std.proofs.Common.{◌≡◌, ℕ, ◌+◌, ◌<◌, ◌≤◌, List, [], ◌∷◌, ◌++◌, length, take, drop, get_or, map, sym, ◌∙◌}
+use Rattle.std.proofs.Common.{subst, arith, inl, inr}
 use Rattle.std.proofs.lemmas.List.{take_all, length-map, get_or-map}
 use Rattle.std.specs.List.{AllByRecursion}
-use Rattle.fv_base.specs.Checks.{First}
-use Rattle.fv_base.proofs.Laws.{at_index}
+use Rattle.fv_base.specs.Checks.{Which, First}
+use Rattle.fv_base.proofs.Laws.{TwoCuts, at_index, more_items, seam_items, two_cuts}
 use Rattle.fv_tree.specs.Denotes.{Pairwise}
 use Rattle.fv_tree.specs.FirstFault.{OneOf}
-use Rattle.fv_tree.proofs.NameLaws.{more_items, seam_items}
 
 -- one pair more
 pub pairs_push : {A B : Type 0} (R : A → B → Type 0) (xs : List A) (ys : List B) (x : A) (y : B) → Pairwise R xs ys → R x y
@@ -54,3 +53,32 @@ module _ {A B X : Type 0} (R : A → B → Type 0) (form : X → A) (items : Lis
   -- all are read
   pub all_pairs : (ys : List B) → length items ≤ i → Pairwise R (take i (map form items)) ys → Pairwise R (map form items) ys
   all_pairs ys l pairs = subst (λ xs. Pairwise R xs ys) (take_all i (map form items) (omega (arith, l, length-map items form))) pairs
+
+-- ---- an item that is rejected
+
+-- an item that is paired with nothing is in no list of pairs
+not_paired : {A B : Type 0} (R : A → B → Type 0) (before : List A) (x : A) (after : List A) (ys : List B) → ((y : B) → R x y → ⊥)
+    → Pairwise R (before ++ (x ∷ after)) ys → ⊥
+not_paired R [] x after [] bad p = p
+not_paired R [] x after (y ∷ ys) bad p = bad y p.0
+not_paired R (z ∷ zs) x after [] bad p = p
+not_paired R (z ∷ zs) x after (y ∷ ys) bad p = not_paired R zs x after ys bad p.1
+
+-- where one item is rejected, not all are read
+pub one_of_none : {A B : Type 0} (which : Which) (R : A → B → Type 0) (fault : A → Type 0) (xs : List A) (ys : List B)
+    → ((x : A) (y : B) → fault x → R x y → ⊥) → OneOf which R fault xs → Pairwise R xs ys → ⊥
+one_of_none {A} which R fault xs ys bad (before, x, after, is, read, here) all =
+    not_paired R before x after ys (λ y r. bad x y here r) (subst (λ (l : List A). Pairwise R l ys) is all)
+
+-- two faults of the first item that is rejected are faults of one item
+pub first_of_once : {A B : Type 0} (R : A → B → Type 0) (P Q : A → Type 0) (xs : List A) → ((x : A) (y : B) → P x → R x y → ⊥)
+    → ((x : A) (y : B) → Q x → R x y → ⊥) → OneOf First R P xs → OneOf First R Q xs → (x : A) × P x × Q x
+first_of_once {A} R P Q xs no_p no_q (before, x, after, is, (read, pairs), p) (before', y, after', is', (read', pairs'), q) =
+    go (two_cuts before x after before' y after' (sym is ∙ is'))
+  where
+    go : TwoCuts before x after before' y after' → (z : A) × P z × Q z
+    go (inl (same, item)) = (x, p, subst Q (sym item) q)
+    go (inr (inl (mid, late, rest))) =
+        absurd (not_paired R before x mid read' (λ z r. no_p x z p r) (subst (λ (l : List A). Pairwise R l read') late pairs'))
+    go (inr (inr (mid, late, rest))) =
+        absurd (not_paired R before' y mid read (λ z r. no_q y z q r) (subst (λ (l : List A). Pairwise R l read) late pairs))

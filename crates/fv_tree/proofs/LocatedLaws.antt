@@ -13,7 +13,7 @@ use Rattle.fv_file.proofs.Laws.{IsPayloadIn, body_payloads, all_within}
 use Rattle.fv_head.specs.Head.{HeadFields, BeginsVolume}
 use Rattle.fv_head.specs.declared.extent.Extent.{Extent}
 use Rattle.fv_head.proofs.Laws.{first_lies, one_front}
-use Rattle.fv_tree.specs.Files.{FileForm, files_in, replaced_by}
+use Rattle.fv_tree.specs.VolumeFiles.{FileForm, files_in, replaced_by}
 use Rattle.fv_tree.specs.Denotes.{Denotes}
 use Rattle.fv_tree.specs.FirstFault.{data_place}
 use Rattle.fv_tree.specs.LocatedFiles.{StandIn, BeginWithFiles, HasDataIn}

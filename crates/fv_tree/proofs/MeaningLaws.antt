@@ -11,14 +11,14 @@ use Rattle.fv_head.proofs.Laws.{one_front}
 use Rattle.fv_section.specs.Frames.{FrameForm}
 use Rattle.fv_section.proofs.Laws.{one_split}
 use Rattle.fv_tree.specs.LocatedFiles.{StandIn}
-use Rattle.fv_tree.specs.Files.{FileForm}
+use Rattle.fv_tree.specs.VolumeFiles.{FileForm}
 use Rattle.fv_tree.specs.Meaning.{Meaning, Volume, FileMeanings, NoFiles, MoreFiles, FileMeaning, File, ContentMeaning, Plain, Sectioned}
 use Rattle.fv_tree.specs.MeaningParts.{files_from, sections_from}
 use Rattle.fv_tree.specs.Meaning.{files_list, SectionMeanings, NoSections, MoreSections, SectionMeaning, Section, BodyMeaning, Leaf, Group, Nested, sections_list}
 use Rattle.fv_tree.specs.Denotes.{SectionRelation, StreamRelation, VolumeRelation, Pairwise, StreamOver, SectionOver, VolumeOver, MeansBody, MeansContent, MeansFile}
 use Rattle.fv_tree.specs.Denotes.{MeansSection, Stream, Denotes}
-use Rattle.fv_tree.proofs.SectionLaws.{group_is_no_volume}
-use Rattle.fv_tree.proofs.VolumeLaws.{front_of, has_files}
+use Rattle.fv_tree.proofs.SectionShapeLaws.{group_is_no_volume}
+use Rattle.fv_tree.proofs.VolumePartLaws.{front_of, has_files}
 
 -- the files of a volume, as they are stored in it, are one list
 pub one_stand : (e : Extent) (volume : List ℕ) (fs gs : List FileForm) → StandIn e volume fs → StandIn e volume gs → gs ≡ fs

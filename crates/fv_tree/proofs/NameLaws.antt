@@ -1,32 +1,19 @@
 -- What the walks over the files of a volume know: the files of some cells one by one, the volume top file, where files begin.
-use Rattle.std.proofs.Common.{◌≡◌, ◌≤◌, ◌<◌, ℕ, ◌+◌, List, [], ◌∷◌, ◌++◌, length, take, drop, get_or, map, Bool, true}
+use Rattle.std.proofs.Common.{◌≡◌, ◌≤◌, ◌<◌, ℕ, ◌+◌, List, [], ◌∷◌, ◌++◌, length, take, get_or, map, Bool, true}
 use Rattle.std.proofs.Common.{false, refl, sym, ap, ◌∙◌, subst, arith}
 use Rattle.std.specs.Prelude.{◌&&◌, ◌||◌, not}
 use Rattle.std.specs.List.{AllByRecursion}
-use Rattle.std.proofs.lemmas.List.{take-append-drop, drop_more, take_more, length-map, get_or-map, length-drop}
 use Rattle.fv_base.specs.Checks.{Which, First}
 use Rattle.fv_base.specs.Faults.{outer_fault}
 use Rattle.fv_base.specs.declared.fault.Fault.{Fault}
 use Rattle.fv_base.specs.declared.fault.FaultKind.TheVariants as kinds
 use Rattle.fv_file.specs.Cells.{CellForm, Valid, Pad, Dead, Stub, Free}
 use Rattle.fv_file.specs.CellForms.{CellsWithin}
-use Rattle.fv_tree.specs.Files.{FileForm, files_in, is_top, end_of, TopAtEnd}
 use Rattle.fv_tree.specs.FirstFault.{HasTwin, TopElsewhere}
-use Rattle.fv_base.proofs.Laws.{in_middle}
+use Rattle.fv_tree.specs.VolumeFiles.{FileForm, files_in, is_top, end_of, TopAtEnd}
+use Rattle.fv_base.proofs.Laws.{in_middle, more_items}
 
 -- ---- one more file
-
-module _ {X A : Type 0} (form : X → A) (items : List X) (i : ℕ) (d : X) where
-  pub more_items : i < length items → take (i + 1) (map form items) ≡ take i (map form items) ++ form (get_or items i d) ∷ []
-  more_items l =
-      let lt : i < length (map form items) = omega (arith, l, length-map items form) in
-      take_more (map form items) i (form d) lt ∙ ap (λ f. take i (map form items) ++ f ∷ []) (get_or-map form items i d (form d) l)
-
-  pub seam_items : i < length items → map form items ≡ take i (map form items) ++ form (get_or items i d) ∷ drop (i + 1) (map form items)
-  seam_items l =
-      let lt : i < length (map form items) = omega (arith, l, length-map items form) in
-      sym (take-append-drop i (map form items)) ∙ ap (λ r. take i (map form items) ++ r) (drop_more (map form items) i (form d) lt
-      ∙ ap (λ f. f ∷ drop (i + 1) (map form items)) (get_or-map form items i d (form d) l))
 
 files_in_more : (cs : List CellForm) (c : CellForm) → files_in (cs ++ c ∷ []) ≡ files_in cs ++ files_in (c ∷ [])
 files_in_more [] c = refl
@@ -94,10 +81,6 @@ pub top_within : (end n : ℕ) (f : FileForm) (fs : List FileForm) → AllByRecu
     → f.offset ≤ end
 top_within end n f fs all (before, after, is, top, off) = in_middle (λ g. g.offset ≤ end) before f after (subst (AllByRecursion
     (λ g. g.offset ≤ end)) is all)
-
--- what is after the item at i
-pub after_none : {A : Type 0} (xs : List A) (i : ℕ) → drop (i + 1) xs ≡ [] → length xs ≤ i + 1
-after_none xs i e = omega (arith, ap length e, length-drop (i + 1) xs)
 
 pub not_top_yet : (top last ends : Bool) → (not top || (last && ends)) ≡ true → (last ≡ true → ⊥) → top ≡ false
 not_top_yet true last ends p off = absurd (off (placed true last ends p refl).0)

@@ -1,12 +1,10 @@
 -- Files as they are stored, and what the index of names has of them: what it says of names and marks holds of the files.
-use Rattle.std.proofs.lemmas.Grind.{common_steps}
-use Rattle.std.proofs.Common.{◌≡◌, ◌<◌, ℕ, ◌+◌, List, [], ◌∷◌, ◌++◌, length, take, drop, get_or, map, Bool, true, false, cond, refl, sym}
-use Rattle.std.proofs.Common.{ap, ◌∙◌, subst, arith, append-nil}
+use Rattle.std.proofs.Common.{◌≡◌, ◌<◌, ℕ, ◌+◌, List, [], ◌∷◌, length, take, get_or, map, Bool, true, false, cond, refl, sym}
+use Rattle.std.proofs.Common.{ap, ◌∙◌, subst, arith}
 use Rattle.std.specs.Prelude.{◌||◌, ◌&&◌, not, Option}
-use Rattle.std.specs.List.{All, AllByRecursion, filter, list_any, position_or_len}
+use Rattle.std.specs.List.{AllByRecursion, filter, list_any, position_or_len}
 use Rattle.std.specs.Option.{unwrap_or}
-use Rattle.std.proofs.lemmas.List.{drop_all, get_or-map, length-map, take-map, take_all}
-use Rattle.std.proofs.lemmas.List.Elements.{recursion_from_All}
+use Rattle.std.proofs.lemmas.List.{get_or-map, length-map, take-map}
 use Rattle.std.proofs.lemmas.List.Folds.{Any-from_list_any}
 use Rattle.std.proofs.lemmas.Simd.{map-map}
 use Rattle.fv_base.specs.declared.guid.Guid.{Guid}
@@ -16,7 +14,7 @@ use Rattle.fv_names.specs.NamedFiles.{NamedFile, names_in, is_name}
 use Rattle.fv_names.specs.NameIndexes.{AllApart, Entry, IsIndex}
 use Rattle.fv_names.proofs.Laws.{apart_twins, no_entry, no_named, none_replaced, number_within}
 use Rattle.fv_tree.specs.Denotes.{MeansFile, Pairwise, StreamRelation}
-use Rattle.fv_tree.specs.Files.{FileForm, NoTwins, current_in, is_marked, is_twin, replaced_by, same_name}
+use Rattle.fv_tree.specs.VolumeFiles.{FileForm, NoTwins, current_in, is_marked, is_twin, replaced_by, same_name}
 use Rattle.fv_tree.specs.FileNames.{is_named}
 use Rattle.fv_tree.specs.LocatedFiles.{file_form}
 use Rattle.fv_tree.specs.Meaning.{FileMeaning, File, file_name_of}
@@ -161,23 +159,3 @@ replaced_marked f fs h =
     let g : FileForm = r.1 in
     let test = (and_split (same_name f g) (is_marked f.head.state && not (is_marked g.head.state)) r.4).1 in
     (and_split (is_marked f.head.state) (not (is_marked g.head.state)) test).0
-
--- ---- what is kept
-
--- where a note says of each file what a test says, those without the note are those that the test is false of
-pub kept_noted : {X : Type 0} (form : X → FileForm) (note : X → Bool) (test : FileForm → Bool) (xs : List X)
-    → All (λ x. note x ≡ test (form x)) xs → map form (filter (λ x. not (note x)) xs) ≡ filter (λ f. not (test f)) (map form xs)
-kept_noted {X} form note test xs all = go xs (recursion_from_All (λ x. note x ≡ test (form x)) xs all) where
-  go : (ys : List X) → AllByRecursion (λ x. note x ≡ test (form x)) ys
-      → map form (filter (λ x. not (note x)) ys) ≡ filter (λ f. not (test f)) (map form ys)
-  go [] h = refl
-  go (y ∷ ys) h = one (test (form y)) refl (go ys h.1) where
-    one : (t : Bool) → test (form y) ≡ t → map form (filter (λ x. not (note x)) ys) ≡ filter (λ f. not (test f)) (map form ys)
-        → map form (filter (λ x. not (note x)) (y ∷ ys)) ≡ filter (λ f. not (test f)) (map form (y ∷ ys))
-    one true is rest = rw (h.0, is) rest
-    one false is rest = rw (h.0, is) (ap (λ (fs : List FileForm). form y ∷ fs) rest)
-
--- a list in the place of one as long
-pub in_place : {X : Type 0} (new old : List X) (n : ℕ) → length new ≡ length old → n ≡ length old
-    → take n (new ++ drop (length new) old) ≡ new
-in_place {X} new old n long count = grind (arith, common_steps, drop_all, append-nil, take_all)

@@ -19,15 +19,14 @@ use Rattle.fv_section.proofs.Laws.{one_split}
 use Rattle.fv_section.proofs.Laws as framed
 use Rattle.fv_tree.specs.LocatedFiles.{StandIn}
 use Rattle.fv_tree.specs.Denotes.{Pairwise, MeansFile, MeansSection, Stream, Denotes}
-use Rattle.fv_tree.specs.Files.{FileForm, AreCurrent, files_in, current_in}
 use Rattle.fv_tree.specs.FirstFault.{FileFault, LayoutFault, Moved, BodyFault, InSection, InStream, InVolume}
 use Rattle.fv_tree.specs.FirstFault.{data_at}
 use Rattle.fv_tree.specs.Meaning.{Meaning, FileMeaning, SectionMeaning, files_of, head_of}
-use Rattle.fv_tree.proofs.CurrentLaws.{current_none}
-use Rattle.fv_tree.proofs.FileLaws.{stream_bad}
-use Rattle.fv_tree.proofs.ListCuts.{one_of_none}
-use Rattle.fv_tree.proofs.SectionLaws.{group_none, nested_none, too_deep}
-use Rattle.fv_tree.proofs.VolumeLaws.{HasFiles, front_of, has_files}
+use Rattle.fv_tree.specs.VolumeFiles.{FileForm, AreCurrent, files_in, current_in}
+use Rattle.fv_tree.proofs.ListPairs.{one_of_none}
+use Rattle.fv_tree.proofs.NamesFaultLaws.{current_none}
+use Rattle.fv_tree.proofs.SectionShapeLaws.{group_none, nested_none, stream_bad, too_deep}
+use Rattle.fv_tree.proofs.VolumePartLaws.{HasFiles, front_of, has_files}
 
 module _ (which : Which) where
   -- ---- by what is inside

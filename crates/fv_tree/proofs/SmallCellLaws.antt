@@ -7,10 +7,10 @@ use Rattle.fv_base.specs.Value.{IsBytes}
 use Rattle.fv_base.specs.declared.flash.FileSystem.{FileSystem}
 use Rattle.fv_base.specs.declared.flash.Polarity.{Polarity}
 use Rattle.fv_base.proofs.Laws.{bytes_back, bytes_front}
-use Rattle.fv_file.specs.Attributes.{attribute_bits, is_large}
 use Rattle.fv_file.specs.Cells.{CellForm, Valid, Pad, Dead, Stub, Free, Tiles, IsCell, IsFilled, offset_of}
 use Rattle.fv_file.specs.CellForms.{CellsWithin, cell_len}
-use Rattle.fv_file.specs.Files.{IsFile, IsSound, attributes_at, file_header_len, file_sum_right}
+use Rattle.fv_file.specs.FileAttributes.{attribute_bits, is_large}
+use Rattle.fv_file.specs.FileHeaders.{IsFile, IsSound, attributes_at, file_header_len, file_sum_right}
 use Rattle.fv_file.specs.NewHeaders.{file_sum_for}
 use Rattle.fv_file.specs.States.{is_alive}
 use Rattle.fv_file.specs.declared.cell.Cell.{Cell}

@@ -8,15 +8,15 @@ use Rattle.std.proofs.Common.{◌≡◌, ℕ, Bool, true, false, List, [], ◌�
 use Rattle.std.specs.Prelude.{◌&&◌, not}
 use Rattle.std.specs.Bool.{beq}
 use Rattle.std.specs.List.{AllByRecursion, filter, list_any}
+use Rattle.std.proofs.lemmas.Bool.{not-true}
 use Rattle.std.proofs.lemmas.List.Elements.{filter_passes, recursion_from_All}
 use Rattle.std.proofs.lemmas.List.Folds.{list_any-append}
 use Rattle.std.proofs.lemmas.Slice.Eq.{bytes_eq-Decides}
 use Rattle.fv_base.specs.Checks.{First}
-use Rattle.fv_tree.specs.Files.{FileForm, same_name, is_marked, is_twin, replaced_by, NoTwins, current_in, is_top}
 use Rattle.fv_tree.specs.FirstFault.{HasTwin, TopElsewhere}
-use Rattle.fv_tree.proofs.CurrentLaws.{twin_none}
-use Rattle.fv_tree.proofs.ListCuts.{Earlier, TwoCuts, two_cuts, all_behind}
-use Rattle.fv_base.proofs.Laws.{in_middle, or_both, or_parts}
+use Rattle.fv_tree.specs.VolumeFiles.{FileForm, same_name, is_marked, is_twin, replaced_by, NoTwins, current_in, is_top}
+use Rattle.fv_tree.proofs.NamesFaultLaws.{twin_none}
+use Rattle.fv_base.proofs.Laws.{Earlier, TwoCuts, after_middle, in_middle, or_both, or_parts, two_cuts}
 
 -- ---- the first twin
 
@@ -69,11 +69,6 @@ apart (h ∷ hs) f mid g after none = apart hs f mid g after none.1
 abbrev is_alive : List FileForm → FileForm → Bool
 is_alive fs f = not (list_any (replaced_by f) fs)
 
--- what is not so where its contrary is
-true_not : (t : Bool) → not t ≡ true → t ≡ false
-true_not true h = cc
-true_not false h = refl
-
 -- neither is the other's twin, and neither replaces the other: then the names differ
 tests_differ : (s r m k : Bool) → s ≡ true → r ≡ true → (s && beq m k) ≡ false → (s && (m && not k)) ≡ false
     → (r && (k && not m)) ≡ false → ⊥
@@ -104,7 +99,7 @@ names_differ fs before f mid g after none is forth back =
     not_replaced : (h : FileForm) → is_alive fs h ≡ true → list_any (replaced_by h) whole ≡ false
     not_replaced h current =
         subst (λ (l : List FileForm). list_any (replaced_by h) l ≡ false) is
-        (none_kept (is_alive fs) (replaced_by h) fs (true_not (list_any (replaced_by h) fs) current))
+        (none_kept (is_alive fs) (replaced_by h) fs (not-true (list_any (replaced_by h) fs) current))
 
     over : replaced_by f g ≡ false
     over =
@@ -116,7 +111,7 @@ names_differ fs before f mid g after none is forth back =
     under =
         (any_cut (replaced_by g) before f (mid ++ (g ∷ after))
         (not_replaced g (in_middle (λ h. is_alive fs h ≡ true) mid g after
-        (all_behind (λ h. is_alive fs h ≡ true) before f (mid ++ (g ∷ after)) all)))).0
+        (after_middle (λ h. is_alive fs h ≡ true) before f (mid ++ (g ∷ after)) all)))).0
 
 -- ---- the volume top file
 

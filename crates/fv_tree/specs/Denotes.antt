@@ -4,14 +4,14 @@ use Rattle.std.specs.Prelude.{length, drop}
 use Rattle.fv_base.specs.Limits.{depth_limit}
 use Rattle.fv_base.specs.Value.{IsBytes, field, le_at}
 use Rattle.fv_base.specs.declared.flash.FileSystem.{FileSystem}
-use Rattle.fv_file.specs.Attributes.{attribute_bits, without_large}
 use Rattle.fv_file.specs.Cells.{CellForm, Tiles}
+use Rattle.fv_file.specs.FileAttributes.{attribute_bits, without_large}
 use Rattle.fv_head.specs.Head.{BeginsVolume, signature_bytes, system_guid}
 use Rattle.fv_head.specs.declared.extent.Extent.{Extent}
 use Rattle.fv_section.specs.Frames.{FrameForm, Splits}
-use Rattle.fv_tree.specs.Files.{FileForm, AreCurrent, files_in}
 use Rattle.fv_tree.specs.Meaning.{Meaning, FileMeaning, File, ContentMeaning, Plain, Sectioned, SectionMeaning}
 use Rattle.fv_tree.specs.Meaning.{Section, BodyMeaning, Leaf, Group, Nested, sections_list, head_of, files_of}
+use Rattle.fv_tree.specs.VolumeFiles.{FileForm, AreCurrent, files_in}
 
 -- the type of a section that groups others, and of one that may hold a volume (section 3.2.5, EFI_SECTION_DISPOSABLE
 -- and EFI_SECTION_FIRMWARE_VOLUME_IMAGE)

@@ -17,7 +17,7 @@ use Rattle.fv_section.specs.Frames.{FrameForm, Splits, section_header_len}
 use Rattle.fv_tree.specs.Denotes.{group_kind, volume_kind, Opens, holds_sections, Pairwise, MeansFile, MeansSection}
 use Rattle.fv_base.specs.Limits.{depth_limit}
 use Rattle.fv_tree.specs.Denotes.{Stream}
-use Rattle.fv_tree.specs.Files.{FileForm, files_in, is_twin, NoTwins, current_in, is_top, end_of, TopAtEnd}
+use Rattle.fv_tree.specs.VolumeFiles.{FileForm, files_in, is_twin, NoTwins, current_in, is_top, end_of, TopAtEnd}
 
 -- ---- places
 

@@ -8,13 +8,13 @@ use Rattle.fv_head.specs.Head.{HeadFields, BeginsVolume}
 use Rattle.fv_head.specs.HeadChecks.{head_checks}
 use Rattle.fv_head.specs.declared.extent.Extent.{Extent}
 use Rattle.fv_base.specs.Value.{field}
-use Rattle.fv_file.specs.Attributes.{attribute_bits, is_large}
-use Rattle.fv_file.specs.Files.{file_header_len}
+use Rattle.fv_file.specs.FileAttributes.{attribute_bits, is_large}
+use Rattle.fv_file.specs.FileHeaders.{file_header_len}
 use Rattle.fv_file.specs.NewHeaders.{file_sum_for}
 use Rattle.fv_file.specs.declared.state.FileState.{FileState}
 use Rattle.fv_file.specs.declared.state.FileState.TheVariants as states
-use Rattle.fv_tree.specs.Files.{FileForm, AreCurrent, files_in}
 use Rattle.fv_tree.specs.FirstFault.{Moved, LayoutFault, data_place, outermost}
+use Rattle.fv_tree.specs.VolumeFiles.{FileForm, AreCurrent, files_in}
 use Rattle.fv_tree.specs.declared.volume_files.LocatedFile.{LocatedFile}
 use Rattle.fv_tree.specs.declared.volume_files.Mark.{Mark}
 use Rattle.fv_tree.specs.declared.volume_files.Mark.TheVariants as marks

@@ -36,3 +36,13 @@ abbrev pub leaf_of : BodyMeaning → Option (List ℕ)
 leaf_of (Leaf b) = Some b
 leaf_of (Group _ _) = None
 leaf_of (Nested _) = None
+
+-- the sections in the data of a file and in a body, without those in their groups
+abbrev pub sections_in_data : ContentMeaning → SectionMeanings
+sections_in_data (Plain b) = NoSections
+sections_in_data (Sectioned sections tail) = sections
+
+abbrev pub sections_in : BodyMeaning → SectionMeanings
+sections_in (Leaf b) = NoSections
+sections_in (Group sections tail) = sections
+sections_in (Nested volume) = NoSections

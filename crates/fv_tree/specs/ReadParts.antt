@@ -8,8 +8,8 @@ use Rattle.fv_file.specs.Cells.{Valid, IsCell}
 use Rattle.fv_section.specs.Frames.{FrameForm}
 use Rattle.fv_section.specs.StreamReads.{FrameStandsAt}
 use Rattle.fv_tree.specs.Denotes.{MeansFile, MeansSection, Stream}
-use Rattle.fv_tree.specs.Files.{FileForm}
 use Rattle.fv_tree.specs.Meaning.{FileMeaning, SectionMeaning}
+use Rattle.fv_tree.specs.VolumeFiles.{FileForm}
 
 -- some bytes are this valid file, and then filler
 abbrev pub IsStoredFile : FileForm → Type 0

@@ -1,19 +1,17 @@
 //! Looking for files and sections.
 
-ghost use Rattle.std.specs.Prelude.{◌≡◌, ◌∷◌, ℕ, Ok, Err, IfOk, IfErr, List, option_map};
-ghost use Rattle.std.specs.Prelude.{option_copied};
+ghost use Rattle.std.specs.Prelude.{◌≡◌, ◌+◌, ℕ, None, IfOk, IfErr, List, option_copied, option_map};
+ghost use Rattle.std.specs.Iterator.{SkipsThenYields};
 ghost use Rattle.fv_section.specs.Frames.{FrameForm, Splits};
 ghost use Rattle.fv_section.specs.StreamReads as framed;
 ghost use Rattle.fv_tree.specs.LookupInstances.{SeesSection, SeesFrame, IsNotSectioned, file_after, file_of_type};
-ghost use Rattle.fv_tree.specs.LookupInstances.{section_of_type, frame_of_type, of_type, preorder, inside_section};
-ghost use Rattle.fv_tree.specs.LookupInstances.{inside_body, security_core};
-ghost use Rattle.fv_tree.specs.inner.FoundWalks.{sought};
+ghost use Rattle.fv_tree.specs.LookupInstances.{section_of_type, frame_of_type, security_core};
 ghost use Rattle.fv_tree.specs.Meaning.{files_of, content_of, Plain, Sectioned, SectionMeanings};
-ghost use Rattle.fv_tree.specs.MeaningParts.{file_kind_of, sections_from};
+ghost use Rattle.fv_tree.specs.MeaningParts.{file_kind_of, sections_in_data};
 ghost use Rattle.fv_tree.specs.FileNames.{file_named};
-ghost use Rattle.fv_tree.specs.Views.{body_view};
 
-use crate::view::{Body, Content, FileView, SectionView, VolumeView};
+use crate::section_walk::SectionWalk;
+use crate::view::{Content, FileView, SectionView, VolumeView};
 use fv_base::{Fault, Guid};
 use fv_file::file_type::SECURITY_CORE;
 use fv_section::{Frame, FrameWalk};
@@ -69,6 +67,21 @@ pub fn next_file<'v, 'a>(
     Some((number, file))
 }
 
+// Item number `instance` of those that come, counted from 1, or None if fewer come. Number 0 is
+// None.
+fn numbered<I: Iterator>(mut items: I, instance: u32) -> Option<I::Item>
+where
+    I::Item: Drop,
+    requires { I.can_next items }
+    ensures zero { instance ≡ 0 → result ≡ None }
+    ensures nth { (k : ℕ) → instance ≡ k + 1 → (end : I) × SkipsThenYields I.next_gives items k result end }
+{
+    if instance == 0 {
+        return None;
+    }
+    items.nth((instance - 1) as usize)
+}
+
 /// File number `instance` of this type, counted from 1, or None if there are fewer. Instance 0 is
 /// None. Takes no memory. (PI specification, volume 3, section 3.2.3, EFI_FV_FILETYPE.)
 pub fn file_by_type<'v, 'a>(
@@ -78,89 +91,18 @@ pub fn file_by_type<'v, 'a>(
 ) -> Option<&'v FileView<'a>>
     ensures { option_copied result ≡ file_of_type kind instance (files_of volume.now) }
 {
-    if instance == 0 {
-        return None;
-    }
-    let mut left = instance - 1;
-    for file in volume.files() {
-        if file.kind() != kind {
-            continue;
-        }
-        if left == 0 {
-            return Some(file);
-        }
-        left -= 1;
-    }
-    None
+    let files = volume.files().iter().filter(|file| file.kind() == kind);
+    numbered(files, instance)
 }
 
-// Searches a section and those in it, in preorder, for the section of this type that has `left`
-// others of its type before it. If there are too few, returns how many of `left` remain after them
-// all.
-#[cycle(seek)]
-fn seek_section<'v, 'a>(
-    section: &'v SectionView<'a>,
-    kind: u8,
-    left: u32,
-) -> Result<&'v SectionView<'a>, u32>
-    ensures ok { IfOk result (λ s. sought left (of_type kind (section.now ∷ inside_section section.now)) ≡ Ok s.now) }
-    ensures err { IfErr result (λ n. sought left (of_type kind (section.now ∷ inside_section section.now)) ≡ Err n) }
+// The result of a look-up among the sections of a file.
+fn section_lookup<'v, 'a>(file: &'v FileView<'a>, kind: u8, instance: u32) -> Lookup<'v, 'a>
+    ensures { SeesSection result (section_of_type kind instance (sections_in_data (content_of file.now))) }
 {
-    if section.kind() != kind {
-        return seek_body(section.body(), kind, left);
-    }
-    if left == 0 {
-        return Ok(section);
-    }
-    seek_body(section.body(), kind, left - 1)
-}
-
-// The same for the sections in a body.
-#[cycle(seek)]
-fn seek_body<'v, 'a>(body: Body<'v, 'a>, kind: u8, left: u32) -> Result<&'v SectionView<'a>, u32>
-    ensures ok { IfOk result (λ s. sought left (of_type kind (inside_body (body_view body.entry))) ≡ Ok s.now) }
-    ensures err { IfErr result (λ n. sought left (of_type kind (inside_body (body_view body.entry))) ≡ Err n) }
-{
-    match body {
-        Body::Group { sections, .. } => seek_sections(sections, kind, left),
-        _ => Err(left),
-    }
-}
-
-// The same for some sections and those in them.
-#[cycle(seek)]
-fn seek_sections<'v, 'a>(
-    sections: &'v [SectionView<'a>],
-    kind: u8,
-    number: u32,
-) -> Result<&'v SectionView<'a>, u32>
-    ensures ok { IfOk result (λ s. sought number (of_type kind (preorder (sections_from sections.now))) ≡ Ok s.now) }
-    ensures err { IfErr result (λ n. sought number (of_type kind (preorder (sections_from sections.now))) ≡ Err n) }
-{
-    let mut left = number;
-    for section in sections {
-        match seek_section(section, kind, left) {
-            Ok(found) => return Ok(found),
-            Err(more) => left = more,
-        }
-    }
-    Err(left)
-}
-
-// The result of a look-up among some sections.
-fn section_lookup<'v, 'a>(
-    sections: &'v [SectionView<'a>],
-    kind: u8,
-    instance: u32,
-) -> Lookup<'v, 'a>
-    ensures { SeesSection result (section_of_type kind instance (sections_from sections.now)) }
-{
-    if instance == 0 {
-        return Lookup::Absent;
-    }
-    match seek_sections(sections, kind, instance - 1) {
-        Ok(section) => Lookup::Found(Item::Section(section)),
-        Err(_) => Lookup::Absent,
+    let sections = SectionWalk::of(file).filter(|section| section.kind() == kind);
+    match numbered(sections, instance) {
+        Some(section) => Lookup::Found(Item::Section(section)),
+        None => Lookup::Absent,
     }
 }
 
@@ -171,21 +113,9 @@ fn frame_by_type(bytes: &[u8], kind: u8, instance: u32) -> Result<Option<Frame<'
     ensures split { IfOk result (λ _. (fs : List FrameForm) × (t : ℕ) × Splits fs t bytes.now) }
     ensures err { IfErr result (λ _. (fs : List FrameForm) (t : ℕ) → Splits fs t bytes.now → ⊥) }
 {
-    let mut walk = FrameWalk::of(bytes)?;
-    if instance == 0 {
-        return Ok(None);
-    }
-    let mut left = instance - 1;
-    while let Some(frame) = walk.next_frame() {
-        if frame.kind != kind {
-            continue;
-        }
-        if left == 0 {
-            return Ok(Some(frame));
-        }
-        left -= 1;
-    }
-    Ok(None)
+    let walk = FrameWalk::of(bytes)?;
+    let frames = walk.filter(|frame| frame.kind == kind);
+    Ok(numbered(frames, instance))
 }
 
 // The result of a look-up among the frames of bytes that may be a stream.
@@ -226,6 +156,6 @@ pub fn section_by_type<'v, 'a>(file: &'v FileView<'a>, kind: u8, instance: u32) 
             }
             frame_lookup(bytes, kind, instance)
         }
-        Content::Stream { sections, .. } => section_lookup(sections.as_slice(), kind, instance),
+        Content::Stream { .. } => section_lookup(file, kind, instance),
     }
 }

@@ -8,9 +8,9 @@ ghost use Rattle.fv_base.specs.Limits.{volume_limit};
 ghost use Rattle.fv_head.specs.HeadChecks.{BeginsWithHeader};
 ghost use Rattle.fv_names.specs.NamedFiles.{names_in};
 ghost use Rattle.fv_names.specs.NameIndexes.{IsIndex, entries_of};
-ghost use Rattle.fv_tree.specs.Files.{FileForm};
 ghost use Rattle.fv_tree.specs.FirstFault.{Moved, LayoutFault};
 ghost use Rattle.fv_tree.specs.LocatedFiles.{StandIn, file_form, BeginWithFiles, HasDataIn, IsFirstOfFiles};
+ghost use Rattle.fv_tree.specs.VolumeFiles.{FileForm};
 ghost use Rattle.fv_tree.specs.inner.NameForms.{named_file};
 ghost use Rattle.fv_tree.specs.inner.ReadingParts.{Reads, AllStored};
 

@@ -4,7 +4,7 @@ ghost use Rattle.std.specs.Prelude.{◌≡◌, ◌≢◌, ◌⊎◌, IfOk, IfErr
 ghost use Rattle.fv_base.specs.Faults.{out_of_memory};
 ghost use Rattle.fv_head.specs.HeadChecks.{BeginsWithHeader};
 ghost use Rattle.fv_tree.specs.Denotes.{Accepted};
-ghost use Rattle.fv_tree.specs.Inputs.{FaultStandsInInput, NotRead};
+ghost use Rattle.fv_tree.specs.InputFaults.{FaultStandsInInput, NotRead};
 ghost use Rattle.fv_tree.specs.Meaning.{Meaning};
 
 use crate::read::read_volume;

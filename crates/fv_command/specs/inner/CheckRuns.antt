@@ -5,7 +5,7 @@ use Rattle.fv_file.specs.Cells.{CellForm}
 use Rattle.fv_tree.specs.Denotes.{Accepted}
 use Rattle.fv_tree.specs.Meaning.{Meaning, files_of}
 use Rattle.fv_lines.specs.declared.depex_notes.DepexNote.{DepexNote}
-use Rattle.fv_command.specs.CheckTexts.{AreCells}
+use Rattle.fv_command.specs.Tasks.{AreCells}
 use Rattle.fv_lines.specs.Notes.{AreNotes, depex_lines, depexes_in, pad_notes, verdict_line}
 
 -- the cells of the input, and the polarity of its erased bytes; None if it is its own canonical image

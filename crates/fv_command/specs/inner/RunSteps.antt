@@ -2,8 +2,8 @@
 use Rattle.std.specs.Prelude.{◌≡◌, ℕ, Bool, true, false, List, Option, Result, Ok, Err}
 use Rattle.fv_base.specs.declared.fault.Fault.{Fault}
 use Rattle.fv_compare.specs.declared.side.Side.{Side}
-use Rattle.fv_command.specs.Runs.{SaysCommand, StopsCommand}
-use Rattle.fv_command.specs.SideRuns.{SaysComparison, SideStops}
+use Rattle.fv_command.specs.PlanRuns.{SaysCommand, StopsCommand}
+use Rattle.fv_command.specs.PairRuns.{SaysComparison, SideStops}
 use Rattle.fv_command.specs.Tasks.{Denies, Says}
 use Rattle.fv_command.specs.declared.ending.Refusal.{Refusal}
 use Rattle.fv_command.specs.declared.status.Status.{Status}

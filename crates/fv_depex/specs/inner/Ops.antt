@@ -1,6 +1,6 @@
 -- The op at the start of some bytes, and what ops do to a stack of truth values, whose top is its first item.
 use Rattle.std.specs.Prelude.{ℕ, ◌==◌, if◌then◌else◌, List, slice_index, ◌&&◌, ◌||◌, not, Bool, true, false, Option}
-use Rattle.std.specs.Prelude.{None, Some, [], ◌∷◌}
+use Rattle.std.specs.Prelude.{None, Some, [], ◌∷◌, option_and_then}
 use Rattle.fv_base.specs.Guids.{guid_of}
 use Rattle.fv_base.specs.Value.{field}
 use Rattle.fv_base.specs.declared.guid.Guid.{Guid}
@@ -44,11 +44,7 @@ abbrev pub top : List Bool → Option Bool
 top [] = None
 top (v ∷ s) = Some v
 
-abbrev pub and_then : Option (List Bool) → (List Bool → Option Bool) → Option Bool
-and_then None f = None
-and_then (Some s) f = f s
-
 -- the value on top after all ops
 abbrev pub evaluate_ops : List Guid → List Op → List Bool → Option Bool
 evaluate_ops set [] s = top s
-evaluate_ops set (o ∷ os) s = and_then (evaluate_op set s o) (evaluate_ops set os)
+evaluate_ops set (o ∷ os) s = option_and_then (evaluate_ops set os) (evaluate_op set s o)

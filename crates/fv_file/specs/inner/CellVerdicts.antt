@@ -17,7 +17,7 @@ use Rattle.fv_base.specs.declared.fault.FaultKind.TheVariants as kinds
 use Rattle.fv_base.specs.declared.flash.Polarity.{Polarity}
 use Rattle.fv_file.specs.Cells.{CellForm}
 use Rattle.fv_file.specs.Cells as cells
-use Rattle.fv_file.specs.Files.{head_in, pad_kind, state_at}
+use Rattle.fv_file.specs.FileHeaders.{head_in, pad_kind, state_at}
 use Rattle.fv_file.specs.declared.head.FileHead.{FileHead}
 
 -- nothing was written; the header was never finished; the file was deleted, or its data were never finished; the file

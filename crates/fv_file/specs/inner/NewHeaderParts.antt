@@ -4,8 +4,8 @@ use Rattle.fv_base.specs.Guids.{bytes_of, guid_of}
 use Rattle.fv_base.specs.Value.{le_bytes}
 use Rattle.fv_base.specs.declared.flash.Polarity.{Polarity}
 use Rattle.fv_base.specs.declared.guid.Guid.{Guid}
-use Rattle.fv_file.specs.Attributes.{attribute_bits, attributes_by, is_large}
-use Rattle.fv_file.specs.Files.{file_header_len, fixed_checksum, pad_kind}
+use Rattle.fv_file.specs.FileAttributes.{attribute_bits, attributes_by, is_large}
+use Rattle.fv_file.specs.FileHeaders.{file_header_len, fixed_checksum, pad_kind}
 use Rattle.fv_file.specs.NewHeaders.{header_with, header_bytes, needs_large, pad_name, state_byte, with_large}
 use Rattle.fv_file.specs.declared.attributes.FileAttributes.{FileAttributes}
 use Rattle.fv_file.specs.declared.new_header.NewHeader.{NewHeader}

@@ -8,9 +8,9 @@ use Rattle.fv_base.specs.declared.fault.Fault.{Fault}
 use Rattle.fv_base.specs.declared.fault.FaultKind.TheVariants as kinds
 use Rattle.fv_base.specs.declared.flash.FileSystem.{FileSystem}
 use Rattle.fv_head.specs.declared.extent.Extent.{Extent}
-use Rattle.fv_head.specs.Attributes.{polarity_of}
 use Rattle.fv_head.specs.HeadChecks.{file_system_at, header_len_at, volume_len_at, ext_offset_at, ext_size_at}
 use Rattle.fv_head.specs.HeadChecks.{head_checks}
+use Rattle.fv_head.specs.VolumeAttributes.{polarity_of}
 
 -- there is no extended header, or its fields lie within the bytes
 abbrev pub ExtHeaderWithin : List ℕ → Type 0

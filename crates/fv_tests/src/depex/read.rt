@@ -1,6 +1,7 @@
 //! Expressions that are read.
 
 use super::{A, B, ORDER, Parts, long_expression};
+use crate::checks::assert_rows;
 use crate::parts::joined;
 use fv_depex::{Depex, Op, Phase, read_depex};
 use std::alloc::Global;
@@ -131,10 +132,7 @@ fn read_rows() -> &'static [ReadRow] {
 
 #[test]
 fn expressions_are_read(rt: HostRuntime) {
-    let rows = read_rows();
-    for at in 0..rows.len() {
-        assert!(rt; is_row_read(rt.alloc(), &rows[at]), "{at}");
-    }
+    assert_rows!(rt; read_rows(), |row| is_row_read(rt.alloc(), row));
 }
 
 // Whether a body has this many ops, and no bytes after END.

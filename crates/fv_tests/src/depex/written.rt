@@ -1,6 +1,7 @@
 //! Expressions that are written back.
 
 use super::{A, B, ORDER, Parts, is_written_as, long_expression};
+use crate::checks::assert_rows;
 use crate::parts::joined;
 use fv_depex::{Phase, read_depex};
 use std::alloc::Global;
@@ -75,11 +76,7 @@ fn bodies() -> &'static [(Phase, Parts)] {
 
 #[test]
 fn expressions_are_written_as_they_were_read(rt: HostRuntime) {
-    let rows = bodies();
-    for at in 0..rows.len() {
-        let (phase, parts) = rows[at];
-        assert!(rt; parts_are_written_back(rt.alloc(), parts, phase), "{at}");
-    }
+    assert_rows!(rt; bodies(), |row| parts_are_written_back(rt.alloc(), row.1, row.0));
 }
 
 #[test]

@@ -1,176 +1,96 @@
 //! Bytes that begin with a file.
 
 use super::{A, P};
+use crate::checks::assert_rows;
 use bitflags::Flags;
 use fv_base::{Fault, FaultKind, FileSystem, Guid, Polarity};
 use fv_file::{FileAttributes, FileHead, FileState, verify_ffs_file};
 
-/// A file or a pad: its name and the bytes after that; and then, of its header, the type and the
-/// attribute bits, the size and the length of the header, the header sum and the file sum, and the
-/// state.
-type FileRow = (
-    [u8; 16],
-    &'static [u8],
-    (u8, u8),
-    (u64, u64),
-    (u8, u8),
-    FileState,
-);
+/// A file or a pad: its name, the eight bytes after that and its data; and then, of its header, the
+/// size of the file, the length of the header and the state.
+type FileRow = ([u8; 16], u64, &'static [u8], u64, u64, FileState);
 
 /// Files and pads in FFS3.
 const FILES: &[FileRow] = &[
     // Files without data, of which the second is marked.
-    (
-        A,
-        &[0x47, 0xaa, 0x01, 0x00, 0x18, 0x00, 0x00, 0xf8],
-        (0x01, 0x00),
-        (24, 24),
-        (0x47, 0xaa),
-        FileState::DataValid,
-    ),
-    (
-        A,
-        &[0x47, 0xaa, 0x01, 0x00, 0x18, 0x00, 0x00, 0xf0],
-        (0x01, 0x00),
-        (24, 24),
-        (0x47, 0xaa),
-        FileState::Marked,
-    ),
+    (A, 0x47aa_0100_1800_00f8, &[], 24, 24, FileState::DataValid),
+    (A, 0x47aa_0100_1800_00f0, &[], 24, 24, FileState::Marked),
     // A file with its sum, and no filler.
     (
         A,
-        &[0x03, 0xf6, 0x01, 0x40, 0x1c, 0x00, 0x00, 0xf8, 1, 2, 3, 4],
-        (0x01, 0x40),
-        (28, 24),
-        (0x03, 0xf6),
+        0x03f6_0140_1c00_00f8,
+        &[1, 2, 3, 4],
+        28,
+        24,
         FileState::DataValid,
     ),
     // A byte of data, and other bytes after the file.
     (
         A,
-        &[
-            0x46, 0xaa, 0x01, 0x00, 0x19, 0x00, 0x00, 0xf8, 0x5a, 1, 2, 3, 4, 5, 6, 7, 8, 9,
-        ],
-        (0x01, 0x00),
-        (25, 24),
-        (0x46, 0xaa),
+        0x46aa_0100_1900_00f8,
+        &[0x5a, 1, 2, 3, 4, 5, 6, 7, 8, 9],
+        25,
+        24,
         FileState::DataValid,
     ),
     // A pad, and one that may not be moved, with a wrong file sum.
-    (
-        P,
-        &[0x08, 0xaa, 0xf0, 0x00, 0x18, 0x00, 0x00, 0xf8],
-        (0xf0, 0x00),
-        (24, 24),
-        (0x08, 0xaa),
-        FileState::DataValid,
-    ),
-    (
-        P,
-        &[0x04, 0x55, 0xf0, 0x04, 0x18, 0x00, 0x00, 0xf8],
-        (0xf0, 0x04),
-        (24, 24),
-        (0x04, 0x55),
-        FileState::DataValid,
-    ),
+    (P, 0x08aa_f000_1800_00f8, &[], 24, 24, FileState::DataValid),
+    (P, 0x0455_f004_1800_00f8, &[], 24, 24, FileState::DataValid),
     // A large file.
     (
         A,
-        &[
-            0x3e, 0xaa, 0x01, 0x01, 0x00, 0x00, 0x00, 0xf8, 32, 0, 0, 0, 0, 0, 0, 0,
-        ],
-        (0x01, 0x01),
-        (32, 32),
-        (0x3e, 0xaa),
+        0x3eaa_0101_0000_00f8,
+        &[32, 0, 0, 0, 0, 0, 0, 0],
+        32,
+        32,
         FileState::DataValid,
     ),
 ];
 
-/// What follows the name in a header that is rejected in FFS2, and then the fault.
-type RejectedRow = ([u8; 8], FaultKind, u64);
+/// A fault and its offset, and the eight bytes that follow the name in headers which are rejected
+/// with it in FFS2.
+type RejectedRow = (FaultKind, u64, &'static [u64]);
 
 /// Headers that are rejected.
 const REJECTED: &[RejectedRow] = &[
-    // State has bit 0x40, and all bits.
     (
-        [0x47, 0xaa, 0x01, 0x00, 0x18, 0x00, 0x00, 0xb8],
         FaultKind::FileState,
         23,
-    ),
-    (
-        [0x47, 0xaa, 0x01, 0x00, 0x18, 0x00, 0x00, 0x00],
-        FaultKind::FileState,
-        23,
-    ),
-    // Data that were never finished, a deleted file, and a State byte that is erased.
-    (
-        [0x47, 0xaa, 0x01, 0x00, 0x18, 0x00, 0x00, 0xfc],
-        FaultKind::FileState,
-        23,
-    ),
-    (
-        [0x47, 0xaa, 0x01, 0x00, 0x18, 0x00, 0x00, 0xe8],
-        FaultKind::FileState,
-        23,
-    ),
-    (
-        [0x47, 0xaa, 0x01, 0x00, 0x18, 0x00, 0x00, 0xff],
-        FaultKind::FileState,
-        23,
-    ),
-    // A header that was begun, and one that is invalid.
-    (
-        [0xff, 0xff, 0xff, 0xff, 0xff, 0xff, 0xff, 0xfe],
-        FaultKind::FileState,
-        23,
-    ),
-    (
-        [0xff, 0xff, 0xff, 0xff, 0xff, 0xff, 0xff, 0xde],
-        FaultKind::FileState,
-        23,
+        &[
+            // State has bit 0x40, and all bits.
+            0x47aa_0100_1800_00b8,
+            0x47aa_0100_1800_0000,
+            // Data that were never finished, a deleted file, and a State byte that is erased.
+            0x47aa_0100_1800_00fc,
+            0x47aa_0100_1800_00e8,
+            0x47aa_0100_1800_00ff,
+            // A header that was begun, and one that is invalid.
+            0xffff_ffff_ffff_fffe,
+            0xffff_ffff_ffff_ffde,
+        ],
     ),
     // A large file.
-    (
-        [0x47, 0xaa, 0x01, 0x01, 0x18, 0x00, 0x00, 0xf8],
-        FaultKind::LargeFile,
-        19,
-    ),
+    (FaultKind::LargeFile, 19, &[0x47aa_0101_1800_00f8]),
     // The header sum is off by one.
-    (
-        [0x48, 0xaa, 0x01, 0x00, 0x18, 0x00, 0x00, 0xf8],
-        FaultKind::FileHeaderSum,
-        0,
-    ),
+    (FaultKind::FileHeaderSum, 0, &[0x48aa_0100_1800_00f8]),
     // A size of 23, and of 64.
     (
-        [0x48, 0xaa, 0x01, 0x00, 0x17, 0x00, 0x00, 0xf8],
         FaultKind::FileSize,
         20,
-    ),
-    (
-        [0x1f, 0xaa, 0x01, 0x00, 0x40, 0x00, 0x00, 0xf8],
-        FaultKind::FileSize,
-        20,
+        &[0x48aa_0100_1700_00f8, 0x1faa_0100_4000_00f8],
     ),
     // A file that may not be moved.
-    (
-        [0x43, 0xaa, 0x01, 0x04, 0x18, 0x00, 0x00, 0xf8],
-        FaultKind::Fixed,
-        19,
-    ),
+    (FaultKind::Fixed, 19, &[0x43aa_0104_1800_00f8]),
     // The file sum is not 0xAA.
-    (
-        [0x47, 0xab, 0x01, 0x00, 0x18, 0x00, 0x00, 0xf8],
-        FaultKind::FileSum,
-        17,
-    ),
+    (FaultKind::FileSum, 17, &[0x47ab_0100_1800_00f8]),
 ];
 
-// A name, at most 40 other bytes after it, and then erased bytes.
-fn with_name(name: [u8; 16], rest: &[u8]) -> [u8; 56] {
+// A name, the eight bytes after it, at most 32 other bytes, and then erased bytes.
+fn with_fields(name: [u8; 16], fields: u64, more: &[u8]) -> [u8; 56] {
     let mut bytes = [0xff; 56];
-    let count = rest.len().min(40);
-    bytes[16..16 + count].copy_from_slice(&rest[..count]);
+    let count = more.len().min(32);
+    bytes[24..24 + count].copy_from_slice(&more[..count]);
+    bytes[16..24].copy_from_slice(&fields.to_be_bytes());
     bytes[..16].copy_from_slice(&name);
     bytes
 }
@@ -180,32 +100,40 @@ fn files() -> &'static [FileRow] {
     FILES
 }
 
-// The header that a row describes.
+// The header that a row describes: its sums, its type and its attribute bits follow the name.
 fn head_of(row: &FileRow) -> FileHead {
-    let (name, _, fields, lengths, sums, state) = *row;
+    let (name, fields, _, size, header_len, state) = *row;
+    let [header_sum, file_sum, kind, attributes, ..] = fields.to_be_bytes();
     FileHead {
-        size: lengths.0,
-        header_len: lengths.1,
+        size,
+        header_len,
         name: Guid::from_bytes(name),
-        kind: fields.0,
-        attributes: FileAttributes::from_bits_retain(fields.1),
-        header_sum: sums.0,
-        file_sum: sums.1,
+        kind,
+        attributes: FileAttributes::from_bits_retain(attributes),
+        header_sum,
+        file_sum,
         state,
     }
 }
 
 // Whether the bytes of a row begin with its file.
 fn is_found(row: &FileRow) -> bool {
-    let bytes = with_name(row.0, row.1);
-    let count = row.1.len().min(40);
-    let found = verify_ffs_file(&bytes[..16 + count], FileSystem::Ffs3, Polarity::Ones);
-    found == Ok(head_of(row))
+    let (name, fields, more, ..) = *row;
+    let bytes = with_fields(name, fields, more);
+    let end = 24 + more.len().min(32);
+    verify_ffs_file(&bytes[..end], FileSystem::Ffs3, Polarity::Ones) == Ok(head_of(row))
 }
 
 // The fault of the first bytes of a file with the name of most, if they begin with none.
-fn fault_of(rest: &[u8], count: usize, system: FileSystem, polarity: Polarity) -> Option<Fault> {
-    verify_ffs_file(&with_name(A, rest)[..count.min(56)], system, polarity).err()
+fn fault_of(
+    fields: u64,
+    more: &[u8],
+    count: usize,
+    system: FileSystem,
+    polarity: Polarity,
+) -> Option<Fault> {
+    let bytes = with_fields(A, fields, more);
+    verify_ffs_file(&bytes[..count.min(56)], system, polarity).err()
 }
 
 // The headers that are rejected.
@@ -213,40 +141,38 @@ fn rejected() -> &'static [RejectedRow] {
     REJECTED
 }
 
-// Whether the header of a row is rejected with its fault.
+// Whether the headers of a row are rejected with its fault.
 fn is_rejected(row: &RejectedRow) -> bool {
-    let fault = Some(Fault::outer(row.1, row.2));
-    fault_of(&row.0, 56, FileSystem::Ffs2, Polarity::Ones) == fault
+    let (kind, offset, headers) = *row;
+    let fault = Some(Fault::outer(kind, offset));
+    let mut is_right = true;
+    for fields in headers {
+        let found = fault_of(*fields, &[], 56, FileSystem::Ffs2, Polarity::Ones);
+        is_right = is_right && found == fault;
+    }
+    is_right
 }
 
 #[test]
 fn bytes_have_their_header_or_their_fault(rt: HostRuntime) {
-    let rows = files();
-    for at in 0..rows.len() {
-        assert!(rt; is_found(&rows[at]), "{at}");
-    }
-    let rows = rejected();
-    for at in 0..rows.len() {
-        assert!(rt; is_rejected(&rows[at]), "{at}");
-    }
+    assert_rows!(rt; files(), |row| is_found(row));
+    assert_rows!(rt; rejected(), |row| is_rejected(row));
 }
 
-/// What follows the name of a file of 28 bytes, and of a large one of 32.
-const WHOLE: [&[u8]; 2] = [
-    &[0x03, 0xf6, 0x01, 0x40, 0x1c, 0x00, 0x00, 0xf8, 1, 2, 3, 4],
-    &[
-        0x3e, 0xaa, 0x01, 0x01, 0x00, 0x00, 0x00, 0xf8, 32, 0, 0, 0, 0, 0, 0, 0,
-    ],
+/// What follows the name of a file of 28 bytes, and of a large one of 32: eight bytes, and more.
+const WHOLE: [(u64, &[u8]); 2] = [
+    (0x03f6_0140_1c00_00f8, &[1, 2, 3, 4]),
+    (0x3eaa_0101_0000_00f8, &[32, 0, 0, 0, 0, 0, 0, 0]),
 ];
 
 // Some bytes of a file are missing.
 #[test]
 fn incomplete_files_are_rejected(rt: HostRuntime) {
     let fault = Some(Fault::outer(FaultKind::FileSize, 20));
-    for rest in WHOLE {
-        for count in 0..16 + rest.len().min(40) {
+    for (fields, more) in WHOLE {
+        for count in 0..24 + more.len().min(32) {
             assert!(rt;
-                fault_of(rest, count, FileSystem::Ffs3, Polarity::Ones) == fault,
+                fault_of(fields, more, count, FileSystem::Ffs3, Polarity::Ones) == fault,
                 "{count}"
             );
         }
@@ -265,9 +191,9 @@ fn polarity_inverts_the_state(rt: HostRuntime) {
         (0x17, Polarity::Zeros, fault),
         (0x00, Polarity::Zeros, fault),
     ] {
-        let rest = [0x47, 0xaa, 0x01, 0x00, 0x18, 0x00, 0x00, state];
+        let fields = 0x47aa_0100_1800_0000 | u64::from(state);
         assert!(rt;
-            fault_of(&rest, 24, FileSystem::Ffs2, polarity) == expected,
+            fault_of(fields, &[], 24, FileSystem::Ffs2, polarity) == expected,
             "{state}"
         );
     }

@@ -3,101 +3,85 @@
 
 use super::written::{file_head, is_joined, pad_head};
 use super::{A, P};
+use crate::checks::assert_rows;
 use crate::faults::OUT_OF_MEMORY;
 use crate::spelling::spelled_in_two_tries;
 use fv_base::{FileSystem, Polarity};
+use fv_file::FileState::{Construction, DataValid, Deleted, Free, HeaderValid, Marked};
 use fv_file::{Cell, FileState, cells, file_state, verify_ffs_file};
 use std::alloc::Global;
 
 /// The state, the offset and the length of a cell. A stub is as if it were under construction.
 type CellRow = (FileState, u64, u64);
 
-/// A volume whose body begins at 72, its polarity, and its cells.
-type BodyRow = (&'static str, Polarity, &'static [CellRow]);
+/// A volume whose body begins at 72, and its cells.
+type BodyRow = (&'static str, &'static [CellRow]);
 
 /// Bodies with files that are not valid or are marked, and with headers that were never finished.
-const BODIES: &[BodyRow] = &[
+/// Erased bits are ones.
+const BODIES_OF_ONES: &[BodyRow] = &[
     // A deleted file, a marked one and two that are valid.
     (
         "00*72 0c*16 1faa0100200000e8 00*8 0a*16 3faa0100200000f0 01*8 0b*16 37aa0100180000f8 0a*16 3faa0100200000f8 02*8 ff*64",
-        Polarity::Ones,
         &[
-            (FileState::Deleted, 72, 32),
-            (FileState::Marked, 104, 32),
-            (FileState::DataValid, 136, 24),
-            (FileState::DataValid, 160, 32),
-            (FileState::Free, 192, 64),
+            (Deleted, 72, 32),
+            (Marked, 104, 32),
+            (DataValid, 136, 24),
+            (DataValid, 160, 32),
+            (Free, 192, 64),
         ],
     ),
     // A file whose data were never finished.
     (
         "00*72 0a*16 47aa0100180000fc ff*32",
-        Polarity::Ones,
-        &[(FileState::HeaderValid, 72, 24), (FileState::Free, 96, 32)],
+        &[(HeaderValid, 72, 24), (Free, 96, 32)],
     ),
     // A deleted file that may not be moved, whose file sum is wrong, and filler.
     (
         "00*72 0a*16 42ab0104190000e8 ff*32",
-        Polarity::Ones,
-        &[(FileState::Deleted, 72, 32), (FileState::Free, 104, 24)],
+        &[(Deleted, 72, 32), (Free, 104, 24)],
     ),
     // A deleted pad.
     (
         "00*72 ff*16 08aaf000180000e8 ff*32",
-        Polarity::Ones,
-        &[(FileState::Deleted, 72, 24), (FileState::Free, 96, 32)],
+        &[(Deleted, 72, 24), (Free, 96, 32)],
     ),
     // A file, and a header that was begun, of 32 bytes and of 24.
     (
         "00*72 0a*16 47aa0100180000f8 ff*16 fffffffffffffffe ff*8",
-        Polarity::Ones,
-        &[
-            (FileState::DataValid, 72, 24),
-            (FileState::Construction, 96, 32),
-        ],
+        &[(DataValid, 72, 24), (Construction, 96, 32)],
     ),
     (
         "00*72 0a*16 47aa0100180000f8 ff*16 fffffffefffffffe ff*8",
-        Polarity::Ones,
-        &[
-            (FileState::DataValid, 72, 24),
-            (FileState::Construction, 96, 24),
-            (FileState::Free, 120, 8),
-        ],
+        &[(DataValid, 72, 24), (Construction, 96, 24), (Free, 120, 8)],
     ),
     // A header that was given up, and a file.
     (
         "00*72 0a*16 00000104000000de 0b*16 37aa0100180000f8",
-        Polarity::Ones,
-        &[
-            (FileState::Construction, 72, 24),
-            (FileState::DataValid, 96, 24),
-        ],
+        &[(Construction, 72, 24), (DataValid, 96, 24)],
     ),
+];
+
+/// The same where erased bits are zeros.
+const BODIES_OF_ZEROS: &[BodyRow] = &[
     // A marked file and a deleted one.
     (
         "00*72 0a*16 47aa01001800000f 0b*16 37aa010018000017 00*8",
-        Polarity::Zeros,
-        &[
-            (FileState::Marked, 72, 24),
-            (FileState::Deleted, 96, 24),
-            (FileState::Free, 120, 8),
-        ],
+        &[(Marked, 72, 24), (Deleted, 96, 24), (Free, 120, 8)],
     ),
     // Headers of 24 and of 32 bytes that were begun.
     (
         "00*72 00*16 0000000000000001 00*16 0000000100000001 00*8",
-        Polarity::Zeros,
-        &[
-            (FileState::Construction, 72, 24),
-            (FileState::Construction, 96, 32),
-        ],
+        &[(Construction, 72, 24), (Construction, 96, 32)],
     ),
 ];
 
 // The rows. What names a large constant is proved with all of it, so only this function does.
-fn bodies() -> &'static [BodyRow] {
-    BODIES
+fn bodies(polarity: Polarity) -> &'static [BodyRow] {
+    match polarity {
+        Polarity::Ones => BODIES_OF_ONES,
+        Polarity::Zeros => BODIES_OF_ZEROS,
+    }
 }
 
 // Whether a cell is no pad, and has this state, offset and length.
@@ -106,8 +90,8 @@ fn is_cell(cell: &Cell, wanted: CellRow) -> bool {
         Cell::Valid { offset, head, .. } => wanted == (head.state, offset, head.size),
         Cell::Pad { .. } => false,
         Cell::Dead { offset, len, state } => wanted == (state, offset, len),
-        Cell::Stub { offset, len } => wanted == (FileState::Construction, offset, len),
-        Cell::Free { offset, len } => wanted == (FileState::Free, offset, len),
+        Cell::Stub { offset, len } => wanted == (Construction, offset, len),
+        Cell::Free { offset, len } => wanted == (Free, offset, len),
     }
 }
 
@@ -120,28 +104,30 @@ fn are_cells(found: &[Cell], wanted: &[CellRow]) -> bool {
     is_same
 }
 
-// Whether a volume has the cells of a row, or memory ran out.
+// Whether a volume has these cells, or memory ran out.
 fn has_cells_or_out_of_memory(
     alloc: Global,
     bytes: &[u8],
     system: FileSystem,
-    row: &BodyRow,
+    polarity: Polarity,
+    wanted: &[CellRow],
 ) -> bool {
     if bytes.len() < 72 || bytes.len() % 8 != 0 {
         return false;
     }
-    match cells(alloc, bytes, 72, system, row.1) {
-        Ok(found) => are_cells(found.as_slice(), row.2),
+    match cells(alloc, bytes, 72, system, polarity) {
+        Ok(found) => are_cells(found.as_slice(), wanted),
         Err(fault) => fault == OUT_OF_MEMORY,
     }
 }
 
 // Whether the volume of a row is cut into its cells in both file systems, or memory ran out.
-fn is_row_cut(alloc: Global, row: &BodyRow) -> bool {
-    match spelled_in_two_tries(alloc, row.0) {
+fn is_row_cut(alloc: Global, polarity: Polarity, row: &BodyRow) -> bool {
+    let (text, wanted) = *row;
+    match spelled_in_two_tries(alloc, text) {
         Some(bytes) => {
-            has_cells_or_out_of_memory(alloc, &bytes, FileSystem::Ffs2, row)
-                && has_cells_or_out_of_memory(alloc, &bytes, FileSystem::Ffs3, row)
+            has_cells_or_out_of_memory(alloc, &bytes, FileSystem::Ffs2, polarity, wanted)
+                && has_cells_or_out_of_memory(alloc, &bytes, FileSystem::Ffs3, polarity, wanted)
         }
         None => false,
     }
@@ -162,14 +148,13 @@ fn calls_without_memory_are_right() -> bool {
         && is_joined(pad.as_slice(), P, &pad_fields)
         && verify_ffs_file(file.as_slice(), FileSystem::Ffs2, polarity).is_ok()
         && verify_ffs_file(pad.as_slice(), FileSystem::Ffs2, polarity).is_ok()
-        && file_state(0xf8, polarity) == Some(FileState::DataValid)
+        && file_state(0xf8, polarity) == Some(DataValid)
 }
 
 #[test]
 fn out_of_memory_is_reported(rt: HostRuntime) {
-    let rows = bodies();
-    for at in 0..rows.len() {
-        assert!(rt; is_row_cut(rt.alloc(), &rows[at]), "{at}");
+    for polarity in [Polarity::Ones, Polarity::Zeros] {
+        assert_rows!(rt; bodies(polarity), |row| is_row_cut(rt.alloc(), polarity, row));
     }
     assert!(rt; calls_without_memory_are_right());
 }

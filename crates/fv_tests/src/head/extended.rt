@@ -1,5 +1,6 @@
 //! Volumes with an extended header: from outside, and changed.
 
+use crate::checks::assert_rows;
 use crate::parts::overwrite;
 use fv_base::{Fault, FaultKind, FileSystem, Polarity, Port};
 use fv_head::{
@@ -26,11 +27,9 @@ pub(super) const BARE: [u8; 192] = [
     0xff, 0xff, 0xff, 0xff, 0xff, 0xff, 0xff, 0xff, 0xff, 0xff, 0xff, 0xff, 0xff, 0xff, 0xff, 0xff,
 ];
 
-/// Its canonical image: the extended header is in a pad file, and the used size is 152.
-pub(super) const IMAGE: [u8; 192] = [
-    0x00, 0x00, 0x00, 0x00, 0x00, 0x00, 0x00, 0x00, 0x00, 0x00, 0x00, 0x00, 0x00, 0x00, 0x00, 0x00,
-    0x78, 0xe5, 0x8c, 0x8c, 0x3d, 0x8a, 0x1c, 0x4f, 0x99, 0x35, 0x89, 0x61, 0x85, 0xc3, 0x2d, 0xd3,
-    0xc0, 0x00, 0x00, 0x00, 0x00, 0x00, 0x00, 0x00, 0x5f, 0x46, 0x56, 0x48, 0xff, 0xfe, 0x04, 0x00,
+/// What follows the first 48 bytes in its canonical image: the extended header is in a pad file, and
+/// the used size is 152.
+const MOVED: [u8; 144] = [
     0x48, 0x00, 0xee, 0xf4, 0x60, 0x00, 0x00, 0x02, 0x01, 0x00, 0x00, 0x00, 0xc0, 0x00, 0x00, 0x00,
     0x00, 0x00, 0x00, 0x00, 0x00, 0x00, 0x00, 0x00, 0xff, 0xff, 0xff, 0xff, 0xff, 0xff, 0xff, 0xff,
     0xff, 0xff, 0xff, 0xff, 0xff, 0xff, 0xff, 0xff, 0xec, 0xaa, 0xf0, 0x00, 0x34, 0x00, 0x00, 0xf8,
@@ -43,10 +42,10 @@ pub(super) const IMAGE: [u8; 192] = [
 ];
 
 /// The bare volume becomes the canonical image.
-const AS_IMAGE: &[(usize, &[u8])] = &[(0, &IMAGE)];
+const AS_IMAGE: &[(usize, &[u8])] = &[(48, &MOVED)];
 
 /// The same with a used size of 0, and zeros up to the first file.
-const IN_PAD: &[(usize, &[u8])] = &[(0, &IMAGE), (120, &[0x00; 8])];
+const IN_PAD: &[(usize, &[u8])] = &[(48, &MOVED), (120, &[0x00; 8])];
 
 /// The bare volume with no entry, but with a tail of 5 bytes.
 const TAIL_ONLY: &[(usize, &[u8])] = &[
@@ -80,82 +79,58 @@ type Changes = &'static [(usize, &'static [u8])];
 /// The type and the payload of each entry.
 type Entries = &'static [(u16, &'static [u8])];
 
-/// What is changed in the bare volume; then how many bytes are the volume, where its first file may
-/// begin, and the entries and the tail of its extended header; and then how long that is, and where
-/// the first file of the canonical image may begin: after 72 + 24 bytes and the extended header.
-type ReadRow = (Changes, usize, u64, Entries, &'static [u8], u32, u64);
+/// What is changed in the bare volume; then where its first file may begin, and the entries and the
+/// tail of its extended header; and then how long that is.
+type ReadRow = (Changes, u64, Entries, &'static [u8], u32);
 
 /// Extended headers that are read.
 const READ: &[ReadRow] = &[
-    (&[], 192, 104, &[(3, &[0; 4])], &[], 28, 128),
-    (IN_PAD, 192, 128, &[(3, &[0; 4])], &[], 28, 128),
-    (AS_IMAGE, 192, 128, &[(3, &[0; 4])], &[], 28, 128),
-    (TAIL_ONLY, 192, 104, &[], &TAIL, 25, 128),
+    (&[], 104, &[(3, &[0; 4])], &[], 28),
+    (IN_PAD, 128, &[(3, &[0; 4])], &[], 28),
+    (AS_IMAGE, 128, &[(3, &[0; 4])], &[], 28),
+    (TAIL_ONLY, 104, &[], &TAIL, 25),
     // No room is left for the pad file of a canonical image, but the head is accepted.
-    (WITHOUT_ROOM, 104, 96, &[], &[], 20, 120),
+    (WITHOUT_ROOM, 96, &[], &[], 20),
     // The bytes between the header and an extended header that is not aligned are not read.
-    (AT_77, 192, 104, &[], &[], 20, 120),
+    (AT_77, 104, &[], &[], 20),
     // No room for an entry, and just enough for the header of one whose size is too large.
-    (&[(88, &[0x14])], 192, 96, &[], &[], 20, 120),
-    (&[(88, &[0x18])], 192, 96, &[], &[8, 0, 3, 0], 24, 120),
+    (&[(88, &[0x14])], 96, &[], &[], 20),
+    (&[(88, &[0x18])], 96, &[], &[8, 0, 3, 0], 24),
     // A size of 3, and one that goes one byte past the header.
-    (
-        &[(92, &[0x03])],
-        192,
-        104,
-        &[],
-        &[3, 0, 3, 0, 0, 0, 0, 0],
-        28,
-        128,
-    ),
-    (
-        &[(92, &[0x09])],
-        192,
-        104,
-        &[],
-        &[9, 0, 3, 0, 0, 0, 0, 0],
-        28,
-        128,
-    ),
+    (&[(92, &[0x03])], 104, &[], &[3, 0, 3, 0, 0, 0, 0, 0], 28),
+    (&[(92, &[0x09])], 104, &[], &[9, 0, 3, 0, 0, 0, 0, 0], 28),
     // An entry without a payload, and then a tail of 4 bytes.
-    (
-        &[(92, &[0x04])],
-        192,
-        104,
-        &[(3, &[])],
-        &[0, 0, 0, 0],
-        28,
-        128,
-    ),
+    (&[(92, &[0x04])], 104, &[(3, &[])], &[0, 0, 0, 0], 28),
     // A type 3 entry with 5 bytes, and with 4, and a type 2 entry with 4.
     (
         &[(88, &[0x1d]), (92, &[0x09]), (96, &[1, 2, 3, 4, 5])],
-        192,
         104,
         &[(3, &[1, 2, 3, 4, 5])],
         &[],
         29,
-        128,
     ),
-    (
-        &[(96, &[1, 2, 3, 4])],
-        192,
-        104,
-        &[(3, &[0, 0, 0, 0])],
-        &[],
-        28,
-        128,
-    ),
+    (&[(96, &[1, 2, 3, 4])], 104, &[(3, &[0, 0, 0, 0])], &[], 28),
     (
         &[(88, &[0x1f]), (94, &[0x02]), (96, &[1, 2, 3, 4, 5, 6, 7])],
-        192,
         104,
         &[(2, &[1, 2, 3, 4])],
         &[5, 6, 7],
         31,
-        128,
     ),
 ];
+
+// The header of the canonical image.
+pub(super) fn image_head() -> [u8; 72] {
+    let mut bytes = [0; 72];
+    bytes[..48].copy_from_slice(&BARE[..48]);
+    bytes[48..].copy_from_slice(&MOVED[..24]);
+    bytes
+}
+
+// The extended header of the canonical image, at 96.
+pub(super) fn image_ext() -> &'static [u8] {
+    &MOVED[48..76]
+}
 
 // Writes parts over the bytes at their offsets.
 fn overwrite_each(bytes: &mut [u8], changes: &[(usize, &[u8])]) {
@@ -178,41 +153,46 @@ pub(super) fn has_ext(head: &VolumeHead, entries: &[(u16, &[u8])], tail: &[u8]) 
     ext.tail() == tail && is_same && ext.name().to_bytes() == NAME
 }
 
-// Whether a head has an extended header of this length, and the first file of its canonical image
-// may begin here.
-fn has_length_and_edge(head: &VolumeHead, length: u32, edge: u64) -> bool {
+// Whether a head has an extended header of this length, after which the first file of its canonical
+// image may begin: at a multiple of 8, after 72 + 24 bytes and the extended header.
+fn has_length(head: &VolumeHead, length: u32) -> bool {
+    let edge = (72 + 24 + u64::from(length) + 7) / 8 * 8;
     match head.ext() {
         Some(ext) => len_of_ext(ext) == length && first_edge(head) == edge,
         None => false,
     }
 }
 
-// Whether a head and its extent are those of a row.
-fn is_head_of(head: &VolumeHead, found: Extent, row: &ReadRow) -> bool {
-    let (_, volume_len, first, entries, tail, length, edge) = *row;
+// Whether a head and its extent are those of a row, in a volume of this length.
+fn is_head_of(head: &VolumeHead, found: Extent, volume_len: u64, row: &ReadRow) -> bool {
+    let (_, first, entries, tail, length) = *row;
     let extent = Extent {
-        length: volume_len as u64,
+        length: volume_len,
         header_len: 72,
         first,
         file_system: FileSystem::Ffs2,
         polarity: Polarity::Ones,
     };
-    found == extent && has_ext(head, entries, tail) && has_length_and_edge(head, length, edge)
+    found == extent && has_ext(head, entries, tail) && has_length(head, length)
 }
 
 // Whether the bytes are read as a row says.
 fn is_read_as(alloc: Global, bytes: &[u8], row: &ReadRow) -> bool {
     match read_head(alloc, bytes) {
-        Ok((head, found)) => verify_fv(bytes) == Ok(found) && is_head_of(&head, found, row),
+        Ok((head, found)) => {
+            verify_fv(bytes) == Ok(found) && is_head_of(&head, found, bytes.len() as u64, row)
+        }
         Err(_) => false,
     }
 }
 
-// Whether the bare volume, changed as a row says, is read as the row says.
+// Whether the bare volume, changed as a row says, is read as the row says. The byte at 32 is the
+// length of each.
 fn is_row_read(alloc: Global, row: &ReadRow) -> bool {
     let mut bytes = BARE;
     overwrite_each(&mut bytes, row.0);
-    is_read_as(alloc, &bytes[..row.1.min(192)], row)
+    let end = usize::from(bytes[32]).min(192);
+    is_read_as(alloc, &bytes[..end], row)
 }
 
 // The rows. What names a large constant is proved with all of it, so only this function does.
@@ -222,10 +202,7 @@ fn read_rows() -> &'static [ReadRow] {
 
 #[test]
 fn extended_headers_are_read(rt: HostRuntime) {
-    let rows = read_rows();
-    for at in 0..rows.len() {
-        assert!(rt; is_row_read(rt.alloc(), &rows[at]), "{at}");
-    }
+    assert_rows!(rt; read_rows(), |row| is_row_read(rt.alloc(), row));
 }
 
 // Writes the head, or the extended header with a used size of 152, until `full` has no more room.
@@ -265,6 +242,6 @@ fn stops_where_room_ends(alloc: Global, is_ext: bool, whole: &[u8]) -> bool {
 
 #[test]
 fn heads_are_written_until_a_write_fails(rt: HostRuntime) {
-    assert!(rt; stops_where_room_ends(rt.alloc(), false, &IMAGE[..72]));
-    assert!(rt; stops_where_room_ends(rt.alloc(), true, &IMAGE[96..124]));
+    assert!(rt; stops_where_room_ends(rt.alloc(), false, &image_head()));
+    assert!(rt; stops_where_room_ends(rt.alloc(), true, image_ext()));
 }

@@ -1,7 +1,7 @@
 //! The fields of a head, and failed allocations: `.ci/memory` makes each allocation of the test fail
 //! in turn, and no wrong result may be returned.
 
-use super::extended::{BARE, IMAGE, has_ext, write_to};
+use super::extended::{BARE, has_ext, image_ext, image_head, write_to};
 use crate::faults::OUT_OF_MEMORY;
 use bitflags::Flags;
 use fv_base::{ByteList, Fault, FileSystem, Polarity};
@@ -43,8 +43,8 @@ fn has_heads_or_out_of_memory(alloc: Global, head: &VolumeHead) -> bool {
     let Some(ext) = head.ext() else {
         return false;
     };
-    is_expected_or_out_of_memory(head_bytes(alloc, head), &IMAGE[..72])
-        && is_expected_or_out_of_memory(ext_bytes(alloc, ext, 152), &IMAGE[96..124])
+    is_expected_or_out_of_memory(head_bytes(alloc, head), &image_head())
+        && is_expected_or_out_of_memory(ext_bytes(alloc, ext, 152), image_ext())
         && is_expected_or_out_of_memory(ext_bytes(alloc, ext, 0), &BARE[72..100])
 }
 
@@ -60,8 +60,8 @@ fn calls_without_memory_are_right(head: &VolumeHead) -> bool {
     verify_fv(&BARE) == Ok(EXTENT)
         && is_one_volume(&BARE)
         && first_edge(head) == 128
-        && is_written(head, false, &IMAGE[..72])
-        && is_written(head, true, &IMAGE[96..124])
+        && is_written(head, false, &image_head())
+        && is_written(head, true, image_ext())
 }
 
 // Whether the bare volume is read and made again, or memory ran out.

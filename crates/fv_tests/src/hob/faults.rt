@@ -1,7 +1,7 @@
 //! The texts and the numbers of faults.
 
+use crate::checks::is_printed_as;
 use fv_hob::{HobFault, HobFaultKind};
-use std::alloc::Global;
 
 /// The kinds of faults, and the texts of these at 56.
 const TEXTS: &[(HobFaultKind, &str)] = &[
@@ -27,19 +27,14 @@ const TEXTS: &[(HobFaultKind, &str)] = &[
     ),
 ];
 
-// Whether a fault of this kind is printed as this text.
-fn is_printed_as(alloc: Global, kind: HobFaultKind, expected: &str) -> bool {
-    let fault = HobFault { kind, offset: 56 };
-    match format!(in alloc; "{fault}") {
-        Ok(text) => text.as_str() == expected,
-        Err(_) => false,
-    }
-}
-
 #[test]
 fn each_fault_has_its_text(rt: HostRuntime) {
     for (kind, text) in TEXTS {
-        assert!(rt; is_printed_as(rt.alloc(), *kind, text), "{text}");
+        let fault = HobFault {
+            kind: *kind,
+            offset: 56,
+        };
+        assert!(rt; is_printed_as(rt.alloc(), &fault, text), "{text}");
     }
 }
 

@@ -2,8 +2,8 @@
 -- part of a volume returns, and what it knows of the files.
 use Rattle.std.specs.Prelude.{◌≡◌, ℕ, ◌+◌, ◌<◌, ◌^◌, Bool, true, false, List, length, ◌==◌, ◌&&◌, if◌then◌else◌, ◌≢◌}
 use Rattle.std.specs.Prelude.{◌≤◌, Result, MatchResult}
-use Rattle.fv_file.specs.Attributes.{attribute_bits}
 use Rattle.fv_file.specs.Cells.{CellForm, Valid}
+use Rattle.fv_file.specs.FileAttributes.{attribute_bits}
 use Rattle.fv_file.specs.NewHeaders.{file_sum_for}
 use Rattle.fv_file.specs.declared.head.FileHead.{FileHead}
 use Rattle.fv_file.specs.declared.state.FileState.{FileState}
@@ -21,7 +21,7 @@ use Rattle.fv_base.specs.Faults.{out_of_memory}
 use Rattle.fv_base.specs.Limits.{volume_limit}
 use Rattle.fv_base.specs.declared.fault.Fault.{Fault}
 use Rattle.fv_tree.specs.ReadParts.{IsStoredFile}
-use Rattle.fv_tree.specs.Files.{FileForm}
+use Rattle.fv_tree.specs.VolumeFiles.{FileForm}
 use Rattle.fv_tree.specs.FirstFault.{data_place}
 
 -- the mark of a valid file of this state

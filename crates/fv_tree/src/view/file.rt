@@ -1,14 +1,14 @@
 //! The calls of a `FileView`.
 
 ghost use Rattle.std.specs.Prelude.{◌≡◌, option_map};
-ghost use Rattle.fv_file.specs.Attributes.{attribute_bits};
+ghost use Rattle.fv_file.specs.FileAttributes.{attribute_bits};
 ghost use Rattle.fv_tree.specs.ReadParts.{IsReadFile};
 ghost use Rattle.fv_tree.specs.Meaning.{File, file_name_of, attributes_of, content_of, content_len};
-ghost use Rattle.fv_tree.specs.MeaningParts.{file_kind_of, plain_of};
+ghost use Rattle.fv_tree.specs.MeaningParts.{file_kind_of, plain_of, sections_from, sections_in_data};
 ghost use Rattle.fv_tree.specs.Meaning.{data_len_of};
 ghost use Rattle.fv_tree.specs.Views.{content_view};
 
-use super::{Content, FileView};
+use super::{Content, FileView, SectionView};
 use fv_base::Guid;
 use fv_file::FileAttributes;
 
@@ -80,6 +80,16 @@ impl<'a> FileView<'a> {
         match &self.content {
             Content::Plain(bytes) => Some(*bytes),
             _ => None,
+        }
+    }
+
+    /// The sections that are its data, in order: none if its data are plain bytes.
+    pub fn sections(&self) -> &[SectionView<'a>]
+        ensures { sections_from result.now ≡ sections_in_data (content_of self.now) }
+    {
+        match &self.content {
+            Content::Plain(_) => &[],
+            Content::Stream { sections, .. } => sections.as_slice(),
         }
     }
 

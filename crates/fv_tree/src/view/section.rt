@@ -4,7 +4,7 @@ ghost use Rattle.std.specs.Prelude.{◌≡◌, ◌+◌, option_map, IfOk, IfErr}
 ghost use Rattle.fv_base.specs.Faults.{out_of_memory};
 ghost use Rattle.fv_tree.specs.ReadParts.{IsReadSection};
 ghost use Rattle.fv_tree.specs.Meaning.{Section, Leaf, Group, Nested, sections_end, body_len};
-ghost use Rattle.fv_tree.specs.MeaningParts.{sections_from};
+ghost use Rattle.fv_tree.specs.MeaningParts.{sections_from, sections_in};
 ghost use Rattle.fv_tree.specs.MeaningParts.{section_kind_of, section_is_extended, body_of, leaf_of};
 ghost use Rattle.fv_tree.specs.Views.{sections_of, body_view};
 
@@ -145,6 +145,16 @@ impl<'a> SectionView<'a> {
                 tail: *tail,
             },
             Parts::Nested { volume, .. } => Body::Nested(volume),
+        }
+    }
+
+    /// The sections in it, in order: none if it is no group.
+    pub fn sections(&self) -> &[SectionView<'a>]
+        ensures { sections_from result.now ≡ sections_in (body_of self.now) }
+    {
+        match &self.parts {
+            Parts::Group { sections, .. } => sections.as_slice(),
+            Parts::Leaf { .. } | Parts::Nested { .. } => &[],
         }
     }
 

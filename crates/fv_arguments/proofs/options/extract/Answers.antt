@@ -1,7 +1,7 @@
 use Rattle.std.proofs.Common.{◌∙◌, codes, refl}
 use Rattle.fv_base.proofs.Laws.{err_is}
-use Rattle.fv_arguments.proofs.ReadLemmas.{text_answer}
-use Rattle.fv_arguments.proofs.RefusalLemmas.{right_input, right_part}
+use Rattle.fv_arguments.proofs.ArgumentReadLemmas.{text_answer}
+use Rattle.fv_arguments.proofs.RefusalLemmas.{no_input, right_part}
 use Rattle.fv_arguments.specs.Options.{extract_app}
 use Rattle.fv_arguments.proofs.options.extract.Goals as goal
 
@@ -17,10 +17,7 @@ returns-in_err-part c =
     ) part.1))
 
 pub returns-in_err-at : goal.returns-in_err-at
-returns-in_err-at c =
-    rw (err_is c.from_residual-in_err-at.ensures.1) (λ words rest r right.
-    let input = right_input (codes "extract") rest refl right in
-    c.in_err-at.ensures extract_app rest r words input.0 input.1)
+returns-in_err-at c = rw (err_is c.from_residual-in_err-at.ensures.1) (no_input _ (codes "extract") refl c.in_err-at.ensures)
 
 pub returns : goal.returns
 returns c = λ rest r. (

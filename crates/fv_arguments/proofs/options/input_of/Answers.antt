@@ -1,5 +1,5 @@
 use Rattle.std.proofs.Common.{◌∙◌, codes, subst, sym}
-use Rattle.fv_arguments.proofs.ReadLemmas.{text_answer}
+use Rattle.fv_arguments.proofs.ArgumentReadLemmas.{text_answer}
 use Rattle.fv_arguments.proofs.RefusalLemmas.{passed}
 use Rattle.fv_arguments.specs.Words.{IsAtWord}
 use Rattle.fv_arguments.proofs.options.input_of.Goals as goal

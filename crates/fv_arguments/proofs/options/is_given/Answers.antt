@@ -1,5 +1,5 @@
 use Rattle.std.proofs.Common.{◌∙◌}
-use Rattle.fv_arguments.proofs.ReadLemmas.{flag_answer}
+use Rattle.fv_arguments.proofs.ArgumentReadLemmas.{flag_answer}
 use Rattle.fv_arguments.proofs.options.is_given.Goals as goal
 
 pub returns : goal.returns

@@ -1,16 +1,13 @@
 use Rattle.std.proofs.Common.{◌∙◌, codes, refl, sym}
 use Rattle.fv_base.proofs.Laws.{err_is}
-use Rattle.fv_arguments.proofs.RefusalLemmas.{right_input}
+use Rattle.fv_arguments.proofs.RefusalLemmas.{no_input}
 use Rattle.fv_arguments.proofs.TaskLemmas.{by_flag}
 use Rattle.fv_arguments.specs.Options.{list_app}
 use Rattle.fv_plan.specs.declared.plan.Task.TheVariants.{List as Listing, ListSums}
 use Rattle.fv_arguments.proofs.options.list.Goals as goal
 
 pub returns-in_err-at : goal.returns-in_err-at
-returns-in_err-at c =
-    rw (err_is c.from_residual.ensures.1) (λ words rest r right.
-    let input = right_input (codes "list") rest refl right in
-    c.in_err-at.ensures list_app rest r words input.0 input.1)
+returns-in_err-at c = rw (err_is c.from_residual.ensures.1) (no_input _ (codes "list") refl c.in_err-at.ensures)
 
 pub returns : goal.returns
 returns c = λ rest r.

@@ -1,7 +1,7 @@
 use Rattle.std.proofs.Common.{◌∙◌, codes, refl, sym, true≢false}
 use Rattle.fv_base.proofs.Laws.{err_is}
-use Rattle.fv_arguments.proofs.ReadLemmas.{none_is}
-use Rattle.fv_arguments.proofs.RefusalLemmas.{no_place, right_input}
+use Rattle.fv_arguments.proofs.ArgumentReadLemmas.{none_is}
+use Rattle.fv_arguments.proofs.RefusalLemmas.{no_place, no_input}
 use Rattle.fv_arguments.proofs.TaskLemmas.{by_flag}
 use Rattle.fv_arguments.specs.Options.{normalise_app}
 use Rattle.fv_plan.specs.declared.plan.Task.TheVariants.{Normalise, NormaliseAll}
@@ -9,10 +9,7 @@ use Rattle.fv_arguments.proofs.options.normalise.Goals as goal
 use Rattle.fv_arguments.proofs.options.normalise.Goals.{else-all-via-then-all+else-is_some, else-all-via-else-all}
 
 pub returns-in_err-at : goal.returns-in_err-at
-returns-in_err-at c =
-    rw (err_is c.from_residual.ensures.1) (λ words rest r right.
-    let input = right_input (codes "normalise") rest refl right in
-    c.in_err-at.ensures normalise_app rest r words input.0 input.1)
+returns-in_err-at c = rw (err_is c.from_residual.ensures.1) (no_input _ (codes "normalise") refl c.in_err-at.ensures)
 
 pub returns-then-is_some : goal.returns-then-is_some
 returns-then-is_some c = λ is rest r right.

@@ -1,5 +1,5 @@
 use Rattle.clap.proofs.TakesLemmas.{passed_up}
-use Rattle.fv_arguments.proofs.ReadLemmas.{read}
+use Rattle.fv_arguments.proofs.ArgumentReadLemmas.{read}
 use Rattle.fv_arguments.proofs.RefusalLemmas.{read_of, refused}
 use Rattle.fv_arguments.proofs.options.parse_command.Goals as goal
 

@@ -1,5 +1,5 @@
 use Rattle.std.proofs.Common.{◌∙◌, codes, refl}
-use Rattle.fv_arguments.proofs.ReadLemmas.{text_answer}
+use Rattle.fv_arguments.proofs.ArgumentReadLemmas.{text_answer}
 use Rattle.fv_arguments.proofs.options.scan.Goals as goal
 
 pub returns : goal.returns

@@ -2,8 +2,7 @@ use Rattle.std.proofs.Common.{◌≡◌, ◌∙◌, ◌≤◌, ◌↔◌, ◌++�
 use Rattle.fv_compare.specs.ComparisonLines.{compare_line}
 use Rattle.fv_compare.specs.Difference.{difference}
 use Rattle.fv_tree.specs.Meaning.{Meaning}
-use Rattle.fv_c.specs.ReportedComparisons.{IsReported}
-use Rattle.fv_c.specs.Reports.{no_fault}
+use Rattle.fv_c.specs.Reports.{IsReported, no_fault}
 use Rattle.fv_c.specs.declared.compare.FvComparison.{FvComparison}
 use Rattle.fv_c.proofs.compare.report.Goals as goal
 

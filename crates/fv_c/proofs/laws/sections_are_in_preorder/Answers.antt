@@ -1,5 +1,5 @@
 use Rattle.fv_c.proofs.PreorderLaws.{sections_listed}
-use Rattle.fv_c.specs.ReportedSections.{no_parent}
+use Rattle.fv_c.specs.ReportedFiles.{no_parent}
 use Rattle.fv_c.proofs.laws.sections_are_in_preorder.Goals as goal
 
 pub returns : goal.returns

@@ -1,7 +1,7 @@
 use Rattle.std.proofs.Common.{ap, arith, length, length-append}
 use Rattle.fv_tree.specs.inner.Sizes.{sections_size}
 use Rattle.fv_tree.proofs.Laws.{section_falls}
-use Rattle.fv_c.specs.ReportedSections.{rows_of_section}
+use Rattle.fv_c.specs.ReportedFiles.{rows_of_section}
 use Rattle.fv_c.proofs.SectionRowLaws.{inside_falls, section_added, walk_more, longer}
 use Rattle.fv_c.proofs.parts.+add_sections.Goals as goal
 
@@ -10,7 +10,7 @@ add_sections-requires t c =
     let s = c.section-item.result in
     let falls = section_falls c.args.sections.now c.loop-section.section-index s c.loop-section-test.true c.section-item.is in
     let more = simp length-append at (ap length c.in_ok-push.ensures.items) in (
-      omega (arith, c.decreases, falls, inside_falls s, ap sections_size c.sections_in.ensures),
+      omega (arith, c.decreases, falls, inside_falls s, ap sections_size c.sections.ensures),
       omega (arith, c.loop-section.invariant.deep, more),
     )
 
@@ -19,7 +19,7 @@ loop-section-preserved t c =
     let olds = c.loop-section.rows.items in
     let news = c.add_sections.new.rows.items in
     let s = c.section-item.result in
-    let added = section_added olds c.push.new.self.items news _ _ _ c.in_ok-push.ensures.items c.sections_in.ensures
+    let added = section_added olds c.push.new.self.items news _ _ _ c.in_ok-push.ensures.items c.sections.ensures
     c.in_ok-add_sections.ensures (omega arith) in
     record {
       walked = walk_more c.args.rows.now.items olds news c.args.parent c.args.depth c.loop-section.section-index

@@ -2,7 +2,7 @@ use Rattle.std.proofs.Common.{Some, None, length, refl, subst, sym}
 use Rattle.std.specs.Prelude.{Option, IfErr, IfOk}
 use Rattle.std.proofs.lemmas.Option.{slice_get_past, slice_get_read}
 use Rattle.fv_c.specs.ExtractedParts.{PartMeaning}
-use Rattle.fv_c.specs.inner.PlacedSections.{ShowsPart, StopsPart}
+use Rattle.fv_c.specs.inner.Rows.{ShowsPart, StopsPart}
 use Rattle.fv_c.proofs.PartLaws.{part_at, shows_none}
 use Rattle.fv_c.proofs.parts.part_bytes.Goals as goal
 

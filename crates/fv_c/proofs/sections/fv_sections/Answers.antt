@@ -3,7 +3,7 @@ use Rattle.std.specs.Prelude.{slice_get, Some}
 use Rattle.std.proofs.lemmas.List.{length-map}
 use Rattle.fv_tree.specs.Denotes.{Accepted}
 use Rattle.fv_tree.specs.Meaning.{Meaning, FileMeaning, content_of, files_of}
-use Rattle.fv_c.specs.ReportedSections.{reported_section, section_rows}
+use Rattle.fv_c.specs.ReportedFiles.{reported_section, section_rows}
 use Rattle.fv_c.specs.Reports.{no_fault}
 use Rattle.fv_c.specs.declared.sections.FvSection.{FvSection}
 use Rattle.fv_c.proofs.sections.fv_sections.Goals as goal

@@ -1,8 +1,8 @@
 use Rattle.std.proofs.Common.{◌∙◌, map, ap, sym}
 use Rattle.std.proofs.lemmas.Result.{IfOk-weaker}
 use Rattle.std.proofs.lemmas.Simd.{map-map}
-use Rattle.fv_c.specs.ReportedSections.{reported_section}
-use Rattle.fv_c.specs.inner.PlacedSections.{row_form}
+use Rattle.fv_c.specs.ReportedFiles.{reported_section}
+use Rattle.fv_c.specs.inner.Rows.{row_form}
 use Rattle.fv_c.proofs.sections.reported_sections.Goals as goal
 
 pub returns : goal.returns

@@ -1,5 +1,5 @@
 use Rattle.fv_base.proofs.Laws.{err_is}
-use Rattle.fv_canon.proofs.InputLaws.{not_placed, not_read, unfit_kind}
+use Rattle.fv_canon.proofs.RejectedInputLaws.{not_placed, not_read, unfit_kind}
 use Rattle.fv_canon.proofs.flash_image.laid_volume.Goals as goal
 
 pub returns-in_err-view-clause-err : goal.returns-in_err-view-clause-err

@@ -1,6 +1,6 @@
 use Rattle.std.proofs.Common.{List, ℕ, subst, sym, arith}
 use Rattle.fv_head.specs.Head.{BeginsVolume}
-use Rattle.fv_tree.proofs.Laws.{at_within}
+use Rattle.fv_flash.proofs.Laws.{at_within}
 use Rattle.fv_canon.proofs.flash_image.volume_at.Goals as goal
 
 pub bytes_from-requires : goal.bytes_from-requires

@@ -1,8 +1,8 @@
 use Rattle.std.proofs.Common.{◌≡◌, ◌<◌, ◌+◌, ◌-◌, ℕ, true, List, false, length, drop, replicate, get_or, sym, ap, ◌∙◌, subst, arith}
 use Rattle.std.proofs.lemmas.Grind.{common_steps}
-use Rattle.fv_file.specs.Attributes.{is_summed}
-use Rattle.fv_head.specs.Attributes.{polarity_of}
+use Rattle.fv_file.specs.FileAttributes.{is_summed}
 use Rattle.fv_head.specs.Head.{HeadFields}
+use Rattle.fv_head.specs.VolumeAttributes.{polarity_of}
 use Rattle.fv_tree.specs.Meaning.{Meaning, SectionMeaning, BodyMeaning, FileMeaning, attributes_of}
 use Rattle.fv_tree.specs.MeaningParts.{body_of, files_from}
 use Rattle.fv_tree.specs.Views.{body_view}
@@ -10,12 +10,13 @@ use Rattle.fv_tree.specs.inner.Sizes.{volume_size, body_size, files_size}
 use Rattle.fv_tree.proofs.Laws.{file_falls, section_body_falls}
 use Rattle.fv_canon.specs.StoredFiles.{size_for}
 use Rattle.fv_tree.specs.Volumes.{Inside, volumes_in_body}
-use Rattle.fv_canon.specs.inner.ImageOf.{body_image, image_of, starts_in}
+use Rattle.fv_canon.specs.inner.ImageOf.{image_of, starts_in}
 use Rattle.fv_canon.specs.LayoutForms.{BeginsWithStarts}
 use Rattle.fv_canon.specs.inner.SummingSinks.{ImageTakes, image_by, sums}
 use Rattle.fv_canon.proofs.DataBodyLaws.{data_image, data_size, data_volumes}
-use Rattle.fv_canon.proofs.FileLaws.{file_long, stored_is, size_is, at_file, file_passed, files_end, walk_goes, placed_on}
-use Rattle.fv_canon.proofs.SectionLaws.{section_known, section_passed, in_body, body_laid, goes_on, front_more, front_end, front_none, walk_ended}
+use Rattle.fv_canon.proofs.LaidFileLaws.{file_long, stored_is, size_is, at_file, file_passed, files_end, walk_goes, placed_on}
+use Rattle.fv_canon.proofs.LaidSectionLaws.{section_known, section_passed, in_body, body_laid, goes_on, front_more, front_end, front_none}
+use Rattle.fv_canon.proofs.LaidSectionLaws.{walk_ended}
 use Rattle.fv_canon.proofs.SumWalks.{state_adds}
 use Rattle.fv_canon.proofs.VolumeWalks.{volume_is, volume_seen, volume_text, volume_rest}
 use Rattle.fv_canon.proofs.image_walk.+put.Goals.{put_file-else-is_summing-via-else-is_summing}
@@ -212,26 +213,6 @@ put_files-returns-clause-bytes g t c =
     c.loop-i.rest.now c.loop-i.i c.args.out.now c.loop-i.out c.fill-2.new.out _ c.loop-i-test.false c.loop-i.invariant.done
     (subst (λ (n : ℕ). ImageTakes g.S.Sink.takes c.loop-i.out (replicate (c.args.total - c.loop-i.edge) n) c.fill-2.new.out)
     c.erased-2.ensures.value c.fill-2.ensures)
-
-pub put_body-returns-in-Group-clause-bytes : goal.put_body-returns-in-Group-clause-bytes
-put_body-returns-in-Group-clause-bytes g t c =
-    subst (λ (b : BodyMeaning). ImageTakes g.S.Sink.takes c.args.out.now (body_image b c.args.starts.now) c.put_sections.new.out)
-    (sym (ap body_view c.in-Group.is)) c.put_sections.ensures.bytes
-
-pub put_body-returns-in-Group-clause-rest : goal.put_body-returns-in-Group-clause-rest
-put_body-returns-in-Group-clause-rest g t c =
-    subst (λ (b : BodyMeaning). c.put_sections.result.now ≡ drop (starts_in (volumes_in_body b)) c.args.starts.now)
-    (sym (ap body_view c.in-Group.is)) c.put_sections.ensures.rest
-
-pub put_body-returns-in-Nested-clause-bytes : goal.put_body-returns-in-Nested-clause-bytes
-put_body-returns-in-Nested-clause-bytes g t c =
-    subst (λ (b : BodyMeaning). ImageTakes g.S.Sink.takes c.args.out.now (body_image b c.args.starts.now) c.put_volume.new.out)
-    (sym (ap body_view c.in-Nested.is)) c.put_volume.ensures.bytes
-
-pub put_body-returns-in-Nested-clause-rest : goal.put_body-returns-in-Nested-clause-rest
-put_body-returns-in-Nested-clause-rest g t c =
-    subst (λ (b : BodyMeaning). c.put_volume.result.now ≡ drop (starts_in (volumes_in_body b)) c.args.starts.now)
-    (sym (ap body_view c.in-Nested.is)) c.put_volume.ensures.rest
 
 pub put_file-returns-clause-rest : goal.put_file-returns-clause-rest
 put_file-returns-clause-rest g t c =

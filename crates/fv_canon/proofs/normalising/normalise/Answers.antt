@@ -7,12 +7,12 @@ use Rattle.fv_head.specs.Head.{HeadFields, BeginsVolume}
 use Rattle.fv_head.specs.declared.extent.Extent.{Extent}
 use Rattle.fv_tree.specs.Meaning.{head_of}
 use Rattle.fv_canon.specs.Headline.{MeanSame, NormalisesTo}
+use Rattle.fv_canon.specs.InputRefusals.{IsOfLayout, IsUnfit}
 use Rattle.fv_canon.specs.Layouts.{Fits}
-use Rattle.fv_canon.specs.Refusals.{IsOfLayout, IsUnfit}
 use Rattle.fv_canon.proofs.ImageLaws.{image_again, image_stays_long}
 use Rattle.fv_canon.proofs.ImageFits.{image_fits as has_image_fits}
-use Rattle.fv_canon.proofs.InputLaws.{image_fits, not_placed, not_read, not_read_never, refused_unplaced, unread_refused}
-use Rattle.fv_canon.proofs.InputLaws.{unfit_kind_of}
+use Rattle.fv_canon.proofs.RejectedInputLaws.{image_fits, not_placed, not_read, not_read_never, refused_unplaced, unread_refused}
+use Rattle.fv_canon.proofs.RejectedInputLaws.{unfit_kind_of}
 use Rattle.fv_canon.proofs.normalising.normalise.Goals as goal
 
 pub returns-in_err-view-clause-err : goal.returns-in_err-view-clause-err

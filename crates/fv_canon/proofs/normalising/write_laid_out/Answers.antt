@@ -4,8 +4,8 @@ use Rattle.fv_base.specs.Port.{has_erred}
 use Rattle.fv_base.specs.declared.fault.Fault.{Fault}
 use Rattle.fv_base.specs.declared.fault.FaultKind.TheVariants as kinds
 use Rattle.fv_tree.specs.Meaning.{head_of}
-use Rattle.fv_canon.proofs.InputLaws.{not_placed, unfit_kind}
 use Rattle.fv_canon.proofs.NormaliseRunLaws.{input_writes, writer_stops, refused_stops, write_not_read, of_some_kind}
+use Rattle.fv_canon.proofs.RejectedInputLaws.{not_placed, unfit_kind}
 use Rattle.fv_canon.proofs.normalising.write_laid_out.Goals as goal
 
 pub returns-in_err-places-clause-err : goal.returns-in_err-places-clause-err

@@ -6,8 +6,8 @@ use Rattle.fv_base.specs.declared.fault.Fault.{Fault}
 use Rattle.fv_head.specs.Head.{HeadFields, BeginsVolume}
 use Rattle.fv_head.specs.declared.extent.Extent.{Extent}
 use Rattle.fv_tree.specs.Meaning.{head_of}
-use Rattle.fv_canon.proofs.InputLaws.{not_read}
 use Rattle.fv_canon.proofs.NormaliseRunLaws.{refused_stops}
+use Rattle.fv_canon.proofs.RejectedInputLaws.{not_read}
 use Rattle.fv_canon.proofs.normalising.write_normalised.Goals as goal
 
 pub returns-in_err-view-clause-err : goal.returns-in_err-view-clause-err

@@ -1,6 +1,6 @@
 use Rattle.std.proofs.Common.{◌≡◌, ◌≤◌, ◌%◌}
 use Rattle.fv_canon.specs.StoredFiles.{gap_bytes}
-use Rattle.fv_canon.specs.inner.ImageOf.{TakesFront}
+use Rattle.fv_canon.proofs.ImageParts.{TakesFront}
 use Rattle.fv_canon.proofs.pads_and_headers.put_gap.Given as goal
 
 abbrev pub invariant-loop-left : goal.invariant-loop-left

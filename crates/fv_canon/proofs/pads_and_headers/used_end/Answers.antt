@@ -3,7 +3,7 @@ use Rattle.std.specs.Prelude.{map}
 use Rattle.std.proofs.lemmas.Grind.{common_steps}
 use Rattle.std.proofs.lemmas.List.{length-map}
 use Rattle.fv_base.specs.Limits.{volume_limit}
-use Rattle.fv_canon.specs.inner.Depths.{used_by}
+use Rattle.fv_canon.specs.inner.FileWalks.{used_by}
 use Rattle.fv_canon.specs.Layouts.{layout_item}
 use Rattle.fv_canon.specs.StoredFiles.{size_for}
 use Rattle.fv_placement.proofs.Laws.{follow_length}

@@ -3,8 +3,8 @@ use Rattle.fv_tree.specs.Meaning.{SectionMeaning, FileMeaning, head_of}
 use Rattle.fv_tree.specs.MeaningParts.{files_from}
 use Rattle.fv_tree.specs.inner.Sizes.{volume_size, files_size}
 use Rattle.fv_canon.proofs.DataBodyLaws.{data_falls, data_volumes}
-use Rattle.fv_canon.proofs.FileLaws.{file_passed, files_last}
-use Rattle.fv_canon.proofs.SectionLaws.{section_passed, in_body, body_laid}
+use Rattle.fv_canon.proofs.LaidFileLaws.{file_passed, files_last}
+use Rattle.fv_canon.proofs.LaidSectionLaws.{section_passed, in_body, body_laid}
 use Rattle.fv_canon.proofs.VolumeWalks.{VolumeLaid, volume_seen, volume_rest}
 use Rattle.fv_canon.proofs.start_walk.+skip.Goals.{skip_volume-After-files-files}
 use Rattle.fv_canon.proofs.start_walk.+skip.Goals as goal

@@ -1,5 +1,5 @@
 use Rattle.std.proofs.Common.{option_copied}
-use Rattle.fv_command.proofs.CheckLemmas.{check_text}
+use Rattle.fv_command.proofs.CheckTextLemmas.{check_text}
 use Rattle.fv_command.proofs.check_run.put_volume_check.Goals as goal
 
 pub noted_cells-requires : goal.noted_cells-requires

@@ -4,7 +4,7 @@ use Rattle.fv_compare.specs.declared.difference.Word.TheVariants as words
 use Rattle.fv_tree.specs.MeaningParts.{files_from, sections_from}
 use Rattle.fv_tree.specs.inner.Sizes.{volume_size, files_size, content_size, sections_size, body_size}
 use Rattle.fv_tree.specs.Views.{content_view, body_view}
-use Rattle.fv_compare.proofs.DifferenceWalkLaws.{sections_more, files_more, volume_word}
+use Rattle.fv_compare.proofs.DifferenceWalkLaws.{files_uneven, sections_uneven, volume_word}
 use Rattle.fv_tree.proofs.Laws.{section_falls, body_falls, file_falls, content_falls}
 use Rattle.fv_compare.proofs.difference.+differ.Goals as goal
 
@@ -21,7 +21,7 @@ content_difference-stream_difference-requires t c =
 
 pub stream_difference-section_difference-requires : goal.stream_difference-section_difference-requires
 stream_difference-section_difference-requires t c =
-    (omega (arith, c.decreases, section_falls c.args.sections.now c.loop-i.i c.index-sections-i.result c.loop-i-test.true c.index-sections-i.is), tt)
+    (omega (arith, c.decreases, section_falls c.args.sections.now c.loop-i.i c.index-sections-i.result (omega arith) c.index-sections-i.is), tt)
 
 pub file_difference-content_difference-requires : goal.file_difference-content_difference-requires
 file_difference-content_difference-requires t c =
@@ -38,7 +38,7 @@ volume_difference-files_difference-requires t c =
 
 pub files_difference-file_difference-requires : goal.files_difference-file_difference-requires
 files_difference-file_difference-requires t c =
-    (omega (arith, c.decreases, file_falls c.args.files.now c.loop-i.i c.index-files-i.result c.loop-i-test.true c.index-files-i.is), tt)
+    (omega (arith, c.decreases, file_falls c.args.files.now c.loop-i.i c.index-files-i.result (omega arith) c.index-files-i.is), tt)
 
 -- ---- volumes
 
@@ -50,15 +50,15 @@ volume_difference-returns-in-Some t c =
 
 -- ---- streams
 
-pub stream_difference-returns-then-sections-others : goal.stream_difference-returns-then-sections-others
-stream_difference-returns-then-sections-others t c =
-    c.differ_in-then-sections-others.ensures
-    ∙ sym (sections_more c.args.sections.now c.args.others.now c.loop-i.i (unless_one (c.args.tail == c.args.other_tail) words.Tail)
-    (omega arith) (omega arith) c.if-sections-others.true c.loop-i.invariant)
+pub stream_difference-returns-then-not-sections-others : goal.stream_difference-returns-then-not-sections-others
+stream_difference-returns-then-not-sections-others t c =
+    c.differ_in.ensures
+    ∙ sym (sections_uneven c.args.sections.now c.args.others.now c.loop-i.i (unless_one (c.args.tail == c.args.other_tail) words.Tail)
+    (omega arith) (omega arith) c.if-not-sections-others.true c.loop-i.invariant)
 
 -- ---- files
 
-pub files_difference-returns-then-files-others : goal.files_difference-returns-then-files-others
-files_difference-returns-then-files-others t c =
-    c.differ_in-then-files-others.ensures
-    ∙ sym (files_more c.args.files.now c.args.others.now c.loop-i.i (omega arith) (omega arith) c.if-files-others.true c.loop-i.invariant)
+pub files_difference-returns-then-not-files-others : goal.files_difference-returns-then-not-files-others
+files_difference-returns-then-not-files-others t c =
+    c.differ_in.ensures
+    ∙ sym (files_uneven c.args.files.now c.args.others.now c.loop-i.i (omega arith) (omega arith) c.if-not-files-others.true c.loop-i.invariant)

@@ -1,6 +1,6 @@
 use Rattle.std.proofs.Common.{List, [], ◌∷◌, ◌++◌, refl, sym, ◌∙◌, arith, rules}
 use Rattle.fv_depex.specs.declared.op.Op.{Op}
-use Rattle.fv_depex.proofs.ReadLemmas.{kept_none, kept, ended, first_fault_at, one_more}
+use Rattle.fv_depex.proofs.OpReadLemmas.{kept_none, kept, ended, first_fault_at, one_more}
 use Rattle.fv_depex.proofs.read.depex_fault.Goals as goal
 
 pub loop-op-init : goal.loop-op-init

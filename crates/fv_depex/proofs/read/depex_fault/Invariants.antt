@@ -1,6 +1,6 @@
 use Rattle.std.proofs.Common.{List, ◌-◌, length}
 use Rattle.fv_depex.specs.declared.op.Op.{Op}
-use Rattle.fv_depex.proofs.ReadLemmas.{OpsKept}
+use Rattle.fv_depex.proofs.OpReadLemmas.{OpsKept}
 use Rattle.fv_depex.proofs.read.depex_fault.Given as goal
 
 abbrev pub invariant-loop-op : goal.invariant-loop-op

@@ -1,7 +1,7 @@
 use Rattle.std.proofs.Common.{◌∙◌, refl, sym, ap, arith}
 use Rattle.fv_base.proofs.Laws.{err_is}
 use Rattle.fv_depex.specs.declared.fault.DepexFault.{DepexFault}
-use Rattle.fv_depex.proofs.ReadLemmas.{kept_none, kept, ended, first_fault_at, no_want, one_more, stands_first}
+use Rattle.fv_depex.proofs.OpReadLemmas.{kept_none, kept, ended, first_fault_at, no_want, one_more, stands_first}
 use Rattle.fv_depex.proofs.read.read_ops.Goals as goal
 
 pub loop-ops-init : goal.loop-ops-init

@@ -1,5 +1,5 @@
 use Rattle.std.proofs.Common.{◌-◌, length}
-use Rattle.fv_depex.proofs.ReadLemmas.{OpsKept}
+use Rattle.fv_depex.proofs.OpReadLemmas.{OpsKept}
 use Rattle.fv_depex.proofs.read.read_ops.Given as goal
 
 abbrev pub invariant-loop-ops : goal.invariant-loop-ops

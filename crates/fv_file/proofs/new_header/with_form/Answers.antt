@@ -1,4 +1,4 @@
-use Rattle.fv_file.proofs.AttributeLemmas.{large_set}
+use Rattle.fv_file.proofs.FileAttributeLemmas.{large_set}
 use Rattle.fv_file.proofs.new_header.with_form.Goals as goal
 
 pub returns-then-large : goal.returns-then-large

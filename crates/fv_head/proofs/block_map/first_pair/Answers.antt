@@ -1,5 +1,5 @@
 use Rattle.std.proofs.Common.{arith}
-use Rattle.fv_head.proofs.BlockLemmas.{pairs_of-step}
+use Rattle.fv_head.proofs.BlockMapLemmas.{pairs_of-step}
 use Rattle.fv_head.proofs.block_map.first_pair.Goals as goal
 
 pub returns-clause-some : goal.returns-clause-some

@@ -1,7 +1,7 @@
 use Rattle.std.proofs.Common.{◌∙◌, refl, sym, ap, arith, rules}
 use Rattle.fv_base.proofs.Laws.{err_is}
 use Rattle.fv_hob.specs.declared.fault.HobFault.{HobFault}
-use Rattle.fv_hob.proofs.ReadLemmas.{kept, ended, first_here, no_want, one_more, table_stands}
+use Rattle.fv_hob.proofs.HobReadLemmas.{kept, ended, first_here, no_want, one_more, table_stands}
 use Rattle.fv_hob.proofs.read.read_blocks.Goals as goal
 
 pub loop-hobs-preserved : goal.loop-hobs-preserved

@@ -1,5 +1,5 @@
 use Rattle.std.proofs.Common.{◌-◌, length}
-use Rattle.fv_hob.proofs.ReadLemmas.{HobsKept}
+use Rattle.fv_hob.proofs.HobReadLemmas.{HobsKept}
 use Rattle.fv_hob.proofs.read.read_blocks.Given as goal
 
 abbrev pub invariant-loop-hobs : goal.invariant-loop-hobs

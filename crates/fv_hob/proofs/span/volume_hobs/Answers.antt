@@ -1,8 +1,9 @@
 use Rattle.std.proofs.Common.{◌≡◌, ◌++◌, ap, subst, ◌∙◌, List, length, get_or, ◌<◌, ◌≤◌, Vec, Global, arith}
 use Rattle.std.specs.Prelude.{[]}
+use Rattle.std.specs.List.{cons_option}
 use Rattle.std.proofs.lemmas.List.{take_all}
 use Rattle.fv_hob.specs.Hobs.{HobForm}
-use Rattle.fv_hob.specs.Lists.{spans_of, with_span}
+use Rattle.fv_hob.specs.Lists.{spans_of}
 use Rattle.fv_hob.specs.declared.span.Span.{Span}
 use Rattle.fv_hob.proofs.WriteLemmas.{spans_more, span_none, span_some}
 use Rattle.fv_hob.proofs.span.volume_hobs.Goals.{in-Some+in_ok-push, in_default}
@@ -12,7 +13,7 @@ pub loop-hob-preserved : goal.loop-hob-preserved
 loop-hob-preserved c =
     let same = c.as_slice-hob-items.ensures.blocks in
     let h = c.hob-item.result in
-    let new : c.match-span.list.items ≡ c.loop-hob.list.items ++ with_span c.span.result [] =
+    let new : c.match-span.list.items ≡ c.loop-hob.list.items ++ cons_option c.span.result [] =
     elim c.match-span.branch [
       | in-Some+in_ok-push w ↦ span_some c.span.result w.in-Some.span c.loop-hob.list.items c.match-span.list.items w.in-Some.is
           (ap (λ (v : Vec Span Global). v.items) w.list-is ∙ w.in_ok-push.ensures.items)

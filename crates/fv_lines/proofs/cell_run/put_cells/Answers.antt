@@ -1,7 +1,7 @@
 use Rattle.std.proofs.Common.{subst, sym}
 use Rattle.fv_base.proofs.Laws.{err_is}
-use Rattle.fv_lines.specs.inner.CellRuns.{FitTogether}
-use Rattle.fv_lines.proofs.CellLemmas.{cells_told, fit_together, none_tiled}
+use Rattle.fv_lines.specs.inner.LineRuns.{FitTogether}
+use Rattle.fv_lines.proofs.CellSumLemmas.{cells_told, fit_together, none_tiled}
 use Rattle.fv_lines.proofs.cell_run.put_cells.Goals as goal
 
 pub returns-in_err-extent-clause-err : goal.returns-in_err-extent-clause-err

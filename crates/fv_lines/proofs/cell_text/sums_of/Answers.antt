@@ -3,7 +3,7 @@ use Rattle.std.proofs.lemmas.List.{take_all}
 use Rattle.fv_file.specs.CellForms.{cell_form}
 use Rattle.fv_file.specs.declared.cell.Cell.{Cell}
 use Rattle.fv_lines.specs.CellTexts.{sums_of}
-use Rattle.fv_lines.proofs.CellLemmas.{counted_next, sums_next}
+use Rattle.fv_lines.proofs.CellSumLemmas.{counted_next, sums_next}
 use Rattle.fv_lines.proofs.cell_text.sums_of.Goals as goal
 
 pub with_cell-sums-requires : goal.with_cell-sums-requires

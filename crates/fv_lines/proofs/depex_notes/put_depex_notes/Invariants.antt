@@ -1,6 +1,6 @@
 use Rattle.std.proofs.Common.{take}
 use Rattle.fv_lines.specs.Notes.{depexes_in}
-use Rattle.fv_lines.specs.inner.CellRuns.{PutsNotes}
+use Rattle.fv_lines.specs.inner.LineRuns.{PutsNotes}
 use Rattle.fv_lines.proofs.depex_notes.put_depex_notes.Given as goal
 
 abbrev pub invariant-loop-file : goal.invariant-loop-file

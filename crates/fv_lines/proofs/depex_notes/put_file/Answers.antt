@@ -1,25 +1,32 @@
-use Rattle.std.proofs.Common.{◌≡◌, ◌∙◌, List, sym, ap, subst}
-use Rattle.fv_tree.specs.LookupInstances.{preorder}
-use Rattle.fv_tree.specs.Meaning.{FileMeaning, Plain, Sectioned, SectionMeaning, content_of}
-use Rattle.fv_tree.specs.MeaningParts.{sections_from}
-use Rattle.fv_tree.specs.Views.{content_view}
-use Rattle.fv_lines.specs.Notes.{HeldDepex, sections_depexes}
-use Rattle.fv_lines.specs.inner.CellRuns.{PutsNotes}
-use Rattle.fv_lines.proofs.DepexNoteLemmas.{puts_none, plain_depexes, stream_depexes}
+use Rattle.std.proofs.Common.{◌∙◌, List, sym, subst}
+use Rattle.fv_tree.specs.Meaning.{SectionMeaning}
+use Rattle.fv_lines.specs.inner.LineRuns.{PutsNotes}
+use Rattle.fv_lines.specs.Notes.{HeldDepex, section_depex, sections_depexes}
+use Rattle.fv_lines.proofs.DepexNoteLemmas.{of_file, puts_none, puts_then}
 use Rattle.fv_lines.proofs.depex_notes.put_file.Goals as goal
 
-pub returns-in-Plain : goal.returns-in-Plain
-returns-in-Plain g c =
-    let is : content_of c.args.file.now ≡ Plain c.in-Plain.field-0.now = sym c.content.ensures ∙ ap content_view c.in-Plain.is in
-    subst (λ (xs : List HeldDepex). PutsNotes g.S.Sink.takes xs c.args.out.now c.args.out.now)
-    (plain_depexes c.args.file.now c.in-Plain.field-0.now is) (puts_none g.S.Sink.laws c.args.out.now)
+pub loop-section-init : goal.loop-section-init
+loop-section-init g c = (tt, tt, λ end puts. puts)
 
-pub returns-in-Stream : goal.returns-in-Stream
-returns-in-Stream g c =
-    let f : FileMeaning = c.args.file.now in
-    let is : content_of f ≡ Sectioned (sections_from c.in-Stream.sections.items) c.in-Stream.tail =
-    sym c.content.ensures ∙ ap content_view c.in-Stream.is in
-    let e =
-    ap (λ (l : List SectionMeaning). sections_depexes c.name.result (preorder (sections_from l))) c.as_slice.ensures.value
-    ∙ stream_depexes f c.name.result (sections_from c.in-Stream.sections.items) c.in-Stream.tail c.name.ensures.name is in
-    subst (λ (xs : List HeldDepex). PutsNotes g.S.Sink.takes xs c.args.out.now c.put_sections.new.out) e c.put_sections.ensures
+pub loop-section-preserved : goal.loop-section-preserved
+loop-section-preserved g c = (
+  tt,
+  tt,
+  λ end puts.
+      let name = c.name-name.result in
+      let left : List SectionMeaning = c.next.new.self in
+      c.loop-section.invariant.2 end
+      (subst (λ (ss : List SectionMeaning). PutsNotes g.S.Sink.takes (sections_depexes name ss) c.loop-section.out end)
+      (sym c.in-Some.ensures.steps)
+      (puts_then g.S.Sink.laws (section_depex name c.in-Some.section.now) (sections_depexes name left) _ _ _ c.put_section.ensures puts)),
+)
+
+pub returns : goal.returns
+returns g c =
+    let laws = g.S.Sink.laws in
+    let name = c.name-name.result in
+    let all = c.loop-section.invariant.2 c.loop-section.out
+    (subst (λ (ss : List SectionMeaning). PutsNotes g.S.Sink.takes (sections_depexes name ss) c.loop-section.out c.loop-section.out)
+    (sym c.in-None.ensures.steps.0) (puts_none laws c.loop-section.out)) in
+    subst (λ (xs : List HeldDepex). PutsNotes g.S.Sink.takes xs c.args.out.now c.loop-section.out)
+    (of_file c.args.file.now name _ c.name-name.ensures.name (c.into_iter-section-iterator.ensures.into_iter_gives ∙ c.of-section-items.ensures)) all

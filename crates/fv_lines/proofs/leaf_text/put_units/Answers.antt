@@ -5,7 +5,7 @@ use Rattle.std.specs.List.{flat_map}
 use Rattle.fv_base.specs.Sums.{words_of}
 use Rattle.fv_base.specs.Value.{le_at}
 use Rattle.fv_lines.specs.ListTexts.{unit_text}
-use Rattle.fv_lines.proofs.ListLemmas.{units_next}
+use Rattle.fv_lines.proofs.ListTextLemmas.{units_next}
 use Rattle.fv_lines.proofs.leaf_text.put_units.Goals as goal
 
 pub loop-rest-preserved : goal.loop-rest-preserved

@@ -7,12 +7,11 @@ use Rattle.fv_tree.specs.Views.{body_view, content_view}
 use Rattle.fv_tree.specs.declared.view.Body.{Body}
 use Rattle.fv_tree.specs.declared.view.Content.{Content}
 use Rattle.fv_tree.proofs.Laws.{content_falls, file_falls, section_body_falls}
-use Rattle.fv_lines.specs.DigestWalks.{Leaves}
-use Rattle.fv_lines.specs.inner.Indents.{levels}
-use Rattle.fv_lines.specs.ListTexts.{FileLines, SectionLines, volume_text}
-use Rattle.fv_lines.proofs.CoverLemmas.{covered_first, file_left, left_next, none_left, section_left}
-use Rattle.fv_lines.proofs.ListLemmas.{is_file, is_section, is_volume, one_more}
-use Rattle.fv_text.proofs.Laws.{tells_all, tells_none}
+use Rattle.fv_lines.specs.inner.LineRuns.{levels}
+use Rattle.fv_lines.specs.ListTexts.{Leaves, volume_text}
+use Rattle.fv_lines.proofs.CoverLemmas.{covered_first, file_left, section_left}
+use Rattle.fv_lines.proofs.ListTextLemmas.{file_more, is_volume, section_more}
+use Rattle.fv_text.proofs.Laws.{tells_all}
 use Rattle.fv_lines.proofs.list_text.+lines.Goals as goal
 
 -- ---- sections
@@ -26,31 +25,13 @@ put_sections-put_body-left-requires g t c κs within =
     c.loop-number.invariant.left in
     (omega (arith, c.decreases, less, same), (within.0, (within.1, covered_first g.D.Digests.laws _ _ left c.requires.covered)))
 
-pub put_sections-loop-number-init : goal.put_sections-loop-number-init
-put_sections-loop-number-init g t c = record { text = tells_none g.S.Sink.laws _ _ _; left = λ more now. now }
-
 pub put_sections-loop-number-preserved : goal.put_sections-loop-number-preserved
 put_sections-loop-number-preserved g t c =
-    let s : SectionMeaning = c.index-sections-number.result in
-    let line = c.put_section_line.ensures in
-    let inside = c.put_body-left.ensures.text in
-    let left = section_left _ g.D.Digests.laws c.args.sections.now _ s _ c.loop-number-test.true c.index-sections-number.is c.body.ensures
-    c.loop-number.invariant.left in
-    record {
-      text = one_more g.S.Sink.laws (SectionLines g.D.Digests.of_volume g.D.Digests.of_file (levels c.args.indent.now) _) (λ y text h. h) s _
-          inside.0 c.loop-number-test.true c.index-sections-number.is
-          (is_section g.D.Digests.of_volume g.D.Digests.of_file _ _ s _ line.0 inside.0 c.body.ensures line.1 inside.1)
-          c.loop-number.invariant.text line.2 inside.2;
-      left = left_next g.D.Digests.covers _ _ _ left c.put_body-left.ensures.rest;
-    }
+    section_more g.S.Sink.laws g.D.Digests.laws c.loop-number.invariant c.loop-number-test.true c.index-sections-number.is c.body.ensures
+    c.put_section_line.ensures c.put_body-left.ensures.text c.put_body-left.ensures.rest
 
 pub put_sections-returns-clause-text : goal.put_sections-returns-clause-text
 put_sections-returns-clause-text g t c = tells_all refl c.loop-number-test.false c.loop-number.invariant.text
-
-pub put_sections-returns-clause-rest : goal.put_sections-returns-clause-rest
-put_sections-returns-clause-rest g t c =
-    none_left g.D.Digests.covers _ (λ (ss : List SectionMeaning). volumes_in_sections (sections_from ss)) c.args.sections.now _
-    c.loop-number-test.false c.loop-number.invariant.left
 
 -- ---- bodies
 
@@ -99,31 +80,13 @@ put_files-put_content-left-requires g t c κs within =
     c.loop-number.invariant.left in
     (omega (arith, c.decreases, less, same, content_falls f), (within.0, (within.1, covered_first g.D.Digests.laws _ _ left c.requires.covered)))
 
-pub put_files-loop-number-init : goal.put_files-loop-number-init
-put_files-loop-number-init g t c = record { text = tells_none g.S.Sink.laws _ _ _; left = λ more now. now }
-
 pub put_files-loop-number-preserved : goal.put_files-loop-number-preserved
 put_files-loop-number-preserved g t c =
-    let f : FileMeaning = c.index-files-number.result in
-    let line = c.put_file_line.ensures in
-    let inside = c.put_content-left.ensures.text in
-    let left = file_left g.D.Digests.covers _ c.args.files.now _ f _ c.loop-number-test.true c.index-files-number.is c.content.ensures
-    c.loop-number.invariant.left in
-    record {
-      text = one_more g.S.Sink.laws (FileLines g.D.Digests.of_volume g.D.Digests.of_file (levels c.args.indent.now) _) (λ y text h. h) f _
-          inside.0 c.loop-number-test.true c.index-files-number.is
-          (is_file g.D.Digests.of_volume g.D.Digests.of_file _ _ f _ line.0 inside.0 c.content.ensures line.1 inside.1)
-          c.loop-number.invariant.text line.2 inside.2;
-      left = left_next g.D.Digests.covers _ _ _ left c.put_content-left.ensures.rest;
-    }
+    file_more g.S.Sink.laws c.loop-number.invariant c.loop-number-test.true c.index-files-number.is c.content.ensures
+    c.put_file_line.ensures c.put_content-left.ensures.text c.put_content-left.ensures.rest
 
 pub put_files-returns-clause-text : goal.put_files-returns-clause-text
 put_files-returns-clause-text g t c = tells_all refl c.loop-number-test.false c.loop-number.invariant.text
-
-pub put_files-returns-clause-rest : goal.put_files-returns-clause-rest
-put_files-returns-clause-rest g t c =
-    none_left g.D.Digests.covers _ (λ (fs : List FileMeaning). volumes_in_files (files_from fs)) c.args.files.now _
-    c.loop-number-test.false c.loop-number.invariant.left
 
 -- ---- volumes
 

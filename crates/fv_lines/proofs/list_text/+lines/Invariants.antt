@@ -1,29 +1,20 @@
-use Rattle.std.proofs.Common.{◌+◌, ◌*◌, drop}
+use Rattle.std.proofs.Common.{◌+◌, ◌*◌}
 use Rattle.fv_tree.specs.MeaningParts.{files_from, sections_from}
-use Rattle.fv_tree.specs.Volumes.{volumes_in_files, volumes_in_sections}
 use Rattle.fv_tree.specs.inner.Sizes.{volume_size, files_size, content_size, sections_size, body_size}
 use Rattle.fv_tree.specs.Views.{body_view, content_view}
-use Rattle.fv_lines.specs.DigestWalks.{Leaves}
-use Rattle.fv_lines.specs.inner.Indents.{levels}
-use Rattle.fv_lines.proofs.ListLemmas.{files_lines, sections_lines}
-use Rattle.fv_text.proofs.Laws.{Tells}
+use Rattle.fv_lines.specs.inner.LineRuns.{levels}
+use Rattle.fv_lines.proofs.ListTextLemmas.{Walked, files_lines, held_in_files, held_in_sections, sections_lines}
 use Rattle.fv_lines.proofs.list_text.+lines.Given as goal
 
 abbrev pub invariant-put_sections-loop-number : goal.invariant-put_sections-loop-number
-invariant-put_sections-loop-number g l = record {
-  text : Tells g.S.Sink.takes (sections_lines g.D.Digests.of_volume g.D.Digests.of_file (levels l.indent)) l.sections l.number
-      l.initial.out l.out;
-  left : Leaves g.D.Digests.covers l.fn.digests (volumes_in_sections (sections_from l.sections)) l.left
-      (volumes_in_sections (sections_from (drop l.number l.sections)));
-}
+invariant-put_sections-loop-number g l =
+    Walked g.S.Sink.takes g.D.Digests.covers (sections_lines g.D.Digests.of_volume g.D.Digests.of_file (levels l.indent)) held_in_sections
+    l.sections l.number l.initial.out l.out l.fn.digests l.left
 
 abbrev pub invariant-put_files-loop-number : goal.invariant-put_files-loop-number
-invariant-put_files-loop-number g l = record {
-  text : Tells g.S.Sink.takes (files_lines g.D.Digests.of_volume g.D.Digests.of_file (levels l.indent)) l.files l.number
-      l.initial.out l.out;
-  left : Leaves g.D.Digests.covers l.fn.digests (volumes_in_files (files_from l.files)) l.left
-      (volumes_in_files (files_from (drop l.number l.files)));
-}
+invariant-put_files-loop-number g l =
+    Walked g.S.Sink.takes g.D.Digests.covers (files_lines g.D.Digests.of_volume g.D.Digests.of_file (levels l.indent)) held_in_files
+    l.files l.number l.initial.out l.out l.fn.digests l.left
 
 abbrev pub decreases-put_sections : goal.decreases-put_sections
 decreases-put_sections g l = 2 * sections_size (sections_from l.sections.now)

@@ -3,7 +3,7 @@ use Rattle.fv_base.specs.Guids.{bytes_of}
 use Rattle.fv_base.specs.GuidTexts.{guid_text}
 use Rattle.fv_base.specs.declared.guid.Guid.{Guid}
 use Rattle.fv_text.specs.HexText.{two_digits}
-use Rattle.fv_lines.proofs.ListLemmas.{begun}
+use Rattle.fv_lines.proofs.ListTextLemmas.{begun}
 use Rattle.fv_lines.proofs.list_text.put_file_line.Goals as goal
 
 pub returns : goal.returns

@@ -2,7 +2,7 @@ use Rattle.std.proofs.Common.{◌++◌, ◌∷◌, ◌-◌, [], length, length-a
 use Rattle.fv_base.proofs.Laws.{err_is}
 use Rattle.fv_section.proofs.FrameLemmas.{size_least}
 use Rattle.fv_section.proofs.FrameWalkLemmas.{first_here, stands_within, step, whole_of}
-use Rattle.fv_section.proofs.StreamLaws.{tail_small}
+use Rattle.fv_section.proofs.StreamLemmas.{tail_small}
 use Rattle.fv_section.specs.Frames.{FrameForm}
 use Rattle.fv_section.specs.StreamReads.{frame_form}
 use Rattle.fv_section.proofs.frame_walk.stream_size.Goals as goal

@@ -1,5 +1,5 @@
 use Rattle.std.proofs.Common.{sym, ◌∙◌}
-use Rattle.fv_section.proofs.TextLemmas.{text_found, text_none}
+use Rattle.fv_section.proofs.SectionTextLemmas.{text_found, text_none}
 use Rattle.fv_section.proofs.texts.ui_text.Goals as goal
 
 pub returns-then-is_text-clause-found : goal.returns-then-is_text-clause-found

@@ -1,6 +1,6 @@
 use Rattle.std.proofs.Common.{subst, sym}
 use Rattle.fv_section.specs.Texts.{IsText}
-use Rattle.fv_section.proofs.TextLemmas.{version_none}
+use Rattle.fv_section.proofs.SectionTextLemmas.{version_none}
 use Rattle.fv_section.proofs.texts.version.Goals as goal
 
 pub returns-in_err-text-clause-none : goal.returns-in_err-text-clause-none

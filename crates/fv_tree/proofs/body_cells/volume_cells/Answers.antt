@@ -3,7 +3,6 @@ use Rattle.std.proofs.lemmas.List.{length-take-le}
 use Rattle.fv_base.proofs.Laws.{err_is}
 use Rattle.fv_base.specs.declared.fault.Fault.{Fault}
 use Rattle.fv_head.proofs.Laws.{fault_known, first_lies}
-use Rattle.fv_tree.proofs.ReadingLaws.{begun}
 use Rattle.fv_tree.proofs.VolumeCellLaws.{bad_cell, bad_header}
 use Rattle.fv_tree.proofs.body_cells.volume_cells.Goals as goal
 
@@ -39,7 +38,7 @@ returns-in_err-list-clause-err c =
 pub returns-in_err-list-clause-memory : goal.returns-in_err-list-clause-memory
 returns-in_err-list-clause-memory c =
     let found = c.in_ok-extent.ensures.found in
-    begun c.args.bytes.now c.from_residual-in_err-list.result found.0 c.in_ok-extent.extent found.1
+    rw (err_is c.from_residual-in_err-list.ensures.1) (λ want. (found.0, c.in_ok-extent.extent, found.1))
 
 pub returns-clause-found : goal.returns-clause-found
 returns-clause-found c =

@@ -1,19 +1,23 @@
-use Rattle.std.proofs.Common.{◌-◌, ◌∙◌, arith}
-use Rattle.fv_tree.specs.LookupInstances.{of_type, preorder}
-use Rattle.fv_tree.specs.MeaningParts.{sections_from}
-use Rattle.fv_tree.proofs.LookupLaws.{instance_at, sought_get, sought_none}
+use Rattle.std.proofs.Common.{◌≡◌, ◌∙◌, Bool, sym, ap, rules, tests}
+use Rattle.std.specs.Prelude.{◌==◌, option_copied}
+use Rattle.std.proofs.lemmas.Iterator.Consumers.{YieldsList-from_filter, YieldsList-from_first}
+use Rattle.fv_tree.specs.LookupInstances.{preorder, section_of_type}
+use Rattle.fv_tree.specs.Meaning.{SectionMeaning, content_of}
+use Rattle.fv_tree.specs.MeaningParts.{section_kind_of, sections_in_data}
+use Rattle.fv_tree.proofs.LookupLaws.{numbered_is}
+use Rattle.fv_tree.proofs.lookup.section_lookup.Goals.{After-numbered}
 use Rattle.fv_tree.proofs.lookup.section_lookup.Goals as goal
 
-pub returns-in-Ok : goal.returns-in-Ok
-returns-in-Ok c =
-    instance_at c.args.instance (c.args.instance - 1) (of_type c.args.kind (preorder (sections_from c.args.sections.now)))
-    (omega (arith, c.if-instance-eq0.false))
-    ∙ sought_get (c.args.instance - 1)
-    (of_type c.args.kind (preorder (sections_from c.args.sections.now))) c.in-Ok.section.now c.in-Ok.ensures.ok
+found : (c : After-numbered) → option_copied c.numbered.result
+    ≡ section_of_type c.args.kind c.args.instance (sections_in_data (content_of c.args.file.now))
+found c =
+    let test : SectionMeaning → Bool = λ s. section_kind_of s == c.args.kind in
+    numbered_is c.numbered.result c.args.instance c.numbered.ensures.zero c.numbered.ensures.nth
+    (YieldsList-from_filter _ test (YieldsList-from_first (λ s. s.now) (λ left. left)
+    (preorder (sections_in_data (content_of c.args.file.now))) (cc)) c.filter-sections.ensures.closure (λ x r q k. search (rules, tests)))
 
-pub returns-in-Err : goal.returns-in-Err
-returns-in-Err c =
-    instance_at c.args.instance (c.args.instance - 1) (of_type c.args.kind (preorder (sections_from c.args.sections.now)))
-    (omega (arith, c.if-instance-eq0.false))
-    ∙ sought_none (c.args.instance - 1)
-    (of_type c.args.kind (preorder (sections_from c.args.sections.now))) c.in-Err.field-0 c.in-Err.ensures.err
+pub returns-in-Some : goal.returns-in-Some
+returns-in-Some c = sym (found (goal.at.returns-in-Some c).After-numbered) ∙ ap option_copied c.in-Some.is
+
+pub returns-in-None : goal.returns-in-None
+returns-in-None c = sym (found (goal.at.returns-in-None c).After-numbered) ∙ ap option_copied c.in-None.is

@@ -18,22 +18,20 @@ use Rattle.fv_section.specs.StreamReads as framed
 use Rattle.fv_tree.specs.inner.ReadingParts.{IsReadyFile}
 use Rattle.fv_tree.specs.Denotes.{Denotes, MeansFile, MeansSection, Stream}
 use Rattle.fv_names.specs.NameIndexes.{IsIndex, entries_of}
-use Rattle.fv_tree.specs.Files.{FileForm}
 use Rattle.fv_tree.specs.FirstFault.{FileFault, InStream, data_at}
 use Rattle.fv_tree.specs.Meaning.{Volume, File, SectionMeaning, Section, Group, Nested, length_of}
 use Rattle.fv_tree.specs.MeaningParts.{files_from, sections_from}
 use Rattle.fv_tree.specs.LocatedFiles.{file_form}
 use Rattle.fv_tree.specs.Views.{content_view}
+use Rattle.fv_tree.specs.VolumeFiles.{FileForm}
 use Rattle.fv_tree.proofs.BodyLaws.{files_first}
-use Rattle.fv_tree.proofs.FileLaws.{stream_reads}
 use Rattle.fv_tree.proofs.LengthLaws.{body_long, content_long}
 use Rattle.fv_tree.proofs.ListPairs.{of_item, kept_pairs, first_refused, all_pairs}
 use Rattle.fv_tree.proofs.NamedLaws.{no_file, read_names}
-use Rattle.fv_tree.proofs.ReadingLaws.{begun}
-use Rattle.fv_tree.proofs.SectionLaws.{leaf_shape, group_shape, volume_shape, leaf_is, group_found, group_first}
-use Rattle.fv_tree.proofs.SectionLaws.{one_place, nested_found, nested_first, deep_fault}
-use Rattle.fv_tree.proofs.StreamLaws.{frame_small, walk_ready, walk_begun, walk_more, walk_first, walk_found}
-use Rattle.fv_tree.proofs.VolumeLaws.{made, head_first, opened_whole}
+use Rattle.fv_tree.proofs.SectionShapeLaws.{leaf_shape, group_shape, volume_shape, leaf_is, group_found, group_first}
+use Rattle.fv_tree.proofs.SectionShapeLaws.{one_place, nested_found, nested_first, deep_fault, stream_reads}
+use Rattle.fv_tree.proofs.StreamWalkLaws.{frame_small, walk_ready, walk_begun, walk_more, walk_first, walk_found}
+use Rattle.fv_tree.proofs.VolumePartLaws.{made, head_first, opened_whole}
 use Rattle.fv_tree.proofs.read.+read.Goals.{read_file-After-without_large-attributes, read_section-In_ok-sections-in-Group}
 use Rattle.fv_tree.proofs.read.+read.Goals.{read_section-In_ok-nested-in-Volume, read_at-In_ok-views}
 use Rattle.fv_tree.proofs.read.+read.Goals as goal
@@ -180,7 +178,8 @@ pub read_at-returns-in_err-files-clause-length : goal.read_at-returns-in_err-fil
 read_at-returns-in_err-files-clause-length t c = rw (err_is c.from_residual.ensures.1) tt
 
 pub read_at-returns-in_err-files-clause-memory : goal.read_at-returns-in_err-files-clause-memory
-read_at-returns-in_err-files-clause-memory t c = begun _ c.from_residual.result c.in-Ok.read.0 c.in-Ok.read.1 c.in-Ok.ensures.found
+read_at-returns-in_err-files-clause-memory t c =
+    rw (err_is c.from_residual.ensures.1) (λ want. (c.in-Ok.read.0, c.in-Ok.read.1, c.in-Ok.ensures.found))
 
 pub read_at-returns-in_err-views-clause-read : goal.read_at-returns-in_err-views-clause-read
 read_at-returns-in_err-views-clause-read t c =
@@ -200,7 +199,7 @@ read_at-returns-in_err-views-clause-length t c = rw (err_is c.from_residual-in_e
 
 pub read_at-returns-in_err-views-clause-memory : goal.read_at-returns-in_err-views-clause-memory
 read_at-returns-in_err-views-clause-memory t c =
-    begun _ c.from_residual-in_err-views.result c.in-Ok.read.0 c.in-Ok.read.1 c.in-Ok.ensures.found
+    rw (err_is c.from_residual-in_err-views.ensures.1) (λ want. (c.in-Ok.read.0, c.in-Ok.read.1, c.in-Ok.ensures.found))
 
 -- the volume that is read has this meaning
 volume_made : (t : ℕ) (c : read_at-In_ok-views t) → Denotes c.args.at.left (take c.in-Ok.read.1.length c.args.bytes.now)

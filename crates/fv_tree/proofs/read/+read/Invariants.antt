@@ -1,7 +1,7 @@
 use Rattle.std.proofs.Common.{◌+◌, ◌*◌, length, take, map}
 use Rattle.fv_tree.specs.Denotes.{Pairwise, MeansFile, Stream}
 use Rattle.fv_tree.specs.LocatedFiles.{file_form}
-use Rattle.fv_tree.proofs.StreamLaws.{Walked}
+use Rattle.fv_tree.proofs.StreamWalkLaws.{Walked}
 use Rattle.fv_tree.proofs.read.+read.Given as goal
 
 abbrev pub invariant-read_stream-loop-frame : goal.invariant-read_stream-loop-frame

@@ -6,7 +6,6 @@ use Rattle.fv_head.proofs.Laws.{fault_known}
 use Rattle.fv_tree.specs.LocatedFiles.{file_form}
 use Rattle.fv_tree.proofs.LocatedLaws.{located_data, located_stand}
 use Rattle.fv_tree.proofs.MeaningLaws.{one_stand}
-use Rattle.fv_tree.proofs.ReadingLaws.{begun}
 use Rattle.fv_tree.proofs.RefusalLaws.{files_refused}
 use Rattle.fv_tree.proofs.stored_files.located_files.Goals as goal
 
@@ -37,4 +36,4 @@ returns-in_err-extent-clause-memory c =
 pub returns-in_err-files-clause-memory : goal.returns-in_err-files-clause-memory
 returns-in_err-files-clause-memory c =
     let front = c.in_ok-extent.ensures.found in
-    begun c.args.bytes.now c.from_residual-in_err-files.result front.0 c.in_ok-extent.extent front.1
+    rw (err_is c.from_residual-in_err-files.ensures.1) (λ want. (front.0, c.in_ok-extent.extent, front.1))

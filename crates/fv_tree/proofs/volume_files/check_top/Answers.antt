@@ -1,14 +1,14 @@
-use Rattle.std.proofs.Common.{◌≡◌, ◌∙◌, ℕ, ◌+◌, ◌-◌, sym, ap, arith, [], take, drop, get_or, map, List, true}
+use Rattle.std.proofs.Common.{◌≡◌, ◌∙◌, ℕ, ◌+◌, ◌-◌, sym, ap, arith, [], length, take, drop, get_or, map, List, true}
 use Rattle.std.specs.Prelude.{◌==◌, ◌&&◌, ◌||◌, not}
 use Rattle.std.proofs.lemmas.Bool.Decides.{Decides-eqb}
-use Rattle.std.proofs.lemmas.List.{length-map, take_all}
-use Rattle.fv_base.proofs.Laws.{err_is}
+use Rattle.std.proofs.lemmas.List.{length-drop, length-map, take_all}
+use Rattle.fv_base.proofs.Laws.{err_is, more_items, seam_items}
 use Rattle.fv_base.specs.Faults.{outer_fault}
 use Rattle.fv_base.specs.declared.fault.FaultKind.TheVariants as kinds
-use Rattle.fv_tree.specs.Files.{FileForm, is_top, end_of}
 use Rattle.fv_tree.specs.LocatedFiles.{file_form}
+use Rattle.fv_tree.specs.VolumeFiles.{FileForm, is_top, end_of}
 use Rattle.fv_tree.proofs.NamedLaws.{no_file}
-use Rattle.fv_tree.proofs.NameLaws.{more_items, seam_items, none_push, top_last, placed, misplaced, not_top_yet, after_none}
+use Rattle.fv_tree.proofs.NameLaws.{none_push, top_last, placed, misplaced, not_top_yet}
 use Rattle.fv_tree.proofs.volume_files.check_top.Goals as goal
 
 pub returns-in_err-check-clause-first : goal.returns-in_err-check-clause-first
@@ -20,7 +20,7 @@ returns-in_err-check-clause-first c =
     ∙ c.in_err-check.ensures.err.0) in
     let off : drop (i + 1) all ≡ [] → end_of f ≡ c.args.length → ⊥ = λ none ends.
     bad.1 ((Decides-eqb (c.loop-file.left - 1) 0).1 (omega
-    (arith, after_none all i none, length-map c.args.files.now file_form, c.loop-file.invariant.count, c.loop-file-test.true)))
+    (arith, ap length none, length-drop (i + 1) all, length-map c.args.files.now file_form, c.loop-file.invariant.count, c.loop-file-test.true)))
     ((Decides-eqb (end_of f) c.args.length).1 ends) in
     rw (err_is c.from_residual.ensures.1) (
       f,

@@ -3,8 +3,8 @@ use Rattle.std.specs.List.{AllByRecursion}
 use Rattle.fv_base.proofs.Laws.{err_is}
 use Rattle.fv_base.specs.Faults.{outer_fault}
 use Rattle.fv_base.specs.declared.fault.FaultKind.TheVariants as kinds
-use Rattle.fv_tree.specs.Files.{FileForm, TopAtEnd}
 use Rattle.fv_tree.specs.FirstFault.{TopElsewhere}
+use Rattle.fv_tree.specs.VolumeFiles.{FileForm, TopAtEnd}
 use Rattle.fv_names.specs.NamedFiles.{names_in}
 use Rattle.fv_names.specs.NameIndexes.{Entry, IsIndex, entries_of}
 use Rattle.fv_tree.specs.LocatedFiles.{file_form}

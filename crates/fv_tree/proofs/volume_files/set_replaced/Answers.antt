@@ -7,8 +7,8 @@ use Rattle.fv_names.specs.NamedFiles as names
 use Rattle.fv_names.specs.NamedFiles.{NamedFile, names_in}
 use Rattle.fv_names.specs.NameIndexes.{Entry, IsIndex, entries_of}
 use Rattle.fv_names.proofs.Laws.{entry_of, no_entry, no_named}
-use Rattle.fv_tree.specs.Files.{FileForm, NoTwins, is_marked, replaced_by}
 use Rattle.fv_tree.specs.LocatedFiles.{file_form, state_by}
+use Rattle.fv_tree.specs.VolumeFiles.{FileForm, NoTwins, is_marked, replaced_by}
 use Rattle.fv_tree.specs.inner.NameForms.{named_file}
 use Rattle.fv_tree.specs.inner.ReadingParts.{is_noted}
 use Rattle.fv_tree.specs.declared.volume_files.LocatedFile.{LocatedFile}

@@ -1,5 +1,5 @@
 use Rattle.std.proofs.Common.{◌∙◌}
-use Rattle.fv_file.proofs.AttributeLemmas.{bit_2}
+use Rattle.fv_file.proofs.FileAttributeLemmas.{bit_2}
 use Rattle.fv_file.proofs.attributes.FileAttributes.is_fixed.Goals as goal
 
 pub returns : goal.returns

@@ -1,5 +1,5 @@
 use Rattle.std.proofs.Common.{rules, sym}
-use Rattle.fv_head.proofs.AttributeLemmas.{bit_11}
+use Rattle.fv_head.proofs.VolumeAttributeLemmas.{bit_11}
 use Rattle.fv_head.proofs.attributes.FvAttributes.polarity.Goals as goal
 
 pub returns-then-contains : goal.returns-then-contains

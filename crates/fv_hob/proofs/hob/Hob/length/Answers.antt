@@ -1,5 +1,5 @@
 use Rattle.std.proofs.Common.{arith, rules}
-use Rattle.fv_hob.proofs.BlockLemmas.{len_small}
+use Rattle.fv_hob.proofs.HobCheckLemmas.{len_small}
 use Rattle.fv_hob.proofs.hob.Hob.length.Goals as goal
 
 pub overflow_cast-result : goal.overflow_cast-result

@@ -1,4 +1,4 @@
-use Rattle.fv_text.specs.inner.HexLaws.{gathered_joined}
+use Rattle.fv_text.specs.inner.SinkAdapterLaws.{gathered_joined}
 use Rattle.fv_text.proofs.gathering.GatheringSinkSink.put.Goals as goal
 
 pub returns-then-bytes-le-ROOM : goal.returns-then-bytes-le-ROOM

@@ -1,6 +1,6 @@
 use Rattle.std.proofs.Common.{sym, arith}
 use Rattle.std.proofs.lemmas.Option.{slice_get_read, slice_get_past}
-use Rattle.fv_tree.proofs.VolumeLaws.{files_list_back}
+use Rattle.fv_tree.proofs.VolumePartLaws.{files_list_back}
 use Rattle.fv_tree.proofs.view.VolumeView.file.Goals as goal
 
 pub returns-then-at-len : goal.returns-then-at-len

@@ -1,0 +1,32 @@
+-- The sections that a walk keeps, what it has found, and what is in the caller's buffer after a call.
+use Rattle.std.specs.Prelude.{◌≡◌, ◌⊎◌, ℕ, List, Option, Some, None, ◌≢◌, ◌<◌, ◌≤◌, ◌++◌, length, drop}
+use Rattle.fv_base.specs.Faults.{out_of_memory}
+use Rattle.fv_base.specs.declared.fault.Fault.{Fault}
+use Rattle.fv_canon.specs.LayoutFaults.{FirstUnfit}
+use Rattle.fv_c.specs.ExtractedParts.{PartMeaning, IsPartImage, volumes_in_part}
+use Rattle.fv_c.specs.ReportedFiles.{SectionRow}
+use Rattle.fv_c.specs.declared.parts.PlacedSection.{PlacedSection}
+
+-- a section that the walk has kept
+abbrev pub row_form : PlacedSection → SectionRow
+row_form p = record { parent = p.parent; depth = p.depth; section = p.section.now }
+
+-- the bytes of the part, if there is one
+abbrev pub ShowsPart : Option PartMeaning → Option (List ℕ) → Type 0
+ShowsPart None None = Unit {0}
+ShowsPart None (Some bytes) = ⊥
+ShowsPart (Some p) None = ⊥
+ShowsPart (Some p) (Some bytes) = IsPartImage p bytes
+
+-- memory ran out, or there is a part, and this is the fault of the first volume in it that does not fit
+abbrev pub StopsPart : Option PartMeaning → Fault → Type 0
+StopsPart None f = f ≡ out_of_memory
+StopsPart (Some p) f = (f ≡ out_of_memory) ⊎ FirstUnfit (volumes_in_part p) 0 f
+
+-- the buffer begins with the rows, and holds what it held after them; or it has fewer elements and is as it was
+pub record IsWritten {A : Type 0} (rows old new : List A) (result : ℕ) : Type 0 where
+  pub ok : result ≡ 0 → new ≡ rows ++ drop (length rows) old
+  pub kept : result ≢ 0 → new ≡ old
+  pub small : result ≡ 256 → length old < length rows
+  pub room : result ≡ 0 → length rows ≤ length old
+  pub only : (result ≡ 0) ⊎ (result ≡ 256)

@@ -1,0 +1,45 @@
+-- How far a walk over an image has come: what laws and invariants say of it, besides the parts of the image itself.
+use Rattle.std.proofs.Common.{◌≡◌, ℕ, ◌-◌, List, [], ◌++◌, length, drop, replicate}
+use Rattle.std.specs.Str.{bytes_eq}
+use Rattle.fv_base.specs.Alignment.{alignment_of}
+use Rattle.fv_base.specs.Guids.{bytes_of}
+use Rattle.fv_section.specs.Frames.{FrameForm, frame_len, up_to_4}
+use Rattle.fv_section.specs.SectionImage.{section_head_of}
+use Rattle.fv_tree.specs.Meaning.{SectionMeanings, NoSections, MoreSections}
+use Rattle.fv_tree.specs.VolumeFiles.{top_name}
+use Rattle.fv_tree.specs.Volumes.{Inside, volumes_in_section}
+use Rattle.fv_placement.specs.declared.first_placement.LayoutItem.{LayoutItem}
+use Rattle.fv_canon.specs.LayoutForms.{BeginsWithStarts}
+use Rattle.fv_canon.specs.StoredFiles.{StoredFile, head_len_for, stored_len}
+use Rattle.fv_canon.specs.inner.ImageOf.{frame_of, starts_in}
+
+-- what the layout knows of a file
+abbrev pub stored_item : StoredFile → LayoutItem
+stored_item f = record {
+  header = head_len_for (length f.payload);
+  size = stored_len f;
+  alignment = alignment_of f.attributes;
+  top = bytes_eq (bytes_of f.name) top_name;
+}
+
+-- a frame: header and body
+abbrev pub frame_bytes : FrameForm → List ℕ
+frame_bytes f = section_head_of f.kind f.extended (length f.body) ++ f.body
+
+-- sections with the zero bytes between them; `gap` zero bytes come before the first
+abbrev pub sections_bytes : ℕ → SectionMeanings → List ℕ → List ℕ
+sections_bytes gap NoSections starts = []
+sections_bytes gap (MoreSections s ss) starts =
+    (replicate gap 0 ++ frame_bytes (frame_of 0 s starts))
+    ++ sections_bytes (up_to_4 (frame_len (frame_of 0 s starts)) - frame_len (frame_of 0 s starts)) ss
+    (drop (starts_in (volumes_in_section s)) starts)
+
+-- a walk comes to these volumes: the starts that are left begin with theirs, and `last` are those after them
+abbrev pub ComesTo : List Inside → List ℕ → List ℕ → Type 0
+ComesTo vs starts last = record { laid : BeginsWithStarts vs starts; left : drop (starts_in vs) starts ≡ last }
+
+-- the first bytes of the whole were taken, and `rest` is left
+pub record TakesFront {S : Type 0} (takes : S → List ℕ → S → Type 0) (s t : S) (whole rest : List ℕ) : Type 0 where
+  pub front : List ℕ
+  pub taken : takes s front t
+  pub whole_is : front ++ rest ≡ whole

@@ -1,0 +1,162 @@
+-- What is known of a file that was read and laid out, and how the files of a volume go on. The steps:
+-- 1. Its data are as long as the layout knows (`file_long`, `size_is`).
+-- 2. At its place it is known where it begins and ends (`here_is`, `at_file`).
+-- 3. A walk has left its gap, itself and its filler, and then the files after it (`walk_goes`), and at the end erased bytes (`files_end`).
+use Rattle.std.proofs.lemmas.Grind.{common_steps}
+use Rattle.std.proofs.Common.{◌≡◌, ◌≤◌, ◌<◌, ◌⊎◌, inl, inr, ◌+◌, ◌-◌, ◌%◌, ℕ, List, ◌∷◌, ◌++◌, length, drop, replicate}
+use Rattle.std.proofs.Common.{get_or, refl, ap, ◌∙◌, subst, arith, append_assoc, length-drop}
+use Rattle.std.proofs.lemmas.List.{drop_all, drop_more, length-map}
+use Rattle.fv_base.specs.Flash.{erased_byte}
+use Rattle.fv_base.specs.Measures.{data_limit}
+use Rattle.fv_base.specs.Value.{up_to_8}
+use Rattle.fv_base.specs.declared.flash.Polarity.{Polarity}
+use Rattle.fv_file.specs.NewHeaders.{file_sum_for, file_head_of, needs_large}
+use Rattle.fv_file.proofs.Laws.{cell_read, header_least}
+use Rattle.fv_placement.specs.Starts.{StandsInVolume}
+use Rattle.fv_tree.specs.Meaning.{FileMeaning, File, file_name_of, attributes_of, content_of, data_len_of}
+use Rattle.fv_tree.specs.MeaningParts.{files_from, file_kind_of}
+use Rattle.fv_tree.specs.ReadParts.{IsReadFile}
+use Rattle.fv_tree.specs.Denotes.{MeansSection, Stream}
+use Rattle.fv_canon.specs.inner.ImageOf.{stored_of, stored_file, data_of, starts_in, files_bytes}
+use Rattle.fv_canon.specs.LayoutForms.{BeginsWithStarts}
+use Rattle.fv_canon.proofs.ImageParts.{ComesTo, TakesFront}
+use Rattle.fv_canon.specs.Layouts.{layout_item}
+use Rattle.fv_tree.specs.Volumes.{volumes_in_files, volumes_in_file}
+use Rattle.fv_canon.specs.StoredFiles.{stored_len, size_for, head_len_for, stored_bytes, gap_bytes}
+use Rattle.fv_base.proofs.Laws.{item_at}
+use Rattle.fv_canon.proofs.VolumeListLaws.{item_last, item_passed}
+use Rattle.fv_canon.proofs.WrittenImageLaws.{data_made, stream_made, sections_made}
+use Rattle.fv_placement.proofs.Laws.{follow_length}
+use Rattle.fv_canon.proofs.StreamImageLaws.{stream_again}
+use Rattle.fv_canon.proofs.VolumeImageLaws.{data_again, sections_again}
+use Rattle.fv_canon.specs.inner.FileWalks.{ArePlaced}
+use Rattle.fv_base.specs.Sinks.{WalkLaws}
+
+-- ---- a file
+pub file_long : (m : FileMeaning) (starts : List ℕ) → IsReadFile m → BeginsWithStarts (volumes_in_file m) starts
+    → length (data_of (content_of m) starts) ≡ data_len_of m
+file_long (File name kind attributes content) starts (n, l, f, (system, p, b, small, most, cell), (named, kinds, bits, is))
+    (laid, more, text, lays) =
+    let r = cell_read system p f.offset f.head f.payload b small cell in
+    let image = data_made (Stream n) (stream_made (MeansSection n) (sections_made n)) kind content f.payload laid more r.payload is lays in
+    let again = data_again (Stream n) (stream_again (MeansSection n) (sections_again n)) kind content f.payload
+    (data_of content (laid ++ more)) r.payload is image in
+    ap (λ (xs : List ℕ). length (data_of content xs)) text ∙ again.len
+
+pub stored_is : (p : Polarity) (m : FileMeaning) (starts : List ℕ) → length (data_of (content_of m) starts) ≡ data_len_of m
+    → stored_bytes p (stored_file m starts) ≡ file_head_of (file_name_of m) (file_kind_of m) (record { 0 = attributes_of m })
+    (data_len_of m) (file_sum_for (attributes_of m) (data_of (content_of m) starts)) p ++ data_of (content_of m) starts
+unfolding stored_bytes
+stored_is p (File name kind attributes content) starts long = grind (arith, common_steps)
+
+pub size_is : (m : FileMeaning) (starts : List ℕ) → length (data_of (content_of m) starts) ≡ data_len_of m
+    → stored_len (stored_file m starts) ≡ size_for (data_len_of m)
+size_is (File name kind attributes content) starts long = ap size_for long
+
+-- ---- the walk over the files
+
+-- what is known of the file at a place
+pub record Here (total e : ℕ) (f : FileMeaning) (s : ℕ) : Type 0 where
+  pub stands : StandsInVolume total e (layout_item f) s
+  pub low : e ≤ s
+  pub apart : (s - e ≡ 0) ⊎ (24 ≤ s - e)
+  pub multiple : (s - e) % 8 ≡ 0
+  pub most : data_len_of f ≤ data_limit
+  pub ends : s + size_for (data_len_of f) ≤ total
+  pub next : up_to_8 (s + size_for (data_len_of f)) ≤ total
+
+pub own_length : (total e : ℕ) (fs : List FileMeaning) (own : List ℕ) (i : ℕ) → i < length fs → ArePlaced total e (drop i fs) (drop i own)
+    → i < length own
+own_length total e fs own i l placed = grind (arith, common_steps, follow_length, length-map, length-drop)
+
+pub here_is : (total e : ℕ) (f : FileMeaning) (fs : List FileMeaning) (s : ℕ) (ss : List ℕ) → ArePlaced total e (f ∷ fs) (s ∷ ss)
+    → Here total e f s
+here_is total e f fs s ss placed =
+    let st = placed.follow.0 in
+    record {
+      stands = st;
+      low = low st.lawful.apart;
+      apart = apart st.lawful.apart;
+      multiple = eighth st.lawful.apart;
+      most =
+          small (data_len_of f) (head_len_for (data_len_of f)) (header_least (needs_large (data_len_of f))) (low st.lawful.apart) st.within;
+      ends = st.within;
+      next = omega (arith, st.within, placed.multiple);
+    }
+  where
+    low : (s ≡ e) ⊎ (e + 24 ≤ s) → e ≤ s
+    low (inl a) = omega arith
+    low (inr a) = omega arith
+
+    apart : (s ≡ e) ⊎ (e + 24 ≤ s) → (s - e ≡ 0) ⊎ (24 ≤ s - e)
+    apart (inl a) = inl (omega arith)
+    apart (inr a) = inr (omega arith)
+
+    eighth : (s ≡ e) ⊎ (e + 24 ≤ s) → (s - e) % 8 ≡ 0
+    eighth a = omega (arith, placed.eighth, placed.follow.0.lawful.eighth)
+
+    small : (n k : ℕ) → 24 ≤ k → e ≤ s → s + (k + n) ≤ total → n ≤ data_limit
+    small n k l o w = omega (arith, l, o, w, placed.behind, placed.limit)
+
+pub placed_on : (total e : ℕ) (f : FileMeaning) (fs : List FileMeaning) (s : ℕ) (ss : List ℕ) → ArePlaced total e (f ∷ fs) (s ∷ ss)
+    → ArePlaced total (up_to_8 (s + size_for (data_len_of f))) fs ss
+placed_on total e f fs s ss placed = grind (arith, common_steps, here_is)
+
+-- the files from a place on are the one there, and then those after it
+pub files_go : (p : Polarity) (total e : ℕ) (f : FileMeaning) (fs : List FileMeaning) (s : ℕ) (ss starts : List ℕ)
+    → stored_len (stored_file f starts) ≡ size_for (data_len_of f)
+    → files_bytes p total e (stored_of (files_from (f ∷ fs)) starts) (s ∷ ss)
+    ≡ (gap_bytes p (s - e) ++ (stored_bytes p (stored_file f starts)
+    ++ replicate (up_to_8 (s + size_for (data_len_of f)) - (s + size_for (data_len_of f))) (erased_byte p)))
+    ++ files_bytes p total (up_to_8 (s + size_for (data_len_of f))) (stored_of (files_from fs) (drop (starts_in (volumes_in_file f))
+    starts)) ss
+files_go p total e f fs s ss starts size = grind (arith, common_steps, append_assoc)
+
+-- the file at a place of the walk
+pub record AtFile (total e : ℕ) (fs : List FileMeaning) (own : List ℕ) (i : ℕ) (f : FileMeaning) : Type 0 where
+  pub files : drop i fs ≡ f ∷ drop (i + 1) fs
+  pub starts : drop i own ≡ get_or own i 0 ∷ drop (i + 1) own
+  pub placed : ArePlaced total e (f ∷ drop (i + 1) fs) (get_or own i 0 ∷ drop (i + 1) own)
+  pub here : Here total e f (get_or own i 0)
+
+pub at_file : (total e : ℕ) (fs : List FileMeaning) (own : List ℕ) (i : ℕ) (f : FileMeaning) → i < length fs → f ≡ get_or fs i f
+    → ArePlaced total e (drop i fs) (drop i own) → AtFile total e fs own i f
+at_file total e fs own i f l is placed =
+    let files = item_at fs i f l is in
+    let starts = drop_more own i 0 (own_length total e fs own i l placed) in
+    let both = subst (λ (xs : List ℕ). ArePlaced total e (f ∷ drop (i + 1) fs) xs) starts
+    (subst (λ (xs : List FileMeaning). ArePlaced total e xs (drop i own)) files placed) in
+    record {
+      files = files;
+      starts = starts;
+      placed = both;
+      here = here_is total e f (drop (i + 1) fs) (get_or own i 0) (drop (i + 1) own) both;
+    }
+
+-- the starts of the file at a place, and of those after it
+pub file_passed : (fs : List FileMeaning) (i : ℕ) (f : FileMeaning) (starts last : List ℕ) → i < length fs → f ≡ get_or fs i f
+    → ComesTo (volumes_in_files (files_from (drop i fs))) starts last
+    → BeginsWithStarts (volumes_in_file f) starts
+    × ComesTo (volumes_in_files (files_from (drop (i + 1) fs))) (drop (starts_in (volumes_in_file f)) starts) last
+file_passed = item_passed (λ xs. volumes_in_files (files_from xs)) volumes_in_file refl (λ x xs. refl)
+
+pub files_last : (fs : List FileMeaning) (i : ℕ) (starts last : List ℕ) → length fs ≤ i
+    → ComesTo (volumes_in_files (files_from (drop i fs))) starts last → starts ≡ last
+files_last = item_last (λ xs. volumes_in_files (files_from xs)) volumes_in_file refl (λ x xs. refl)
+
+-- the walk at a file: what is left is its gap, itself and its filler, and then the files after it
+pub walk_goes : (p : Polarity) (total e : ℕ) (fs : List FileMeaning) (own : List ℕ) (i : ℕ) (f : FileMeaning) (starts : List ℕ)
+    → AtFile total e fs own i f → stored_len (stored_file f starts) ≡ size_for (data_len_of f)
+    → files_bytes p total e (stored_of (files_from (drop i fs)) starts) (drop i own)
+    ≡ (gap_bytes p (get_or own i 0 - e) ++ (stored_bytes p (stored_file f starts)
+    ++ replicate (up_to_8 (get_or own i 0 + size_for (data_len_of f)) - (get_or own i 0 + size_for (data_len_of f))) (erased_byte p)))
+    ++ files_bytes p total (up_to_8 (get_or own i 0 + size_for (data_len_of f)))
+    (stored_of (files_from (drop (i + 1) fs)) (drop (starts_in (volumes_in_file f)) starts)) (drop (i + 1) own)
+walk_goes p total e fs own i f starts at size = grind (arith, common_steps, files_go)
+
+-- where no file is left, erased bytes to the end make the whole
+pub files_end : {S : Type 0} (takes : S → List ℕ → S → Type 0) → WalkLaws takes
+    → (p : Polarity) (total edge : ℕ) (fs : List FileMeaning) (own rest : List ℕ) (i : ℕ) (s t u : S) (whole : List ℕ) → length fs ≤ i
+    → TakesFront takes s t whole (files_bytes p total edge (stored_of (files_from (drop i fs)) rest) (drop i own))
+    → takes t (replicate (total - edge) (erased_byte p)) u → takes s whole u
+files_end takes laws p total edge fs own rest i s t u whole end f filled = grind (arith, common_steps, drop_all)

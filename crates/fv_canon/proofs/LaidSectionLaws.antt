@@ -1,0 +1,164 @@
+-- What is known of a section that was read and laid out, and how a stream goes on. The steps:
+-- 1. Its body is as long as the layout knows, and fits the form of its header (`section_known`).
+-- 2. A stream is its first section, and then the others (`stream_goes`, `stream_whole`).
+-- 3. A walk puts filler, header and body of each section (`goes_on`, `front_more`), and at the end the tail (`front_end`).
+use Rattle.std.proofs.lemmas.Grind.{common_steps}
+use Rattle.std.proofs.Common.{◌≡◌, ◌≤◌, ◌<◌, ◌+◌, ◌-◌, ◌^◌, ℕ, zero, suc, Bool, List, [], ◌∷◌, ◌++◌, length, drop, replicate, get_or, refl}
+use Rattle.std.proofs.Common.{sym, ap, ◌∙◌, subst, arith, append_assoc, append-nil, length-drop}
+use Rattle.std.proofs.lemmas.List.{drop_all}
+use Rattle.fv_base.specs.Value.{IsBytes}
+use Rattle.fv_base.specs.Limits.{volume_limit}
+use Rattle.fv_base.specs.Sinks.{WalkLaws}
+use Rattle.fv_base.proofs.Laws.{bytes_drop, item_at}
+use Rattle.fv_section.specs.Frames.{FrameForm, section_header_len, frame_len, up_to_4}
+use Rattle.fv_section.specs.StreamReads.{FitsForm}
+use Rattle.fv_section.specs.SectionImage.{section_head_of, stream_of}
+use Rattle.fv_section.proofs.Laws.{begun_bytes, fits, length_begun}
+use Rattle.fv_tree.specs.Meaning.{SectionMeanings, NoSections, MoreSections, SectionMeaning, Section, body_len}
+use Rattle.fv_tree.specs.MeaningParts.{sections_from, body_of, section_is_extended, section_kind_of}
+use Rattle.fv_tree.specs.Meaning.{section_len}
+use Rattle.fv_tree.specs.Denotes.{MeansSection}
+use Rattle.fv_tree.specs.ReadParts.{IsReadSection}
+use Rattle.fv_canon.specs.inner.ImageOf.{frames_of, frame_of, body_image, starts_in}
+use Rattle.fv_canon.proofs.ImageParts.{frame_bytes, sections_bytes, ComesTo, TakesFront}
+use Rattle.fv_canon.specs.LayoutForms.{BeginsWithStarts}
+use Rattle.fv_tree.specs.Volumes.{volumes_in_section, volumes_in_sections, volumes_in_body}
+use Rattle.fv_tree.proofs.Laws.{in_section}
+use Rattle.fv_canon.proofs.VolumeListLaws.{count_deeper, item_passed, laid_higher}
+use Rattle.fv_canon.proofs.WrittenImageLaws.{sections_made}
+use Rattle.fv_canon.proofs.VolumeImageLaws.{sections_again}
+
+-- ---- a section
+pub record SectionKnown (m : SectionMeaning) (starts : List ℕ) : Type 0 where
+  pub fits : FitsForm (section_is_extended m) (body_len (body_of m))
+  pub long : length (body_image (body_of m) starts) ≡ body_len (body_of m)
+  pub small : section_len m < 2 ^ 32
+
+pub section_known : (m : SectionMeaning) (starts : List ℕ) → IsReadSection m → BeginsWithStarts (volumes_in_section m) starts
+    → SectionKnown m starts
+section_known (Section kind extended body) starts (n, l, f, (b, small, most, stands), is) (laid, more, text, lays) =
+    let part : List ℕ = drop f.offset b in
+    let bytes : IsBytes part = bytes_drop f.offset b small in
+    let inside = begun_bytes f part stands.behind bytes stands.begins in
+    let image = sections_made n (Section kind extended body) f 0 laid more inside.0 is lays in
+    let again =
+    sections_again n (Section kind extended body) f (frame_of 0 (Section kind extended body) (laid ++ more)) inside.0 is image in
+    let form = form_of n (Section kind extended body) f is in
+    let own : body_len body ≡ length f.body = cancel extended f.extended (length f.body) (body_len body) form again.len in
+    record {
+      fits = subst (λ (x : Bool). FitsForm x (body_len body)) (sym form)
+          (subst (FitsForm f.extended) (sym own) (fits f part stands.behind bytes stands.begins));
+      long = ap (λ (xs : List ℕ). length (body_image body xs)) text ∙ again.long ∙ sym own;
+      small = below (section_len (Section kind extended body)) (frame_len f) (length part) (length b) (length stands.behind) f.offset
+          again.len (length_begun f part stands.behind stands.begins) (length-drop f.offset b) most;
+    }
+  where
+    form_of : (n : ℕ) (m : SectionMeaning) (f : FrameForm) → MeansSection n f m → section_is_extended m ≡ f.extended
+    form_of zero (Section k e b) f is = is.1
+    form_of (suc n) (Section k e b) f is = is.1
+
+    cancel : (x y : Bool) (n k : ℕ) → x ≡ y → section_header_len y + n ≡ section_header_len x + k → k ≡ n
+    cancel x y n k e h = let same : section_header_len x ≡ section_header_len y = ap section_header_len e in omega (arith, h, same)
+
+    below : (s z p b r o : ℕ) → z ≡ s → p ≡ z + r → p ≡ b - o → b ≤ volume_limit → s < 2 ^ 32
+    below s z p b r o e g h l = omega (arith, e, g, h, l)
+
+-- ---- a stream goes on
+stream_goes : (at : ℕ) (s : SectionMeaning) (ss : SectionMeanings) (starts : List ℕ) (tail : ℕ)
+    → stream_of (frames_of at (MoreSections s ss) starts) tail
+    ≡ frame_bytes (frame_of 0 s starts) ++ (sections_bytes (up_to_4 (frame_len (frame_of 0 s starts)) - frame_len (frame_of 0 s starts)) ss
+    (drop (starts_in (volumes_in_section s)) starts) ++ replicate tail 0)
+stream_goes at (Section k e b) NoSections starts tail =
+    sym (append_assoc (section_head_of k e (length (body_image b starts))) (body_image b starts) (replicate tail 0))
+stream_goes at (Section k e b) (MoreSections t ss) starts tail =
+    let f : FrameForm = frame_of 0 (Section k e b) starts in
+    let head : List ℕ = section_head_of k e (length (body_image b starts)) in
+    let fill : List ℕ = replicate (up_to_4 (frame_len f) - frame_len f) 0 in
+    let later : List ℕ = drop (starts_in (volumes_in_section (Section k e b))) starts in
+    let next : List ℕ = frame_bytes (frame_of 0 t later) in
+    let rest : List ℕ =
+    sections_bytes (up_to_4 (frame_len (frame_of 0 t later)) - frame_len (frame_of 0 t later)) ss (drop (starts_in (volumes_in_section
+    t)) later) in
+    let goes = stream_goes (up_to_4 (at + frame_len f)) t ss later tail in
+    ap (λ (xs : List ℕ). head ++ (f.body ++ (fill ++ xs))) goes
+    ∙ sym (append_assoc head f.body (fill ++ (next ++ (rest ++ replicate tail 0))))
+    ∙ ap (λ (xs : List ℕ). (head ++ f.body) ++ xs)
+    (sym (append_assoc fill next (rest ++ replicate tail 0)) ∙ sym (append_assoc (fill ++ next) rest (replicate tail 0)))
+
+-- the whole stream
+pub stream_whole : (s : SectionMeaning) (ss : SectionMeanings) (starts : List ℕ) (tail : ℕ)
+    → sections_bytes 0 (MoreSections s ss) starts ++ replicate tail 0 ≡ stream_of (frames_of 0 (MoreSections s ss) starts) tail
+stream_whole s ss starts tail = grind (arith, common_steps, append_assoc, stream_goes)
+
+-- ---- the walk over the sections of a stream
+
+-- the starts of the section at a place, and of those after it
+pub section_passed : (ss : List SectionMeaning) (i : ℕ) (s : SectionMeaning) (starts last : List ℕ) → i < length ss → s ≡ get_or ss i s
+    → ComesTo (volumes_in_sections (sections_from (drop i ss))) starts last
+    → BeginsWithStarts (volumes_in_section s) starts
+    × ComesTo (volumes_in_sections (sections_from (drop (i + 1) ss))) (drop (starts_in (volumes_in_section s)) starts) last
+section_passed = item_passed (λ xs. volumes_in_sections (sections_from xs)) volumes_in_section refl (λ x xs. refl)
+
+pub in_body : (s : SectionMeaning) → starts_in (volumes_in_section s) ≡ starts_in (volumes_in_body (body_of s))
+in_body s = ap starts_in (in_section s) ∙ count_deeper (volumes_in_body (body_of s))
+
+pub body_laid : (s : SectionMeaning) (starts : List ℕ) → BeginsWithStarts (volumes_in_section s) starts
+    → BeginsWithStarts (volumes_in_body (body_of s)) starts
+body_laid (Section kind extended body) starts (laid, more, text, lays) = grind (arith, common_steps, laid_higher)
+
+framed : (s : SectionMeaning) (starts : List ℕ) → SectionKnown s starts → frame_bytes (frame_of 0 s starts)
+    ≡ section_head_of (section_kind_of s) (section_is_extended s) (body_len (body_of s)) ++ body_image (body_of s) starts
+framed (Section kind extended body) starts k = ap (λ (n : ℕ). section_head_of kind extended n ++ body_image body starts) k.long
+
+sized : (s : SectionMeaning) (starts : List ℕ) → SectionKnown s starts → frame_len (frame_of 0 s starts) ≡ section_len s
+sized (Section kind extended body) starts k = ap (λ (n : ℕ). section_header_len extended + n) k.long
+
+pub goes_on : (ss : List SectionMeaning) (i : ℕ) (s : SectionMeaning) (starts : List ℕ) (gap : ℕ) → i < length ss → s ≡ get_or ss i s
+    → SectionKnown s starts
+    → sections_bytes gap (sections_from (drop i ss)) starts
+    ≡ (replicate gap 0
+    ++ (section_head_of (section_kind_of s) (section_is_extended s) (body_len (body_of s)) ++ body_image (body_of s) starts))
+    ++ sections_bytes (up_to_4 (section_len s) - section_len s) (sections_from (drop (i + 1) ss)) (drop (starts_in (volumes_in_section
+    s)) starts)
+goes_on ss i s starts gap l is k = grind (arith, common_steps, item_at, framed, sized)
+
+-- a front grows by three pieces
+pub front_more : {S : Type 0} (takes : S → List ℕ → S → Type 0) → WalkLaws takes → (s t u v w : S) (whole rest a b c left : List ℕ)
+    → TakesFront takes s t whole rest → rest ≡ (a ++ (b ++ c)) ++ left → takes t a u → takes u b v → takes v c w
+    → TakesFront takes s w whole left
+front_more takes laws s t u v w whole rest a b c left f e p q r = record {
+  front = f.front ++ (a ++ (b ++ c));
+  taken = laws.joined f.taken (laws.joined p (laws.joined q r));
+  whole_is = append_assoc f.front (a ++ (b ++ c)) left ∙ ap (λ (xs : List ℕ). f.front ++ xs) (sym e) ∙ f.whole_is;
+}
+
+-- after the last section come the tail's bytes
+pub front_end : {S : Type 0} (takes : S → List ℕ → S → Type 0) → WalkLaws takes
+    → (ss : List SectionMeaning) (i : ℕ) (s t u : S) (gap : ℕ) (starts rest : List ℕ) (tail : ℕ) → length ss ≤ i → 0 < length ss
+    → TakesFront takes s t (sections_bytes 0 (sections_from ss) starts) (sections_bytes gap (sections_from (drop i ss)) rest)
+    → takes t (replicate tail 0) u → takes s (stream_of (frames_of 0 (sections_from ss) starts) tail) u
+front_end takes laws [] i s t u gap starts rest tail l some f p = absurd (omega (arith, some))
+front_end takes laws (x ∷ xs) i s t u gap starts rest tail l some f p =
+    let ended : sections_bytes gap (sections_from (drop i (x ∷ xs))) rest ≡ [] =
+    ap (λ (ys : List SectionMeaning). sections_bytes gap (sections_from ys) rest) (drop_all i (x ∷ xs) l) in
+    let whole : f.front ≡ sections_bytes 0 (sections_from (x ∷ xs)) starts =
+    sym (append-nil f.front) ∙ ap (λ (ys : List ℕ). f.front ++ ys) (sym ended) ∙ f.whole_is in
+    subst (λ (ys : List ℕ). takes s ys u) (ap (λ (ys : List ℕ). ys ++ replicate tail 0) whole
+    ∙ stream_whole x (sections_from xs) starts tail) (laws.joined f.taken p)
+
+-- where there is no section, nothing is put
+pub front_none : {S : Type 0} (takes : S → List ℕ → S → Type 0) (ss : List SectionMeaning) (i : ℕ) (s t : S) (gap : ℕ)
+    (starts rest : List ℕ) (tail : ℕ) → length ss ≡ 0
+    → TakesFront takes s t (sections_bytes 0 (sections_from ss) starts) (sections_bytes gap (sections_from (drop i ss)) rest)
+    → takes s (stream_of (frames_of 0 (sections_from ss) starts) tail) t
+front_none takes [] i s t gap starts rest tail none f =
+    let ended : sections_bytes gap (sections_from (drop i [])) rest ≡ [] =
+    ap (λ (ys : List SectionMeaning). sections_bytes gap (sections_from ys) rest) (drop_all i [] (omega arith)) in
+    let front : f.front ≡ [] = sym (append-nil f.front) ∙ ap (λ (ys : List ℕ). f.front ++ ys) (sym ended) ∙ f.whole_is in
+    subst (λ (ys : List ℕ). takes s ys t) front f.taken
+front_none takes (x ∷ xs) i s t gap starts rest tail none f = absurd (omega (arith, none))
+
+-- after the last section are the starts after theirs
+pub walk_ended : (ss : List SectionMeaning) (i : ℕ) (rest last : List ℕ) → length ss ≤ i
+    → ComesTo (volumes_in_sections (sections_from (drop i ss))) rest last → rest ≡ last
+walk_ended ss i rest last past walk = grind (arith, common_steps, drop_all)

@@ -1,0 +1,395 @@
+-- The image of a volume is read again as a volume of its meaning. The steps:
+-- 1. A file that was read can be stored with the data of the image, and is then read as the same file (`file_again`).
+-- 2. So can all files of a volume, and the layout knows the same of them (`files_again`).
+-- 3. The image begins with the volume's head (`image_front`), and its files and pads tile the rest (`image_tiled`).
+-- 4. So the image of a volume is read as its meaning, if this holds of what is in its files (`volume_again`).
+-- 5. By the depth of the nesting it holds at every level (`sections_again`), and so of each image (`image_denotes`).
+use Rattle.std.proofs.lemmas.Grind.{common_steps}
+use Rattle.std.proofs.Common.{◌≡◌, ◌≢◌, ◌≤◌, ◌<◌, ◌+◌, ◌-◌, ◌*◌, ◌/◌, ◌%◌, ℕ, zero, suc, Bool, true, false, List, [], ◌∷◌, ◌++◌, length}
+use Rattle.std.proofs.Common.{take, drop, replicate, refl, sym, ap, ◌∙◌, subst, arith, append_assoc, length-append, length-drop}
+use Rattle.std.specs.Prelude.{map, nat_lt, Option, None, Some}
+use Rattle.std.specs.List.{AllByRecursion}
+use Rattle.std.specs.Str.{bytes_eq}
+use Rattle.std.proofs.lemmas.Bool.{ne_eqb}
+use Rattle.std.proofs.lemmas.Bool.Decides.{nat_tests}
+use Rattle.std.proofs.lemmas.List.{drop_at, length-replicate}
+use Rattle.fv_base.specs.Alignment.{alignment_of}
+use Rattle.fv_base.specs.Flash.{erased_byte}
+use Rattle.fv_base.specs.Guids.{bytes_of}
+use Rattle.fv_base.specs.Measures.{data_limit}
+use Rattle.fv_base.specs.Limits.{volume_limit}
+use Rattle.fv_base.specs.Value.{IsBytes, le}
+use Rattle.fv_base.specs.declared.flash.FileSystem.{FileSystem}
+use Rattle.fv_base.specs.declared.flash.FileSystem.TheVariants.{Ffs3}
+use Rattle.fv_base.specs.declared.flash.Polarity.{Polarity}
+use Rattle.fv_base.specs.declared.guid.Guid.{Guid}
+use Rattle.fv_base.proofs.Laws.{bytes_back, bytes_drop, bytes_front, field-take}
+use Rattle.fv_file.specs.FileAttributes.{attribute_bits, is_large, is_fixed, without_large}
+use Rattle.fv_file.specs.FileHeaders.{pad_kind}
+use Rattle.fv_file.specs.NewHeaders.{needs_large, with_large, pad_head_of}
+use Rattle.fv_head.specs.Ext.{Extension}
+use Rattle.fv_head.specs.Head.{HeadFields, HasExt, BeginsVolume, header_len_of}
+use Rattle.fv_head.specs.HeadReads.{extent_of, IsReadHead, CanonicalRest, IfRead}
+use Rattle.fv_head.specs.HeadImage.{canonical_head}
+use Rattle.fv_head.specs.ExtImage.{canonical_end, first_edge, ext_len, ext_spelled}
+use Rattle.fv_head.specs.VolumeAttributes.{polarity_of}
+use Rattle.fv_head.specs.declared.extent.Extent.{Extent}
+use Rattle.fv_head.proofs.Laws.{canonical_front, front_lies, length-canonical}
+use Rattle.fv_placement.specs.Starts.{StartsFollow, IsFirstPlacement}
+use Rattle.fv_placement.specs.declared.first_placement.LayoutItem.{LayoutItem}
+use Rattle.fv_tree.specs.Meaning.{Meaning, Volume, FileMeanings, NoFiles, MoreFiles, FileMeaning, File, ContentMeaning, Plain, Sectioned}
+use Rattle.fv_tree.specs.LocatedFiles.{StandIn}
+use Rattle.fv_tree.specs.Meaning.{files_list, files_of, head_of, content_len}
+use Rattle.fv_tree.specs.Denotes.{StreamRelation, Pairwise, MeansContent, MeansFile, StreamOver, VolumeOver, Opens, MeansSection, Stream, Denotes}
+use Rattle.fv_tree.specs.VolumeFiles.{FileForm, files_in, NoTwins, current_in, top_name}
+use Rattle.fv_canon.specs.Image.{IsImage, AreStored, IsStored, IsData}
+use Rattle.fv_canon.specs.Layouts.{AreStarts, layout_item}
+use Rattle.fv_canon.specs.PlacedBytes.{ShowsPlaced}
+use Rattle.fv_canon.specs.StoredFiles.{StoredFile, size_for, head_len_for, ext_pad, placed_in_volume, used_size}
+use Rattle.fv_canon.specs.inner.ImageOf.{files_bytes, volume_bytes}
+use Rattle.fv_canon.proofs.ImageParts.{stored_item}
+use Rattle.fv_canon.proofs.CurrentFileLaws.{names_in, names_of, NamesApart, current_apart, all_current, forms_unmarked, no_twins, TopLast}
+use Rattle.fv_canon.proofs.CurrentFileLaws.{top_last, forms_top, form_names}
+use Rattle.fv_canon.proofs.CellLaws.{Storable, stored_head, length-pad_head}
+use Rattle.fv_canon.proofs.ReadLaws.{FileIsAccepted, body_read, current_read}
+use Rattle.fv_canon.proofs.PlacedBytesLaws.{Writable, first_is, volume_shows, length-ext_pad}
+use Rattle.fv_canon.proofs.StreamImageLaws.{SectionsAgain, section_again, stream_again, StreamsAgain, VolumesAgain}
+use Rattle.fv_canon.proofs.BytesLaws.{bytes_volume}
+use Rattle.fv_canon.proofs.StoredTilingLaws.{forms_of, Tiled, body_tiles}
+
+-- ---- 1. a file
+
+-- what the canonical image keeps of a file, as it is stored in it
+record FileAgain (is_stream : StreamRelation) (system : FileSystem) (m : FileMeaning) (f : FileForm) (x : StoredFile) : Type 0 where
+  pub storable : Storable system x
+  pub part : stored_item x ≡ layout_item m
+  pub name : bytes_of x.name ≡ bytes_of f.head.name
+  pub form : (p : Polarity) (at : ℕ) → MeansFile is_stream (record { offset = at; head = stored_head p x; payload = x.payload }) m
+
+-- data that were read as this content, and those that are written for it
+pub record DataAgain (is_stream : StreamRelation) (kind : ℕ) (content : ContentMeaning) (payload d : List ℕ) : Type 0 where
+  pub is : MeansContent is_stream kind d content
+  pub bytes : IsBytes d
+  pub long : length d ≡ length payload
+  pub len : length d ≡ content_len content
+
+pub data_again : (is_stream : StreamRelation) → StreamsAgain is_stream → (kind : ℕ) (content : ContentMeaning) (payload d : List ℕ)
+    → IsBytes payload → MeansContent is_stream kind payload content → IsData content d
+    → DataAgain is_stream kind content payload d
+data_again is_stream streams kind (Plain b) payload d small (plain, same) image = record {
+  is = (plain, sym image);
+  bytes = subst IsBytes (sym (image ∙ same)) small;
+  long = ap length (image ∙ same);
+  len = ap length image;
+}
+data_again is_stream streams kind (Sectioned ss tail) payload d small (sectioned, is) image =
+    let a = streams ss tail payload d small is image in
+    record { is = (sectioned, a.is); bytes = a.bytes; long = a.long; len = a.long ∙ a.len }
+
+half_even : (a : ℕ) → is_large (a / 2 * 2) ≡ false
+half_even a = ne_eqb (a / 2 * 2 % 2) 1 (λ e. omega (arith, e))
+
+half_moves : (a : ℕ) → is_fixed a ≡ false → is_fixed (a / 2 * 2) ≡ false
+half_moves a f = grind (arith, common_steps)
+
+half_small : (a : ℕ) → a < 256 → a / 2 * 2 < 256
+half_small a l = omega (arith, l)
+
+half_back : (l : Bool) (a : ℕ) → a / 2 * 2 ≡ with_large l (a / 2 * 2) / 2 * 2
+half_back true a = omega arith
+half_back false a = omega arith
+
+large_system : (system : FileSystem) (l : Bool) (n : ℕ) → (l ≡ true → system ≡ Ffs3) → (l ≡ false → 24 + n < 16777216)
+    → needs_large n ≡ true → system ≡ Ffs3
+large_system system true n h k needs = h refl
+large_system system false n h k needs = absurd (both n needs (k refl))
+  where
+    both : (n : ℕ) → nat_lt 0xffffff (24 + n) ≡ true → 24 + n < 16777216 → ⊥
+    both n e l = grind (arith, nat_tests)
+
+same_part : (n k a b : ℕ) (g h : Guid) → n ≡ k → a ≡ b → g ≡ h → let made : LayoutItem =
+    record { header = head_len_for n; size = size_for n; alignment = alignment_of a; top = bytes_eq (bytes_of g) top_name } in
+    made ≡ record { header = head_len_for k; size = size_for k; alignment = alignment_of b; top = bytes_eq (bytes_of h) top_name }
+same_part n k a b g h p q r = rw (p, q, r) refl
+
+file_again : (is_stream : StreamRelation) → StreamsAgain is_stream → (system : FileSystem) (limit : ℕ) (m : FileMeaning) (f : FileForm)
+    (x : StoredFile) → limit ≤ 24 + data_limit → FileIsAccepted system limit f → MeansFile is_stream f m → IsStored m x
+    → FileAgain is_stream system m f x
+file_again is_stream streams system limit (File name kind attributes content) f x most r (named, kinds, bits, is) (xn, xk, xa, image) =
+    let d = data_again is_stream streams kind content f.payload x.payload r.payload is image in
+    let guid : x.name ≡ f.head.name = xn ∙ named in
+    let names : bytes_of x.name ≡ bytes_of f.head.name = ap bytes_of guid in
+    let kind_is : x.kind ≡ f.head.kind = xk ∙ kinds in
+    let bits_are : x.attributes ≡ without_large (attribute_bits f.head.attributes) = xa ∙ bits in
+    let a : ℕ = attribute_bits f.head.attributes in
+    record {
+      storable = record {
+        name = ap length names ∙ r.name;
+        name_bytes = subst IsBytes (sym names) r.name_bytes;
+        kind_small = subst (λ (n : ℕ). n < 256) (sym kind_is) r.kind_small;
+        attributes_small = subst (λ (n : ℕ). n < 256) (sym bits_are) (half_small a r.attributes_small);
+        kind = subst (λ (n : ℕ). n ≢ pad_kind) (sym kind_is) r.kind;
+        short = ap is_large bits_are ∙ half_even a;
+        moves = ap is_fixed bits_are ∙ half_moves a r.moves;
+        large = λ e. large_system system (is_large a) (length f.payload) r.large r.short (ap needs_large (sym d.long) ∙ e);
+        most = inside (length x.payload) (length f.payload) d.long r.within most;
+        payload = d.bytes;
+      };
+      part = same_part (length x.payload) (content_len content) x.attributes attributes x.name name d.len xa xn;
+      name = names;
+      form = λ p at.
+          (ap (λ (g : Guid). g) (sym xn) ∙ refl, sym xk, sym xa ∙ back (needs_large (length x.payload)) a x.attributes bits_are, d.is);
+    }
+  where
+    inside : (n k : ℕ) → n ≡ k → 24 + k ≤ limit → limit ≤ 24 + data_limit → n ≤ data_limit
+    inside n k e l m = omega (arith, e, l, m)
+
+    back : (l : Bool) (a y : ℕ) → y ≡ a / 2 * 2 → y ≡ without_large (with_large l y)
+    back l a y e = rw e (half_back l a)
+
+-- ---- 2. file by file
+
+pub record FilesAgain (is_stream : StreamRelation) (system : FileSystem) (files : FileMeanings) (forms : List FileForm)
+    (stored : List StoredFile) : Type 0 where
+  pub storable : AllByRecursion (Storable system) stored
+  pub items : map stored_item stored ≡ map layout_item (files_list files)
+  pub names : names_of stored ≡ names_in forms
+  pub are : (p : Polarity) (total e : ℕ) (ss : List ℕ) → StartsFollow total e (map stored_item stored) ss
+      → Pairwise (MeansFile is_stream) (forms_of p stored ss) (files_list files)
+
+no_file : {A : Type 0} (x : A) (xs : List A) → x ∷ xs ≡ [] → ⊥
+no_file x xs e = cc
+
+files_again : (is_stream : StreamRelation) → StreamsAgain is_stream
+    → (system : FileSystem) (limit : ℕ) (files : FileMeanings) (forms : List FileForm) (stored : List StoredFile) → limit ≤ 24 + data_limit
+    → AllByRecursion (FileIsAccepted system limit) forms → Pairwise (MeansFile is_stream) forms (files_list files) → AreStored files stored
+    → FilesAgain is_stream system files forms stored
+files_again is_stream streams system limit NoFiles [] [] most reads pairs are =
+    record { storable = tt; items = refl; names = refl; are = λ p total e ss follow. tt }
+files_again is_stream streams system limit NoFiles [] (x ∷ xs) most reads pairs are = absurd (no_file x xs are)
+files_again is_stream streams system limit NoFiles (f ∷ fs) stored most reads pairs are = absurd pairs
+files_again is_stream streams system limit (MoreFiles m ms) [] stored most reads pairs are = absurd pairs
+files_again is_stream streams system limit (MoreFiles m ms) (f ∷ fs) [] most reads pairs are = absurd are
+files_again is_stream streams system limit (MoreFiles m ms) (f ∷ fs) (x ∷ xs) most reads pairs are =
+    let here = file_again is_stream streams system limit m f x most reads.0 pairs.0 are.0 in
+    let behind = files_again is_stream streams system limit ms fs xs most reads.1 pairs.1 are.1 in
+    record {
+      storable = (here.storable, behind.storable);
+      items = ap (λ (q : LayoutItem). q ∷ map stored_item xs) here.part ∙ ap (λ (qs : List LayoutItem). layout_item m ∷ qs) behind.items;
+      names = ap (λ (n : List ℕ). n ∷ names_of xs) here.name ∙ ap (λ (ns : List (List ℕ)). bytes_of f.head.name ∷ ns) behind.names;
+      are = λ p total e ss follow. step p total e ss follow here.form behind.are;
+    }
+  where
+    step : (p : Polarity) (total e : ℕ) (ss : List ℕ) → StartsFollow total e (map stored_item (x ∷ xs)) ss
+        → ((q : Polarity) (at : ℕ) → MeansFile is_stream (record { offset = at; head = stored_head q x; payload = x.payload }) m)
+        → ((q : Polarity) (n k : ℕ) (ts : List ℕ) → StartsFollow n k (map stored_item xs) ts → Pairwise (MeansFile is_stream)
+        (forms_of q xs ts) (files_list ms)) → Pairwise (MeansFile is_stream) (forms_of p (x ∷ xs) ss) (files_list (MoreFiles m ms))
+    step p total e [] follow form behind = absurd follow
+    step p total e (s ∷ ss) follow form behind = (form p s, behind p total _ ss follow.1)
+
+-- ---- 3. the head, the files and the pads of a volume
+
+-- an extended header that was read is that of some bytes
+ext_read : (x : Option Extension) (e : Extent) (b : List ℕ) → IsBytes b → HasExt x e b → IfRead x
+ext_read None e b small has = tt
+ext_read (Some x) e b small (before, part, behind, text, at, least, within, is, first) =
+    (part, bytes_front part behind (bytes_back before (part ++ behind) (subst IsBytes text small)), is)
+
+-- the first file is after the header
+pub first_behind : (x : Option Extension) (e : Extent) (b : List ℕ) → HasExt x e b → e.header_len ≤ e.first
+first_behind None e b (none, first) = omega (arith, first)
+first_behind (Some x) e b (before, part, behind, text, at, least, within, is, first) = omega (arith, least, first)
+
+-- what is after the head of an image
+rest_is : (p : Polarity) (h : HeadFields) (x : Option Extension) (used : ℕ) (behind : List ℕ) → CanonicalRest x (ext_pad p x used ++ behind)
+unfolding ext_pad
+rest_is p h None used behind = tt
+rest_is p h (Some x) used behind = (
+  pad_head_of (24 + ext_len x) p,
+  used,
+  behind,
+  append_assoc (pad_head_of (24 + ext_len x) p) (ext_spelled x used) behind,
+  length-pad_head (24 + ext_len x) p,
+)
+
+-- the body of an image
+body_is : (h : HeadFields) (fs : List StoredFile) (ss : List ℕ) → IsReadHead h → IfRead h.ext
+    → drop (first_edge h h.ext) (volume_bytes h fs ss)
+    ≡ files_bytes (polarity_of h.attributes) h.length (first_edge h h.ext) fs ss
+body_is h fs ss read ext =
+    let p : Polarity = polarity_of h.attributes in
+    let first : ℕ = first_edge h h.ext in
+    let used : ℕ = used_size first fs ss in
+    let head : List ℕ = canonical_head h in
+    let pad : List ℕ = ext_pad p h.ext used in
+    let fill : List ℕ = replicate (first - canonical_end h h.ext) (erased_byte p) in
+    let files : List ℕ = files_bytes p h.length first fs ss in
+    let joined : volume_bytes h fs ss ≡ ((head ++ pad) ++ fill) ++ files =
+    sym (append_assoc (head ++ pad) fill files ∙ append_assoc head pad (fill ++ files)) in
+    let long : length ((head ++ pad) ++ fill) ≡ first = sum_of (length head) (length pad) (length fill) (header_len_of h)
+    (canonical_end h h.ext) first (length (head ++ pad)) (length ((head ++ pad) ++ fill))
+    (length-canonical h read) (length-ext_pad p h h.ext used ext) (length-replicate (first - canonical_end h h.ext) (erased_byte p))
+    (first_is h h.ext).0 (length-append head pad) (length-append (head ++ pad) fill) in
+    ap (drop first) joined ∙ drop_at ((head ++ pad) ++ fill) files first long
+  where
+    sum_of : (a b c l e f ab abc : ℕ) → a ≡ l → l + b ≡ e → c ≡ f - e → e ≤ f → ab ≡ a + b → abc ≡ ab + c → abc ≡ f
+    sum_of a b c l e f ab abc p1 p2 p3 p4 p5 p6 = omega arith
+
+-- bytes that begin with the head of a volume of their own length are opened
+opened : (h : HeadFields) (e : Extent) (o : List ℕ) → BeginsVolume h e o → length o ≡ h.length → Opens o
+opened h e o front whole =
+    let n : ℕ = e.header_len in
+    let lies = front_lies o h e front in
+    let long : 64 ≤ n = lies.least in
+    record {
+      least = omega (arith, long, front.long_enough);
+      signature = sym (field-take 40 4 n o (omega (arith, long))) ∙ front.head.signature;
+      file_system = (h.file_system, sym (field-take 16 16 n o (omega (arith, long))) ∙ front.head.file_system);
+      whole = ap le (sym (field-take 32 8 n o (omega (arith, long)))) ∙ front.head.volume_length ∙ sym whole;
+    }
+
+-- what is known of a volume that was read, and of files that are stored for it and placed
+pub record Known (is_stream : StreamRelation) (h : HeadFields) (files : FileMeanings) (forms : List FileForm) (stored : List StoredFile)
+    (starts : List ℕ) : Type 0 where
+  pub writable : Writable h stored starts
+  pub again : FilesAgain is_stream h.file_system files forms stored
+
+-- each file was read
+pub files_read : (is_stream : StreamRelation) (h : HeadFields) (files : FileMeanings) (b : List ℕ) → IsBytes b
+    → (d : VolumeOver is_stream b (Volume h files)) → AllByRecursion (FileIsAccepted h.file_system (length (drop d.extent.first b))) d.files
+files_read is_stream h files b small d =
+    let e : Extent = d.extent in
+    let body : List ℕ = drop e.first b in
+    let reads = body_read e.file_system e.polarity (length body) e.first d.cells body (bytes_drop e.first b small) (omega arith) d.tiles in
+    subst (λ (s : FileSystem). AllByRecursion (FileIsAccepted s (length body)) d.files) d.front.file_system
+    (subst (AllByRecursion (FileIsAccepted e.file_system (length body))) (sym d.current.files_are)
+    (current_read e.file_system (length body) (files_in d.cells) reads))
+
+pub known : (is_stream : StreamRelation) → StreamsAgain is_stream → (h : HeadFields) (files : FileMeanings) (b : List ℕ) → IsBytes b
+    → (d : VolumeOver is_stream b (Volume h files)) (stored : List StoredFile) (starts : List ℕ)
+    → AreStored files stored → AreStarts (Volume h files) starts → Known is_stream h files d.files stored starts
+known is_stream streams h files b small d stored starts are placed =
+    let e : Extent = d.extent in
+    let first : ℕ = first_edge h h.ext in
+    let lies = front_lies b h e d.front in
+    let body : List ℕ = drop e.first b in
+    let current = files_read is_stream h files b small d in
+    let limit : length body ≤ 24 + data_limit = most (length body) (length b) e.first e.header_len e.length (length-drop e.first b) d.whole
+    lies.limit lies.least (first_behind h.ext e b d.front.ext) in
+    let a = files_again is_stream streams h.file_system (length body) files d.files stored limit current d.meanings are in
+    let place : IsFirstPlacement h.length first (map stored_item stored) starts =
+    subst (λ (qs : List LayoutItem). IsFirstPlacement h.length first qs starts) (sym a.items) placed in
+    record {
+      writable = record {
+        read = (take e.header_len b, d.front.head);
+        ext = ext_read h.ext e b small d.front.ext;
+        multiple = d.front.head.volume_multiple;
+        room = place.placement.room;
+        files = a.storable;
+        follow = place.placement.follow;
+      };
+      again = a;
+    }
+  where
+    most : (n b f l len : ℕ) → n ≡ b - f → b ≡ len → len ≤ volume_limit → 64 ≤ l → l ≤ f → n ≤ 24 + data_limit
+    most n b f l len p q r s t = omega (arith, p, q, r, s, t)
+
+-- an image begins with its head, and with the extended header in its pad after it
+pub image_front : (h : HeadFields) (fs : List StoredFile) (ss o : List ℕ) → Writable h fs ss
+    → ShowsPlaced h.length (erased_byte (polarity_of h.attributes)) (placed_in_volume h fs ss) o
+    → BeginsVolume h (extent_of h (first_edge h h.ext)) o
+image_front h fs ss o k shows =
+    let p : Polarity = polarity_of h.attributes in
+    let first : ℕ = first_edge h h.ext in
+    let text : o ≡ volume_bytes h fs ss = volume_shows h fs ss o k shows in
+    let fill : List ℕ = replicate (first - canonical_end h h.ext) (erased_byte p) ++ files_bytes p h.length first fs ss in
+    let rest : List ℕ = ext_pad p h.ext (used_size first fs ss) ++ fill in
+    let all : List ℕ = canonical_head h ++ rest in
+    let long : h.length ≤ length all = full (length o) (length all) (ap length text) shows.length_is in
+    subst (BeginsVolume h (extent_of h first)) (sym text)
+    (canonical_front h rest k.read k.ext (rest_is p h h.ext (used_size first fs ss) fill)
+    (within (canonical_end h h.ext) first (first_is h h.ext).0 k.room) long)
+  where
+    full : (n m : ℕ) → n ≡ m → n ≡ h.length → h.length ≤ m
+    full n m p q = omega (arith, p, q)
+
+    within : (x f : ℕ) → x ≤ f → f ≤ h.length → x ≤ h.length
+    within x f p q = omega arith
+
+-- and its files and pads tile the rest
+pub image_tiled : (h : HeadFields) (fs : List StoredFile) (ss o : List ℕ) → Writable h fs ss
+    → ShowsPlaced h.length (erased_byte (polarity_of h.attributes)) (placed_in_volume h fs ss) o
+    → Tiled h.file_system (polarity_of h.attributes) (first_edge h h.ext) (drop (first_edge h h.ext) o)
+    (forms_of (polarity_of h.attributes) fs ss)
+image_tiled h fs ss o k shows =
+    let p : Polarity = polarity_of h.attributes in
+    let first : ℕ = first_edge h h.ext in
+    let text : o ≡ volume_bytes h fs ss = volume_shows h fs ss o k shows in
+    let body : drop first o ≡ files_bytes p h.length first fs ss = ap (drop first) text ∙ body_is h fs ss k.read k.ext in
+    subst (λ (xs : List ℕ). Tiled h.file_system p first xs (forms_of p fs ss)) (sym body)
+    (body_tiles h.file_system p h.length first fs ss k.multiple (first_is h h.ext).1 k.files k.follow)
+
+-- ---- 4. the volume: it is read again, where the streams in it are
+
+-- a header and files make a volume
+pub volume_of : (is_stream : StreamRelation) (b : List ℕ) (m : Meaning) (e : Extent) (files : List FileForm) → BeginsVolume (head_of m) e b
+    → length b ≡ e.length → StandIn e b files → Pairwise (MeansFile is_stream) files (files_of m) → VolumeOver is_stream b m
+volume_of is_stream b m e files front whole stand meanings = grind (arith, common_steps)
+
+pub volume_again : (is_stream : StreamRelation) → StreamsAgain is_stream → VolumesAgain (VolumeOver is_stream)
+volume_again is_stream streams (Volume h files) b o small d (stored, starts, are, placed, shows) =
+    let p : Polarity = polarity_of h.attributes in
+    let first : ℕ = first_edge h h.ext in
+    let known_of = known is_stream streams h files b small d stored starts are placed in
+    let k = known_of.writable in
+    let a = known_of.again in
+    let front = image_front h stored starts o k shows in
+    let tiled = image_tiled h stored starts o k shows in
+    let names : names_in (forms_of p stored starts) ≡ names_in d.files = form_names p h.length first stored starts k.follow ∙ a.names in
+    let apart : NamesApart (names_in (forms_of p stored starts)) = subst NamesApart (sym names)
+    (subst (λ (xs : List FileForm). NamesApart (names_in xs)) (sym d.current.files_are) (current_apart (files_in d.cells)
+    d.current.no_twins)) in
+    let last : TopLast (names_of stored) = subst TopLast (sym a.names) (top_last d.extent.length d.files d.current.top) in
+    let same : length o ≡ length b = shows.length_is ∙ sym (d.whole ∙ d.front.length_is) in
+    record {
+      is = volume_of is_stream o (Volume h files) (extent_of h first) (forms_of p stored starts) front shows.length_is (record {
+        cells = tiled.cells;
+        tiles = tiled.tiles;
+        current = record {
+          no_twins = subst NoTwins (sym tiled.files_are) (no_twins (forms_of p stored starts) apart);
+          files_are = sym (all_current (forms_of p stored starts) (forms_unmarked p stored starts)) ∙ ap current_in (sym tiled.files_are);
+          top = forms_top p h.length first stored starts last k.follow;
+        };
+      }) (a.are p h.length first starts k.follow);
+      bytes = subst IsBytes (sym (volume_shows h stored starts o k shows)) (bytes_volume h stored starts k);
+      long = same;
+      len = d.whole ∙ d.front.length_is;
+      opens = opened h (extent_of h first) o front shows.length_is;
+    }
+
+-- ---- 5. all volumes, by how deep groups and volumes nest
+
+no_stream : StreamsAgain (λ _ _ _. ⊥)
+no_stream ss tail b o small none image = absurd none
+
+no_volume : VolumesAgain (λ _ _. ⊥)
+no_volume m b o small none image = absurd none
+
+pub sections_again : (n : ℕ) → SectionsAgain (MeansSection n)
+sections_again zero = section_again (λ _ _ _. ⊥) (λ _ _. ⊥) no_stream no_volume
+sections_again (suc n) =
+    let streams = stream_again (MeansSection n) (sections_again n) in
+    section_again (StreamOver (MeansSection n)) (VolumeOver (StreamOver (MeansSection n))) streams
+    (volume_again (StreamOver (MeansSection n)) streams)
+
+-- an image of a meaning is a volume of this meaning
+pub image_denotes : (n : ℕ) (m : Meaning) (b o : List ℕ) → IsBytes b → Denotes n b m → IsImage m o → Denotes n o m
+image_denotes n m b o small d image = (volume_again (Stream n) (stream_again (MeansSection n) (sections_again n)) m b o small d image).is
+
+-- and as long as the volume that it was read from
+pub image_long : (n : ℕ) (m : Meaning) (b o : List ℕ) → IsBytes b → Denotes n b m → IsImage m o → length o ≡ length b
+image_long n m b o small d image = (volume_again (Stream n) (stream_again (MeansSection n) (sections_again n)) m b o small d image).long
+
+-- and an image is bytes
+pub image_bytes : (n : ℕ) (m : Meaning) (b o : List ℕ) → IsBytes b → Denotes n b m → IsImage m o → IsBytes o
+image_bytes n m b o small d image = (volume_again (Stream n) (stream_again (MeansSection n) (sections_again n)) m b o small d image).bytes

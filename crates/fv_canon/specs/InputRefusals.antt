@@ -1,0 +1,42 @@
+-- Why an input is rejected, and as what: the third sentence of the headline.
+use Rattle.std.specs.Prelude.{◌≡◌, ◌⊎◌, ℕ, List}
+use Rattle.fv_base.specs.declared.fault.Fault.{Fault}
+use Rattle.fv_base.specs.declared.fault.FaultKind.{FaultKind}
+use Rattle.fv_base.specs.declared.fault.FaultKind.TheVariants as kinds
+use Rattle.fv_tree.specs.Denotes.{Accepted}
+use Rattle.fv_tree.specs.InputFaults.{NotRead}
+use Rattle.fv_tree.specs.Meaning.{Meaning}
+use Rattle.fv_canon.specs.Layouts.{Fits}
+use Rattle.fv_canon.specs.LayoutFaults.{Unfit}
+
+-- an input is a volume that does not fit, and this is the fault of its layout
+abbrev pub NotPlaced : List ℕ → Fault → Type 0
+NotPlaced input f = (m : Meaning) × Accepted input m × Unfit m 0 f
+
+-- the input is rejected: it is no volume, or it does not fit
+abbrev pub Refuses : List ℕ → Fault → Type 0
+Refuses input f = NotRead input f ⊎ NotPlaced input f
+
+-- ---- as what
+
+-- the input is a volume that does not fit
+abbrev pub IsUnfit : List ℕ → Type 0
+IsUnfit input = (m : Meaning) × Accepted input m × (Fits m → ⊥)
+
+-- the input is no volume
+abbrev pub IsNoVolume : List ℕ → Type 0
+IsNoVolume input = (m : Meaning) → Accepted input m → ⊥
+
+-- the kinds of the faults of a layout
+abbrev pub IsOfLayout : FaultKind → Type 0
+IsOfLayout kind = (kind ≡ kinds.TopAlignment) ⊎ (kind ≡ kinds.NoRoom)
+
+-- an input that is rejected is a volume that does not fit, if the fault is one of a layout, and otherwise no volume
+abbrev pub OnlyWhatDoesNotFitIsRefused : Type 0
+OnlyWhatDoesNotFitIsRefused =
+    (input : List ℕ) (f : Fault) → Refuses input f
+    → (IsOfLayout f.kind → IsUnfit input) × ((IsOfLayout f.kind → ⊥) → IsNoVolume input)
+
+-- a volume that does not fit is rejected, with a fault of a layout
+abbrev pub WhatDoesNotFitIsRefused : Type 0
+WhatDoesNotFitIsRefused = (input : List ℕ) → IsUnfit input → (f : Fault) × Refuses input f × IsOfLayout f.kind

@@ -1,0 +1,41 @@
+-- What a run over one input reads and writes, and what stops it.
+use Rattle.std.specs.Prelude.{ℕ, ◌≡◌, List, Option, ◌⊎◌}
+use Rattle.std.specs.Io.KnownBytes.{Appends, Keeps}
+use Rattle.fv_base.specs.Faults.{out_of_memory}
+use Rattle.fv_base.specs.Input.{ReadsWhole, ReadStops, WriteStops}
+use Rattle.fv_base.specs.declared.fault.Fault.{Fault}
+use Rattle.fv_tree.specs.InputFaults.{MemoryRanOut}
+use Rattle.fv_canon.specs.FlashImages.{NormalisesAll, RefusesAll}
+use Rattle.fv_canon.specs.Headline.{NormalisesTo}
+use Rattle.fv_canon.specs.InputRefusals.{Refuses}
+
+-- the image of the input was written
+abbrev pub InputWrites : List ℕ → Option (List ℕ) → Option (List ℕ) → Type 0
+InputWrites input held holds = (image : List ℕ) × NormalisesTo input image × Appends held holds image
+
+-- nothing was written, because the input is rejected, or because it begins with the header of a volume and memory ran
+-- out; or the writer stopped
+abbrev pub InputStops : List ℕ → Option (List ℕ) → Option (List ℕ) → Fault → Type 0
+InputStops input held holds fault =
+    (Keeps held holds × (MemoryRanOut input fault ⊎ Refuses input fault))
+    ⊎ ((image : List ℕ) × NormalisesTo input image × WriteStops held holds image fault)
+
+-- the flash image b was written with each of its volumes renewed
+abbrev pub ImageWrites : List ℕ → Option (List ℕ) → Option (List ℕ) → Type 0
+ImageWrites b held holds = (bytes : List ℕ) × NormalisesAll b bytes × Appends held holds bytes
+
+-- nothing was written, because memory ran out or the flash image b is rejected; or the writer stopped
+abbrev pub ImageStops : List ℕ → Option (List ℕ) → Option (List ℕ) → Fault → Type 0
+ImageStops b held holds fault =
+    (Keeps held holds × ((fault ≡ out_of_memory) ⊎ RefusesAll b fault))
+    ⊎ ((bytes : List ℕ) × NormalisesAll b bytes × WriteStops held holds bytes fault)
+
+-- a run read an input to its end, and wrote its image
+abbrev pub RunWrites : Option (List ℕ) → Option (List ℕ) → Option (List ℕ) → Option (List ℕ) → Type 0
+RunWrites unread left held holds = (input : List ℕ) × ReadsWhole unread left input × InputWrites input held holds
+
+-- a run stopped while it read, and nothing was written; or it stopped after an input that it had read to its end
+abbrev pub RunStops : Option (List ℕ) → Option (List ℕ) → Option (List ℕ) → Option (List ℕ) → Fault → Type 0
+RunStops unread left held holds fault =
+    (Keeps held holds × ReadStops unread left fault)
+    ⊎ ((input : List ℕ) × ReadsWhole unread left input × InputStops input held holds fault)

@@ -1,0 +1,80 @@
+-- Pads that are erased, and the text of a check.
+use Rattle.std.proofs.Common.{◌≡◌, ◌∙◌, ◌+◌, ℕ, List, [], ◌∷◌, ◌++◌}
+use Rattle.std.proofs.Common.{refl, sym, ap, subst, cond, arith, Bool, true}
+use Rattle.std.specs.Prelude.{◌↔◌, ◌==◌, not, Option, Some, None}
+use Rattle.std.specs.List.{AllByRecursion}
+use Rattle.std.proofs.lemmas.Bool.Decides.{Decides-eqb}
+use Rattle.std.proofs.lemmas.List.Sums.{sum_by-cons}
+use Rattle.fv_base.specs.Flash.{AllAre, erased_byte}
+use Rattle.fv_base.specs.declared.flash.Polarity.{Polarity}
+use Rattle.fv_canon.specs.Image.{IsImage}
+use Rattle.fv_canon.proofs.Laws.{PadErased, pads_erased}
+use Rattle.fv_file.specs.Cells.{CellForm, Valid, Pad, Dead, Stub, Free}
+use Rattle.fv_head.specs.declared.extent.Extent.{Extent}
+use Rattle.fv_base.specs.Limits.{depth_limit}
+use Rattle.fv_tree.specs.Denotes.{Accepted}
+use Rattle.fv_tree.specs.Meaning.{Meaning, files_of}
+use Rattle.fv_command.specs.inner.CheckRuns.{NotedCells, NotedText, noted_lines}
+use Rattle.fv_command.specs.Tasks.{CheckText}
+use Rattle.fv_lines.specs.Notes.{AreNotes, depex_lines, depexes_in, pad_line, pad_notes, verdict_line, written_in}
+use Rattle.fv_lines.specs.declared.depex_notes.DepexNote.{DepexNote}
+
+-- ---- pads that are erased
+
+-- erased bytes are not written
+none_written : (p : Polarity) (xs : List ℕ) → AllAre (erased_byte p) xs → written_in p xs ≡ 0
+none_written p [] all = refl
+none_written p (x ∷ xs) all =
+    sum_by-cons (λ y. cond (not (y == erased_byte p)) 1 0) x xs
+    ∙ ap (λ (b : Bool). cond (not b) 1 0 + written_in p xs) ((Decides-eqb x (erased_byte p)).1 all.0)
+    ∙ ap (λ (n : ℕ). 0 + n) (none_written p xs all.1)
+
+-- and pads of such bytes are not noted
+none_noted : (p : Polarity) (cells : List CellForm) → AllByRecursion (PadErased p) cells → pad_notes p cells ≡ []
+none_noted p [] all = refl
+none_noted p (Valid at head payload ∷ cells) all = none_noted p cells all.1
+none_noted p (Pad at head payload ∷ cells) all =
+    ap (λ (n : ℕ). pad_line at n ++ pad_notes p cells) (none_written p payload all.0) ∙ none_noted p cells all.1
+none_noted p (Dead at len state ∷ cells) all = none_noted p cells all.1
+none_noted p (Stub at len ∷ cells) all = none_noted p cells all.1
+none_noted p (Free at len ∷ cells) all = none_noted p cells all.1
+
+-- ---- the text of a check
+
+-- with no cells it is the text of an image, none of whose pads is noted
+text_of : (b : List ℕ) (same : Bool) (view : Meaning) (found : Option (List CellForm × Polarity)) (notes : List DepexNote)
+    → Accepted b view → ((same ≡ true) ↔ IsImage view b) → NotedCells b same found
+    → AreNotes (depexes_in (files_of view)) notes → CheckText b same (noted_lines found notes same)
+text_of b same view None notes (small, d) image is noted =
+    let e : Extent = d.extent in
+    let none = none_noted e.polarity d.cells
+    (pads_erased view b e d.cells (depth_limit, omega arith, b, small, d) (image.0 is) d.front d.tiles) in
+    record {
+      meaning = view;
+      accepted = (small, d);
+      polarity = e.polarity;
+      cells = d.cells;
+      are_cells = record { extent = e; front = d.front; polarity_is = refl; tiles = d.tiles };
+      notes = notes;
+      are_notes = noted;
+      text_is = ap (λ (t : List ℕ). t ++ (depex_lines notes ++ verdict_line same)) (sym none);
+      same_is = image;
+    }
+text_of b same view (Some (cells, p)) notes accepted image are noted = record {
+  meaning = view;
+  accepted = accepted;
+  polarity = p;
+  cells = cells;
+  are_cells = are view accepted;
+  notes = notes;
+  are_notes = noted;
+  text_is = refl;
+  same_is = image;
+}
+
+pub check_text : (b : List ℕ) (same : Bool) (view : Meaning) (found seen : Option (List CellForm × Polarity)) (text : List ℕ)
+    → Accepted b view → ((same ≡ true) ↔ IsImage view b) → NotedCells b same found → seen ≡ found
+    → NotedText seen view same text → CheckText b same text
+check_text b same view found seen text accepted image are same_cells (notes, noted, is) =
+    subst (CheckText b same) (sym is)
+    (text_of b same view seen notes accepted image (subst (NotedCells b same) (sym same_cells) are) noted)

@@ -1,0 +1,88 @@
+-- The attribute bits of a file: single bits, and the bits with and without bit 0x01, which goes with the form of its header.
+use Rattle.std.proofs.lemmas.Grind.{common_steps}
+use Rattle.std.proofs.Common.{◌≡◌, ℕ, ◌+◌, ◌/◌, ◌%◌, bit_and, bit_or, ap, ◌∙◌, arith, true, false, ◌<◌, ◌*◌, Bool, refl}
+use Rattle.std.specs.Prelude.{◌==◌, slice_index}
+use Rattle.std.proofs.lemmas.Bool.{eqb-true, ne_eqb}
+use Rattle.std.specs.Int.{bit_at}
+use Rattle.std.proofs.lemmas.Bool.Decides.{nat_tests}
+use Rattle.std.proofs.lemmas.Nat.{and_mask, or_disjoint}
+use Rattle.std.proofs.lemmas.Nat.Bits.{and_pow, bit_at-lt}
+use Rattle.fv_base.specs.Alignment.{alignments, alignment_of}
+use Rattle.fv_base.proofs.Laws.{one_bit}
+use Rattle.fv_file.specs.FileAttributes.{is_large, is_fixed, is_summed, without_large}
+use Rattle.fv_file.specs.NewHeaders.{with_large}
+
+-- ---- single bits
+
+pub bit_2 : (a : ℕ) → (bit_and a 4 == 4) ≡ (a / 4 % 2 == 1)
+bit_2 a = ap (λ n. n == 4) (and_pow a 2) ∙ one_bit (bit_at a 2) 4 (bit_at-lt a 2) (omega arith)
+
+pub bit_6 : (a : ℕ) → (bit_and a 64 == 64) ≡ (a / 64 % 2 == 1)
+bit_6 a = ap (λ n. n == 64) (and_pow a 6) ∙ one_bit (bit_at a 6) 64 (bit_at-lt a 6) (omega arith)
+
+-- without the large bit a number is even
+pub small_even : (n : ℕ) → is_large n ≡ false → n % 2 ≡ 0
+small_even n small = grind (arith, nat_tests)
+
+-- setting the large bit adds 1
+pub large_set : (a b : ℕ) → is_large a ≡ false → b ≡ bit_or a 1 → b ≡ a + 1
+large_set a b small set = set ∙ or_disjoint a 1 (and_mask a 1 ∙ small_even a small)
+
+pub set_large : (n : ℕ) → is_large n ≡ false → is_large (n + 1) ≡ true
+set_large n small = grind (arith, common_steps, small_even, nat_tests)
+
+-- ---- with bit 0x01 as the form wants it
+
+pub fixed_with : (l : Bool) (a : ℕ) → is_large a ≡ false → is_fixed (with_large l a) ≡ is_fixed a
+fixed_with false a h = refl
+fixed_with true a h = ap (λ n. n % 2 == 1) (same a (small_even a h)) where
+  same : (a : ℕ) → a % 2 ≡ 0 → (a + 1) / 4 ≡ a / 4
+  same a e = omega arith
+
+pub summed_with : (l : Bool) (a : ℕ) → is_large a ≡ false → is_summed (with_large l a) ≡ is_summed a
+summed_with false a h = refl
+summed_with true a h = ap (λ n. n % 2 == 1) (same a (small_even a h)) where
+  same : (a : ℕ) → a % 2 ≡ 0 → (a + 1) / 64 ≡ a / 64
+  same a e = omega arith
+
+pub alignment_with : (l : Bool) (a : ℕ) → is_large a ≡ false → alignment_of (with_large l a) ≡ alignment_of a
+alignment_with false a h = refl
+alignment_with true a h = ap (slice_index alignments) (same a (small_even a h)) where
+  same : (a : ℕ) → a % 2 ≡ 0 → (a + 1) / 8 % 8 + 8 * ((a + 1) / 2 % 2) ≡ a / 8 % 8 + 8 * (a / 2 % 2)
+  same a e = omega arith
+
+-- a byte stays one
+pub with_large_small : (l : Bool) (a : ℕ) → is_large a ≡ false → a < 256 → with_large l a < 256
+with_large_small true a h l = let e = small_even a h in omega (arith, e)
+with_large_small false a h l = l
+
+-- ---- without bit 0x01
+
+pub short_without : (a : ℕ) → is_large (without_large a) ≡ false
+short_without a = grind (arith, common_steps, ne_eqb)
+
+pub fixed_without : (a : ℕ) → is_fixed (without_large a) ≡ is_fixed a
+fixed_without a = grind (arith, common_steps)
+
+pub summed_without : (a : ℕ) → is_summed (without_large a) ≡ is_summed a
+summed_without a = grind (arith, common_steps)
+
+pub alignment_without : (a : ℕ) → alignment_of (without_large a) ≡ alignment_of a
+alignment_without a = grind (arith, common_steps)
+
+pub without_small : (a : ℕ) → a < 256 → without_large a < 256
+without_small a l = omega arith
+
+-- bits without bit 0x01 are left as they are
+pub without_short : (a : ℕ) → is_large a ≡ false → without_large a ≡ a
+without_short a h = grind (arith, common_steps, small_even)
+
+-- one undoes the other
+pub with_without : (a : ℕ) → with_large (is_large a) (without_large a) ≡ a
+with_without a = grind (arith, common_steps, eqb-true, without_short)
+
+pub without_with : (l : Bool) (a : ℕ) → is_large a ≡ false → without_large (with_large l a) ≡ a
+without_with false a h = without_short a h
+without_with true a h = same a (small_even a h) where
+  same : (a : ℕ) → a % 2 ≡ 0 → (a + 1) / 2 * 2 ≡ a
+  same a e = omega arith

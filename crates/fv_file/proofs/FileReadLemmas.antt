@@ -1,0 +1,91 @@
+-- What is known of a file that was read: where its data lie, and what fits its header.
+use Rattle.std.proofs.lemmas.Grind.{common_steps}
+use Rattle.std.proofs.Common.{◌≡◌, ◌≢◌, ◌≤◌, ◌<◌, ◌+◌, ◌-◌, ℕ, Bool, true, false, List, ◌++◌, length, take, drop, refl, sym, ap, ◌∙◌, subst}
+use Rattle.std.proofs.Common.{arith, length-append, length-drop, append_assoc}
+use Rattle.std.specs.Prelude.{slice_index}
+use Rattle.std.proofs.lemmas.List.{length-take-le, take_at, drop_at}
+use Rattle.fv_base.specs.Guids.{bytes_of}
+use Rattle.fv_base.specs.Value.{IsBytes}
+use Rattle.fv_base.specs.declared.flash.FileSystem.{FileSystem}
+use Rattle.fv_base.specs.declared.flash.FileSystem.TheVariants.{Ffs2, Ffs3}
+use Rattle.fv_base.specs.declared.flash.Polarity.{Polarity}
+use Rattle.fv_base.proofs.Laws.{bytes_back, bytes_front, bytes_take, field_below}
+use Rattle.fv_file.specs.Cells.{IsCell, IsFilled, Valid}
+use Rattle.fv_file.specs.FileAttributes.{attribute_bits, is_large, is_fixed}
+use Rattle.fv_file.specs.FileHeaders.{file_header_len, file_size_in, pad_kind}
+use Rattle.fv_file.specs.declared.head.FileHead.{FileHead}
+use Rattle.fv_file.proofs.FileLemmas.{header_least}
+
+-- a file's data are the bytes after its header
+pub payload_behind : (s : FileSystem) (p : Polarity) (head : FileHead) (payload b : List ℕ) → IsFilled s p head payload b
+    → payload ≡ take (head.size - head.header_len) (drop head.header_len b)
+payload_behind s p head payload b h = grind (arith, common_steps, append_assoc, length-append, drop_at, take_at)
+
+-- a file with a short header is short
+short_size : (large : Bool) (h : List ℕ) → large ≡ false → length h ≡ file_header_len large → IsBytes h
+    → file_size_in large h < 0x1000000
+short_size true h short whole bytes = cc
+short_size false h short whole bytes = field_below 20 3 h bytes (length-take-le 3 (drop 20 h) (omega (arith, whole, length-drop 20 h)))
+
+pub short_limit : (s : FileSystem) (p : Polarity) (head : FileHead) (payload b : List ℕ) → IsBytes b → IsFilled s p head payload b
+    → s ≡ Ffs2 → head.size < 0x1000000
+short_limit s p head payload b bytes h two =
+    let file = h.is_file in
+    let large : Bool = is_large (slice_index file.header 19) in
+    let own : IsBytes file.header =
+    bytes_front file.header payload (subst IsBytes file.text (bytes_front h.file h.filler (subst IsBytes h.text bytes))) in
+    subst (λ (n : ℕ). n < 0x1000000) (sym (ap (λ (x : FileHead). x.size) file.is_header.fields))
+    (short_size large file.header (short large (λ e. (file.is_header.large e).0)) file.is_header.whole own)
+  where
+    short : (large : Bool) → (large ≡ true → s ≡ Ffs3) → large ≡ false
+    short true three = cc (two, three refl)
+    short false three = refl
+
+-- what is known of a file in bytes, in at most so many of them
+pub record FileRead (system : FileSystem) (limit : ℕ) (head : FileHead) (content : List ℕ) : Type 0 where
+  pub name : length (bytes_of head.name) ≡ 16
+  pub name_bytes : IsBytes (bytes_of head.name)
+  pub kind_small : head.kind < 256
+  pub attributes_small : attribute_bits head.attributes < 256
+  pub kind : head.kind ≢ pad_kind
+  pub moves : is_fixed (attribute_bits head.attributes) ≡ false
+  pub large : is_large (attribute_bits head.attributes) ≡ true → system ≡ Ffs3
+  pub short : is_large (attribute_bits head.attributes) ≡ false → 24 + length content < 0x1000000
+  pub within : 24 + length content ≤ limit
+  pub payload : IsBytes content
+
+-- of a cell in at most `limit` bytes
+pub cell_read_in : (system : FileSystem) (p : Polarity) (limit at : ℕ) (head : FileHead) (payload x : List ℕ) → IsBytes x
+    → length x ≤ limit → IsCell system p (Valid at head payload) x → FileRead system limit head payload
+cell_read_in system p limit at head payload x small most (filled, alive, sound) =
+    let is = filled.is_file.is_header in
+    let h : List ℕ = filled.is_file.header in
+    let large : Bool = is_large (slice_index h 19) in
+    let parts : IsBytes (h ++ payload) =
+    subst IsBytes filled.is_file.text (bytes_front filled.file filled.filler (subst IsBytes filled.text small)) in
+    let hb : IsBytes h = bytes_front h payload parts in
+    let bits : attribute_bits head.attributes ≡ slice_index h 19 = ap (λ (g : FileHead). attribute_bits g.attributes) is.fields in
+    let named : bytes_of head.name ≡ take 16 h = ap (λ (g : FileHead). bytes_of g.name) is.fields in
+    let kinds : head.kind ≡ slice_index h 18 = ap (λ (g : FileHead). g.kind) is.fields in
+    let sizes : head.size ≡ file_size_in large h = ap (λ (g : FileHead). g.size) is.fields in
+    let least : 24 ≤ length h = omega (arith, header_least large, is.whole) in
+    let whole : head.size ≡ length h + length payload =
+    filled.is_file.size ∙ ap length filled.is_file.text ∙ length-append h payload in
+    let all : length x ≡ head.size + length filled.filler =
+    omega (arith, ap length filled.text, length-append filled.file filled.filler, filled.is_file.size) in
+    record {
+      name = ap length named ∙ length-take-le 16 h (omega (arith, least));
+      name_bytes = subst IsBytes (sym named) (bytes_take 16 h hb);
+      kind_small = subst (λ (n : ℕ). n < 256) (sym kinds) (hb 18);
+      attributes_small = subst (λ (n : ℕ). n < 256) (sym bits) (hb 19);
+      kind = sound.kind;
+      moves = sound.moves;
+      large = λ e. (is.large (ap is_large (sym bits) ∙ e)).0;
+      short = λ e. omega (arith, short_size large h (ap is_large (sym bits) ∙ e) is.whole hb, sizes, whole, least);
+      within = omega (arith, least, whole, all, most);
+      payload = bytes_back h payload parts;
+    }
+
+pub cell_read : (system : FileSystem) (p : Polarity) (at : ℕ) (head : FileHead) (payload x : List ℕ) → IsBytes x
+    → IsCell system p (Valid at head payload) x → FileRead system (length x) head payload
+cell_read system p at head payload x small is = cell_read_in system p (length x) at head payload x small (omega arith) is

@@ -1,0 +1,130 @@
+-- Tilings that are joined, and what is known of each cell of one. The steps:
+-- 1. Cells, none of them free, and more cells tile the join (`joined`). There are no more cells than bytes (`cells_few`).
+-- 2. A cell's data are the part of the volume after its header (`cell_payload`), for all cells of a tiling (`tiled_payloads`).
+-- 3. In a tiling of bytes each file was read (`tiles_read`).
+use Rattle.std.proofs.Common.{◌≡◌, ◌≤◌, ◌<◌, ◌+◌, ◌-◌, ◌*◌, ◌/◌, ℕ, zero, suc, true, false, List, [], ◌∷◌, ◌++◌, length, take, drop}
+use Rattle.std.proofs.Common.{get_or, refl, sym, ap, ◌∙◌, subst, arith, length-append, append_assoc, drop-drop}
+use Rattle.std.specs.List.{AllByRecursion}
+use Rattle.std.proofs.lemmas.List.{drop_at}
+use Rattle.fv_base.specs.Value.{IsBytes, up_to_8}
+use Rattle.fv_base.specs.declared.flash.FileSystem.{FileSystem}
+use Rattle.fv_base.specs.declared.flash.Polarity.{Polarity}
+use Rattle.fv_base.proofs.Laws.{bytes_back, bytes_front, field-append_front}
+use Rattle.fv_file.specs.Cells.{CellForm, Valid, Pad, Dead, Stub, Free, IsCell, IsFilled, Tiles, offset_of}
+use Rattle.fv_file.specs.CellForms.{CellsWithin, cell_len}
+use Rattle.fv_file.specs.FileChecks.{NoneFree}
+use Rattle.fv_file.specs.declared.head.FileHead.{FileHead}
+use Rattle.fv_file.proofs.CellPartLemmas.{cell_span, made_up, not_empty}
+use Rattle.fv_file.proofs.FileReadLemmas.{FileRead, cell_read_in, payload_behind}
+
+-- cells, none of them free, and then more cells
+pub joined : (s : FileSystem) (p : Polarity) (at : ℕ) (cs ds : List CellForm) (x y : List ℕ) → Tiles s p at cs x → NoneFree cs
+    → Tiles s p (at + length x) ds y → Tiles s p at (cs ++ ds) (x ++ y)
+joined s p at [] ds x y e none more =
+    let z : at + length x ≡ at = omega (arith, ap length e) in
+    subst (λ l. Tiles s p at ds l) (sym (ap (λ l. l ++ y) e)) (subst (λ k. Tiles s p k ds y) z more)
+joined s p at (c ∷ cs) ds x y (u, rest, e, cell, place, last, tiles) none more =
+    let z : at + length x ≡ at + length u + length rest = omega (arith, ap length e, length-append u rest) in (
+      u,
+      rest ++ y,
+      ap (λ l. l ++ y) e ∙ append_assoc u rest y,
+      cell,
+      place,
+      (λ f. absurd (differ (sym f ∙ none.0))),
+      joined s p (at + length u) cs ds rest y tiles none.1 (subst (λ k. Tiles s p k ds y) z more),
+    )
+  where
+    differ : true ≡ false → ⊥
+    differ e = cc
+
+-- fewer cells than bytes, or as many
+pub cells_few : (s : FileSystem) (p : Polarity) (at : ℕ) (cs : List CellForm) (b : List ℕ) → Tiles s p at cs b → length cs ≤ length b
+cells_few s p at [] b tiles = omega arith
+cells_few s p at (c ∷ cs) b (x, rest, text, is, o, free, more) =
+    omega (arith, ap length text, length-append x rest, not_empty s p c x is, cells_few s p (at + length x) cs rest more)
+
+-- ---- the data of a cell are the part of the volume after its header
+
+-- of a file or a pad, so many bytes of the volume from the end of the header on
+abbrev pub IsPayloadIn : List ℕ → CellForm → Type 0
+IsPayloadIn volume (Valid at head payload) = payload ≡ take (head.size - head.header_len) (drop (at + head.header_len) volume)
+IsPayloadIn volume (Pad at head payload) = payload ≡ take (head.size - head.header_len) (drop (at + head.header_len) volume)
+IsPayloadIn volume _ = Unit {0}
+
+filled_payload : (s : FileSystem) (p : Polarity) (head : FileHead) (payload x rest volume : List ℕ) (at place : ℕ)
+    → drop at volume ≡ x ++ rest → IsFilled s p head payload x → place ≡ at
+    → up_to_8 head.size ≡ length x → head.header_len + length payload ≡ head.size
+    → payload ≡ take (head.size - head.header_len) (drop (place + head.header_len) volume)
+filled_payload s p head payload x rest volume at place e filled o cell_len made =
+    let n : ℕ = head.size - head.header_len in
+    let inside : head.header_len + n ≤ length x = within head.header_len (length payload) head.size (length x) made cell_len in
+    payload_behind s p head payload x filled
+    ∙ (sym (field-append_front head.header_len n x rest inside)
+    ∙ ap (take n) (ap (drop head.header_len) (sym e)
+    ∙ (drop-drop head.header_len at volume ∙ ap (λ k. drop (k + head.header_len) volume) (sym o))))
+  where
+    within : (h k n x : ℕ) → h + k ≡ n → (n + 7) / 8 * 8 ≡ x → h + (n - h) ≤ x
+    within h k n x e f = omega arith
+
+cell_payload : (s : FileSystem) (p : Polarity) (c : CellForm) (x rest volume : List ℕ) (at : ℕ) → drop at volume ≡ x ++ rest
+    → IsCell s p c x → offset_of c ≡ at → IsPayloadIn volume c
+cell_payload s p (Valid place head payload) x rest volume at e is o =
+    filled_payload s p head payload x rest volume at place e is.0 o (cell_span s p (Valid place head payload) x is)
+    (made_up s p (Valid place head payload) x is)
+cell_payload s p (Pad place head payload) x rest volume at e is o =
+    filled_payload s p head payload x rest volume at place e is.0 o (cell_span s p (Pad place head payload) x is)
+    (made_up s p (Pad place head payload) x is)
+cell_payload s p (Dead place len state) x rest volume at e is o = tt
+cell_payload s p (Stub place len) x rest volume at e is o = tt
+cell_payload s p (Free place len) x rest volume at e is o = tt
+
+-- of cells that tile a volume from the place `at` on
+pub tiled_payloads : (s : FileSystem) (p : Polarity) (at : ℕ) (cs : List CellForm) (b volume : List ℕ) → drop at volume ≡ b
+    → Tiles s p at cs b → AllByRecursion (IsPayloadIn volume) cs
+tiled_payloads s p at [] b volume e tiles = tt
+tiled_payloads s p at (c ∷ cs) b volume e (x, rest, text, is, o, free, more) =
+    let behind : drop (at + length x) volume ≡ rest =
+    sym (drop_twice at (length x) volume) ∙ (ap (drop (length x)) (e ∙ text) ∙ drop_at x rest (length x) refl) in
+    (cell_payload s p c x rest volume at (e ∙ text) is o, tiled_payloads s p (at + length x) cs rest volume behind more)
+  where
+    drop_twice : (m n : ℕ) (l : List ℕ) → drop n (drop m l) ≡ drop (m + n) l
+    drop_twice m n l = drop-drop n m l
+
+-- of the cells of a body that begins at `first`
+pub body_payloads : (s : FileSystem) (p : Polarity) (first : ℕ) (cs : List CellForm) (volume : List ℕ)
+    → Tiles s p first cs (drop first volume) → AllByRecursion (IsPayloadIn volume) cs
+body_payloads s p first cs volume tiles = tiled_payloads s p first cs (drop first volume) volume refl tiles
+
+-- ---- each file of a tiling was read
+
+-- of a file, what is known of it; of another cell nothing
+abbrev pub IsRead : FileSystem → ℕ → CellForm → Type 0
+IsRead system limit (Valid at head payload) = FileRead system limit head payload
+IsRead system limit _ = Unit {0}
+
+one_read : (system : FileSystem) (p : Polarity) (limit : ℕ) (c : CellForm) (x : List ℕ) → IsBytes x → length x ≤ limit
+    → IsCell system p c x → IsRead system limit c
+one_read system p limit (Valid at head payload) x small most is =
+    cell_read_in system p limit at head payload x small most is
+one_read system p limit (Pad at head payload) x small most is = tt
+one_read system p limit (Dead at len state) x small most is = tt
+one_read system p limit (Stub at len) x small most is = tt
+one_read system p limit (Free at len) x small most is = tt
+
+pub tiles_read : (system : FileSystem) (p : Polarity) (limit at : ℕ) (cs : List CellForm) (b : List ℕ) → IsBytes b → length b ≤ limit
+    → Tiles system p at cs b → AllByRecursion (IsRead system limit) cs
+tiles_read system p limit at [] b small most tiles = tt
+tiles_read system p limit at (c ∷ cs) b small most (x, rest, text, is, o, free, more) =
+    let parts : IsBytes (x ++ rest) = subst IsBytes text small in
+    let lens : length b ≡ length x + length rest = ap length text ∙ length-append x rest in (
+      one_read system p limit c x (bytes_front x rest parts) (omega (arith, lens, most)) is,
+      tiles_read system p limit (at + length x) cs rest (bytes_back x rest parts) (omega (arith, lens, most)) more,
+    )
+
+-- ---- by index
+
+pub within_index : (end : ℕ) (cs : List CellForm) (i : ℕ) (d : CellForm) → CellsWithin end cs → i < length cs
+    → offset_of (get_or cs i d) + cell_len (get_or cs i d) ≤ end
+within_index end [] i d all l = omega arith
+within_index end (c ∷ cs) zero d all l = all.0
+within_index end (c ∷ cs) (suc i) d all l = within_index end cs i d all.2 (omega arith)

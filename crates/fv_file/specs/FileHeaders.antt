@@ -1,0 +1,93 @@
+-- Files and their headers (PI specification, volume 3, section 3.2.3.1, EFI_FFS_FILE_HEADER and EFI_FFS_FILE_HEADER2).
+use Rattle.std.specs.Prelude.{◌≡◌, ◌≢◌, ℕ, ◌+◌, ◌%◌, ◌==◌, Bool, true, false, if◌then◌else◌, List, ◌++◌, length, take}
+use Rattle.std.specs.Prelude.{drop, slice_index, sum}
+use Rattle.fv_base.specs.Guids.{guid_of}
+use Rattle.fv_base.specs.Value.{le_at, field}
+use Rattle.fv_base.specs.declared.flash.FileSystem.{FileSystem}
+use Rattle.fv_base.specs.declared.flash.FileSystem.TheVariants.{Ffs3}
+use Rattle.fv_base.specs.declared.flash.Polarity.{Polarity}
+use Rattle.fv_file.specs.FileAttributes.{attribute_bits, attributes_by, is_fixed, is_large, is_summed}
+use Rattle.fv_file.specs.States.{StateOf}
+use Rattle.fv_file.specs.declared.head.FileHead.{FileHead}
+use Rattle.fv_file.specs.declared.state.FileState.{FileState}
+
+-- the type of a pad file (EFI_FV_FILETYPE_FFS_PAD)
+abbrev pub pad_kind : ℕ
+pad_kind = 0xf0
+
+-- the length of a short and of a large header
+abbrev pub file_header_len : Bool → ℕ
+file_header_len false = 24
+file_header_len true = 32
+
+-- the header sum in the header at the start of b (IntegrityCheck.Checksum.Header)
+abbrev pub header_sum_at : List ℕ → ℕ
+header_sum_at b = slice_index b 16
+
+-- the file sum in it (IntegrityCheck.Checksum.File)
+abbrev pub file_sum_at : List ℕ → ℕ
+file_sum_at b = slice_index b 17
+
+-- the type of the file in it (Type)
+abbrev pub file_type_at : List ℕ → ℕ
+file_type_at b = slice_index b 18
+
+-- the attribute bits in it (Attributes)
+abbrev pub attributes_at : List ℕ → ℕ
+attributes_at b = slice_index b 19
+
+-- the State byte in it (State)
+abbrev pub state_at : List ℕ → ℕ
+state_at b = slice_index b 23
+
+-- the size in a short header (Size), and in a large one (ExtendedSize)
+abbrev pub file_size_in : Bool → List ℕ → ℕ
+file_size_in false b = le_at 20 3 b
+file_size_in true b = le_at 24 8 b
+
+-- the fields of the header at the start of b, by their offsets
+abbrev pub head_in : FileState → List ℕ → FileHead
+head_in state b = record {
+  name = guid_of (take 16 b);
+  header_sum = header_sum_at b;
+  file_sum = file_sum_at b;
+  kind = file_type_at b;
+  attributes = attributes_by (attributes_at b);
+  size = file_size_in (is_large (attributes_at b)) b;
+  header_len = file_header_len (is_large (attributes_at b));
+  state = state;
+}
+
+-- the sum of a header, with the file sum at 17 (IntegrityCheck.Checksum.File) and State at 23 taken as zero
+abbrev pub header_sum_of : List ℕ → ℕ
+header_sum_of h = (sum (take 17 h) + sum (field 18 5 h) + sum (drop 24 h)) % 256
+
+-- the file sum of a file whose data are not summed (FFS_FIXED_CHECKSUM)
+abbrev pub fixed_checksum : ℕ
+fixed_checksum = 0xaa
+
+-- with the checksum attribute, the data and the file sum sum to zero; else the file sum is the fixed one
+abbrev pub file_sum_right : ℕ → ℕ → List ℕ → Bool
+file_sum_right attributes file_sum payload =
+    if is_summed attributes then (sum payload + file_sum) % 256 == 0 else file_sum == fixed_checksum
+
+-- the bytes h are the header with these fields; a large one is allowed in FFS3 only, and its Size is zero
+pub record IsFileHeader (system : FileSystem) (polarity : Polarity) (head : FileHead) (h : List ℕ) : Type 0 where
+  pub whole : length h ≡ file_header_len (is_large (attributes_at h))
+  pub fields : head ≡ head_in head.state h
+  pub state : StateOf (state_at h) polarity head.state
+  pub large : is_large (attributes_at h) ≡ true → (system ≡ Ffs3) × (le_at 20 3 h ≡ 0)
+  pub sum : header_sum_of h ≡ 0
+
+-- the bytes are a header and its data
+pub record IsFile (system : FileSystem) (polarity : Polarity) (head : FileHead) (payload b : List ℕ) : Type 0 where
+  pub header : List ℕ
+  pub text : b ≡ header ++ payload
+  pub is_header : IsFileHeader system polarity head header
+  pub size : head.size ≡ length b
+
+-- no pad, not fixed, and the file sum is right
+pub record IsSound (head : FileHead) (payload : List ℕ) : Type 0 where
+  pub kind : head.kind ≢ pad_kind
+  pub moves : is_fixed (attribute_bits head.attributes) ≡ false
+  pub file_sum : file_sum_right (attribute_bits head.attributes) head.file_sum payload ≡ true

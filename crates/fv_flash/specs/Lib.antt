@@ -1,0 +1,3 @@
+-- The definitions in the order in which they can be read.
+pub mod FoundVolumes
+pub mod inner

@@ -1,0 +1,6 @@
+//! The firmware volumes in some bytes: where they begin.
+#![tactic(auto)]
+
+mod scanner;
+
+pub use scanner::{Offsets, scan};

@@ -1,0 +1,121 @@
+-- The cells of a volume fit into it, their bytes are counted one after the other, and why an input has none.
+use Rattle.std.proofs.Common.{◌≡◌, ◌∙◌, ◌≤◌, ◌<◌, ◌+◌, ◌^◌, ℕ, zero, suc, List, [], ◌∷◌, ◌++◌, length, take, drop, get_or}
+use Rattle.std.proofs.Common.{refl, sym, ap, subst, arith, length-append, length-drop}
+use Rattle.std.specs.Prelude.{◌⊎◌, ◌≢◌, map}
+use Rattle.std.specs.List.{AllByRecursion, sum_by}
+use Rattle.std.proofs.lemmas.List.{length-take-le, map-append, map_more, take-append-drop}
+use Rattle.std.proofs.lemmas.List.Sums.{sum_by-append, sum_by-cons, sum_by_push}
+use Rattle.fv_base.proofs.Laws.{or_more, want_known}
+use Rattle.fv_base.specs.Faults.{out_of_memory}
+use Rattle.fv_base.specs.Limits.{volume_limit}
+use Rattle.fv_base.specs.declared.fault.Fault.{Fault}
+use Rattle.fv_base.specs.declared.flash.FileSystem.{FileSystem}
+use Rattle.fv_base.specs.declared.flash.Polarity.{Polarity}
+use Rattle.fv_file.proofs.Laws.{cell_span}
+use Rattle.fv_file.specs.Cells.{CellForm, Valid, Pad, Dead, Stub, Free, Tiles}
+use Rattle.fv_file.specs.CellForms.{CellsWithin, cell_len}
+use Rattle.fv_head.specs.declared.extent.Extent.{Extent}
+use Rattle.fv_tree.specs.LocatedFiles.{BeginsTiled, NotTiled}
+use Rattle.fv_lines.specs.CellTexts.{CellsText, cell_lines, dead_length, file_length, filler_length, free_length, pad_length, sums_of}
+use Rattle.fv_lines.specs.inner.LineRuns.{FitTogether, Fits, counted, sums_with}
+
+-- ---- sums
+
+pushed : (cs : List CellForm) (c : CellForm) → sums_of (cs ++ c ∷ []) ≡ sums_with (sums_of cs) c
+pushed cs c =
+    rw (
+      sum_by_push file_length cs c,
+      sum_by_push pad_length cs c,
+      sum_by_push dead_length cs c,
+      sum_by_push filler_length cs c,
+      sum_by_push free_length cs c,
+    ) refl
+
+-- those with one cell more, where the cells are seen as forms
+pub sums_next : {X : Type 0} (see : X → CellForm) (xs : List X) (i : ℕ) (d : X) → i < length xs
+    → sums_of (map see (take (i + 1) xs)) ≡ sums_with (sums_of (map see (take i xs))) (see (get_or xs i d))
+sums_next see xs i d l = ap sums_of (map_more see xs i d l) ∙ pushed (map see (take i xs)) (see (get_or xs i d))
+
+one : (c : CellForm) → file_length c + pad_length c + dead_length c + filler_length c + free_length c ≡ cell_len c
+one (Valid at head payload) = omega arith
+one (Pad at head payload) = omega arith
+one (Dead at n state) = omega arith
+one (Stub at n) = omega arith
+one (Free at n) = omega arith
+
+-- each byte of a cell is counted once
+pub counted_is : (cs : List CellForm) → counted (sums_of cs) ≡ sum_by cell_len cs
+counted_is [] = refl
+counted_is (c ∷ cs) =
+    omega (
+      arith,
+      sum_by-cons file_length c cs,
+      sum_by-cons pad_length c cs,
+      sum_by-cons dead_length c cs,
+      sum_by-cons filler_length c cs,
+      sum_by-cons free_length c cs,
+      sum_by-cons cell_len c cs,
+      counted_is cs,
+      one c,
+    )
+
+-- so no sum is too large
+pub counted_next : {X : Type 0} (see : X → CellForm) (xs : List X) (i : ℕ) (d : X) → i < length xs
+    → sum_by cell_len (map see xs) < 2 ^ 63 → counted (sums_of (map see (take i xs))) + cell_len (see (get_or xs i d)) < 2 ^ 63
+counted_next see xs i d l small =
+    let front = map see (take i xs) in
+    let c = see (get_or xs i d) in
+    let parts : sum_by cell_len (map see xs) ≡ sum_by cell_len (front ++ c ∷ []) + sum_by cell_len (map see (drop (i + 1) xs)) =
+    ap (λ ys. sum_by cell_len (map see ys)) (sym (take-append-drop (i + 1) xs))
+    ∙ (ap (sum_by cell_len) (map-append see (take (i + 1) xs) (drop (i + 1) xs))
+    ∙ (sum_by-append cell_len (map see (take (i + 1) xs)) (map see (drop (i + 1) xs))
+    ∙ ap (λ cs. sum_by cell_len cs + sum_by cell_len (map see (drop (i + 1) xs))) (map_more see xs i d l))) in
+    omega (arith, small, parts, sum_by_push cell_len front c, counted_is front)
+
+-- ---- cells fit into a volume
+
+-- one of those that fit, where the cells are seen as forms
+pub fits_at : {X : Type 0} (see : X → CellForm) (xs : List X) (i : ℕ) (d : X) → i < length xs
+    → AllByRecursion Fits (map see xs) → Fits (see (get_or xs i d))
+fits_at see [] i d l all = absurd (omega (arith, l))
+fits_at see (x ∷ xs) zero d l all = all.0
+fits_at see (x ∷ xs) (suc i) d l all = fits_at see xs i d (omega (arith, l)) all.1
+
+all_fit : (end : ℕ) (cs : List CellForm) → end ≤ volume_limit → CellsWithin end cs → AllByRecursion Fits cs
+all_fit end [] small within = tt
+all_fit end (c ∷ cs) small (lies, made, rest) =
+    (record { within = omega (arith, lies, small); made_up = made }, all_fit end cs small rest)
+
+tiles_sum : (s : FileSystem) (p : Polarity) (at : ℕ) (cs : List CellForm) (b : List ℕ) → Tiles s p at cs b → sum_by cell_len cs ≡ length b
+tiles_sum s p at [] b text = sym (ap length text)
+tiles_sum s p at (c ∷ cs) b (x, rest, text, is, place, last, more) =
+    omega (
+      arith,
+      sum_by-cons cell_len c cs,
+      cell_span s p c x is,
+      tiles_sum s p (at + length x) cs rest more,
+      ap length text,
+      length-append x rest,
+    )
+
+-- the cells of the volume with which an input begins
+pub fit_together : (input : List ℕ) (e : Extent) (cs : List CellForm) → BeginsTiled e cs input
+    → CellsWithin (length (take e.length input)) cs → FitTogether cs
+fit_together input e cs b within =
+    let volume = take e.length input in
+    let small : length volume ≤ volume_limit =
+    omega (arith, length-take-le e.length input b.front.whole, b.front.length_is, b.front.head.volume_most) in
+    record {
+      each = all_fit (length volume) cs small within;
+      together =
+          omega (arith, tiles_sum e.file_system e.polarity e.first cs (drop e.first volume) b.tiles, length-drop e.first volume, small);
+    }
+
+-- the text of an input, by its cells as the code has them
+pub cells_told : (input : List ℕ) (e : Extent) (cs ds : List CellForm) → BeginsTiled e cs input → ds ≡ cs
+    → CellsText input (cell_lines e.first ds)
+cells_told input e cs ds b is = (e, ds, subst (λ (xs : List CellForm). BeginsTiled e xs input) (sym is) b, refl)
+
+-- memory ran out, or the input has no cells
+pub none_tiled : (input : List ℕ) (f : Fault) → (f ≢ out_of_memory → NotTiled input f) → (f ≡ out_of_memory) ⊎ NotTiled input f
+none_tiled input f other = or_more (want_known f) other

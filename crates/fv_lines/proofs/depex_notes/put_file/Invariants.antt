@@ -1,0 +1,11 @@
+use Rattle.fv_lines.specs.inner.LineRuns.{PutsNotes}
+use Rattle.fv_lines.specs.Notes.{sections_depexes}
+use Rattle.fv_lines.proofs.depex_notes.put_file.Given as goal
+
+-- once the notes of the sections that are left are put, those of all are
+abbrev pub invariant-loop-section : goal.invariant-loop-section
+invariant-loop-section g l =
+    (goal.iterator-loop-section g).can_next l.section-iterator
+    × (goal.iterator-loop-section g).is_finite l.section-iterator
+    × ((end : _) → PutsNotes g.S.Sink.takes (sections_depexes l.name l.section-iterator) l.out end
+    → PutsNotes g.S.Sink.takes (sections_depexes l.name l.initial.section-iterator) l.initial.out end)

@@ -1,0 +1,45 @@
+-- What the code that writes lines knows of indents, of cells and of notes.
+use Rattle.std.specs.Prelude.{ℕ, ◌+◌, ◌≤◌, List}
+use Rattle.fv_lines.specs.declared.indent.Indent.{Indent}
+use Rattle.fv_lines.specs.declared.indent.Indent.TheVariants.{Margin, Inside'}
+use Rattle.std.specs.List.{AllByRecursion, sum_by}
+use Rattle.fv_base.specs.Limits.{volume_limit}
+use Rattle.fv_file.specs.Cells.{CellForm, offset_of}
+use Rattle.fv_file.specs.CellForms.{IsMadeUp, cell_len}
+use Rattle.fv_lines.specs.CellTexts.{dead_length, file_length, filler_length, free_length, pad_length}
+use Rattle.fv_lines.specs.declared.cell_text.LengthSums.{LengthSums}
+use Rattle.fv_lines.specs.Notes.{AreNotes, HeldDepex, depex_lines}
+use Rattle.fv_lines.specs.declared.depex_notes.DepexNote.{DepexNote}
+
+-- how far a line is indented, as the code holds it
+abbrev pub levels : Indent → ℕ
+levels Margin = 0
+levels (Inside' p outer) = levels outer + 1
+
+-- a cell ends within the bytes that a volume may have
+pub record Fits (c : CellForm) : Type 0 where
+  pub within : offset_of c + cell_len c ≤ volume_limit
+  pub made_up : IsMadeUp c
+
+-- each of the cells does, and together they have no more bytes
+pub record FitTogether (cells : List CellForm) : Type 0 where
+  pub each : AllByRecursion Fits cells
+  pub together : sum_by cell_len cells ≤ volume_limit
+
+-- the sums with those of one cell more
+abbrev pub sums_with : LengthSums → CellForm → LengthSums
+sums_with sums c = record {
+  files = sums.files + file_length c;
+  pads = sums.pads + pad_length c;
+  deleted = sums.deleted + dead_length c;
+  filler = sums.filler + filler_length c;
+  free = sums.free + free_length c;
+}
+
+-- all bytes that were counted
+abbrev pub counted : LengthSums → ℕ
+counted sums = sums.files + sums.pads + sums.deleted + sums.filler + sums.free
+
+-- the lines of the notes of these expressions were put
+abbrev pub PutsNotes : {S : Type 0} (takes : S → List ℕ → S → Type 0) → List HeldDepex → S → S → Type 0
+PutsNotes takes xs s t = (notes : List DepexNote) × AreNotes xs notes × takes s (depex_lines notes) t

@@ -1,0 +1,54 @@
+-- Files with a twin, or with a volume top file that is not at the end, are those of no volume.
+use Rattle.std.proofs.lemmas.Grind.{common_steps}
+use Rattle.std.proofs.Common.{◌≡◌, ◌⊎◌, ℕ, List, [], ◌∷◌, ◌++◌, length-append, Bool, true, refl, subst, arith}
+use Rattle.std.proofs.Common.{inl, inr}
+use Rattle.std.specs.List.{list_any}
+use Rattle.std.proofs.lemmas.Bool.{or_cases}
+use Rattle.std.proofs.lemmas.List.{get_or_at}
+use Rattle.std.proofs.lemmas.List.Folds.{list_any_at}
+use Rattle.std.proofs.lemmas.Slice.Eq.{bytes_eq-Decides}
+use Rattle.fv_base.specs.Checks.{Which}
+use Rattle.fv_base.proofs.Laws.{and_join, and_split, up_is_not_down}
+use Rattle.fv_base.specs.declared.fault.Fault.{Fault}
+use Rattle.fv_file.specs.Cells.{CellForm}
+use Rattle.fv_tree.specs.FirstFault.{HasTwin, TopElsewhere, NamesFault}
+use Rattle.fv_tree.specs.VolumeFiles.{FileForm, files_in, same_name, is_twin, NoTwins, current_in, is_top, end_of, TopAtEnd}
+use Rattle.fv_tree.specs.VolumeFiles.{AreCurrent}
+
+pub same_name_back : (f g : FileForm) → same_name f g ≡ true → same_name g f ≡ true
+same_name_back f g h = grind (arith, common_steps, bytes_eq-Decides)
+
+pub twin_back : (f g : FileForm) → is_twin f g ≡ true → is_twin g f ≡ true
+twin_back f g h = grind (arith, common_steps, and_split, and_join, same_name_back)
+
+any_behind : (p : FileForm → Bool) (xs : List FileForm) (f : FileForm) (ys : List FileForm) → p f ≡ true
+    → list_any p (xs ++ (f ∷ ys)) ≡ true
+any_behind p xs f ys h = grind (arith, common_steps, list_any_at, length-append, get_or_at)
+
+twin_not : (before : List FileForm) (f : FileForm) (after : List FileForm) → NoTwins (before ++ (f ∷ after))
+    → list_any (is_twin f) before ≡ true → ⊥
+twin_not [] f after none h = let x : ⊥ = cc in x
+twin_not (g ∷ gs) f after none h = go (twin_not gs f after none.1) (or_cases (is_twin f g) (list_any (is_twin f) gs) h) where
+  go : (list_any (is_twin f) gs ≡ true → ⊥) → (is_twin f g ≡ true) ⊎ (list_any (is_twin f) gs ≡ true) → ⊥
+  go rest (inl t) = up_is_not_down (list_any (is_twin g) (gs ++ (f ∷ after))) (any_behind (is_twin g) gs f after (twin_back f g t)) none.0
+  go rest (inr t) = rest t
+
+pub twin_none : (which : Which) (f : FileForm) (fs : List FileForm) → HasTwin which f fs → NoTwins fs → ⊥
+twin_none which f fs (before, after, is, none, has) all = twin_not before f after (subst NoTwins is all) has
+
+top_not : (n : ℕ) (before : List FileForm) (f : FileForm) (after : List FileForm) → TopAtEnd n (before ++ (f ∷ after))
+    → is_top f ≡ true → (after ≡ [] → end_of f ≡ n → ⊥) → ⊥
+top_not n [] f [] all top off = off refl (all top)
+top_not n [] f (g ∷ gs) all top off = up_is_not_down (is_top f) top all.0
+top_not n (x ∷ []) f after all top off = top_not n [] f after all.1 top off
+top_not n (x ∷ y ∷ xs) f after all top off = top_not n (y ∷ xs) f after all.1 top off
+
+top_none : (n : ℕ) (f : FileForm) (fs : List FileForm) → TopElsewhere n f fs → TopAtEnd n fs → ⊥
+top_none n f fs (before, after, is, top, off) all = top_not n before f after (subst (TopAtEnd n) is all) top off
+
+-- a volume whose files have a fault has none
+pub current_none : (which : Which) (n : ℕ) (cells : List CellForm) (f : Fault) (files : List FileForm)
+    → NamesFault which n (files_in cells) f → AreCurrent n (files_in cells) files → ⊥
+current_none which n cells f files (inl (x, twin, is)) all = twin_none which x (files_in cells) twin all.no_twins
+current_none which n cells f files (inr (none, x, top, is)) all = top_none n x (current_in (files_in cells)) top (subst
+    (TopAtEnd n) all.files_are all.top)

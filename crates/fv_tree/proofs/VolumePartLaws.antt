@@ -1,0 +1,97 @@
+-- A volume that bytes begin with is its header and its files. The steps:
+-- 1. A header and files make a volume (`made`), and a volume has them (`front_of`, `has_files`).
+-- 2. The fault of a header is the first fault of the bytes (`head_first`).
+-- 3. A body that is opened is one volume (`opened_whole`).
+use Rattle.std.proofs.Common.{◌≡◌, ◌≤◌, ◌⊎◌, ℕ, List, [], ◌∷◌, length, take, refl, sym, ap, ◌∙◌, subst}
+use Rattle.std.proofs.Common.{arith, inl, inr}
+use Rattle.std.specs.Prelude.{◌≢◌}
+use Rattle.std.proofs.lemmas.List.{length-take-le, take_all}
+use Rattle.fv_base.specs.Checks.{IsFirstFault, First}
+use Rattle.fv_base.specs.Faults.{out_of_memory}
+use Rattle.fv_base.specs.declared.fault.Fault.{Fault}
+use Rattle.fv_base.proofs.Laws.{take-take_le}
+use Rattle.fv_head.specs.Head.{HeadFields, BeginsVolume}
+use Rattle.fv_head.specs.HeadChecks.{head_checks, volume_len_at}
+use Rattle.fv_head.specs.declared.extent.Extent.{Extent}
+use Rattle.fv_head.proofs.Laws.{front_extent, front_same, one_front}
+use Rattle.fv_tree.specs.LocatedFiles.{StandIn}
+use Rattle.fv_tree.specs.Denotes.{Stream, StreamRelation, Denotes, MeansFile, Opens, Pairwise}
+use Rattle.fv_tree.specs.VolumeFiles.{FileForm}
+use Rattle.fv_base.specs.declared.fault.Place.{Place}
+use Rattle.fv_tree.specs.FirstFault.{moved_fault, InVolume}
+use Rattle.fv_tree.specs.Meaning.{Meaning, Volume, FileMeaning, files_list, head_of, files_of}
+use Rattle.fv_tree.specs.MeaningParts.{files_from}
+
+-- the volume has some files, and these are their meanings
+abbrev pub HasFiles : StreamRelation → Extent → List ℕ → List FileMeaning → Type 0
+HasFiles is_stream e volume ms = (files : List FileForm) × StandIn e volume files × Pairwise (MeansFile is_stream) files ms
+
+-- the list of files from a list is that list
+pub files_list_back : (fs : List FileMeaning) → files_list (files_from fs) ≡ fs
+files_list_back [] = refl
+files_list_back (f ∷ fs) = ap (λ l. f ∷ l) (files_list_back fs)
+
+-- ---- a header and files make a volume
+
+pub made : (n : ℕ) (b : List ℕ) (h : HeadFields) (e : Extent) (ms : List FileMeaning) → BeginsVolume h e b
+    → HasFiles (Stream n) e (take e.length b) ms
+    → Denotes n (take e.length b) (Volume h (files_from ms))
+made n b h e ms front has =
+    let long : length (take e.length b) ≡ e.length = length-take-le e.length b front.whole in
+    let P : List FileMeaning → Type 0 = λ l. HasFiles (Stream n) e (take e.length b) l in
+    let all : HasFiles (Stream n) e (take e.length b) (files_list (files_from ms)) = subst P (sym (files_list_back ms)) has in
+    let stand : StandIn e (take e.length b) all.0 = all.1 in
+    record {
+      extent = e;
+      front = front_same b (take e.length b) h e front (omega (arith, long)) (take-take_le e.length e.length b (omega arith));
+      whole = long;
+      cells = stand.cells;
+      tiles = stand.tiles;
+      files = all.0;
+      current = stand.current;
+      meanings = all.2;
+    }
+
+-- ---- a volume has a header and files
+
+pub front_of : (n k : ℕ) (b : List ℕ) (m : Meaning) → k ≤ length b → (d : Denotes n (take k b) m) → BeginsVolume (head_of m) d.extent b
+    × (d.extent.length ≡ k)
+front_of n k b m within d =
+    let same : k ≡ d.extent.length = sym (length-take-le k b within) ∙ d.whole in (
+      front_same (take k b) b (head_of m) d.extent d.front (omega (arith, same, within)) (ap (λ (j : ℕ). take j b) (sym same)
+          ∙ sym (ap (λ (j : ℕ). take j (take k b)) (sym same) ∙ take-take_le k k b (omega arith))),
+      sym same,
+    )
+
+has_of : (n k : ℕ) (b : List ℕ) (m : Meaning) → (d : Denotes n (take k b) m) → HasFiles (Stream n) d.extent (take k b) (files_of m)
+has_of n k b (Volume h fs) d = (d.files, record { cells = d.cells; tiles = d.tiles; current = d.current }, d.meanings)
+
+-- the volume's files, by a header that the bytes begin with
+pub has_files : (n k : ℕ) (b : List ℕ) (m : Meaning) (h : HeadFields) (e : Extent) → BeginsVolume h e b → k ≤ length b
+    → Denotes n (take k b) m
+    → (head_of m ≡ h) × (k ≡ e.length) × HasFiles (Stream n) e (take e.length b) (files_of m)
+has_files n k b m h e front within d =
+    let other = front_of n k b m within d in
+    let same = one_front b (head_of m) h d.extent e other.0 front in
+    let len : k ≡ e.length = sym other.1 ∙ ap (λ (x : Extent). x.length) same.1 in
+    let P : Extent → Type 0 = λ x. HasFiles (Stream n) x (take k b) (files_of m) in
+    let Q : ℕ → Type 0 = λ j. HasFiles (Stream n) e (take j b) (files_of m) in
+    (same.0, len, subst Q len (subst P same.1 (has_of n k b m d)))
+
+-- ---- faults of the header
+
+pub head_first : (n : ℕ) (b : List ℕ) (f g : Fault) (at : Place) → (f ≡ out_of_memory) ⊎ IsFirstFault (head_checks b) f
+    → f ≢ out_of_memory → g ≡ moved_fault at.offset at.depth f → InVolume First n g b at
+head_first n b f g at (inl want) ne is = absurd (ne want)
+head_first n b f g at (inr first) ne is = inl (f, first, is)
+
+-- ---- an opened body is one volume
+
+pub opened_whole : (n r : ℕ) (b : List ℕ) (m : Meaning) → Opens b → r ≤ length b → Denotes n (take r b) m → Denotes n b m
+opened_whole n r b m o within d =
+    let f = front_of n r b m within d in
+    let says = front_extent b (head_of m) d.extent f.0 in
+    let len : volume_len_at b ≡ d.extent.length = ap (λ (x : Extent). x.length) says.1 in
+    let same : r ≡ length b = sym f.1 ∙ sym len ∙ o.whole in
+    let P : List ℕ → Type 0 = λ c. Denotes n c m in
+    subst P (take_all r b (omega (arith, same))) d

@@ -1,0 +1,92 @@
+-- The laws of whole inputs: the volume that one is, or why it is none.
+use Rattle.std.proofs.lemmas.Grind.{common_steps}
+use Rattle.std.proofs.Common.{◌≡◌, ◌≢◌, ◌≤◌, ◌<◌, ℕ, List, length, take, refl, sym, ap, ◌∙◌, subst, arith, inl, inr, ◌⊎◌, true, false}
+use Rattle.std.specs.Prelude.{◌==◌}
+use Rattle.std.proofs.lemmas.List.{take_all}
+use Rattle.std.proofs.lemmas.Bool.{eqb-true, eq-eqb}
+use Rattle.fv_base.proofs.Laws.{or_more, want_known}
+use Rattle.fv_base.specs.Faults.{outer_fault, out_of_memory}
+use Rattle.fv_base.specs.declared.fault.Fault.{Fault}
+use Rattle.fv_base.specs.declared.fault.FaultKind.{FaultKind}
+use Rattle.fv_base.specs.declared.fault.FaultKind.TheVariants as kinds
+use Rattle.fv_base.specs.Limits.{depth_limit}
+use Rattle.fv_head.specs.HeadChecks.{BeginsWithHeader}
+use Rattle.fv_tree.specs.Denotes.{Accepted, Denotes}
+use Rattle.fv_tree.specs.FirstFault.{FaultStands, IsFirstOfVolume}
+use Rattle.fv_tree.specs.InputFaults.{GoesOn, MemoryRanOut, NotRead}
+use Rattle.fv_tree.specs.Meaning.{Meaning, length_of}
+use Rattle.fv_tree.proofs.FaultKindLaws.{stands_other}
+
+-- ---- an input and the volume that it begins with
+
+-- an input that is a volume begins with it
+pub input_prefix : (b : List ℕ) (m : Meaning) → Denotes depth_limit b m → Denotes depth_limit (take (length b) b) m
+input_prefix b m d = subst (λ (xs : List ℕ). Denotes depth_limit xs m) (sym (take_all (length b) b (omega arith))) d
+
+-- an input that begins with no volume is none
+pub volume_refused : (b : List ℕ) (f : Fault)
+    → (f ≢ out_of_memory → (n : ℕ) (m : Meaning) → n ≤ length b → Denotes depth_limit (take n b) m → ⊥)
+    → (f ≢ out_of_memory → IsFirstOfVolume b f) → (f ≡ out_of_memory) ⊎ NotRead b f
+volume_refused b f none first =
+    or_more (want_known f) (λ other. record {
+      none = λ m d. none other (length b) m (omega arith) (input_prefix b m d.1);
+      first = inl (first other);
+    })
+
+-- one that goes on after its volume is none
+not_the_end : (b : List ℕ) (n : ℕ) → (n == length b) ≡ false → n ≢ length b
+not_the_end b n differs same = let bad : true ≡ false = sym (eq-eqb n (length b) same) ∙ differs in cc
+
+pub goes_on : (b : List ℕ) (f : Fault) (v : Meaning) (n : ℕ) → Accepted (take n b) v → (n ≡ length_of v) × (n ≤ length b)
+    → (n == length b) ≡ false → f ≡ outer_fault kinds.Length n → GoesOn b f
+goes_on b f v n accepted (own, within) differs is =
+    (v, at, subst (λ (k : ℕ). k < length b) own less, is ∙ ap (outer_fault kinds.Length) own)
+  where
+    below : (k l : ℕ) → k ≤ l → k ≢ l → k < l
+    below k l low ne = omega (arith, low, ne)
+
+    less : n < length b
+    less = below n (length b) within (not_the_end b n differs)
+
+    at : Accepted (take (length_of v) b) v
+    at = subst (λ (k : ℕ). Accepted (take k b) v) own accepted
+
+pub end_refused : (b : List ℕ) (f : Fault) (v : Meaning) (n : ℕ) → Accepted (take n b) v → (n ≡ length_of v) × (n ≤ length b)
+    → (n == length b) ≡ false → f ≡ outer_fault kinds.Length n
+    → ((k : ℕ) (m : Meaning) → k ≤ length b → Denotes depth_limit (take k b) m → (m ≡ v) × (k ≡ n)) → NotRead b f
+end_refused b f v n accepted long differs is only = record {
+  none = λ m d. not_the_end b n differs (sym (only (length b) m (omega arith) (input_prefix b m d.1)).1);
+  first = inr (goes_on b f v n accepted long differs is);
+}
+
+-- one that ends with its volume is it
+pub end_found : (b : List ℕ) (v : Meaning) (n : ℕ) → Accepted (take n b) v → (n == length b) ≡ true → Accepted b v
+end_found b v n d same = subst (λ (xs : List ℕ). Accepted xs v) (take_all n b (omega (arith, eqb-true n (length b) same))) d
+
+-- and no other volume
+pub end_only : (b : List ℕ) (v : Meaning) (n : ℕ)
+    → ((k : ℕ) (m : Meaning) → k ≤ length b → Denotes depth_limit (take k b) m → (m ≡ v) × (k ≡ n)) → (m : Meaning) → Accepted b m → m ≡ v
+end_only b v n only m d = (only (length b) m (omega arith) (input_prefix b m d.1)).0
+
+-- ---- memory
+
+-- memory runs out only where the input begins with the header of a volume
+pub ran_out : {P : Type 0} (b : List ℕ) (f : Fault) → (f ≡ out_of_memory) ⊎ P → (f ≡ out_of_memory → BeginsWithHeader b)
+    → MemoryRanOut b f ⊎ P
+ran_out b f (inl want) front = inl (want, front want)
+ran_out b f (inr why) front = inr why
+
+-- ---- the kinds of faults
+
+-- a kind that is none of a run's own
+abbrev pub IsOfInput : FaultKind → Type 0
+IsOfInput kind = (kind ≢ kinds.ReadFault) × (kind ≢ kinds.WriteFault)
+
+-- a fault has such a kind where it has one unless it is out of memory
+pub input_kind : (f : Fault) → (f ≢ out_of_memory → IsOfInput f.kind) → IsOfInput f.kind
+input_kind f known = grind (arith, common_steps, want_known)
+
+-- so the kind of a fault whose condition holds is none of a run
+pub stood_kind : (b : List ℕ) (f : Fault) → (f ≢ out_of_memory → FaultStands b f) → IsOfInput f.kind
+stood_kind b f stands =
+    input_kind f (λ other. (stands_other b f kinds.ReadFault refl (stands other), stands_other b f kinds.WriteFault refl (stands other)))

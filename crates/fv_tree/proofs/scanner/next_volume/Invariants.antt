@@ -1,9 +1,0 @@
-use Rattle.std.proofs.Common.{◌+◌, ◌-◌, length}
-use Rattle.fv_tree.specs.inner.FoundWalks.{IsReached}
-use Rattle.fv_tree.proofs.scanner.next_volume.Given as goal
-
-abbrev pub invariant-loop-at : goal.invariant-loop-at
-invariant-loop-at l = IsReached l.bytes l.from l.place
-
-abbrev pub decreases-loop-at : goal.decreases-loop-at
-decreases-loop-at l = length l.bytes + 1 - l.place

@@ -1,0 +1,13 @@
+use Rattle.std.proofs.Common.{◌≡◌, length}
+use Rattle.fv_tree.specs.SectionWalks.{AreLevels, left_in}
+use Rattle.fv_tree.proofs.section_walk.SectionWalkIterator.next.Given as goal
+
+-- no section was taken yet
+abbrev pub invariant-loop-level : goal.invariant-loop-level
+invariant-loop-level l = record {
+  levels : AreLevels 0 l.self-inside.levels;
+  left : left_in l.initial.self-inside.levels ≡ left_in l.self-inside.levels;
+}
+
+abbrev pub decreases-loop-level : goal.decreases-loop-level
+decreases-loop-level l = length l.self-inside.levels

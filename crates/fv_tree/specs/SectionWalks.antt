@@ -1,0 +1,24 @@
+-- What a walk over the sections of a file has left, level by level.
+use Rattle.std.specs.Prelude.{ℕ, ◌+◌, ◌≤◌, List, [], ◌∷◌, ◌++◌}
+use Rattle.std.specs.List.{AllByRecursion}
+use denote.Ref.{Bor}
+use Rattle.fv_base.specs.Limits.{depth_limit}
+use Rattle.fv_section.specs.Frames.{FrameForm}
+use Rattle.fv_tree.specs.Denotes.{MeansSection}
+use Rattle.fv_tree.specs.LookupInstances.{preorder}
+use Rattle.fv_tree.specs.Meaning.{SectionMeaning}
+use Rattle.fv_tree.specs.MeaningParts.{sections_from}
+
+-- the sections of some levels, each with those in it, in preorder: the last level is the innermost, and comes first
+abbrev pub left_in : List (Bor (List SectionMeaning)) → List SectionMeaning
+left_in [] = []
+left_in (ss ∷ levels) = left_in levels ++ preorder (sections_from ss.now)
+
+-- groups and volumes in a section nest at most as deep as the limit allows inside `depth` groups
+abbrev pub NestsAt : ℕ → SectionMeaning → Type 0
+NestsAt depth s = (n : ℕ) × (depth + n ≤ depth_limit) × (f : FrameForm) × MeansSection n f s
+
+-- the sections of the first of the levels are inside `depth` groups, and those of each other level inside one group more
+abbrev pub AreLevels : ℕ → List (Bor (List SectionMeaning)) → Type 0
+AreLevels depth [] = Unit {0}
+AreLevels depth (ss ∷ levels) = AllByRecursion (NestsAt depth) ss.now × AreLevels (depth + 1) levels

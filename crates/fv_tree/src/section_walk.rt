@@ -1,0 +1,122 @@
+//! The sections of a file, one after another.
+
+ghost use Rattle.std.specs.Prelude.{◌≡◌, ◌<◌, [], ◌∷◌, ◌++◌, length, IfSome, IfNone};
+ghost use Rattle.std.specs.Iterator.{YieldsFirstRef, item_count};
+ghost use Rattle.fv_tree.specs.LookupInstances.{preorder};
+ghost use Rattle.fv_tree.specs.Meaning.{content_of};
+ghost use Rattle.fv_tree.specs.MeaningParts.{sections_in_data};
+
+use crate::view::{FileView, SectionView};
+use std::marker::Model;
+
+// At most ten items.
+#[derive(Drop)]
+struct Stack<T: Copy> {
+    items: [T; 10],
+    count: usize,
+}
+
+impl<T: Copy> Model for Stack<T> {
+    ghost use Rattle.std.specs.Prelude.{◌≤◌, List, take};
+
+    ghost Value = { List T };
+
+    ghost view = { λ s. take s.count s.items };
+
+    ghost invariant = { λ s. s.count ≤ 10 };
+}
+
+impl<T: Copy> Stack<T> {
+    // One item.
+    fn of(item: T) -> Stack<T>
+        ensures { result ≡ item ∷ [] }
+    {
+        Stack {
+            items: [item; 10],
+            count: 1,
+        }
+    }
+
+    // Adds an item at the end.
+    fn push(&mut self, item: T)
+        requires { length self.old < 10 }
+        ensures { self.new ≡ self.old ++ item ∷ [] }
+    {
+        let count = self.count;
+        self.items[count] = item;
+        self.count = count + 1;
+    }
+
+    // Removes the last item, and returns it.
+    fn pop(&mut self) -> Option<T>
+        ensures some { IfSome result (λ item. self.old ≡ self.new ++ item ∷ []) }
+        ensures none { IfNone result ((self.old ≡ []) × (self.new ≡ [])) }
+    {
+        if self.count == 0 {
+            return None;
+        }
+        let last = self.count - 1;
+        self.count = last;
+        Some(self.items[last])
+    }
+}
+
+/// The sections of a file, one after another in preorder: a group is followed by the sections in
+/// it. The sections of a nested volume are not among them. Contracts see the list of the sections
+/// that are left. (PI specification, volume 3, section 3.2.4.)
+#[derive(Drop)]
+pub struct SectionWalk<'v, 'a> {
+    // The sections that are left at each level: those of the file first, and then those of each
+    // group that the walk is in. Groups nest at most eight deep, and what is in the innermost
+    // sections, which is nothing, is the tenth level.
+    levels: Stack<&'v [SectionView<'a>]>,
+}
+
+impl<'v, 'a> Model for SectionWalk<'v, 'a> {
+    ghost use Rattle.std.specs.Prelude.{List};
+    ghost use Rattle.std.specs.Coded.{coded_list};
+    ghost use Rattle.fv_tree.specs.inner.Codes.{section_code};
+    ghost use Rattle.fv_tree.specs.Meaning.{SectionMeaning};
+
+    ghost Value = { List SectionMeaning };
+
+    ghost coded = { coded_list section_code };
+
+    ghost use Rattle.fv_tree.specs.SectionWalks.{AreLevels, left_in};
+
+    ghost view = { λ w. left_in w.levels };
+
+    ghost invariant = { λ w. AreLevels 0 w.levels };
+}
+
+impl<'v, 'a> SectionWalk<'v, 'a> {
+    /// A walk over all sections of a file: none if its data are plain bytes. Takes no memory. (PI
+    /// specification, volume 3, section 3.2.4.)
+    pub fn of(file: &'v FileView<'a>) -> SectionWalk<'v, 'a>
+        ensures { result ≡ preorder (sections_in_data (content_of file.now)) }
+    {
+        file.known();
+        SectionWalk {
+            levels: Stack::of(file.sections()),
+        }
+    }
+}
+
+impl<'v, 'a> Iterator for SectionWalk<'v, 'a> {
+    type Item = &'v SectionView<'a>;
+
+    ghost next_gives = { YieldsFirstRef (λ left. left) };
+
+    ghost remaining = { item_count (λ left. left) };
+
+    fn next(&mut self) -> Option<&'v SectionView<'a>> {
+        while let Some(level) = self.levels.pop() {
+            if let Some((first, rest)) = level.split_first() {
+                self.levels.push(rest);
+                self.levels.push(first.sections());
+                return Some(first);
+            }
+        }
+        None
+    }
+}
