@@ -14,17 +14,17 @@ use Rattle.clap.specs.declared.error.Error.{Error}
 use Rattle.clap.specs.declared.error.kind.ErrorKind.TheVariants as error_kinds
 use Rattle.clap.specs.declared.parser.matches.ArgMatches.{ArgMatches}
 use Rattle.fv_plan.specs.declared.plan.Command.{Command}
-use Rattle.fv_plan.specs.declared.plan.Command.TheVariants.{Single, Hobs, Compare}
 use Rattle.fv_plan.specs.declared.plan.ImageFile.{ImageFile}
 use Rattle.fv_plan.specs.declared.plan.Part.{Part}
 use Rattle.fv_plan.specs.declared.plan.VolumeFile.{VolumeFile}
+use Rattle.fv_plan.specs.declared.plan.Command.TheVariants.{Single, Hobs, Compare}
 use Rattle.fv_plan.specs.declared.plan.Task.TheVariants.{Normalise, NormaliseAll, List as Listing, ListSums, Extract, Check}
 use Rattle.fv_plan.specs.declared.plan.Task.TheVariants.{Cells, Scan}
 use Rattle.fv_arguments.proofs.ArgumentReadLemmas.{by_name, faults_read}
-use Rattle.fv_arguments.specs.Options.{compare_app, extract_app, faults_in, flag_in, hobs_app, normalise_app, text_in}
-use Rattle.fv_arguments.specs.inner.CommandWords.{AreRightFor, AsksFor, IsRead, Reads, app_named}
-use Rattle.fv_arguments.specs.Words.{HasInput, HasTexts, IsAtWord, IsImageWords, IsPartBy, IsVolumeWords, command_app, command_name}
+use Rattle.fv_arguments.specs.Words.{compare_app, extract_app, faults_in, flag_in, hobs_app, normalise_app, text_in, HasInput, HasTexts}
+use Rattle.fv_arguments.specs.Words.{IsAtWord, IsImageWords, IsPartBy, IsVolumeWords, command_app, command_name}
 use Rattle.fv_arguments.specs.declared.words.WordFault.{WordFault}
+use Rattle.fv_arguments.specs.inner.CommandWords.{AreRightFor, AsksFor, IsRead, Reads, app_named}
 use Rattle.fv_arguments.specs.declared.words.WordFault.TheVariants.{Words, OutOfMemory}
 
 -- the options that a command has are those of its name

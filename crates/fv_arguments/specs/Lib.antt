@@ -1,4 +1,5 @@
 -- The definitions in the order in which they can be read.
 pub mod Options
+pub mod CommandLines
 pub mod Words
 pub mod inner

@@ -3,9 +3,9 @@
 ghost use Rattle.clap.specs.Words.{App, first_value, found_of};
 ghost use Rattle.fv_arguments.specs.Options.{flag_in};
 ghost use Rattle.fv_arguments.specs.inner.CommandWords.{AreRightFor, AsksFor, IsRead, Reads};
-ghost use Rattle.fv_arguments.specs.Words.{AsksBy, HasInput, IsAtWord, IsImageWords, IsInstanceWord, IsNumberWord};
-ghost use Rattle.fv_arguments.specs.Words.{IsNumeralOf, IsPartBy, IsPlaceWord, IsSectionTypeWord, IsVolumeWords};
-ghost use Rattle.fv_base.specs.GuidTexts.{guid_read};
+ghost use Rattle.fv_arguments.specs.CommandLines.{AsksBy, HasInput, IsAtWord, IsImageWords, IsInstanceWord, IsNumberWord};
+ghost use Rattle.fv_arguments.specs.CommandLines.{IsNumeralOf, IsPartBy, IsPlaceWord, IsSectionTypeWord, IsVolumeWords};
+ghost use Rattle.fv_base.specs.Words.{guid_read};
 ghost use Rattle.std.specs.String.{string_bytes};
 ghost use Rattle.std.specs.Prelude.{◌≡◌, ◌≤◌, ℕ, List, Some, codes, drop, length, map, if◌then◌else◌};
 ghost use Rattle.std.specs.Prelude.{option_and_then, option_map, IfErr, IfOk, SomeIff};

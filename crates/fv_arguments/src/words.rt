@@ -2,7 +2,7 @@
 
 ghost use Rattle.std.specs.String.{string_bytes};
 ghost use Rattle.std.specs.Prelude.{◌≡◌, ◌≤◌, false, length, map, true, IfErr, IfOk, Ok};
-ghost use Rattle.fv_arguments.specs.Words.{AreRight, Asks, plan_without_words};
+ghost use Rattle.fv_arguments.specs.CommandLines.{AreRight, Asks, plan_without_words};
 
 use crate::options::parse_command;
 use fv_plan::{Command, Plan, Task};

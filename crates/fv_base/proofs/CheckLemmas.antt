@@ -8,9 +8,9 @@
 use Rattle.std.proofs.Common.{◌≡◌, List, [], ◌∷◌, ◌++◌, refl, ap, subst, sym, ◌∙◌, inl, inr, Bool, true, false}
 use Rattle.std.specs.Prelude.{◌&&◌, Option, None, Some, Ok, Err, if◌then◌else◌}
 use Rattle.std.specs.List.{AllByRecursion}
-use Rattle.fv_base.specs.Checks.{Check, AllHold, FailsAfter, IsFirstFault, GuardsHold, Which, First, Any, Fails}
-use Rattle.fv_base.specs.inner.Verdicts.{first_fault, verdict_by}
+use Rattle.fv_base.specs.Words.{Check, AllHold, FailsAfter, IsFirstFault, GuardsHold, Which, First, Any, Fails}
 use Rattle.fv_base.specs.declared.fault.Fault.{Fault}
+use Rattle.fv_base.specs.inner.Verdicts.{first_fault, verdict_by}
 use Rattle.fv_base.proofs.ListLaws.{TwoCuts, in_middle, two_cuts}
 use Rattle.fv_base.proofs.TestLemmas.{up_is_not_down}
 

@@ -13,8 +13,7 @@ use Rattle.std.specs.Int.{bit_at}
 use Rattle.std.specs.Prelude.{Bool, true, false, ◌==◌, replicate}
 use Rattle.std.specs.List.{list_all}
 use Rattle.std.proofs.lemmas.Bool.{eqb-true, eq-eqb}
-use Rattle.fv_base.specs.Flash.{AllAre}
-use Rattle.fv_base.specs.Measures.{all_are}
+use Rattle.fv_base.specs.Words.{AllAre, all_are}
 use Rattle.fv_base.proofs.CheckLemmas.{and_split, and_join}
 
 pub all_append : (e : ℕ) (x y : List ℕ) → AllAre e x → AllAre e y → AllAre e (x ++ y)

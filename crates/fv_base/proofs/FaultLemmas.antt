@@ -7,10 +7,10 @@ use Rattle.std.proofs.Common.{◌≡◌, ◌≢◌, ◌⊎◌, Bool, true, false
 use Rattle.std.proofs.lemmas.Bool.{cases_eq}
 use Rattle.std.specs.Prelude.{Result, Ok, Err, IsErrAnd}
 use denote.Enum.Bare.{sameb, same_false, same_true}
-use Rattle.fv_base.specs.Faults.{out_of_memory}
-use Rattle.fv_base.specs.contracts.fault.FaultKind.{the_type}
+use Rattle.fv_base.specs.Words.{out_of_memory}
 use Rattle.fv_base.specs.declared.fault.Fault.{Fault}
 use Rattle.fv_base.specs.declared.fault.FaultKind.{FaultKind}
+use Rattle.fv_base.specs.contracts.fault.FaultKind.{the_type}
 use Rattle.fv_base.specs.declared.fault.FaultKind.TheVariants as kinds
 
 pub err_is : {A F : Type 0} {r : Result A F} {f : F} → IsErrAnd r (λ g. g ≡ f) → r ≡ Err f

@@ -12,7 +12,7 @@ use Rattle.std.proofs.Math.Nat.{pow-suc}
 use Rattle.std.proofs.Math.Seq.{drop-append-add, take-add}
 use Rattle.std.proofs.lemmas.Bool.{cases_lt}
 use Rattle.std.proofs.lemmas.List.{drop-take, length-take-le, take-append-le, drop-append-le}
-use Rattle.fv_base.specs.Value.{IsBytes, le, le_bytes, field}
+use Rattle.fv_base.specs.Words.{IsBytes, le, le_bytes, field}
 
 pub take-take_le : (n m : ℕ) (xs : List ℕ) → n ≤ m → take n (take m xs) ≡ take n xs
 take-take_le zero m xs h = refl

@@ -5,9 +5,8 @@ use Rattle.uuid.specs.Parts.{swap_fields}
 use Rattle.uuid.specs.Text.{hyphenated_text, lower, by_index, parsed}
 use Rattle.uuid.proofs.RoundTrips.{swap_twice}
 use Rattle.uuid.proofs.TextLemmas.{by_index_length}
+use Rattle.fv_base.specs.Words.{bytes_of, guid_text, guid_read}
 use Rattle.fv_base.specs.declared.guid.Guid.{Guid}
-use Rattle.fv_base.specs.Guids.{bytes_of}
-use Rattle.fv_base.specs.GuidTexts.{guid_text, guid_read}
 
 -- the text of a UUID that holds a GUID's parts
 pub text_is : (b : List ℕ) → hyphenated_text lower (swap_fields b) ≡ guid_text b

@@ -3,7 +3,7 @@ use Rattle.std.proofs.Common.{◌≡◌, ◌<◌, ◌+◌, ◌*◌, ◌^◌, ℕ
 use Rattle.std.specs.Prelude.{replicate}
 use Rattle.std.proofs.Math.Nat.{pow-suc}
 use Rattle.std.proofs.lemmas.List.{take_at, drop_at}
-use Rattle.fv_base.specs.Value.{IsBytes, le, field}
+use Rattle.fv_base.specs.Words.{IsBytes, le, field}
 use Rattle.fv_base.proofs.FieldLemmas.{bytes_behind, bytes_take, bytes_drop, bytes_cons, none_at}
 
 -- so many bytes spell a number that they have room for

@@ -6,7 +6,7 @@ use Rattle.std.proofs.Math.Seq.{take-add}
 use Rattle.std.proofs.KnownBytes.{Appends-trans}
 use Rattle.std.specs.Prelude.{Option, Result, Ok, Err, IfOk}
 use Rattle.std.specs.Io.KnownBytes.{Appends}
-use Rattle.fv_base.specs.Sinks.{KeptLatched, WalkLaws}
+use Rattle.fv_base.specs.Words.{KeptLatched, WalkLaws}
 use Rattle.fv_base.specs.declared.fault.Fault.{Fault}
 
 -- a walk over bytes that are all one byte, in two steps

@@ -2,8 +2,7 @@
 use Rattle.std.proofs.Common.{◌≡◌, ◌+◌, ◌%◌, ℕ, List, [], ◌∷◌, ◌++◌, length, refl, ap, ◌∙◌, arith}
 use Rattle.std.specs.Prelude.{sum}
 use Rattle.std.proofs.lemmas.List.Sums.{sum_by-append}
-use Rattle.fv_base.specs.Sums.{words_of}
-use Rattle.fv_base.specs.Value.{le}
+use Rattle.fv_base.specs.Words.{words_of, le}
 
 -- words of bytes of even length, and then of more
 pub words_of-append : (a b : List ℕ) → length a % 2 ≡ 0 → words_of (a ++ b) ≡ words_of a ++ words_of b

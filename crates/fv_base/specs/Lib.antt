@@ -12,4 +12,5 @@ pub mod Checks
 pub mod Input
 pub mod Port
 pub mod Sinks
+pub mod Words
 pub mod inner

@@ -6,15 +6,12 @@ use Rattle.std.specs.List.{AllByRecursion}
 use Rattle.std.specs.Prelude.{◌≢◌}
 use Rattle.std.proofs.lemmas.List.{drop_all}
 use Rattle.fv_base.proofs.Laws.{first_only, want_known}
-use Rattle.fv_base.specs.Faults.{out_of_memory}
+use Rattle.fv_base.specs.Words.{out_of_memory, depth_limit}
 use Rattle.fv_base.specs.declared.fault.Fault.{Fault}
-use Rattle.fv_tree.specs.Denotes.{Accepted, Pairwise, MeansFile, Stream}
-use Rattle.fv_tree.specs.LocatedFiles.{file_form, BeginWithFiles, HasDataIn}
-use Rattle.fv_tree.specs.Meaning.{Meaning, FileMeaning, files_of}
-use Rattle.fv_tree.specs.VolumeFiles.{FileForm}
+use Rattle.fv_tree.specs.Words.{Accepted, Pairwise, MeansFile, Stream, file_form, BeginWithFiles, HasDataIn, Meaning, FileMeaning, files_of}
+use Rattle.fv_tree.specs.Words.{FileForm}
 use Rattle.fv_tree.specs.declared.volume_files.LocatedFile.{LocatedFile}
 use Rattle.fv_tree.proofs.Laws.{volume_files}
-use Rattle.fv_base.specs.Limits.{depth_limit}
 use Rattle.fv_c.specs.ReportedFiles.{HasFileRows, reported_files}
 use Rattle.fv_c.specs.declared.files.FvFile.{FvFile}
 

@@ -5,9 +5,8 @@ use Rattle.std.proofs.lemmas.Bool.{eq-eqb, eqb-true, eqb-false, ne_eqb}
 use Rattle.std.proofs.lemmas.List.Elements.{filter-append}
 use Rattle.std.specs.List.{filter}
 use Rattle.std.specs.Prelude.{◌==◌, ◌≢◌, ◌&&◌, Bool, not, Option, slice_get}
-use Rattle.fv_tree.specs.Meaning.{ContentMeaning, SectionMeanings, NoSections, MoreSections}
-use Rattle.fv_tree.specs.Meaning.{SectionMeaning, Section, BodyMeaning, Leaf, Group, Nested}
-use Rattle.fv_tree.specs.MeaningParts.{sections_in, sections_in_data}
+use Rattle.fv_tree.specs.Words.{ContentMeaning, SectionMeanings, NoSections, MoreSections, SectionMeaning, Section, BodyMeaning, Leaf}
+use Rattle.fv_tree.specs.Words.{Group, Nested, sections_in, sections_in_data}
 use Rattle.fv_c.specs.ReportedFiles.{SectionRow, is_in, is_root, no_parent, rows_in_body, rows_of_section, rows_of_sections, rows_under}
 use Rattle.fv_c.specs.ReportedFiles.{rows_under_row, section_rows}
 

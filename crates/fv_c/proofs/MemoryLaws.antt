@@ -2,19 +2,15 @@
 use Rattle.std.proofs.Common.{◌≡◌, ◌∙◌, ◌++◌, [], ◌∷◌, ℕ, List, ap, drop, sym, take, append_assoc}
 use Rattle.std.proofs.lemmas.List.{take-append-drop}
 use Rattle.fv_depex.proofs.Laws.{whole_ended}
-use Rattle.fv_depex.specs.Expressions.{Spells, op_code, op_operand, ops_bytes}
-use Rattle.fv_depex.specs.OpChecks.{BeginsFirstOp, OpFits, OpPath}
+use Rattle.fv_depex.specs.Words.{Spells, op_code, op_operand, ops_bytes, BeginsFirstOp, OpFits, OpPath}
 use Rattle.fv_depex.specs.declared.op.Op.{Op}
-use Rattle.fv_depex.specs.declared.op.Op.TheVariants as ops
 use Rattle.fv_depex.specs.declared.op.Phase.{Phase}
 use Rattle.fv_depex.specs.declared.op_stage.Stage.{Stage}
+use Rattle.fv_depex.specs.declared.op.Op.TheVariants as ops
 use Rattle.fv_depex.specs.declared.op_stage.Stage.TheVariants as stages
 use Rattle.fv_hob.proofs.Laws.{code_is}
-use Rattle.fv_hob.specs.HobChecks.{BeginsTable}
-use Rattle.fv_hob.specs.Hobs.{HobForm}
-use Rattle.fv_hob.specs.Lists.{BeginWithTable, IsHobList, JoinsHobs}
-use Rattle.fv_tree.specs.Denotes.{Accepted}
-use Rattle.fv_tree.specs.Meaning.{Meaning, head_of}
+use Rattle.fv_hob.specs.Words.{BeginsTable, HobForm, BeginWithTable, IsHobList, JoinsHobs}
+use Rattle.fv_tree.specs.Words.{Accepted, Meaning, head_of}
 use Rattle.fv_c.specs.Reports.{BeginsWithHeader}
 
 -- a volume begins with its header

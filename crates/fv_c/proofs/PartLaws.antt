@@ -6,15 +6,12 @@ use Rattle.std.specs.Prelude.{◌==◌, ◌≢◌, Bool, cond, Option, option_ma
 use Rattle.std.proofs.lemmas.Bool.Decides.{Decides-eqb}
 use Rattle.std.proofs.lemmas.Option.{slice_get-map}
 use Rattle.fv_base.proofs.Laws.{or_more}
-use Rattle.fv_base.specs.Faults.{out_of_memory}
+use Rattle.fv_base.specs.Words.{out_of_memory}
 use Rattle.fv_base.specs.declared.fault.Fault.{Fault}
-use Rattle.fv_canon.specs.LayoutFaults.{FirstUnfit}
-use Rattle.fv_tree.specs.InputFaults.{NotRead}
-use Rattle.fv_tree.specs.Denotes.{Accepted}
-use Rattle.fv_head.specs.Head.{HeadFields}
-use Rattle.fv_tree.specs.LookupInstances.{preorder}
-use Rattle.fv_tree.specs.Meaning.{Meaning, Volume, FileMeaning, SectionMeaning, files_of, content_of}
-use Rattle.fv_tree.specs.MeaningParts.{body_of, files_from, sections_in_data}
+use Rattle.fv_canon.specs.Words.{FirstUnfit}
+use Rattle.fv_tree.specs.Words.{NotRead, Accepted, preorder, Meaning, Volume, FileMeaning, SectionMeaning, files_of, content_of, body_of}
+use Rattle.fv_tree.specs.Words.{files_from, sections_in_data}
+use Rattle.fv_head.specs.Words.{HeadFields}
 use Rattle.fv_tree.proofs.Laws.{files_list_back}
 use Rattle.fv_c.specs.ExtractedParts.{PartMeaning, Data, Body, whole_file, part_of_file, part_in, IsPartImage}
 use Rattle.fv_c.specs.ExtractedParts.{volumes_in_part, ExtractsTo, HasNoPart, HasUnfitPart}

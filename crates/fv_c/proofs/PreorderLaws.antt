@@ -1,8 +1,8 @@
 -- The rows of sections are the sections in preorder.
 use Rattle.std.proofs.Common.{◌≡◌, ◌∙◌, ◌∷◌, ◌++◌, ℕ, ◌+◌, List, length, map, refl, ap}
 use Rattle.std.proofs.lemmas.List.{map-append}
-use Rattle.fv_tree.specs.LookupInstances.{preorder, inside_section, inside_body}
-use Rattle.fv_tree.specs.Meaning.{SectionMeanings, NoSections, MoreSections, SectionMeaning, Section, BodyMeaning, Leaf, Group, Nested}
+use Rattle.fv_tree.specs.Words.{preorder, inside_section, inside_body, SectionMeanings, NoSections, MoreSections, SectionMeaning, Section}
+use Rattle.fv_tree.specs.Words.{BodyMeaning, Leaf, Group, Nested}
 use Rattle.fv_c.specs.ReportedFiles.{SectionRow, rows_of_sections, rows_of_section, rows_in_body}
 
 -- the sections of some rows

@@ -3,8 +3,7 @@ use Rattle.std.proofs.lemmas.Grind.{common_steps}
 use Rattle.std.proofs.Common.{◌≡◌, ◌∙◌, ℕ, ◌+◌, ◌<◌, ◌≤◌, List, [], ◌∷◌, ◌++◌, length, drop, get_or, map, refl, sym, ap}
 use Rattle.std.proofs.Common.{arith, length-append}
 use Rattle.std.proofs.lemmas.List.{append_assoc, drop_more, length-map, map_push}
-use Rattle.fv_tree.specs.Meaning.{SectionMeaning, Section, SectionMeanings, Leaf, Group, Nested}
-use Rattle.fv_tree.specs.MeaningParts.{body_of, sections_from, sections_in}
+use Rattle.fv_tree.specs.Words.{SectionMeaning, Section, SectionMeanings, Leaf, Group, Nested, body_of, sections_from, sections_in}
 use Rattle.fv_tree.specs.inner.Sizes.{sections_size, section_size}
 use Rattle.fv_c.specs.ReportedFiles.{SectionRow, rows_of_sections, rows_of_section}
 use Rattle.fv_c.specs.declared.parts.PlacedSection.{PlacedSection}

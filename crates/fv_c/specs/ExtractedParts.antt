@@ -2,12 +2,9 @@
 use Rattle.std.specs.Option.{option_and_then}
 use Rattle.std.specs.Prelude.{◌≡◌, ℕ, ◌==◌, if◌then◌else◌, List, Option, Some, None, option_map, slice_get}
 use Rattle.fv_base.specs.declared.fault.Fault.{Fault}
-use Rattle.fv_canon.specs.Image.{IsData, IsBodyImage}
-use Rattle.fv_canon.specs.LayoutFaults.{FirstUnfit}
-use Rattle.fv_tree.specs.Volumes.{Inside, volumes_in_body, volumes_in_content}
-use Rattle.fv_tree.specs.Denotes.{Accepted}
-use Rattle.fv_tree.specs.Meaning.{Meaning, FileMeaning, ContentMeaning, BodyMeaning, files_of, content_of}
-use Rattle.fv_tree.specs.MeaningParts.{body_of}
+use Rattle.fv_canon.specs.Words.{IsData, IsBodyImage, FirstUnfit}
+use Rattle.fv_tree.specs.Words.{Inside, volumes_in_body, volumes_in_content, Accepted, Meaning, FileMeaning}
+use Rattle.fv_tree.specs.Words.{ContentMeaning, BodyMeaning, files_of, content_of, body_of}
 use Rattle.fv_c.specs.ReportedFiles.{SectionRow, section_rows}
 
 -- the data of a file, or the body of a section

@@ -1,8 +1,7 @@
 -- The cells of a volume, as they are reported to C.
 use Rattle.std.specs.Prelude.{ℕ, replicate}
-use Rattle.fv_base.specs.Guids.{bytes_of}
-use Rattle.fv_file.specs.Cells.{CellForm, Valid, Pad, Dead, Stub, Free}
-use Rattle.fv_file.specs.FileAttributes.{attribute_bits}
+use Rattle.fv_base.specs.Words.{bytes_of}
+use Rattle.fv_file.specs.Words.{CellForm, Valid, Pad, Dead, Stub, Free, attribute_bits}
 use Rattle.fv_file.specs.declared.head.FileHead.{FileHead}
 use Rattle.fv_file.specs.declared.state.FileState.{FileState}
 use Rattle.fv_file.specs.declared.state.FileState.TheVariants as states

@@ -1,16 +1,13 @@
 -- Files and their sections, as they are reported to C (PI specification, volume 3, sections 3.2.3 and 3.2.4).
 use Rattle.std.specs.Prelude.{ℕ, ◌+◌, ◌==◌, List, [], ◌∷◌, ◌++◌, length, Option, Some, None, Bool, not, ◌&&◌, ◌≡◌}
 use Rattle.std.specs.List.{AllByRecursion}
-use Rattle.fv_base.specs.Guids.{bytes_of}
-use Rattle.fv_file.specs.FileAttributes.{attribute_bits}
-use Rattle.fv_section.specs.Frames.{section_header_len}
-use Rattle.fv_tree.specs.Denotes.{Accepted}
-use Rattle.fv_tree.specs.FirstFault.{data_place}
-use Rattle.fv_tree.specs.LocatedFiles.{HasDataIn}
-use Rattle.fv_tree.specs.Meaning.{Meaning, FileMeaning, ContentMeaning, SectionMeanings, NoSections, MoreSections}
-use Rattle.fv_tree.specs.Meaning.{SectionMeaning, Section, BodyMeaning, Leaf, Group, Nested, files_of, content_of, body_len}
-use Rattle.fv_tree.specs.MeaningParts.{body_of, section_kind_of, section_is_extended, sections_in, sections_in_data}
-use Rattle.fv_tree.specs.VolumeFiles.{FileForm}
+use Rattle.fv_base.specs.Words.{bytes_of}
+use Rattle.fv_file.specs.Words.{attribute_bits}
+use Rattle.fv_section.specs.Words.{section_header_len}
+use Rattle.fv_tree.specs.Words.{Accepted, data_place, HasDataIn, Meaning, FileMeaning, ContentMeaning, SectionMeanings}
+use Rattle.fv_tree.specs.Words.{NoSections, MoreSections, SectionMeaning, Section, BodyMeaning, Leaf, Group, Nested}
+use Rattle.fv_tree.specs.Words.{files_of, content_of, body_len, body_of, section_kind_of, section_is_extended}
+use Rattle.fv_tree.specs.Words.{sections_in, sections_in_data, FileForm}
 use Rattle.fv_c.specs.declared.files.FvFile.{FvFile}
 use Rattle.fv_c.specs.declared.sections.FvSection.{FvSection}
 

@@ -1,9 +1,7 @@
 -- The blocks of a hand-off list, as they are reported to C.
 use Rattle.std.specs.Option.{unwrap_or}
 use Rattle.std.specs.Prelude.{ℕ, List, take}
-use Rattle.fv_hob.specs.HobChecks.{IsFirstHobFault, hob_fault_number}
-use Rattle.fv_hob.specs.Hobs.{HobForm, hob_len, hob_type}
-use Rattle.fv_hob.specs.Lists.{IsHobList, span_of}
+use Rattle.fv_hob.specs.Words.{IsFirstHobFault, hob_fault_number, HobForm, hob_len, hob_type, IsHobList, span_of}
 use Rattle.fv_hob.specs.declared.fault.HobFault.{HobFault}
 use Rattle.fv_hob.specs.declared.span.Span.{Span}
 use Rattle.fv_c.specs.declared.hobs.FvHob.{FvHob}

@@ -1,8 +1,7 @@
 -- What C passes of a dependency expression, and what is reported to it.
 use Rattle.std.specs.Prelude.{ℕ, zero, suc, List, Option, Some, None, Bool, true, false}
 use Rattle.fv_base.specs.declared.guid.Guid.{Guid}
-use Rattle.fv_depex.specs.Expressions.{Spells}
-use Rattle.fv_depex.specs.OpChecks.{IsFirstOpFault, depex_fault_number}
+use Rattle.fv_depex.specs.Words.{Spells, IsFirstOpFault, depex_fault_number}
 use Rattle.fv_depex.specs.declared.fault.DepexFault.{DepexFault}
 use Rattle.fv_depex.specs.declared.op.Op.{Op}
 use Rattle.fv_depex.specs.declared.op.Phase.{Phase}

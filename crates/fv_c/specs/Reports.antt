@@ -1,17 +1,15 @@
 -- Extents, faults and comparisons, as they are reported to C.
 use Rattle.std.specs.Prelude.{ℕ, ◌≡◌, ◌↔◌, ◌≤◌, length}
-use Rattle.fv_base.specs.Faults.{fault_number}
-use Rattle.fv_base.specs.Flash.{erased_byte}
+use Rattle.fv_base.specs.Words.{fault_number, erased_byte}
 use Rattle.fv_base.specs.declared.fault.Fault.{Fault}
 use Rattle.fv_base.specs.declared.flash.FileSystem.{FileSystem}
 use Rattle.fv_base.specs.declared.flash.FileSystem.TheVariants as systems
-pub use Rattle.fv_head.specs.HeadChecks.{BeginsWithHeader}
+pub use Rattle.fv_head.specs.Words.{BeginsWithHeader}
 use Rattle.fv_head.specs.declared.extent.Extent.{Extent}
 use Rattle.fv_c.specs.declared.reports.FvExtent.{FvExtent}
 use Rattle.fv_c.specs.declared.reports.FvFault.{FvFault}
-use Rattle.fv_compare.specs.ComparisonLines.{compare_line}
-use Rattle.fv_compare.specs.Difference.{difference}
-use Rattle.fv_tree.specs.Meaning.{Meaning}
+use Rattle.fv_compare.specs.Words.{compare_line, difference}
+use Rattle.fv_tree.specs.Words.{Meaning}
 use Rattle.fv_c.specs.declared.compare.FvComparison.{FvComparison}
 
 -- the number of a file system

@@ -3,16 +3,10 @@
 
 ghost use Rattle.std.specs.Prelude.{◌≡◌, ◌≢◌, ◌⊎◌, ◌↔◌, ◌<◌, ◌≤◌, ◌++◌, ℕ, List, length, drop, IfOk, IfErr};
 ghost use Rattle.sha2.specs.Sha256.{sha256};
-ghost use Rattle.fv_base.specs.Faults.{fault_number, out_of_memory};
-ghost use Rattle.fv_base.specs.Limits.{volume_limit};
+ghost use Rattle.fv_base.specs.Words.{fault_number, out_of_memory, volume_limit};
 ghost use Rattle.fv_base.specs.declared.fault.Fault.{Fault};
-ghost use Rattle.fv_canon.specs.FlashImages.{NormalisesAll, RefusesAll};
-ghost use Rattle.fv_canon.specs.Headline.{NormalisesTo};
-ghost use Rattle.fv_canon.specs.Image.{IsImage};
-ghost use Rattle.fv_tree.specs.InputFaults.{NotRead};
-ghost use Rattle.fv_canon.specs.InputRefusals.{Refuses};
-ghost use Rattle.fv_tree.specs.Denotes.{Accepted};
-ghost use Rattle.fv_tree.specs.Meaning.{Meaning};
+ghost use Rattle.fv_canon.specs.Words.{NormalisesAll, RefusesAll, NormalisesTo, IsImage, Refuses};
+ghost use Rattle.fv_tree.specs.Words.{NotRead, Accepted, Meaning};
 ghost use Rattle.fv_c.specs.Reports.{BeginsWithHeader, reported_fault, no_fault};
 
 use crate::buffer::put_all;

@@ -1,12 +1,11 @@
 //! The cells of a volume's body: its files, pads, deleted files and free bytes, with their offsets.
 
 ghost use Rattle.std.specs.Prelude.{◌≡◌, ◌≢◌, ◌<◌, ◌++◌, List, length, drop, map, IfErr, IfOk};
-ghost use Rattle.fv_base.specs.Faults.{fault_number, out_of_memory};
+ghost use Rattle.fv_base.specs.Words.{fault_number, out_of_memory};
 ghost use Rattle.fv_base.specs.declared.fault.Fault.{Fault};
-ghost use Rattle.fv_file.specs.CellForms.{cell_form};
-ghost use Rattle.fv_file.specs.Cells.{CellForm};
+ghost use Rattle.fv_file.specs.Words.{cell_form, CellForm};
 ghost use Rattle.fv_head.specs.declared.extent.Extent.{Extent};
-ghost use Rattle.fv_tree.specs.LocatedFiles.{BeginsTiled, NotTiled};
+ghost use Rattle.fv_tree.specs.Words.{BeginsTiled, NotTiled};
 ghost use Rattle.fv_c.specs.ReportedCells.{dead_number, of_bytes, of_file, reported_cell};
 ghost use Rattle.fv_c.specs.Reports.{BeginsWithHeader, reported_fault, no_fault};
 

@@ -1,19 +1,17 @@
 //! Where the meanings of two volumes first differ.
 
 ghost use Rattle.std.specs.Prelude.{◌≡◌, ◌≢◌, ◌⊎◌, ◌↔◌, ◌<◌, ◌++◌, length, drop, true, IfOk, IfErr};
-ghost use Rattle.fv_base.specs.Faults.{fault_number, out_of_memory};
+ghost use Rattle.fv_base.specs.Words.{fault_number, out_of_memory};
 ghost use Rattle.fv_base.specs.declared.fault.Fault.{Fault};
-ghost use Rattle.fv_compare.specs.ComparisonLines.{compare_line};
-ghost use Rattle.fv_tree.specs.InputFaults.{NotRead};
-ghost use Rattle.fv_tree.specs.Denotes.{Accepted};
-ghost use Rattle.fv_compare.specs.Difference.{difference};
-ghost use Rattle.fv_tree.specs.Meaning.{Meaning};
+ghost use Rattle.fv_compare.specs.Words.{compare_line, difference};
+ghost use Rattle.fv_tree.specs.Words.{NotRead, Accepted, Meaning};
 ghost use Rattle.fv_c.specs.Reports.{IsReported, reported_stop, BeginsWithHeader};
 
 use crate::buffer::put_all;
 use crate::reports::{FvFault, NO_FAULT, flag, reported_fault};
 use fv_base::{Fault, FaultKind, Port};
-use fv_canon::{whole_volume, write_comparison};
+use fv_canon::whole_volume;
+use fv_compare::write_comparison;
 use fv_tree::VolumeView;
 use std::alloc::Global;
 

@@ -1,8 +1,8 @@
 //! The truth value of a dependency expression.
 
 ghost use Rattle.std.specs.Prelude.{◌≡◌, ◌≢◌, ℕ, List, Some, None, map, IfOk, IfErr};
-ghost use Rattle.fv_depex.specs.Expressions.{Expression, IsOrder, IsTree, Spells, truth};
-ghost use Rattle.fv_depex.specs.OpChecks.{BeginsFirstOp, depex_fault_number, depex_out_of_memory};
+ghost use Rattle.fv_depex.specs.Words.{Expression, IsOrder, IsTree, Spells, truth, BeginsFirstOp, depex_fault_number};
+ghost use Rattle.fv_depex.specs.Words.{depex_out_of_memory};
 ghost use Rattle.fv_depex.specs.declared.fault.DepexFault.{DepexFault};
 ghost use Rattle.fv_depex.specs.declared.op.Op.{Op};
 ghost use Rattle.fv_c.specs.ReportedTruths.{NoExpression, passed_guid, phase_by_number, reported_depex_fault, reported_truth};

@@ -1,11 +1,9 @@
 //! The files of a volume.
 
 ghost use Rattle.std.specs.Prelude.{◌≡◌, ◌≢◌, ◌⊎◌, ◌<◌, ◌++◌, List, length, drop, map, IfOk, IfErr};
-ghost use Rattle.fv_base.specs.Faults.{fault_number, out_of_memory};
+ghost use Rattle.fv_base.specs.Words.{fault_number, out_of_memory};
 ghost use Rattle.fv_base.specs.declared.fault.Fault.{Fault};
-ghost use Rattle.fv_tree.specs.InputFaults.{NotRead};
-ghost use Rattle.fv_tree.specs.Denotes.{Accepted};
-ghost use Rattle.fv_tree.specs.LocatedFiles.{file_form};
+ghost use Rattle.fv_tree.specs.Words.{NotRead, Accepted, file_form};
 ghost use Rattle.fv_c.specs.ReportedFiles.{HasFileRows, reported_file, reported_files};
 ghost use Rattle.fv_c.specs.Reports.{BeginsWithHeader, reported_fault, no_fault};
 ghost use Rattle.fv_c.specs.declared.files.FvFile.{FvFile};

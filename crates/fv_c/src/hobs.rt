@@ -1,9 +1,7 @@
 //! The blocks of a hand-off list.
 
 ghost use Rattle.std.specs.Prelude.{◌≡◌, ◌≢◌, ◌<◌, ◌≤◌, ◌++◌, List, length, take, drop, map, IfOk, IfErr};
-ghost use Rattle.fv_hob.specs.HobChecks.{BeginsTable, hob_fault_number, hob_out_of_memory};
-ghost use Rattle.fv_hob.specs.Hobs.{HobForm};
-ghost use Rattle.fv_hob.specs.Lists.{IsHobList};
+ghost use Rattle.fv_hob.specs.Words.{BeginsTable, hob_fault_number, hob_out_of_memory, HobForm, IsHobList};
 ghost use Rattle.fv_hob.specs.declared.fault.HobFault.{HobFault};
 ghost use Rattle.fv_c.specs.ReportedHobs.{NoHobs, reported_hob, reported_hob_fault};
 ghost use Rattle.fv_c.specs.Reports.{no_fault};

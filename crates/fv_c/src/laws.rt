@@ -2,9 +2,7 @@
 
 ghost use Rattle.std.specs.Prelude.{◌≡◌, ℕ, map, slice_get};
 ghost use Rattle.std.specs.List.{filter};
-ghost use Rattle.fv_tree.specs.LookupInstances.{preorder};
-ghost use Rattle.fv_tree.specs.Meaning.{ContentMeaning, SectionMeanings, Sectioned};
-ghost use Rattle.fv_tree.specs.MeaningParts.{sections_in_data};
+ghost use Rattle.fv_tree.specs.Words.{preorder, ContentMeaning, SectionMeanings, Sectioned, sections_in_data};
 ghost use Rattle.fv_c.specs.ReportedFiles.{is_in, is_root, no_parent, rows_under, rows_under_row, section_rows};
 
 /// The sections that `fv_sections` writes are those among which `section_by_type` counts, in the

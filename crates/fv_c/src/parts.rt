@@ -1,8 +1,7 @@
 //! The sections of a file, and the parts of a volume that can be extracted.
 
 ghost use Rattle.std.specs.Prelude.{◌≡◌, ◌≤◌, ◌++◌, length, map, IfOk, IfErr, OnOk};
-ghost use Rattle.fv_tree.specs.MeaningParts.{body_of, sections_from};
-ghost use Rattle.fv_tree.specs.Meaning.{content_of};
+ghost use Rattle.fv_tree.specs.Words.{body_of, sections_from, content_of};
 ghost use Rattle.fv_c.specs.ExtractedParts.{part_in, part_of_file};
 ghost use Rattle.fv_c.specs.ReportedFiles.{held_number, rows_of_sections, section_rows};
 ghost use Rattle.fv_c.specs.inner.Rows.{row_form, ShowsPart, StopsPart};

@@ -1,7 +1,7 @@
 //! What is reported to C.
 
 ghost use Rattle.std.specs.Prelude.{◌≡◌, ◌↔◌, ◌<◌, ◌≤◌, true};
-ghost use Rattle.fv_base.specs.Faults.{fault_number};
+ghost use Rattle.fv_base.specs.Words.{fault_number};
 ghost use Rattle.fv_c.specs.Reports.{reported_extent, reported_fault};
 
 use fv_base::{Fault, FileSystem};

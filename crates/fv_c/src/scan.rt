@@ -1,7 +1,7 @@
 //! The offsets at which the volumes in some bytes begin.
 
 ghost use Rattle.std.specs.Prelude.{◌≡◌, ◌≢◌, ◌<◌, ◌++◌, ℕ, List, length, drop};
-ghost use Rattle.fv_flash.specs.FoundVolumes.{Found, IsPlace};
+ghost use Rattle.fv_flash.specs.Words.{Found, IsPlace};
 
 use crate::buffer::put_rows;
 use crate::reports::OUT_OF_MEMORY;

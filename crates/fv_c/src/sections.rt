@@ -2,11 +2,9 @@
 
 ghost use Rattle.std.specs.Prelude.{◌≡◌, ◌≢◌, ◌⊎◌, ◌<◌, ◌++◌, length, drop, map, slice_get, Some, None};
 ghost use Rattle.std.specs.Prelude.{IfOk, IfErr, IfSome, IfNone};
-ghost use Rattle.fv_base.specs.Faults.{fault_number, out_of_memory};
+ghost use Rattle.fv_base.specs.Words.{fault_number, out_of_memory};
 ghost use Rattle.fv_base.specs.declared.fault.Fault.{Fault};
-ghost use Rattle.fv_tree.specs.InputFaults.{NotRead};
-ghost use Rattle.fv_tree.specs.Denotes.{Accepted};
-ghost use Rattle.fv_tree.specs.Meaning.{Meaning, FileMeaning, content_of, files_of};
+ghost use Rattle.fv_tree.specs.Words.{NotRead, Accepted, Meaning, FileMeaning, content_of, files_of};
 ghost use Rattle.fv_c.specs.ReportedFiles.{reported_section, section_rows};
 ghost use Rattle.fv_c.specs.Reports.{BeginsWithHeader, reported_fault, no_fault};
 ghost use Rattle.fv_c.specs.inner.Rows.{row_form};

@@ -1,11 +1,9 @@
 //! Whether bytes begin with a volume.
 
 ghost use Rattle.std.specs.Prelude.{◌≡◌, ◌≢◌};
-ghost use Rattle.fv_base.specs.Checks.{IsFirstFault};
-ghost use Rattle.fv_base.specs.Faults.{fault_number};
+ghost use Rattle.fv_base.specs.Words.{IsFirstFault, fault_number};
 ghost use Rattle.fv_base.specs.declared.fault.Fault.{Fault};
-ghost use Rattle.fv_head.specs.Head.{HeadFields, BeginsVolume};
-ghost use Rattle.fv_head.specs.HeadChecks.{head_checks};
+ghost use Rattle.fv_head.specs.Words.{HeadFields, BeginsVolume, head_checks};
 ghost use Rattle.fv_head.specs.declared.extent.Extent.{Extent};
 ghost use Rattle.fv_c.specs.Reports.{reported_extent, reported_fault, no_fault};
 

@@ -2,16 +2,12 @@
 use Rattle.std.specs.Prelude.{◌≡◌, ◌⊎◌, ◌≤◌, ℕ, List, length, take}
 use Rattle.fv_caller.specs.declared.fault.CallerFault.{CallerFault}
 use Rattle.fv_caller.specs.declared.fault.CallerFault.TheVariants as faults
-use Rattle.fv_base.specs.Faults.{out_of_memory}
-use Rattle.fv_depex.specs.Expressions.{Spells}
-use Rattle.fv_depex.specs.OpChecks.{depex_out_of_memory}
+use Rattle.fv_base.specs.Words.{out_of_memory}
+use Rattle.fv_depex.specs.Words.{Spells, depex_out_of_memory}
 use Rattle.fv_depex.specs.declared.op.Op.{Op}
 use Rattle.fv_depex.specs.declared.op.Phase.TheVariants as phases
-use Rattle.fv_hob.specs.HobChecks.{hob_out_of_memory}
-use Rattle.fv_hob.specs.Hobs.{HobForm}
-use Rattle.fv_hob.specs.Lists.{IsHobList}
-use Rattle.fv_tree.specs.Denotes.{Accepted}
-use Rattle.fv_tree.specs.Meaning.{Meaning}
+use Rattle.fv_hob.specs.Words.{hob_out_of_memory, HobForm, IsHobList}
+use Rattle.fv_tree.specs.Words.{Accepted, Meaning}
 
 -- the first bytes are a volume (PI specification, volume 3, section 3.2), the second begin with an expression of DXE
 -- (volume 2, section 10.7), and the third begin with a hand-off list (volume 3, section 5)

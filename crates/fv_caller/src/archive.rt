@@ -2,12 +2,10 @@
 
 ghost use Rattle.std.specs.Prelude.{◌≡◌, ◌⊎◌, length, IfOk, IfErr};
 ghost use Rattle.fv_caller.specs.declared.fault.CallerFault.TheVariants.{Volume};
-ghost use Rattle.fv_base.specs.Faults.{out_of_memory};
+ghost use Rattle.fv_base.specs.Words.{out_of_memory};
 ghost use Rattle.fv_base.specs.declared.fault.Fault.{Fault};
-ghost use Rattle.fv_canon.specs.Image.{IsImage};
-ghost use Rattle.fv_canon.specs.InputRefusals.{Refuses};
-ghost use Rattle.fv_tree.specs.Denotes.{Accepted};
-ghost use Rattle.fv_tree.specs.Meaning.{Meaning, files_of};
+ghost use Rattle.fv_canon.specs.Words.{IsImage, Refuses};
+ghost use Rattle.fv_tree.specs.Words.{Accepted, Meaning, files_of};
 
 use crate::fault::CallerFault;
 use fv_base::ByteList;

@@ -4,18 +4,13 @@
 use Rattle.std.proofs.Common.{◌≡◌, ℕ, List, drop, subst, sym}
 use Rattle.std.specs.List.{AllByRecursion}
 use Rattle.fv_base.specs.declared.flash.Polarity.{Polarity}
-use Rattle.fv_file.specs.Cells.{CellForm, Tiles}
+use Rattle.fv_file.specs.Words.{CellForm, Tiles}
 use Rattle.fv_file.proofs.Laws.{only_one}
-use Rattle.fv_head.specs.Head.{BeginsVolume}
-use Rattle.fv_head.specs.HeadReads.{extent_of}
-use Rattle.fv_head.specs.ExtImage.{first_edge}
-use Rattle.fv_head.specs.VolumeAttributes.{polarity_of}
+use Rattle.fv_head.specs.Words.{BeginsVolume, extent_of, first_edge, polarity_of}
 use Rattle.fv_head.specs.declared.extent.Extent.{Extent}
 use Rattle.fv_head.proofs.Laws.{one_front}
-use Rattle.fv_tree.specs.Denotes.{IsMeaning, MeansSection, Stream}
-use Rattle.fv_tree.specs.Meaning.{Meaning, Volume, head_of}
-use Rattle.fv_canon.specs.Headline.{DataAligned, DataAreAligned}
-use Rattle.fv_canon.specs.Image.{IsImage}
+use Rattle.fv_tree.specs.Words.{IsMeaning, MeansSection, Stream, Meaning, Volume, head_of}
+use Rattle.fv_canon.specs.Words.{DataAligned, DataAreAligned, IsImage}
 use Rattle.fv_canon.proofs.StoredTilingLaws.{PadErased}
 use Rattle.fv_canon.proofs.StreamImageLaws.{stream_again}
 use Rattle.fv_canon.proofs.VolumeImageLaws.{known, image_front, image_tiled, sections_again}

@@ -2,24 +2,17 @@
 use Rattle.std.proofs.Common.{◌≡◌, ◌-◌, ◌+◌, ℕ, zero, suc, Bool, true, false, List, [], ◌∷◌, ◌++◌, length, replicate, sym, subst}
 use Rattle.std.specs.Prelude.{if◌then◌else◌, ◌==◌, nat_le, Option, None, Some}
 use Rattle.std.specs.List.{AllByRecursion}
-use Rattle.fv_base.specs.Flash.{erased_byte}
-use Rattle.fv_base.specs.Guids.{bytes_of}
-use Rattle.fv_base.specs.Value.{IsBytes, le_bytes, up_to_8}
+use Rattle.fv_base.specs.Words.{erased_byte, bytes_of, IsBytes, le_bytes, up_to_8}
 use Rattle.fv_base.specs.declared.flash.FileSystem.{FileSystem}
 use Rattle.fv_base.specs.declared.flash.Polarity.{Polarity}
 use Rattle.fv_base.proofs.Laws.{bytes_append, bytes_back, bytes_front, bytes_le_bytes, none_at}
-use Rattle.fv_file.specs.NewHeaders.{pad_head_of}
-use Rattle.fv_head.specs.Ext.{Extension, SplitsEntries, kept_payload, is_used_size, zero_used_size}
-use Rattle.fv_head.specs.HeadReads.{IsReadExt, IfRead}
-use Rattle.fv_head.specs.Head.{HeadFields}
-use Rattle.fv_head.specs.HeadImage.{canonical_head}
-use Rattle.fv_head.specs.ExtImage.{canonical_end, first_edge, payload_with, entry_bytes, entries_bytes}
-use Rattle.fv_head.specs.ExtImage.{ext_len, ext_spelled}
-use Rattle.fv_head.specs.VolumeAttributes.{polarity_of}
+use Rattle.fv_file.specs.Words.{pad_head_of}
+use Rattle.fv_head.specs.Words.{Extension, SplitsEntries, kept_payload, is_used_size, zero_used_size, IsReadExt, IfRead, HeadFields}
+use Rattle.fv_head.specs.Words.{canonical_head, canonical_end, first_edge, payload_with, entry_bytes, entries_bytes, ext_len, ext_spelled}
+use Rattle.fv_head.specs.Words.{polarity_of}
 use Rattle.fv_head.proofs.Laws.{canonical_is}
-use Rattle.fv_canon.specs.StoredFiles.{StoredFile, stored_len, stored_bytes, pad_bytes, pads, long_pad, gap_bytes}
+use Rattle.fv_canon.specs.Words.{StoredFile, stored_len, stored_bytes, pad_bytes, pads, long_pad, gap_bytes, ext_pad, used_size}
 use Rattle.fv_canon.specs.inner.ImageOf.{files_bytes, volume_bytes}
-use Rattle.fv_canon.specs.StoredFiles.{ext_pad, used_size}
 use Rattle.fv_canon.proofs.CellLaws.{Storable, bytes_stored, bytes_pad_head, bytes_erased, bytes_pad}
 use Rattle.fv_canon.proofs.PlacedBytesLaws.{Writable}
 

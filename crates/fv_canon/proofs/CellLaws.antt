@@ -8,25 +8,19 @@ use Rattle.std.proofs.Common.{replicate, refl, sym, ap, ◌∙◌, subst, arith,
 use Rattle.std.specs.Prelude.{slice_index, sum, ◌==◌, if◌then◌else◌}
 use Rattle.std.proofs.lemmas.Bool.{eq-eqb}
 use Rattle.std.proofs.lemmas.List.{length-replicate}
-use Rattle.fv_base.specs.Flash.{erased_byte}
-use Rattle.fv_base.specs.Guids.{bytes_of}
-use Rattle.fv_base.specs.Measures.{data_limit}
-use Rattle.fv_base.specs.Value.{IsBytes}
+use Rattle.fv_base.specs.Words.{erased_byte, bytes_of, data_limit, IsBytes}
 use Rattle.fv_base.specs.declared.flash.FileSystem.{FileSystem}
-use Rattle.fv_base.specs.declared.flash.FileSystem.TheVariants.{Ffs3}
 use Rattle.fv_base.specs.declared.flash.Polarity.{Polarity}
+use Rattle.fv_base.specs.declared.flash.FileSystem.TheVariants.{Ffs3}
 use Rattle.fv_base.specs.declared.flash.Polarity.TheVariants.{Ones, Zeros}
 use Rattle.fv_base.proofs.Laws.{bytes_append, bytes_replicate}
-use Rattle.fv_file.specs.Cells.{Valid, Pad, IsCell}
-use Rattle.fv_file.specs.FileAttributes.{is_large, is_fixed, is_summed}
-use Rattle.fv_file.specs.FileHeaders.{pad_kind, file_sum_right, fixed_checksum}
-use Rattle.fv_file.specs.NewHeaders.{file_sum_for, needs_large, with_large, complement, pad_name, state_byte}
-use Rattle.fv_file.specs.HeaderReads.{file_fields, pad_fields}
-use Rattle.fv_file.specs.NewHeaders.{file_head_of, pad_head_of}
+use Rattle.fv_file.specs.Words.{Valid, Pad, IsCell, is_large, is_fixed, is_summed, pad_kind, file_sum_right, fixed_checksum, file_sum_for}
+use Rattle.fv_file.specs.Words.{needs_large, with_large, complement, pad_name, state_byte, file_fields, pad_fields, file_head_of}
+use Rattle.fv_file.specs.Words.{pad_head_of}
 use Rattle.fv_file.specs.declared.head.FileHead.{FileHead}
 use Rattle.fv_file.proofs.Laws.{bytes_header, complement_small, file_written, fixed_with, head_of_file, head_of_pad, length-header}
 use Rattle.fv_file.proofs.Laws.{pad_written, set_large, state_small, summed_with, with_large_small}
-use Rattle.fv_canon.specs.StoredFiles.{StoredFile, stored_len, head_len_for, stored_bytes, pad_bytes}
+use Rattle.fv_canon.specs.Words.{StoredFile, stored_len, head_len_for, stored_bytes, pad_bytes}
 
 -- ---- a file
 

@@ -6,12 +6,11 @@ use Rattle.std.specs.Prelude.{map, not, ◌&&◌}
 use Rattle.std.specs.Bool.{beq}
 use Rattle.std.specs.List.{filter, list_any}
 use Rattle.std.specs.Str.{bytes_eq}
-use Rattle.fv_base.specs.Guids.{bytes_of}
-use Rattle.fv_base.specs.Value.{up_to_8}
+use Rattle.fv_base.specs.Words.{bytes_of, up_to_8}
 use Rattle.fv_base.specs.declared.flash.Polarity.{Polarity}
-use Rattle.fv_placement.specs.Starts.{StartsFollow}
-use Rattle.fv_tree.specs.VolumeFiles.{FileForm, is_marked, same_name, is_twin, NoTwins, replaced_by, current_in, top_name, TopAtEnd}
-use Rattle.fv_canon.specs.StoredFiles.{StoredFile, stored_len}
+use Rattle.fv_placement.specs.Words.{StartsFollow}
+use Rattle.fv_tree.specs.Words.{FileForm, is_marked, same_name, is_twin, NoTwins, replaced_by, current_in, top_name, TopAtEnd}
+use Rattle.fv_canon.specs.Words.{StoredFile, stored_len}
 use Rattle.fv_canon.proofs.ImageParts.{stored_item}
 use Rattle.fv_canon.proofs.StoredTilingLaws.{forms_of}
 use Rattle.fv_base.proofs.Laws.{or_parts}

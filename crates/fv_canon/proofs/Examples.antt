@@ -5,13 +5,11 @@ use Rattle.std.specs.Prelude.{None, Some}
 use Rattle.fv_base.specs.declared.flash.FileSystem.TheVariants.{Ffs2}
 use Rattle.fv_base.specs.declared.flash.Polarity.{Polarity}
 use Rattle.fv_base.specs.declared.guid.Guid.{Guid}
-use Rattle.fv_file.specs.NewHeaders.{header_bytes}
-use Rattle.fv_head.specs.Head.{HeadFields}
-use Rattle.fv_head.specs.HeadImage.{canonical_head, head_spelled}
-use Rattle.fv_head.specs.ExtImage.{ext_spelled}
-use Rattle.fv_tree.specs.Meaning.{Volume, NoFiles, MoreFiles, File, Plain, Sectioned, NoSections, MoreSections, Section, Leaf, Nested}
+use Rattle.fv_file.specs.Words.{header_bytes}
+use Rattle.fv_head.specs.Words.{HeadFields, canonical_head, head_spelled, ext_spelled}
+use Rattle.fv_tree.specs.Words.{Volume, NoFiles, MoreFiles, File, Plain, Sectioned, NoSections, MoreSections, Section, Leaf, Nested}
 use Rattle.fv_canon.specs.inner.ImageOf.{image_of}
-use Rattle.fv_canon.specs.StoredFiles.{stored_bytes, pad_bytes, gap_bytes, ext_pad}
+use Rattle.fv_canon.specs.Words.{stored_bytes, pad_bytes, gap_bytes, ext_pad}
 use Rattle.fv_canon.proofs.PadLaws.{pads_rule}
 
 abbrev guid : ℕ → Guid

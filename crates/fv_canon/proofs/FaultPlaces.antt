@@ -2,8 +2,8 @@
 use Rattle.std.proofs.Common.{◌≤◌, ℕ, List, length, subst, sym, arith, inl, inr}
 use Rattle.fv_base.specs.declared.fault.Fault.{Fault}
 use Rattle.fv_tree.proofs.Laws.{first_within}
-use Rattle.fv_canon.specs.InputRefusals.{Refuses}
-use Rattle.fv_tree.specs.InputFaults.{IsFirstOfInput}
+use Rattle.fv_canon.specs.Words.{Refuses}
+use Rattle.fv_tree.specs.Words.{IsFirstOfInput}
 use Rattle.fv_canon.proofs.UnfitKinds.{unfit_place}
 
 -- that of an input which is rejected

@@ -3,16 +3,12 @@
 use Rattle.std.proofs.Common.{◌≡◌, ◌⊎◌, inl, inr, ◌+◌, ℕ, List, [], ◌∷◌, refl, sym, ◌∙◌}
 use Rattle.fv_base.specs.declared.fault.Fault.{Fault}
 use Rattle.fv_base.specs.declared.fault.FaultKind.TheVariants as kinds
-use Rattle.fv_head.specs.ExtImage.{first_edge}
-use Rattle.fv_placement.specs.NoPlacement.{HasNoRoom, TopOff}
-use Rattle.fv_placement.specs.Starts.{IsFirstPlacement}
+use Rattle.fv_head.specs.Words.{first_edge}
+use Rattle.fv_placement.specs.Words.{HasNoRoom, TopOff, IsFirstPlacement}
 use Rattle.fv_placement.proofs.Laws.{agree, placed_or_not, top_none}
-use Rattle.fv_tree.specs.Meaning.{Meaning, head_of, length_of}
-use Rattle.fv_tree.specs.Volumes.{Inside, volumes_in}
-use Rattle.fv_canon.specs.InputRefusals.{IsOfLayout, Refuses, WhatDoesNotFitIsRefused}
-use Rattle.fv_canon.specs.Layouts.{layout_items, AreStarts, IsPlaced, Fits}
-use Rattle.fv_canon.specs.LayoutForms.{AreLeast, Laid, LaysVolume, LeastVolume}
-use Rattle.fv_canon.specs.LayoutFaults.{layout_fault, AllFit, UnfitHere, FirstUnfit, Unfit}
+use Rattle.fv_tree.specs.Words.{Meaning, head_of, length_of, Inside, volumes_in}
+use Rattle.fv_canon.specs.Words.{IsOfLayout, Refuses, WhatDoesNotFitIsRefused, layout_items, AreStarts, IsPlaced, Fits, AreLeast, Laid}
+use Rattle.fv_canon.specs.Words.{LaysVolume, LeastVolume, layout_fault, AllFit, UnfitHere, FirstUnfit, Unfit}
 use Rattle.fv_canon.proofs.UnfitKinds.{unfit_is}
 use Rattle.fv_canon.proofs.VolumeListLaws.{laid_fit, fit_laid}
 

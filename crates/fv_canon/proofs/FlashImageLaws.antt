@@ -14,21 +14,15 @@ use Rattle.std.proofs.lemmas.List.{drop_more, ext_get_or, get_or-drop, get_or-ta
 use Rattle.std.proofs.lemmas.List.Elements.{All-contains, All-from_recursion}
 use Rattle.std.proofs.Math.ListN.{drop_of_length-le}
 use Rattle.std.proofs.Math.Seq.{drop-append_seam, take-append_seam}
-use Rattle.fv_base.specs.Faults.{out_of_memory}
-use Rattle.fv_base.specs.Sinks.{WalkLaws}
-use Rattle.fv_base.specs.Value.{field}
+use Rattle.fv_base.specs.Words.{out_of_memory, WalkLaws, field, depth_limit}
 use Rattle.fv_base.specs.declared.fault.Fault.{Fault}
-use Rattle.fv_base.specs.Limits.{depth_limit}
-use Rattle.fv_flash.specs.FoundVolumes.{Found, IsCovered, VolumeAt}
+use Rattle.fv_flash.specs.Words.{Found, IsCovered, VolumeAt}
 use Rattle.fv_flash.specs.inner.FoundWalks.{FoundFrom}
-use Rattle.fv_tree.specs.Meaning.{Meaning}
+use Rattle.fv_tree.specs.Words.{Meaning}
 use Rattle.fv_flash.proofs.Laws.{at_within, found_walk, one_found, one_length}
 use Rattle.fv_tree.proofs.Laws.{one_meaning}
 use Rattle.fv_base.proofs.Laws.{first_or_behind, in_middle, one_behind, first_only}
-use Rattle.fv_canon.specs.Image.{IsImage}
-use Rattle.fv_canon.specs.Headline.{NormalisesTo}
-use Rattle.fv_canon.specs.InputRefusals.{Refuses}
-use Rattle.fv_canon.specs.FlashImages.{FirstRefused, IsRenewed, NormalisesAll, Renewed}
+use Rattle.fv_canon.specs.Words.{IsImage, NormalisesTo, Refuses, FirstRefused, IsRenewed, NormalisesAll, Renewed}
 use Rattle.fv_canon.proofs.FaultPlaces.{refused_within}
 use Rattle.fv_canon.proofs.FitLaws.{unfit_none}
 use Rattle.fv_canon.proofs.RejectedInputLaws.{image_fits}

@@ -1,16 +1,11 @@
 -- The headline: equal images have equal meanings, and an image is its own image; and an image has one meaning.
 use Rattle.std.proofs.Common.{◌≡◌, ◌≤◌, ◌+◌, ◌-◌, ℕ, zero, suc, List, [], ◌∷◌, sym, ◌∙◌, subst, arith}
-use Rattle.fv_base.specs.Value.{IsBytes}
-use Rattle.fv_section.specs.Frames.{FrameForm}
-use Rattle.fv_tree.specs.Meaning.{Meaning, FileMeaning, File, ContentMeaning, Plain, Sectioned, SectionMeaning, Section, Leaf, Group}
-use Rattle.fv_tree.specs.Meaning.{Nested, sections_list, files_of}
-use Rattle.fv_tree.specs.Denotes.{SectionRelation, StreamRelation, VolumeRelation, Pairwise, StreamOver, SectionOver, VolumeOver, MeansContent, MeansFile}
-use Rattle.fv_tree.specs.VolumeFiles.{FileForm}
-use Rattle.fv_base.specs.Limits.{depth_limit}
-use Rattle.fv_tree.specs.Denotes.{MeansSection, Stream, Denotes, Accepted}
-use Rattle.fv_canon.specs.Image.{IsImage}
-use Rattle.fv_canon.specs.Headline.{MeanSame, SameMeaningIffSameImage, ImageKeepsLengthAndMeaning, ImageIsItsOwnImage}
-use Rattle.fv_canon.specs.ImageRules.{OneMeaning}
+use Rattle.fv_base.specs.Words.{IsBytes, depth_limit}
+use Rattle.fv_section.specs.Words.{FrameForm}
+use Rattle.fv_tree.specs.Words.{Meaning, FileMeaning, File, ContentMeaning, Plain, Sectioned, SectionMeaning, Section, Leaf, Group, Nested}
+use Rattle.fv_tree.specs.Words.{sections_list, files_of, SectionRelation, StreamRelation, VolumeRelation, Pairwise, StreamOver, SectionOver}
+use Rattle.fv_tree.specs.Words.{VolumeOver, MeansContent, MeansFile, FileForm, MeansSection, Stream, Denotes, Accepted}
+use Rattle.fv_canon.specs.Words.{IsImage, MeanSame, SameMeaningIffSameImage, ImageKeepsLengthAndMeaning, ImageIsItsOwnImage, OneMeaning}
 use Rattle.fv_tree.proofs.Laws.{one_meaning}
 use Rattle.fv_canon.proofs.OneImageLaws.{image_one}
 use Rattle.fv_canon.proofs.VolumeImageLaws.{image_bytes, image_denotes, image_long, volume_of}

@@ -1,15 +1,10 @@
 -- The laws of the image that is written for a layout.
 use Rattle.std.proofs.Common.{◌≡◌, ◌≤◌, ℕ, List, [], length, append-nil, sym, ◌∙◌, arith}
-use Rattle.fv_base.specs.Limits.{volume_limit}
+use Rattle.fv_base.specs.Words.{volume_limit}
 use Rattle.fv_head.proofs.Laws.{front_lies}
-use Rattle.fv_tree.specs.Denotes.{Accepted, IsMeaning}
-use Rattle.fv_tree.specs.Meaning.{Meaning, head_of}
-use Rattle.fv_tree.specs.Volumes.{volumes_in}
-use Rattle.fv_canon.specs.Image.{IsImage}
+use Rattle.fv_tree.specs.Words.{Accepted, IsMeaning, Meaning, head_of, volumes_in}
+use Rattle.fv_canon.specs.Words.{IsImage, Fits, BeginsWithStarts, LaysVolume, MeanSame, NormalisesTo, WhatFitsHasAnImage}
 use Rattle.fv_canon.specs.inner.ImageOf.{image_of}
-use Rattle.fv_canon.specs.Layouts.{Fits}
-use Rattle.fv_canon.specs.LayoutForms.{BeginsWithStarts, LaysVolume}
-use Rattle.fv_canon.specs.Headline.{MeanSame, NormalisesTo, WhatFitsHasAnImage}
 use Rattle.fv_canon.proofs.FitLaws.{fits_laid}
 use Rattle.fv_canon.proofs.WrittenImageLaws.{image_made}
 use Rattle.fv_canon.proofs.HeadlineLaws.{accepted, image_keeps_length_and_meaning, image_is_its_own_image}

@@ -1,16 +1,11 @@
 -- How far a walk over an image has come: what laws and invariants say of it, besides the parts of the image itself.
 use Rattle.std.proofs.Common.{◌≡◌, ℕ, ◌-◌, List, [], ◌++◌, length, drop, replicate}
 use Rattle.std.specs.Str.{bytes_eq}
-use Rattle.fv_base.specs.Alignment.{alignment_of}
-use Rattle.fv_base.specs.Guids.{bytes_of}
-use Rattle.fv_section.specs.Frames.{FrameForm, frame_len, up_to_4}
-use Rattle.fv_section.specs.SectionImage.{section_head_of}
-use Rattle.fv_tree.specs.Meaning.{SectionMeanings, NoSections, MoreSections}
-use Rattle.fv_tree.specs.VolumeFiles.{top_name}
-use Rattle.fv_tree.specs.Volumes.{Inside, volumes_in_section}
+use Rattle.fv_base.specs.Words.{alignment_of, bytes_of}
+use Rattle.fv_section.specs.Words.{FrameForm, frame_len, up_to_4, section_head_of}
+use Rattle.fv_tree.specs.Words.{SectionMeanings, NoSections, MoreSections, top_name, Inside, volumes_in_section}
 use Rattle.fv_placement.specs.declared.first_placement.LayoutItem.{LayoutItem}
-use Rattle.fv_canon.specs.LayoutForms.{BeginsWithStarts}
-use Rattle.fv_canon.specs.StoredFiles.{StoredFile, head_len_for, stored_len}
+use Rattle.fv_canon.specs.Words.{BeginsWithStarts, StoredFile, head_len_for, stored_len}
 use Rattle.fv_canon.specs.inner.ImageOf.{frame_of, starts_in}
 
 -- what the layout knows of a file

@@ -3,17 +3,12 @@ use Rattle.std.proofs.Common.{◌≡◌, ℕ, List, [], ◌++◌, refl, ◌∙�
 use Rattle.std.specs.Prelude.{Result, IfOk}
 use Rattle.std.proofs.lemmas.Result.{IfOk-weaker}
 use Rattle.fv_base.proofs.Laws.{bytes_drop, kept_whole}
-use Rattle.fv_base.specs.Sinks.{KeptLatched}
+use Rattle.fv_base.specs.Words.{KeptLatched}
 use Rattle.fv_base.specs.declared.fault.Fault.{Fault}
-use Rattle.fv_tree.specs.ReadParts.{IsReadFile, IsReadSection}
-use Rattle.fv_tree.specs.Denotes.{MeansSection, Stream}
-use Rattle.fv_tree.specs.Meaning.{FileMeaning, File, SectionMeaning, Section, content_of}
-use Rattle.fv_tree.specs.MeaningParts.{body_of}
-use Rattle.fv_canon.specs.Image.{IsData, IsBodyImage, IsFrame}
+use Rattle.fv_tree.specs.Words.{IsReadFile, IsReadSection, MeansSection, Stream, FileMeaning, File, SectionMeaning, Section, content_of}
+use Rattle.fv_tree.specs.Words.{body_of, volumes_in_body, volumes_in_content}
+use Rattle.fv_canon.specs.Words.{IsData, IsBodyImage, IsFrame, AreStarts, BeginsWithStarts, Laid}
 use Rattle.fv_canon.specs.inner.ImageOf.{data_of, body_image, frame_of}
-use Rattle.fv_canon.specs.Layouts.{AreStarts}
-use Rattle.fv_canon.specs.LayoutForms.{BeginsWithStarts, Laid}
-use Rattle.fv_tree.specs.Volumes.{volumes_in_body, volumes_in_content}
 use Rattle.fv_canon.proofs.VolumeListLaws.{laid_deeper}
 use Rattle.fv_canon.proofs.WrittenImageLaws.{data_made, stream_made, sections_made}
 use Rattle.fv_file.proofs.Laws.{cell_read}

@@ -1,19 +1,16 @@
 -- Each volume in a volume that was read has a meaning that some bytes have.
 use Rattle.std.proofs.Common.{◌≤◌, ◌+◌, ℕ, zero, suc, List, [], ◌∷◌, ◌++◌, length, drop, arith}
 use Rattle.std.specs.List.{AllByRecursion}
-use Rattle.fv_base.specs.Value.{IsBytes}
+use Rattle.fv_base.specs.Words.{IsBytes}
 use Rattle.fv_base.specs.declared.flash.FileSystem.{FileSystem}
 use Rattle.fv_base.proofs.Laws.{bytes_back}
-use Rattle.fv_section.specs.Frames.{FrameForm, frame_len, up_to_4, SplitsFrom}
+use Rattle.fv_section.specs.Words.{FrameForm, frame_len, up_to_4, SplitsFrom}
 use Rattle.fv_section.proofs.Laws.{begun_bytes}
-use Rattle.fv_tree.specs.Meaning.{Meaning, Volume, FileMeanings, NoFiles, MoreFiles, FileMeaning, File, ContentMeaning, Plain, Sectioned}
-use Rattle.fv_tree.specs.Meaning.{SectionMeanings, NoSections, MoreSections, SectionMeaning, Section, Leaf, Group, Nested, files_list}
-use Rattle.fv_tree.specs.Meaning.{sections_list}
-use Rattle.fv_tree.specs.Denotes.{SectionRelation, StreamRelation, VolumeRelation, Pairwise, StreamOver, SectionOver, VolumeOver, MeansContent, MeansFile}
-use Rattle.fv_tree.specs.Denotes.{MeansSection, Stream, IsMeaning}
-use Rattle.fv_tree.specs.VolumeFiles.{FileForm}
-use Rattle.fv_tree.specs.Volumes.{Inside, volumes_in, volumes_in_files, volumes_in_file, volumes_in_content, volumes_in_sections}
-use Rattle.fv_tree.specs.Volumes.{volumes_in_section}
+use Rattle.fv_tree.specs.Words.{Meaning, Volume, FileMeanings, NoFiles, MoreFiles, FileMeaning, File, ContentMeaning, Plain, Sectioned}
+use Rattle.fv_tree.specs.Words.{SectionMeanings, NoSections, MoreSections, SectionMeaning, Section, Leaf, Group, Nested, files_list}
+use Rattle.fv_tree.specs.Words.{sections_list, SectionRelation, StreamRelation, VolumeRelation, Pairwise, StreamOver, SectionOver}
+use Rattle.fv_tree.specs.Words.{VolumeOver, MeansContent, MeansFile, MeansSection, Stream, IsMeaning, FileForm, Inside, volumes_in}
+use Rattle.fv_tree.specs.Words.{volumes_in_files, volumes_in_file, volumes_in_content, volumes_in_sections, volumes_in_section}
 use Rattle.fv_canon.proofs.ReadLaws.{FileIsAccepted}
 use Rattle.fv_canon.proofs.VolumeImageLaws.{files_read}
 use Rattle.fv_canon.proofs.VolumeListLaws.{each_joined, each_deeper}

@@ -6,23 +6,16 @@ use Rattle.std.proofs.lemmas.Grind.{common_steps}
 use Rattle.std.proofs.Common.{◌≡◌, ◌≤◌, ◌<◌, ◌⊎◌, inl, inr, ◌+◌, ◌-◌, ◌%◌, ℕ, List, ◌∷◌, ◌++◌, length, drop, replicate}
 use Rattle.std.proofs.Common.{get_or, refl, ap, ◌∙◌, subst, arith, append_assoc, length-drop}
 use Rattle.std.proofs.lemmas.List.{drop_all, drop_more, length-map}
-use Rattle.fv_base.specs.Flash.{erased_byte}
-use Rattle.fv_base.specs.Measures.{data_limit}
-use Rattle.fv_base.specs.Value.{up_to_8}
+use Rattle.fv_base.specs.Words.{erased_byte, data_limit, up_to_8, WalkLaws}
 use Rattle.fv_base.specs.declared.flash.Polarity.{Polarity}
-use Rattle.fv_file.specs.NewHeaders.{file_sum_for, file_head_of, needs_large}
+use Rattle.fv_file.specs.Words.{file_sum_for, file_head_of, needs_large}
 use Rattle.fv_file.proofs.Laws.{cell_read, header_least}
-use Rattle.fv_placement.specs.Starts.{StandsInVolume}
-use Rattle.fv_tree.specs.Meaning.{FileMeaning, File, file_name_of, attributes_of, content_of, data_len_of}
-use Rattle.fv_tree.specs.MeaningParts.{files_from, file_kind_of}
-use Rattle.fv_tree.specs.ReadParts.{IsReadFile}
-use Rattle.fv_tree.specs.Denotes.{MeansSection, Stream}
+use Rattle.fv_placement.specs.Words.{StandsInVolume}
+use Rattle.fv_tree.specs.Words.{FileMeaning, File, file_name_of, attributes_of, content_of, data_len_of, files_from, file_kind_of}
+use Rattle.fv_tree.specs.Words.{IsReadFile, MeansSection, Stream, volumes_in_files, volumes_in_file}
 use Rattle.fv_canon.specs.inner.ImageOf.{stored_of, stored_file, data_of, starts_in, files_bytes}
-use Rattle.fv_canon.specs.LayoutForms.{BeginsWithStarts}
+use Rattle.fv_canon.specs.Words.{BeginsWithStarts, layout_item, stored_len, size_for, head_len_for, stored_bytes, gap_bytes}
 use Rattle.fv_canon.proofs.ImageParts.{ComesTo, TakesFront}
-use Rattle.fv_canon.specs.Layouts.{layout_item}
-use Rattle.fv_tree.specs.Volumes.{volumes_in_files, volumes_in_file}
-use Rattle.fv_canon.specs.StoredFiles.{stored_len, size_for, head_len_for, stored_bytes, gap_bytes}
 use Rattle.fv_base.proofs.Laws.{item_at}
 use Rattle.fv_canon.proofs.VolumeListLaws.{item_last, item_passed}
 use Rattle.fv_canon.proofs.WrittenImageLaws.{data_made, stream_made, sections_made}
@@ -30,7 +23,6 @@ use Rattle.fv_placement.proofs.Laws.{follow_length}
 use Rattle.fv_canon.proofs.StreamImageLaws.{stream_again}
 use Rattle.fv_canon.proofs.VolumeImageLaws.{data_again, sections_again}
 use Rattle.fv_canon.specs.inner.FileWalks.{ArePlaced}
-use Rattle.fv_base.specs.Sinks.{WalkLaws}
 
 -- ---- a file
 pub file_long : (m : FileMeaning) (starts : List ℕ) → IsReadFile m → BeginsWithStarts (volumes_in_file m) starts

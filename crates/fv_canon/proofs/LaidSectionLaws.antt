@@ -6,23 +6,16 @@ use Rattle.std.proofs.lemmas.Grind.{common_steps}
 use Rattle.std.proofs.Common.{◌≡◌, ◌≤◌, ◌<◌, ◌+◌, ◌-◌, ◌^◌, ℕ, zero, suc, Bool, List, [], ◌∷◌, ◌++◌, length, drop, replicate, get_or, refl}
 use Rattle.std.proofs.Common.{sym, ap, ◌∙◌, subst, arith, append_assoc, append-nil, length-drop}
 use Rattle.std.proofs.lemmas.List.{drop_all}
-use Rattle.fv_base.specs.Value.{IsBytes}
-use Rattle.fv_base.specs.Limits.{volume_limit}
-use Rattle.fv_base.specs.Sinks.{WalkLaws}
+use Rattle.fv_base.specs.Words.{IsBytes, volume_limit, WalkLaws}
 use Rattle.fv_base.proofs.Laws.{bytes_drop, item_at}
-use Rattle.fv_section.specs.Frames.{FrameForm, section_header_len, frame_len, up_to_4}
-use Rattle.fv_section.specs.StreamReads.{FitsForm}
-use Rattle.fv_section.specs.SectionImage.{section_head_of, stream_of}
+use Rattle.fv_section.specs.Words.{FrameForm, section_header_len, frame_len, up_to_4, FitsForm, section_head_of, stream_of}
 use Rattle.fv_section.proofs.Laws.{begun_bytes, fits, length_begun}
-use Rattle.fv_tree.specs.Meaning.{SectionMeanings, NoSections, MoreSections, SectionMeaning, Section, body_len}
-use Rattle.fv_tree.specs.MeaningParts.{sections_from, body_of, section_is_extended, section_kind_of}
-use Rattle.fv_tree.specs.Meaning.{section_len}
-use Rattle.fv_tree.specs.Denotes.{MeansSection}
-use Rattle.fv_tree.specs.ReadParts.{IsReadSection}
+use Rattle.fv_tree.specs.Words.{SectionMeanings, NoSections, MoreSections, SectionMeaning, Section, body_len, sections_from, body_of}
+use Rattle.fv_tree.specs.Words.{section_is_extended, section_kind_of, section_len, MeansSection, IsReadSection, volumes_in_section}
+use Rattle.fv_tree.specs.Words.{volumes_in_sections, volumes_in_body}
 use Rattle.fv_canon.specs.inner.ImageOf.{frames_of, frame_of, body_image, starts_in}
 use Rattle.fv_canon.proofs.ImageParts.{frame_bytes, sections_bytes, ComesTo, TakesFront}
-use Rattle.fv_canon.specs.LayoutForms.{BeginsWithStarts}
-use Rattle.fv_tree.specs.Volumes.{volumes_in_section, volumes_in_sections, volumes_in_body}
+use Rattle.fv_canon.specs.Words.{BeginsWithStarts}
 use Rattle.fv_tree.proofs.Laws.{in_section}
 use Rattle.fv_canon.proofs.VolumeListLaws.{count_deeper, item_passed, laid_higher}
 use Rattle.fv_canon.proofs.WrittenImageLaws.{sections_made}

@@ -8,23 +8,16 @@ use Rattle.std.proofs.Common.{sym, ap, ◌∙◌, subst, arith, inl, inr}
 use Rattle.std.specs.List.{AllByRecursion}
 use Rattle.std.proofs.lemmas.List.{drop_more, get_or-map, length-drop, length-map, length-take-le, map-append, take-append-drop}
 use Rattle.std.proofs.lemmas.List.{take_all, take_more}
-use Rattle.fv_base.specs.Faults.{out_of_memory}
-use Rattle.fv_base.specs.Limits.{depth_limit, volume_limit}
-use Rattle.fv_base.specs.Sinks.{WalkLaws}
-use Rattle.fv_base.specs.Value.{field}
+use Rattle.fv_base.specs.Words.{out_of_memory, depth_limit, volume_limit, WalkLaws, field}
 use Rattle.fv_base.specs.declared.fault.Fault.{Fault}
 use Rattle.fv_base.proofs.Laws.{at_index, or_more, want_known}
 use Rattle.fv_flash.proofs.Laws.{at_within}
-use Rattle.fv_tree.specs.Denotes.{Accepted, IsMeaning}
-use Rattle.fv_tree.specs.FirstFault.{moved_fault}
-use Rattle.fv_flash.specs.FoundVolumes.{Found, VolumeAt}
-use Rattle.fv_tree.specs.Meaning.{Meaning, head_of}
-use Rattle.fv_canon.specs.Image.{IsImage}
-use Rattle.fv_canon.specs.Headline.{NormalisesTo}
-use Rattle.fv_canon.specs.InputRefusals.{Refuses}
-use Rattle.fv_canon.specs.FlashImages.{FirstRefused, HasImageAt, NormalisesAll, RefusedAt, AreLaid, IsLaid, IsLaidOut, starts_of}
-use Rattle.fv_canon.specs.inner.ImageOf.{image_of}
+use Rattle.fv_tree.specs.Words.{Accepted, IsMeaning, moved_fault, Meaning, head_of}
+use Rattle.fv_flash.specs.Words.{Found, VolumeAt}
+use Rattle.fv_canon.specs.Words.{IsImage, NormalisesTo, Refuses, FirstRefused, HasImageAt, NormalisesAll, RefusedAt, AreLaid, IsLaid}
+use Rattle.fv_canon.specs.Words.{IsLaidOut, starts_of}
 use Rattle.fv_canon.specs.declared.flash_image.LaidVolume.{LaidVolume}
+use Rattle.fv_canon.specs.inner.ImageOf.{image_of}
 use Rattle.fv_canon.proofs.FlashImageLaws.{Puts, next_of, puts_all, puts_more, puts_none}
 use Rattle.fv_canon.proofs.ImageLaws.{image_is}
 

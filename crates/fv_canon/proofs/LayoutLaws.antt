@@ -2,12 +2,9 @@
 use Rattle.std.proofs.Common.{◌≡◌, ◌≤◌, ℕ, List, [], ◌∷◌, ◌++◌, length, take, drop, sym, ap, ◌∙◌, subst, arith}
 use Rattle.std.proofs.lemmas.List.{take-append-drop, length-take-le, take_at}
 use Rattle.fv_tree.proofs.Laws.{files_list_back}
-use Rattle.fv_tree.specs.Meaning.{Meaning, Volume, FileMeaning, files_list, files_of, head_of}
-use Rattle.fv_tree.specs.MeaningParts.{files_from}
-use Rattle.fv_canon.specs.Layouts.{AreStarts, layout_items}
-use Rattle.fv_canon.specs.LayoutForms.{Laid, LaysVolume, Places, IsLayout}
+use Rattle.fv_tree.specs.Words.{Meaning, Volume, FileMeaning, files_list, files_of, head_of, files_from, Inside, volumes_in}
+use Rattle.fv_canon.specs.Words.{AreStarts, layout_items, Laid, LaysVolume, Places, IsLayout}
 use Rattle.fv_canon.specs.inner.FileWalks.{Grew}
-use Rattle.fv_tree.specs.Volumes.{Inside, volumes_in}
 use Rattle.fv_placement.proofs.Laws.{starts_one}
 use Rattle.fv_canon.proofs.VolumeListLaws.{laid_count, own_count}
 

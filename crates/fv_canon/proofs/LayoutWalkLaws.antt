@@ -3,24 +3,18 @@ use Rattle.std.proofs.lemmas.Grind.{common_steps}
 use Rattle.std.proofs.Common.{◌≡◌, ◌≢◌, ◌≤◌, ap, ◌<◌, ◌⊎◌, inr, ◌+◌, ℕ, suc, List, length, take, get_or, ◌++◌, append_assoc, refl, sym, subst, arith}
 use Rattle.std.proofs.Common.{[], ◌∷◌, true, false, true≢false}
 use Rattle.fv_base.proofs.Laws.{or_more}
-use Rattle.fv_base.specs.Faults.{out_of_memory}
+use Rattle.fv_base.specs.Words.{out_of_memory}
 use Rattle.fv_base.specs.declared.fault.Fault.{Fault}
-use Rattle.fv_head.specs.Head.{HeadFields}
-use Rattle.fv_section.specs.Frames.{FrameForm}
-use Rattle.fv_tree.specs.Denotes.{IsMeaning, MeansFile, MeansSection, Stream}
-use Rattle.fv_tree.specs.ReadParts.{IsReadFile, IsReadSection}
-use Rattle.fv_tree.specs.VolumeFiles.{FileForm}
-use Rattle.fv_tree.specs.Meaning.{Meaning, Volume, head_of, FileMeanings, NoFiles, MoreFiles, files_of, FileMeaning}
-use Rattle.fv_tree.specs.MeaningParts.{files_from, sections_from, body_of}
-use Rattle.fv_tree.specs.Meaning.{SectionMeanings, SectionMeaning, Group, Nested}
+use Rattle.fv_head.specs.Words.{HeadFields}
+use Rattle.fv_section.specs.Words.{FrameForm}
+use Rattle.fv_tree.specs.Words.{IsMeaning, MeansFile, MeansSection, Stream, IsReadFile, IsReadSection, FileForm, Meaning, Volume, head_of}
+use Rattle.fv_tree.specs.Words.{FileMeanings, NoFiles, MoreFiles, files_of, FileMeaning, files_from, sections_from, body_of}
+use Rattle.fv_tree.specs.Words.{SectionMeanings, SectionMeaning, Group, Nested, volumes_in, volumes_in_files, volumes_in_file}
+use Rattle.fv_tree.specs.Words.{volumes_in_sections, volumes_in_section, volumes_in_body}
 use Rattle.fv_canon.specs.inner.ImageOf.{data_body, starts_in}
 use Rattle.fv_tree.specs.inner.NestingDepths.{NestsVolume, NestsFiles, NestsSections, NestsBody}
 use Rattle.fv_canon.specs.inner.FileWalks.{Grew, Shallow}
-use Rattle.fv_canon.specs.Layouts.{AreStarts}
-use Rattle.fv_canon.specs.LayoutForms.{Laid}
-use Rattle.fv_canon.specs.LayoutFaults.{FirstUnfit, Unfit}
-use Rattle.fv_tree.specs.Volumes.{volumes_in, volumes_in_files, volumes_in_file, volumes_in_sections, volumes_in_section}
-use Rattle.fv_tree.specs.Volumes.{volumes_in_body}
+use Rattle.fv_canon.specs.Words.{AreStarts, Laid, FirstUnfit, Unfit}
 use Rattle.fv_canon.proofs.DataBodyLaws.{data_nests, data_volumes}
 use Rattle.fv_tree.proofs.Laws.{nests_files, nests_body, nests_group, nests_nested}
 use Rattle.fv_canon.proofs.ItemLaws.{item_has}

@@ -5,16 +5,12 @@ use Rattle.std.specs.Prelude.{Option, Result, Ok, Err, IfErr, OnErr, OnOk}
 use Rattle.std.specs.Io.KnownBytes.{Appends}
 use Rattle.std.proofs.KnownBytes.{Keeps-refl}
 use Rattle.std.proofs.lemmas.Result.{on_ok_weaker, IfErr-weaker}
-use Rattle.fv_base.specs.Faults.{out_of_memory}
-use Rattle.fv_base.specs.Input.{ReadsWhole, WriteStops}
+use Rattle.fv_base.specs.Words.{out_of_memory, ReadsWhole, WriteStops}
 use Rattle.fv_base.specs.declared.fault.Fault.{Fault}
 use Rattle.fv_base.specs.declared.fault.FaultKind.TheVariants as kinds
-use Rattle.fv_head.specs.HeadChecks.{BeginsWithHeader}
-use Rattle.fv_tree.specs.Denotes.{Accepted}
-use Rattle.fv_tree.specs.Meaning.{Meaning}
-use Rattle.fv_canon.specs.Image.{IsImage}
-use Rattle.fv_canon.specs.InputRefusals.{Refuses}
-use Rattle.fv_canon.specs.NormaliseRuns.{InputWrites, InputStops, RunStops}
+use Rattle.fv_head.specs.Words.{BeginsWithHeader}
+use Rattle.fv_tree.specs.Words.{Accepted, Meaning}
+use Rattle.fv_canon.specs.Words.{IsImage, Refuses, InputWrites, InputStops, RunStops}
 use Rattle.fv_tree.proofs.Laws.{ran_out}
 
 -- the image of the meaning was written

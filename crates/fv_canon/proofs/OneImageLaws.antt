@@ -8,20 +8,15 @@ use Rattle.std.proofs.Common.{sym, ap, ◌∙◌, subst, arith}
 use Rattle.std.specs.List.{AllByRecursion}
 use Rattle.std.proofs.lemmas.Bool.{cases_lt}
 use Rattle.std.proofs.lemmas.List.{ext_get_or, get_or-take, get_or-drop}
-use Rattle.fv_base.specs.Flash.{erased_byte}
+use Rattle.fv_base.specs.Words.{erased_byte}
 use Rattle.fv_base.specs.declared.guid.Guid.{Guid}
-use Rattle.fv_head.specs.ExtImage.{first_edge}
-use Rattle.fv_head.specs.Head.{HeadFields}
-use Rattle.fv_head.specs.VolumeAttributes.{polarity_of}
+use Rattle.fv_head.specs.Words.{first_edge, HeadFields, polarity_of}
 use Rattle.fv_placement.proofs.Laws.{starts_one}
-use Rattle.fv_section.specs.Frames.{FrameForm, frame_len, up_to_4}
-use Rattle.fv_section.specs.SectionImage.{stream_of}
-use Rattle.fv_tree.specs.Meaning.{Meaning, Volume, FileMeanings, NoFiles, MoreFiles, FileMeaning, File, ContentMeaning, Plain, Sectioned}
-use Rattle.fv_tree.specs.Meaning.{SectionMeanings, NoSections, MoreSections, SectionMeaning, Section, BodyMeaning, Leaf, Group, Nested}
-use Rattle.fv_canon.specs.Image.{IsImage, AreStored, IsStored, IsData, AreFrames, IsFrame, IsBodyImage}
-use Rattle.fv_canon.specs.Layouts.{layout_items}
-use Rattle.fv_canon.specs.PlacedBytes.{PlacedBytes, StandsIn, IsIn, ShowsPlaced}
-use Rattle.fv_canon.specs.StoredFiles.{StoredFile, placed_in_volume}
+use Rattle.fv_section.specs.Words.{FrameForm, frame_len, up_to_4, stream_of}
+use Rattle.fv_tree.specs.Words.{Meaning, Volume, FileMeanings, NoFiles, MoreFiles, FileMeaning, File, ContentMeaning, Plain, Sectioned}
+use Rattle.fv_tree.specs.Words.{SectionMeanings, NoSections, MoreSections, SectionMeaning, Section, BodyMeaning, Leaf, Group, Nested}
+use Rattle.fv_canon.specs.Words.{IsImage, AreStored, IsStored, IsData, AreFrames, IsFrame, IsBodyImage, layout_items, PlacedBytes, StandsIn}
+use Rattle.fv_canon.specs.Words.{IsIn, ShowsPlaced, StoredFile, placed_in_volume}
 
 -- ---- bytes that show the same are the same
 

@@ -2,15 +2,12 @@
 use Rattle.std.proofs.Common.{◌≡◌, ◌≢◌, ◌⊎◌, inl, inr, ℕ, List, sym, ap, subst, Bool, true}
 use Rattle.std.specs.Prelude.{IsTrue}
 use Rattle.fv_base.proofs.Laws.{first_only}
-use Rattle.fv_base.specs.Faults.{out_of_memory}
+use Rattle.fv_base.specs.Words.{out_of_memory}
 use Rattle.fv_base.specs.declared.fault.Fault.{Fault}
 use Rattle.fv_base.specs.declared.fault.FaultKind.TheVariants as kinds
-use Rattle.fv_tree.specs.Denotes.{IsMeaning}
-use Rattle.fv_tree.specs.Meaning.{Meaning}
-use Rattle.fv_canon.specs.Image.{IsImage}
+use Rattle.fv_tree.specs.Words.{IsMeaning, Meaning}
+use Rattle.fv_canon.specs.Words.{IsImage, LaysVolume, Unfit}
 use Rattle.fv_canon.specs.inner.ImageOf.{image_of}
-use Rattle.fv_canon.specs.LayoutForms.{LaysVolume}
-use Rattle.fv_canon.specs.LayoutFaults.{Unfit}
 use Rattle.fv_canon.proofs.FitLaws.{unfit_none}
 use Rattle.fv_canon.proofs.ImageFits.{image_fits}
 use Rattle.fv_canon.proofs.ImageLaws.{image_is, image_only}

@@ -4,8 +4,7 @@ use Rattle.std.specs.Prelude.{nat_le, if◌then◌else◌}
 use Rattle.std.proofs.lemmas.Bool.{cases_lt, le-leb, ne_eqb}
 use Rattle.fv_base.specs.declared.flash.Polarity.{Polarity}
 use Rattle.fv_base.proofs.Laws.{if_true, if_false, not_at_most}
-use Rattle.fv_canon.specs.StoredFiles.{pad_bytes, pads, long_pad, gap_bytes}
-use Rattle.fv_canon.specs.ImageRules.{PadsRule}
+use Rattle.fv_canon.specs.Words.{pad_bytes, pads, long_pad, gap_bytes, PadsRule}
 
 pub gap_none : (p : Polarity) (gap : ℕ) → gap ≡ 0 → gap_bytes p gap ≡ []
 unfolding gap_bytes

@@ -3,20 +3,15 @@ use Rattle.std.proofs.Common.{◌≡◌, ◌≤◌, ◌<◌, ◌+◌, ◌-◌, �
 use Rattle.std.proofs.Common.{drop, refl, ◌∙◌, arith, length-drop}
 use Rattle.std.specs.Prelude.{All, map, slice_index}
 use Rattle.std.specs.List.{AllByRecursion}
-use Rattle.fv_base.specs.Alignment.{alignments, alignment_of}
-use Rattle.fv_base.specs.Measures.{IsAlignment}
-use Rattle.fv_base.specs.Limits.{volume_limit}
+use Rattle.fv_base.specs.Words.{alignments, alignment_of, IsAlignment, volume_limit}
 use Rattle.fv_base.specs.declared.flash.FileSystem.{FileSystem}
-use Rattle.fv_file.specs.FileHeaders.{file_header_len}
-use Rattle.fv_file.specs.NewHeaders.{needs_large}
+use Rattle.fv_file.specs.Words.{file_header_len, needs_large}
 use Rattle.fv_head.proofs.Laws.{front_lies}
-use Rattle.fv_placement.specs.Items.{IsLawfulItem}
+use Rattle.fv_placement.specs.Words.{IsLawfulItem}
 use Rattle.fv_tree.proofs.Laws.{content_long}
-use Rattle.fv_tree.specs.Denotes.{MeansFile, IsMeaning, Pairwise, Stream}
-use Rattle.fv_tree.specs.ReadParts.{IsReadFile}
-use Rattle.fv_tree.specs.VolumeFiles.{FileForm}
-use Rattle.fv_tree.specs.Meaning.{Meaning, Volume, FileMeaning, File, attributes_of, data_len_of, files_list, files_of, head_of}
-use Rattle.fv_canon.specs.Layouts.{layout_item}
+use Rattle.fv_tree.specs.Words.{MeansFile, IsMeaning, Pairwise, Stream, IsReadFile, FileForm, Meaning, Volume, FileMeaning, File}
+use Rattle.fv_tree.specs.Words.{attributes_of, data_len_of, files_list, files_of, head_of}
+use Rattle.fv_canon.specs.Words.{layout_item}
 use Rattle.fv_file.proofs.Laws.{cell_read}
 use Rattle.fv_canon.proofs.ReadLaws.{FileIsAccepted}
 use Rattle.fv_canon.proofs.VolumeImageLaws.{files_read, first_behind}

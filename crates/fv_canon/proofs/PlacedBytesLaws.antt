@@ -8,22 +8,16 @@ use Rattle.std.proofs.Common.{length-append, append_assoc}
 use Rattle.std.specs.Prelude.{map, Option, None, Some}
 use Rattle.std.specs.List.{AllByRecursion}
 use Rattle.std.proofs.lemmas.List.{replicate-append-replicate}
-use Rattle.fv_base.specs.Flash.{erased_byte}
-use Rattle.fv_base.specs.Value.{up_to_8}
+use Rattle.fv_base.specs.Words.{erased_byte, up_to_8}
 use Rattle.fv_base.specs.declared.flash.FileSystem.{FileSystem}
 use Rattle.fv_base.specs.declared.flash.Polarity.{Polarity}
-use Rattle.fv_file.specs.NewHeaders.{pad_head_of}
-use Rattle.fv_head.specs.Ext.{Extension}
-use Rattle.fv_head.specs.Head.{HeadFields, header_len_of}
-use Rattle.fv_head.specs.HeadReads.{IsReadHead, IfRead}
-use Rattle.fv_head.specs.HeadImage.{canonical_head}
-use Rattle.fv_head.specs.ExtImage.{canonical_end, first_edge, ext_len, ext_spelled}
-use Rattle.fv_head.specs.VolumeAttributes.{polarity_of}
+use Rattle.fv_file.specs.Words.{pad_head_of}
+use Rattle.fv_head.specs.Words.{Extension, HeadFields, header_len_of, IsReadHead, IfRead, canonical_head, canonical_end, first_edge}
+use Rattle.fv_head.specs.Words.{ext_len, ext_spelled, polarity_of}
 use Rattle.fv_head.proofs.Laws.{ext_again, length-canonical}
-use Rattle.fv_placement.specs.Starts.{StartsFollow}
-use Rattle.fv_canon.specs.PlacedBytes.{PlacedBytes, ShowsPlaced}
-use Rattle.fv_canon.specs.ImageRules.{painted, InOrder}
-use Rattle.fv_canon.specs.StoredFiles.{StoredFile, stored_len, stored_bytes, gap_bytes, placed_files, ext_pad, placed_in_volume, used_size}
+use Rattle.fv_placement.specs.Words.{StartsFollow}
+use Rattle.fv_canon.specs.Words.{PlacedBytes, ShowsPlaced, painted, InOrder, StoredFile, stored_len, stored_bytes, gap_bytes, placed_files}
+use Rattle.fv_canon.specs.Words.{ext_pad, placed_in_volume, used_size}
 use Rattle.fv_canon.specs.inner.ImageOf.{files_bytes, volume_bytes}
 use Rattle.fv_canon.proofs.ImageParts.{stored_item}
 use Rattle.fv_canon.proofs.CellLaws.{Storable, length-stored, length-pad_head}

@@ -7,8 +7,7 @@ use Rattle.std.specs.List.{AllByRecursion}
 use Rattle.std.proofs.lemmas.Bool.{cases_lt}
 use Rattle.std.proofs.lemmas.List.{length-replicate, length-drop, drop-drop, take_at, drop_at, get_or_append_left, get_or-append_right}
 use Rattle.std.proofs.lemmas.List.{get_or-replicate, get_or-take, get_or-drop, ext_get_or, length-take-le}
-use Rattle.fv_canon.specs.PlacedBytes.{PlacedBytes, IsIn, StandsIn, ShowsPlaced}
-use Rattle.fv_canon.specs.ImageRules.{painted, InOrder}
+use Rattle.fv_canon.specs.Words.{PlacedBytes, IsIn, StandsIn, ShowsPlaced, painted, InOrder}
 
 -- what is before the spans is in none of them
 pub before_none : (total e k : ℕ) (ps : List PlacedBytes) → InOrder total e ps → k < e → AllByRecursion (λ p. IsIn k p → ⊥) ps

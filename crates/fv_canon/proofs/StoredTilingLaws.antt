@@ -7,22 +7,15 @@ use Rattle.std.proofs.Common.{length, replicate, refl, sym, ap, ◌∙◌, subst
 use Rattle.std.specs.Prelude.{map, slice_index}
 use Rattle.std.specs.List.{AllByRecursion}
 use Rattle.std.proofs.lemmas.List.{length-replicate}
-use Rattle.fv_base.specs.Alignment.{alignment_of}
-use Rattle.fv_base.specs.Flash.{AllAre, erased_byte}
-use Rattle.fv_base.specs.Value.{up_to_8}
+use Rattle.fv_base.specs.Words.{alignment_of, AllAre, erased_byte, up_to_8}
 use Rattle.fv_base.specs.declared.flash.FileSystem.{FileSystem}
 use Rattle.fv_base.specs.declared.flash.Polarity.{Polarity}
 use Rattle.fv_base.proofs.Laws.{all-of_replicate}
-use Rattle.fv_file.specs.Cells.{CellForm, Valid, Pad, Free, Tiles}
-use Rattle.fv_file.specs.FileAttributes.{attribute_bits, is_large}
-use Rattle.fv_file.specs.FileHeaders.{fixed_checksum}
-use Rattle.fv_file.specs.HeaderReads.{pad_fields}
-use Rattle.fv_file.specs.NewHeaders.{pad_head_of}
+use Rattle.fv_file.specs.Words.{CellForm, Valid, Pad, Free, Tiles, attribute_bits, is_large, fixed_checksum, pad_fields, pad_head_of}
 use Rattle.fv_file.proofs.Laws.{alignment_with}
-use Rattle.fv_placement.specs.Starts.{StartsFollow}
-use Rattle.fv_tree.specs.VolumeFiles.{FileForm, files_in}
-use Rattle.fv_canon.specs.Headline.{DataAligned}
-use Rattle.fv_canon.specs.StoredFiles.{StoredFile, stored_len, stored_bytes, pad_bytes, long_pad, gap_bytes}
+use Rattle.fv_placement.specs.Words.{StartsFollow}
+use Rattle.fv_tree.specs.Words.{FileForm, files_in}
+use Rattle.fv_canon.specs.Words.{DataAligned, StoredFile, stored_len, stored_bytes, pad_bytes, long_pad, gap_bytes}
 use Rattle.fv_canon.specs.inner.ImageOf.{files_bytes}
 use Rattle.fv_canon.proofs.ImageParts.{stored_item}
 use Rattle.fv_canon.proofs.PadLaws.{gap_none, gap_has}

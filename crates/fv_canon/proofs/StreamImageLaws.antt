@@ -7,16 +7,15 @@
 use Rattle.std.proofs.Common.{◌≡◌, ◌≤◌, ◌<◌, ◌+◌, ◌-◌, ◌%◌, ℕ, Bool, true, false, List, [], ◌∷◌, ◌++◌, length, replicate, refl}
 use Rattle.std.proofs.Common.{sym, ap, ◌∙◌, subst, arith, length-append}
 use Rattle.std.proofs.lemmas.List.{length-replicate}
-use Rattle.fv_base.specs.Value.{IsBytes, le_bytes}
+use Rattle.fv_base.specs.Words.{IsBytes, le_bytes}
 use Rattle.fv_base.proofs.Laws.{bytes_append, bytes_back, bytes_cons, bytes_front, bytes_le_bytes, bytes_replicate, none_at}
-use Rattle.fv_section.specs.Frames.{FrameForm, section_header_len, frame_len, BeginsFrame, SplitsFrom, Splits, up_to_4}
-use Rattle.fv_section.specs.StreamReads.{FitsForm, InPlace}
-use Rattle.fv_section.specs.SectionImage.{section_head_of, stream_of}
+use Rattle.fv_section.specs.Words.{FrameForm, section_header_len, frame_len, BeginsFrame, SplitsFrom, Splits, up_to_4, FitsForm, InPlace}
+use Rattle.fv_section.specs.Words.{section_head_of, stream_of}
 use Rattle.fv_section.proofs.Laws.{begun_bytes, fits, length_begun, streams_are_read}
-use Rattle.fv_tree.specs.Meaning.{Meaning, SectionMeanings, NoSections, MoreSections, SectionMeaning, Section, Leaf, Group, Nested}
-use Rattle.fv_tree.specs.Meaning.{sections_list, sections_end, section_len, length_of}
-use Rattle.fv_tree.specs.Denotes.{SectionRelation, StreamRelation, VolumeRelation, Pairwise, StreamOver, SectionOver, Opens}
-use Rattle.fv_canon.specs.Image.{IsImage, AreFrames, IsFrame}
+use Rattle.fv_tree.specs.Words.{Meaning, SectionMeanings, NoSections, MoreSections, SectionMeaning, Section, Leaf, Group, Nested}
+use Rattle.fv_tree.specs.Words.{sections_list, sections_end, section_len, length_of, SectionRelation, StreamRelation, VolumeRelation}
+use Rattle.fv_tree.specs.Words.{Pairwise, StreamOver, SectionOver, Opens}
+use Rattle.fv_canon.specs.Words.{IsImage, AreFrames, IsFrame}
 
 -- the type of a section that was read is a byte, and then a header of this type is bytes
 begun_kind : (f : FrameForm) (b rest : List ℕ) → IsBytes b → BeginsFrame f b rest → f.kind < 256

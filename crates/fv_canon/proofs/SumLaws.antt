@@ -2,13 +2,11 @@
 use Rattle.std.proofs.Common.{◌≡◌, ◌+◌, ◌%◌, ℕ, Bool, true, false, List, [], ◌∷◌, ◌++◌, length, sym, ap, ◌∙◌, arith}
 use Rattle.std.specs.Prelude.{sum, if◌then◌else◌}
 use Rattle.std.proofs.lemmas.List.Sums.{sum_by-append}
-use Rattle.fv_base.specs.Guids.{bytes_of}
-use Rattle.fv_base.specs.Value.{le_bytes}
+use Rattle.fv_base.specs.Words.{bytes_of, le_bytes}
 use Rattle.fv_base.specs.declared.flash.Polarity.{Polarity}
-use Rattle.fv_file.specs.FileAttributes.{is_summed}
-use Rattle.fv_file.specs.NewHeaders.{file_sum_for, complement, header_with, header_bytes, needs_large, with_large, state_byte}
-use Rattle.fv_file.specs.FileHeaders.{fixed_checksum}
-use Rattle.fv_canon.specs.StoredFiles.{StoredFile, stored_bytes, head_len_for}
+use Rattle.fv_file.specs.Words.{is_summed, file_sum_for, complement, header_with, header_bytes, needs_large, with_large, state_byte}
+use Rattle.fv_file.specs.Words.{fixed_checksum}
+use Rattle.fv_canon.specs.Words.{StoredFile, stored_bytes, head_len_for}
 
 -- the sum of a header is that of the same with its two sums and State taken as zero, and these
 header_sum : (c file_sum : ℕ) (name : List ℕ) (kind attributes size : ℕ) (large : Bool) (state : ℕ)

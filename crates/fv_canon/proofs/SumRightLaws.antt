@@ -8,27 +8,18 @@ use Rattle.std.proofs.Common.{◌∙◌, subst, arith, length-append, append_ass
 use Rattle.std.specs.Prelude.{slice_index, Option, None, Some}
 use Rattle.std.specs.List.{AllByRecursion}
 use Rattle.std.proofs.lemmas.List.{drop-drop, drop_at, take_at, length-replicate}
-use Rattle.fv_base.specs.Flash.{erased_byte}
-use Rattle.fv_base.specs.Value.{up_to_8}
+use Rattle.fv_base.specs.Words.{erased_byte, up_to_8}
 use Rattle.fv_base.specs.declared.flash.FileSystem.{FileSystem}
 use Rattle.fv_base.specs.declared.flash.Polarity.{Polarity}
-use Rattle.fv_file.specs.Cells.{CellForm, Valid, Pad, Dead, Stub, Free, IsCell, IsFilled, Tiles, offset_of}
-use Rattle.fv_file.specs.FileHeaders.{header_sum_of}
-use Rattle.fv_file.specs.HeaderReads.{pad_fields}
-use Rattle.fv_file.specs.NewHeaders.{pad_head_of}
+use Rattle.fv_file.specs.Words.{CellForm, Valid, Pad, Dead, Stub, Free, IsCell, IsFilled, Tiles, offset_of, header_sum_of, pad_fields}
+use Rattle.fv_file.specs.Words.{pad_head_of}
 use Rattle.fv_file.specs.declared.head.FileHead.{FileHead}
 use Rattle.fv_file.proofs.Laws.{head_of_pad, pad_written}
-use Rattle.fv_head.specs.Ext.{Extension}
-use Rattle.fv_head.specs.HeadReads.{IfRead, extent_of}
-use Rattle.fv_head.specs.ExtImage.{canonical_end, first_edge, ext_len, ext_spelled}
-use Rattle.fv_head.specs.Head.{HeadFields, BeginsVolume, header_len_of}
-use Rattle.fv_head.specs.HeadImage.{canonical_head}
-use Rattle.fv_head.specs.VolumeAttributes.{polarity_of}
+use Rattle.fv_head.specs.Words.{Extension, IfRead, extent_of, canonical_end, first_edge, ext_len, ext_spelled, HeadFields, BeginsVolume}
+use Rattle.fv_head.specs.Words.{header_len_of, canonical_head, polarity_of}
 use Rattle.fv_head.proofs.Laws.{ext_again, ext_len_most, length-canonical}
-use Rattle.fv_tree.specs.Denotes.{MeansSection, Stream}
-use Rattle.fv_tree.specs.Meaning.{Volume}
-use Rattle.fv_canon.specs.Headline.{CellSums, SumsAreRight}
-use Rattle.fv_canon.specs.StoredFiles.{ext_pad, used_size}
+use Rattle.fv_tree.specs.Words.{MeansSection, Stream, Volume}
+use Rattle.fv_canon.specs.Words.{CellSums, SumsAreRight, ext_pad, used_size}
 use Rattle.fv_canon.specs.inner.ImageOf.{files_bytes}
 use Rattle.fv_canon.proofs.CellLaws.{bytes_pad_head, length-pad_head}
 use Rattle.fv_canon.proofs.PlacedBytesLaws.{first_is, volume_shows}

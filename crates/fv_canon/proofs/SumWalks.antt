@@ -2,13 +2,11 @@
 use Rattle.std.proofs.Common.{◌≡◌, ◌+◌, ◌%◌, ℕ, Bool, true, false, List, [], ◌∷◌, ap, ◌∙◌, arith}
 use Rattle.std.specs.Prelude.{sum, if◌then◌else◌}
 use Rattle.fv_base.specs.declared.flash.Polarity.{Polarity}
-use Rattle.fv_file.specs.FileAttributes.{is_summed}
-use Rattle.fv_file.specs.NewHeaders.{state_byte}
-use Rattle.fv_file.specs.FileHeaders.{fixed_checksum}
-use Rattle.fv_tree.specs.Meaning.{FileMeaning, File, attributes_of}
+use Rattle.fv_file.specs.Words.{is_summed, state_byte, fixed_checksum}
+use Rattle.fv_tree.specs.Words.{FileMeaning, File, attributes_of}
 use Rattle.fv_canon.specs.inner.ImageOf.{stored_file, data_of}
 use Rattle.fv_canon.specs.inner.SummingSinks.{AddsOrPuts}
-use Rattle.fv_canon.specs.StoredFiles.{stored_bytes}
+use Rattle.fv_canon.specs.Words.{stored_bytes}
 use Rattle.fv_canon.proofs.SumLaws.{stored_adds}
 
 -- a file with the checksum attribute adds only its State

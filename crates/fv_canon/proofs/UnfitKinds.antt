@@ -3,10 +3,8 @@ use Rattle.std.proofs.Common.{◌≡◌, ◌≢◌, inl, inr, ◌+◌, ◌∙◌
 use Rattle.fv_base.specs.declared.fault.Fault.{Fault}
 use Rattle.fv_base.specs.declared.fault.FaultKind.{FaultKind}
 use Rattle.fv_base.specs.declared.fault.FaultKind.TheVariants as kinds
-use Rattle.fv_tree.specs.Meaning.{Meaning}
-use Rattle.fv_canon.specs.InputRefusals.{IsOfLayout}
-use Rattle.fv_canon.specs.LayoutFaults.{layout_fault, FirstUnfit, Unfit}
-use Rattle.fv_tree.specs.Volumes.{Inside, volumes_in}
+use Rattle.fv_tree.specs.Words.{Meaning, Inside, volumes_in}
+use Rattle.fv_canon.specs.Words.{IsOfLayout, layout_fault, FirstUnfit, Unfit}
 
 -- what is true of both faults at every depth is true of the fault of what does not fit
 module _ (P : Fault → Type 0) (top : (depth : ℕ) → P (layout_fault kinds.TopAlignment depth))

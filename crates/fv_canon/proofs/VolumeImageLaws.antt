@@ -13,39 +13,25 @@ use Rattle.std.specs.Str.{bytes_eq}
 use Rattle.std.proofs.lemmas.Bool.{ne_eqb}
 use Rattle.std.proofs.lemmas.Bool.Decides.{nat_tests}
 use Rattle.std.proofs.lemmas.List.{drop_at, length-replicate}
-use Rattle.fv_base.specs.Alignment.{alignment_of}
-use Rattle.fv_base.specs.Flash.{erased_byte}
-use Rattle.fv_base.specs.Guids.{bytes_of}
-use Rattle.fv_base.specs.Measures.{data_limit}
-use Rattle.fv_base.specs.Limits.{volume_limit}
-use Rattle.fv_base.specs.Value.{IsBytes, le}
+use Rattle.fv_base.specs.Words.{alignment_of, erased_byte, bytes_of, data_limit, volume_limit, IsBytes, le}
 use Rattle.fv_base.specs.declared.flash.FileSystem.{FileSystem}
-use Rattle.fv_base.specs.declared.flash.FileSystem.TheVariants.{Ffs3}
 use Rattle.fv_base.specs.declared.flash.Polarity.{Polarity}
 use Rattle.fv_base.specs.declared.guid.Guid.{Guid}
+use Rattle.fv_base.specs.declared.flash.FileSystem.TheVariants.{Ffs3}
 use Rattle.fv_base.proofs.Laws.{bytes_back, bytes_drop, bytes_front, field-take}
-use Rattle.fv_file.specs.FileAttributes.{attribute_bits, is_large, is_fixed, without_large}
-use Rattle.fv_file.specs.FileHeaders.{pad_kind}
-use Rattle.fv_file.specs.NewHeaders.{needs_large, with_large, pad_head_of}
-use Rattle.fv_head.specs.Ext.{Extension}
-use Rattle.fv_head.specs.Head.{HeadFields, HasExt, BeginsVolume, header_len_of}
-use Rattle.fv_head.specs.HeadReads.{extent_of, IsReadHead, CanonicalRest, IfRead}
-use Rattle.fv_head.specs.HeadImage.{canonical_head}
-use Rattle.fv_head.specs.ExtImage.{canonical_end, first_edge, ext_len, ext_spelled}
-use Rattle.fv_head.specs.VolumeAttributes.{polarity_of}
+use Rattle.fv_file.specs.Words.{attribute_bits, is_large, is_fixed, without_large, pad_kind, needs_large, with_large, pad_head_of}
+use Rattle.fv_head.specs.Words.{Extension, HeadFields, HasExt, BeginsVolume, header_len_of, extent_of, IsReadHead, CanonicalRest, IfRead}
+use Rattle.fv_head.specs.Words.{canonical_head, canonical_end, first_edge, ext_len, ext_spelled, polarity_of}
 use Rattle.fv_head.specs.declared.extent.Extent.{Extent}
 use Rattle.fv_head.proofs.Laws.{canonical_front, front_lies, length-canonical}
-use Rattle.fv_placement.specs.Starts.{StartsFollow, IsFirstPlacement}
+use Rattle.fv_placement.specs.Words.{StartsFollow, IsFirstPlacement}
 use Rattle.fv_placement.specs.declared.first_placement.LayoutItem.{LayoutItem}
-use Rattle.fv_tree.specs.Meaning.{Meaning, Volume, FileMeanings, NoFiles, MoreFiles, FileMeaning, File, ContentMeaning, Plain, Sectioned}
-use Rattle.fv_tree.specs.LocatedFiles.{StandIn}
-use Rattle.fv_tree.specs.Meaning.{files_list, files_of, head_of, content_len}
-use Rattle.fv_tree.specs.Denotes.{StreamRelation, Pairwise, MeansContent, MeansFile, StreamOver, VolumeOver, Opens, MeansSection, Stream, Denotes}
-use Rattle.fv_tree.specs.VolumeFiles.{FileForm, files_in, NoTwins, current_in, top_name}
-use Rattle.fv_canon.specs.Image.{IsImage, AreStored, IsStored, IsData}
-use Rattle.fv_canon.specs.Layouts.{AreStarts, layout_item}
-use Rattle.fv_canon.specs.PlacedBytes.{ShowsPlaced}
-use Rattle.fv_canon.specs.StoredFiles.{StoredFile, size_for, head_len_for, ext_pad, placed_in_volume, used_size}
+use Rattle.fv_tree.specs.Words.{Meaning, Volume, FileMeanings, NoFiles, MoreFiles, FileMeaning, File, ContentMeaning, Plain, Sectioned}
+use Rattle.fv_tree.specs.Words.{StandIn, files_list, files_of, head_of, content_len, StreamRelation, Pairwise, MeansContent, MeansFile}
+use Rattle.fv_tree.specs.Words.{StreamOver, VolumeOver, Opens, MeansSection, Stream, Denotes, FileForm, files_in, NoTwins, current_in}
+use Rattle.fv_tree.specs.Words.{top_name}
+use Rattle.fv_canon.specs.Words.{IsImage, AreStored, IsStored, IsData, AreStarts, layout_item, ShowsPlaced, StoredFile, size_for}
+use Rattle.fv_canon.specs.Words.{head_len_for, ext_pad, placed_in_volume, used_size}
 use Rattle.fv_canon.specs.inner.ImageOf.{files_bytes, volume_bytes}
 use Rattle.fv_canon.proofs.ImageParts.{stored_item}
 use Rattle.fv_canon.proofs.CurrentFileLaws.{names_in, names_of, NamesApart, current_apart, all_current, forms_unmarked, no_twins, TopLast}

@@ -10,15 +10,11 @@ use Rattle.std.proofs.Common.{append_assoc, append-nil, length-append, drop-drop
 use Rattle.std.specs.List.{AllByRecursion}
 use Rattle.std.proofs.lemmas.List.{length-map, take-append-drop, take_more, drop_all, drop_at}
 use Rattle.fv_base.specs.declared.fault.Fault.{Fault}
-use Rattle.fv_head.specs.Head.{HeadFields}
-use Rattle.fv_tree.specs.Meaning.{Meaning, Volume, FileMeaning, files_of, head_of}
-use Rattle.fv_tree.specs.MeaningParts.{files_from}
+use Rattle.fv_head.specs.Words.{HeadFields}
+use Rattle.fv_tree.specs.Words.{Meaning, Volume, FileMeaning, files_of, head_of, files_from, Inside, deeper, volumes_in, volumes_in_files}
 use Rattle.fv_canon.specs.inner.ImageOf.{starts_in}
 use Rattle.fv_canon.proofs.ImageParts.{ComesTo}
-use Rattle.fv_canon.specs.LayoutForms.{BeginsWithStarts, Laid}
-use Rattle.fv_canon.specs.Layouts.{AreStarts, IsPlaced, layout_item, layout_items}
-use Rattle.fv_canon.specs.LayoutFaults.{AllFit, FirstUnfit, UnfitHere}
-use Rattle.fv_tree.specs.Volumes.{Inside, deeper, volumes_in, volumes_in_files}
+use Rattle.fv_canon.specs.Words.{BeginsWithStarts, Laid, AreStarts, IsPlaced, layout_item, layout_items, AllFit, FirstUnfit, UnfitHere}
 use Rattle.fv_canon.specs.inner.FileWalks.{Grew}
 use Rattle.fv_base.proofs.Laws.{item_at}
 use Rattle.fv_tree.proofs.Laws.{files_list_back}

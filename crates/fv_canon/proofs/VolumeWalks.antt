@@ -4,25 +4,16 @@ use Rattle.std.proofs.Common.{◌≡◌, ◌≤◌, ◌<◌, ◌+◌, ◌-◌, �
 use Rattle.std.proofs.Common.{ap, ◌∙◌, subst, arith, append_assoc, drop-drop, length-append}
 use Rattle.std.specs.Prelude.{map, Option, None, Some}
 use Rattle.std.proofs.lemmas.List.{length-map}
-use Rattle.fv_base.specs.Flash.{erased_byte}
-use Rattle.fv_head.specs.Ext.{Extension}
-use Rattle.fv_head.specs.Head.{HeadFields}
-use Rattle.fv_head.specs.HeadImage.{canonical_head}
-use Rattle.fv_head.specs.ExtImage.{canonical_end, first_edge}
-use Rattle.fv_head.specs.VolumeAttributes.{polarity_of}
-use Rattle.fv_placement.specs.Starts.{StartsFollow}
+use Rattle.fv_base.specs.Words.{erased_byte, up_to_8}
+use Rattle.fv_head.specs.Words.{Extension, HeadFields, canonical_head, canonical_end, first_edge, polarity_of}
+use Rattle.fv_placement.specs.Words.{StartsFollow}
 use Rattle.fv_placement.specs.declared.first_placement.LayoutItem.{LayoutItem}
-use Rattle.fv_base.specs.Value.{up_to_8}
-use Rattle.fv_tree.specs.Meaning.{Meaning, Volume, FileMeanings, FileMeaning, head_of, data_len_of}
-use Rattle.fv_tree.specs.MeaningParts.{files_from}
-use Rattle.fv_tree.specs.Denotes.{IsMeaning, MeansSection, Stream}
+use Rattle.fv_tree.specs.Words.{Meaning, Volume, FileMeanings, FileMeaning, head_of, data_len_of, files_from, IsMeaning, MeansSection}
+use Rattle.fv_tree.specs.Words.{Stream, volumes_in, volumes_in_files}
 use Rattle.fv_canon.specs.inner.ImageOf.{image_of, stored_of, starts_in, files_bytes}
 use Rattle.fv_canon.proofs.ImageParts.{stored_item}
-use Rattle.fv_canon.specs.LayoutForms.{BeginsWithStarts}
-use Rattle.fv_canon.specs.Image.{AreStored}
-use Rattle.fv_canon.specs.Layouts.{layout_items, layout_item}
-use Rattle.fv_tree.specs.Volumes.{volumes_in, volumes_in_files}
-use Rattle.fv_canon.specs.StoredFiles.{StoredFile, size_for, stored_len, used_size, ext_pad}
+use Rattle.fv_canon.specs.Words.{BeginsWithStarts, AreStored, layout_items, layout_item, StoredFile, size_for, stored_len, used_size}
+use Rattle.fv_canon.specs.Words.{ext_pad}
 use Rattle.fv_canon.proofs.WrittenImageLaws.{files_made, stream_made, sections_made, front_is, behind_is}
 use Rattle.fv_placement.proofs.Laws.{follow_length}
 use Rattle.fv_canon.proofs.PlacedBytesLaws.{first_is}

@@ -7,22 +7,17 @@ use Rattle.std.proofs.lemmas.Grind.{common_steps}
 use Rattle.std.proofs.Common.{◌≡◌, ◌+◌, ℕ, zero, suc, List, [], ◌∷◌, ◌++◌, length, take, drop, refl, sym, ap, ◌∙◌, subst, append_assoc, arith}
 use Rattle.std.specs.List.{AllByRecursion}
 use Rattle.std.proofs.lemmas.List.{take_at, drop_at}
-use Rattle.fv_base.specs.Value.{IsBytes}
+use Rattle.fv_base.specs.Words.{IsBytes}
 use Rattle.fv_base.specs.declared.flash.FileSystem.{FileSystem}
-use Rattle.fv_section.specs.Frames.{FrameForm, frame_len, up_to_4, SplitsFrom}
-use Rattle.fv_tree.specs.Meaning.{Meaning, Volume, FileMeanings, NoFiles, MoreFiles, FileMeaning, File, ContentMeaning, Plain, Sectioned}
-use Rattle.fv_tree.specs.Meaning.{SectionMeanings, NoSections, MoreSections, SectionMeaning, Section, Leaf, Group, Nested}
-use Rattle.fv_tree.specs.Meaning.{files_list, sections_list}
-use Rattle.fv_tree.specs.Denotes.{SectionRelation, StreamRelation, VolumeRelation, Pairwise, StreamOver, SectionOver, VolumeOver, MeansContent, MeansFile}
-use Rattle.fv_tree.specs.Denotes.{MeansSection, Stream, Denotes}
-use Rattle.fv_tree.specs.VolumeFiles.{FileForm}
-use Rattle.fv_canon.specs.Image.{IsImage, AreStored, IsStored, IsData, AreFrames, IsFrame}
+use Rattle.fv_section.specs.Words.{FrameForm, frame_len, up_to_4, SplitsFrom}
+use Rattle.fv_tree.specs.Words.{Meaning, Volume, FileMeanings, NoFiles, MoreFiles, FileMeaning, File, ContentMeaning, Plain, Sectioned}
+use Rattle.fv_tree.specs.Words.{SectionMeanings, NoSections, MoreSections, SectionMeaning, Section, Leaf, Group, Nested, files_list}
+use Rattle.fv_tree.specs.Words.{sections_list, SectionRelation, StreamRelation, VolumeRelation, Pairwise, StreamOver, SectionOver}
+use Rattle.fv_tree.specs.Words.{VolumeOver, MeansContent, MeansFile, MeansSection, Stream, Denotes, FileForm, volumes_in, volumes_in_files}
+use Rattle.fv_tree.specs.Words.{volumes_in_file, volumes_in_content, volumes_in_sections, volumes_in_section}
+use Rattle.fv_canon.specs.Words.{IsImage, AreStored, IsStored, IsData, AreFrames, IsFrame, AreStarts, BeginsWithStarts, Laid, LaysVolume}
 use Rattle.fv_canon.specs.inner.ImageOf.{starts_in, image_of, stored_of, stored_file, data_of, frames_of, frame_of}
 use Rattle.fv_canon.specs.inner.ImageOf.{volume_bytes}
-use Rattle.fv_canon.specs.Layouts.{AreStarts}
-use Rattle.fv_canon.specs.LayoutForms.{BeginsWithStarts, Laid, LaysVolume}
-use Rattle.fv_tree.specs.Volumes.{volumes_in, volumes_in_files, volumes_in_file, volumes_in_content, volumes_in_sections}
-use Rattle.fv_tree.specs.Volumes.{volumes_in_section}
 use Rattle.fv_canon.proofs.VolumeListLaws.{laid_split, laid_higher, laid_count, own_count}
 use Rattle.fv_canon.proofs.PlacedBytesLaws.{volume_written}
 use Rattle.fv_canon.proofs.StreamImageLaws.{StreamsAgain, stream_again}

@@ -1,16 +1,13 @@
 -- Every volume of a flash image, replaced by its canonical image; and each with its meaning and its layout.
 use Rattle.std.specs.Prelude.{◌≡◌, ◌⊎◌, ◌<◌, ◌≤◌, ℕ, List, ◌∷◌, ◌++◌, length, get_or, map}
 use Rattle.std.specs.List.{AllByRecursion}
-use Rattle.fv_base.specs.Faults.{outer_fault}
-use Rattle.fv_base.specs.Limits.{volume_limit}
-use Rattle.fv_base.specs.Value.{field}
+use Rattle.fv_base.specs.Words.{outer_fault, volume_limit, field}
 use Rattle.fv_base.specs.declared.fault.Fault.{Fault}
 use Rattle.fv_base.specs.declared.fault.FaultKind.TheVariants as kinds
-use Rattle.fv_tree.specs.FirstFault.{moved_fault}
-use Rattle.fv_flash.specs.FoundVolumes.{Found, IsCovered, VolumeAt}
+use Rattle.fv_tree.specs.Words.{moved_fault, Accepted}
+use Rattle.fv_flash.specs.Words.{Found, IsCovered, VolumeAt}
 use Rattle.fv_canon.specs.Headline.{NormalisesTo}
 use Rattle.fv_canon.specs.InputRefusals.{Refuses}
-use Rattle.fv_tree.specs.Denotes.{Accepted}
 use Rattle.fv_canon.specs.LayoutForms.{IsLayout}
 use Rattle.fv_canon.specs.declared.flash_image.LaidVolume.{LaidVolume}
 

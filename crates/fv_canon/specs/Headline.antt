@@ -1,19 +1,14 @@
 -- From a volume to its canonical image, and the headline, clause by clause.
 use Rattle.std.specs.Prelude.{◌≡◌, ◌↔◌, ◌+◌, ◌%◌, ◌++◌, true, ℕ, List, length, take, drop}
 use Rattle.std.specs.List.{AllByRecursion}
-use Rattle.fv_base.specs.Alignment.{alignment_of}
-use Rattle.fv_base.specs.Sums.{sum16_of}
-use Rattle.fv_file.specs.Cells.{CellForm, Valid, Pad, Tiles}
-use Rattle.fv_file.specs.FileAttributes.{attribute_bits}
-use Rattle.fv_file.specs.FileHeaders.{file_sum_right, fixed_checksum, header_sum_of}
-use Rattle.fv_head.specs.Head.{BeginsVolume}
+use Rattle.fv_base.specs.Words.{alignment_of, sum16_of}
+use Rattle.fv_file.specs.Words.{CellForm, Valid, Pad, Tiles, attribute_bits, file_sum_right, fixed_checksum}
+use Rattle.fv_file.specs.Words.{header_sum_of}
+use Rattle.fv_head.specs.Words.{BeginsVolume}
 use Rattle.fv_head.specs.declared.extent.Extent.{Extent}
-use Rattle.fv_tree.specs.Denotes.{Accepted, IsMeaning}
-use Rattle.fv_tree.specs.Meaning.{Meaning, head_of}
-use Rattle.fv_tree.specs.VolumeFiles.{files_in}
+use Rattle.fv_tree.specs.Words.{Accepted, IsMeaning, Meaning, head_of, files_in, Inside, volumes_in}
 use Rattle.fv_canon.specs.Image.{IsImage}
 use Rattle.fv_canon.specs.Layouts.{Fits}
-use Rattle.fv_tree.specs.Volumes.{Inside, volumes_in}
 
 -- the input is a volume, and the bytes are the image of its meaning
 abbrev pub NormalisesTo : List ℕ → List ℕ → Type 0

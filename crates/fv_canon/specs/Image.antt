@@ -1,12 +1,11 @@
 -- The canonical image of a volume (PI specification, volume 3, section 3.2).
 use Rattle.std.specs.Prelude.{◌≡◌, ℕ, ◌+◌, List, [], ◌∷◌}
-use Rattle.fv_base.specs.Flash.{erased_byte}
-use Rattle.fv_head.specs.VolumeAttributes.{polarity_of}
-use Rattle.fv_section.specs.Frames.{FrameForm, frame_len, up_to_4}
-use Rattle.fv_section.specs.SectionImage.{stream_of}
-use Rattle.fv_tree.specs.Meaning.{Meaning, Volume, FileMeanings, NoFiles, MoreFiles, FileMeaning, File, ContentMeaning}
-use Rattle.fv_tree.specs.Meaning.{Plain, Sectioned, SectionMeanings, NoSections, MoreSections, SectionMeaning, Section}
-use Rattle.fv_tree.specs.Meaning.{BodyMeaning, Leaf, Group, Nested}
+use Rattle.fv_base.specs.Words.{erased_byte}
+use Rattle.fv_head.specs.Words.{polarity_of}
+use Rattle.fv_section.specs.Words.{FrameForm, frame_len, up_to_4, stream_of}
+use Rattle.fv_tree.specs.Words.{Meaning, Volume, FileMeanings, NoFiles, MoreFiles, FileMeaning, File, ContentMeaning}
+use Rattle.fv_tree.specs.Words.{Plain, Sectioned, SectionMeanings, NoSections, MoreSections, SectionMeaning, Section}
+use Rattle.fv_tree.specs.Words.{BodyMeaning, Leaf, Group, Nested}
 use Rattle.fv_canon.specs.Layouts.{AreStarts}
 use Rattle.fv_canon.specs.PlacedBytes.{ShowsPlaced}
 use Rattle.fv_canon.specs.StoredFiles.{StoredFile, placed_in_volume}

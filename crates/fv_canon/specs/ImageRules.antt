@@ -4,8 +4,7 @@ use Rattle.fv_base.specs.declared.flash.Polarity.{Polarity}
 use Rattle.fv_canon.specs.Image.{IsImage}
 use Rattle.fv_canon.specs.PlacedBytes.{PlacedBytes}
 use Rattle.fv_canon.specs.StoredFiles.{pad_bytes, long_pad, gap_bytes}
-use Rattle.fv_tree.specs.Denotes.{IsMeaning}
-use Rattle.fv_tree.specs.Meaning.{Meaning}
+use Rattle.fv_tree.specs.Words.{IsMeaning, Meaning}
 
 -- what a walk from the offset e on writes
 abbrev pub painted : ℕ → ℕ → ℕ → List PlacedBytes → List ℕ

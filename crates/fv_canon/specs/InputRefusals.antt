@@ -3,9 +3,7 @@ use Rattle.std.specs.Prelude.{◌≡◌, ◌⊎◌, ℕ, List}
 use Rattle.fv_base.specs.declared.fault.Fault.{Fault}
 use Rattle.fv_base.specs.declared.fault.FaultKind.{FaultKind}
 use Rattle.fv_base.specs.declared.fault.FaultKind.TheVariants as kinds
-use Rattle.fv_tree.specs.Denotes.{Accepted}
-use Rattle.fv_tree.specs.InputFaults.{NotRead}
-use Rattle.fv_tree.specs.Meaning.{Meaning}
+use Rattle.fv_tree.specs.Words.{Accepted, NotRead, Meaning}
 use Rattle.fv_canon.specs.Layouts.{Fits}
 use Rattle.fv_canon.specs.LayoutFaults.{Unfit}
 

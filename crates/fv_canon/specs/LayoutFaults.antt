@@ -5,10 +5,9 @@ use Rattle.fv_base.specs.declared.fault.Fault.{Fault}
 use Rattle.fv_base.specs.declared.fault.FaultKind.{FaultKind}
 use Rattle.fv_base.specs.declared.fault.FaultKind.TheVariants as kinds
 use Rattle.fv_canon.specs.Layouts.{layout_items, IsPlaced}
-use Rattle.fv_placement.specs.NoPlacement.{HasNoRoom, TopOff}
-use Rattle.fv_tree.specs.Volumes.{Inside, volumes_in}
-use Rattle.fv_head.specs.ExtImage.{first_edge}
-use Rattle.fv_tree.specs.Meaning.{Meaning, head_of, length_of}
+use Rattle.fv_placement.specs.Words.{HasNoRoom, TopOff}
+use Rattle.fv_tree.specs.Words.{Inside, volumes_in, Meaning, head_of, length_of}
+use Rattle.fv_head.specs.Words.{first_edge}
 
 -- the files of each volume can be placed
 abbrev pub AllFit : List Inside → Type 0

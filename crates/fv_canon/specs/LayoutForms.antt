@@ -1,11 +1,9 @@
 -- The starts at every level, also the least ones, and layouts as they are kept in memory.
 use Rattle.std.specs.Prelude.{◌≡◌, ℕ, List, [], ◌∷◌, ◌++◌, length}
 use Rattle.fv_canon.specs.Layouts.{layout_items, AreStarts}
-use Rattle.fv_placement.specs.LeastStarts.{IsLeast}
-use Rattle.fv_placement.specs.Starts.{Placement}
-use Rattle.fv_tree.specs.Volumes.{Inside, volumes_in}
-use Rattle.fv_head.specs.ExtImage.{first_edge}
-use Rattle.fv_tree.specs.Meaning.{Meaning, head_of, length_of, files_of}
+use Rattle.fv_placement.specs.Words.{IsLeast, Placement}
+use Rattle.fv_tree.specs.Words.{Inside, volumes_in, Meaning, head_of, length_of, files_of}
+use Rattle.fv_head.specs.Words.{first_edge}
 
 -- the least starts of its own files, which are also a placement
 abbrev pub AreLeast : Meaning → List ℕ → Type 0

@@ -2,16 +2,13 @@
 use Rattle.std.specs.Prelude.{ℕ, List, map}
 use Rattle.std.specs.List.{AllByRecursion}
 use Rattle.std.specs.Str.{bytes_eq}
-use Rattle.fv_base.specs.Alignment.{alignment_of}
-use Rattle.fv_base.specs.Guids.{bytes_of}
-use Rattle.fv_head.specs.ExtImage.{first_edge}
-use Rattle.fv_tree.specs.Meaning.{Meaning, FileMeaning, head_of, files_of, length_of, data_len_of, file_name_of}
-use Rattle.fv_tree.specs.Meaning.{attributes_of}
-use Rattle.fv_tree.specs.VolumeFiles.{top_name}
-use Rattle.fv_placement.specs.Starts.{IsFirstPlacement}
+use Rattle.fv_base.specs.Words.{alignment_of, bytes_of}
+use Rattle.fv_head.specs.Words.{first_edge}
+use Rattle.fv_tree.specs.Words.{Meaning, FileMeaning, head_of, files_of, length_of, data_len_of, file_name_of}
+use Rattle.fv_tree.specs.Words.{attributes_of, top_name, Inside, volumes_in}
+use Rattle.fv_placement.specs.Words.{IsFirstPlacement}
 use Rattle.fv_placement.specs.declared.first_placement.LayoutItem.{LayoutItem}
 use Rattle.fv_canon.specs.StoredFiles.{head_len_for, size_for}
-use Rattle.fv_tree.specs.Volumes.{Inside, volumes_in}
 
 -- what the layout knows of a file
 abbrev pub layout_item : FileMeaning → LayoutItem

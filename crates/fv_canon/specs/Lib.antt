@@ -10,4 +10,5 @@ pub mod ImageRules
 pub mod LayoutForms
 pub mod FlashImages
 pub mod NormaliseRuns
+pub mod Words
 pub mod inner

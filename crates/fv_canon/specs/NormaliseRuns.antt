@@ -1,10 +1,9 @@
 -- What a run over one input reads and writes, and what stops it.
 use Rattle.std.specs.Prelude.{ℕ, ◌≡◌, List, Option, ◌⊎◌}
 use Rattle.std.specs.Io.KnownBytes.{Appends, Keeps}
-use Rattle.fv_base.specs.Faults.{out_of_memory}
-use Rattle.fv_base.specs.Input.{ReadsWhole, ReadStops, WriteStops}
+use Rattle.fv_base.specs.Words.{out_of_memory, ReadsWhole, ReadStops, WriteStops}
 use Rattle.fv_base.specs.declared.fault.Fault.{Fault}
-use Rattle.fv_tree.specs.InputFaults.{MemoryRanOut}
+use Rattle.fv_tree.specs.Words.{MemoryRanOut}
 use Rattle.fv_canon.specs.FlashImages.{NormalisesAll, RefusesAll}
 use Rattle.fv_canon.specs.Headline.{NormalisesTo}
 use Rattle.fv_canon.specs.InputRefusals.{Refuses}

@@ -2,18 +2,12 @@
 -- 3.2.3).
 use Rattle.std.specs.Prelude.{ℕ, ◌+◌, ◌-◌, ◌==◌, zero, suc, nat_le, if◌then◌else◌, List, [], ◌∷◌, ◌++◌, length}
 use Rattle.std.specs.Prelude.{replicate, Option, None, Some}
-use Rattle.fv_base.specs.Flash.{erased_byte}
-use Rattle.fv_base.specs.Value.{up_to_8}
+use Rattle.fv_base.specs.Words.{erased_byte, up_to_8}
 use Rattle.fv_base.specs.declared.flash.Polarity.{Polarity}
 use Rattle.fv_base.specs.declared.guid.Guid.{Guid}
-use Rattle.fv_file.specs.FileAttributes.{attributes_by}
-use Rattle.fv_file.specs.FileHeaders.{file_header_len}
-use Rattle.fv_file.specs.NewHeaders.{needs_large, file_sum_for, file_head_of, pad_head_of}
-use Rattle.fv_head.specs.Ext.{Extension}
-use Rattle.fv_head.specs.Head.{HeadFields, header_len_of as head_len_of}
-use Rattle.fv_head.specs.HeadImage.{canonical_head}
-use Rattle.fv_head.specs.ExtImage.{first_edge, ext_len, ext_spelled}
-use Rattle.fv_head.specs.VolumeAttributes.{polarity_of}
+use Rattle.fv_file.specs.Words.{attributes_by, file_header_len, needs_large, file_sum_for, file_head_of, pad_head_of}
+use Rattle.fv_head.specs.Words.{Extension, HeadFields, header_len_of as head_len_of, canonical_head, first_edge}
+use Rattle.fv_head.specs.Words.{ext_len, ext_spelled, polarity_of}
 use Rattle.fv_canon.specs.PlacedBytes.{PlacedBytes}
 
 -- a file, with its data as written

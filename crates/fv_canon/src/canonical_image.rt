@@ -2,15 +2,12 @@
 
 ghost use Rattle.std.specs.Prelude.{◌≡◌, ◌⊎◌, ℕ, List, IfOk, IfErr, OnOk, OnErr, true};
 ghost use Rattle.std.specs.Io.KnownBytes.{Appends};
-ghost use Rattle.fv_base.specs.Faults.{out_of_memory};
-ghost use Rattle.fv_base.specs.Port.{inner_of, has_erred};
+ghost use Rattle.fv_base.specs.Words.{out_of_memory, inner_of, has_erred, WriteStops};
 ghost use Rattle.fv_canon.specs.Image.{IsImage};
 ghost use Rattle.fv_canon.specs.Layouts.{Fits};
 ghost use Rattle.fv_canon.specs.LayoutFaults.{Unfit};
 ghost use Rattle.fv_canon.specs.LayoutForms.{IsLayout};
-ghost use Rattle.fv_base.specs.Input.{WriteStops};
-ghost use Rattle.fv_tree.specs.Denotes.{Accepted, IsMeaning};
-ghost use Rattle.fv_tree.specs.Meaning.{Meaning};
+ghost use Rattle.fv_tree.specs.Words.{Accepted, IsMeaning, Meaning};
 
 use crate::known_layout::Layout;
 use crate::laid_parts::put_laid_volume;

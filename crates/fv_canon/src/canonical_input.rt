@@ -2,15 +2,13 @@
 //! walk puts.
 
 ghost use Rattle.std.specs.Prelude.{◌≡◌, ◌≢◌, ◌↔◌, ◌⊎◌, [], IfOk, IfErr, IsTrue, true};
-ghost use Rattle.fv_base.specs.Faults.{out_of_memory};
+ghost use Rattle.fv_base.specs.Words.{out_of_memory};
 ghost use Rattle.fv_canon.specs.Image.{IsImage};
 ghost use Rattle.fv_canon.specs.LayoutForms.{LaysVolume};
 ghost use Rattle.fv_canon.specs.inner.ImageOf.{image_of};
 ghost use Rattle.fv_canon.specs.inner.Matching.{MatchTakes, matches_by};
-ghost use Rattle.fv_head.specs.HeadChecks.{BeginsWithHeader};
-ghost use Rattle.fv_tree.specs.Denotes.{Accepted};
-ghost use Rattle.fv_tree.specs.InputFaults.{NotRead};
-ghost use Rattle.fv_tree.specs.Meaning.{Meaning, files_of};
+ghost use Rattle.fv_head.specs.Words.{BeginsWithHeader};
+ghost use Rattle.fv_tree.specs.Words.{Accepted, NotRead, Meaning, files_of};
 
 use crate::image_walk::put_image;
 use crate::layout_walk::layout;

@@ -2,7 +2,7 @@
 
 ghost use Rattle.std.specs.Prelude.{◌≡◌};
 ghost use Rattle.fv_canon.specs.inner.ImageOf.{data_body};
-ghost use Rattle.fv_tree.specs.Views.{body_view};
+ghost use Rattle.fv_tree.specs.Words.{body_view};
 
 use fv_tree::{Body, Content, FileView};
 

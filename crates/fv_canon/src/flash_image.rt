@@ -2,16 +2,13 @@
 
 ghost use Rattle.std.specs.Prelude.{◌≡◌, ◌≢◌, ◌⊎◌, ◌-◌, ◌≤◌, ℕ, List, length, true};
 ghost use Rattle.std.specs.Prelude.{IfOk, IfErr, OnOk};
-ghost use Rattle.fv_base.specs.Faults.{out_of_memory};
-ghost use Rattle.fv_base.specs.Limits.{volume_limit};
-ghost use Rattle.fv_base.specs.Port.{inner_of, has_erred};
-ghost use Rattle.fv_base.specs.Value.{field};
+ghost use Rattle.fv_base.specs.Words.{out_of_memory, volume_limit, inner_of, has_erred, field};
 ghost use Rattle.fv_canon.specs.FlashImages.{FirstRefused, NormalisesAll, RefusedAt, RefusesAll, AreLaid, IsLaid, IsLaidOut};
 ghost use Rattle.fv_canon.specs.LayoutForms.{IsLayout};
 ghost use Rattle.fv_canon.specs.NormaliseRuns.{ImageWrites, ImageStops};
 ghost use Rattle.fv_canon.specs.InputRefusals.{Refuses};
-ghost use Rattle.fv_tree.specs.Denotes.{Accepted};
-ghost use Rattle.fv_flash.specs.FoundVolumes.{Found, VolumeAt};
+ghost use Rattle.fv_tree.specs.Words.{Accepted};
+ghost use Rattle.fv_flash.specs.Words.{Found, VolumeAt};
 
 use crate::canonical_image::put_canonical;
 use crate::known_layout::Layout;

@@ -3,8 +3,7 @@
 
 ghost use Rattle.std.specs.Prelude.{◌↔◌, ◌≡◌, ◌⊎◌, List, ℕ};
 ghost use Rattle.fv_base.specs.declared.fault.Fault.{Fault};
-ghost use Rattle.fv_tree.specs.Denotes.{Accepted};
-ghost use Rattle.fv_tree.specs.Meaning.{Meaning};
+ghost use Rattle.fv_tree.specs.Words.{Accepted, Meaning};
 ghost use Rattle.fv_canon.specs.Headline.{MeanSame};
 ghost use Rattle.fv_canon.specs.ImageRules.{OneImage, OneMeaning, InOrder, painted, PadsRule};
 ghost use Rattle.fv_canon.specs.InputRefusals.{OnlyWhatDoesNotFitIsRefused, WhatDoesNotFitIsRefused};

@@ -1,18 +1,15 @@
 //! One walk over a volume, which puts its canonical image into any sink.
 
 ghost use Rattle.std.specs.Prelude.{◌≡◌, ◌≤◌, ◌<◌, ◌-◌, ◌%◌, [], drop, true, false};
-ghost use Rattle.fv_base.specs.Measures.{data_limit};
-ghost use Rattle.fv_file.specs.FileAttributes.{is_summed};
-ghost use Rattle.fv_file.specs.NewHeaders.{file_sum_for};
-ghost use Rattle.fv_section.specs.SectionImage.{stream_of};
-ghost use Rattle.fv_tree.specs.MeaningParts.{files_from, sections_from};
-ghost use Rattle.fv_tree.specs.Meaning.{attributes_of, content_of, data_len_of};
-ghost use Rattle.fv_tree.specs.Views.{body_view};
+ghost use Rattle.fv_base.specs.Words.{data_limit};
+ghost use Rattle.fv_file.specs.Words.{is_summed, file_sum_for};
+ghost use Rattle.fv_section.specs.Words.{stream_of};
+ghost use Rattle.fv_tree.specs.Words.{files_from, sections_from, attributes_of, content_of, data_len_of, body_view};
+ghost use Rattle.fv_tree.specs.Words.{volumes_in, volumes_in_files, volumes_in_file, volumes_in_sections};
+ghost use Rattle.fv_tree.specs.Words.{volumes_in_body};
 ghost use Rattle.fv_canon.specs.inner.ImageOf.{image_of, stored_of, stored_file, data_of, frames_of, body_image};
 ghost use Rattle.fv_canon.specs.inner.ImageOf.{starts_in, files_bytes};
 ghost use Rattle.fv_canon.specs.LayoutForms.{BeginsWithStarts};
-ghost use Rattle.fv_tree.specs.Volumes.{volumes_in, volumes_in_files, volumes_in_file, volumes_in_sections};
-ghost use Rattle.fv_tree.specs.Volumes.{volumes_in_body};
 ghost use Rattle.fv_canon.specs.StoredFiles.{stored_bytes};
 ghost use Rattle.fv_canon.specs.inner.FileWalks.{ArePlaced};
 ghost use Rattle.fv_canon.specs.inner.SummingSinks.{ImageTakes, sums};

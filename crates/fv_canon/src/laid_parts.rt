@@ -5,8 +5,7 @@
 ghost use Rattle.std.specs.Prelude.{◌++◌, ℕ, List, drop};
 ghost use Rattle.fv_canon.specs.Image.{IsData, IsImage};
 ghost use Rattle.fv_canon.specs.LayoutForms.{BeginsWithStarts};
-ghost use Rattle.fv_tree.specs.Meaning.{content_of};
-ghost use Rattle.fv_tree.specs.Volumes.{Inside, volumes_in, volumes_in_content};
+ghost use Rattle.fv_tree.specs.Words.{content_of, Inside, volumes_in, volumes_in_content};
 
 use crate::data_body::data_body;
 use crate::image_walk::{put_body_image, put_image};

@@ -1,20 +1,17 @@
 //! The layout of a volume and of the volumes inside it.
 
 ghost use Rattle.std.specs.Prelude.{◌≡◌, ◌≢◌, ◌<◌, ◌≤◌, ◌⊎◌, ◌+◌, ◌++◌, ℕ, List, [], All, length, take, get_or, IfOk, IfErr, OnOk};
-ghost use Rattle.fv_base.specs.Faults.{out_of_memory};
-ghost use Rattle.fv_head.specs.ExtImage.{first_edge};
+ghost use Rattle.fv_base.specs.Words.{out_of_memory};
+ghost use Rattle.fv_head.specs.Words.{first_edge};
 ghost use Rattle.fv_tree.specs.inner.NestingDepths.{NestsVolume, NestsFiles, NestsSections, NestsBody};
 ghost use Rattle.fv_canon.specs.inner.FileWalks.{Grew, Shallow};
 ghost use Rattle.fv_canon.specs.LayoutFaults.{layout_fault, AllFit, FirstUnfit, Unfit};
 ghost use Rattle.fv_canon.specs.Layouts.{layout_item, layout_items, AreStarts, Fits};
 ghost use Rattle.fv_canon.specs.LayoutForms.{Laid, LaysVolume, IsLayout};
-ghost use Rattle.fv_tree.specs.Volumes.{volumes_in, volumes_in_files, volumes_in_sections, volumes_in_body};
+ghost use Rattle.fv_tree.specs.Words.{volumes_in, volumes_in_files, volumes_in_sections, volumes_in_body, head_of};
+ghost use Rattle.fv_tree.specs.Words.{files_of, length_of, sections_from, files_from, body_view};
 ghost use Rattle.fv_canon.specs.inner.ImageOf.{starts_in};
-ghost use Rattle.fv_placement.specs.Starts.{Placement};
-ghost use Rattle.fv_placement.specs.Items.{IsLawfulItem};
-ghost use Rattle.fv_tree.specs.Meaning.{head_of, files_of, length_of};
-ghost use Rattle.fv_tree.specs.MeaningParts.{sections_from, files_from};
-ghost use Rattle.fv_tree.specs.Views.{body_view};
+ghost use Rattle.fv_placement.specs.Words.{Placement, IsLawfulItem};
 
 use crate::data_body::data_body;
 use crate::known_layout::Layout;

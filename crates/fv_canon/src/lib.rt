@@ -1,5 +1,5 @@
 //! The canonical image of a firmware volume and its layout, the same for each volume of a flash
-//! image, and runs that write them. The calls that compare two volumes are those of `fv_compare`.
+//! image, and runs that write them. Two volumes are compared by the calls of `fv_compare`.
 #![tactic(auto)]
 
 mod canonical_image;
@@ -23,7 +23,6 @@ pub use canonical_input::{is_canonical, is_canonical_image};
 pub use flash_image::{
     LaidImage, lay_out_image, normalise_image, put_laid_image, write_normalised_image,
 };
-pub use fv_compare::{Side, put_comparison, run_compare, write_comparison};
 pub use fv_tree::whole_volume;
 pub use known_layout::Layout;
 pub use laid_parts::{put_laid_data, put_laid_volume, starts_inside};

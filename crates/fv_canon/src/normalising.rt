@@ -1,13 +1,12 @@
 //! From bytes that are a volume to its canonical image.
 
 ghost use Rattle.std.specs.Prelude.{◌≡◌, ◌≢◌, ◌⊎◌, ℕ, List, length, IfOk, IfErr, OnOk, true, false};
-ghost use Rattle.fv_base.specs.Faults.{out_of_memory};
-ghost use Rattle.fv_base.specs.Port.{inner_of, has_erred};
-ghost use Rattle.fv_head.specs.HeadChecks.{BeginsWithHeader};
+ghost use Rattle.fv_base.specs.Words.{out_of_memory, inner_of, has_erred};
+ghost use Rattle.fv_head.specs.Words.{BeginsWithHeader};
 ghost use Rattle.fv_canon.specs.Headline.{MeanSame, NormalisesTo};
 ghost use Rattle.fv_canon.specs.InputRefusals.{IsNoVolume, IsOfLayout, IsUnfit, NotPlaced, Refuses};
 ghost use Rattle.fv_canon.specs.NormaliseRuns.{InputWrites, InputStops, RunWrites, RunStops};
-ghost use Rattle.fv_tree.specs.Denotes.{Accepted};
+ghost use Rattle.fv_tree.specs.Words.{Accepted};
 
 use crate::canonical_image::{canonical, write_canonical};
 use crate::layout_walk::layout;

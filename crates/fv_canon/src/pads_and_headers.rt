@@ -1,22 +1,14 @@
 //! The pieces of a canonical image: pads, gaps, and the headers of files and sections.
 
 ghost use Rattle.std.specs.Prelude.{◌⊎◌, ◌≡◌, ◌≤◌, ◌<◌, ◌+◌, ◌-◌, ◌%◌, ◌^◌, ℕ, [], ◌∷◌, ◌++◌, replicate};
-ghost use Rattle.fv_file.specs.FileAttributes.{attributes_by};
-ghost use Rattle.fv_section.specs.Frames.{up_to_4};
-ghost use Rattle.fv_section.specs.StreamReads.{FitsForm};
-ghost use Rattle.fv_section.specs.SectionImage.{section_head_of};
-ghost use Rattle.fv_tree.specs.Meaning.{file_name_of, attributes_of, data_len_of};
-ghost use Rattle.fv_tree.specs.MeaningParts.{file_kind_of};
-ghost use Rattle.fv_tree.specs.MeaningParts.{body_of, section_is_extended, section_kind_of};
-ghost use Rattle.fv_tree.specs.Meaning.{body_len, section_len};
-ghost use Rattle.fv_file.specs.NewHeaders.{file_head_of, state_byte};
+ghost use Rattle.fv_file.specs.Words.{attributes_by, file_head_of, state_byte};
+ghost use Rattle.fv_section.specs.Words.{up_to_4, FitsForm, section_head_of};
+ghost use Rattle.fv_tree.specs.Words.{file_name_of, attributes_of, data_len_of, file_kind_of, body_of};
+ghost use Rattle.fv_tree.specs.Words.{section_is_extended, section_kind_of, body_len, section_len};
 ghost use Rattle.fv_canon.specs.StoredFiles.{ext_pad, gap_bytes, head_len_for, pad_bytes, size_for};
 ghost use Rattle.fv_canon.specs.inner.FileWalks.{ArePlaced, used_by};
-ghost use Rattle.fv_base.specs.Flash.{erased_byte};
-ghost use Rattle.fv_base.specs.Measures.{data_limit};
-ghost use Rattle.fv_base.specs.Limits.{volume_limit};
-ghost use Rattle.fv_head.specs.ExtImage.{canonical_end, first_edge};
-ghost use Rattle.fv_head.specs.VolumeAttributes.{polarity_of};
+ghost use Rattle.fv_base.specs.Words.{erased_byte, data_limit, volume_limit};
+ghost use Rattle.fv_head.specs.Words.{canonical_end, first_edge, polarity_of};
 
 use fv_base::field::up_to_8;
 use fv_base::{Polarity, Sink, fill};

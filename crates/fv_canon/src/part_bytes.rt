@@ -1,12 +1,10 @@
 //! The canonical bytes of a part of a volume.
 
 ghost use Rattle.std.specs.Prelude.{◌≡◌, ◌⊎◌, ℕ, List, IfOk, IfErr};
-ghost use Rattle.fv_base.specs.Faults.{out_of_memory};
+ghost use Rattle.fv_base.specs.Words.{out_of_memory};
 ghost use Rattle.fv_canon.specs.Image.{IsData, IsBodyImage};
 ghost use Rattle.fv_canon.specs.LayoutFaults.{AllFit, FirstUnfit};
-ghost use Rattle.fv_tree.specs.Volumes.{volumes_in_body, volumes_in_content};
-ghost use Rattle.fv_tree.specs.Meaning.{content_of};
-ghost use Rattle.fv_tree.specs.MeaningParts.{body_of};
+ghost use Rattle.fv_tree.specs.Words.{volumes_in_body, volumes_in_content, content_of, body_of};
 
 use crate::data_body::data_body;
 use crate::image_walk::put_body_image;

@@ -1,11 +1,9 @@
 //! The starts of a layout that follow those of some part of a volume.
 
 ghost use Rattle.std.specs.Prelude.{◌≡◌, drop};
-ghost use Rattle.fv_tree.specs.MeaningParts.{sections_from};
-ghost use Rattle.fv_tree.specs.Views.{body_view};
+ghost use Rattle.fv_tree.specs.Words.{sections_from, body_view, volumes_in, volumes_in_body, volumes_in_sections};
 ghost use Rattle.fv_canon.specs.inner.ImageOf.{starts_in};
 ghost use Rattle.fv_canon.specs.LayoutForms.{BeginsWithStarts};
-ghost use Rattle.fv_tree.specs.Volumes.{volumes_in, volumes_in_body, volumes_in_sections};
 
 use crate::data_body::data_body;
 use fv_tree::{Body, SectionView, VolumeView};

@@ -5,18 +5,16 @@ use Rattle.std.specs.Prelude.{◌↔◌, ◌==◌, not, Option, Some, None}
 use Rattle.std.specs.List.{AllByRecursion}
 use Rattle.std.proofs.lemmas.Bool.Decides.{Decides-eqb}
 use Rattle.std.proofs.lemmas.List.Sums.{sum_by-cons}
-use Rattle.fv_base.specs.Flash.{AllAre, erased_byte}
+use Rattle.fv_base.specs.Words.{AllAre, erased_byte, depth_limit}
 use Rattle.fv_base.specs.declared.flash.Polarity.{Polarity}
-use Rattle.fv_canon.specs.Image.{IsImage}
+use Rattle.fv_canon.specs.Words.{IsImage}
 use Rattle.fv_canon.proofs.Laws.{PadErased, pads_erased}
-use Rattle.fv_file.specs.Cells.{CellForm, Valid, Pad, Dead, Stub, Free}
+use Rattle.fv_file.specs.Words.{CellForm, Valid, Pad, Dead, Stub, Free}
 use Rattle.fv_head.specs.declared.extent.Extent.{Extent}
-use Rattle.fv_base.specs.Limits.{depth_limit}
-use Rattle.fv_tree.specs.Denotes.{Accepted}
-use Rattle.fv_tree.specs.Meaning.{Meaning, files_of}
+use Rattle.fv_tree.specs.Words.{Accepted, Meaning, files_of}
 use Rattle.fv_command.specs.inner.CheckRuns.{NotedCells, NotedText, noted_lines}
-use Rattle.fv_command.specs.Tasks.{CheckText}
-use Rattle.fv_lines.specs.Notes.{AreNotes, depex_lines, depexes_in, pad_line, pad_notes, verdict_line, written_in}
+use Rattle.fv_command.specs.Words.{CheckText}
+use Rattle.fv_lines.specs.Words.{AreNotes, depex_lines, depexes_in, pad_line, pad_notes, verdict_line, written_in}
 use Rattle.fv_lines.specs.declared.depex_notes.DepexNote.{DepexNote}
 
 -- ---- pads that are erased

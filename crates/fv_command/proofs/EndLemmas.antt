@@ -3,15 +3,14 @@ use Rattle.std.proofs.Common.{◌≡◌, ◌∙◌, ℕ, Bool, true, false, List
 use Rattle.std.proofs.KnownBytes.{Appends-kept}
 use Rattle.std.specs.Io.KnownBytes.{Keeps}
 use Rattle.std.specs.Prelude.{Option}
-use Rattle.fv_base.specs.Port.{has_erred, inner_of}
-use Rattle.fv_base.specs.Sinks.{LatchedWrites, PortShows, is_writing, port_of, written_count}
+use Rattle.fv_base.specs.Words.{has_erred, inner_of, LatchedWrites, PortShows, is_writing, port_of, written_count}
 use Rattle.fv_base.specs.declared.port.Port.{Port}
 use Rattle.fv_base.specs.declared.sink.WriteSink.{WriteSink}
-use Rattle.fv_command.specs.Endings.{Ends}
-use Rattle.fv_command.specs.inner.RunSteps.{Written}
+use Rattle.fv_command.specs.Words.{Ends}
 use Rattle.fv_command.specs.declared.status.Status.{Status}
+use Rattle.fv_command.specs.inner.RunSteps.{Written}
 use Rattle.fv_command.specs.declared.status.Status.TheVariants.{Refused}
-use Rattle.fv_text.specs.PortViews.{Shown, seen, shown}
+use Rattle.fv_text.specs.Words.{Shown, seen, shown}
 
 written : (old new : PortShows) (was on : Bool) (text : List ℕ) → was ≡ true → LatchedWrites old was text new on
     → Written on text (seen old.contents old.erred) (seen new.contents new.erred)

@@ -4,9 +4,9 @@ use Rattle.std.proofs.Common.{◌≡◌, ◌∙◌, ◌-◌, ◌≤◌, ℕ, Lis
 use Rattle.std.specs.Prelude.{Result, Ok, Err}
 use Rattle.std.proofs.lemmas.List.{drop_min, take_all}
 use Rattle.fv_base.specs.declared.fault.Fault.{Fault}
-use Rattle.fv_head.specs.Head.{HeadFields, BeginsVolume}
+use Rattle.fv_head.specs.Words.{HeadFields, BeginsVolume}
 use Rattle.fv_head.specs.declared.extent.Extent.{Extent}
-use Rattle.fv_command.specs.RunInputs.{At}
+use Rattle.fv_command.specs.Words.{At}
 
 -- all bytes from n on, as they are cut out of the input
 rest_is : (n m : ℕ) (input : List ℕ) → m ≡ min n (length input) → take (length input - m) (drop m input) ≡ drop n input

@@ -2,14 +2,14 @@
 use Rattle.std.proofs.lemmas.Grind.{common_steps}
 use Rattle.std.proofs.Common.{◌≡◌, ◌∙◌, ℕ, List, ap, false, arith}
 use Rattle.std.specs.Prelude.{Option}
-use Rattle.fv_base.specs.Port.{has_erred, inner_of}
+use Rattle.fv_base.specs.Words.{has_erred, inner_of}
 use Rattle.fv_base.specs.declared.port.Port.{Port}
-use Rattle.fv_text.specs.PortViews.{Change, Ports, Shown, change, seen, shown}
-use Rattle.fv_command.specs.PlanRuns.{Runs, RunsOver, IsFirstSource, IsSecondSource, unread}
-use Rattle.fv_plan.specs.CommandFiles.{first_file, second_file}
-use Rattle.fv_plan.specs.declared.plan.Plan.{Plan}
+use Rattle.fv_text.specs.Words.{Change, Ports, Shown, change, seen, shown}
+use Rattle.fv_command.specs.Words.{Runs, RunsOver, IsFirstSource, IsSecondSource, unread}
 use Rattle.fv_command.specs.declared.ending.Ending.{Ending}
 use Rattle.fv_command.specs.declared.source.Source.{Source}
+use Rattle.fv_plan.specs.Words.{first_file, second_file}
+use Rattle.fv_plan.specs.declared.plan.Plan.{Plan}
 
 abbrev ports_of : (r s r' s' : Shown) → Change → Ports
 ports_of r s r' s' output =

@@ -3,17 +3,15 @@ use Rattle.std.proofs.lemmas.Grind.{common_steps}
 use Rattle.std.proofs.Common.{◌≡◌, ℕ, List, length, refl, sym, subst, arith}
 use Rattle.std.specs.Prelude.{drop, take}
 use Rattle.std.proofs.lemmas.List.{take_all}
-use Rattle.fv_base.specs.Faults.{out_of_memory}
+use Rattle.fv_base.specs.Words.{out_of_memory}
 use Rattle.fv_base.specs.declared.fault.Fault.{Fault}
-use Rattle.fv_file.specs.Cells.{CellForm, Tiles}
+use Rattle.fv_file.specs.Words.{CellForm, Tiles}
 use Rattle.fv_head.proofs.Laws.{one_front}
-use Rattle.fv_head.specs.Head.{BeginsVolume}
+use Rattle.fv_head.specs.Words.{BeginsVolume}
 use Rattle.fv_head.specs.declared.extent.Extent.{Extent}
 use Rattle.fv_base.proofs.Laws.{want_known}
-use Rattle.fv_tree.specs.Denotes.{Accepted}
-use Rattle.fv_tree.specs.Meaning.{Meaning, head_of}
-use Rattle.fv_tree.specs.LocatedFiles.{BeginsTiled}
-use Rattle.fv_command.specs.Tasks.{AreCells}
+use Rattle.fv_tree.specs.Words.{Accepted, Meaning, head_of, BeginsTiled}
+use Rattle.fv_command.specs.Words.{AreCells}
 
 -- bytes with as many as the volume says are all its bytes
 all_of : (b : List ℕ) (e : Extent) → length b ≡ e.length → take e.length b ≡ b

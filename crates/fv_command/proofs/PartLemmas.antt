@@ -1,14 +1,12 @@
 -- What stops the extraction of a section.
 use Rattle.std.proofs.Common.{◌≡◌, ℕ, List, Some, refl, inl, inr}
 use Rattle.std.specs.Prelude.{◌⊎◌}
-use Rattle.fv_base.specs.Faults.{out_of_memory}
+use Rattle.fv_base.specs.Words.{out_of_memory}
 use Rattle.fv_base.specs.declared.fault.Fault.{Fault}
-use Rattle.fv_canon.specs.LayoutFaults.{FirstUnfit}
-use Rattle.fv_tree.specs.Volumes.{volumes_in_body}
-use Rattle.fv_tree.specs.LookupInstances.{section_of_type}
-use Rattle.fv_tree.specs.Meaning.{FileMeaning, ContentMeaning, SectionMeaning, SectionMeanings, Plain, Sectioned, content_of}
-use Rattle.fv_tree.specs.MeaningParts.{body_of}
-use Rattle.fv_command.specs.Extractions.{StopsFilePart}
+use Rattle.fv_canon.specs.Words.{FirstUnfit}
+use Rattle.fv_tree.specs.Words.{volumes_in_body, section_of_type, FileMeaning, ContentMeaning, SectionMeaning, SectionMeanings, Plain}
+use Rattle.fv_tree.specs.Words.{Sectioned, content_of, body_of}
+use Rattle.fv_command.specs.Words.{StopsFilePart}
 
 -- a file in which a section was found holds sections, and the section is among them
 pub stops_section : (f : FileMeaning) (kind instance : ℕ) (s : SectionMeaning) (e : Fault)

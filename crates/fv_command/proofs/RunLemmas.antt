@@ -3,26 +3,20 @@ use Rattle.std.proofs.Common.{◌≡◌, ◌≢◌, ◌≤◌, ◌⊎◌, ℕ, B
 use Rattle.std.proofs.lemmas.Grind.{common_steps}
 use Rattle.std.specs.Prelude.{◌↔◌, Option}
 use Rattle.fv_base.proofs.Laws.{or_more, want_known}
-use Rattle.fv_base.specs.Faults.{out_of_memory}
-use Rattle.fv_base.specs.Limits.{depth_limit}
+use Rattle.fv_base.specs.Words.{out_of_memory, depth_limit}
 use Rattle.fv_base.specs.declared.fault.Fault.{Fault}
-use Rattle.fv_canon.specs.LayoutFaults.{Unfit}
+use Rattle.fv_canon.specs.Words.{Unfit}
 use Rattle.fv_compare.specs.declared.side.Side.{Side}
 use Rattle.fv_compare.specs.declared.side.Side.TheVariants as sides
-use Rattle.fv_tree.specs.Denotes.{Accepted, Denotes}
-use Rattle.fv_tree.specs.FirstFault.{IsFirstOfVolume}
-use Rattle.fv_tree.specs.Meaning.{Meaning, files_of}
-use Rattle.fv_tree.specs.FileNames.{file_named}
-use Rattle.fv_hob.specs.HobChecks.{IsFirstHobFault, hob_out_of_memory}
+use Rattle.fv_tree.specs.Words.{Accepted, Denotes, IsFirstOfVolume, Meaning, files_of, file_named}
+use Rattle.fv_hob.specs.Words.{IsFirstHobFault, hob_out_of_memory}
 use Rattle.fv_hob.specs.declared.fault.HobFault.{HobFault}
-use Rattle.fv_command.specs.Extractions.{StopsPart}
-use Rattle.fv_command.specs.PairRuns.{GivesVolume, IsVerdict, SideStops, VolumeInputStops}
-use Rattle.fv_command.specs.RunInputs.{Gives, GivesAt, TakenAt, BeginsNone, BeginsWith}
-use Rattle.fv_command.specs.Tasks.{Denies}
+use Rattle.fv_command.specs.Words.{StopsPart, GivesVolume, IsVerdict, SideStops, VolumeInputStops, Gives, GivesAt, TakenAt, BeginsNone}
+use Rattle.fv_command.specs.Words.{BeginsWith, Denies}
 use Rattle.fv_command.specs.inner.RunSteps.{verdict_of}
 use Rattle.fv_plan.specs.declared.plan.Part.{Part}
 use Rattle.fv_plan.specs.declared.plan.Task.TheVariants.{Extract, ListSums}
-use Rattle.fv_text.specs.PortViews.{Change, Shown}
+use Rattle.fv_text.specs.Words.{Change, Shown}
 
 -- ---- an input that begins with no volume
 

@@ -1,7 +1,7 @@
 -- How a run ends: its status, and the line of a fault.
 use Rattle.std.specs.Io.KnownBytes.{Appends}
 use Rattle.std.specs.Prelude.{◌≡◌, ◌⊎◌, ◌++◌, ℕ, true, List, codes, decimal}
-use Rattle.fv_base.specs.Faults.{fault_number}
+use Rattle.fv_base.specs.Words.{fault_number}
 use Rattle.fv_base.specs.declared.fault.Fault.{Fault}
 use Rattle.fv_compare.specs.declared.side.Side.{Side}
 use Rattle.fv_compare.specs.declared.side.Side.TheVariants as sides
@@ -9,10 +9,9 @@ use Rattle.fv_command.specs.declared.ending.Refusal.{Refusal}
 use Rattle.fv_command.specs.declared.ending.Refusal.TheVariants.{Input, OneOfTwo, Hobs}
 use Rattle.fv_command.specs.declared.status.Status.{Status}
 use Rattle.fv_command.specs.declared.status.Status.TheVariants as statuses
-use Rattle.fv_hob.specs.HobChecks.{hob_fault_number}
+use Rattle.fv_hob.specs.Words.{hob_fault_number}
 use Rattle.fv_hob.specs.declared.fault.HobFault.{HobFault}
-use Rattle.fv_text.specs.HexText.{line_feed}
-use Rattle.fv_text.specs.PortViews.{Change, Shown, StopsIn, Writes}
+use Rattle.fv_text.specs.Words.{line_feed, Change, Shown, StopsIn, Writes}
 
 -- the exit statuses
 abbrev pub exit_code : Status → ℕ

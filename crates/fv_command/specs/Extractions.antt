@@ -1,13 +1,11 @@
 -- What is extracted from a volume: the data of a file, or the body of one of its sections.
 use Rattle.std.specs.Prelude.{◌≡◌, ⊤, ℕ, List, Option, Some, None}
 use Rattle.fv_base.specs.declared.fault.Fault.{Fault}
-use Rattle.fv_canon.specs.Image.{IsData, IsBodyImage}
-use Rattle.fv_canon.specs.LayoutFaults.{FirstUnfit}
-use Rattle.fv_tree.specs.Volumes.{volumes_in_body, volumes_in_content}
-use Rattle.fv_section.specs.Frames.{FrameForm, Splits}
-use Rattle.fv_tree.specs.LookupInstances.{section_of_type, frame_of_type, security_core}
-use Rattle.fv_tree.specs.Meaning.{FileMeaning, SectionMeaning, SectionMeanings, Plain, Sectioned, content_of}
-use Rattle.fv_tree.specs.MeaningParts.{body_of, file_kind_of}
+use Rattle.fv_canon.specs.Words.{IsData, IsBodyImage, FirstUnfit}
+use Rattle.fv_tree.specs.Words.{volumes_in_body, volumes_in_content, section_of_type, frame_of_type, security_core}
+use Rattle.fv_tree.specs.Words.{FileMeaning, SectionMeaning, SectionMeanings, Plain, Sectioned, content_of, body_of}
+use Rattle.fv_tree.specs.Words.{file_kind_of}
+use Rattle.fv_section.specs.Words.{FrameForm, Splits}
 use Rattle.fv_command.specs.declared.extracting.Extraction.{Extraction}
 use Rattle.fv_command.specs.declared.extracting.Extraction.TheVariants.{Made, Stored, NotFound, NotSectioned}
 use Rattle.fv_plan.specs.declared.plan.Part.{Part}

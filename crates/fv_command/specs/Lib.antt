@@ -5,4 +5,5 @@ pub mod RunInputs
 pub mod PairRuns
 pub mod Tasks
 pub mod PlanRuns
+pub mod Words
 pub mod inner

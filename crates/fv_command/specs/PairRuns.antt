@@ -1,25 +1,20 @@
 -- Runs over two inputs: a hand-off list with the image of its volumes, and two volumes that are compared.
 use Rattle.std.specs.Prelude.{◌≡◌, ◌≤◌, ◌⊎◌, ℕ, Bool, List, [], Option, Some, None, length, take, ◌≢◌}
+use Rattle.fv_base.specs.Words.{out_of_memory}
 use Rattle.fv_base.specs.declared.fault.Fault.{Fault}
-use Rattle.fv_hob.specs.HobChecks.{IsFirstHobFault, hob_out_of_memory}
-use Rattle.fv_hob.specs.Hobs.{HobForm}
-use Rattle.fv_hob.specs.Lists.{IsHobList}
+use Rattle.fv_hob.specs.Words.{IsFirstHobFault, hob_out_of_memory, HobForm, IsHobList}
 use Rattle.fv_hob.specs.declared.fault.HobFault.{HobFault}
-use Rattle.fv_lines.specs.HobLines.{HobsText, image_form}
+use Rattle.fv_lines.specs.Words.{HobsText, image_form}
 use Rattle.fv_command.specs.RunInputs.{Gives, GivingStops, GivesAt}
 use Rattle.fv_command.specs.declared.ending.Refusal.{Refusal}
 use Rattle.fv_command.specs.declared.ending.Refusal.TheVariants.{Input, OneOfTwo, Hobs}
-use Rattle.fv_text.specs.PortViews.{Change}
+use Rattle.fv_text.specs.Words.{Change}
 use Rattle.fv_command.specs.declared.status.Status.{Status}
 use Rattle.fv_command.specs.declared.status.Status.TheVariants.{Done, Different}
-use Rattle.fv_base.specs.Faults.{out_of_memory}
-use Rattle.fv_compare.specs.CompareRuns.{VolumeStops}
-use Rattle.fv_compare.specs.ComparisonLines.{compare_line}
+use Rattle.fv_compare.specs.Words.{VolumeStops, compare_line, difference}
 use Rattle.fv_compare.specs.declared.side.Side.{Side}
 use Rattle.fv_compare.specs.declared.side.Side.TheVariants as sides
-use Rattle.fv_tree.specs.Denotes.{Accepted}
-use Rattle.fv_compare.specs.Difference.{difference}
-use Rattle.fv_tree.specs.Meaning.{Meaning}
+use Rattle.fv_tree.specs.Words.{Accepted, Meaning}
 
 -- with a base, an image was read to its end; without one, nothing was read, and there are no bytes
 abbrev pub GivesImage : Bool → Option ℕ → Change → List ℕ → Type 0

@@ -6,12 +6,12 @@ use Rattle.fv_command.specs.declared.source.Source.{Source}
 use Rattle.fv_command.specs.declared.source.Source.TheVariants.{Standard, File, Missing, Nothing}
 use Rattle.fv_command.specs.Endings.{Ends, refusal_line}
 use Rattle.fv_command.specs.PairRuns.{SaysHobs, StopsHobs, SaysComparison, SideStops}
-use Rattle.fv_plan.specs.CommandFiles.{first_file, second_file}
-use Rattle.fv_text.specs.PortViews.{Change, Ports, Shown, seen}
-use Rattle.fv_command.specs.Tasks.{SaysTask, StopsTask}
+use Rattle.fv_plan.specs.Words.{first_file, second_file}
 use Rattle.fv_plan.specs.declared.plan.Command.{Command}
-use Rattle.fv_plan.specs.declared.plan.Command.TheVariants.{Single, Hobs, Compare}
 use Rattle.fv_plan.specs.declared.plan.Plan.{Plan}
+use Rattle.fv_text.specs.Words.{Change, Ports, Shown, seen}
+use Rattle.fv_command.specs.Tasks.{SaysTask, StopsTask}
+use Rattle.fv_plan.specs.declared.plan.Command.TheVariants.{Single, Hobs, Compare}
 use Rattle.fv_command.specs.declared.ending.Ending.{Ending}
 use Rattle.fv_command.specs.declared.ending.Refusal.{Refusal}
 use Rattle.fv_command.specs.declared.ending.Refusal.TheVariants.{Input, OneOfTwo}

@@ -1,15 +1,12 @@
 -- What a run reads, and how it reports what stopped it.
 use Rattle.std.specs.Prelude.{◌≡◌, ◌≤◌, ◌⊎◌, ℕ, Bool, true, false, List, length, take, drop, Option, None, Some}
-use Rattle.fv_base.specs.Input.{ReadsWhole, ReadStops}
+use Rattle.fv_base.specs.Words.{ReadsWhole, ReadStops}
 use Rattle.fv_base.specs.declared.fault.Fault.{Fault}
 use Rattle.fv_base.specs.declared.fault.FaultKind.TheVariants as kinds
-use Rattle.fv_head.specs.Head.{HeadFields, BeginsVolume}
+use Rattle.fv_head.specs.Words.{HeadFields, BeginsVolume}
 use Rattle.fv_head.specs.declared.extent.Extent.{Extent}
-use Rattle.fv_tree.specs.Denotes.{Accepted}
-use Rattle.fv_tree.specs.FirstFault.{IsFirstOfVolume}
-use Rattle.fv_tree.specs.Meaning.{Meaning}
-use Rattle.fv_text.specs.HexIn.{SpellsWhole, TextStops}
-use Rattle.fv_text.specs.PortViews.{Shown}
+use Rattle.fv_tree.specs.Words.{Accepted, IsFirstOfVolume, Meaning}
+use Rattle.fv_text.specs.Words.{SpellsWhole, TextStops, Shown}
 
 -- an input was read to its end: as bytes, or as hexadecimal text that spells them
 abbrev pub Gives : Bool → Shown → Shown → List ℕ → Type 0

@@ -1,31 +1,21 @@
 -- What the tasks over one input say of it, and what stops them.
 use Rattle.std.specs.Prelude.{◌≡◌, ◌↔◌, ℕ, Bool, true, List, ◌++◌, drop, Option, Some, ◌⊎◌, false, codes}
+use Rattle.fv_base.specs.Words.{out_of_memory}
 use Rattle.fv_base.specs.declared.flash.Polarity.{Polarity}
-use Rattle.fv_canon.specs.Image.{IsImage, IsData}
-use Rattle.fv_file.specs.Cells.{CellForm, Tiles}
-use Rattle.fv_head.specs.Head.{BeginsVolume}
+use Rattle.fv_base.specs.declared.fault.Fault.{Fault}
+use Rattle.fv_canon.specs.Words.{IsImage, IsData, NormalisesTo, Unfit, Refuses, NormalisesAll, RefusesAll}
+use Rattle.fv_file.specs.Words.{CellForm, Tiles}
+use Rattle.fv_head.specs.Words.{BeginsVolume}
 use Rattle.fv_head.specs.declared.extent.Extent.{Extent}
-use Rattle.fv_tree.specs.Denotes.{Accepted}
-use Rattle.fv_tree.specs.Meaning.{Meaning, files_of, head_of, FileMeaning, content_of}
-use Rattle.fv_lines.specs.Notes.{AreNotes, depex_lines, depexes_in, pad_notes, verdict_line}
+use Rattle.fv_tree.specs.Words.{Accepted, Meaning, files_of, head_of, FileMeaning, content_of, NotRead, file_named}
+use Rattle.fv_tree.specs.Words.{NotTiled}
+use Rattle.fv_lines.specs.Words.{AreNotes, depex_lines, depexes_in, pad_notes, verdict_line, VolumeLines, ListText}
+use Rattle.fv_lines.specs.Words.{CellsText, ScanText}
 use Rattle.fv_lines.specs.declared.depex_notes.DepexNote.{DepexNote}
 use Rattle.sha2.specs.Sha256.{sha256}
-use Rattle.fv_lines.specs.ListTexts.{VolumeLines, ListText}
-use Rattle.fv_base.specs.Faults.{out_of_memory}
-use Rattle.fv_base.specs.declared.fault.Fault.{Fault}
-use Rattle.fv_canon.specs.Headline.{NormalisesTo}
-use Rattle.fv_canon.specs.LayoutFaults.{Unfit}
-use Rattle.fv_tree.specs.InputFaults.{NotRead}
-use Rattle.fv_canon.specs.InputRefusals.{Refuses}
-use Rattle.fv_canon.specs.FlashImages.{NormalisesAll, RefusesAll}
-use Rattle.fv_flash.specs.FoundVolumes.{Found}
-use Rattle.fv_tree.specs.FileNames.{file_named}
-use Rattle.fv_lines.specs.CellTexts.{CellsText}
-use Rattle.fv_tree.specs.LocatedFiles.{NotTiled}
-use Rattle.fv_text.specs.HexText.{ShowsBytes}
-use Rattle.fv_text.specs.PortViews.{Change}
+use Rattle.fv_flash.specs.Words.{Found}
+use Rattle.fv_text.specs.Words.{ShowsBytes, Change}
 use Rattle.fv_command.specs.RunInputs.{BeginsWith, BeginsNone, GivesAt, GivingStops}
-use Rattle.fv_lines.specs.ScanLines.{ScanText}
 use Rattle.fv_command.specs.Extractions.{IsPart, StopsPart}
 use Rattle.fv_command.specs.declared.status.Status.{Status}
 use Rattle.fv_command.specs.declared.status.Status.TheVariants.{Done, Different}

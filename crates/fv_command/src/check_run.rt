@@ -1,11 +1,11 @@
 //! Whether a volume is its own canonical image, and what in it deserves a note.
 
 ghost use Rattle.std.specs.Prelude.{◌≡◌, ◌⊎◌, ℕ, Bool, List, option_copied, IfErr, IfOk, OnErr};
-ghost use Rattle.fv_base.specs.Faults.{out_of_memory};
+ghost use Rattle.fv_base.specs.Words.{out_of_memory};
 ghost use Rattle.fv_command.specs.Tasks.{CheckText};
 ghost use Rattle.fv_command.specs.inner.CheckRuns.{NotedText};
 ghost use Rattle.fv_command.specs.inner.RunSteps.{Performs};
-ghost use Rattle.fv_tree.specs.Denotes.{Accepted};
+ghost use Rattle.fv_tree.specs.Words.{Accepted};
 
 use crate::pads::{noted_cells, put_pads};
 use crate::status::Status;

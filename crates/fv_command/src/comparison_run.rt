@@ -1,17 +1,18 @@
 //! Two volumes, compared.
 
 ghost use Rattle.std.specs.Prelude.{◌≡◌, ℕ, List, IfErr, IfOk, Option};
-ghost use Rattle.fv_compare.specs.CompareRuns.{VolumeStops};
-ghost use Rattle.fv_tree.specs.Denotes.{Accepted};
+ghost use Rattle.fv_compare.specs.Words.{VolumeStops};
+ghost use Rattle.fv_tree.specs.Words.{Accepted};
 ghost use Rattle.fv_command.specs.RunInputs.{Gives, GivingStops};
-ghost use Rattle.fv_text.specs.PortViews.{Change, change, shown};
+ghost use Rattle.fv_text.specs.Words.{Change, change, shown};
 ghost use Rattle.fv_command.specs.PairRuns.{GivesVolume};
 ghost use Rattle.fv_command.specs.inner.RunSteps.{Compares, verdict_of};
 
 use crate::inputs::{read_bytes, taken_at};
 use crate::status::Status;
 use fv_base::{Fault, Port, Sink};
-use fv_canon::{Side, put_comparison, whole_volume};
+use fv_canon::whole_volume;
+use fv_compare::{Side, put_comparison};
 use fv_tree::VolumeView;
 use std::alloc::Global;
 use std::io::Read;

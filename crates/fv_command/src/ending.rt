@@ -2,7 +2,7 @@
 
 use crate::status::Status;
 use fv_base::Fault;
-use fv_canon::Side;
+use fv_compare::Side;
 use fv_hob::HobFault;
 use std::fmt;
 

@@ -1,10 +1,9 @@
 //! The data of a file of a volume, or the body of one of its sections.
 
 ghost use Rattle.std.specs.Prelude.{◌≡◌, ◌⊎◌, IfOk, IfErr};
-ghost use Rattle.fv_base.specs.Faults.{out_of_memory};
+ghost use Rattle.fv_base.specs.Words.{out_of_memory};
 ghost use Rattle.fv_command.specs.Extractions.{IsFilePart, IsPart, StopsFilePart, StopsPart};
-ghost use Rattle.fv_tree.specs.Meaning.{files_of};
-ghost use Rattle.fv_tree.specs.FileNames.{file_named};
+ghost use Rattle.fv_tree.specs.Words.{files_of, file_named};
 
 use fv_base::{ByteList, Fault};
 use fv_canon::{body_bytes, file_bytes};

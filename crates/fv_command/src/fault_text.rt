@@ -2,16 +2,16 @@
 //! run.
 
 ghost use Rattle.std.specs.Prelude.{◌≡◌, ◌≢◌, ◌++◌, true};
-ghost use Rattle.fv_base.specs.Port.{is_flushed};
+ghost use Rattle.fv_base.specs.Words.{is_flushed};
 ghost use Rattle.fv_command.specs.Endings.{Ends, numbered_line, refusal_line, side_fault_line};
 ghost use Rattle.fv_command.specs.inner.RunSteps.{Written};
-ghost use Rattle.fv_text.specs.PortViews.{change, shown};
+ghost use Rattle.fv_text.specs.Words.{change, shown};
 
 use crate::ending::{Ending, Refusal};
 use crate::run_end::{finish, is_whole};
 use crate::status::Status;
 use fv_base::{Fault, Port, Sink, WriteSink};
-use fv_canon::Side;
+use fv_compare::Side;
 use fv_text::put_decimal;
 use std::io::Write;
 

@@ -4,8 +4,8 @@ ghost use Rattle.std.specs.Prelude.{◌≡◌, ℕ, List, IfOk, IfErr};
 ghost use Rattle.fv_command.specs.PairRuns.{GivesImage, HobImageStops, HobInputStops, SaysHobs, StopsHobs};
 ghost use Rattle.fv_command.specs.RunInputs.{Gives};
 ghost use Rattle.fv_command.specs.inner.RunSteps.{Puts};
-ghost use Rattle.fv_lines.specs.HobLines.{held_image, image_form};
-ghost use Rattle.fv_text.specs.PortViews.{change, shown};
+ghost use Rattle.fv_lines.specs.Words.{held_image, image_form};
+ghost use Rattle.fv_text.specs.Words.{change, shown};
 
 use crate::ending::Refusal;
 use crate::inputs::read_bytes;

@@ -2,10 +2,9 @@
 //! form.
 
 ghost use Rattle.std.specs.Prelude.{IfOk, IfErr};
-ghost use Rattle.fv_canon.specs.FlashImages.{NormalisesAll};
-ghost use Rattle.fv_canon.specs.Image.{IsImage};
+ghost use Rattle.fv_canon.specs.Words.{NormalisesAll, IsImage};
 ghost use Rattle.fv_command.specs.Tasks.{Denies};
-ghost use Rattle.fv_tree.specs.Denotes.{Accepted};
+ghost use Rattle.fv_tree.specs.Words.{Accepted};
 
 use crate::shown_image::Image;
 use fv_base::{Fault, Sink};
@@ -23,8 +22,8 @@ pub struct LaidVolume<'a> {
 }
 
 impl<'a> Model for LaidVolume<'a> {
-    ghost use Rattle.fv_canon.specs.LayoutForms.{IsLayout};
-    ghost use Rattle.fv_tree.specs.Meaning.{Meaning};
+    ghost use Rattle.fv_canon.specs.Words.{IsLayout};
+    ghost use Rattle.fv_tree.specs.Words.{Meaning};
     ghost use Rattle.fv_tree.specs.inner.Codes.{volume_code};
 
     ghost Value = { Meaning };

@@ -2,7 +2,7 @@
 
 ghost use Rattle.std.specs.Prelude.{IfOk, IfErr};
 ghost use Rattle.fv_command.specs.RunInputs.{Gives, GivingStops, TakenAt};
-ghost use Rattle.fv_text.specs.PortViews.{shown};
+ghost use Rattle.fv_text.specs.Words.{shown};
 
 use fv_base::{Fault, Port, read_input};
 use fv_head::verify_fv;

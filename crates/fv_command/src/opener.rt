@@ -1,10 +1,10 @@
 //! What opens the inputs of a run, and a run over the inputs that its plan names.
 
 ghost use Rattle.std.specs.Prelude.{◌≡◌, ◌≢◌, ℕ, List, Option, true, false};
-ghost use Rattle.fv_base.specs.Port.{has_erred, inner_of, is_flushed};
+ghost use Rattle.fv_base.specs.Words.{has_erred, inner_of, is_flushed};
 ghost use Rattle.fv_command.specs.PlanRuns.{RunsOver, IsFirstSource, IsOpened, IsSecondSource};
-ghost use Rattle.fv_plan.specs.CommandFiles.{first_file, second_file};
-ghost use Rattle.fv_text.specs.PortViews.{change};
+ghost use Rattle.fv_plan.specs.Words.{first_file, second_file};
+ghost use Rattle.fv_text.specs.Words.{change};
 
 use crate::ending::Ending;
 use crate::plan_run::run_plan;

@@ -1,9 +1,8 @@
 //! The pads of a volume, and the lines for those that hold bytes which are not erased.
 
 ghost use Rattle.std.specs.Prelude.{◌≡◌, option_copied, IfOk, IfErr};
-ghost use Rattle.fv_base.specs.Faults.{out_of_memory};
-ghost use Rattle.fv_tree.specs.Denotes.{Accepted};
-ghost use Rattle.fv_tree.specs.Meaning.{Meaning};
+ghost use Rattle.fv_base.specs.Words.{out_of_memory};
+ghost use Rattle.fv_tree.specs.Words.{Accepted, Meaning};
 ghost use Rattle.fv_command.specs.inner.CheckRuns.{NotedCells, noted_pads};
 ghost use Rattle.fv_command.specs.Tasks.{AreCells};
 

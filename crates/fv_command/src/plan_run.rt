@@ -1,9 +1,9 @@
 //! The commands, run over readers and a writer.
 
 ghost use Rattle.std.specs.Prelude.{◌≡◌, ◌≢◌, ℕ, Bool, List, option_map, true};
-ghost use Rattle.fv_base.specs.Port.{is_flushed};
+ghost use Rattle.fv_base.specs.Words.{is_flushed};
 ghost use Rattle.fv_command.specs.inner.RunSteps.{PutsCommand};
-ghost use Rattle.fv_text.specs.PortViews.{Change, change};
+ghost use Rattle.fv_text.specs.Words.{Change, change};
 ghost use Rattle.fv_command.specs.PlanRuns.{HasText, Runs};
 
 use crate::comparison_run::put_compared;

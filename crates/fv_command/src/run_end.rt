@@ -1,11 +1,10 @@
 //! The end of a run.
 
 ghost use Rattle.std.specs.Prelude.{◌≡◌, ◌≢◌, ℕ, List, true};
-ghost use Rattle.fv_base.specs.Port.{is_flushed};
-ghost use Rattle.fv_base.specs.Sinks.{is_writing};
+ghost use Rattle.fv_base.specs.Words.{is_flushed, is_writing};
 ghost use Rattle.fv_command.specs.Endings.{Ends};
 ghost use Rattle.fv_command.specs.inner.RunSteps.{Written};
-ghost use Rattle.fv_text.specs.PortViews.{Shown, shown};
+ghost use Rattle.fv_text.specs.Words.{Shown, shown};
 
 use crate::status::Status;
 use fv_base::{Port, WriteSink};

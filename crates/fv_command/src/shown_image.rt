@@ -1,7 +1,7 @@
 //! An image, put as it is or as lines of hexadecimal digits.
 
 ghost use Rattle.std.specs.Prelude.{ℕ, List};
-ghost use Rattle.fv_text.specs.HexText.{IsHexText, ShowsBytes};
+ghost use Rattle.fv_text.specs.Words.{IsHexText, ShowsBytes};
 
 use fv_base::Sink;
 use fv_text::{HexSink, LentSink};

@@ -1,10 +1,9 @@
 //! The tasks over one input.
 
 ghost use Rattle.std.specs.Prelude.{◌≡◌, ◌⊎◌, ℕ, Bool, List, IfOk, IfErr};
-ghost use Rattle.fv_base.specs.Faults.{out_of_memory};
-ghost use Rattle.fv_text.specs.PortViews.{change};
-ghost use Rattle.fv_tree.specs.FileNames.{file_named};
-ghost use Rattle.fv_tree.specs.Meaning.{Meaning, files_of};
+ghost use Rattle.fv_base.specs.Words.{out_of_memory};
+ghost use Rattle.fv_text.specs.Words.{change};
+ghost use Rattle.fv_tree.specs.Words.{file_named, Meaning, files_of};
 ghost use Rattle.fv_command.specs.Extractions.{IsPart};
 ghost use Rattle.fv_command.specs.RunInputs.{BeginsNone, BeginsWith};
 ghost use Rattle.fv_command.specs.Tasks.{Denies, PartText, SaysTask, StopsTask};

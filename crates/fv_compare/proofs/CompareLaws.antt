@@ -4,12 +4,11 @@ use Rattle.std.proofs.Common.{◌≡◌, ◌≢◌, ◌∙◌, ℕ, List, sym, a
 use Rattle.std.specs.Prelude.{Option, Result, IfOk, IfErr}
 use Rattle.std.proofs.KnownBytes.{Keeps-refl}
 use Rattle.std.proofs.lemmas.Result.{IfOk-weaker, IfErr-weaker}
-use Rattle.fv_base.specs.Input.{ReadsWhole, ReadStops}
+use Rattle.fv_base.specs.Words.{ReadsWhole, ReadStops}
 use Rattle.fv_base.specs.declared.fault.Fault.{Fault}
 use Rattle.fv_base.specs.declared.fault.FaultKind.TheVariants as kinds
-use Rattle.fv_tree.specs.Denotes.{Accepted}
-use Rattle.fv_tree.specs.Meaning.{Meaning}
-use Rattle.fv_compare.specs.CompareRuns.{Compares, ComparisonStops, ReadsVolume, VolumeStops, RunCompares, SideStopsRun}
+use Rattle.fv_tree.specs.Words.{Accepted, Meaning}
+use Rattle.fv_compare.specs.Words.{Compares, ComparisonStops, ReadsVolume, VolumeStops, RunCompares, SideStopsRun}
 use Rattle.fv_compare.specs.declared.side.Side.{Side}
 use Rattle.fv_compare.specs.declared.side.Side.TheVariants as sides
 

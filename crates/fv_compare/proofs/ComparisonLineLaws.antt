@@ -4,9 +4,9 @@ use Rattle.std.proofs.Common.{◌≡◌, ◌∙◌, ◌≤◌, ◌<◌, ◌+◌,
 use Rattle.std.proofs.Common.{length-append, append_assoc, append-nil}
 use Rattle.std.specs.Prelude.{codes}
 use Rattle.std.proofs.lemmas.List.{take_more, take_all}
+use Rattle.fv_compare.specs.Words.{path_text, step_text}
 use Rattle.fv_compare.specs.declared.difference.Step.{Step}
-use Rattle.fv_compare.specs.ComparisonLines.{path_text, step_text}
-use Rattle.fv_text.specs.HexText.{line_feed}
+use Rattle.fv_text.specs.Words.{line_feed}
 
 -- a step is short, since its number is
 pub short_step : (what number : List ℕ) → length what ≤ 8 → length number ≤ 20 → length (what ++ (number ++ codes " ")) ≤ 29

@@ -14,19 +14,17 @@ use Rattle.std.specs.Str.{bytes_eq}
 use Rattle.fv_base.proofs.Laws.{and_split}
 use Rattle.std.proofs.lemmas.Bool.Decides.{Decides-eqb}
 use Rattle.std.proofs.lemmas.Slice.Eq.{bytes_eq-Decides}
-use Rattle.fv_base.specs.Guids.{bytes_of}
-use Rattle.fv_base.specs.declared.guid.Guid.{Guid}
+use Rattle.fv_base.specs.Words.{bytes_of}
 use Rattle.fv_base.specs.declared.flash.FileSystem.{FileSystem}
+use Rattle.fv_base.specs.declared.guid.Guid.{Guid}
 use Rattle.fv_base.specs.declared.flash.FileSystem.TheVariants.{Ffs2, Ffs3}
-use Rattle.fv_head.specs.Ext.{Extension}
-use Rattle.fv_head.specs.Head.{HeadFields}
-use Rattle.fv_compare.specs.Difference.{is_ffs3, Differs, unless_one, under, blocks_eq, entries_eq, ext_eq}
-use Rattle.fv_compare.specs.Difference.{head_differs, difference, files_differ, file_differs, content_differs}
-use Rattle.fv_compare.specs.Difference.{sections_differ, section_differs, body_differs}
-use Rattle.fv_tree.specs.Meaning.{Meaning, Volume, FileMeanings, NoFiles, MoreFiles, FileMeaning, File, ContentMeaning, Plain, Sectioned}
-use Rattle.fv_tree.specs.Meaning.{SectionMeanings, NoSections, MoreSections, SectionMeaning, Section, BodyMeaning, Leaf, Group, Nested}
+use Rattle.fv_head.specs.Words.{Extension, HeadFields}
+use Rattle.fv_compare.specs.Words.{is_ffs3, Differs, unless_one, under, blocks_eq, entries_eq, ext_eq, head_differs, difference}
+use Rattle.fv_compare.specs.Words.{files_differ, file_differs, content_differs, sections_differ, section_differs, body_differs}
 use Rattle.fv_compare.specs.declared.difference.Step.{Step}
 use Rattle.fv_compare.specs.declared.difference.Word.{Word}
+use Rattle.fv_tree.specs.Words.{Meaning, Volume, FileMeanings, NoFiles, MoreFiles, FileMeaning, File, ContentMeaning, Plain, Sectioned}
+use Rattle.fv_tree.specs.Words.{SectionMeanings, NoSections, MoreSections, SectionMeaning, Section, BodyMeaning, Leaf, Group, Nested}
 
 both_none : (a b : Differs) → option_or a b ≡ None → (a ≡ None) × (b ≡ None)
 both_none None b e = (refl, e)

@@ -5,15 +5,13 @@ use Rattle.std.proofs.Common.{Bool, true, false, Option, Some, None}
 use Rattle.std.specs.Prelude.{◌==◌, ◌&&◌}
 use Rattle.std.specs.Option.{option_or}
 use Rattle.std.specs.Str.{bytes_eq}
-use Rattle.fv_head.specs.Head.{HeadFields}
-use Rattle.fv_compare.specs.Difference.{Differs, has_steps, differ_in, entries_eq}
-use Rattle.fv_compare.specs.inner.FoundDifferences.{in_word, outermost_first}
-use Rattle.fv_compare.specs.Difference.{head_differs, difference, files_differ, sections_differ}
+use Rattle.fv_head.specs.Words.{HeadFields}
+use Rattle.fv_compare.specs.Words.{Differs, has_steps, differ_in, entries_eq, head_differs, difference, files_differ, sections_differ}
 use Rattle.fv_compare.specs.declared.difference.Step.{Step}
 use Rattle.fv_compare.specs.declared.difference.Word.{Word}
+use Rattle.fv_compare.specs.inner.FoundDifferences.{in_word, outermost_first}
 use Rattle.fv_compare.specs.declared.difference.Word.TheVariants as words
-use Rattle.fv_tree.specs.Meaning.{Meaning, Volume, FileMeaning, SectionMeaning, head_of}
-use Rattle.fv_tree.specs.MeaningParts.{files_from, sections_from}
+use Rattle.fv_tree.specs.Words.{Meaning, Volume, FileMeaning, SectionMeaning, head_of, files_from, sections_from}
 use Rattle.fv_compare.proofs.DifferenceLaws.{no_difference}
 
 -- ---- the first of two

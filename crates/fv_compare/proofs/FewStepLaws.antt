@@ -8,18 +8,16 @@ use Rattle.std.specs.Prelude.{◌==◌, Some, None, IfSome}
 use Rattle.std.specs.Option.{option_or}
 use Rattle.std.specs.Bool.{beq}
 use Rattle.std.specs.Str.{bytes_eq}
-use Rattle.fv_base.specs.Guids.{bytes_of}
-use Rattle.fv_head.specs.Head.{HeadFields}
-use Rattle.fv_tree.specs.Denotes.{IsMeaning}
-use Rattle.fv_compare.specs.Difference.{Differs, unless_one, under, head_differs, difference, files_differ}
-use Rattle.fv_compare.specs.Difference.{file_differs, content_differs, sections_differ, section_differs, body_differs}
-use Rattle.fv_tree.specs.Meaning.{Meaning, Volume, FileMeanings, NoFiles, MoreFiles, FileMeaning, File, content_of, ContentMeaning}
-use Rattle.fv_tree.specs.Meaning.{Plain, Sectioned, SectionMeanings, NoSections, MoreSections, SectionMeaning, Section}
-use Rattle.fv_tree.specs.MeaningParts.{body_of}
-use Rattle.fv_tree.specs.Meaning.{BodyMeaning, Leaf, Group, Nested}
+use Rattle.fv_base.specs.Words.{bytes_of}
+use Rattle.fv_head.specs.Words.{HeadFields}
+use Rattle.fv_tree.specs.Words.{IsMeaning, Meaning, Volume, FileMeanings, NoFiles, MoreFiles, FileMeaning, File, content_of, ContentMeaning}
+use Rattle.fv_tree.specs.Words.{Plain, Sectioned, SectionMeanings, NoSections, MoreSections, SectionMeaning, Section, body_of, BodyMeaning}
+use Rattle.fv_tree.specs.Words.{Leaf, Group, Nested}
+use Rattle.fv_compare.specs.Words.{Differs, unless_one, under, head_differs, difference, files_differ, file_differs, content_differs}
+use Rattle.fv_compare.specs.Words.{sections_differ, section_differs, body_differs}
 use Rattle.fv_compare.specs.declared.difference.Step.{Step}
-use Rattle.fv_compare.specs.declared.difference.Step.TheVariants as steps
 use Rattle.fv_compare.specs.declared.difference.Word.{Word}
+use Rattle.fv_compare.specs.declared.difference.Step.TheVariants as steps
 use Rattle.fv_compare.specs.declared.difference.Word.TheVariants as words
 use Rattle.fv_tree.specs.inner.NestingDepths.{NestsVolume, NestsFiles, NestsContent, NestsSections, NestsBody}
 use Rattle.fv_tree.proofs.Laws.{nests_files, nests_content, nests_sections, nests_body, nests_group, nests_nested}

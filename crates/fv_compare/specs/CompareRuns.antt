@@ -1,12 +1,9 @@
 -- What a run that compares two volumes, or two inputs, reads and writes, and what stops it.
 use Rattle.std.specs.Prelude.{ℕ, ◌≡◌, List, Option, ◌⊎◌, ◌≢◌, ◌↔◌, Bool, true}
 use Rattle.std.specs.Io.KnownBytes.{Appends, Keeps}
-use Rattle.fv_base.specs.Faults.{out_of_memory}
-use Rattle.fv_base.specs.Input.{ReadsWhole, ReadStops, WriteStops}
+use Rattle.fv_base.specs.Words.{out_of_memory, ReadsWhole, ReadStops, WriteStops}
 use Rattle.fv_base.specs.declared.fault.Fault.{Fault}
-use Rattle.fv_tree.specs.Denotes.{Accepted}
-use Rattle.fv_tree.specs.InputFaults.{MemoryRanOut, NotRead}
-use Rattle.fv_tree.specs.Meaning.{Meaning}
+use Rattle.fv_tree.specs.Words.{Accepted, MemoryRanOut, NotRead, Meaning}
 use Rattle.fv_compare.specs.ComparisonLines.{compare_line}
 use Rattle.fv_compare.specs.Difference.{difference}
 use Rattle.fv_compare.specs.declared.side.Side.{Side}

@@ -1,6 +1,6 @@
 -- The line of a comparison.
 use Rattle.std.specs.Prelude.{List, [], ◌∷◌, ◌++◌, ℕ, codes, decimal, Some, None}
-use Rattle.fv_text.specs.HexText.{line_feed}
+use Rattle.fv_text.specs.Words.{line_feed}
 use Rattle.fv_compare.specs.Difference.{Differs}
 use Rattle.fv_compare.specs.declared.difference.Step.{Step}
 use Rattle.fv_compare.specs.declared.difference.Step.TheVariants as steps

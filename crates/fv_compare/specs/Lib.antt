@@ -2,4 +2,5 @@
 pub mod Difference
 pub mod ComparisonLines
 pub mod CompareRuns
+pub mod Words
 pub mod inner

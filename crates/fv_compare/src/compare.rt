@@ -2,12 +2,10 @@
 
 ghost use Rattle.std.specs.Prelude.{◌≡◌, ◌≢◌, ◌↔◌, ◌≤◌, length, true, false};
 ghost use Rattle.std.specs.Prelude.{IfOk, IfErr, OnOk, OnErr};
-ghost use Rattle.fv_base.specs.Faults.{out_of_memory};
-ghost use Rattle.fv_base.specs.Input.{ReadsWhole, ReadStops};
-ghost use Rattle.fv_base.specs.Port.{inner_of, has_erred};
+ghost use Rattle.fv_base.specs.Words.{out_of_memory, ReadsWhole, ReadStops, inner_of, has_erred};
 ghost use Rattle.fv_compare.specs.CompareRuns.{Compares, ComparisonStops, RunCompares, SideStopsRun, VolumeStops};
 ghost use Rattle.fv_compare.specs.ComparisonLines.{compare_line};
-ghost use Rattle.fv_tree.specs.Denotes.{Accepted};
+ghost use Rattle.fv_tree.specs.Words.{Accepted};
 ghost use Rattle.fv_compare.specs.Difference.{difference};
 
 use crate::comparison_line::put_line;

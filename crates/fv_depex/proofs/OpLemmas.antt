@@ -8,20 +8,18 @@ use Rattle.std.proofs.Common.{length-append, length-drop}
 use Rattle.std.specs.Prelude.{◌||◌, not, nat_le, slice_index, None, if◌then◌else◌}
 use Rattle.std.proofs.lemmas.Bool.{leb-true, le-leb}
 use Rattle.std.proofs.lemmas.List.{take-append-drop, length-take-le}
-use Rattle.fv_base.specs.Checks.{AllHold}
-use Rattle.fv_base.specs.inner.Verdicts.{first_fault}
-use Rattle.fv_base.specs.Guids.{bytes_of}
-use Rattle.fv_base.specs.Value.{field}
+use Rattle.fv_base.specs.Words.{AllHold, bytes_of, field}
 use Rattle.fv_base.specs.declared.guid.Guid.{Guid}
+use Rattle.fv_base.specs.inner.Verdicts.{first_fault}
 use Rattle.fv_base.proofs.Laws.{all_hold, and_split, same_cut}
-use Rattle.fv_depex.specs.OpChecks.{OpFits, BeginsOp, has_operand, holds_values, in_place, has_code, op_checks}
-use Rattle.fv_depex.specs.Expressions.{carries, op_code, operand_len, op_operand, IsSized}
-use Rattle.fv_depex.specs.inner.Ops.{op_by, op_in}
+use Rattle.fv_depex.specs.Words.{OpFits, BeginsOp, has_operand, holds_values, in_place, has_code, op_checks, carries, op_code, operand_len}
+use Rattle.fv_depex.specs.Words.{op_operand, IsSized}
 use Rattle.fv_depex.specs.declared.op.Op.{Op}
-use Rattle.fv_depex.specs.declared.op.Op.TheVariants as ops
 use Rattle.fv_depex.specs.declared.op.Phase.{Phase}
-use Rattle.fv_depex.specs.declared.op.Phase.TheVariants.{Pei, Dxe}
 use Rattle.fv_depex.specs.declared.op_stage.Stage.{Stage}
+use Rattle.fv_depex.specs.inner.Ops.{op_by, op_in}
+use Rattle.fv_depex.specs.declared.op.Op.TheVariants as ops
+use Rattle.fv_depex.specs.declared.op.Phase.TheVariants.{Pei, Dxe}
 
 -- ---- an op by its code
 

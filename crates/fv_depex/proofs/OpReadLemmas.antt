@@ -11,17 +11,17 @@ use Rattle.std.specs.Prelude.{◌⊎◌}
 use Rattle.std.specs.List.{AllByRecursion}
 use Rattle.std.proofs.lemmas.List.{length-take-le, take-append-drop, take_at}
 use Rattle.std.proofs.Math.Seq.{take-add}
-use Rattle.fv_base.specs.Checks.{IsFirstFault}
+use Rattle.fv_base.specs.Words.{IsFirstFault}
 use Rattle.fv_base.proofs.Laws.{first_among, none_faulty, not_first}
-use Rattle.fv_depex.specs.OpChecks.{BeginsFirstOp, OpFits, IsFirstOpFault, BeginsOp, OpPath, op_checks, stage_after, values_of}
-use Rattle.fv_depex.specs.Expressions.{Expression, IsTree, IsOrder, IsSized, Spells, carries, op_code, operand_len, op_operand, ops_bytes}
+use Rattle.fv_depex.specs.Words.{BeginsFirstOp, OpFits, IsFirstOpFault, BeginsOp, OpPath, op_checks, stage_after, values_of, Expression}
+use Rattle.fv_depex.specs.Words.{IsTree, IsOrder, IsSized, Spells, carries, op_code, operand_len, op_operand, ops_bytes}
 use Rattle.fv_depex.specs.declared.fault.DepexFault.{DepexFault}
 use Rattle.fv_depex.specs.declared.fault.DepexFaultKind.{DepexFaultKind}
-use Rattle.fv_depex.specs.declared.fault.DepexFaultKind.TheVariants as kinds
 use Rattle.fv_depex.specs.declared.op.Op.{Op}
-use Rattle.fv_depex.specs.declared.op.Op.TheVariants as ops
 use Rattle.fv_depex.specs.declared.op.Phase.{Phase}
 use Rattle.fv_depex.specs.declared.op_stage.Stage.{Stage}
+use Rattle.fv_depex.specs.declared.fault.DepexFaultKind.TheVariants as kinds
+use Rattle.fv_depex.specs.declared.op.Op.TheVariants as ops
 use Rattle.fv_depex.specs.declared.op_stage.Stage.TheVariants as stages
 use Rattle.fv_depex.proofs.OpLemmas.{checks_hold, each_op, end_code}
 use Rattle.fv_depex.proofs.PathLemmas.{LeavesStage, all_join, bytes_join, ended_bytes, leaves_more, leaves_whole, path_more, path_sized}

@@ -12,14 +12,14 @@ use Rattle.std.specs.List.{AllByRecursion}
 use Rattle.std.proofs.lemmas.Bool.{leb-true, le-leb, eqb-true}
 use Rattle.fv_base.specs.declared.guid.Guid.{Guid}
 use Rattle.fv_base.proofs.Laws.{and_split}
-use Rattle.fv_depex.specs.OpChecks.{OpFits, OpPath, has_values, has_code, stage_after, values_after, values_of}
-use Rattle.fv_depex.specs.Expressions.{Expression, always, never, installed, negated, both, either, IsTree, IsOrder, Spells, op_code}
-use Rattle.fv_depex.specs.Expressions.{op_operand, ops_bytes, postfix, IsSized}
+use Rattle.fv_depex.specs.Words.{OpFits, OpPath, has_values, has_code, stage_after, values_after, values_of, Expression, IsTree, IsOrder}
+use Rattle.fv_depex.specs.Words.{Spells, op_code, op_operand, ops_bytes, postfix, IsSized}
 use Rattle.fv_depex.specs.declared.op.Op.{Op}
-use Rattle.fv_depex.specs.declared.op.Op.TheVariants as ops
 use Rattle.fv_depex.specs.declared.op.Phase.{Phase}
-use Rattle.fv_depex.specs.declared.op.Phase.TheVariants.{Pei, Dxe}
 use Rattle.fv_depex.specs.declared.op_stage.Stage.{Stage}
+use Rattle.fv_depex.specs.Expressions.{always, never, installed, negated, both, either}
+use Rattle.fv_depex.specs.declared.op.Op.TheVariants as ops
+use Rattle.fv_depex.specs.declared.op.Phase.TheVariants.{Pei, Dxe}
 use Rattle.fv_depex.specs.declared.op_stage.Stage.TheVariants as stages
 use Rattle.fv_depex.proofs.OpLemmas.{each_op, end_code, same_op}
 

@@ -9,11 +9,12 @@ use Rattle.std.specs.Prelude.{Option, None, Some, Result, Ok, Err, IfOk}
 use Rattle.std.proofs.lemmas.List.{drop_all}
 use Rattle.fv_base.specs.declared.guid.Guid.{Guid}
 use Rattle.fv_depex.specs.inner.Ops.{evaluate_ops, evaluate_op, top}
-use Rattle.fv_depex.specs.Expressions.{Expression, always, never, installed, negated, both, either, IsTree, IsOrder, postfix, truth}
+use Rattle.fv_depex.specs.Words.{Expression, IsTree, IsOrder, postfix, truth}
 use Rattle.fv_depex.specs.declared.fault.DepexFault.{DepexFault}
 use Rattle.fv_depex.specs.declared.op.Op.{Op}
-use Rattle.fv_depex.specs.declared.op.Op.TheVariants as ops
 use Rattle.fv_depex.specs.declared.op.Phase.{Phase}
+use Rattle.fv_depex.specs.Expressions.{always, never, installed, negated, both, either}
+use Rattle.fv_depex.specs.declared.op.Op.TheVariants as ops
 
 -- the ops of two trees and an op, before others
 two_before : (t u : Expression) (o : Op) (os : List Op)

@@ -1,7 +1,7 @@
 -- The checks of an op in a fixed order, and the first fault of an expression.
 use Rattle.std.specs.Prelude.{◌≡◌, ◌≢◌, ℕ, ◌+◌, ◌-◌, ◌==◌, nat_le, ◌&&◌, ◌||◌, not, Bool, true, if◌then◌else◌, List, []}
 use Rattle.std.specs.Prelude.{◌∷◌, ◌++◌, length, slice_index}
-use Rattle.fv_base.specs.Checks.{Check, IsFirstFault}
+use Rattle.fv_base.specs.Words.{Check, IsFirstFault}
 use Rattle.fv_depex.specs.declared.fault.DepexFault.{DepexFault}
 use Rattle.fv_depex.specs.declared.fault.DepexFaultKind.{DepexFaultKind}
 use Rattle.fv_depex.specs.declared.fault.DepexFaultKind.TheVariants as kinds

@@ -1,7 +1,7 @@
 //! Expressions, read.
 
 ghost use Rattle.std.specs.Prelude.{◌≡◌, ◌≢◌, ◌≤◌, ◌+◌, ℕ, List, length, drop, true, None, Some, OnOk, IfOk, IfErr, IfSome};
-ghost use Rattle.fv_base.specs.Checks.{IsFirstFault};
+ghost use Rattle.fv_base.specs.Words.{IsFirstFault};
 ghost use Rattle.fv_base.specs.inner.Verdicts.{first_fault};
 ghost use Rattle.fv_depex.specs.OpChecks.{BeginsFirstOp, IsFirstOpFault, BeginsOp, has_code, in_place, has_values};
 ghost use Rattle.fv_depex.specs.OpChecks.{holds_values, has_operand, op_checks, depex_out_of_memory};

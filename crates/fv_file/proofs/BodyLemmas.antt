@@ -9,17 +9,14 @@ use Rattle.std.proofs.Common.{true, false, length-drop, length-append}
 use Rattle.std.specs.Prelude.{Ok, Err}
 use Rattle.std.proofs.lemmas.List.{take-append-drop, length-take-le, map_push, take_all}
 use Rattle.std.proofs.Math.Seq.{take-add}
-use Rattle.fv_base.specs.Checks.{Which}
-use Rattle.fv_base.specs.Flash.{AllAre, erased_byte}
-use Rattle.fv_base.specs.Measures.{all_are}
+use Rattle.fv_base.specs.Words.{Which, AllAre, erased_byte, all_are}
 use Rattle.fv_base.specs.declared.fault.Fault.{Fault}
 use Rattle.fv_base.specs.declared.flash.FileSystem.{FileSystem}
 use Rattle.fv_base.specs.declared.flash.Polarity.{Polarity}
-use Rattle.fv_file.specs.Cells.{CellForm, Free, offset_of, IsCell, Tiles}
-use Rattle.fv_file.specs.CellForms.{cell_len, CellsWithin, cell_form}
-use Rattle.fv_file.specs.FileChecks.{NoneFree, CellFault, IsFirstCellFault}
-use Rattle.fv_file.specs.inner.CellVerdicts.{cell_verdict}
+use Rattle.fv_file.specs.Words.{CellForm, Free, offset_of, IsCell, Tiles, cell_len, CellsWithin, cell_form, NoneFree, CellFault}
+use Rattle.fv_file.specs.Words.{IsFirstCellFault}
 use Rattle.fv_file.specs.declared.cell.Cell.{Cell}
+use Rattle.fv_file.specs.inner.CellVerdicts.{cell_verdict}
 use Rattle.fv_base.proofs.Laws.{all_are-true}
 use Rattle.fv_file.proofs.CellFoundLemmas.{CellStandsAt}
 use Rattle.fv_file.proofs.CellPartLemmas.{cell_span, made_up, not_empty}

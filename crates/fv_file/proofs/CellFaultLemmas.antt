@@ -5,14 +5,12 @@ use Rattle.std.specs.List.{AllByRecursion}
 use Rattle.std.proofs.lemmas.List.{length-drop}
 use Rattle.std.proofs.lemmas.Bool.{leb-true}
 use Rattle.fv_base.proofs.Laws.{and_split, first_among}
-use Rattle.fv_base.specs.Checks.{Check, check, IsFirstFault}
-use Rattle.fv_base.specs.Flash.{erased_byte}
+use Rattle.fv_base.specs.Words.{Check, check, IsFirstFault, erased_byte}
 use Rattle.fv_base.specs.declared.fault.Fault.{Fault}
-use Rattle.fv_base.specs.declared.fault.FaultKind.TheVariants as kinds
 use Rattle.fv_base.specs.declared.flash.FileSystem.{FileSystem}
 use Rattle.fv_base.specs.declared.flash.Polarity.{Polarity}
-use Rattle.fv_file.specs.FileChecks.{IsFirstCellFault, cell_checks, file_checks, leading_count, state_checks}
-use Rattle.fv_file.specs.States.{bits_of, state_of}
+use Rattle.fv_base.specs.declared.fault.FaultKind.TheVariants as kinds
+use Rattle.fv_file.specs.Words.{IsFirstCellFault, cell_checks, file_checks, leading_count, state_checks, bits_of, state_of}
 use Rattle.fv_file.specs.declared.state.FileState.{FileState}
 use Rattle.fv_file.specs.declared.state.FileState.TheVariants as states
 

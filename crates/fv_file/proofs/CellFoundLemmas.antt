@@ -6,22 +6,18 @@ use Rattle.std.specs.Prelude.{◌==◌, ◌⊎◌, not, nat_le, slice_index, Opt
 use Rattle.std.proofs.lemmas.Bool.{leb-true, eqb-true, eq-eqb}
 use Rattle.std.proofs.lemmas.List.{length-take-le, get_or-take}
 use Rattle.std.proofs.Math.Seq.{take-add}
-use Rattle.fv_base.specs.Checks.{AllHold, Check}
-use Rattle.fv_base.specs.Value.{up_to_8}
-use Rattle.fv_base.specs.inner.Verdicts.{first_fault}
+use Rattle.fv_base.specs.Words.{AllHold, Check, up_to_8}
 use Rattle.fv_base.specs.declared.fault.Fault.{Fault}
 use Rattle.fv_base.specs.declared.flash.FileSystem.{FileSystem}
 use Rattle.fv_base.specs.declared.flash.Polarity.{Polarity}
+use Rattle.fv_base.specs.inner.Verdicts.{first_fault}
 use Rattle.fv_base.proofs.Laws.{all_hold, and_split}
-use Rattle.fv_file.specs.Cells.{CellForm, Valid, Pad, Dead, Stub, offset_of, is_free, IsFilled, IsCell}
-use Rattle.fv_file.specs.CellForms.{cell_len}
-use Rattle.fv_file.specs.FileAttributes.{is_large}
-use Rattle.fv_file.specs.FileChecks.{file_header_len_at, file_size_at, payload_at, state_checks, cell_checks}
-use Rattle.fv_file.specs.FileHeaders.{attributes_at, file_header_len, head_in, pad_kind}
+use Rattle.fv_file.specs.Words.{CellForm, Valid, Pad, Dead, Stub, offset_of, is_free, IsFilled, IsCell, cell_len, is_large}
+use Rattle.fv_file.specs.Words.{file_header_len_at, file_size_at, payload_at, state_checks, cell_checks, attributes_at, file_header_len}
+use Rattle.fv_file.specs.Words.{head_in, pad_kind, StateOf, bits_of, state_of, is_alive}
+use Rattle.fv_file.specs.declared.state.FileState.{FileState}
 use Rattle.fv_file.specs.inner.CellVerdicts.{cell_in, cell_of, StateSort, sort_of, sort_checks}
 use Rattle.fv_file.specs.inner.CellVerdicts as sorts
-use Rattle.fv_file.specs.States.{StateOf, bits_of, state_of, is_alive}
-use Rattle.fv_file.specs.declared.state.FileState.{FileState}
 use Rattle.fv_file.specs.declared.state.FileState.TheVariants as states
 use Rattle.fv_file.proofs.FileLemmas.{header_least, FileAt, file_at}
 use Rattle.fv_file.proofs.SortLemmas.{StatesOf, sorted}

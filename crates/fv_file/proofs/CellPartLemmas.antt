@@ -2,13 +2,10 @@
 use Rattle.std.proofs.lemmas.Grind.{common_steps}
 use Rattle.std.proofs.Common.{◌≡◌, ◌≤◌, ◌<◌, ◌+◌, ◌*◌, ◌/◌, ◌%◌, ℕ, List, length, sym, ap, ◌∙◌, arith, true, length-append}
 use Rattle.std.specs.Prelude.{slice_index}
-use Rattle.fv_base.specs.Flash.{AllAre, erased_byte}
-use Rattle.fv_base.specs.Value.{up_to_8}
+use Rattle.fv_base.specs.Words.{AllAre, erased_byte, up_to_8}
 use Rattle.fv_base.specs.declared.flash.FileSystem.{FileSystem}
 use Rattle.fv_base.specs.declared.flash.Polarity.{Polarity}
-use Rattle.fv_file.specs.Cells.{CellForm, Valid, Pad, Dead, Stub, Free, offset_of, is_free, IsFilled, IsCell}
-use Rattle.fv_file.specs.CellForms.{cell_len, IsMadeUp}
-use Rattle.fv_file.specs.FileAttributes.{is_large}
+use Rattle.fv_file.specs.Words.{CellForm, Valid, Pad, Dead, Stub, Free, offset_of, is_free, IsFilled, IsCell, cell_len, IsMadeUp, is_large}
 use Rattle.fv_file.specs.declared.head.FileHead.{FileHead}
 use Rattle.fv_file.proofs.FileLemmas.{header_least}
 use Rattle.fv_file.proofs.TilingLemmas.{NotEmpty}

@@ -5,21 +5,19 @@ use Rattle.std.proofs.Common.{length-append, append_assoc}
 use Rattle.std.specs.Prelude.{◌==◌, ◌⊎◌, ◌≢◌, slice_index, Option, None, Some}
 use Rattle.std.proofs.lemmas.Bool.{le-leb, eq-eqb}
 use Rattle.std.proofs.Math.ListN.{get_or-append}
-use Rattle.fv_base.specs.Checks.{AllHold, Check}
-use Rattle.fv_base.specs.inner.Verdicts.{first_fault}
+use Rattle.fv_base.specs.Words.{AllHold, Check}
 use Rattle.fv_base.specs.declared.fault.Fault.{Fault}
 use Rattle.fv_base.specs.declared.flash.FileSystem.{FileSystem}
 use Rattle.fv_base.specs.declared.flash.Polarity.{Polarity}
+use Rattle.fv_base.specs.inner.Verdicts.{first_fault}
 use Rattle.fv_base.proofs.Laws.{and_join, if_false, if_true, none_faulty, not_equal}
-use Rattle.fv_file.specs.Cells.{CellForm, Valid, Pad, Dead, Stub, Free, offset_of, is_free, IsFilled, IsCell}
-use Rattle.fv_file.specs.FileAttributes.{is_large}
-use Rattle.fv_file.specs.FileChecks.{file_header_len_at, payload_at, file_checks, state_checks, cell_checks}
-use Rattle.fv_file.specs.FileHeaders.{file_header_len, head_in, pad_kind}
-use Rattle.fv_file.specs.inner.CellVerdicts.{cell_in, cell_of, StateSort, sort_of, sort_checks}
-use Rattle.fv_file.specs.inner.CellVerdicts as sorts
-use Rattle.fv_file.specs.States.{StateOf, bits_of, state_of, is_alive}
+use Rattle.fv_file.specs.Words.{CellForm, Valid, Pad, Dead, Stub, Free, offset_of, is_free, IsFilled, IsCell, is_large, file_header_len_at}
+use Rattle.fv_file.specs.Words.{payload_at, file_checks, state_checks, cell_checks, file_header_len, head_in, pad_kind, StateOf, bits_of}
+use Rattle.fv_file.specs.Words.{state_of, is_alive}
 use Rattle.fv_file.specs.declared.head.FileHead.{FileHead}
 use Rattle.fv_file.specs.declared.state.FileState.{FileState}
+use Rattle.fv_file.specs.inner.CellVerdicts.{cell_in, cell_of, StateSort, sort_of, sort_checks}
+use Rattle.fv_file.specs.inner.CellVerdicts as sorts
 use Rattle.fv_file.specs.declared.state.FileState.TheVariants as states
 use Rattle.fv_file.proofs.CellPartLemmas.{filled_span}
 use Rattle.fv_file.proofs.FileLemmas.{header_least, HasContent, file_reads}

@@ -7,22 +7,18 @@ use Rattle.std.proofs.Common.{subst, arith, Bool, true, false, length-append, ap
 use Rattle.std.specs.Prelude.{◌==◌, ◌≢◌, nat_lt, slice_index, Option, None, Some, Ok, Err}
 use Rattle.std.proofs.lemmas.Bool.{leb-true, le-leb, ltb-true, ltb-false, eqb-true, eq-eqb}
 use Rattle.fv_base.specs.inner.Verdicts.{first_fault, verdict_by}
-use Rattle.fv_base.specs.Checks.{Check, IsFirstFault, Which, Fails}
-use Rattle.fv_base.specs.Flash.{AllAre, erased_byte}
+use Rattle.fv_base.specs.Words.{Check, IsFirstFault, Which, Fails, AllAre, erased_byte}
 use Rattle.fv_base.specs.declared.fault.Fault.{Fault}
 use Rattle.fv_base.specs.declared.flash.FileSystem.{FileSystem}
 use Rattle.fv_base.specs.declared.flash.Polarity.{Polarity}
 use Rattle.fv_base.specs.declared.flash.Polarity.TheVariants.{Ones, Zeros}
 use Rattle.fv_base.proofs.Laws.{all_hold, and_split, first_is, none_fails, not_at_most, verdict_err, verdict_ok}
-use Rattle.fv_file.specs.Cells.{CellForm, Free, offset_of, is_free, IsCell}
-use Rattle.fv_file.specs.CellForms.{cell_len}
-use Rattle.fv_file.specs.FileChecks.{payload_at, file_checks, state_checks, cell_checks}
-use Rattle.fv_file.specs.FileHeaders.{head_in}
+use Rattle.fv_file.specs.Words.{CellForm, Free, offset_of, is_free, IsCell, cell_len, payload_at, file_checks, state_checks, cell_checks}
+use Rattle.fv_file.specs.Words.{head_in, bits_of, state_of, is_alive}
+use Rattle.fv_file.specs.declared.state.FileState.{FileState}
 use Rattle.fv_file.specs.inner.CellVerdicts.{file_verdict, cell_in, cell_of, cell_with, sort_verdict, state_verdict}
 use Rattle.fv_file.specs.inner.CellVerdicts.{cell_verdict, StateSort, sort_of, sort_checks}
 use Rattle.fv_file.specs.inner.CellVerdicts as sorts
-use Rattle.fv_file.specs.States.{bits_of, state_of, is_alive}
-use Rattle.fv_file.specs.declared.state.FileState.{FileState}
 use Rattle.fv_file.specs.declared.state.FileState.TheVariants as states
 use Rattle.fv_file.proofs.CellFoundLemmas.{CellStandsAt, cell_stands}
 use Rattle.fv_file.proofs.CellPartLemmas.{cell_span, free_all}

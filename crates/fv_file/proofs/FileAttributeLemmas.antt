@@ -7,10 +7,9 @@ use Rattle.std.specs.Int.{bit_at}
 use Rattle.std.proofs.lemmas.Bool.Decides.{nat_tests}
 use Rattle.std.proofs.lemmas.Nat.{and_mask, or_disjoint}
 use Rattle.std.proofs.lemmas.Nat.Bits.{and_pow, bit_at-lt}
-use Rattle.fv_base.specs.Alignment.{alignments, alignment_of}
+use Rattle.fv_base.specs.Words.{alignments, alignment_of}
 use Rattle.fv_base.proofs.Laws.{one_bit}
-use Rattle.fv_file.specs.FileAttributes.{is_large, is_fixed, is_summed, without_large}
-use Rattle.fv_file.specs.NewHeaders.{with_large}
+use Rattle.fv_file.specs.Words.{is_large, is_fixed, is_summed, without_large, with_large}
 
 -- ---- single bits
 

@@ -7,17 +7,14 @@ use Rattle.std.proofs.lemmas.Bool.{leb-true, le-leb, eqb-true, eqb-false, eq-eqb
 use Rattle.std.proofs.lemmas.List.{take-append-drop, take_at, drop_at, take-append-le, length-take-le, get_or-take}
 use Rattle.std.proofs.Math.ListN.{get_or-append}
 use Rattle.std.proofs.Math.Seq.{take-add}
-use Rattle.fv_base.specs.Checks.{AllHold}
-use Rattle.fv_base.specs.Value.{le, le_at}
+use Rattle.fv_base.specs.Words.{AllHold, le, le_at}
 use Rattle.fv_base.specs.declared.flash.FileSystem.{FileSystem}
-use Rattle.fv_base.specs.declared.flash.FileSystem.TheVariants.{Ffs2, Ffs3}
 use Rattle.fv_base.specs.declared.flash.Polarity.{Polarity}
+use Rattle.fv_base.specs.declared.flash.FileSystem.TheVariants.{Ffs2, Ffs3}
 use Rattle.fv_base.proofs.Laws.{and_join, and_split, field-append_front, field-take, or_parts}
-use Rattle.fv_file.specs.FileAttributes.{attribute_bits, is_large, is_fixed}
-use Rattle.fv_file.specs.FileChecks.{allows_large, file_checks, file_header_len_at, file_size_at, has_file_size, has_file_sum, payload_at, skips_data}
-use Rattle.fv_file.specs.FileHeaders.{attributes_at, file_header_len, file_size_in, file_sum_right, head_in, header_sum_of, pad_kind}
-use Rattle.fv_file.specs.FileHeaders.{IsFile, IsSound}
-use Rattle.fv_file.specs.States.{StateOf, is_alive}
+use Rattle.fv_file.specs.Words.{attribute_bits, is_large, is_fixed, allows_large, file_checks, file_header_len_at, file_size_at}
+use Rattle.fv_file.specs.Words.{has_file_size, has_file_sum, payload_at, skips_data, attributes_at, file_header_len, file_size_in}
+use Rattle.fv_file.specs.Words.{file_sum_right, head_in, header_sum_of, pad_kind, IsFile, IsSound, StateOf, is_alive}
 use Rattle.fv_file.specs.declared.head.FileHead.{FileHead}
 use Rattle.fv_file.specs.declared.state.FileState.{FileState}
 

@@ -4,15 +4,12 @@ use Rattle.std.proofs.Common.{◌≡◌, ◌≢◌, ◌≤◌, ◌<◌, ◌+◌,
 use Rattle.std.proofs.Common.{arith, length-append, length-drop, append_assoc}
 use Rattle.std.specs.Prelude.{slice_index}
 use Rattle.std.proofs.lemmas.List.{length-take-le, take_at, drop_at}
-use Rattle.fv_base.specs.Guids.{bytes_of}
-use Rattle.fv_base.specs.Value.{IsBytes}
+use Rattle.fv_base.specs.Words.{bytes_of, IsBytes}
 use Rattle.fv_base.specs.declared.flash.FileSystem.{FileSystem}
-use Rattle.fv_base.specs.declared.flash.FileSystem.TheVariants.{Ffs2, Ffs3}
 use Rattle.fv_base.specs.declared.flash.Polarity.{Polarity}
+use Rattle.fv_base.specs.declared.flash.FileSystem.TheVariants.{Ffs2, Ffs3}
 use Rattle.fv_base.proofs.Laws.{bytes_back, bytes_front, bytes_take, field_below}
-use Rattle.fv_file.specs.Cells.{IsCell, IsFilled, Valid}
-use Rattle.fv_file.specs.FileAttributes.{attribute_bits, is_large, is_fixed}
-use Rattle.fv_file.specs.FileHeaders.{file_header_len, file_size_in, pad_kind}
+use Rattle.fv_file.specs.Words.{IsCell, IsFilled, Valid, attribute_bits, is_large, is_fixed, file_header_len, file_size_in, pad_kind}
 use Rattle.fv_file.specs.declared.head.FileHead.{FileHead}
 use Rattle.fv_file.proofs.FileLemmas.{header_least}
 

@@ -5,19 +5,16 @@ use Rattle.std.specs.Prelude.{◌==◌, ◌⊎◌, nat_le, nat_lt, slice_index, 
 use Rattle.std.proofs.lemmas.Bool.{leb-true, le-leb, ltb-true, ltb-false, eqb-true}
 use Rattle.std.proofs.lemmas.List.{take-append-drop}
 use Rattle.fv_base.specs.inner.Verdicts.{first_fault, verdict_by}
-use Rattle.fv_base.specs.Checks.{AllHold, IsFirstFault, check}
-use Rattle.fv_base.specs.Faults.{outer_fault}
+use Rattle.fv_base.specs.Words.{AllHold, IsFirstFault, check, outer_fault}
 use Rattle.fv_base.specs.declared.fault.Fault.{Fault}
-use Rattle.fv_base.specs.declared.fault.FaultKind.TheVariants as kinds
 use Rattle.fv_base.specs.declared.flash.FileSystem.{FileSystem}
 use Rattle.fv_base.specs.declared.flash.Polarity.{Polarity}
-use Rattle.fv_file.specs.FileChecks.{file_size_at, payload_at, file_checks, is_standing, verify_checks}
-use Rattle.fv_file.specs.FileHeaders.{pad_kind, head_in, IsSound}
-use Rattle.fv_file.specs.HeaderReads.{BeginsFile}
-use Rattle.fv_file.specs.inner.CellVerdicts.{file_verdict, standing_verdict, verify_verdict}
-use Rattle.fv_file.specs.States.{state_of, is_alive}
+use Rattle.fv_base.specs.declared.fault.FaultKind.TheVariants as kinds
+use Rattle.fv_file.specs.Words.{file_size_at, payload_at, file_checks, is_standing, verify_checks, pad_kind, head_in, IsSound, BeginsFile}
+use Rattle.fv_file.specs.Words.{state_of, is_alive}
 use Rattle.fv_file.specs.declared.head.FileHead.{FileHead}
 use Rattle.fv_file.specs.declared.state.FileState.{FileState}
+use Rattle.fv_file.specs.inner.CellVerdicts.{file_verdict, standing_verdict, verify_verdict}
 use Rattle.fv_file.specs.declared.state.FileState.TheVariants as states
 use Rattle.fv_base.proofs.Laws.{all_hold, first_is, none_faulty, not_at_most, not_less, verdict_err, verdict_none, verdict_ok}
 use Rattle.fv_file.proofs.FileLemmas.{FileAt, file_at, file_reads}

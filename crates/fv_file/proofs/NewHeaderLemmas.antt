@@ -17,26 +17,21 @@ use Rattle.std.proofs.lemmas.List.{length-replicate}
 use Rattle.std.proofs.lemmas.List.Sums.{sum_by-append}
 use Rattle.std.proofs.lemmas.Bool.Decides.{nat_tests}
 use Rattle.std.proofs.lemmas.Nat.{shr-shr}
-use Rattle.fv_base.specs.Guids.{bytes_of}
-use Rattle.fv_base.specs.Measures.{data_limit}
-use Rattle.fv_base.specs.Value.{IsBytes, le, le_bytes, field, le_at}
+use Rattle.fv_base.specs.Words.{bytes_of, data_limit, IsBytes, le, le_bytes, field, le_at}
 use Rattle.fv_base.specs.declared.flash.FileSystem.{FileSystem}
-use Rattle.fv_base.specs.declared.flash.FileSystem.TheVariants.{Ffs3}
 use Rattle.fv_base.specs.declared.flash.Polarity.{Polarity}
-use Rattle.fv_base.specs.declared.flash.Polarity.TheVariants.{Ones, Zeros}
 use Rattle.fv_base.specs.declared.guid.Guid.{Guid}
+use Rattle.fv_base.specs.declared.flash.FileSystem.TheVariants.{Ffs3}
+use Rattle.fv_base.specs.declared.flash.Polarity.TheVariants.{Ones, Zeros}
 use Rattle.fv_base.proofs.Laws.{field_is, le-le_bytes}
-use Rattle.fv_file.specs.Cells.{IsFilled}
-use Rattle.fv_file.specs.FileAttributes.{attribute_bits, is_large}
-use Rattle.fv_file.specs.FileHeaders.{file_header_len, head_in, header_sum_of, pad_kind, file_size_in, IsFileHeader}
-use Rattle.fv_file.specs.States.{StateOf, is_alive, state_of}
-use Rattle.fv_file.specs.inner.NewHeaderParts.{file_header, new_header_bytes}
-use Rattle.fv_file.specs.HeaderReads.{IsNewHeader, IsHeadOfFile, IsHeadOfPad, fields_of, file_fields, pad_fields}
-use Rattle.fv_file.specs.NewHeaders.{complement, file_head_of, header_bytes}
-use Rattle.fv_file.specs.NewHeaders.{header_with, needs_large, pad_head_of, state_byte, with_large}
-use Rattle.fv_file.specs.declared.attributes.FileAttributes.{FileAttributes}
+use Rattle.fv_file.specs.Words.{IsFilled, attribute_bits, is_large, file_header_len, head_in, header_sum_of, pad_kind, file_size_in}
+use Rattle.fv_file.specs.Words.{IsFileHeader, StateOf, is_alive, state_of, IsNewHeader, IsHeadOfFile, IsHeadOfPad, fields_of, file_fields}
+use Rattle.fv_file.specs.Words.{pad_fields, complement, file_head_of, header_bytes, header_with, needs_large, pad_head_of, state_byte}
+use Rattle.fv_file.specs.Words.{with_large}
 use Rattle.fv_file.specs.declared.head.FileHead.{FileHead}
+use Rattle.fv_file.specs.declared.attributes.FileAttributes.{FileAttributes}
 use Rattle.fv_file.specs.declared.new_header.NewHeader.{NewHeader}
+use Rattle.fv_file.specs.inner.NewHeaderParts.{file_header, new_header_bytes}
 use Rattle.fv_file.specs.declared.state.FileState.TheVariants as states
 use Rattle.fv_file.proofs.FileAttributeLemmas.{set_large}
 use Rattle.fv_file.proofs.FileLemmas.{header_least}

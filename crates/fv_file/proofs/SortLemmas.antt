@@ -3,10 +3,9 @@
 use Rattle.std.proofs.Common.{◌≡◌, ℕ, List, inl, inr, refl, false, true}
 use Rattle.std.specs.Prelude.{◌⊎◌, Some}
 use Rattle.fv_base.specs.declared.flash.FileSystem.{FileSystem}
-use Rattle.fv_file.specs.FileChecks.{state_checks}
-use Rattle.fv_file.specs.States.{is_alive}
-use Rattle.fv_file.specs.inner.CellVerdicts.{StateSort, Erased, Unfinished, Dead, Valid, is_unfinished, sort_of, sort_checks}
+use Rattle.fv_file.specs.Words.{state_checks, is_alive}
 use Rattle.fv_file.specs.declared.state.FileState.{FileState}
+use Rattle.fv_file.specs.inner.CellVerdicts.{StateSort, Erased, Unfinished, Dead, Valid, is_unfinished, sort_of, sort_checks}
 use Rattle.fv_file.specs.declared.state.FileState.TheVariants as states
 
 abbrev pub StatesOf : StateSort → FileState → Type 0

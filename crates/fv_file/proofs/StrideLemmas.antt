@@ -8,18 +8,14 @@ use Rattle.std.specs.Prelude.{◌==◌, ◌≢◌, ◌⊎◌, not, nat_le, slice
 use Rattle.std.proofs.lemmas.Bool.{leb-true, eq-eqb, eqb-true, eqb-false}
 use Rattle.std.proofs.lemmas.List.{drop_at}
 use Rattle.fv_base.proofs.Laws.{all_hold, and_split}
-use Rattle.fv_base.specs.Flash.{erased_byte}
-use Rattle.fv_base.specs.Value.{up_to_8}
+use Rattle.fv_base.specs.Words.{erased_byte, up_to_8}
 use Rattle.fv_base.specs.declared.flash.FileSystem.{FileSystem}
 use Rattle.fv_base.specs.declared.flash.Polarity.{Polarity}
-use Rattle.fv_file.specs.Cells.{CellForm, Valid, Pad, Dead, Stub, Free, offset_of, is_free, IsFilled, IsCell, Tiles}
-use Rattle.fv_file.specs.FileAttributes.{is_large}
-use Rattle.fv_file.specs.FileChecks.{cell_checks, file_header_len_at, file_size_at}
-use Rattle.fv_file.specs.FileHeaders.{file_header_len}
-use Rattle.fv_file.specs.States.{StateOf, bits_of, state_of}
-use Rattle.fv_file.specs.inner.CellVerdicts.{is_unfinished}
+use Rattle.fv_file.specs.Words.{CellForm, Valid, Pad, Dead, Stub, Free, offset_of, is_free, IsFilled, IsCell, Tiles, is_large, cell_checks}
+use Rattle.fv_file.specs.Words.{file_header_len_at, file_size_at, file_header_len, StateOf, bits_of, state_of}
 use Rattle.fv_file.specs.declared.head.FileHead.{FileHead}
 use Rattle.fv_file.specs.declared.state.FileState.{FileState}
+use Rattle.fv_file.specs.inner.CellVerdicts.{is_unfinished}
 use Rattle.fv_file.specs.declared.state.FileState.TheVariants as states
 use Rattle.fv_file.proofs.CellPartLemmas.{file_made_up, filled_span, made_up, not_empty, free_all}
 use Rattle.fv_file.proofs.CellReadLemmas.{cell_reads}

@@ -4,7 +4,7 @@ use Rattle.fv_file.specs.Cells.{CellForm, Valid, Pad, Dead, Stub, Free, offset_o
 use Rattle.fv_file.specs.declared.cell.Cell.{Cell}
 use Rattle.fv_file.specs.declared.cell.Cell.TheVariants as cells
 use Rattle.std.specs.Prelude.{◌≡◌, ℕ, ◌+◌, ◌≤◌, List, [], ◌∷◌, length}
-use Rattle.fv_base.specs.Value.{up_to_8}
+use Rattle.fv_base.specs.Words.{up_to_8}
 
 -- a cell, with its data as a list
 abbrev pub cell_form : Cell → CellForm

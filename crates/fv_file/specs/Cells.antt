@@ -1,6 +1,6 @@
 -- The cells of a volume's body (PI specification, volume 3, sections 3.2.2 and 3.2.3).
 use Rattle.std.specs.Prelude.{◌≡◌, ℕ, ◌+◌, ◌%◌, ◌<◌, ◌⊎◌, Bool, true, false, List, [], ◌∷◌, ◌++◌, length}
-use Rattle.fv_base.specs.Flash.{AllAre, erased_byte}
+use Rattle.fv_base.specs.Words.{AllAre, erased_byte}
 use Rattle.fv_base.specs.declared.flash.FileSystem.{FileSystem}
 use Rattle.fv_base.specs.declared.flash.Polarity.{Polarity}
 use Rattle.fv_file.specs.FileAttributes.{is_large}

@@ -2,14 +2,12 @@
 use Rattle.std.specs.List.{AllByRecursion}
 use Rattle.std.specs.Prelude.{ℕ, ◌≡◌, ◌+◌, ◌-◌, ◌<◌, ◌==◌, nat_le, ◌&&◌, ◌||◌, not, Bool, true, false, if◌then◌else◌}
 use Rattle.std.specs.Prelude.{Option, Some, None, List, [], ◌∷◌, length, take, drop}
-use Rattle.fv_base.specs.Checks.{Check, check, Which, First, Fails}
-use Rattle.fv_base.specs.Flash.{AllAre, erased_byte}
-use Rattle.fv_base.specs.Value.{le_at}
+use Rattle.fv_base.specs.Words.{Check, check, Which, First, Fails, AllAre, erased_byte, le_at}
 use Rattle.fv_base.specs.declared.fault.Fault.{Fault}
-use Rattle.fv_base.specs.declared.fault.FaultKind.TheVariants as kinds
 use Rattle.fv_base.specs.declared.flash.FileSystem.{FileSystem}
-use Rattle.fv_base.specs.declared.flash.FileSystem.TheVariants.{Ffs2, Ffs3}
 use Rattle.fv_base.specs.declared.flash.Polarity.{Polarity}
+use Rattle.fv_base.specs.declared.fault.FaultKind.TheVariants as kinds
+use Rattle.fv_base.specs.declared.flash.FileSystem.TheVariants.{Ffs2, Ffs3}
 use Rattle.fv_file.specs.Cells.{CellForm, Tiles, is_free}
 use Rattle.fv_file.specs.FileAttributes.{is_large, is_fixed}
 use Rattle.fv_file.specs.FileHeaders.{attributes_at, file_header_len, file_size_in, file_sum_at, file_sum_right}

@@ -1,11 +1,10 @@
 -- Files and their headers (PI specification, volume 3, section 3.2.3.1, EFI_FFS_FILE_HEADER and EFI_FFS_FILE_HEADER2).
 use Rattle.std.specs.Prelude.{◌≡◌, ◌≢◌, ℕ, ◌+◌, ◌%◌, ◌==◌, Bool, true, false, if◌then◌else◌, List, ◌++◌, length, take}
 use Rattle.std.specs.Prelude.{drop, slice_index, sum}
-use Rattle.fv_base.specs.Guids.{guid_of}
-use Rattle.fv_base.specs.Value.{le_at, field}
+use Rattle.fv_base.specs.Words.{guid_of, le_at, field}
 use Rattle.fv_base.specs.declared.flash.FileSystem.{FileSystem}
-use Rattle.fv_base.specs.declared.flash.FileSystem.TheVariants.{Ffs3}
 use Rattle.fv_base.specs.declared.flash.Polarity.{Polarity}
+use Rattle.fv_base.specs.declared.flash.FileSystem.TheVariants.{Ffs3}
 use Rattle.fv_file.specs.FileAttributes.{attribute_bits, attributes_by, is_fixed, is_large, is_summed}
 use Rattle.fv_file.specs.States.{StateOf}
 use Rattle.fv_file.specs.declared.head.FileHead.{FileHead}

@@ -1,12 +1,11 @@
 -- File headers that are read where they begin some bytes, and those that were written, read again (PI specification,
 -- volume 3, section 3.2.3.1).
 use Rattle.std.specs.Prelude.{◌≡◌, ℕ, ◌+◌, ◌%◌, ◌⊎◌, Bool, true, false, List, ◌++◌, length, ◌<◌}
-use Rattle.fv_base.specs.Guids.{guid_of, bytes_of}
-use Rattle.fv_base.specs.Value.{IsBytes}
+use Rattle.fv_base.specs.Words.{guid_of, bytes_of, IsBytes}
 use Rattle.fv_base.specs.declared.flash.FileSystem.{FileSystem}
-use Rattle.fv_base.specs.declared.flash.FileSystem.TheVariants.{Ffs3}
 use Rattle.fv_base.specs.declared.flash.Polarity.{Polarity}
 use Rattle.fv_base.specs.declared.guid.Guid.{Guid}
+use Rattle.fv_base.specs.declared.flash.FileSystem.TheVariants.{Ffs3}
 use Rattle.fv_file.specs.Cells.{IsCell, Valid, Pad}
 use Rattle.fv_file.specs.FileAttributes.{attribute_bits, attributes_by, is_large}
 use Rattle.fv_file.specs.FileHeaders.{pad_kind, file_header_len, state_at, fixed_checksum, IsFileHeader, IsFile}

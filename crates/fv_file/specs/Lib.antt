@@ -7,4 +7,5 @@ pub mod NewHeaders
 pub mod HeaderReads
 pub mod FileChecks
 pub mod CellForms
+pub mod Words
 pub mod inner

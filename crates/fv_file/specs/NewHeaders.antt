@@ -1,10 +1,9 @@
 -- File headers as they are written (PI specification, volume 3, section 3.2.3.1).
 use Rattle.std.specs.Prelude.{ℕ, ◌+◌, ◌-◌, ◌%◌, nat_lt, Bool, false, if◌then◌else◌, List, [], ◌∷◌, ◌++◌, replicate, sum}
-use Rattle.fv_base.specs.Guids.{bytes_of}
-use Rattle.fv_base.specs.Value.{le_bytes}
+use Rattle.fv_base.specs.Words.{bytes_of, le_bytes}
 use Rattle.fv_base.specs.declared.flash.Polarity.{Polarity}
-use Rattle.fv_base.specs.declared.flash.Polarity.TheVariants.{Ones, Zeros}
 use Rattle.fv_base.specs.declared.guid.Guid.{Guid}
+use Rattle.fv_base.specs.declared.flash.Polarity.TheVariants.{Ones, Zeros}
 use Rattle.fv_file.specs.FileAttributes.{attribute_bits, is_summed}
 use Rattle.fv_file.specs.FileHeaders.{file_header_len, fixed_checksum, pad_kind}
 use Rattle.fv_file.specs.declared.attributes.FileAttributes.{FileAttributes}

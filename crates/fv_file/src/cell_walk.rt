@@ -1,9 +1,7 @@
 //! The body of a volume, cut into cells.
 
 ghost use Rattle.std.specs.Prelude.{◌≡◌, ◌≢◌, ℕ, ◌+◌, ◌*◌, ◌<◌, ◌≤◌, ◌%◌, ◌^◌, if◌then◌else◌, false, List, ◌++◌, length, drop, Ok, Err, IfOk, IfErr};
-ghost use Rattle.fv_base.specs.Measures.{all_are};
-ghost use Rattle.fv_base.specs.Faults.{outer_fault, out_of_memory};
-ghost use Rattle.fv_base.specs.Flash.{erased_byte};
+ghost use Rattle.fv_base.specs.Words.{all_are, outer_fault, out_of_memory, erased_byte};
 ghost use Rattle.fv_file.specs.Cells.{CellForm, IsCell, Tiles, is_free};
 ghost use Rattle.fv_file.specs.CellForms.{CellsWithin, cell_len, cell_form};
 ghost use Rattle.fv_file.specs.FileChecks.{IsFirstCellFault, leading_count};

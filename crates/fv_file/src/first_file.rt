@@ -1,7 +1,7 @@
 //! Whether bytes begin with a file.
 
 ghost use Rattle.std.specs.Prelude.{◌≡◌, Ok, IfOk, IfErr};
-ghost use Rattle.fv_base.specs.Checks.{IsFirstFault};
+ghost use Rattle.fv_base.specs.Words.{IsFirstFault};
 ghost use Rattle.fv_file.specs.FileChecks.{verify_checks};
 ghost use Rattle.fv_file.specs.HeaderReads.{BeginsFile};
 ghost use Rattle.fv_file.specs.inner.CellVerdicts.{verify_verdict};

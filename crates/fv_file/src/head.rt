@@ -1,7 +1,7 @@
 //! The header of a file.
 
 ghost use Rattle.std.specs.Prelude.{◌≡◌, ◌==◌, ◌≤◌, ◌<◌, ◌^◌, ◌&&◌, ◌||◌, not, nat_le, length, IfOk};
-ghost use Rattle.fv_base.specs.Value.{le_at};
+ghost use Rattle.fv_base.specs.Words.{le_at};
 ghost use Rattle.fv_file.specs.FileAttributes.{attribute_bits, is_large};
 ghost use Rattle.fv_file.specs.FileChecks.{file_header_len_at, file_size_at, has_header_sum, may_be_large};
 ghost use Rattle.fv_file.specs.FileHeaders.{head_in, header_sum_of, attributes_at, file_header_len, file_sum_right};

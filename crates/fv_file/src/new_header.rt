@@ -1,9 +1,7 @@
 //! File and pad headers, written.
 
 ghost use Rattle.std.specs.Prelude.{◌≡◌, ℕ, List, ◌≢◌, ◌<◌, ◌≤◌, false, length};
-ghost use Rattle.fv_base.specs.Guids.{bytes_of};
-ghost use Rattle.fv_base.specs.Measures.{data_limit};
-ghost use Rattle.fv_base.specs.Value.{IsBytes};
+ghost use Rattle.fv_base.specs.Words.{bytes_of, data_limit, IsBytes};
 ghost use Rattle.fv_file.specs.FileAttributes.{attribute_bits, is_large, is_fixed};
 ghost use Rattle.fv_file.specs.FileHeaders.{header_sum_at, pad_kind};
 ghost use Rattle.fv_file.specs.inner.NewHeaderParts.{HasPlace, size_fields, whole_bytes, header_of, new_header_bytes};

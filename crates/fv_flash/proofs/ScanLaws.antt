@@ -14,11 +14,10 @@ use Rattle.std.proofs.lemmas.Bool.{cases_lt}
 use Rattle.std.proofs.lemmas.List.{length-drop}
 use Rattle.std.proofs.lemmas.List.Elements.{All-contains, All-from_recursion, All-weaker, recursion_from_All}
 use Rattle.fv_base.proofs.Laws.{first_or_behind, one_behind}
-use Rattle.fv_head.specs.Head.{HeadFields, BeginsVolume, signature_bytes}
-use Rattle.fv_head.specs.HeadChecks.{has_signature}
+use Rattle.fv_head.specs.Words.{HeadFields, BeginsVolume, signature_bytes, has_signature}
 use Rattle.fv_head.specs.declared.extent.Extent.{Extent}
 use Rattle.fv_head.proofs.Laws.{front_holds, one_front}
-use Rattle.fv_flash.specs.FoundVolumes.{VolumeAt, IsPlace, LiesBehind, Apart, IsCovered, Found}
+use Rattle.fv_flash.specs.Words.{VolumeAt, IsPlace, LiesBehind, Apart, IsCovered, Found}
 use Rattle.fv_flash.specs.inner.FoundWalks.{NoneBetween, NoneFrom, IsReached, FoundFrom}
 
 -- ---- a volume

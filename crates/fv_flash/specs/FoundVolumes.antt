@@ -1,7 +1,7 @@
 -- The volumes in some bytes.
 use Rattle.std.specs.Prelude.{◌≡◌, ℕ, ◌+◌, ◌%◌, ◌≤◌, ◌<◌, List, [], ◌∷◌, drop}
 use Rattle.std.specs.List.{AllByRecursion, Contains}
-use Rattle.fv_head.specs.Head.{HeadFields, BeginsVolume}
+use Rattle.fv_head.specs.Words.{HeadFields, BeginsVolume}
 use Rattle.fv_head.specs.declared.extent.Extent.{Extent}
 
 -- a volume of n bytes begins at the offset k of b

@@ -1,8 +1,8 @@
 //! Finding volumes.
 
 ghost use Rattle.std.specs.Prelude.{◌≡◌, true, ◌%◌, ◌≤◌, ◌+◌, ℕ, List, length, drop, IfOk, IfErr, IfSome, IfNone};
-ghost use Rattle.fv_base.specs.Faults.{out_of_memory};
-ghost use Rattle.fv_head.specs.HeadChecks.{has_signature};
+ghost use Rattle.fv_base.specs.Words.{out_of_memory};
+ghost use Rattle.fv_head.specs.Words.{has_signature};
 ghost use Rattle.fv_flash.specs.FoundVolumes.{Found, IsPlace};
 ghost use Rattle.fv_flash.specs.inner.FoundWalks.{IsNext, IsReached, NoneFrom};
 

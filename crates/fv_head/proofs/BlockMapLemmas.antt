@@ -10,11 +10,9 @@ use Rattle.std.specs.List.{AllByRecursion, list_all}
 use Rattle.std.proofs.lemmas.List.{drop-take, length-take-le}
 use Rattle.std.proofs.lemmas.Bool.{eqb-true}
 use Rattle.std.proofs.Math.Seq.{take-add}
-use Rattle.fv_base.specs.Value.{le, le_at}
+use Rattle.fv_base.specs.Words.{le, le_at}
 use Rattle.fv_base.proofs.Laws.{and_split, take-take_le}
-use Rattle.fv_head.specs.HeadChecks.{is_zero_pair}
-use Rattle.fv_head.specs.HeadChecks.{blocks_at}
-use Rattle.fv_head.specs.Pairs.{pairs_of}
+use Rattle.fv_head.specs.Words.{is_zero_pair, blocks_at, pairs_of}
 
 -- the first eight bytes are the first pair
 pub pairs_of-step : (xs : List ℕ) → 8 ≤ length xs → pairs_of xs ≡ (le (take 4 xs), le (take 4 (drop 4 xs))) ∷ pairs_of (drop 8 xs)

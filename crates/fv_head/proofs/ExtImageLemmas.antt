@@ -7,13 +7,10 @@ use Rattle.std.proofs.Common.{◌≡◌, ◌≤◌, ◌<◌, ℕ, ◌+◌, List,
 use Rattle.std.proofs.Common.{Bool, true, false, get_or, length-append, append_assoc, append-nil}
 use Rattle.std.proofs.lemmas.List.{drop_at, drop_more, drop_all}
 use Rattle.std.proofs.lemmas.Bool.{eqb-true}
-use Rattle.fv_base.specs.Guids.{bytes_of}
-use Rattle.fv_base.specs.Limits.{ext_limit}
-use Rattle.fv_base.specs.Value.{IsBytes, le, le_bytes, le_at}
+use Rattle.fv_base.specs.Words.{bytes_of, ext_limit, IsBytes, le, le_bytes, le_at}
 use Rattle.fv_base.proofs.Laws.{bytes_drop, le-le_bytes, two_bytes}
-use Rattle.fv_head.specs.Ext.{Extension, kept_payload, is_used_size, BeginNoEntry, SplitsEntries, IsExt}
-use Rattle.fv_head.specs.HeadReads.{IsReadExt}
-use Rattle.fv_head.specs.ExtImage.{payload_with, entry_bytes, entries_bytes, entries_len, ext_len, ext_spelled}
+use Rattle.fv_head.specs.Words.{Extension, kept_payload, is_used_size, BeginNoEntry, SplitsEntries, IsExt, IsReadExt, payload_with}
+use Rattle.fv_head.specs.Words.{entry_bytes, entries_bytes, entries_len, ext_len, ext_spelled}
 use Rattle.fv_head.proofs.ExtLemmas.{begins, length-ext}
 
 -- a number of four bytes

@@ -11,14 +11,10 @@ use Rattle.std.specs.Prelude.{◌==◌, ◌&&◌, ◌||◌, nat_le, if◌then◌
 use Rattle.std.proofs.lemmas.List.{drop-take, take_at, drop_at, take-append-drop, length-take-le, take_all}
 use Rattle.std.proofs.lemmas.Bool.{leb-true, le-leb, eqb-true}
 use Rattle.std.proofs.lemmas.Bool.Decides.{nat_tests}
-use Rattle.fv_base.specs.Guids.{bytes_of}
-use Rattle.fv_base.specs.Limits.{ext_limit}
-use Rattle.fv_base.specs.Value.{le, field, le_at, up_to_8}
+use Rattle.fv_base.specs.Words.{bytes_of, ext_limit, le, field, le_at, up_to_8}
 use Rattle.fv_base.specs.declared.guid.Guid.{Guid}
 use Rattle.fv_base.proofs.Laws.{and_join, and_split, field-append_front, field-take}
-use Rattle.fv_head.specs.Ext.{Extension, kept_payload, BeginNoEntry, SplitsEntries, IsExt}
-use Rattle.fv_head.specs.Head.{HasExt}
-use Rattle.fv_head.specs.HeadChecks.{ext_offset_at, ext_size_at, has_ext}
+use Rattle.fv_head.specs.Words.{Extension, kept_payload, BeginNoEntry, SplitsEntries, IsExt, HasExt, ext_offset_at, ext_size_at, has_ext}
 use Rattle.fv_head.specs.declared.extent.Extent.{Extent}
 
 -- ---- entries

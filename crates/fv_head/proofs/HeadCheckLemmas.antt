@@ -11,24 +11,19 @@ use Rattle.std.proofs.lemmas.List.{length-take-le, get_or-take}
 use Rattle.std.proofs.lemmas.Bool.{leb-true, le-leb, eqb-true, eq-eqb}
 use Rattle.std.proofs.lemmas.Slice.Eq.{bytes_eq-Decides}
 use Rattle.std.specs.Str.{bytes_eq}
-use Rattle.fv_base.specs.Checks.{AllHold}
-use Rattle.fv_base.specs.inner.Verdicts.{first_fault}
-use Rattle.fv_base.specs.Faults.{outer_fault}
-use Rattle.fv_base.specs.Limits.{header_limit}
-use Rattle.fv_base.specs.Value.{IsBytes, le, field, le_at, up_to_8}
+use Rattle.fv_base.specs.Words.{AllHold, outer_fault, header_limit, IsBytes, le, field, le_at, up_to_8}
 use Rattle.fv_base.specs.declared.fault.Fault.{Fault}
-use Rattle.fv_base.specs.declared.fault.FaultKind.TheVariants as kinds
 use Rattle.fv_base.specs.declared.flash.FileSystem.{FileSystem}
-use Rattle.fv_base.specs.declared.flash.FileSystem.TheVariants.{Ffs2, Ffs3}
 use Rattle.fv_base.specs.declared.flash.Polarity.{Polarity}
+use Rattle.fv_base.specs.inner.Verdicts.{first_fault}
+use Rattle.fv_base.specs.declared.fault.FaultKind.TheVariants as kinds
+use Rattle.fv_base.specs.declared.flash.FileSystem.TheVariants.{Ffs2, Ffs3}
 use Rattle.fv_base.proofs.Laws.{all_hold, and_join, and_split, bytes_take, field-take, none_faulty}
-use Rattle.fv_head.specs.Ext.{Extension}
-use Rattle.fv_head.specs.Head.{HeadFields, IsHead, BeginsVolume, system_guid}
-use Rattle.fv_head.specs.HeadChecks.{has_signature, is_header_len, has_sum, has_block_map, is_volume_len, head_checks, is_zero_pair}
-use Rattle.fv_head.specs.HeadChecks.{blocks_at, makes_up, file_system_at, header_len_at, volume_len_at, ext_offset_at, ext_size_at, has_ext}
-use Rattle.fv_head.specs.VolumeAttributes.{polarity_of}
-use Rattle.fv_head.specs.inner.HeadVerdicts.{head_verdict, extent_verdict, extent_or, extent_at}
+use Rattle.fv_head.specs.Words.{Extension, HeadFields, IsHead, BeginsVolume, system_guid, has_signature, is_header_len, has_sum}
+use Rattle.fv_head.specs.Words.{has_block_map, is_volume_len, head_checks, is_zero_pair, blocks_at, makes_up, file_system_at, header_len_at}
+use Rattle.fv_head.specs.Words.{volume_len_at, ext_offset_at, ext_size_at, has_ext, polarity_of}
 use Rattle.fv_head.specs.declared.extent.Extent.{Extent}
+use Rattle.fv_head.specs.inner.HeadVerdicts.{head_verdict, extent_verdict, extent_or, extent_at}
 use Rattle.fv_head.proofs.ExtLemmas.{some_has_ext, has_ext_holds, has_ext_first}
 use Rattle.fv_head.proofs.BlockMapLemmas.{all_not_zero, block_map_is, last-injective, none_zero, zero_pair_is}
 

@@ -7,19 +7,15 @@ use Rattle.std.proofs.Common.{true}
 use Rattle.std.specs.Prelude.{nat_le, is_some, Option, None, Some, Result, Ok, Err, IfOk, IfErr}
 use Rattle.std.specs.List.{AllByRecursion}
 use Rattle.std.proofs.lemmas.Bool.{leb-true}
-use Rattle.fv_base.specs.Checks.{Check, check, IsFirstFault}
-use Rattle.fv_base.specs.inner.Verdicts.{first_fault}
-use Rattle.fv_base.specs.Faults.{outer_fault}
-use Rattle.fv_base.specs.Value.{IsBytes}
+use Rattle.fv_base.specs.Words.{Check, check, IsFirstFault, outer_fault, IsBytes}
 use Rattle.fv_base.specs.declared.fault.Fault.{Fault}
-use Rattle.fv_base.specs.declared.fault.FaultKind.TheVariants as kinds
 use Rattle.fv_base.specs.declared.flash.FileSystem.{FileSystem}
+use Rattle.fv_base.specs.inner.Verdicts.{first_fault}
+use Rattle.fv_base.specs.declared.fault.FaultKind.TheVariants as kinds
 use Rattle.fv_base.proofs.Laws.{all_hold, first_among, first_is}
-use Rattle.fv_head.specs.Head.{HeadFields, BeginsVolume}
-use Rattle.fv_head.specs.HeadChecks.{head_checks}
-use Rattle.fv_head.specs.HeadChecks.{file_system_at}
-use Rattle.fv_head.specs.inner.HeadVerdicts.{head_verdict, extent_verdict, extent_or}
+use Rattle.fv_head.specs.Words.{HeadFields, BeginsVolume, head_checks, file_system_at}
 use Rattle.fv_head.specs.declared.extent.Extent.{Extent}
+use Rattle.fv_head.specs.inner.HeadVerdicts.{head_verdict, extent_verdict, extent_or}
 use Rattle.fv_head.proofs.HeadCheckLemmas.{checked, fields_of, front_found}
 
 pub fault_first : (b : List ℕ) (f : Fault) → head_verdict b ≡ Err f → IsFirstFault (head_checks b) f

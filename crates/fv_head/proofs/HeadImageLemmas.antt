@@ -12,19 +12,13 @@ use Rattle.std.proofs.Common.{arith, false, length-append, length-drop, append_a
 use Rattle.std.specs.Prelude.{slice_index, sum, Option, None, Some}
 use Rattle.std.proofs.Math.Seq.{take-add}
 use Rattle.std.proofs.lemmas.List.{take-append-drop, take_at, drop_at, drop_more, get_or-drop, length-take-le}
-use Rattle.fv_base.specs.Sums.{words_of, sum16_of}
-use Rattle.fv_base.specs.Limits.{header_limit}
-use Rattle.fv_base.specs.Value.{IsBytes, le, le_bytes, field, le_at, up_to_8}
+use Rattle.fv_base.specs.Words.{words_of, sum16_of, header_limit, IsBytes, le, le_bytes, field, le_at, up_to_8}
 use Rattle.fv_base.proofs.Laws.{bytes_append, bytes_drop, bytes_le_bytes, bytes_take, drop-append_behind, field-append_front, field-take}
 use Rattle.fv_base.proofs.Laws.{field_is, le-le_bytes, le_bytes-le, length-le_bytes, sum-words_of-append, two_bytes}
 use Rattle.std.proofs.lemmas.List.Sums.{sum_by-cons}
-use Rattle.fv_head.specs.Ext.{Extension}
-use Rattle.fv_head.specs.Head.{HasExt, HeadFields, IsHead, BeginsVolume, canonical_offset}
-use Rattle.fv_head.specs.HeadReads.{IsReadHead, IsCanonicalHead, extent_of, IfRead, CanonicalRest}
-use Rattle.fv_head.specs.Head.{header_len_of, signature_bytes, system_guid}
-use Rattle.fv_head.specs.Pairs.{pairs_of, pairs_bytes}
-use Rattle.fv_head.specs.ExtImage.{ext_spelled, canonical_end, first_edge}
-use Rattle.fv_head.specs.HeadImage.{head_spelled, checksum_of, canonical_head}
+use Rattle.fv_head.specs.Words.{Extension, HasExt, HeadFields, IsHead, BeginsVolume, canonical_offset, IsReadHead, IsCanonicalHead}
+use Rattle.fv_head.specs.Words.{extent_of, IfRead, CanonicalRest, header_len_of, signature_bytes, system_guid, pairs_of, pairs_bytes}
+use Rattle.fv_head.specs.Words.{ext_spelled, canonical_end, first_edge, head_spelled, checksum_of, canonical_head}
 use Rattle.fv_head.specs.inner.WordSums.{word_weight}
 use Rattle.fv_head.proofs.BlockMapLemmas.{by_eights}
 use Rattle.fv_head.proofs.ExtImageLemmas.{ext_again}

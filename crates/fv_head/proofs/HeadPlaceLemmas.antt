@@ -5,19 +5,14 @@
 use Rattle.std.proofs.Common.{◌≡◌, ◌≤◌, ℕ, ◌+◌, ◌-◌, ◌%◌, List, length, take, refl, sym, ap, ◌∙◌, subst, arith, rules}
 use Rattle.std.specs.Prelude.{Option, Some, slice_index}
 use Rattle.std.proofs.lemmas.List.{length-take-le}
-use Rattle.fv_base.specs.Checks.{AllHold}
-use Rattle.fv_base.specs.inner.Verdicts.{first_fault}
-use Rattle.fv_base.specs.Limits.{volume_limit, header_limit, ext_limit}
-use Rattle.fv_base.specs.Value.{le, field, le_at}
+use Rattle.fv_base.specs.Words.{AllHold, volume_limit, header_limit, ext_limit, le, field, le_at}
 use Rattle.fv_base.specs.declared.flash.FileSystem.{FileSystem}
+use Rattle.fv_base.specs.inner.Verdicts.{first_fault}
 use Rattle.fv_base.proofs.Laws.{all_hold, field-take, take-take_le}
-use Rattle.fv_head.specs.Ext.{Extension, IsExt}
-use Rattle.fv_head.specs.Head.{HasExt, HeadFields, IsHead, BeginsVolume}
-use Rattle.fv_head.specs.HeadChecks.{head_checks}
-use Rattle.fv_head.specs.HeadChecks.{blocks_at, file_system_at, header_len_at, volume_len_at, ext_offset_at, ext_size_at}
-use Rattle.fv_head.specs.inner.HeadVerdicts.{extent_at}
-use Rattle.fv_head.specs.Pairs.{pairs_of}
+use Rattle.fv_head.specs.Words.{Extension, IsExt, HasExt, HeadFields, IsHead, BeginsVolume, head_checks, blocks_at, file_system_at}
+use Rattle.fv_head.specs.Words.{header_len_at, volume_len_at, ext_offset_at, ext_size_at, pairs_of}
 use Rattle.fv_head.specs.declared.extent.Extent.{Extent}
+use Rattle.fv_head.specs.inner.HeadVerdicts.{extent_at}
 use Rattle.fv_head.proofs.ExtLemmas.{stands, read_there, one_has_ext, ext_same}
 use Rattle.fv_head.proofs.HeadCheckLemmas.{extent_ok, fields_are, fields_of, front_fields, front_only, verdict_ok}
 

@@ -4,9 +4,8 @@ use Rattle.std.proofs.Common.{◌≡◌, ◌<◌, ◌≤◌, ℕ, ◌+◌, ◌%�
 use Rattle.std.proofs.Common.{append_assoc, append-nil, Bool}
 use Rattle.std.specs.Prelude.{not}
 use Rattle.std.proofs.lemmas.List.{take_more, drop_more, drop_all}
-use Rattle.fv_base.specs.Sinks.{WalkLaws}
-use Rattle.fv_base.specs.Value.{le_bytes}
-use Rattle.fv_head.specs.Pairs.{pairs_bytes}
+use Rattle.fv_base.specs.Words.{WalkLaws, le_bytes}
+use Rattle.fv_head.specs.Words.{pairs_bytes}
 use Rattle.fv_head.specs.inner.WordSums.{adds_joined, word_weight, is_high_behind}
 
 -- one more byte is added

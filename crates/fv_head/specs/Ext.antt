@@ -1,8 +1,6 @@
 -- The extended header of a volume (PI specification, volume 3, section 3.2.1.2, EFI_FIRMWARE_VOLUME_EXT_HEADER).
 use Rattle.std.specs.Prelude.{◌≡◌, ◌≤◌, ◌<◌, ◌+◌, ◌==◌, ◌&&◌, ◌⊎◌, ℕ, Bool, if◌then◌else◌, List, [], ◌∷◌, ◌++◌, length}
-use Rattle.fv_base.specs.Guids.{bytes_of}
-use Rattle.fv_base.specs.Limits.{ext_limit}
-use Rattle.fv_base.specs.Value.{le, le_at}
+use Rattle.fv_base.specs.Words.{bytes_of, ext_limit, le, le_at}
 use Rattle.fv_base.specs.declared.guid.Guid.{Guid}
 
 -- what an extended header says of its volume: the name, the entries (a type and a payload each), and the bytes after

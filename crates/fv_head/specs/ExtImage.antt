@@ -1,7 +1,6 @@
 -- How an extended header is spelled, and its place in the canonical image.
 use Rattle.std.specs.Prelude.{ℕ, ◌+◌, if◌then◌else◌, List, [], ◌∷◌, ◌++◌, length, Option, None, Some}
-use Rattle.fv_base.specs.Guids.{bytes_of}
-use Rattle.fv_base.specs.Value.{le_bytes, up_to_8}
+use Rattle.fv_base.specs.Words.{bytes_of, le_bytes, up_to_8}
 use Rattle.fv_head.specs.Ext.{Extension, is_used_size}
 use Rattle.fv_head.specs.Head.{HeadFields, header_len_of}
 

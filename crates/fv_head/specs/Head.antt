@@ -2,9 +2,7 @@
 use Rattle.std.specs.Prelude.{◌≡◌, ◌≢◌, ◌≤◌, ◌+◌, ◌*◌, ◌%◌, ℕ, List, [], ◌∷◌, ◌++◌, length, take, drop, slice_index}
 use Rattle.std.specs.Prelude.{Option, None, Some}
 use Rattle.std.specs.List.{AllByRecursion}
-use Rattle.fv_base.specs.Limits.{volume_limit, header_limit}
-use Rattle.fv_base.specs.Sums.{sum16_of}
-use Rattle.fv_base.specs.Value.{IsBytes, field, le_at, up_to_8}
+use Rattle.fv_base.specs.Words.{volume_limit, header_limit, sum16_of, IsBytes, field, le_at, up_to_8}
 use Rattle.fv_base.specs.declared.flash.FileSystem.{FileSystem}
 use Rattle.fv_base.specs.declared.flash.FileSystem.TheVariants.{Ffs2, Ffs3}
 use Rattle.fv_head.specs.declared.extent.Extent.{Extent}

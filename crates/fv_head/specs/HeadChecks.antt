@@ -3,13 +3,10 @@ use Rattle.std.specs.Prelude.{ℕ, ◌+◌, ◌||◌, ◌-◌, ◌%◌, ◌==◌
 use Rattle.std.specs.Prelude.{◌∷◌, ◌++◌, length, take, slice_index, Option, None, Some}
 use Rattle.std.specs.Str.{bytes_eq}
 use Rattle.std.specs.List.{list_all}
-use Rattle.fv_base.specs.Checks.{Check, check}
-use Rattle.fv_base.specs.Limits.{volume_limit, header_limit, ext_limit}
-use Rattle.fv_base.specs.Sums.{sum16_of}
-use Rattle.fv_base.specs.Value.{field, le_at}
+use Rattle.fv_base.specs.Words.{Check, check, volume_limit, header_limit, ext_limit, sum16_of, field, le_at}
 use Rattle.fv_base.specs.declared.fault.Fault.{Fault}
-use Rattle.fv_base.specs.declared.fault.FaultKind.TheVariants as kinds
 use Rattle.fv_base.specs.declared.flash.FileSystem.{FileSystem}
+use Rattle.fv_base.specs.declared.fault.FaultKind.TheVariants as kinds
 use Rattle.fv_base.specs.declared.flash.FileSystem.TheVariants.{Ffs2, Ffs3}
 use Rattle.fv_head.specs.Head.{HeadFields, BeginsVolume, signature_bytes, system_guid}
 use Rattle.fv_head.specs.Pairs.{pairs_of, bytes_in}

@@ -1,7 +1,6 @@
 -- How a header is spelled, field by field.
 use Rattle.std.specs.Prelude.{ℕ, ◌-◌, ◌%◌, List, [], ◌∷◌, ◌++◌}
-use Rattle.fv_base.specs.Sums.{sum16_of}
-use Rattle.fv_base.specs.Value.{le_bytes}
+use Rattle.fv_base.specs.Words.{sum16_of, le_bytes}
 use Rattle.fv_head.specs.Head.{HeadFields, signature_bytes, system_guid, header_len_of, canonical_offset}
 use Rattle.fv_head.specs.Pairs.{pairs_bytes}
 

@@ -1,7 +1,7 @@
 -- What is known of a header that was read, and of the head of the canonical image (PI specification, volume 3, section
 -- 3.2.1).
 use Rattle.std.specs.Prelude.{◌≡◌, ℕ, List, ◌++◌, length, Option, None, Some}
-use Rattle.fv_base.specs.Value.{IsBytes, le_at}
+use Rattle.fv_base.specs.Words.{IsBytes, le_at}
 use Rattle.fv_head.specs.Ext.{Extension, IsExt}
 use Rattle.fv_head.specs.ExtImage.{ext_spelled}
 use Rattle.fv_head.specs.Head.{HeadFields, header_len_of, IsHead, canonical_offset}

@@ -8,4 +8,5 @@ pub mod ExtImage
 pub mod HeadReads
 pub mod HeadChecks
 pub mod HeadView
+pub mod Words
 pub mod inner

@@ -1,6 +1,6 @@
 -- The pairs of a block map (PI specification, volume 3, section 3.2.1.1, EFI_FV_BLOCK_MAP_ENTRY).
 use Rattle.std.specs.Prelude.{ℕ, ◌*◌, List, [], ◌∷◌, ◌++◌, sum_by}
-use Rattle.fv_base.specs.Value.{le, le_bytes}
+use Rattle.fv_base.specs.Words.{le, le_bytes}
 
 -- the pairs of two 4-byte numbers that bytes spell; a rest of fewer than 8 bytes is no pair
 abbrev pub pairs_of : List ℕ → List (ℕ × ℕ)

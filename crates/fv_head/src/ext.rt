@@ -1,9 +1,7 @@
 //! The extended header of a volume, as kept in memory.
 
 ghost use Rattle.std.specs.Prelude.{◌≡◌, ◌≤◌, ℕ, List, drop, length, IfOk, IfErr, IfSome, IfNone};
-ghost use Rattle.fv_base.specs.Faults.{out_of_memory};
-ghost use Rattle.fv_base.specs.Limits.{ext_limit};
-ghost use Rattle.fv_base.specs.Value.{le_at};
+ghost use Rattle.fv_base.specs.Words.{out_of_memory, ext_limit, le_at};
 ghost use Rattle.fv_head.specs.Ext.{BeginNoEntry, SplitsEntries, IsExt, kept_payload, is_used_size};
 ghost use Rattle.fv_head.specs.HeadReads.{IsReadExt};
 

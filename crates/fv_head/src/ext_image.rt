@@ -1,8 +1,7 @@
 //! An extended header, spelled with a used size.
 
 ghost use Rattle.std.specs.Prelude.{◌≡◌, ◌+◌, ◌≤◌, length, IfOk, IfErr};
-ghost use Rattle.fv_base.specs.Faults.{out_of_memory};
-ghost use Rattle.fv_base.specs.Limits.{ext_limit};
+ghost use Rattle.fv_base.specs.Words.{out_of_memory, ext_limit};
 ghost use Rattle.fv_head.specs.Ext.{IsExt};
 ghost use Rattle.fv_head.specs.HeadReads.{IsReadExt};
 ghost use Rattle.fv_head.specs.ExtImage.{payload_with, entry_bytes, entries_bytes, entries_len, ext_len, ext_spelled};

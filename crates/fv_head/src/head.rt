@@ -1,9 +1,7 @@
 //! The header of a volume, as kept in memory.
 
 ghost use Rattle.std.specs.Prelude.{◌≡◌, ◌⊎◌, ◌%◌, ◌≤◌, length, IfOk, IfErr, option_copied};
-ghost use Rattle.fv_base.specs.Checks.{IsFirstFault};
-ghost use Rattle.fv_base.specs.Faults.{out_of_memory};
-ghost use Rattle.fv_base.specs.Limits.{header_limit};
+ghost use Rattle.fv_base.specs.Words.{IsFirstFault, out_of_memory, header_limit};
 ghost use Rattle.fv_head.specs.Head.{HasExt, HeadFields, BeginsVolume, header_len_of};
 ghost use Rattle.fv_head.specs.HeadReads.{IsReadHead};
 ghost use Rattle.fv_head.specs.HeadChecks.{head_checks, BeginsWithHeader};

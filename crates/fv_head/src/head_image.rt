@@ -1,9 +1,7 @@
 //! A header, spelled as in the canonical image.
 
 ghost use Rattle.std.specs.Prelude.{◌≡◌, ◌+◌, ◌-◌, ◌%◌, ◌≤◌, ◌<◌, ◌++◌, List, [], ◌∷◌, ℕ, length, IfOk, IfErr};
-ghost use Rattle.fv_base.specs.Faults.{out_of_memory};
-ghost use Rattle.fv_base.specs.Limits.{header_limit, ext_limit};
-ghost use Rattle.fv_base.specs.Value.{le_bytes, up_to_8};
+ghost use Rattle.fv_base.specs.Words.{out_of_memory, header_limit, ext_limit, le_bytes, up_to_8};
 ghost use Rattle.fv_head.specs.HeadReads.{IsCanonicalHead, IsReadHead, extent_of};
 ghost use Rattle.fv_head.specs.Head.{BeginsVolume, canonical_offset};
 ghost use Rattle.fv_head.specs.Pairs.{pairs_bytes};

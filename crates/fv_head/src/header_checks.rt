@@ -1,10 +1,8 @@
 //! Whether bytes begin with a volume, and which.
 
 ghost use Rattle.std.specs.Prelude.{◌≡◌, ◌==◌, ◌%◌, ◌≤◌, length, IfOk, IfErr, OnOk, None, Some, true};
-ghost use Rattle.fv_base.specs.Checks.{IsFirstFault};
+ghost use Rattle.fv_base.specs.Words.{IsFirstFault, bytes_of, sum16_of};
 ghost use Rattle.fv_base.specs.inner.Verdicts.{first_fault};
-ghost use Rattle.fv_base.specs.Guids.{bytes_of};
-ghost use Rattle.fv_base.specs.Sums.{sum16_of};
 ghost use Rattle.fv_head.specs.Head.{HeadFields, BeginsVolume, system_guid};
 ghost use Rattle.fv_head.specs.HeadChecks.{has_signature, file_system_at, is_one_volume, header_len_at, is_header_len};
 ghost use Rattle.fv_head.specs.HeadChecks.{is_zero_pair, makes_up, has_block_map, is_volume_len, has_ext, front_checks};

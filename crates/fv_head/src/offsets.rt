@@ -3,7 +3,7 @@
 //! `EFI_FIRMWARE_VOLUME_HEADER`, and section 3.2.1.2, `EFI_FIRMWARE_VOLUME_EXT_HEADER`.)
 
 ghost use Rattle.std.specs.Prelude.{◌≡◌, ◌+◌, ◌≤◌, length};
-ghost use Rattle.fv_base.specs.Value.{field};
+ghost use Rattle.fv_base.specs.Words.{field};
 ghost use Rattle.fv_head.specs.HeadChecks.{header_len_at, volume_len_at, ext_offset_at, ext_size_at};
 
 use fv_base::field::{field, u16_at, u32_at, u64_at};

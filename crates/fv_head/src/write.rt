@@ -2,8 +2,7 @@
 
 ghost use Rattle.std.specs.Prelude.{◌≡◌, ℕ, List, IfErr, OnErr, OnOk, true};
 ghost use Rattle.std.specs.Io.KnownBytes.{Appends};
-ghost use Rattle.fv_base.specs.Input.{WriteStops};
-ghost use Rattle.fv_base.specs.Port.{inner_of, has_erred};
+ghost use Rattle.fv_base.specs.Words.{WriteStops, inner_of, has_erred};
 ghost use Rattle.fv_head.specs.HeadReads.{IsCanonicalHead};
 ghost use Rattle.fv_head.specs.ExtImage.{ext_spelled};
 

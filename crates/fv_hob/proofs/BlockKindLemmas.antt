@@ -6,9 +6,9 @@ use Rattle.std.specs.Prelude.{◌==◌, slice_index}
 use Rattle.std.specs.List.{concat}
 use Rattle.std.proofs.lemmas.Bool.{eqb-true, leb-true}
 use Rattle.std.proofs.lemmas.List.{take-append-drop, drop_all, drop_more}
-use Rattle.fv_base.specs.Value.{IsBytes, field, le_at, le_bytes}
+use Rattle.fv_base.specs.Words.{IsBytes, field, le_at, le_bytes}
 use Rattle.fv_base.proofs.Laws.{field_is}
-use Rattle.fv_hob.specs.Hobs.{hob_type, has_shape, kind_by, hob_len, hob_fields}
+use Rattle.fv_hob.specs.Words.{hob_type, has_shape, kind_by, hob_len, hob_fields}
 
 -- a type that `kind_by` does not name
 record Unknown (n : ℕ) : Type 0 where

@@ -8,12 +8,10 @@ use Rattle.std.proofs.Common.{length-append}
 use Rattle.std.specs.Prelude.{◌==◌, ◌%◌, ◌||◌, not, nat_le, None}
 use Rattle.std.proofs.lemmas.Bool.{eqb-true, eq-eqb, leb-true, le-leb}
 use Rattle.std.proofs.lemmas.List.{take-append-drop, length-take-le}
-use Rattle.fv_base.specs.Checks.{AllHold}
+use Rattle.fv_base.specs.Words.{AllHold, IsBytes, le, le_at}
 use Rattle.fv_base.specs.inner.Verdicts.{first_fault}
-use Rattle.fv_base.specs.Value.{IsBytes, le, le_at}
 use Rattle.fv_base.proofs.Laws.{all_hold, and_join, and_split, bytes_take, field-append_front, field-take, same_cut, two_bytes}
-use Rattle.fv_hob.specs.HobChecks.{BeginsBlock, hob_checks, is_hob_len}
-use Rattle.fv_hob.specs.Hobs.{HobForm, IsHob, hob_type, has_shape, hob_in, hob_len}
+use Rattle.fv_hob.specs.Words.{BeginsBlock, hob_checks, is_hob_len, HobForm, IsHob, hob_type, has_shape, hob_in, hob_len}
 use Rattle.fv_hob.proofs.BlockKindLemmas.{code_by, len_by}
 
 pub code_is : (h : HobForm) (b : List ℕ) → IsHob h b → hob_type h.kind ≡ le_at 0 2 b

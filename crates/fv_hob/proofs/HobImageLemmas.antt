@@ -10,12 +10,11 @@ use Rattle.std.specs.List.{AllByRecursion, concat}
 use Rattle.std.proofs.lemmas.Bool.{eqb-true}
 use Rattle.std.proofs.lemmas.List.{take-append-drop, length-take-le, length-replicate}
 use Rattle.std.proofs.Math.Seq.{take-add}
-use Rattle.fv_base.specs.Value.{IsBytes, field, le, le_at, le_bytes}
+use Rattle.fv_base.specs.Words.{IsBytes, field, le, le_at, le_bytes}
 use Rattle.fv_base.proofs.Laws.{bytes_append, bytes_take, field-append_front, field-take, field_is, not_equal}
-use Rattle.fv_hob.specs.Hobs.{HobForm, IsHob, hob_type, has_shape, kind_by, hob_len, hob_fields, hob_spelled}
-use Rattle.fv_hob.specs.Hobs.{list_spelled}
+use Rattle.fv_hob.specs.Words.{HobForm, IsHob, hob_type, has_shape, kind_by, hob_len, hob_fields, hob_spelled, list_spelled, IsHobList}
+use Rattle.fv_hob.specs.Words.{IsUsedHob, JoinsHobs}
 use Rattle.fv_hob.specs.declared.hob.HobKind.TheVariants as kinds
-use Rattle.fv_hob.specs.Lists.{IsHobList, IsUsedHob, JoinsHobs}
 use Rattle.fv_hob.proofs.HobCheckLemmas.{code_is, len_is}
 use Rattle.fv_hob.proofs.BlockKindLemmas.{body_by}
 

@@ -3,8 +3,7 @@ use Rattle.std.proofs.lemmas.Grind.{common_steps}
 use Rattle.std.proofs.Common.{◌≡◌, ℕ, List, [], ◌∷◌, ◌++◌, refl, sym, ap, ◌∙◌, arith, append_assoc}
 use Rattle.std.proofs.Common.{append-nil}
 use Rattle.std.specs.List.{AllByRecursion}
-use Rattle.fv_hob.specs.Hobs.{HobForm, IsHob, hob_type}
-use Rattle.fv_hob.specs.Lists.{IsEndHob, IsHobList, IsNoEndHob, JoinsHobs}
+use Rattle.fv_hob.specs.Words.{HobForm, IsHob, hob_type, IsEndHob, IsHobList, IsNoEndHob, JoinsHobs}
 use Rattle.fv_hob.proofs.HobCheckLemmas.{one_block}
 
 pub end_is_none : (g h : HobForm) → h ≡ g → IsNoEndHob h → IsEndHob g → ⊥

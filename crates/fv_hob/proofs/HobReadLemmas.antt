@@ -10,11 +10,10 @@ use Rattle.std.specs.List.{AllByRecursion}
 use Rattle.std.proofs.lemmas.Bool.{eqb-true}
 use Rattle.std.proofs.lemmas.List.{length-take-le, take-append-drop, take_at}
 use Rattle.std.proofs.Math.Seq.{take-add}
-use Rattle.fv_base.specs.Checks.{IsFirstFault}
+use Rattle.fv_base.specs.Words.{IsFirstFault}
 use Rattle.fv_base.proofs.Laws.{first_among, none_faulty, not_first}
-use Rattle.fv_hob.specs.HobChecks.{BeginsBlock, IsFirstHobFault, BeginsTable, hob_checks}
-use Rattle.fv_hob.specs.Hobs.{HobForm, IsHob, hob_type}
-use Rattle.fv_hob.specs.Lists.{BeginWithTable, IsEndHob, IsHobList, IsNoEndHob, JoinsHobs}
+use Rattle.fv_hob.specs.Words.{BeginsBlock, IsFirstHobFault, BeginsTable, hob_checks, HobForm, IsHob, hob_type, BeginWithTable, IsEndHob}
+use Rattle.fv_hob.specs.Words.{IsHobList, IsNoEndHob, JoinsHobs}
 use Rattle.fv_hob.specs.declared.fault.HobFault.{HobFault}
 use Rattle.fv_hob.specs.declared.fault.HobFaultKind.{HobFaultKind}
 use Rattle.fv_hob.specs.declared.fault.HobFaultKind.TheVariants as kinds

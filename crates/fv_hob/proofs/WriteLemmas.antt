@@ -5,8 +5,7 @@ use Rattle.std.specs.Prelude.{Option, None, Some}
 use Rattle.std.specs.List.{concat, cons_option}
 use Rattle.std.proofs.lemmas.List.{map-append, take_more}
 use Rattle.std.proofs.lemmas.List.Folds.{concat-append}
-use Rattle.fv_hob.specs.Hobs.{HobForm, hob_spelled, list_spelled}
-use Rattle.fv_hob.specs.Lists.{span_of, spans_of}
+use Rattle.fv_hob.specs.Words.{HobForm, hob_spelled, list_spelled, span_of, spans_of}
 use Rattle.fv_hob.specs.declared.span.Span.{Span}
 
 -- after some bytes these fields were written

@@ -1,7 +1,7 @@
 -- The checks of a block in a fixed order, and the first fault of a list.
 use Rattle.std.specs.Prelude.{◌≡◌, ℕ, ◌%◌, ◌==◌, nat_le, ◌&&◌, ◌||◌, not, Bool, true, List, [], ◌∷◌, ◌++◌, length}
 use Rattle.std.specs.List.{AllByRecursion}
-use Rattle.fv_base.specs.Checks.{Check, IsFirstFault}
+use Rattle.fv_base.specs.Words.{Check, IsFirstFault}
 use Rattle.fv_hob.specs.Hobs.{HobForm, IsBlock, has_shape, hob_len_at, hob_type_at}
 use Rattle.fv_hob.specs.Lists.{BeginWithTable, IsNoEndHob, JoinsHobs}
 use Rattle.fv_hob.specs.declared.fault.HobFault.{HobFault}

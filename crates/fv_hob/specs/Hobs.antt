@@ -1,8 +1,7 @@
 -- Hand-off blocks, and the bytes that spell them (PI specification, volume 3, section 5).
 use Rattle.std.specs.Prelude.{◌≡◌, ◌≤◌, ℕ, ◌+◌, ◌-◌, ◌%◌, ◌==◌, nat_le, if◌then◌else◌, Bool, true, List, length, drop}
 use Rattle.std.specs.Prelude.{slice_index, [], ◌∷◌, map, replicate}
-use Rattle.fv_base.specs.Guids.{guid_of, bytes_of}
-use Rattle.fv_base.specs.Value.{IsBytes, field, le_at, le_bytes}
+use Rattle.fv_base.specs.Words.{guid_of, bytes_of, IsBytes, field, le_at, le_bytes}
 use Rattle.fv_base.specs.declared.guid.Guid.{Guid}
 use Rattle.fv_hob.specs.declared.hob.Handoff.{Handoff}
 use Rattle.fv_hob.specs.declared.hob.MemoryAllocation.{MemoryAllocation}

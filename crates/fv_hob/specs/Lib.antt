@@ -2,3 +2,4 @@
 pub mod Hobs
 pub mod Lists
 pub mod HobChecks
+pub mod Words

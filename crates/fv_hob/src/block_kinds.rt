@@ -1,7 +1,7 @@
 //! One block, read by its type. (PI specification, volume 3, section 5.)
 
 ghost use Rattle.std.specs.Prelude.{◌≡◌, ◌≤◌, ◌+◌, length, IfOk};
-ghost use Rattle.fv_base.specs.Value.{le_at};
+ghost use Rattle.fv_base.specs.Words.{le_at};
 ghost use Rattle.fv_hob.specs.Hobs.{IsBlock, IsHob, allocation_in, handoff_in, has_shape, hob_type_at, kind_by};
 ghost use Rattle.fv_hob.specs.Hobs.{resource_in};
 

@@ -2,7 +2,7 @@
 
 ghost use Rattle.std.specs.Prelude.{◌≡◌, ◌≢◌, ◌≤◌, ℕ, List, drop, length, take, None, Some, IfOk, IfErr};
 ghost use Rattle.fv_base.specs.inner.Verdicts.{first_fault};
-ghost use Rattle.fv_base.specs.Checks.{IsFirstFault};
+ghost use Rattle.fv_base.specs.Words.{IsFirstFault};
 ghost use Rattle.fv_hob.specs.HobChecks.{BeginsBlock, IsFirstHobFault, BeginsTable, hob_checks, is_hob_len};
 ghost use Rattle.fv_hob.specs.HobChecks.{hob_out_of_memory};
 ghost use Rattle.fv_hob.specs.Hobs.{HobForm, hob_len_at};

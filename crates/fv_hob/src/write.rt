@@ -2,8 +2,7 @@
 
 ghost use Rattle.std.specs.Prelude.{◌≡◌, ℕ, List, [], ◌∷◌, ◌++◌, replicate, OnOk, IfOk, IfErr};
 ghost use Rattle.std.specs.List.{AllByRecursion, concat};
-ghost use Rattle.fv_base.specs.Guids.{bytes_of};
-ghost use Rattle.fv_base.specs.Value.{le_bytes};
+ghost use Rattle.fv_base.specs.Words.{bytes_of, le_bytes};
 ghost use Rattle.fv_hob.specs.HobChecks.{hob_out_of_memory};
 ghost use Rattle.fv_hob.specs.declared.hob.HobKind.TheVariants as kinds;
 ghost use Rattle.fv_hob.specs.Lists.{IsHobList, IsUsedHob};

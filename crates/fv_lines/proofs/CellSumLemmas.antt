@@ -6,17 +6,15 @@ use Rattle.std.specs.List.{AllByRecursion, sum_by}
 use Rattle.std.proofs.lemmas.List.{length-take-le, map-append, map_more, take-append-drop}
 use Rattle.std.proofs.lemmas.List.Sums.{sum_by-append, sum_by-cons, sum_by_push}
 use Rattle.fv_base.proofs.Laws.{or_more, want_known}
-use Rattle.fv_base.specs.Faults.{out_of_memory}
-use Rattle.fv_base.specs.Limits.{volume_limit}
+use Rattle.fv_base.specs.Words.{out_of_memory, volume_limit}
 use Rattle.fv_base.specs.declared.fault.Fault.{Fault}
 use Rattle.fv_base.specs.declared.flash.FileSystem.{FileSystem}
 use Rattle.fv_base.specs.declared.flash.Polarity.{Polarity}
 use Rattle.fv_file.proofs.Laws.{cell_span}
-use Rattle.fv_file.specs.Cells.{CellForm, Valid, Pad, Dead, Stub, Free, Tiles}
-use Rattle.fv_file.specs.CellForms.{CellsWithin, cell_len}
+use Rattle.fv_file.specs.Words.{CellForm, Valid, Pad, Dead, Stub, Free, Tiles, CellsWithin, cell_len}
 use Rattle.fv_head.specs.declared.extent.Extent.{Extent}
-use Rattle.fv_tree.specs.LocatedFiles.{BeginsTiled, NotTiled}
-use Rattle.fv_lines.specs.CellTexts.{CellsText, cell_lines, dead_length, file_length, filler_length, free_length, pad_length, sums_of}
+use Rattle.fv_tree.specs.Words.{BeginsTiled, NotTiled}
+use Rattle.fv_lines.specs.Words.{CellsText, cell_lines, dead_length, file_length, filler_length, free_length, pad_length, sums_of}
 use Rattle.fv_lines.specs.inner.LineRuns.{FitTogether, Fits, counted, sums_with}
 
 -- ---- sums

@@ -1,9 +1,8 @@
 -- A walk over a volume has the digests of what is left of it.
 use Rattle.std.proofs.Common.{◌≡◌, ◌<◌, ◌+◌, ℕ, List, [], ◌++◌, length, drop, get_or, sym, ap, ◌∙◌, subst, append_assoc, append-nil}
-use Rattle.fv_lines.specs.ListTexts.{CoverLaws, Leaves}
-use Rattle.fv_tree.specs.Meaning.{BodyMeaning, ContentMeaning, FileMeaning, SectionMeaning, content_of}
-use Rattle.fv_tree.specs.MeaningParts.{body_of, files_from, sections_from}
-use Rattle.fv_tree.specs.Volumes.{Inside, deeper, volumes_in_body, volumes_in_content, volumes_in_files, volumes_in_sections}
+use Rattle.fv_lines.specs.Words.{CoverLaws, Leaves}
+use Rattle.fv_tree.specs.Words.{BodyMeaning, ContentMeaning, FileMeaning, SectionMeaning, content_of, body_of, files_from, sections_from}
+use Rattle.fv_tree.specs.Words.{Inside, deeper, volumes_in_body, volumes_in_content, volumes_in_files, volumes_in_sections}
 use Rattle.fv_base.proofs.Laws.{item_at}
 use Rattle.fv_tree.proofs.Laws.{in_file, in_section}
 

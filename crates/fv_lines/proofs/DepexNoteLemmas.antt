@@ -3,16 +3,14 @@ use Rattle.std.proofs.Common.{◌≡◌, ◌∙◌, ◌<◌, ◌+◌, inl, inr, 
 use Rattle.std.proofs.Common.{Some, refl, sym, ap, subst, append-nil}
 use Rattle.std.specs.List.{flat_map}
 use Rattle.std.proofs.lemmas.Grind.{common_steps, flat_map-append}
+use Rattle.fv_base.specs.Words.{WalkLaws}
 use Rattle.fv_base.specs.declared.guid.Guid.{Guid}
-use Rattle.fv_tree.specs.LookupInstances.{preorder}
-use Rattle.fv_tree.specs.Meaning.{FileMeaning, File, Plain, Sectioned, SectionMeaning, Section, Leaf, Group, Nested}
-use Rattle.fv_tree.specs.Meaning.{content_of, file_name_of}
-use Rattle.fv_tree.specs.MeaningParts.{body_of, leaf_of, section_kind_of, sections_in_data}
-use Rattle.fv_lines.specs.Notes.{phase_of, read_by, section_depex, sections_depexes, file_depexes}
-use Rattle.fv_lines.specs.Notes.{HeldDepex, IsSpelled, IsNoted, AreNotes, depex_line}
-use Rattle.fv_base.specs.Sinks.{WalkLaws}
-use Rattle.fv_lines.specs.inner.LineRuns.{PutsNotes}
+use Rattle.fv_tree.specs.Words.{preorder, FileMeaning, File, Plain, Sectioned, SectionMeaning, Section, Leaf, Group, Nested, content_of}
+use Rattle.fv_tree.specs.Words.{file_name_of, body_of, leaf_of, section_kind_of, sections_in_data}
+use Rattle.fv_lines.specs.Words.{phase_of, read_by, section_depex, sections_depexes, file_depexes, HeldDepex, IsSpelled, IsNoted, AreNotes}
+use Rattle.fv_lines.specs.Words.{depex_line}
 use Rattle.fv_lines.specs.declared.depex_notes.DepexNote.{DepexNote}
+use Rattle.fv_lines.specs.inner.LineRuns.{PutsNotes}
 use Rattle.fv_text.proofs.Laws.{texts_next}
 
 -- ---- notes

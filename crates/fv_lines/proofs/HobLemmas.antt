@@ -2,9 +2,9 @@
 use Rattle.std.proofs.Common.{◌≡◌, ℕ, ◌+◌, ◌<◌, ◌≤◌, List, ◌∷◌, ◌++◌, length, get_or, drop}
 use Rattle.std.proofs.Common.{refl, ◌∙◌, ap, subst}
 use Rattle.std.specs.Prelude.{Option}
-use Rattle.fv_base.specs.Sinks.{WalkLaws}
-use Rattle.fv_hob.specs.Hobs.{HobForm, hob_type, hob_len}
-use Rattle.fv_lines.specs.HobLines.{MappedForm, HobLines, HobsText, IsWord, consumed_line, hob_line}
+use Rattle.fv_base.specs.Words.{WalkLaws}
+use Rattle.fv_hob.specs.Words.{HobForm, hob_type, hob_len}
+use Rattle.fv_lines.specs.Words.{MappedForm, HobLines, HobsText, IsWord, consumed_line, hob_line}
 use Rattle.fv_text.proofs.Laws.{Tells, tells_more, tells_all}
 
 -- the line of one block more

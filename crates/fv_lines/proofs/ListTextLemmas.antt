@@ -2,18 +2,14 @@
 use Rattle.std.proofs.Common.{◌≡◌, ℕ, ◌+◌, ◌<◌, ◌≤◌, List, [], ◌∷◌, ◌++◌, length, drop, get_or, refl, subst, sym, arith}
 use Rattle.std.specs.Prelude.{Option, None, Some}
 use Rattle.std.specs.List.{flat_map}
-use Rattle.fv_base.specs.Sinks.{WalkLaws}
-use Rattle.fv_base.specs.Sums.{words_of}
-use Rattle.fv_base.specs.Value.{le_at}
-use Rattle.fv_head.specs.Head.{HeadFields}
-use Rattle.fv_tree.specs.Meaning.{Meaning, Volume, FileMeaning, File, ContentMeaning, SectionMeaning, Section, BodyMeaning}
-use Rattle.fv_tree.specs.Meaning.{Leaf, Group, Nested, content_of}
-use Rattle.fv_tree.specs.MeaningParts.{files_from, sections_from, section_kind_of, body_of, leaf_of}
-use Rattle.fv_tree.specs.Volumes.{Inside, volumes_in_body, volumes_in_content, volumes_in_files, volumes_in_sections}
+use Rattle.fv_base.specs.Words.{WalkLaws, words_of, le_at}
+use Rattle.fv_head.specs.Words.{HeadFields}
+use Rattle.fv_tree.specs.Words.{Meaning, Volume, FileMeaning, File, ContentMeaning, SectionMeaning, Section, BodyMeaning, Leaf, Group}
+use Rattle.fv_tree.specs.Words.{Nested, content_of, files_from, sections_from, section_kind_of, body_of, leaf_of, Inside, volumes_in_body}
+use Rattle.fv_tree.specs.Words.{volumes_in_content, volumes_in_files, volumes_in_sections}
 use Rattle.fv_lines.proofs.CoverLemmas.{file_left, left_next, section_left}
-use Rattle.fv_lines.specs.ListTexts.{CoverLaws, Leaves}
-use Rattle.fv_lines.specs.ListTexts.{unit_text, volume_text, file_text, section_text, LeafText, BodyShown}
-use Rattle.fv_lines.specs.ListTexts.{VolumeLines, FilesLines, FileLines, ContentLines, SectionsLines, SectionLines, BodyLines}
+use Rattle.fv_lines.specs.Words.{CoverLaws, Leaves, unit_text, volume_text, file_text, section_text, LeafText, BodyShown, VolumeLines}
+use Rattle.fv_lines.specs.Words.{FilesLines, FileLines, ContentLines, SectionsLines, SectionLines, BodyLines}
 use Rattle.fv_text.proofs.Laws.{Tells, tells_more}
 
 -- ---- units

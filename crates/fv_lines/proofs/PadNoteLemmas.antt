@@ -5,9 +5,9 @@ use Rattle.std.specs.Prelude.{◌==◌}
 use Rattle.std.proofs.lemmas.Bool.Decides.{Decides-eqb}
 use Rattle.std.proofs.lemmas.List.Sums.{count_by_more_no, count_by_more_yes}
 use Rattle.fv_base.proofs.Laws.{not_equal}
-use Rattle.fv_base.specs.Flash.{erased_byte}
+use Rattle.fv_base.specs.Words.{erased_byte}
 use Rattle.fv_base.specs.declared.flash.Polarity.{Polarity}
-use Rattle.fv_lines.specs.Notes.{written_in, pad_line, pad_text}
+use Rattle.fv_lines.specs.Words.{written_in, pad_line, pad_text}
 
 same_test : (a b : ℕ) → a ≡ b → (a == b) ≡ true
 same_test a b h = (Decides-eqb a b).1 h

@@ -4,9 +4,9 @@ use Rattle.std.proofs.Common.{ℕ, zero, suc, ◌+◌, ◌<◌, ◌≤◌, List,
 use Rattle.std.proofs.Common.{refl, arith}
 use Rattle.std.specs.List.{AllByRecursion}
 use Rattle.std.proofs.lemmas.List.{length-drop}
-use Rattle.fv_base.specs.Sinks.{WalkLaws}
-use Rattle.fv_flash.specs.FoundVolumes.{IsPlace, VolumeAt}
-use Rattle.fv_lines.specs.ScanLines.{ScanText, volume_line}
+use Rattle.fv_base.specs.Words.{WalkLaws}
+use Rattle.fv_flash.specs.Words.{IsPlace, VolumeAt}
+use Rattle.fv_lines.specs.Words.{ScanText, volume_line}
 use Rattle.fv_text.proofs.Laws.{Tells, tells_more}
 
 -- at each of the places a volume begins

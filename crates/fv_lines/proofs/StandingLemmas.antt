@@ -4,10 +4,10 @@ use Rattle.std.proofs.Common.{◌≡◌, ◌≢◌, ℕ, List, length, arith, le
 use Rattle.std.specs.Prelude.{Result, Ok, Err}
 use Rattle.std.proofs.lemmas.List.{length-take-le}
 use Rattle.fv_base.specs.declared.fault.Fault.{Fault}
-use Rattle.fv_head.specs.Head.{HeadFields, BeginsVolume}
+use Rattle.fv_head.specs.Words.{HeadFields, BeginsVolume}
 use Rattle.fv_head.specs.declared.extent.Extent.{Extent}
 use Rattle.fv_hob.specs.declared.span.Span.{Span}
-use Rattle.fv_lines.specs.HobLines.{IsMapped, IsStanding, bytes_in_span}
+use Rattle.fv_lines.specs.Words.{IsMapped, IsStanding, bytes_in_span}
 use Rattle.fv_lines.specs.declared.hob_text.Standing.TheVariants.{Volume, Absent}
 
 part_len : (image : List ℕ) (base : ℕ) (s : Span) → IsMapped base (length image) s → length (bytes_in_span image base s) ≡ s.length

@@ -1,17 +1,14 @@
 -- The text of `cells`: where each cell of a volume lies, and how many bytes the cells have.
 use Rattle.std.specs.Prelude.{◌≡◌, ℕ, ◌+◌, ◌-◌, List, ◌++◌, length, codes, decimal}
 use Rattle.std.specs.List.{flat_map, sum_by}
-use Rattle.fv_base.specs.Guids.{bytes_of}
-use Rattle.fv_base.specs.GuidTexts.{guid_text}
-use Rattle.fv_base.specs.Value.{up_to_8}
-use Rattle.fv_text.specs.HexText.{line_feed, two_digits}
-use Rattle.fv_file.specs.Cells.{CellForm, Valid, Pad, Dead, Stub, Free}
-use Rattle.fv_file.specs.FileAttributes.{attribute_bits}
+use Rattle.fv_base.specs.Words.{bytes_of, guid_text, up_to_8}
+use Rattle.fv_text.specs.Words.{line_feed, two_digits}
+use Rattle.fv_file.specs.Words.{CellForm, Valid, Pad, Dead, Stub, Free, attribute_bits}
 use Rattle.fv_file.specs.declared.head.FileHead.{FileHead}
 use Rattle.fv_file.specs.declared.state.FileState.{FileState}
 use Rattle.fv_file.specs.declared.state.FileState.TheVariants as states
 use Rattle.fv_head.specs.declared.extent.Extent.{Extent}
-use Rattle.fv_tree.specs.LocatedFiles.{BeginsTiled}
+use Rattle.fv_tree.specs.Words.{BeginsTiled}
 use Rattle.fv_lines.specs.declared.cell_text.LengthSums.{LengthSums}
 
 -- ---- lines

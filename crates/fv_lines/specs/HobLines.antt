@@ -1,14 +1,13 @@
 -- The text of a hand-off list, and what an image holds where a volume should be.
 use Rattle.std.specs.Prelude.{◌≡◌, ◌≤◌, ℕ, ◌+◌, ◌-◌, List, length, take, drop, [], ◌∷◌, ◌++◌, Option, None, Some, codes}
 use Rattle.std.specs.Prelude.{decimal}
-use Rattle.fv_head.specs.Head.{HeadFields, BeginsVolume}
+use Rattle.fv_head.specs.Words.{HeadFields, BeginsVolume}
 use Rattle.fv_head.specs.declared.extent.Extent.{Extent}
+use Rattle.fv_hob.specs.Words.{HobForm, hob_type, hob_len, span_of}
 use Rattle.fv_hob.specs.declared.span.Span.{Span}
 use Rattle.fv_lines.specs.declared.hob_text.Standing.{Standing}
 use Rattle.fv_lines.specs.declared.hob_text.Standing.TheVariants.{Outside, Volume, Absent}
-use Rattle.fv_text.specs.HexText.{four_digits, line_feed}
-use Rattle.fv_hob.specs.Hobs.{HobForm, hob_type, hob_len}
-use Rattle.fv_hob.specs.Lists.{span_of}
+use Rattle.fv_text.specs.Words.{four_digits, line_feed}
 use Rattle.fv_lines.specs.declared.hob_text.MappedImage.{MappedImage}
 
 -- the span is in an image of n bytes, the first of which has the address `base`

@@ -4,4 +4,5 @@ pub mod HobLines
 pub mod CellTexts
 pub mod Notes
 pub mod ListTexts
+pub mod Words
 pub mod inner

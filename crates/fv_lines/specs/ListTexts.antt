@@ -4,21 +4,18 @@ use Rattle.std.specs.Prelude.{◌≡◌, ◌≢◌, ◌⊎◌, ℕ, zero, suc, �
 use Rattle.std.specs.Prelude.{if◌then◌else◌, List, [], ◌∷◌, ◌++◌, length, Option, Some, None, codes, decimal}
 use Rattle.std.specs.List.{flat_map}
 use Rattle.hex.specs.Hex.{encode_lower}
-use Rattle.fv_base.specs.Guids.{bytes_of}
-use Rattle.fv_base.specs.GuidTexts.{guid_text}
-use Rattle.fv_base.specs.Sums.{words_of}
+use Rattle.fv_base.specs.Words.{bytes_of, guid_text, words_of}
 use Rattle.fv_base.specs.declared.flash.FileSystem.{FileSystem}
-use Rattle.fv_base.specs.declared.flash.FileSystem.TheVariants.{Ffs2, Ffs3}
 use Rattle.fv_base.specs.declared.guid.Guid.{Guid}
-use Rattle.fv_text.specs.HexText.{four_digits, line_feed, two_digits}
-use Rattle.fv_head.specs.Ext.{Extension}
-use Rattle.fv_section.specs.Texts.{IsText, IsVersion, IsFreeform}
-use Rattle.fv_tree.specs.Meaning.{Meaning, Volume, FileMeanings, NoFiles, MoreFiles, FileMeaning, File, ContentMeaning}
-use Rattle.fv_tree.specs.Meaning.{Plain, Sectioned, SectionMeanings, NoSections, MoreSections, SectionMeaning, Section}
-use Rattle.fv_tree.specs.Meaning.{BodyMeaning, Leaf, Group, Nested, body_len, head_of, files_of, file_name_of}
-use Rattle.fv_tree.specs.Meaning.{attributes_of, data_len_of}
-use Rattle.fv_tree.specs.MeaningParts.{file_kind_of, section_kind_of, section_is_extended, body_of}
-use Rattle.fv_tree.specs.Volumes.{Inside, deeper}
+use Rattle.fv_base.specs.declared.flash.FileSystem.TheVariants.{Ffs2, Ffs3}
+use Rattle.fv_text.specs.Words.{four_digits, line_feed, two_digits}
+use Rattle.fv_head.specs.Words.{Extension}
+use Rattle.fv_section.specs.Words.{IsText, IsVersion, IsFreeform}
+use Rattle.fv_tree.specs.Words.{Meaning, Volume, FileMeanings, NoFiles, MoreFiles, FileMeaning, File, ContentMeaning}
+use Rattle.fv_tree.specs.Words.{Plain, Sectioned, SectionMeanings, NoSections, MoreSections, SectionMeaning, Section}
+use Rattle.fv_tree.specs.Words.{BodyMeaning, Leaf, Group, Nested, body_len, head_of, files_of, file_name_of}
+use Rattle.fv_tree.specs.Words.{attributes_of, data_len_of, file_kind_of, section_kind_of, section_is_extended, body_of}
+use Rattle.fv_tree.specs.Words.{Inside, deeper}
 
 -- ---- what a leaf shows
 

@@ -3,21 +3,18 @@
 use Rattle.std.specs.Prelude.{◌≡◌, ◌⊎◌, ℕ, ◌==◌, ◌||◌, not, if◌then◌else◌, Bool, true, false, List, [], ◌∷◌, ◌++◌}
 use Rattle.std.specs.Prelude.{Option, Some, None, codes, decimal}
 use Rattle.std.specs.List.{count_by, flat_map}
-use Rattle.fv_base.specs.Flash.{erased_byte}
-use Rattle.fv_base.specs.Guids.{bytes_of}
-use Rattle.fv_base.specs.GuidTexts.{guid_text}
+use Rattle.fv_base.specs.Words.{erased_byte, bytes_of, guid_text}
 use Rattle.fv_base.specs.declared.flash.Polarity.{Polarity}
 use Rattle.fv_base.specs.declared.guid.Guid.{Guid}
-use Rattle.fv_text.specs.HexText.{line_feed}
-use Rattle.fv_depex.specs.OpChecks.{IsFirstOpFault, depex_fault_number}
-use Rattle.fv_depex.specs.Expressions.{Spells}
+use Rattle.fv_text.specs.Words.{line_feed}
+use Rattle.fv_depex.specs.Words.{IsFirstOpFault, depex_fault_number, Spells}
 use Rattle.fv_depex.specs.declared.fault.DepexFault.{DepexFault}
 use Rattle.fv_depex.specs.declared.op.Op.{Op}
 use Rattle.fv_depex.specs.declared.op.Phase.{Phase}
 use Rattle.fv_depex.specs.declared.op.Phase.TheVariants.{Pei, Dxe}
-use Rattle.fv_file.specs.Cells.{CellForm, Pad}
-use Rattle.fv_tree.specs.LookupInstances.{preorder}
-use Rattle.fv_tree.specs.Meaning.{FileMeaning, File, Plain, Sectioned, SectionMeaning, Section, Leaf, Group, Nested}
+use Rattle.fv_file.specs.Words.{CellForm, Pad}
+use Rattle.fv_tree.specs.Words.{preorder, FileMeaning, File, Plain, Sectioned, SectionMeaning, Section, Leaf, Group}
+use Rattle.fv_tree.specs.Words.{Nested}
 use Rattle.fv_lines.specs.declared.depex_notes.DepexNote.{DepexNote}
 
 -- ---- pads

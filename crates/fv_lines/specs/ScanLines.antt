@@ -1,7 +1,7 @@
 -- The text of `scan`.
 use Rattle.std.specs.Prelude.{◌≡◌, ℕ, List, [], ◌∷◌, ◌++◌, codes, decimal}
-use Rattle.fv_text.specs.HexText.{line_feed}
-use Rattle.fv_flash.specs.FoundVolumes.{VolumeAt}
+use Rattle.fv_text.specs.Words.{line_feed}
+use Rattle.fv_flash.specs.Words.{VolumeAt}
 
 -- the line of a volume of n bytes that begins at an offset
 abbrev pub volume_line : ℕ → ℕ → List ℕ

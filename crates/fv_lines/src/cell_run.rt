@@ -1,9 +1,9 @@
 //! Where the cells of a volume lie.
 
 ghost use Rattle.std.specs.Prelude.{◌≡◌, ◌⊎◌, ℕ, List, IfErr, OnErr, OnOk};
-ghost use Rattle.fv_base.specs.Faults.{out_of_memory};
+ghost use Rattle.fv_base.specs.Words.{out_of_memory};
 ghost use Rattle.fv_lines.specs.CellTexts.{CellsText};
-ghost use Rattle.fv_tree.specs.LocatedFiles.{NotTiled};
+ghost use Rattle.fv_tree.specs.Words.{NotTiled};
 
 use crate::cell_text::put_lines;
 use fv_base::{Fault, Sink};

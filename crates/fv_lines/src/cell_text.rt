@@ -2,8 +2,8 @@
 
 ghost use Rattle.std.specs.Prelude.{◌≡◌, ◌≤◌, ◌+◌, ◌-◌, ◌<◌, ◌^◌, length, map};
 ghost use Rattle.std.specs.List.{flat_map, sum_by};
-ghost use Rattle.fv_base.specs.Value.{up_to_8};
-ghost use Rattle.fv_file.specs.CellForms.{cell_form, cell_len};
+ghost use Rattle.fv_base.specs.Words.{up_to_8};
+ghost use Rattle.fv_file.specs.Words.{cell_form, cell_len};
 ghost use Rattle.fv_lines.specs.CellTexts.{cell_line, cell_lines, dead_name, file_line, span_line, span_text};
 ghost use Rattle.fv_lines.specs.CellTexts.{sums_line, sums_of};
 ghost use Rattle.fv_lines.specs.inner.LineRuns.{FitTogether, Fits, counted, sums_with};

@@ -1,7 +1,7 @@
 //! What is noted of the dependency expressions in a volume, a line for each.
 
 ghost use Rattle.std.specs.Prelude.{◌≡◌, List, Some};
-ghost use Rattle.fv_tree.specs.Meaning.{files_of};
+ghost use Rattle.fv_tree.specs.Words.{files_of};
 ghost use Rattle.fv_lines.specs.Notes.{AreNotes, depex_line, depex_lines, depexes_in, file_depexes, phase_of, read_by};
 ghost use Rattle.fv_lines.specs.Notes.{section_depex};
 ghost use Rattle.fv_lines.specs.inner.LineRuns.{PutsNotes};

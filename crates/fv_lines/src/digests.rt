@@ -2,8 +2,7 @@
 
 ghost use Rattle.std.specs.Prelude.{◌≡◌, ℕ, List, Option, drop};
 ghost use Rattle.fv_lines.specs.ListTexts.{CoverLaws, Leaves, NoDigest};
-ghost use Rattle.fv_tree.specs.Meaning.{FileMeaning, Meaning, content_of};
-ghost use Rattle.fv_tree.specs.Volumes.{Inside, volumes_in, volumes_in_content};
+ghost use Rattle.fv_tree.specs.Words.{FileMeaning, Meaning, content_of, Inside, volumes_in, volumes_in_content};
 
 use fv_tree::{FileView, VolumeView};
 

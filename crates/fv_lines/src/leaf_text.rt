@@ -2,8 +2,8 @@
 
 ghost use Rattle.std.specs.Prelude.{◌≡◌, ℕ, List};
 ghost use Rattle.std.specs.List.{flat_map};
-ghost use Rattle.fv_base.specs.Sums.{words_of};
-ghost use Rattle.fv_tree.specs.MeaningParts.{body_of, section_kind_of};
+ghost use Rattle.fv_base.specs.Words.{words_of};
+ghost use Rattle.fv_tree.specs.Words.{body_of, section_kind_of};
 ghost use Rattle.fv_lines.specs.ListTexts.{is_plain, unit_text};
 ghost use Rattle.fv_lines.specs.ListTexts.{VersionText, InterfaceText, SubtypeText, LeafText, BodyShown};
 

@@ -1,11 +1,9 @@
 //! The files and the sections of a volume, one line each.
 
 ghost use Rattle.std.specs.Prelude.{◌≡◌, ℕ, List, [], Option};
-ghost use Rattle.fv_tree.specs.Meaning.{content_of};
-ghost use Rattle.fv_tree.specs.MeaningParts.{files_from, sections_from, section_kind_of, body_of};
-ghost use Rattle.fv_tree.specs.Views.{body_view, content_view};
-ghost use Rattle.fv_tree.specs.Volumes.{volumes_in, volumes_in_body, volumes_in_content, volumes_in_files};
-ghost use Rattle.fv_tree.specs.Volumes.{volumes_in_sections};
+ghost use Rattle.fv_tree.specs.Words.{content_of, files_from, sections_from, section_kind_of, body_of, body_view};
+ghost use Rattle.fv_tree.specs.Words.{content_view, volumes_in, volumes_in_body, volumes_in_content, volumes_in_files};
+ghost use Rattle.fv_tree.specs.Words.{volumes_in_sections};
 ghost use Rattle.fv_lines.specs.ListTexts.{Leaves, form_text, system_text, name_text, volume_text, file_text};
 ghost use Rattle.fv_lines.specs.ListTexts.{section_text, BodyShown, ListText, VolumeLines, FilesLines, ContentLines};
 ghost use Rattle.fv_lines.specs.ListTexts.{SectionsLines, BodyLines};

@@ -1,7 +1,7 @@
 //! The lines for pads that hold bytes which are not erased.
 
 ghost use Rattle.std.specs.Prelude.{◌≡◌, map};
-ghost use Rattle.fv_file.specs.CellForms.{cell_form};
+ghost use Rattle.fv_file.specs.Words.{cell_form};
 ghost use Rattle.fv_lines.specs.Notes.{written_in, pad_line, pad_note, pad_notes};
 
 use fv_base::{Polarity, Sink};

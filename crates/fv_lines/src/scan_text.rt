@@ -1,7 +1,7 @@
 //! The volumes that a scan found.
 
 ghost use Rattle.std.specs.Prelude.{ℕ, List};
-ghost use Rattle.fv_flash.specs.FoundVolumes.{Found};
+ghost use Rattle.fv_flash.specs.Words.{Found};
 ghost use Rattle.fv_lines.specs.ScanLines.{ScanText, volume_line};
 
 use fv_base::Sink;

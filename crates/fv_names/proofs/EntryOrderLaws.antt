@@ -9,7 +9,7 @@ use Rattle.std.specs.declared.cmp.Ordering.{Ordering}
 use Rattle.std.specs.declared.cmp.Ordering.TheVariants.{Less, Equal}
 use Rattle.std.proofs.lemmas.Cmp.{nat_cmp_total, on_total, ranked, then_total, tied_itself}
 use Rattle.std.proofs.lemmas.List.MinMax.{ranks_by}
-use Rattle.fv_names.specs.NameIndexes.{Entry, Halves, entry_cmp, halves_cmp}
+use Rattle.fv_names.specs.Words.{Entry, Halves, entry_cmp, halves_cmp}
 
 -- ---- the order is total
 

@@ -22,8 +22,7 @@ use Rattle.std.proofs.lemmas.List.Sums.{position_or_len_is}
 use Rattle.std.proofs.lemmas.Map.Keys.{apart_from_distinct, IsDistinct-IsPermutation, IsDistinct-from_apart}
 use Rattle.fv_base.specs.declared.guid.Guid.{Guid}
 use Rattle.fv_base.proofs.Laws.{at_index, not_equal, first_only}
-use Rattle.fv_names.specs.NameIndexes.{Entry, Halves, IsIndex, IsName, entry_cmp, halves_of, numbered}
-use Rattle.fv_names.specs.NamedFiles.{NamedFile, is_name}
+use Rattle.fv_names.specs.Words.{Entry, Halves, IsIndex, IsName, entry_cmp, halves_of, numbered, NamedFile, is_name}
 use Rattle.fv_names.proofs.EntryOrderLaws.{entry_total, less_orders, number_not_below, numbers_rise, one_name_between, tied_entry}
 use Rattle.fv_names.proofs.NumberedLaws.{names_decide, numbered_are, numbers_are}
 

@@ -9,8 +9,7 @@ use Rattle.std.proofs.lemmas.List.Folds.{map_fixed}
 use Rattle.std.proofs.lemmas.Nat.{mod-mul-add}
 use Rattle.std.proofs.lemmas.Simd.{map-map}
 use Rattle.fv_base.specs.declared.guid.Guid.{Guid}
-use Rattle.fv_names.specs.NameIndexes.{Entry, halves_of, numbered}
-use Rattle.fv_names.specs.NamedFiles.{NamedFile, names_in}
+use Rattle.fv_names.specs.Words.{Entry, halves_of, numbered, NamedFile, names_in}
 use Rattle.fv_names.specs.inner.NameOrders.{key_of}
 use Rattle.fv_names.proofs.IndexLaws.{below, no_named}
 use Rattle.fv_names.proofs.NumberedLaws.{numbered_are}

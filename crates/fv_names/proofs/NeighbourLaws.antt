@@ -19,8 +19,7 @@ use Rattle.std.proofs.lemmas.List.Elements.{All-from_get_or, recursion_from_All}
 use Rattle.std.proofs.lemmas.List.Folds.{Any-from_list_any, list_any_at, list_any_none}
 use Rattle.fv_base.specs.declared.guid.Guid.{Guid}
 use Rattle.fv_base.proofs.Laws.{at_index}
-use Rattle.fv_names.specs.NamedFiles.{NamedFile, NoTwins, is_twin, names_in, replaced_by, same_name}
-use Rattle.fv_names.specs.NameIndexes.{AllApart, Entry, IsIndex, IsName, halves_of}
+use Rattle.fv_names.specs.Words.{NamedFile, NoTwins, is_twin, names_in, replaced_by, same_name, AllApart, Entry, IsIndex, IsName, halves_of}
 use Rattle.fv_names.specs.inner.NameOrders.{AreTwins, IsTwinAt, SharesItsName, mark_at}
 use Rattle.fv_names.proofs.IndexLaws.{between, beyond, no_named, of_name, place_of, upward}
 use Rattle.fv_names.proofs.NumberedLaws.{names_decide}

@@ -10,11 +10,10 @@ use Rattle.std.proofs.lemmas.List.{length-drop, length-take-le, take-append-drop
 use Rattle.std.proofs.lemmas.List.FromFn.{fill_by_all}
 use Rattle.std.proofs.lemmas.Nat.{le_bytes_8}
 use Rattle.std.proofs.lemmas.Slice.Eq.{bytes_eq-Decides}
-use Rattle.fv_base.specs.Guids.{bytes_of}
-use Rattle.fv_base.specs.Value.{IsBytes, field}
+use Rattle.fv_base.specs.Words.{bytes_of, IsBytes, field}
 use Rattle.fv_base.specs.declared.guid.Guid.{Guid}
 use Rattle.fv_base.proofs.Laws.{bytes_drop, bytes_take}
-use Rattle.fv_names.specs.NameIndexes.{Entry, Halves, IsName, halves_in, halves_of, numbered}
+use Rattle.fv_names.specs.Words.{Entry, Halves, IsName, halves_in, halves_of, numbered}
 
 -- ---- a name and its halves
 

@@ -1,4 +1,5 @@
 -- The definitions in the order in which they can be read.
 pub mod NamedFiles
 pub mod NameIndexes
+pub mod Words
 pub mod inner

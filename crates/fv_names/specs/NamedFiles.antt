@@ -4,7 +4,7 @@ use Rattle.std.specs.Prelude.{◌≡◌, ◌&&◌, not, Bool, false, List, [], �
 use Rattle.std.specs.Bool.{beq}
 use Rattle.std.specs.List.{list_any}
 use Rattle.std.specs.Str.{bytes_eq}
-use Rattle.fv_base.specs.Guids.{bytes_of}
+use Rattle.fv_base.specs.Words.{bytes_of}
 use Rattle.fv_base.specs.declared.guid.Guid.{Guid}
 
 -- the name of a file, and whether the file is marked for update (section 3.2.3.1, EFI_FILE_MARKED_FOR_UPDATE)

@@ -6,7 +6,7 @@ ghost use Rattle.std.specs.List.{AllByRecursion, list_any, position_or_len};
 ghost use Rattle.std.specs.List.Sorted.{IsPermutation};
 ghost use Rattle.std.specs.Option.{unwrap_or};
 ghost use Rattle.std.specs.Ordering.{nat_cmp};
-ghost use Rattle.fv_base.specs.Faults.{out_of_memory};
+ghost use Rattle.fv_base.specs.Words.{out_of_memory};
 ghost use Rattle.fv_base.specs.declared.guid.Guid.{Guid};
 ghost use Rattle.fv_names.specs.NamedFiles.{NamedFile, NoTwins, is_name, is_twin, names_in, replaced_by};
 ghost use Rattle.fv_names.specs.NameIndexes.{AllApart, Entry, IsIndex, IsName, IsSixteenBytes, entries_of, entry_cmp};

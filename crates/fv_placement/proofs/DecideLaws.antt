@@ -5,9 +5,8 @@
 use Rattle.std.proofs.Common.{◌≡◌, ◌≤◌, ◌<◌, ◌+◌, ◌-◌, ◌%◌, ◌⊎◌, ℕ, zero, suc, List, [], ◌∷◌, take, Bool, true, false, refl, ap, subst, inl, inr, arith}
 use Rattle.std.specs.Prelude.{get_or, IsTrue}
 use Rattle.std.proofs.lemmas.Bool.{cases_lt}
-use Rattle.fv_base.specs.Value.{up_to_8}
-use Rattle.fv_placement.specs.NoPlacement.{HasNoRoom, IsOff, TopOff}
-use Rattle.fv_placement.specs.Starts.{IsFirstPlacement, Lawful, Placement, StandsInVolume, StartsFollow}
+use Rattle.fv_base.specs.Words.{up_to_8}
+use Rattle.fv_placement.specs.Words.{HasNoRoom, IsOff, TopOff, IsFirstPlacement, Lawful, Placement, StandsInVolume, StartsFollow}
 use Rattle.fv_placement.specs.declared.first_placement.LayoutItem.{LayoutItem}
 
 abbrev Decided : Type 0 → Type 0

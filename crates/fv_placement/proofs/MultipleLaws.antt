@@ -4,7 +4,7 @@
 -- 3. Sums and differences of multiples of 8.
 -- 4. An edge is the next multiple of 8.
 use Rattle.std.proofs.lemmas.Grind.{common_steps}
-use Rattle.fv_base.specs.Value.{up_to_8}
+use Rattle.fv_base.specs.Words.{up_to_8}
 use Rattle.std.proofs.Common.{◌≡◌, ℕ, ◌+◌, ◌-◌, ◌*◌, ◌/◌, ◌%◌, ◌^◌, ◌<◌, ◌≤◌, inl, inr, sym, ◌∙◌, ap, subst, arith, suc}
 use Rattle.fv_placement.specs.inner.Reaches.{Widens}
 use Rattle.std.proofs.lemmas.Nat.{pow_below, div_below, mod-pow-add}

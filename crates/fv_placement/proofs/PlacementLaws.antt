@@ -4,16 +4,14 @@
 -- 3. Two first placements are one.
 -- 4. Each file in turn at its first start makes such starts.
 -- 5. Where a volume top file is off at its only possible start, there is no placement.
-use Rattle.fv_base.specs.Value.{up_to_8}
+use Rattle.fv_base.specs.Words.{up_to_8}
 use Rattle.std.proofs.Common.{◌≡◌, ℕ, ◌+◌, ◌-◌, ◌%◌, ◌<◌, ◌≤◌, inl, inr, refl, sym, ◌∙◌, ap, subst, arith, List, [], ◌∷◌, ◌++◌, Bool}
 use Rattle.std.proofs.Common.{true, false, append_assoc, append-nil, length, get_or, take, drop, zero, suc, add-one}
 use Rattle.std.specs.Prelude.{IsTrue, MatchBool}
 use Rattle.std.proofs.lemmas.List.{drop_more, drop_all, take_more, take_all}
+use Rattle.fv_placement.specs.Words.{Lawful, StartsFollow, Placement, IsFirstPlacement, IsLeast, IsOff, TopOff}
 use Rattle.fv_placement.specs.declared.first_placement.LayoutItem.{LayoutItem}
 use Rattle.fv_placement.specs.declared.reach.Reach.{Reach}
-use Rattle.fv_placement.specs.Starts.{Lawful, StartsFollow, Placement, IsFirstPlacement}
-use Rattle.fv_placement.specs.LeastStarts.{IsLeast}
-use Rattle.fv_placement.specs.NoPlacement.{IsOff, TopOff}
 use Rattle.fv_placement.specs.inner.Reaches.{IsBound, IsFirstStart}
 use Rattle.fv_placement.proofs.ReachLaws.{begins, stands}
 

@@ -5,15 +5,15 @@
 -- 4. The way backwards: where no start of a file serves, the files cannot be placed at all.
 -- 5. The way forwards: where the files can be placed, a start serves.
 use Rattle.std.proofs.lemmas.Grind.{common_steps}
-use Rattle.fv_base.specs.Value.{up_to_8}
+use Rattle.fv_base.specs.Words.{up_to_8}
 use Rattle.std.proofs.Common.{◌≡◌, ℕ, ◌+◌, ◌-◌, ◌%◌, ◌<◌, ◌≤◌, ◌⊎◌, inl, inr, refl, sym, ◌∙◌, ap, subst, arith, List, [], ◌∷◌, length}
 use Rattle.std.proofs.Common.{get_or, drop, zero, suc}
 use Rattle.std.proofs.lemmas.Bool.{cases_lt}
 use Rattle.std.specs.Prelude.{slice_set}
 use Rattle.std.proofs.lemmas.List.{drop_more, get_or-set_same, get_or-set_other}
+use Rattle.fv_placement.specs.Words.{Lawful, StandsInVolume, StartsFollow}
 use Rattle.fv_placement.specs.declared.first_placement.LayoutItem.{LayoutItem}
 use Rattle.fv_placement.specs.declared.reach.Reach.{Reach}
-use Rattle.fv_placement.specs.Starts.{Lawful, StandsInVolume, StartsFollow}
 use Rattle.fv_placement.specs.inner.Reaches.{AreReaches, CanPlace, IsBound, IsGreatest, IsReach, IsUsable, Serves}
 use Rattle.fv_placement.proofs.MultipleLaws.{edge_eighth, edge_within, edge_above}
 

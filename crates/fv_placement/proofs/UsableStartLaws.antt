@@ -3,14 +3,14 @@
 -- 2. Up: the least start with a pad before it is lawful, and what serves is a step after a start that does not.
 -- 3. Down: where the greatest lawful start does not serve, the next does.
 use Rattle.std.proofs.lemmas.Grind.{common_steps}
-use Rattle.fv_base.specs.Value.{up_to_8}
+use Rattle.fv_base.specs.Words.{up_to_8}
 use Rattle.std.proofs.Common.{◌≡◌, ℕ, ◌+◌, ◌-◌, ◌%◌, ◌<◌, ◌≤◌, inl, inr, sym, ◌∙◌, ap, subst, arith, Bool, true, false}
 use Rattle.std.specs.Prelude.{IsTrue}
 use Rattle.std.proofs.lemmas.Bool.{cases_lt}
 use Rattle.std.proofs.Math.Nat.{mod_self, mod-eq-sub-mod}
+use Rattle.fv_placement.specs.Words.{Lawful}
 use Rattle.fv_placement.specs.declared.first_placement.LayoutItem.{LayoutItem}
 use Rattle.fv_placement.specs.declared.reach.Reach.{Reach}
-use Rattle.fv_placement.specs.Starts.{Lawful}
 use Rattle.fv_placement.specs.inner.Reaches.{IsUsable, Serves, Widens}
 use Rattle.fv_placement.proofs.MultipleLaws.{multiples_apart, eighth_sum, eighth_difference}
 use Rattle.fv_placement.proofs.ReachLaws.{usable_most}

@@ -1,6 +1,6 @@
 -- What must be so of a file that is to be placed (PI specification, volume 3, section 3.2.3.1).
 use Rattle.std.specs.Prelude.{◌≡◌, ℕ, ◌%◌, ◌≤◌}
-use Rattle.fv_base.specs.Measures.{IsAlignment}
+use Rattle.fv_base.specs.Words.{IsAlignment}
 use Rattle.fv_placement.specs.declared.first_placement.LayoutItem.{LayoutItem}
 
 -- what the layout of a volume of `total` bytes knows of a file

@@ -1,7 +1,7 @@
 -- The least starts of the files of a volume (PI specification, volume 3, section 3.2.3.1, for the alignment of data and
 -- the pads between files).
 use Rattle.std.specs.Prelude.{◌≡◌, ℕ, ◌+◌, ◌≤◌, List, [], ◌∷◌, MatchBool}
-use Rattle.fv_base.specs.Value.{up_to_8}
+use Rattle.fv_base.specs.Words.{up_to_8}
 use Rattle.fv_placement.specs.Starts.{Lawful}
 use Rattle.fv_placement.specs.declared.first_placement.LayoutItem.{LayoutItem}
 

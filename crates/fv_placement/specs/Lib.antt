@@ -3,4 +3,5 @@ pub mod Starts
 pub mod LeastStarts
 pub mod NoPlacement
 pub mod Items
+pub mod Words
 pub mod inner

@@ -1,7 +1,7 @@
 -- Where the files of a volume may be placed: lawful starts, placements, and the first placement (PI specification,
 -- volume 3, section 3.2.3.1, for the alignment of data and the pads between files).
 use Rattle.std.specs.Prelude.{◌≡◌, ℕ, ◌+◌, ◌%◌, ◌≤◌, ◌⊎◌, List, [], ◌∷◌, take, get_or, IsTrue}
-use Rattle.fv_base.specs.Value.{up_to_8}
+use Rattle.fv_base.specs.Words.{up_to_8}
 use Rattle.fv_placement.specs.declared.first_placement.LayoutItem.{LayoutItem}
 
 -- a start that a file may have after the edge e: a multiple of 8, either at the edge or far enough after it for a pad,

@@ -19,8 +19,7 @@
 
 ghost use Rattle.std.specs.Prelude.{◌≡◌, ℕ, ◌+◌, ◌%◌, ◌^◌, ◌<◌, ◌≤◌, IfOk, IfErr, IfSome, IfNone, List};
 ghost use Rattle.std.specs.Prelude.{IsTrue, ◌↔◌, All, length, get_or, false};
-ghost use Rattle.fv_base.specs.Faults.{out_of_memory};
-ghost use Rattle.fv_base.specs.Limits.{volume_limit};
+ghost use Rattle.fv_base.specs.Words.{out_of_memory, volume_limit};
 ghost use Rattle.fv_placement.specs.declared.reach.Reach.{Reach};
 ghost use Rattle.fv_placement.specs.declared.first_placement.LayoutItem.{LayoutItem};
 ghost use Rattle.fv_placement.specs.inner.Reaches.{AreReaches, CanPlace, IsBound, IsGreatest, IsReach, Serves};

@@ -7,7 +7,7 @@
 //! the files may begin right there. So one number and two truth values say which edges are usable.
 
 ghost use Rattle.std.specs.Prelude.{◌≡◌, ◌%◌, ◌^◌, ◌<◌, ◌≤◌, ◌↔◌, IsTrue, List, []};
-ghost use Rattle.fv_base.specs.Limits.{volume_limit};
+ghost use Rattle.fv_base.specs.Words.{volume_limit};
 ghost use Rattle.fv_placement.specs.declared.first_placement.LayoutItem.{LayoutItem};
 ghost use Rattle.fv_placement.specs.Items.{IsLawfulItem};
 ghost use Rattle.fv_placement.specs.inner.Reaches.{IsBound, IsReach, IsUsable, Serves};

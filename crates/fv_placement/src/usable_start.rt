@@ -5,8 +5,7 @@
 //! are found from one lawful start to the next, a step of the alignment, which is at least 8.
 
 ghost use Rattle.std.specs.Prelude.{◌≡◌, ℕ, ◌+◌, ◌%◌, ◌^◌, ◌<◌, ◌≤◌, IfSome, IfNone};
-ghost use Rattle.fv_base.specs.Measures.{IsAlignment};
-ghost use Rattle.fv_base.specs.Limits.{volume_limit};
+ghost use Rattle.fv_base.specs.Words.{IsAlignment, volume_limit};
 ghost use Rattle.fv_placement.specs.Starts.{Lawful};
 ghost use Rattle.fv_placement.specs.Items.{IsLawfulItem};
 ghost use Rattle.fv_placement.specs.inner.Reaches.{IsFirstStart, Serves, Widens};

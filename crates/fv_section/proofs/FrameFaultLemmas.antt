@@ -4,11 +4,10 @@
 use Rattle.std.proofs.lemmas.Grind.{common_steps}
 use Rattle.std.proofs.Common.{◌≡◌, ◌≤◌, ◌<◌, ℕ, ◌+◌, ◌-◌, List, [], ◌∷◌, ◌++◌, length, take, drop, ap, subst, arith}
 use Rattle.std.proofs.lemmas.List.{take-append-drop, length-take-le}
-use Rattle.fv_base.specs.Checks.{Any, First, IsFirstFault}
+use Rattle.fv_base.specs.Words.{Any, First, IsFirstFault}
 use Rattle.fv_base.specs.declared.fault.Fault.{Fault}
 use Rattle.fv_base.proofs.Laws.{any_fails, first_among, one_fault, same_place, some_between, take_past}
-use Rattle.fv_section.specs.FrameChecks.{FrameFault, IsFirstFrameFault, frame_checks}
-use Rattle.fv_section.specs.Frames.{FrameForm, BeginsFrame, SplitsFrom, Splits, up_to_4}
+use Rattle.fv_section.specs.Words.{FrameFault, IsFirstFrameFault, frame_checks, FrameForm, BeginsFrame, SplitsFrom, Splits, up_to_4}
 use Rattle.fv_section.proofs.FrameLemmas.{begins_more, none_stands}
 use Rattle.fv_section.proofs.FrameWalkLemmas.{begins_of}
 use Rattle.fv_section.proofs.StreamLemmas.{cut}

@@ -10,16 +10,14 @@ use Rattle.std.specs.Prelude.{◌==◌, slice_index, Result, Ok, Err}
 use Rattle.std.proofs.lemmas.Bool.{leb-true, le-leb, eqb-true, eqb-false, eq-eqb}
 use Rattle.std.proofs.lemmas.List.{take-append-drop, take_at, take_rest, drop_at, length-take-le, get_or-take}
 use Rattle.std.proofs.Math.ListN.{get_or-append}
-use Rattle.fv_base.specs.Checks.{AllHold, IsFirstFault, Which, Fails}
-use Rattle.fv_base.specs.inner.Verdicts.{first_fault}
-use Rattle.fv_base.specs.Value.{le, le_at}
+use Rattle.fv_base.specs.Words.{AllHold, IsFirstFault, Which, Fails, le, le_at}
 use Rattle.fv_base.specs.declared.fault.Fault.{Fault}
+use Rattle.fv_base.specs.inner.Verdicts.{first_fault}
 use Rattle.fv_base.proofs.Laws.{all_hold, and_join, and_split, field-append_front, field-take, first_is, none_faulty, not_equal}
 use Rattle.fv_base.proofs.Laws.{none_fails, verdict_err, verdict_none, verdict_ok}
-use Rattle.fv_section.specs.FrameChecks.{has_extended_size, section_header_len_at, section_size_in, section_size_at, frame_checks}
-use Rattle.fv_section.specs.StreamReads.{frame_in, FrameStandsAt}
+use Rattle.fv_section.specs.Words.{has_extended_size, section_header_len_at, section_size_in, section_size_at, frame_checks, frame_in}
+use Rattle.fv_section.specs.Words.{FrameStandsAt, FrameForm, BeginsFrame, SaysSize, section_header_len, frame_len}
 use Rattle.fv_section.specs.inner.FrameVerdicts.{frame_verdict}
-use Rattle.fv_section.specs.Frames.{FrameForm, BeginsFrame, SaysSize, section_header_len, frame_len}
 
 pub head_least : (extended : Bool) → 4 ≤ section_header_len extended
 head_least false = omega arith

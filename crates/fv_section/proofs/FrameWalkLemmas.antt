@@ -9,11 +9,10 @@ use Rattle.std.proofs.Common.{subst, arith, length-append, length-take, length-d
 use Rattle.std.specs.List.{AllByRecursion}
 use Rattle.std.proofs.lemmas.List.{take-append-drop, take_all, drop_at}
 use Rattle.std.proofs.Math.Seq.{take-add, take-append-add}
-use Rattle.fv_base.specs.Checks.{IsFirstFault, Which}
+use Rattle.fv_base.specs.Words.{IsFirstFault, Which}
 use Rattle.fv_base.specs.declared.fault.Fault.{Fault}
-use Rattle.fv_section.specs.Frames.{FrameForm, BeginsFrame, Splits, SplitsFrom, frame_len, up_to_4}
-use Rattle.fv_section.specs.StreamReads.{FrameStandsAt, FramesWithin, frame_in, frames_from, offset_after, HasFrames}
-use Rattle.fv_section.specs.FrameChecks.{frame_checks, FrameFault, IsFirstFrameFault}
+use Rattle.fv_section.specs.Words.{FrameForm, BeginsFrame, Splits, SplitsFrom, frame_len, up_to_4, FrameStandsAt, FramesWithin, frame_in}
+use Rattle.fv_section.specs.Words.{frames_from, offset_after, HasFrames, frame_checks, FrameFault, IsFirstFrameFault}
 use Rattle.fv_section.proofs.FrameLemmas.{length_begun, frame_reads, none_stands}
 use Rattle.fv_section.proofs.StreamLemmas.{cut, from_least, one_more}
 

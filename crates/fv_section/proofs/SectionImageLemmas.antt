@@ -4,9 +4,8 @@ use Rattle.std.proofs.Common.{◌≡◌, ℕ, ◌+◌, ◌-◌, ◌*◌, ◌/◌
 use Rattle.std.specs.Prelude.{replicate}
 use Rattle.std.proofs.lemmas.List.{length-replicate}
 use Rattle.fv_base.proofs.Laws.{le-le_bytes}
-use Rattle.fv_section.specs.Frames.{FrameForm, BeginsFrame, IsSectionHeader, frame_len, up_to_4}
-use Rattle.fv_section.specs.StreamReads.{FitsForm, StreamsAreRead}
-use Rattle.fv_section.specs.SectionImage.{section_head_of, stream_of}
+use Rattle.fv_section.specs.Words.{FrameForm, BeginsFrame, IsSectionHeader, frame_len, up_to_4, FitsForm, StreamsAreRead, section_head_of}
+use Rattle.fv_section.specs.Words.{stream_of}
 
 -- a header that is written is that of its form, type and size
 pub head_is : (kind : ℕ) (extended : Bool) (n : ℕ) → FitsForm extended n → IsSectionHeader extended kind n (section_head_of kind extended n)

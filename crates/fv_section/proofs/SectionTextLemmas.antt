@@ -6,10 +6,9 @@ use Rattle.std.specs.Prelude.{◌==◌, not}
 use Rattle.std.specs.List.{AllByRecursion}
 use Rattle.std.proofs.lemmas.Bool.{eqb-true, eq-eqb, leb-true, le-leb}
 use Rattle.std.proofs.lemmas.List.{take-append-drop, take_at, drop_at, length-take-le}
-use Rattle.fv_base.specs.Sums.{words_of}
-use Rattle.fv_base.specs.Value.{le}
+use Rattle.fv_base.specs.Words.{words_of, le}
 use Rattle.fv_base.proofs.Laws.{and_join, and_split, not_equal}
-use Rattle.fv_section.specs.Texts.{IsText, IsVersion}
+use Rattle.fv_section.specs.Words.{IsText, IsVersion}
 use Rattle.fv_section.specs.inner.FrameVerdicts.{none_zero, is_text}
 
 none_zero-all : (units : List ℕ) → none_zero units ≡ true → AllByRecursion (λ unit. unit ≢ 0) units

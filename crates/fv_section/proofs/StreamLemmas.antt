@@ -8,10 +8,10 @@
 use Rattle.std.proofs.Common.{◌≡◌, ℕ, ◌+◌, ◌<◌, ◌≤◌, List, [], ◌∷◌, ◌++◌, length, refl, sym, ap, ◌∙◌, subst, arith, length-append}
 use Rattle.std.proofs.Common.{append_assoc, ◌≢◌, Bool, true, false, drop, length-drop}
 use Rattle.std.proofs.lemmas.List.{length-take-le}
-use Rattle.fv_base.specs.Value.{IsBytes, field, le_at}
+use Rattle.fv_base.specs.Words.{IsBytes, field, le_at}
 use Rattle.fv_base.proofs.Laws.{same_cut, bytes_back, bytes_drop, bytes_front, bytes_take, le_below}
-use Rattle.fv_section.specs.Frames.{FrameForm, BeginsFrame, SplitsFrom, frame_len, up_to_4, IsSectionHeader, SaysSize, section_header_len}
-use Rattle.fv_section.specs.StreamReads.{FitsForm}
+use Rattle.fv_section.specs.Words.{FrameForm, BeginsFrame, SplitsFrom, frame_len, up_to_4, IsSectionHeader, SaysSize, section_header_len}
+use Rattle.fv_section.specs.Words.{FitsForm}
 use Rattle.fv_section.proofs.FrameLemmas.{length_begun, size_least, one_frame, begins_more}
 
 -- a stream with a frame has bytes

@@ -1,8 +1,7 @@
 -- The checks of a section header in a fixed order, and the fault of a stream: the first, or any.
 use Rattle.std.specs.Prelude.{◌≡◌, ℕ, ◌%◌, ◌<◌, ◌==◌, nat_le, ◌&&◌, Bool, true, false, List, [], ◌∷◌, length, take}
 use Rattle.std.specs.Prelude.{drop}
-use Rattle.fv_base.specs.Checks.{Check, check, Which, First, Fails}
-use Rattle.fv_base.specs.Value.{le_at}
+use Rattle.fv_base.specs.Words.{Check, check, Which, First, Fails, le_at}
 use Rattle.fv_base.specs.declared.fault.Fault.{Fault}
 use Rattle.fv_base.specs.declared.fault.FaultKind.TheVariants as kinds
 use Rattle.fv_section.specs.Frames.{FrameForm, section_header_len, Splits}

@@ -2,7 +2,7 @@
 -- EFI_COMMON_SECTION_HEADER2).
 use Rattle.std.specs.Prelude.{◌≡◌, ◌≢◌, ℕ, ◌+◌, ◌*◌, ◌/◌, ◌≤◌, Bool, true, false, List, [], ◌∷◌, ◌++◌, length}
 use Rattle.std.specs.Prelude.{slice_index}
-use Rattle.fv_base.specs.Value.{le_at}
+use Rattle.fv_base.specs.Words.{le_at}
 
 -- a frame: a section as it is found in its stream: the offset of its header, its type, whether its header is extended,
 -- and its body

@@ -4,4 +4,5 @@ pub mod SectionImage
 pub mod FrameChecks
 pub mod StreamReads
 pub mod Texts
+pub mod Words
 pub mod inner

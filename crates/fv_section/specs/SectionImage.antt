@@ -1,6 +1,6 @@
 -- Section headers and streams as they are written (PI specification, volume 3, section 3.2.4).
 use Rattle.std.specs.Prelude.{ℕ, ◌+◌, ◌-◌, Bool, true, false, List, [], ◌∷◌, ◌++◌, length, replicate}
-use Rattle.fv_base.specs.Value.{le_bytes}
+use Rattle.fv_base.specs.Words.{le_bytes}
 use Rattle.fv_section.specs.Frames.{FrameForm, section_header_len, frame_len, up_to_4}
 
 -- the bytes of a section's header, in order

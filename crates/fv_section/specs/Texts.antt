@@ -1,9 +1,7 @@
 -- What some leaf sections hold (PI specification, volume 3, sections 3.2.5.14, 3.2.5.15 and 3.2.5.6).
 use Rattle.std.specs.Prelude.{◌≡◌, ◌≢◌, ℕ, ◌%◌, List, [], ◌∷◌, ◌++◌, length}
 use Rattle.std.specs.List.{AllByRecursion}
-use Rattle.fv_base.specs.Guids.{bytes_of}
-use Rattle.fv_base.specs.Sums.{words_of}
-use Rattle.fv_base.specs.Value.{le}
+use Rattle.fv_base.specs.Words.{bytes_of, words_of, le}
 use Rattle.fv_base.specs.declared.guid.Guid.{Guid}
 
 -- b is the 16-bit units of a text, none of them zero, and then one zero unit

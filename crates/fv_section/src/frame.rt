@@ -1,8 +1,7 @@
 //! A section as it is found in its stream.
 
 ghost use Rattle.std.specs.Prelude.{◌≡◌, ◌<◌, ◌≤◌, length, drop, Ok, Err, IfOk, IfErr, IfSome, IfNone};
-ghost use Rattle.fv_base.specs.Checks.{IsFirstFault};
-ghost use Rattle.fv_base.specs.Value.{le_at};
+ghost use Rattle.fv_base.specs.Words.{IsFirstFault, le_at};
 ghost use Rattle.fv_section.specs.FrameChecks.{has_extended_size, section_header_len_at, section_size_at};
 ghost use Rattle.fv_section.specs.FrameChecks.{has_section_size, frame_checks};
 ghost use Rattle.fv_section.specs.inner.FrameVerdicts.{frame_verdict};

@@ -1,7 +1,7 @@
 //! Section headers, written.
 
 ghost use Rattle.std.specs.Prelude.{◌≡◌, ◌≤◌, [], ◌∷◌, ◌++◌};
-ghost use Rattle.fv_base.specs.Value.{le_bytes};
+ghost use Rattle.fv_base.specs.Words.{le_bytes};
 ghost use Rattle.fv_section.specs.Frames.{IsSectionHeader};
 ghost use Rattle.fv_section.specs.StreamReads.{FitsForm, IsHeadOfFrame, StreamsAreRead};
 ghost use Rattle.fv_section.specs.SectionImage.{section_head_of};

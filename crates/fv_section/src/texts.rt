@@ -1,7 +1,7 @@
 //! What some leaf sections hold.
 
 ghost use Rattle.std.specs.Prelude.{◌≡◌, ℕ, List, IfSome, IfNone};
-ghost use Rattle.fv_base.specs.Sums.{words_of};
+ghost use Rattle.fv_base.specs.Words.{words_of};
 ghost use Rattle.fv_section.specs.Texts.{IsText, IsVersion, IsFreeform};
 ghost use Rattle.fv_section.specs.inner.FrameVerdicts.{none_zero, is_text};
 

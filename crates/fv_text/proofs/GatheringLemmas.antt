@@ -1,7 +1,7 @@
 -- Pieces that were gathered, and then put.
 use Rattle.std.proofs.Common.{◌≡◌, ◌∙◌, ℕ, List, [], ◌++◌, ap, subst, sym, append-nil}
-use Rattle.fv_base.specs.Sinks.{WalkLaws}
-use Rattle.fv_text.specs.SinkAdapters.{Gathered}
+use Rattle.fv_base.specs.Words.{WalkLaws}
+use Rattle.fv_text.specs.Words.{Gathered}
 
 -- what waited was put, and then some bytes
 pub passed_on : {S : Type 0} {takes : S → List ℕ → S → Type 0} → WalkLaws takes → (s t u : S) (p bytes q : List ℕ) → q ≡ []

@@ -13,7 +13,7 @@ use Rattle.std.proofs.lemmas.List.{drop-set-lt, get_or-drop, get_or-take, length
 use Rattle.std.proofs.lemmas.List.Elements.{All-cons, All-head, All-nil, All-pop, All-push, All-tail}
 use Rattle.hex.specs.Hex.{hex_digit_value}
 use Rattle.fv_text.specs.inner.HexDecoding.{IsNibble, IsSpoilt, joined_pairs, value_or_16}
-use Rattle.fv_text.specs.HexIn.{IsPair, DigitsSpell}
+use Rattle.fv_text.specs.Words.{IsPair, DigitsSpell}
 
 pub reads_joined : (a b x y : List ℕ) → DigitsSpell a x → DigitsSpell b y → DigitsSpell (a ++ b) (x ++ y)
 reads_joined [] b x y p q = subst (λ (l : List ℕ). DigitsSpell b (l ++ y)) (sym p) q

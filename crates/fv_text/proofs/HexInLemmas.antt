@@ -4,11 +4,11 @@ use Rattle.std.proofs.Common.{◌≡◌, ◌<◌, ◌≤◌, ◌⊎◌, inl, inr
 use Rattle.std.proofs.Common.{refl, sym, ap, subst, ◌∙◌, append_assoc, append-nil, length-append, arith}
 use Rattle.std.specs.Prelude.{◌==◌, length}
 use Rattle.std.proofs.lemmas.Bool.Decides.{Decides-eqb, nat_tests}
-use Rattle.fv_base.specs.Limits.{volume_limit}
+use Rattle.fv_base.specs.Words.{volume_limit}
 use Rattle.fv_base.proofs.Laws.{up_is_not_down}
+use Rattle.fv_text.specs.Words.{IsNoText, DigitsSpell, squeezed}
 use Rattle.fv_text.specs.declared.hex_text.Decoder.{Decoder}
 use Rattle.fv_text.specs.inner.HexDecoding.{AddsDigits, Decodes, DecodesPairs, HoldsDigits, IsSpoilt}
-use Rattle.fv_text.specs.HexIn.{IsNoText, DigitsSpell, squeezed}
 use Rattle.fv_text.proofs.HexDigitLemmas.{odd_reads_nothing, reads_count, reads_joined, spoilt_behind, spoilt_more}
 use Rattle.fv_text.proofs.WhiteSpaceLemmas.{squeezed_more}
 

@@ -1,9 +1,8 @@
 -- The text of some bytes, put by a sink of lines.
 use Rattle.std.proofs.Common.{◌≡◌, ◌∙◌, ◌<◌, ℕ, List, [], ◌++◌, length}
 use Rattle.std.proofs.Common.{refl, ap, sym}
-use Rattle.fv_base.specs.Sinks.{WalkLaws}
-use Rattle.fv_text.specs.HexText.{IsHexText, last_text, lines_text}
-use Rattle.fv_text.specs.SinkAdapters.{Lined}
+use Rattle.fv_base.specs.Words.{WalkLaws}
+use Rattle.fv_text.specs.Words.{IsHexText, last_text, lines_text, Lined}
 
 -- a sink of lines with nothing waiting took the bytes, and then its last line was put
 pub text_put : {S : Type 0} {takes : S → List ℕ → S → Type 0} → WalkLaws takes → (s t u : S) (p bytes q : List ℕ) → p ≡ [] → length q < 32

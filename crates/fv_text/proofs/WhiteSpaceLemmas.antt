@@ -8,7 +8,7 @@ use Rattle.std.proofs.Math.ListN.{get_or, set}
 use Rattle.std.proofs.Math.Seq.{take-add}
 use Rattle.std.proofs.lemmas.List.{take_more, take_more_set, take-append-drop, take-set}
 use Rattle.std.proofs.lemmas.List.Elements.{All-head, All-tail}
-use Rattle.fv_text.specs.HexIn.{is_space, squeezed}
+use Rattle.fv_text.specs.Words.{is_space, squeezed}
 
 pub squeezed_more : (a b : List ℕ) → squeezed (a ++ b) ≡ squeezed a ++ squeezed b
 squeezed_more [] b = refl

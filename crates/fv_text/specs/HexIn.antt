@@ -2,11 +2,9 @@
 use Rattle.std.specs.Prelude.{◌≡◌, ℕ, ◌+◌, ◌*◌, ◌==◌, ◌||◌, Bool, if◌then◌else◌, List, [], ◌∷◌, Some, ◌<◌, ◌≤◌, ◌⊎◌}
 use Rattle.std.specs.Prelude.{true, Option, length}
 use Rattle.hex.specs.Hex.{hex_digit_value}
+use Rattle.fv_base.specs.Words.{outer_fault, GivesAll, StopsWithin, volume_limit}
 use Rattle.fv_base.specs.declared.fault.Fault.{Fault}
 use Rattle.fv_base.specs.declared.fault.FaultKind.TheVariants as kinds
-use Rattle.fv_base.specs.Faults.{outer_fault}
-use Rattle.fv_base.specs.Input.{GivesAll, StopsWithin}
-use Rattle.fv_base.specs.Limits.{volume_limit}
 
 -- a tab, a line feed, a carriage return or a space
 abbrev pub is_space : ℕ → Bool

@@ -3,4 +3,5 @@ pub mod HexText
 pub mod PortViews
 pub mod HexIn
 pub mod SinkAdapters
+pub mod Words
 pub mod inner

@@ -1,7 +1,7 @@
 -- What a run reads and writes, seen from outside: what a port shows, and what was written to one.
 use Rattle.std.specs.Prelude.{◌≡◌, ◌<◌, ℕ, Bool, true, List, Option, length, take}
 use Rattle.std.specs.Io.KnownBytes.{Appends}
-use Rattle.fv_base.specs.Port.{has_erred, inner_of}
+use Rattle.fv_base.specs.Words.{has_erred, inner_of}
 use Rattle.fv_base.specs.declared.port.Port.{Port}
 
 -- what a port shows: what its reader has left, or what its writer holds, if that is known; and whether one of its calls

@@ -1,8 +1,7 @@
 //! Hexadecimal text as an input: digits in upper or lower case, with white space between them.
 
 ghost use Rattle.std.specs.Prelude.{◌≡◌, ◌≤◌, ◌%◌, [], ℕ, List, false, length, IfOk, IfErr, OnOk, vec_len};
-ghost use Rattle.fv_base.specs.Limits.{volume_limit};
-ghost use Rattle.fv_base.specs.Port.{inner_of, has_erred};
+ghost use Rattle.fv_base.specs.Words.{volume_limit, inner_of, has_erred};
 ghost use Rattle.fv_text.specs.inner.HexDecoding.{Decodes, DecodesPairs};
 ghost use Rattle.fv_text.specs.HexIn.{SpellsWhole, TextStops, RefusesText, DigitsSpell, squeezed};
 

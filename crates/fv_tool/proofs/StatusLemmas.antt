@@ -1,21 +1,20 @@
 -- How the run of a plan does not end, and what a new port shows.
 use Rattle.std.proofs.Common.{◌≡◌, ◌∙◌, ℕ, List, ap, Bool, false, inl, inr, subst, sym}
 use Rattle.std.specs.Prelude.{Option, None, Some}
-use Rattle.fv_base.specs.Port.{has_erred, inner_of}
+use Rattle.fv_base.specs.Words.{has_erred, inner_of}
 use Rattle.fv_base.specs.declared.port.Port.{Port}
-use Rattle.fv_text.specs.PortViews.{Change, Ports, seen, shown}
-use Rattle.fv_command.specs.PlanRuns.{HasText, Runs, RunsOver, SaysCommand, fresh}
-use Rattle.fv_command.specs.Tasks.{PartText, Says}
+use Rattle.fv_text.specs.Words.{Change, Ports, seen, shown}
+use Rattle.fv_command.specs.Words.{HasText, Runs, RunsOver, SaysCommand, fresh, PartText, Says}
 use Rattle.fv_command.specs.declared.ending.Ending.{Ending}
 use Rattle.fv_command.specs.declared.ending.Refusal.{Refusal}
 use Rattle.fv_command.specs.declared.extracting.Extraction.{Extraction}
-use Rattle.fv_command.specs.declared.extracting.Extraction.TheVariants.{Made, Stored, NotFound, NotSectioned}
 use Rattle.fv_command.specs.declared.status.Status.{Status}
+use Rattle.fv_command.specs.declared.extracting.Extraction.TheVariants.{Made, Stored, NotFound, NotSectioned}
 use Rattle.fv_command.specs.declared.status.Status.TheVariants.{Done, Different, Refused, WrongWords}
 use Rattle.fv_plan.specs.declared.plan.Command.{Command}
-use Rattle.fv_plan.specs.declared.plan.Command.TheVariants.{Single, Hobs, Compare}
 use Rattle.fv_plan.specs.declared.plan.Plan.{Plan}
 use Rattle.fv_plan.specs.declared.plan.Task.{Task}
+use Rattle.fv_plan.specs.declared.plan.Command.TheVariants.{Single, Hobs, Compare}
 use Rattle.fv_plan.specs.declared.plan.Task.TheVariants.{Normalise, NormaliseAll, List as Listing, ListSums, Extract, Check}
 use Rattle.fv_plan.specs.declared.plan.Task.TheVariants.{Cells, Scan}
 

@@ -1,15 +1,15 @@
 -- Why the command line is rejected, and what the program says of it.
 use Rattle.std.specs.Prelude.{◌≡◌, ℕ, List, [], ◌∷◌, ◌++◌, Option, None, Some, codes}
-use Rattle.fv_base.specs.Faults.{out_of_memory}
-use Rattle.fv_command.specs.Endings.{Ends, numbered_line}
+use Rattle.fv_base.specs.Words.{out_of_memory}
+use Rattle.fv_command.specs.Words.{Ends, numbered_line}
 use Rattle.fv_command.specs.declared.ending.Ending.{Ending}
 use Rattle.fv_command.specs.declared.ending.Refusal.{Refusal}
-use Rattle.fv_command.specs.declared.ending.Refusal.TheVariants.{Input}
 use Rattle.fv_command.specs.declared.status.Status.{Status}
+use Rattle.fv_command.specs.declared.ending.Refusal.TheVariants.{Input}
 use Rattle.fv_command.specs.declared.status.Status.TheVariants as statuses
 use Rattle.fv_arguments.specs.declared.words.WordFault.{WordFault}
 use Rattle.fv_arguments.specs.declared.words.WordFault.TheVariants.{Words, OutOfMemory}
-use Rattle.fv_text.specs.PortViews.{Change}
+use Rattle.fv_text.specs.Words.{Change}
 
 -- the status that a rejection of the command line ends with, and the line that reports it
 abbrev pub status_of : WordFault → Status

@@ -4,10 +4,10 @@ use Rattle.std.specs.Prelude.{◌≡◌, ◌≢◌, ◌<◌, ◌⊎◌, ℕ, Lis
 use Rattle.std.specs.String.{string_bytes}
 use Rattle.std.specs.declared.io.ErrorKind.{ErrorKind}
 use Rattle.std.specs.declared.io.ErrorKind.TheVariants as kinds
-use Rattle.fv_text.specs.PortViews.{Change}
-use Rattle.fv_command.specs.PlanRuns.{RunsOver}
-use Rattle.fv_plan.specs.declared.plan.Plan.{Plan}
+use Rattle.fv_text.specs.Words.{Change}
+use Rattle.fv_command.specs.Words.{RunsOver}
 use Rattle.fv_command.specs.declared.ending.Ending.{Ending}
+use Rattle.fv_plan.specs.declared.plan.Plan.{Plan}
 use Rattle.fv_tool.specs.ArgumentRefusals.{EndsRejected}
 use Rattle.fv_arguments.specs.Words.{AreRight, Asks}
 use Rattle.fv_arguments.specs.declared.words.WordFault.{WordFault}

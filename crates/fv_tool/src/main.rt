@@ -2,12 +2,12 @@
 //! reports the outcome by its exit status.
 #![tactic(auto)]
 
-ghost use Rattle.fv_text.specs.PortViews.{Writes, change, seen, shown};
-ghost use Rattle.fv_command.specs.Endings.{Ends, exit_code};
+ghost use Rattle.fv_text.specs.Words.{Writes, change, seen, shown};
+ghost use Rattle.fv_command.specs.Words.{Ends, exit_code};
 ghost use Rattle.fv_tool.specs.ArgumentRefusals.{line_of, refusal_of, status_of};
 ghost use Rattle.fv_tool.specs.Does.{IsGiven, RunsArguments, RunsProcess};
 ghost use Rattle.std.specs.Prelude.{◌≡◌, ◌≢◌, false, true, IfErr, IfOk};
-ghost use Rattle.fv_base.specs.Port.{is_flushed};
+ghost use Rattle.fv_base.specs.Words.{is_flushed};
 ghost use Rattle.std.specs.Process.{exit_status};
 ghost use Rattle.std.specs.Vec.Iter.{into_iter_items};
 

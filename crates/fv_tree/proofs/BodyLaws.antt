@@ -4,24 +4,19 @@ use Rattle.std.proofs.Common.{◌≡◌, ◌≤◌, ◌<◌, ℕ, ◌+◌, ◌^�
 use Rattle.std.proofs.Common.{◌∙◌, subst, arith, length-append}
 use Rattle.std.specs.Prelude.{not}
 use Rattle.std.specs.List.{list_any}
-use Rattle.fv_base.specs.Checks.{First}
-use Rattle.fv_base.specs.Limits.{volume_limit}
-use Rattle.fv_base.specs.Value.{IsBytes}
+use Rattle.fv_base.specs.Words.{First, volume_limit, IsBytes}
 use Rattle.fv_base.specs.declared.fault.Fault.{Fault}
 use Rattle.fv_base.specs.declared.flash.FileSystem.{FileSystem}
 use Rattle.fv_base.specs.declared.flash.Polarity.{Polarity}
+use Rattle.fv_base.specs.declared.fault.Place.{Place}
 use Rattle.fv_base.proofs.Laws.{all_filter, bytes_back, bytes_drop, bytes_front}
 use Rattle.std.proofs.lemmas.List.{length-drop}
-use Rattle.fv_file.specs.Cells.{CellForm, Valid, Pad, Dead, Stub, Free, Tiles, IsCell, offset_of}
-use Rattle.fv_file.specs.CellForms.{CellsWithin, IsMadeUp, cell_len}
+use Rattle.fv_file.specs.Words.{CellForm, Valid, Pad, Dead, Stub, Free, Tiles, IsCell, offset_of, CellsWithin, IsMadeUp, cell_len}
 use Rattle.fv_file.proofs.Laws.{cell_span}
 use Rattle.fv_head.specs.declared.extent.Extent.{Extent}
 use Rattle.fv_tree.specs.inner.ReadingParts.{IsReadyFile, AllStored}
-use Rattle.fv_tree.specs.LocatedFiles.{StandIn}
-use Rattle.fv_tree.specs.Denotes.{Stream, MeansFile}
-use Rattle.fv_tree.specs.VolumeFiles.{FileForm, files_in, AreCurrent, replaced_by}
-use Rattle.fv_base.specs.declared.fault.Place.{Place}
-use Rattle.fv_tree.specs.FirstFault.{Faulty, FileFault, BodyFault, OneOf}
+use Rattle.fv_tree.specs.Words.{StandIn, Stream, MeansFile, FileForm, files_in, AreCurrent, replaced_by, Faulty, FileFault, BodyFault}
+use Rattle.fv_tree.specs.Words.{OneOf}
 
 -- ---- the files as they lie in a volume
 

@@ -1,14 +1,11 @@
 -- What is inside something that was read nests one level less deep; the volumes in a section and in a file.
 use Rattle.std.proofs.Common.{◌≡◌, ℕ, zero, suc, List, [], ◌∷◌, refl}
 use Rattle.std.specs.List.{AllByRecursion}
-use Rattle.fv_section.specs.Frames.{FrameForm}
-use Rattle.fv_tree.specs.Denotes.{MeansFile, MeansSection, Pairwise, Stream}
-use Rattle.fv_tree.specs.Meaning.{Meaning, Volume, FileMeanings, files_list, FileMeaning, File, content_of, Sectioned}
-use Rattle.fv_tree.specs.Meaning.{SectionMeanings, SectionMeaning, Section, Group, Nested, sections_list}
-use Rattle.fv_tree.specs.MeaningParts.{body_of}
-use Rattle.fv_tree.specs.VolumeFiles.{FileForm}
-use Rattle.fv_tree.specs.Volumes.{deeper, volumes_in_body, volumes_in_content, volumes_in_file, volumes_in_section}
-use Rattle.fv_head.specs.Head.{HeadFields}
+use Rattle.fv_section.specs.Words.{FrameForm}
+use Rattle.fv_tree.specs.Words.{MeansFile, MeansSection, Pairwise, Stream, Meaning, Volume, FileMeanings, files_list, FileMeaning, File}
+use Rattle.fv_tree.specs.Words.{content_of, Sectioned, SectionMeanings, SectionMeaning, Section, Group, Nested, sections_list, body_of}
+use Rattle.fv_tree.specs.Words.{FileForm, deeper, volumes_in_body, volumes_in_content, volumes_in_file, volumes_in_section}
+use Rattle.fv_head.specs.Words.{HeadFields}
 use Rattle.fv_tree.specs.inner.NestingDepths.{NestsVolume, NestsFiles, NestsContent, NestsSections, NestsBody}
 
 -- each item of the second list has one in the first

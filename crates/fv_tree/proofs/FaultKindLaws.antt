@@ -5,23 +5,19 @@
 use Rattle.std.proofs.Common.{◌≡◌, ◌≢◌, ℕ, zero, suc, ◌+◌, Bool, true, false, List, take, drop, refl, sym, ap, ◌∙◌, subst, inl, inr}
 use Rattle.std.specs.Prelude.{nat_le, slice_index, Option, Some, None}
 use Rattle.std.specs.List.{AllByRecursion}
-use Rattle.fv_base.specs.Checks.{Check, Any}
-use Rattle.fv_base.specs.Faults.{fault_number}
+use Rattle.fv_base.specs.Words.{Check, Any, fault_number, depth_limit}
 use Rattle.fv_base.specs.declared.fault.Fault.{Fault}
 use Rattle.fv_base.specs.declared.fault.FaultKind.{FaultKind}
 use Rattle.fv_base.specs.declared.flash.FileSystem.{FileSystem}
 use Rattle.fv_base.specs.declared.flash.Polarity.{Polarity}
-use Rattle.fv_file.specs.FileChecks.{file_checks, state_checks, cell_checks}
-use Rattle.fv_file.specs.States.{state_of}
+use Rattle.fv_base.specs.declared.fault.Place.{Place}
+use Rattle.fv_file.specs.Words.{file_checks, state_checks, cell_checks, state_of}
 use Rattle.fv_file.specs.declared.state.FileState.{FileState}
 use Rattle.fv_file.specs.declared.state.FileState.TheVariants as states
-use Rattle.fv_head.specs.HeadChecks.{head_checks}
+use Rattle.fv_head.specs.Words.{head_checks}
 use Rattle.fv_head.specs.declared.extent.Extent.{Extent}
-use Rattle.fv_section.specs.FrameChecks.{frame_checks}
-use Rattle.fv_section.specs.Frames.{FrameForm}
-use Rattle.fv_base.specs.declared.fault.Place.{Place}
-use Rattle.fv_base.specs.Limits.{depth_limit}
-use Rattle.fv_tree.specs.FirstFault.{Moved, LayoutFault, InSection, InStream, InVolume, FaultStands, outermost}
+use Rattle.fv_section.specs.Words.{frame_checks, FrameForm}
+use Rattle.fv_tree.specs.Words.{Moved, LayoutFault, InSection, InStream, InVolume, FaultStands, outermost}
 use Rattle.fv_base.proofs.Laws.{fails_among, up_is_not_down}
 
 -- a fault that is found in bytes, and none of memory, of input and output, or of writing: the first 21 kinds

@@ -1,17 +1,15 @@
 -- The condition of a first fault holds at its place.
 use Rattle.std.proofs.Common.{ℕ, zero, suc, List, take, drop, inl, inr}
-use Rattle.fv_base.specs.Checks.{First, Any}
+use Rattle.fv_base.specs.Words.{First, Any, depth_limit}
 use Rattle.fv_base.specs.declared.fault.Fault.{Fault}
 use Rattle.fv_base.specs.declared.fault.Place.{Place}
 use Rattle.fv_base.proofs.Laws.{any_fails}
 use Rattle.fv_file.proofs.Laws.{cell_fails}
 use Rattle.fv_head.specs.declared.extent.Extent.{Extent}
 use Rattle.fv_section.proofs.Laws.{frame_fails}
-use Rattle.fv_section.specs.Frames.{FrameForm}
-use Rattle.fv_base.specs.Limits.{depth_limit}
-use Rattle.fv_tree.specs.FirstFault.{Moved, OneOf, NamesFault, LayoutFault, FileFault, data_at, outermost}
-use Rattle.fv_tree.specs.FirstFault.{InSection, InStream, InVolume, IsFirstOfVolume, FaultStands}
-use Rattle.fv_tree.specs.VolumeFiles.{FileForm}
+use Rattle.fv_section.specs.Words.{FrameForm}
+use Rattle.fv_tree.specs.Words.{Moved, OneOf, NamesFault, LayoutFault, FileFault, data_at, outermost, InSection, InStream, InVolume}
+use Rattle.fv_tree.specs.Words.{IsFirstOfVolume, FaultStands, FileForm}
 
 -- ---- one level
 

@@ -9,22 +9,17 @@ use Rattle.std.proofs.Common.{arith, not, inl, inr}
 use Rattle.std.specs.List.{AllByRecursion, list_any}
 use Rattle.std.proofs.lemmas.List.{length-drop, length-take-le}
 use Rattle.fv_base.proofs.Laws.{all_filter, in_middle, want_known}
-use Rattle.fv_base.specs.Checks.{First}
-use Rattle.fv_base.specs.Faults.{out_of_memory}
+use Rattle.fv_base.specs.Words.{First, out_of_memory, depth_limit}
 use Rattle.fv_base.specs.declared.fault.Fault.{Fault}
 use Rattle.fv_base.specs.declared.fault.Place.{Place}
-use Rattle.fv_file.specs.Cells.{CellForm, Valid, Pad, Dead, Stub, Free, Tiles}
-use Rattle.fv_file.specs.CellForms.{CellsWithin}
+use Rattle.fv_file.specs.Words.{CellForm, Valid, Pad, Dead, Stub, Free, Tiles, CellsWithin}
 use Rattle.fv_file.proofs.Laws.{all_within, body_within}
 use Rattle.fv_head.specs.declared.extent.Extent.{Extent}
 use Rattle.fv_head.proofs.Laws.{fault_within, first_lies}
-use Rattle.fv_section.specs.Frames.{FrameForm, frame_len}
-use Rattle.fv_section.specs.StreamReads.{FramesWithin}
+use Rattle.fv_section.specs.Words.{FrameForm, frame_len, FramesWithin}
 use Rattle.fv_section.proofs.Laws.{frame_within, whole_within}
-use Rattle.fv_base.specs.Limits.{depth_limit}
-use Rattle.fv_tree.specs.FirstFault.{Moved, NamesFault, LayoutFault, BodyFault, InSection, InStream, InVolume, IsFirstOfVolume}
-use Rattle.fv_tree.specs.FirstFault.{data_at, data_place, outermost}
-use Rattle.fv_tree.specs.VolumeFiles.{FileForm, files_in, current_in, replaced_by}
+use Rattle.fv_tree.specs.Words.{Moved, NamesFault, LayoutFault, BodyFault, InSection, InStream, InVolume, IsFirstOfVolume, data_at}
+use Rattle.fv_tree.specs.Words.{data_place, outermost, FileForm, files_in, current_in, replaced_by}
 use Rattle.fv_tree.proofs.NameLaws.{files_within, top_within, twin_within}
 
 -- ---- files

@@ -5,12 +5,11 @@ use Rattle.std.specs.Prelude.{not}
 use Rattle.std.specs.List.{filter, list_any}
 use Rattle.std.proofs.lemmas.List.{length-drop}
 use Rattle.std.proofs.lemmas.List.Sums.{count_by-le-length, length-filter}
-use Rattle.fv_file.specs.Cells.{CellForm, Valid, Pad, Dead, Stub, Free}
+use Rattle.fv_file.specs.Words.{CellForm, Valid, Pad, Dead, Stub, Free}
 use Rattle.fv_file.proofs.Laws.{cells_few}
 use Rattle.fv_head.proofs.Laws.{front_lies}
-use Rattle.fv_tree.specs.Denotes.{Pairwise, Stream, Denotes, MeansFile, IsMeaning}
-use Rattle.fv_tree.specs.Meaning.{Meaning, files_of, head_of}
-use Rattle.fv_tree.specs.VolumeFiles.{FileForm, files_in, replaced_by}
+use Rattle.fv_tree.specs.Words.{Pairwise, Stream, Denotes, MeansFile, IsMeaning, Meaning, files_of, head_of, FileForm, files_in}
+use Rattle.fv_tree.specs.Words.{replaced_by}
 
 pub files_few : (cs : List CellForm) → length (files_in cs) ≤ length cs
 files_few [] = omega arith

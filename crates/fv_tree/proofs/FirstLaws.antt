@@ -5,27 +5,23 @@
 -- 4. So there is one result that a reader may have (`only_answer`, `one_answer`, `sound_answer`).
 use Rattle.std.proofs.Common.{◌≡◌, ◌≢◌, ◌≤◌, ℕ, zero, suc, List, length, take, drop, refl, sym, ap, ◌∙◌, subst, inl, inr}
 use Rattle.std.specs.Prelude.{Result, Ok, Err, IfOk, IfErr}
-use Rattle.fv_base.specs.Checks.{First, Any}
-use Rattle.fv_base.proofs.Laws.{none_fails, one_fault}
-use Rattle.fv_base.specs.Faults.{outer_fault, out_of_memory}
+use Rattle.fv_base.specs.Words.{First, Any, outer_fault, out_of_memory, depth_limit}
 use Rattle.fv_base.specs.declared.fault.Fault.{Fault}
-use Rattle.fv_base.specs.declared.fault.FaultKind.TheVariants as kinds
 use Rattle.fv_base.specs.declared.fault.Place.{Place}
-use Rattle.fv_file.specs.Cells.{CellForm}
+use Rattle.fv_base.proofs.Laws.{none_fails, one_fault}
+use Rattle.fv_base.specs.declared.fault.FaultKind.TheVariants as kinds
+use Rattle.fv_file.specs.Words.{CellForm}
 use Rattle.fv_file.proofs.Laws.{one_cell_fault, only_one}
 use Rattle.fv_file.proofs.Laws as cellular
-use Rattle.fv_head.specs.HeadChecks.{head_checks}
+use Rattle.fv_head.specs.Words.{head_checks}
 use Rattle.fv_head.specs.declared.extent.Extent.{Extent}
 use Rattle.fv_head.proofs.Laws.{front_holds, one_front}
-use Rattle.fv_section.specs.Frames.{FrameForm}
+use Rattle.fv_section.specs.Words.{FrameForm}
 use Rattle.fv_section.proofs.Laws.{one_frame_fault, one_split}
 use Rattle.fv_section.proofs.Laws as framed
-use Rattle.fv_base.specs.Limits.{depth_limit}
-use Rattle.fv_tree.specs.Denotes.{MeansFile, MeansSection, Stream, Denotes}
-use Rattle.fv_tree.specs.FirstFault.{moved_fault, Moved, OneOf, NamesFault, LayoutFault, FileFault, BodyFault, data_at, outermost}
-use Rattle.fv_tree.specs.FirstFault.{InSection, InStream, InVolume, IsFirstOfVolume, FaultStands}
-use Rattle.fv_tree.specs.Meaning.{Meaning, length_of}
-use Rattle.fv_tree.specs.VolumeFiles.{FileForm, AreCurrent, NoTwins, TopAtEnd, files_in, current_in}
+use Rattle.fv_tree.specs.Words.{MeansFile, MeansSection, Stream, Denotes, moved_fault, Moved, OneOf, NamesFault, LayoutFault, FileFault}
+use Rattle.fv_tree.specs.Words.{BodyFault, data_at, outermost, InSection, InStream, InVolume, IsFirstOfVolume, FaultStands, Meaning}
+use Rattle.fv_tree.specs.Words.{length_of, FileForm, AreCurrent, NoTwins, TopAtEnd, files_in, current_in}
 use Rattle.fv_tree.specs.inner.ReadingParts.{Reads}
 use Rattle.fv_tree.proofs.ListPairs.{first_of_once}
 use Rattle.fv_tree.proofs.MeaningLaws.{one_beginning}

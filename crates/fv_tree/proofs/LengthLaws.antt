@@ -2,14 +2,12 @@
 use Rattle.std.proofs.Common.{◌≡◌, ℕ, zero, suc, ◌+◌, List, [], ◌∷◌, ◌++◌, length, refl, sym, ap, ◌∙◌, subst}
 use Rattle.std.proofs.Common.{arith, length-append}
 use Rattle.fv_base.specs.declared.guid.Guid.{Guid}
-use Rattle.fv_section.specs.Frames.{FrameForm, SplitsFrom, frame_len, up_to_4}
+use Rattle.fv_section.specs.Words.{FrameForm, SplitsFrom, frame_len, up_to_4}
 use Rattle.fv_section.proofs.Laws.{length_begun}
-use Rattle.fv_tree.specs.Denotes.{Pairwise, SectionRelation, StreamRelation, StreamOver, VolumeOver, SectionOver, MeansSection, Stream}
-use Rattle.fv_tree.specs.Denotes.{MeansFile}
-use Rattle.fv_tree.specs.Meaning.{Meaning, Volume, File, ContentMeaning, Plain, Sectioned, SectionMeaning, Section}
-use Rattle.fv_tree.specs.Meaning.{SectionMeanings, NoSections, MoreSections, BodyMeaning, Leaf, Group, Nested, sections_list}
-use Rattle.fv_tree.specs.Meaning.{body_len, section_len, sections_end, content_len, length_of}
-use Rattle.fv_tree.specs.VolumeFiles.{FileForm}
+use Rattle.fv_tree.specs.Words.{Pairwise, SectionRelation, StreamRelation, StreamOver, VolumeOver, SectionOver, MeansSection, Stream}
+use Rattle.fv_tree.specs.Words.{MeansFile, Meaning, Volume, File, ContentMeaning, Plain, Sectioned, SectionMeaning, Section}
+use Rattle.fv_tree.specs.Words.{SectionMeanings, NoSections, MoreSections, BodyMeaning, Leaf, Group, Nested, sections_list, body_len}
+use Rattle.fv_tree.specs.Words.{section_len, sections_end, content_len, length_of, FileForm}
 
 -- a section has as many bytes as its frame
 abbrev pub AsLong : SectionRelation → Type 0

@@ -3,10 +3,9 @@ use Rattle.std.proofs.Common.{◌≡◌, ℕ, ◌+◌, ◌<◌, ◌≤◌, List,
 use Rattle.std.proofs.Common.{subst, arith, inl, inr}
 use Rattle.std.proofs.lemmas.List.{take_all, length-map, get_or-map}
 use Rattle.std.specs.List.{AllByRecursion}
-use Rattle.fv_base.specs.Checks.{Which, First}
+use Rattle.fv_base.specs.Words.{Which, First}
 use Rattle.fv_base.proofs.Laws.{TwoCuts, at_index, more_items, seam_items, two_cuts}
-use Rattle.fv_tree.specs.Denotes.{Pairwise}
-use Rattle.fv_tree.specs.FirstFault.{OneOf}
+use Rattle.fv_tree.specs.Words.{Pairwise, OneOf}
 
 -- one pair more
 pub pairs_push : {A B : Type 0} (R : A → B → Type 0) (xs : List A) (ys : List B) (x : A) (y : B) → Pairwise R xs ys → R x y

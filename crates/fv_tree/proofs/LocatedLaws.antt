@@ -5,19 +5,14 @@ use Rattle.std.specs.List.{AllByRecursion, list_any}
 use Rattle.std.specs.Prelude.{not}
 use Rattle.std.proofs.lemmas.List.{length-take-le, length-drop, take_all}
 use Rattle.fv_base.proofs.Laws.{all_filter, field-take}
-use Rattle.fv_base.specs.Value.{up_to_8}
-use Rattle.fv_file.specs.Cells.{CellForm, Valid, Pad, Dead, Stub, Free}
-use Rattle.fv_file.specs.CellForms.{CellsWithin}
+use Rattle.fv_base.specs.Words.{up_to_8}
+use Rattle.fv_file.specs.Words.{CellForm, Valid, Pad, Dead, Stub, Free, CellsWithin}
 use Rattle.fv_file.specs.declared.head.FileHead.{FileHead}
 use Rattle.fv_file.proofs.Laws.{IsPayloadIn, body_payloads, all_within}
-use Rattle.fv_head.specs.Head.{HeadFields, BeginsVolume}
+use Rattle.fv_head.specs.Words.{HeadFields, BeginsVolume}
 use Rattle.fv_head.specs.declared.extent.Extent.{Extent}
 use Rattle.fv_head.proofs.Laws.{first_lies, one_front}
-use Rattle.fv_tree.specs.VolumeFiles.{FileForm, files_in, replaced_by}
-use Rattle.fv_tree.specs.Denotes.{Denotes}
-use Rattle.fv_tree.specs.FirstFault.{data_place}
-use Rattle.fv_tree.specs.LocatedFiles.{StandIn, BeginWithFiles, HasDataIn}
-use Rattle.fv_tree.specs.Meaning.{Meaning}
+use Rattle.fv_tree.specs.Words.{FileForm, files_in, replaced_by, Denotes, data_place, StandIn, BeginWithFiles, HasDataIn, Meaning}
 
 -- ---- where the data are
 

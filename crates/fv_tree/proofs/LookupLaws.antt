@@ -4,7 +4,7 @@ use Rattle.std.specs.Iterator.{SkipsThenYields}
 use Rattle.std.specs.Option.{option_map}
 use Rattle.std.proofs.lemmas.Iterator.{YieldsList}
 use Rattle.std.proofs.lemmas.Iterator.Consumers.{nth_from_yields_List}
-use Rattle.fv_tree.specs.LookupInstances.{instance_of}
+use Rattle.fv_tree.specs.Words.{instance_of}
 
 -- what `numbered` returns is the item of its instance
 pub numbered_is : {S A B : Type 0} {steps : S → Option A → S → Type 0} {v : A → B} {s : S} {all : List B} (r : Option A) (n : ℕ)

@@ -8,15 +8,13 @@ use Rattle.std.proofs.Common.{◌≡◌, ◌≤◌, ℕ, zero, suc, true, false,
 use Rattle.fv_file.proofs.Laws.{only_one}
 use Rattle.fv_head.specs.declared.extent.Extent.{Extent}
 use Rattle.fv_head.proofs.Laws.{one_front}
-use Rattle.fv_section.specs.Frames.{FrameForm}
+use Rattle.fv_section.specs.Words.{FrameForm}
 use Rattle.fv_section.proofs.Laws.{one_split}
-use Rattle.fv_tree.specs.LocatedFiles.{StandIn}
-use Rattle.fv_tree.specs.VolumeFiles.{FileForm}
-use Rattle.fv_tree.specs.Meaning.{Meaning, Volume, FileMeanings, NoFiles, MoreFiles, FileMeaning, File, ContentMeaning, Plain, Sectioned}
-use Rattle.fv_tree.specs.MeaningParts.{files_from, sections_from}
-use Rattle.fv_tree.specs.Meaning.{files_list, SectionMeanings, NoSections, MoreSections, SectionMeaning, Section, BodyMeaning, Leaf, Group, Nested, sections_list}
-use Rattle.fv_tree.specs.Denotes.{SectionRelation, StreamRelation, VolumeRelation, Pairwise, StreamOver, SectionOver, VolumeOver, MeansBody, MeansContent, MeansFile}
-use Rattle.fv_tree.specs.Denotes.{MeansSection, Stream, Denotes}
+use Rattle.fv_tree.specs.Words.{StandIn, FileForm, Meaning, Volume, FileMeanings, NoFiles, MoreFiles, FileMeaning, File, ContentMeaning}
+use Rattle.fv_tree.specs.Words.{Plain, Sectioned, files_from, sections_from, files_list, SectionMeanings, NoSections, MoreSections}
+use Rattle.fv_tree.specs.Words.{SectionMeaning, Section, BodyMeaning, Leaf, Group, Nested, sections_list, SectionRelation, StreamRelation}
+use Rattle.fv_tree.specs.Words.{VolumeRelation, Pairwise, StreamOver, SectionOver, VolumeOver, MeansBody, MeansContent, MeansFile}
+use Rattle.fv_tree.specs.Words.{MeansSection, Stream, Denotes}
 use Rattle.fv_tree.proofs.SectionShapeLaws.{group_is_no_volume}
 use Rattle.fv_tree.proofs.VolumePartLaws.{front_of, has_files}
 

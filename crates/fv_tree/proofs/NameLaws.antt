@@ -3,14 +3,11 @@ use Rattle.std.proofs.Common.{◌≡◌, ◌≤◌, ◌<◌, ℕ, ◌+◌, List,
 use Rattle.std.proofs.Common.{false, refl, sym, ap, ◌∙◌, subst, arith}
 use Rattle.std.specs.Prelude.{◌&&◌, ◌||◌, not}
 use Rattle.std.specs.List.{AllByRecursion}
-use Rattle.fv_base.specs.Checks.{Which, First}
-use Rattle.fv_base.specs.Faults.{outer_fault}
+use Rattle.fv_base.specs.Words.{Which, First, outer_fault}
 use Rattle.fv_base.specs.declared.fault.Fault.{Fault}
 use Rattle.fv_base.specs.declared.fault.FaultKind.TheVariants as kinds
-use Rattle.fv_file.specs.Cells.{CellForm, Valid, Pad, Dead, Stub, Free}
-use Rattle.fv_file.specs.CellForms.{CellsWithin}
-use Rattle.fv_tree.specs.FirstFault.{HasTwin, TopElsewhere}
-use Rattle.fv_tree.specs.VolumeFiles.{FileForm, files_in, is_top, end_of, TopAtEnd}
+use Rattle.fv_file.specs.Words.{CellForm, Valid, Pad, Dead, Stub, Free, CellsWithin}
+use Rattle.fv_tree.specs.Words.{HasTwin, TopElsewhere, FileForm, files_in, is_top, end_of, TopAtEnd}
 use Rattle.fv_base.proofs.Laws.{in_middle, more_items}
 
 -- ---- one more file

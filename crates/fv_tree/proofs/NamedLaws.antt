@@ -10,16 +10,12 @@ use Rattle.std.proofs.lemmas.Simd.{map-map}
 use Rattle.fv_base.specs.declared.guid.Guid.{Guid}
 use Rattle.fv_base.proofs.Laws.{and_split}
 use Rattle.fv_names.specs.NamedFiles as names
-use Rattle.fv_names.specs.NamedFiles.{NamedFile, names_in, is_name}
-use Rattle.fv_names.specs.NameIndexes.{AllApart, Entry, IsIndex}
+use Rattle.fv_names.specs.Words.{NamedFile, names_in, is_name, AllApart, Entry, IsIndex}
 use Rattle.fv_names.proofs.Laws.{apart_twins, no_entry, no_named, none_replaced, number_within}
-use Rattle.fv_tree.specs.Denotes.{MeansFile, Pairwise, StreamRelation}
-use Rattle.fv_tree.specs.VolumeFiles.{FileForm, NoTwins, current_in, is_marked, is_twin, replaced_by, same_name}
-use Rattle.fv_tree.specs.FileNames.{is_named}
-use Rattle.fv_tree.specs.LocatedFiles.{file_form}
-use Rattle.fv_tree.specs.Meaning.{FileMeaning, File, file_name_of}
-use Rattle.fv_tree.specs.inner.NameForms.{named_file, named_form}
+use Rattle.fv_tree.specs.Words.{MeansFile, Pairwise, StreamRelation, FileForm, NoTwins, current_in, is_marked, is_twin, replaced_by}
+use Rattle.fv_tree.specs.Words.{same_name, is_named, file_form, FileMeaning, File, file_name_of}
 use Rattle.fv_tree.specs.declared.volume_files.LocatedFile.{LocatedFile}
+use Rattle.fv_tree.specs.inner.NameForms.{named_file, named_form}
 use Rattle.fv_tree.specs.declared.volume_files.Mark.TheVariants as marks
 
 -- what a loop over files reads past their end

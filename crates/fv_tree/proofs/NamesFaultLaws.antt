@@ -7,13 +7,12 @@ use Rattle.std.proofs.lemmas.Bool.{or_cases}
 use Rattle.std.proofs.lemmas.List.{get_or_at}
 use Rattle.std.proofs.lemmas.List.Folds.{list_any_at}
 use Rattle.std.proofs.lemmas.Slice.Eq.{bytes_eq-Decides}
-use Rattle.fv_base.specs.Checks.{Which}
-use Rattle.fv_base.proofs.Laws.{and_join, and_split, up_is_not_down}
+use Rattle.fv_base.specs.Words.{Which}
 use Rattle.fv_base.specs.declared.fault.Fault.{Fault}
-use Rattle.fv_file.specs.Cells.{CellForm}
-use Rattle.fv_tree.specs.FirstFault.{HasTwin, TopElsewhere, NamesFault}
-use Rattle.fv_tree.specs.VolumeFiles.{FileForm, files_in, same_name, is_twin, NoTwins, current_in, is_top, end_of, TopAtEnd}
-use Rattle.fv_tree.specs.VolumeFiles.{AreCurrent}
+use Rattle.fv_base.proofs.Laws.{and_join, and_split, up_is_not_down}
+use Rattle.fv_file.specs.Words.{CellForm}
+use Rattle.fv_tree.specs.Words.{HasTwin, TopElsewhere, NamesFault, FileForm, files_in, same_name, is_twin, NoTwins, current_in, is_top}
+use Rattle.fv_tree.specs.Words.{end_of, TopAtEnd, AreCurrent}
 
 pub same_name_back : (f g : FileForm) → same_name f g ≡ true → same_name g f ≡ true
 same_name_back f g h = grind (arith, common_steps, bytes_eq-Decides)

@@ -4,25 +4,22 @@
 -- 2. By the depth of the nesting no section with a fault is read (`section_refuses`), so no stream and no volume (`stream_refuses`,
 --    `fault_refuses`).
 use Rattle.std.proofs.Common.{◌≡◌, ◌≤◌, ℕ, zero, suc, List, length, take, drop, ap, ◌∙◌, subst, inl, inr}
-use Rattle.fv_base.specs.Checks.{Which}
-use Rattle.fv_base.proofs.Laws.{none_fails}
+use Rattle.fv_base.specs.Words.{Which}
 use Rattle.fv_base.specs.declared.fault.Fault.{Fault}
 use Rattle.fv_base.specs.declared.fault.Place.{Place}
-use Rattle.fv_file.specs.Cells.{CellForm, Tiles}
+use Rattle.fv_base.proofs.Laws.{none_fails}
+use Rattle.fv_file.specs.Words.{CellForm, Tiles}
 use Rattle.fv_file.proofs.Laws.{only_one}
 use Rattle.fv_file.proofs.Laws as cellular
-use Rattle.fv_head.specs.HeadChecks.{head_checks}
+use Rattle.fv_head.specs.Words.{head_checks}
 use Rattle.fv_head.specs.declared.extent.Extent.{Extent}
 use Rattle.fv_head.proofs.Laws.{front_holds}
-use Rattle.fv_section.specs.Frames.{FrameForm}
+use Rattle.fv_section.specs.Words.{FrameForm}
 use Rattle.fv_section.proofs.Laws.{one_split}
 use Rattle.fv_section.proofs.Laws as framed
-use Rattle.fv_tree.specs.LocatedFiles.{StandIn}
-use Rattle.fv_tree.specs.Denotes.{Pairwise, MeansFile, MeansSection, Stream, Denotes}
-use Rattle.fv_tree.specs.FirstFault.{FileFault, LayoutFault, Moved, BodyFault, InSection, InStream, InVolume}
-use Rattle.fv_tree.specs.FirstFault.{data_at}
-use Rattle.fv_tree.specs.Meaning.{Meaning, FileMeaning, SectionMeaning, files_of, head_of}
-use Rattle.fv_tree.specs.VolumeFiles.{FileForm, AreCurrent, files_in, current_in}
+use Rattle.fv_tree.specs.Words.{StandIn, Pairwise, MeansFile, MeansSection, Stream, Denotes, FileFault, LayoutFault, Moved, BodyFault}
+use Rattle.fv_tree.specs.Words.{InSection, InStream, InVolume, data_at, Meaning, FileMeaning, SectionMeaning, files_of, head_of, FileForm}
+use Rattle.fv_tree.specs.Words.{AreCurrent, files_in, current_in}
 use Rattle.fv_tree.proofs.ListPairs.{one_of_none}
 use Rattle.fv_tree.proofs.NamesFaultLaws.{current_none}
 use Rattle.fv_tree.proofs.SectionShapeLaws.{group_none, nested_none, stream_bad, too_deep}

@@ -14,24 +14,19 @@ use Rattle.std.proofs.lemmas.Bool.{eqb-true, le-leb, leb-true}
 use Rattle.std.proofs.lemmas.Bool.Decides.{Decides-eqb}
 use Rattle.std.proofs.lemmas.List.{take_all}
 use Rattle.std.proofs.lemmas.Slice.Eq.{bytes_eq-Decides}
-use Rattle.fv_base.specs.Checks.{First}
-use Rattle.fv_base.proofs.Laws.{and_join, and_split, up_is_not_down}
-use Rattle.fv_base.specs.Faults.{outer_fault}
-use Rattle.fv_base.specs.Value.{field}
+use Rattle.fv_base.specs.Words.{First, outer_fault, field}
 use Rattle.fv_base.specs.declared.fault.Fault.{Fault}
-use Rattle.fv_base.specs.declared.fault.FaultKind.TheVariants as kinds
 use Rattle.fv_base.specs.declared.flash.FileSystem.{FileSystem}
-use Rattle.fv_base.specs.declared.flash.FileSystem.TheVariants.{Ffs2, Ffs3}
-use Rattle.fv_head.specs.Head.{system_guid}
-use Rattle.fv_head.specs.HeadChecks.{is_one_volume, file_system_at}
-use Rattle.fv_section.specs.Frames.{FrameForm}
-use Rattle.fv_tree.specs.Denotes.{group_kind, volume_kind, Opens, StreamRelation, VolumeRelation, MeansSection, SectionOver, Stream, Denotes}
-use Rattle.fv_tree.specs.Denotes.{holds_sections, MeansContent, MeansFile}
-use Rattle.fv_tree.specs.VolumeFiles.{FileForm}
 use Rattle.fv_base.specs.declared.fault.Place.{Place}
-use Rattle.fv_tree.specs.FirstFault.{moved_fault, body_place, body_at, InSection, InStream, InVolume}
-use Rattle.fv_tree.specs.Meaning.{Meaning, FileMeaning, File, Plain, Sectioned, SectionMeaning, Section, Leaf, Group, Nested, sections_list}
-use Rattle.fv_tree.specs.MeaningParts.{sections_from}
+use Rattle.fv_base.proofs.Laws.{and_join, and_split, up_is_not_down}
+use Rattle.fv_base.specs.declared.fault.FaultKind.TheVariants as kinds
+use Rattle.fv_base.specs.declared.flash.FileSystem.TheVariants.{Ffs2, Ffs3}
+use Rattle.fv_head.specs.Words.{system_guid, is_one_volume, file_system_at}
+use Rattle.fv_section.specs.Words.{FrameForm}
+use Rattle.fv_tree.specs.Words.{group_kind, volume_kind, Opens, StreamRelation, VolumeRelation, MeansSection, SectionOver, Stream, Denotes}
+use Rattle.fv_tree.specs.Words.{holds_sections, MeansContent, MeansFile, FileForm, moved_fault, body_place, body_at, InSection, InStream}
+use Rattle.fv_tree.specs.Words.{InVolume, Meaning, FileMeaning, File, Plain, Sectioned, SectionMeaning, Section, Leaf, Group, Nested}
+use Rattle.fv_tree.specs.Words.{sections_list, sections_from}
 use Rattle.fv_tree.specs.inner.ReadingParts.{shape_of}
 use Rattle.fv_tree.specs.declared.shape.Shape.TheVariants as shapes
 

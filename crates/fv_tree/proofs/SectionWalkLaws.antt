@@ -5,15 +5,11 @@
 use Rattle.std.proofs.Common.{◌≡◌, ◌∙◌, ◌≤◌, ◌+◌, ℕ, List, [], ◌∷◌, ◌++◌, Bor, length, refl, sym, ap, subst}
 use Rattle.std.proofs.Common.{append-nil, append_assoc, arith, length-append}
 use Rattle.std.specs.List.{AllByRecursion}
-use Rattle.fv_base.specs.Limits.{depth_limit}
-use Rattle.fv_section.specs.Frames.{FrameForm}
-use Rattle.fv_tree.specs.Denotes.{MeansSection}
-use Rattle.fv_tree.specs.LookupInstances.{preorder, inside_section}
-use Rattle.fv_tree.specs.Meaning.{FileMeaning, File, Plain, Sectioned, SectionMeanings, SectionMeaning, Section, Leaf, Group, Nested}
-use Rattle.fv_tree.specs.Meaning.{content_of, sections_list}
-use Rattle.fv_tree.specs.MeaningParts.{body_of, sections_from, sections_in, sections_in_data}
-use Rattle.fv_tree.specs.ReadParts.{IsReadFile}
-use Rattle.fv_tree.specs.SectionWalks.{AreLevels, NestsAt, left_in}
+use Rattle.fv_base.specs.Words.{depth_limit}
+use Rattle.fv_section.specs.Words.{FrameForm}
+use Rattle.fv_tree.specs.Words.{MeansSection, preorder, inside_section, FileMeaning, File, Plain, Sectioned, SectionMeanings}
+use Rattle.fv_tree.specs.Words.{SectionMeaning, Section, Leaf, Group, Nested, content_of, sections_list, body_of, sections_from}
+use Rattle.fv_tree.specs.Words.{sections_in, sections_in_data, IsReadFile, AreLevels, NestsAt, left_in}
 use Rattle.fv_tree.proofs.DepthLaws.{nests_body, nests_content, nests_group, nests_sections}
 use Rattle.fv_tree.proofs.SectionShapeLaws.{list_back}
 

@@ -1,7 +1,6 @@
 -- What is in a list is smaller than the list: why the recursions over a meaning end.
 use Rattle.std.proofs.Common.{◌≡◌, ℕ, zero, suc, ◌+◌, ◌<◌, ◌≤◌, List, [], ◌∷◌, length, get_or, refl, ap, arith}
-use Rattle.fv_tree.specs.Meaning.{FileMeaning, File, SectionMeaning, Section, content_of}
-use Rattle.fv_tree.specs.MeaningParts.{files_from, sections_from, body_of}
+use Rattle.fv_tree.specs.Words.{FileMeaning, File, SectionMeaning, Section, content_of, files_from, sections_from, body_of}
 use Rattle.fv_tree.specs.inner.Sizes.{files_size, file_size, content_size, sections_size, section_size, body_size}
 
 -- where a list is larger than its first item and the rest together, it is larger than each item

@@ -5,19 +5,13 @@
 -- 3. At the end the sections are those of the stream (`walk_found`).
 use Rattle.std.proofs.Common.{◌≡◌, ℕ, ◌+◌, ◌≤◌, List, [], ◌∷◌, ◌++◌, length, refl, sym, ap, ◌∙◌, subst, inr, append_assoc, arith}
 use Rattle.std.proofs.lemmas.List.{append-nil}
-use Rattle.fv_base.specs.Checks.{First}
-use Rattle.fv_base.specs.Limits.{volume_limit}
-use Rattle.fv_base.specs.Value.{IsBytes}
+use Rattle.fv_base.specs.Words.{First, volume_limit, IsBytes}
 use Rattle.fv_base.specs.declared.fault.Fault.{Fault}
 use Rattle.fv_base.specs.declared.fault.Place.{Place}
 use Rattle.fv_base.proofs.Laws.{in_middle}
-use Rattle.fv_section.specs.Frames.{FrameForm, Splits, frame_len}
-use Rattle.fv_section.specs.StreamReads.{FrameStandsAt}
+use Rattle.fv_section.specs.Words.{FrameForm, Splits, frame_len, FrameStandsAt}
 use Rattle.fv_section.proofs.Laws.{split_stands, stands_within}
-use Rattle.fv_tree.specs.Denotes.{Pairwise, MeansSection, Stream}
-use Rattle.fv_tree.specs.ReadParts.{IsStoredFrame}
-use Rattle.fv_tree.specs.FirstFault.{InSection, InStream}
-use Rattle.fv_tree.specs.Meaning.{SectionMeaning}
+use Rattle.fv_tree.specs.Words.{Pairwise, MeansSection, Stream, IsStoredFrame, InSection, InStream, SectionMeaning}
 use Rattle.fv_tree.proofs.ListPairs.{pairs_push}
 
 -- the body of a stored frame is within the limit

@@ -12,9 +12,8 @@ use Rattle.std.proofs.lemmas.Bool.{not-true}
 use Rattle.std.proofs.lemmas.List.Elements.{filter_passes, recursion_from_All}
 use Rattle.std.proofs.lemmas.List.Folds.{list_any-append}
 use Rattle.std.proofs.lemmas.Slice.Eq.{bytes_eq-Decides}
-use Rattle.fv_base.specs.Checks.{First}
-use Rattle.fv_tree.specs.FirstFault.{HasTwin, TopElsewhere}
-use Rattle.fv_tree.specs.VolumeFiles.{FileForm, same_name, is_marked, is_twin, replaced_by, NoTwins, current_in, is_top}
+use Rattle.fv_base.specs.Words.{First}
+use Rattle.fv_tree.specs.Words.{HasTwin, TopElsewhere, FileForm, same_name, is_marked, is_twin, replaced_by, NoTwins, current_in, is_top}
 use Rattle.fv_tree.proofs.NamesFaultLaws.{twin_none}
 use Rattle.fv_base.proofs.Laws.{Earlier, TwoCuts, after_middle, in_middle, or_both, or_parts, two_cuts}
 

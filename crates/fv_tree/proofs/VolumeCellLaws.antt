@@ -1,14 +1,12 @@
 -- Why no cells tile the body of a volume with which bytes begin.
 use Rattle.std.proofs.Common.{◌≡◌, ◌∙◌, ℕ, List, drop, inl, inr, subst, sym, take}
 use Rattle.std.specs.Prelude.{Result, Ok, Err}
-use Rattle.fv_base.specs.Checks.{IsFirstFault}
+use Rattle.fv_base.specs.Words.{IsFirstFault}
 use Rattle.fv_base.specs.declared.fault.Fault.{Fault}
-use Rattle.fv_file.specs.Cells.{CellForm, Tiles}
-use Rattle.fv_file.specs.FileChecks.{IsFirstCellFault}
-use Rattle.fv_head.specs.Head.{HeadFields, BeginsVolume}
-use Rattle.fv_head.specs.HeadChecks.{head_checks}
+use Rattle.fv_file.specs.Words.{CellForm, Tiles, IsFirstCellFault}
+use Rattle.fv_head.specs.Words.{HeadFields, BeginsVolume, head_checks}
 use Rattle.fv_head.specs.declared.extent.Extent.{Extent}
-use Rattle.fv_tree.specs.LocatedFiles.{BeginsTiled, NotTiled}
+use Rattle.fv_tree.specs.Words.{BeginsTiled, NotTiled}
 
 -- the header has a fault
 pub bad_header : (b : List ℕ) (f : Fault) (r : Result Extent Fault) → ((h : HeadFields) (e : Extent) → BeginsVolume h e b → r ≡ Ok e)

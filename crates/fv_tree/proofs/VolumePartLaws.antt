@@ -6,21 +6,15 @@ use Rattle.std.proofs.Common.{◌≡◌, ◌≤◌, ◌⊎◌, ℕ, List, [], �
 use Rattle.std.proofs.Common.{arith, inl, inr}
 use Rattle.std.specs.Prelude.{◌≢◌}
 use Rattle.std.proofs.lemmas.List.{length-take-le, take_all}
-use Rattle.fv_base.specs.Checks.{IsFirstFault, First}
-use Rattle.fv_base.specs.Faults.{out_of_memory}
+use Rattle.fv_base.specs.Words.{IsFirstFault, First, out_of_memory}
 use Rattle.fv_base.specs.declared.fault.Fault.{Fault}
+use Rattle.fv_base.specs.declared.fault.Place.{Place}
 use Rattle.fv_base.proofs.Laws.{take-take_le}
-use Rattle.fv_head.specs.Head.{HeadFields, BeginsVolume}
-use Rattle.fv_head.specs.HeadChecks.{head_checks, volume_len_at}
+use Rattle.fv_head.specs.Words.{HeadFields, BeginsVolume, head_checks, volume_len_at}
 use Rattle.fv_head.specs.declared.extent.Extent.{Extent}
 use Rattle.fv_head.proofs.Laws.{front_extent, front_same, one_front}
-use Rattle.fv_tree.specs.LocatedFiles.{StandIn}
-use Rattle.fv_tree.specs.Denotes.{Stream, StreamRelation, Denotes, MeansFile, Opens, Pairwise}
-use Rattle.fv_tree.specs.VolumeFiles.{FileForm}
-use Rattle.fv_base.specs.declared.fault.Place.{Place}
-use Rattle.fv_tree.specs.FirstFault.{moved_fault, InVolume}
-use Rattle.fv_tree.specs.Meaning.{Meaning, Volume, FileMeaning, files_list, head_of, files_of}
-use Rattle.fv_tree.specs.MeaningParts.{files_from}
+use Rattle.fv_tree.specs.Words.{StandIn, Stream, StreamRelation, Denotes, MeansFile, Opens, Pairwise, FileForm, moved_fault, InVolume}
+use Rattle.fv_tree.specs.Words.{Meaning, Volume, FileMeaning, files_list, head_of, files_of, files_from}
 
 -- the volume has some files, and these are their meanings
 abbrev pub HasFiles : StreamRelation → Extent → List ℕ → List FileMeaning → Type 0

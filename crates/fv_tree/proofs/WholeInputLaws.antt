@@ -5,16 +5,12 @@ use Rattle.std.specs.Prelude.{◌==◌}
 use Rattle.std.proofs.lemmas.List.{take_all}
 use Rattle.std.proofs.lemmas.Bool.{eqb-true, eq-eqb}
 use Rattle.fv_base.proofs.Laws.{or_more, want_known}
-use Rattle.fv_base.specs.Faults.{outer_fault, out_of_memory}
+use Rattle.fv_base.specs.Words.{outer_fault, out_of_memory, depth_limit}
 use Rattle.fv_base.specs.declared.fault.Fault.{Fault}
 use Rattle.fv_base.specs.declared.fault.FaultKind.{FaultKind}
 use Rattle.fv_base.specs.declared.fault.FaultKind.TheVariants as kinds
-use Rattle.fv_base.specs.Limits.{depth_limit}
-use Rattle.fv_head.specs.HeadChecks.{BeginsWithHeader}
-use Rattle.fv_tree.specs.Denotes.{Accepted, Denotes}
-use Rattle.fv_tree.specs.FirstFault.{FaultStands, IsFirstOfVolume}
-use Rattle.fv_tree.specs.InputFaults.{GoesOn, MemoryRanOut, NotRead}
-use Rattle.fv_tree.specs.Meaning.{Meaning, length_of}
+use Rattle.fv_head.specs.Words.{BeginsWithHeader}
+use Rattle.fv_tree.specs.Words.{Accepted, Denotes, FaultStands, IsFirstOfVolume, GoesOn, MemoryRanOut, NotRead, Meaning, length_of}
 use Rattle.fv_tree.proofs.FaultKindLaws.{stands_other}
 
 -- ---- an input and the volume that it begins with

@@ -1,14 +1,12 @@
 -- Which bytes are a volume with a given meaning. The definition recurs on how deep groups and opened volumes nest.
 use Rattle.std.specs.Prelude.{◌≡◌, ◌≢◌, ℕ, zero, suc, ◌≤◌, ◌==◌, ◌&&◌, ◌||◌, Bool, true, false, nat_le, List, [], ◌∷◌}
 use Rattle.std.specs.Prelude.{length, drop}
-use Rattle.fv_base.specs.Limits.{depth_limit}
-use Rattle.fv_base.specs.Value.{IsBytes, field, le_at}
+use Rattle.fv_base.specs.Words.{depth_limit, IsBytes, field, le_at}
 use Rattle.fv_base.specs.declared.flash.FileSystem.{FileSystem}
-use Rattle.fv_file.specs.Cells.{CellForm, Tiles}
-use Rattle.fv_file.specs.FileAttributes.{attribute_bits, without_large}
-use Rattle.fv_head.specs.Head.{BeginsVolume, signature_bytes, system_guid}
+use Rattle.fv_file.specs.Words.{CellForm, Tiles, attribute_bits, without_large}
+use Rattle.fv_head.specs.Words.{BeginsVolume, signature_bytes, system_guid}
 use Rattle.fv_head.specs.declared.extent.Extent.{Extent}
-use Rattle.fv_section.specs.Frames.{FrameForm, Splits}
+use Rattle.fv_section.specs.Words.{FrameForm, Splits}
 use Rattle.fv_tree.specs.Meaning.{Meaning, FileMeaning, File, ContentMeaning, Plain, Sectioned, SectionMeaning}
 use Rattle.fv_tree.specs.Meaning.{Section, BodyMeaning, Leaf, Group, Nested, sections_list, head_of, files_of}
 use Rattle.fv_tree.specs.VolumeFiles.{FileForm, AreCurrent, files_in}

@@ -2,9 +2,9 @@
 use Rattle.std.specs.Prelude.{Bool, List, map, Option}
 use Rattle.std.specs.List.{find}
 use Rattle.std.specs.Str.{bytes_eq}
-use Rattle.fv_base.specs.Guids.{bytes_of}
+use Rattle.fv_base.specs.Words.{bytes_of}
 use Rattle.fv_base.specs.declared.guid.Guid.{Guid}
-use Rattle.fv_names.specs.NameIndexes.{IsIndex, entries_of}
+use Rattle.fv_names.specs.Words.{IsIndex, entries_of}
 use Rattle.fv_names.specs.declared.name_index.NameIndex.{NameIndex}
 use Rattle.fv_tree.specs.Meaning.{FileMeaning, file_name_of}
 

@@ -2,20 +2,15 @@
 -- which a volume is read; and any fault whose condition holds at its place, whatever else is wrong.
 use Rattle.std.specs.Prelude.{◌≡◌, ℕ, zero, suc, ◌+◌, ◌⊎◌, true, List, [], ◌∷◌, ◌++◌, take, drop}
 use Rattle.std.specs.List.{list_any}
-use Rattle.fv_base.specs.Checks.{Which, First, Any, Fails}
-use Rattle.fv_base.specs.Faults.{outer_fault}
+use Rattle.fv_base.specs.Words.{Which, First, Any, Fails, outer_fault, depth_limit}
 use Rattle.fv_base.specs.declared.fault.Fault.{Fault}
-use Rattle.fv_base.specs.declared.fault.FaultKind.TheVariants as kinds
 use Rattle.fv_base.specs.declared.fault.Place.{Place}
-use Rattle.fv_file.specs.Cells.{CellForm, Tiles}
-use Rattle.fv_file.specs.FileChecks.{CellFault}
-use Rattle.fv_head.specs.Head.{HeadFields, BeginsVolume}
-use Rattle.fv_head.specs.HeadChecks.{head_checks}
+use Rattle.fv_base.specs.declared.fault.FaultKind.TheVariants as kinds
+use Rattle.fv_file.specs.Words.{CellForm, Tiles, CellFault}
+use Rattle.fv_head.specs.Words.{HeadFields, BeginsVolume, head_checks}
 use Rattle.fv_head.specs.declared.extent.Extent.{Extent}
-use Rattle.fv_section.specs.FrameChecks.{FrameFault}
-use Rattle.fv_section.specs.Frames.{FrameForm, Splits, section_header_len}
+use Rattle.fv_section.specs.Words.{FrameFault, FrameForm, Splits, section_header_len}
 use Rattle.fv_tree.specs.Denotes.{group_kind, volume_kind, Opens, holds_sections, Pairwise, MeansFile, MeansSection}
-use Rattle.fv_base.specs.Limits.{depth_limit}
 use Rattle.fv_tree.specs.Denotes.{Stream}
 use Rattle.fv_tree.specs.VolumeFiles.{FileForm, files_in, is_twin, NoTwins, current_in, is_top, end_of, TopAtEnd}
 

@@ -1,9 +1,9 @@
 -- Why a whole input is no volume: its first fault (PI specification, volume 3, section 3.2).
 use Rattle.std.specs.Prelude.{◌≡◌, ◌⊎◌, ◌<◌, ℕ, List, length, take}
-use Rattle.fv_base.specs.Faults.{outer_fault, out_of_memory}
+use Rattle.fv_base.specs.Words.{outer_fault, out_of_memory}
 use Rattle.fv_base.specs.declared.fault.Fault.{Fault}
 use Rattle.fv_base.specs.declared.fault.FaultKind.TheVariants as kinds
-use Rattle.fv_head.specs.HeadChecks.{BeginsWithHeader}
+use Rattle.fv_head.specs.Words.{BeginsWithHeader}
 use Rattle.fv_tree.specs.Denotes.{Accepted}
 use Rattle.fv_tree.specs.FirstFault.{FaultStands, IsFirstOfVolume}
 use Rattle.fv_tree.specs.Meaning.{Meaning, length_of}

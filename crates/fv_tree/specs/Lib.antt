@@ -12,4 +12,5 @@ pub mod FileNames
 pub mod LookupInstances
 pub mod SectionWalks
 pub mod Views
+pub mod Words
 pub mod inner

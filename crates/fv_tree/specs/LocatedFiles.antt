@@ -1,17 +1,12 @@
 -- The cells of the volume with which bytes begin, and its files as they are stored in it, each with its place.
 use Rattle.std.specs.Prelude.{◌⊎◌, ℕ, List, take, drop, ◌≡◌, ◌≤◌, ◌+◌, length}
-use Rattle.fv_base.specs.Checks.{IsFirstFault, First}
+use Rattle.fv_base.specs.Words.{IsFirstFault, First, field}
 use Rattle.fv_base.specs.declared.fault.Fault.{Fault}
-use Rattle.fv_file.specs.Cells.{CellForm, Tiles}
-use Rattle.fv_file.specs.FileChecks.{IsFirstCellFault}
-use Rattle.fv_head.specs.Head.{HeadFields, BeginsVolume}
-use Rattle.fv_head.specs.HeadChecks.{head_checks}
-use Rattle.fv_head.specs.declared.extent.Extent.{Extent}
-use Rattle.fv_base.specs.Value.{field}
-use Rattle.fv_file.specs.FileAttributes.{attribute_bits, is_large}
-use Rattle.fv_file.specs.FileHeaders.{file_header_len}
-use Rattle.fv_file.specs.NewHeaders.{file_sum_for}
+use Rattle.fv_file.specs.Words.{CellForm, Tiles, IsFirstCellFault, attribute_bits, is_large, file_header_len}
+use Rattle.fv_file.specs.Words.{file_sum_for}
 use Rattle.fv_file.specs.declared.state.FileState.{FileState}
+use Rattle.fv_head.specs.Words.{HeadFields, BeginsVolume, head_checks}
+use Rattle.fv_head.specs.declared.extent.Extent.{Extent}
 use Rattle.fv_file.specs.declared.state.FileState.TheVariants as states
 use Rattle.fv_tree.specs.FirstFault.{Moved, LayoutFault, data_place, outermost}
 use Rattle.fv_tree.specs.VolumeFiles.{FileForm, AreCurrent, files_in}

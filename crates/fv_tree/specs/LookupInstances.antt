@@ -2,11 +2,10 @@
 use Rattle.std.specs.Prelude.{ℕ, ◌+◌, ◌==◌, ◌++◌, zero, suc, List, [], ◌∷◌, Option, Some, None, option_map, slice_get}
 use Rattle.std.specs.Prelude.{◌≡◌}
 use Rattle.std.specs.List.{filter}
-use Rattle.fv_section.specs.Frames.{FrameForm}
+use Rattle.fv_section.specs.Words.{FrameForm, frame_form}
 use Rattle.fv_tree.specs.Meaning.{FileMeaning, SectionMeaning, Section, SectionMeanings, NoSections, MoreSections}
 use Rattle.fv_tree.specs.Meaning.{BodyMeaning, Leaf, Group, Nested}
 use Rattle.fv_tree.specs.MeaningParts.{file_kind_of, section_kind_of}
-use Rattle.fv_section.specs.StreamReads.{frame_form}
 use Rattle.fv_tree.specs.declared.lookup.Item.TheVariants as items
 use Rattle.fv_tree.specs.declared.lookup.Lookup.{Lookup}
 use Rattle.fv_tree.specs.declared.lookup.Lookup.TheVariants as answers

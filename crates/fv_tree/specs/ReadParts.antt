@@ -1,12 +1,10 @@
 -- What is known of a file and of a section that were read.
 use Rattle.std.specs.Prelude.{ℕ, ◌≤◌, List, length}
-use Rattle.fv_base.specs.Limits.{depth_limit, volume_limit}
-use Rattle.fv_base.specs.Value.{IsBytes}
+use Rattle.fv_base.specs.Words.{depth_limit, volume_limit, IsBytes}
 use Rattle.fv_base.specs.declared.flash.FileSystem.{FileSystem}
 use Rattle.fv_base.specs.declared.flash.Polarity.{Polarity}
-use Rattle.fv_file.specs.Cells.{Valid, IsCell}
-use Rattle.fv_section.specs.Frames.{FrameForm}
-use Rattle.fv_section.specs.StreamReads.{FrameStandsAt}
+use Rattle.fv_file.specs.Words.{Valid, IsCell}
+use Rattle.fv_section.specs.Words.{FrameForm, FrameStandsAt}
 use Rattle.fv_tree.specs.Denotes.{MeansFile, MeansSection, Stream}
 use Rattle.fv_tree.specs.Meaning.{FileMeaning, SectionMeaning}
 use Rattle.fv_tree.specs.VolumeFiles.{FileForm}

@@ -2,8 +2,8 @@
 use Rattle.std.specs.Prelude.{ℕ, ◌+◌, ◌≤◌, List, [], ◌∷◌, ◌++◌}
 use Rattle.std.specs.List.{AllByRecursion}
 use denote.Ref.{Bor}
-use Rattle.fv_base.specs.Limits.{depth_limit}
-use Rattle.fv_section.specs.Frames.{FrameForm}
+use Rattle.fv_base.specs.Words.{depth_limit}
+use Rattle.fv_section.specs.Words.{FrameForm}
 use Rattle.fv_tree.specs.Denotes.{MeansSection}
 use Rattle.fv_tree.specs.LookupInstances.{preorder}
 use Rattle.fv_tree.specs.Meaning.{SectionMeaning}

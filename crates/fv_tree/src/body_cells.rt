@@ -1,9 +1,9 @@
 //! The cells of a volume, with its extent.
 
 ghost use Rattle.std.specs.Prelude.{◌≡◌, ◌≢◌, length, take, IfErr, IfOk};
-ghost use Rattle.fv_base.specs.Faults.{out_of_memory};
-ghost use Rattle.fv_file.specs.CellForms.{CellsWithin};
-ghost use Rattle.fv_head.specs.HeadChecks.{BeginsWithHeader};
+ghost use Rattle.fv_base.specs.Words.{out_of_memory};
+ghost use Rattle.fv_file.specs.Words.{CellsWithin};
+ghost use Rattle.fv_head.specs.Words.{BeginsWithHeader};
 ghost use Rattle.fv_tree.specs.LocatedFiles.{BeginsTiled, NotTiled};
 
 use fv_base::Fault;

@@ -1,7 +1,7 @@
 //! Faults in bytes that begin at a place.
 
 ghost use Rattle.std.specs.Prelude.{◌≡◌, ◌≢◌, ◌<◌, ◌+◌, ◌^◌};
-ghost use Rattle.fv_base.specs.Faults.{out_of_memory};
+ghost use Rattle.fv_base.specs.Words.{out_of_memory};
 ghost use Rattle.fv_tree.specs.FirstFault.{moved_fault};
 
 use fv_base::{Fault, FaultKind, Place};

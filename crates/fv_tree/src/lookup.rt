@@ -2,7 +2,7 @@
 
 ghost use Rattle.std.specs.Prelude.{◌≡◌, ◌+◌, ℕ, None, IfOk, IfErr, List, option_copied, option_map};
 ghost use Rattle.std.specs.Iterator.{SkipsThenYields};
-ghost use Rattle.fv_section.specs.Frames.{FrameForm, Splits};
+ghost use Rattle.fv_section.specs.Words.{FrameForm, Splits};
 ghost use Rattle.fv_section.specs.StreamReads as framed;
 ghost use Rattle.fv_tree.specs.LookupInstances.{SeesSection, SeesFrame, IsNotSectioned, file_after, file_of_type};
 ghost use Rattle.fv_tree.specs.LookupInstances.{section_of_type, frame_of_type, security_core};

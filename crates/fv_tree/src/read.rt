@@ -1,12 +1,10 @@
 //! Reading a volume.
 
 ghost use Rattle.std.specs.Prelude.{◌≡◌, ◌≢◌, ◌≤◌, ◌<◌, ◌+◌, ◌^◌, ℕ, length, take, map, IfOk, IfErr};
-ghost use Rattle.fv_base.specs.Checks.{First};
-ghost use Rattle.fv_base.specs.Faults.{outer_fault, out_of_memory};
-ghost use Rattle.fv_base.specs.Limits.{depth_limit, volume_limit};
+ghost use Rattle.fv_base.specs.Words.{First, outer_fault, out_of_memory, depth_limit, volume_limit};
 ghost use Rattle.fv_base.specs.declared.fault.Fault.{Fault};
-ghost use Rattle.fv_head.specs.HeadChecks.{BeginsWithHeader};
-ghost use Rattle.fv_section.specs.Frames.{frame_len};
+ghost use Rattle.fv_head.specs.Words.{BeginsWithHeader};
+ghost use Rattle.fv_section.specs.Words.{frame_len};
 ghost use Rattle.fv_section.specs.StreamReads as framed;
 ghost use Rattle.fv_tree.specs.Meaning.{Meaning, length_of};
 ghost use Rattle.fv_tree.specs.Denotes.{Pairwise, MeansContent, MeansFile, MeansSection, Stream, Denotes, Accepted};

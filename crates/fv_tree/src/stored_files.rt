@@ -2,12 +2,9 @@
 
 ghost use Rattle.std.specs.Prelude.{◌≡◌, ◌≢◌, ◌≤◌, ◌<◌, ◌+◌, ◌%◌, ◌^◌, List, length, map, IfOk, IfErr};
 ghost use Rattle.std.specs.List.{AllByRecursion};
-ghost use Rattle.fv_base.specs.Checks.{First};
-ghost use Rattle.fv_base.specs.Faults.{out_of_memory};
-ghost use Rattle.fv_base.specs.Limits.{volume_limit};
-ghost use Rattle.fv_head.specs.HeadChecks.{BeginsWithHeader};
-ghost use Rattle.fv_names.specs.NamedFiles.{names_in};
-ghost use Rattle.fv_names.specs.NameIndexes.{IsIndex, entries_of};
+ghost use Rattle.fv_base.specs.Words.{First, out_of_memory, volume_limit};
+ghost use Rattle.fv_head.specs.Words.{BeginsWithHeader};
+ghost use Rattle.fv_names.specs.Words.{names_in, IsIndex, entries_of};
 ghost use Rattle.fv_tree.specs.FirstFault.{Moved, LayoutFault};
 ghost use Rattle.fv_tree.specs.LocatedFiles.{StandIn, file_form, BeginWithFiles, HasDataIn, IsFirstOfFiles};
 ghost use Rattle.fv_tree.specs.VolumeFiles.{FileForm};

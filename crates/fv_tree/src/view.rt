@@ -158,7 +158,7 @@ impl<'a> Model for FileView<'a> {
 
     ghost coded = { file_code };
 
-    ghost use Rattle.fv_file.specs.FileAttributes.{attribute_bits};
+    ghost use Rattle.fv_file.specs.Words.{attribute_bits};
     ghost use Rattle.fv_tree.specs.Views.{content_view};
 
     ghost view = { λ f. File f.name f.file_type (attribute_bits f.attributes) (content_view f.content) };

@@ -3,15 +3,13 @@
 ghost use Rattle.std.specs.Prelude.{◌≡◌, ◌≢◌, ◌≤◌, ◌<◌, ◌^◌, ◌==◌, ◌&&◌, ◌||◌, not, [], ◌∷◌, map};
 ghost use Rattle.std.specs.Prelude.{length as length_of, IsTrue, IfOk, IfErr, OnOk, IfSome, IfNone, true};
 ghost use Rattle.std.specs.List.{All, AllByRecursion, list_any};
-ghost use Rattle.fv_base.specs.Checks.{First};
-ghost use Rattle.fv_base.specs.Faults.{outer_fault, out_of_memory};
+ghost use Rattle.fv_base.specs.Words.{First, outer_fault, out_of_memory};
 ghost use Rattle.fv_file.specs.CellForms as cellular;
 ghost use Rattle.fv_tree.specs.FirstFault.{HasTwin, TopElsewhere, NamesFault};
 ghost use Rattle.fv_tree.specs.VolumeFiles.{FileForm, NoTwins, TopAtEnd, AreCurrent, files_in, current_in, is_marked};
 ghost use Rattle.fv_tree.specs.VolumeFiles.{is_top, end_of, replaced_by};
 ghost use Rattle.fv_tree.specs.inner.NameForms.{named_file};
-ghost use Rattle.fv_names.specs.NamedFiles.{names_in};
-ghost use Rattle.fv_names.specs.NameIndexes.{IsIndex, entries_of};
+ghost use Rattle.fv_names.specs.Words.{names_in, IsIndex, entries_of};
 ghost use Rattle.fv_tree.specs.LocatedFiles.{file_form, state_by};
 ghost use Rattle.fv_tree.specs.inner.ReadingParts.{IsSmallCell, is_noted, mark_of};
 

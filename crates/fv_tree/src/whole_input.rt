@@ -1,8 +1,8 @@
 //! From an input to the volume that it is.
 
 ghost use Rattle.std.specs.Prelude.{◌≡◌, ◌≢◌, ◌⊎◌, IfOk, IfErr};
-ghost use Rattle.fv_base.specs.Faults.{out_of_memory};
-ghost use Rattle.fv_head.specs.HeadChecks.{BeginsWithHeader};
+ghost use Rattle.fv_base.specs.Words.{out_of_memory};
+ghost use Rattle.fv_head.specs.Words.{BeginsWithHeader};
 ghost use Rattle.fv_tree.specs.Denotes.{Accepted};
 ghost use Rattle.fv_tree.specs.InputFaults.{FaultStandsInInput, NotRead};
 ghost use Rattle.fv_tree.specs.Meaning.{Meaning};

@@ -5,7 +5,7 @@ use Rattle.clap.specs.Words.{App, found_of, rows_of}
 use Rattle.clap.specs.declared.parser.matches.ArgMatches.{ArgMatches}
 use Rattle.fv_arguments.specs.Options.{compare_app, extract_app, faults_in, hobs_app, list_app, normalise_app, one_input_app, rows_in}
 use Rattle.fv_arguments.specs.Options.{volume_app}
-use Rattle.fv_arguments.specs.Words.{AsksBy, HasTexts, command_name}
+use Rattle.fv_arguments.specs.CommandLines.{AsksBy, HasTexts, command_name}
 use Rattle.fv_plan.specs.declared.plan.Command.{Command}
 use Rattle.fv_plan.specs.declared.plan.Plan.{Plan}
 use Rattle.fv_arguments.specs.declared.words.WordFault.{WordFault}

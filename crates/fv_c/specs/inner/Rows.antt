@@ -1,8 +1,8 @@
 -- The sections that a walk keeps, what it has found, and what is in the caller's buffer after a call.
 use Rattle.std.specs.Prelude.{◌≡◌, ◌⊎◌, ℕ, List, Option, Some, None, ◌≢◌, ◌<◌, ◌≤◌, ◌++◌, length, drop}
-use Rattle.fv_base.specs.Faults.{out_of_memory}
+use Rattle.fv_base.specs.Words.{out_of_memory}
 use Rattle.fv_base.specs.declared.fault.Fault.{Fault}
-use Rattle.fv_canon.specs.LayoutFaults.{FirstUnfit}
+use Rattle.fv_canon.specs.Words.{FirstUnfit}
 use Rattle.fv_c.specs.ExtractedParts.{PartMeaning, IsPartImage, volumes_in_part}
 use Rattle.fv_c.specs.ReportedFiles.{SectionRow}
 use Rattle.fv_c.specs.declared.parts.PlacedSection.{PlacedSection}

@@ -1,12 +1,11 @@
 -- What a walk over the files of a volume requires: how deep groups and volumes nest, and where the files are; and what
 -- it adds to a list of starts.
 use Rattle.std.specs.Prelude.{ℕ, List, ◌≡◌, ◌+◌, ◌≤◌, ◌++◌, ◌%◌, [], ◌∷◌, map}
-use Rattle.fv_base.specs.Limits.{volume_limit}
-use Rattle.fv_tree.specs.Meaning.{FileMeaning, data_len_of}
-use Rattle.fv_tree.specs.Volumes.{Inside}
+use Rattle.fv_base.specs.Words.{volume_limit}
+use Rattle.fv_tree.specs.Words.{FileMeaning, data_len_of, Inside}
 use Rattle.fv_canon.specs.LayoutForms.{Laid}
 use Rattle.fv_canon.specs.Layouts.{AreStarts, layout_item}
-use Rattle.fv_placement.specs.Starts.{StartsFollow}
+use Rattle.fv_placement.specs.Words.{StartsFollow}
 use Rattle.fv_canon.specs.StoredFiles.{size_for}
 
 -- the new list is the old starts, followed by those of these volumes

@@ -1,19 +1,14 @@
 -- The canonical image part by part, in the order in which a walk writes it; and how many starts there are.
 use Rattle.std.specs.Prelude.{ℕ, ◌+◌, ◌-◌, List, [], ◌∷◌, ◌++◌, length, replicate, take, drop}
-use Rattle.fv_base.specs.Flash.{erased_byte}
-use Rattle.fv_base.specs.Value.{up_to_8}
+use Rattle.fv_base.specs.Words.{erased_byte, up_to_8}
 use Rattle.fv_base.specs.declared.flash.Polarity.{Polarity}
-use Rattle.fv_head.specs.Head.{HeadFields}
-use Rattle.fv_head.specs.HeadImage.{canonical_head}
-use Rattle.fv_head.specs.ExtImage.{canonical_end, first_edge}
-use Rattle.fv_head.specs.VolumeAttributes.{polarity_of}
+use Rattle.fv_head.specs.Words.{HeadFields, canonical_head, canonical_end, first_edge, polarity_of}
 use Rattle.fv_canon.specs.StoredFiles.{StoredFile, stored_len, stored_bytes, gap_bytes, ext_pad, used_size}
-use Rattle.fv_tree.specs.Meaning.{ContentMeaning, Plain, Sectioned, BodyMeaning, Leaf, Group, FileMeaning, content_of}
-use Rattle.fv_tree.specs.Meaning.{Meaning, Volume, FileMeanings, NoFiles, MoreFiles, File, SectionMeanings, NoSections}
-use Rattle.fv_tree.specs.Meaning.{MoreSections, SectionMeaning, Section, Nested, files_list, files_of}
-use Rattle.fv_section.specs.Frames.{FrameForm, frame_len, up_to_4}
-use Rattle.fv_section.specs.SectionImage.{stream_of}
-use Rattle.fv_tree.specs.Volumes.{Inside, volumes_in_file, volumes_in_section}
+use Rattle.fv_tree.specs.Words.{ContentMeaning, Plain, Sectioned, BodyMeaning, Leaf, Group, FileMeaning, content_of}
+use Rattle.fv_tree.specs.Words.{Meaning, Volume, FileMeanings, NoFiles, MoreFiles, File, SectionMeanings, NoSections}
+use Rattle.fv_tree.specs.Words.{MoreSections, SectionMeaning, Section, Nested, files_list, files_of, Inside}
+use Rattle.fv_tree.specs.Words.{volumes_in_file, volumes_in_section}
+use Rattle.fv_section.specs.Words.{FrameForm, frame_len, up_to_4, stream_of}
 
 -- from the edge e on: the pads of a gap, a file, erased bytes to the next edge, and so on, up to the end of the volume
 abbrev pub files_bytes : Polarity → ℕ → ℕ → List StoredFile → List ℕ → List ℕ

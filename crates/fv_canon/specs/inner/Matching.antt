@@ -3,7 +3,7 @@
 use Rattle.std.specs.Prelude.{◌≡◌, ℕ, List, ◌++◌, Bool, true, false}
 use Rattle.std.proofs.Common.{[], refl, ap, sym, ◌∙◌, append_assoc}
 use Rattle.std.proofs.lemmas.List.{append_cancel_left}
-use Rattle.fv_base.specs.Sinks.{WalkLaws}
+use Rattle.fv_base.specs.Words.{WalkLaws}
 
 -- s does not begin with these bytes
 abbrev pub IsNoFront : List ℕ → List ℕ → Type 0

@@ -3,7 +3,7 @@
 use Rattle.std.proofs.Common.{◌≡◌, ℕ, ◌+◌, ◌%◌, List, [], ◌++◌, Bool, true, false, refl, sym, subst, ◌∙◌, ap, add-zero}
 use Rattle.std.specs.Prelude.{sum}
 use Rattle.std.proofs.lemmas.List.Sums.{sum_by-append}
-use Rattle.fv_base.specs.Sinks.{WalkLaws}
+use Rattle.fv_base.specs.Words.{WalkLaws}
 use Rattle.fv_base.specs.inner.SinkLaws.{sums_joined}
 use Rattle.fv_canon.specs.declared.summing_sink.Mode.{Mode}
 use Rattle.fv_canon.specs.declared.summing_sink.Mode.TheVariants.{Putting, Summing}

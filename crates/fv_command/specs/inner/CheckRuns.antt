@@ -1,12 +1,11 @@
 -- What a check has noted.
 use Rattle.std.specs.Prelude.{◌≡◌, ℕ, Bool, true, List, [], ◌++◌, Option, Some, None}
 use Rattle.fv_base.specs.declared.flash.Polarity.{Polarity}
-use Rattle.fv_file.specs.Cells.{CellForm}
-use Rattle.fv_tree.specs.Denotes.{Accepted}
-use Rattle.fv_tree.specs.Meaning.{Meaning, files_of}
+use Rattle.fv_file.specs.Words.{CellForm}
+use Rattle.fv_tree.specs.Words.{Accepted, Meaning, files_of}
+use Rattle.fv_lines.specs.Words.{AreNotes, depex_lines, depexes_in, pad_notes, verdict_line}
 use Rattle.fv_lines.specs.declared.depex_notes.DepexNote.{DepexNote}
 use Rattle.fv_command.specs.Tasks.{AreCells}
-use Rattle.fv_lines.specs.Notes.{AreNotes, depex_lines, depexes_in, pad_notes, verdict_line}
 
 -- the cells of the input, and the polarity of its erased bytes; None if it is its own canonical image
 abbrev pub NotedCells : List ℕ → Bool → Option (List CellForm × Polarity) → Type 0

@@ -1,12 +1,12 @@
 -- What a sink takes for a digest, and what starts are enough for. The laws are proofs, which ghost members cite.
 use Rattle.std.proofs.Common.{ℕ, List, ◌++◌, sym, subst, append_assoc, append-nil}
-use Rattle.fv_base.specs.Sinks.{WalkLaws}
+use Rattle.fv_base.specs.Words.{WalkLaws}
 use Rattle.sha2.specs.Hashers.{Holds256}
 use Rattle.sha2.specs.declared.Sha256.{Sha256}
-use Rattle.fv_canon.specs.LayoutForms.{BeginsWithStarts}
+use Rattle.fv_canon.specs.Words.{BeginsWithStarts}
 use Rattle.fv_canon.proofs.Laws.{begins_first, begins_higher}
-use Rattle.fv_lines.specs.ListTexts.{CoverLaws}
-use Rattle.fv_tree.specs.Volumes.{Inside}
+use Rattle.fv_lines.specs.Words.{CoverLaws}
+use Rattle.fv_tree.specs.Words.{Inside}
 
 -- whatever message the hasher held, it holds the bytes after it
 abbrev pub DigestTakes : {S : Type 0} (hasher : S → Sha256) → S → List ℕ → S → Type 0

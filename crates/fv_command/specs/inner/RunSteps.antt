@@ -10,7 +10,7 @@ use Rattle.fv_command.specs.declared.status.Status.{Status}
 use Rattle.fv_command.specs.declared.status.Status.TheVariants.{Done, Different}
 use Rattle.fv_plan.specs.declared.plan.Command.{Command}
 use Rattle.fv_plan.specs.declared.plan.Task.{Task}
-use Rattle.fv_text.specs.PortViews.{Change, Shown, StopsIn, Writes}
+use Rattle.fv_text.specs.Words.{Change, Shown, StopsIn, Writes}
 
 -- the sink took the text that is said with this status; or something stopped the step, and the sink is as it was
 abbrev pub Puts : {S E : Type 0} → (S → List ℕ → S → Type 0) → (Status → List ℕ → Type 0) → (E → Type 0) → S → S

@@ -1,6 +1,6 @@
 -- What a walk through two meanings returns.
 use Rattle.std.specs.Prelude.{◌≡◌, Result, Ok, Err, reverse, true, Option, Some, None}
-use Rattle.fv_base.specs.Faults.{out_of_memory}
+use Rattle.fv_base.specs.Words.{out_of_memory}
 use Rattle.fv_base.specs.declared.fault.Fault.{Fault}
 use Rattle.fv_compare.specs.Difference.{Differs, differ_in, has_steps}
 use Rattle.fv_compare.specs.declared.difference.Word.{Word}

@@ -1,8 +1,7 @@
 -- The op at the start of some bytes, and what ops do to a stack of truth values, whose top is its first item.
 use Rattle.std.specs.Prelude.{ℕ, ◌==◌, if◌then◌else◌, List, slice_index, ◌&&◌, ◌||◌, not, Bool, true, false, Option}
 use Rattle.std.specs.Prelude.{None, Some, [], ◌∷◌, option_and_then}
-use Rattle.fv_base.specs.Guids.{guid_of}
-use Rattle.fv_base.specs.Value.{field}
+use Rattle.fv_base.specs.Words.{guid_of, field}
 use Rattle.fv_base.specs.declared.guid.Guid.{Guid}
 use Rattle.fv_depex.specs.declared.op.Op.{Op}
 use Rattle.fv_depex.specs.declared.op.Op.TheVariants as ops

@@ -2,19 +2,16 @@
 -- fault of the first check that does not hold.
 use Rattle.std.specs.Prelude.{ℕ, Bool, true, false, List, [], Option, Some, if◌then◌else◌, ◌+◌, ◌==◌, nat_lt, None}
 use Rattle.std.specs.Prelude.{Result, Ok, Err, length}
-use Rattle.fv_base.specs.Checks.{Check}
+use Rattle.fv_base.specs.Words.{Check, outer_fault, erased_byte, up_to_8}
 use Rattle.fv_base.specs.declared.fault.Fault.{Fault}
 use Rattle.fv_base.specs.declared.flash.FileSystem.{FileSystem}
+use Rattle.fv_base.specs.declared.flash.Polarity.{Polarity}
 use Rattle.fv_file.specs.FileChecks.{file_checks, stub_checks, leading_count, payload_at}
 use Rattle.fv_file.specs.States.{is_alive, state_of}
 use Rattle.fv_file.specs.declared.state.FileState.{FileState}
 use Rattle.fv_file.specs.declared.state.FileState.TheVariants as states
 use Rattle.fv_base.specs.inner.Verdicts.{first_fault, verdict_by}
-use Rattle.fv_base.specs.Faults.{outer_fault}
-use Rattle.fv_base.specs.Flash.{erased_byte}
-use Rattle.fv_base.specs.Value.{up_to_8}
 use Rattle.fv_base.specs.declared.fault.FaultKind.TheVariants as kinds
-use Rattle.fv_base.specs.declared.flash.Polarity.{Polarity}
 use Rattle.fv_file.specs.Cells.{CellForm}
 use Rattle.fv_file.specs.Cells as cells
 use Rattle.fv_file.specs.FileHeaders.{head_in, pad_kind, state_at}

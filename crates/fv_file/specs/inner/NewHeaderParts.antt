@@ -1,7 +1,6 @@
 -- What a new header says, and how its bytes are put together.
 use Rattle.std.specs.Prelude.{◌≡◌, ◌+◌, ◌<◌, ℕ, Bool, false, if◌then◌else◌, List, ◌∷◌, ◌++◌}
-use Rattle.fv_base.specs.Guids.{bytes_of, guid_of}
-use Rattle.fv_base.specs.Value.{le_bytes}
+use Rattle.fv_base.specs.Words.{bytes_of, guid_of, le_bytes}
 use Rattle.fv_base.specs.declared.flash.Polarity.{Polarity}
 use Rattle.fv_base.specs.declared.guid.Guid.{Guid}
 use Rattle.fv_file.specs.FileAttributes.{attribute_bits, attributes_by, is_large}

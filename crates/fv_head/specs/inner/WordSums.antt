@@ -2,7 +2,7 @@
 -- member cites the last of them.
 use Rattle.std.specs.Prelude.{◌≡◌, ℕ, ◌+◌, ◌*◌, ◌%◌, List, [], ◌∷◌, Bool, true, false, not}
 use Rattle.std.proofs.Common.{◌++◌, refl, sym, ◌∙◌, ap, arith}
-use Rattle.fv_base.specs.Sinks.{WalkLaws}
+use Rattle.fv_base.specs.Words.{WalkLaws}
 use Rattle.fv_base.specs.inner.SinkLaws.{sums_joined}
 
 -- what bytes add to a sum of 16-bit words; `high` says whether the first byte is the high byte of a word

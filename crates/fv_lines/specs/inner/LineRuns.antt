@@ -3,9 +3,8 @@ use Rattle.std.specs.Prelude.{ℕ, ◌+◌, ◌≤◌, List}
 use Rattle.fv_lines.specs.declared.indent.Indent.{Indent}
 use Rattle.fv_lines.specs.declared.indent.Indent.TheVariants.{Margin, Inside'}
 use Rattle.std.specs.List.{AllByRecursion, sum_by}
-use Rattle.fv_base.specs.Limits.{volume_limit}
-use Rattle.fv_file.specs.Cells.{CellForm, offset_of}
-use Rattle.fv_file.specs.CellForms.{IsMadeUp, cell_len}
+use Rattle.fv_base.specs.Words.{volume_limit}
+use Rattle.fv_file.specs.Words.{CellForm, offset_of, IsMadeUp, cell_len}
 use Rattle.fv_lines.specs.CellTexts.{dead_length, file_length, filler_length, free_length, pad_length}
 use Rattle.fv_lines.specs.declared.cell_text.LengthSums.{LengthSums}
 use Rattle.fv_lines.specs.Notes.{AreNotes, HeldDepex, depex_lines}

@@ -1,6 +1,6 @@
 -- After which edges files can be placed, file by file from the last.
 use Rattle.std.specs.Prelude.{◌≡◌, ℕ, ◌+◌, ◌%◌, ◌^◌, ◌<◌, ◌≤◌, ◌⊎◌, List, length, drop, get_or, IsTrue}
-use Rattle.fv_base.specs.Value.{up_to_8}
+use Rattle.fv_base.specs.Words.{up_to_8}
 use Rattle.fv_placement.specs.Starts.{Lawful, StartsFollow}
 use Rattle.fv_placement.specs.declared.first_placement.LayoutItem.{LayoutItem}
 use Rattle.fv_placement.specs.declared.reach.Reach.{Reach}

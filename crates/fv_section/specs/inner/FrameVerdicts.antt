@@ -1,13 +1,12 @@
 -- The result of the checks of a section header, and the test of a text, as the code finds them.
 use Rattle.std.specs.Prelude.{ℕ, Result, List, ◌-◌, ◌%◌, ◌==◌, nat_le, ◌&&◌, not, Bool, length, take, drop}
 use Rattle.fv_base.specs.inner.Verdicts.{first_fault, verdict_by}
+use Rattle.fv_base.specs.Words.{words_of, le}
 use Rattle.fv_base.specs.declared.fault.Fault.{Fault}
 use Rattle.fv_section.specs.Frames.{FrameForm}
 use Rattle.fv_section.specs.FrameChecks.{frame_checks}
 use Rattle.fv_section.specs.StreamReads.{frame_in}
 use Rattle.std.specs.List.{list_all}
-use Rattle.fv_base.specs.Sums.{words_of}
-use Rattle.fv_base.specs.Value.{le}
 
 -- the frame at the offset `at`, or the fault of the first check that does not hold; r are the bytes from there on
 abbrev pub frame_verdict : ℕ → List ℕ → Result FrameForm Fault

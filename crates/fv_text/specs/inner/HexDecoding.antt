@@ -3,7 +3,7 @@ use Rattle.std.specs.Prelude.{◌≡◌, ℕ, ◌+◌, ◌*◌, Bool, List, [], 
 use Rattle.std.specs.Option.{unwrap_or}
 use Rattle.hex.specs.Hex.{hex_digit_value}
 use Rattle.fv_text.specs.HexIn.{squeezed, DigitsSpell}
-use Rattle.fv_base.specs.Limits.{volume_limit}
+use Rattle.fv_base.specs.Words.{volume_limit}
 use Rattle.fv_text.specs.declared.hex_text.Decoder.{Decoder}
 
 -- the value of a digit, in upper or lower case; 16 of what is no digit

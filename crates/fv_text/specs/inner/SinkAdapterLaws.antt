@@ -1,6 +1,6 @@
 -- The laws of sinks above another sink. They are proofs. They are in specs/ because ghost members cite some of them.
 use Rattle.std.proofs.Common.{ℕ, List, ◌∙◌, refl, [], ◌++◌, sym, ap, append_assoc, append-nil, ◌∷◌, subst}
-use Rattle.fv_base.specs.Sinks.{WalkLaws}
+use Rattle.fv_base.specs.Words.{WalkLaws}
 use Rattle.fv_text.specs.SinkAdapters.{LentTakes, Gathered, GatheringTakes, HexTakes, Lined}
 use Rattle.std.specs.List.{AllByRecursion, concat}
 use Rattle.std.proofs.lemmas.List.Concat.{flat_map-append}

@@ -1,5 +1,5 @@
 -- What the index of names knows of a file.
-use Rattle.fv_names.specs.NamedFiles.{NamedFile}
+use Rattle.fv_names.specs.Words.{NamedFile}
 use Rattle.fv_tree.specs.LocatedFiles.{file_form}
 use Rattle.fv_tree.specs.VolumeFiles.{FileForm, is_marked}
 use Rattle.fv_tree.specs.declared.volume_files.LocatedFile.{LocatedFile}

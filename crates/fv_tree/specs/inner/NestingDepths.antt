@@ -1,7 +1,7 @@
 -- How deep groups and volumes nest in what was read, as the relation says by which it was read.
 use Rattle.std.specs.Prelude.{Bool, ℕ, List}
 use Rattle.std.specs.List.{AllByRecursion}
-use Rattle.fv_section.specs.Frames.{FrameForm}
+use Rattle.fv_section.specs.Words.{FrameForm}
 use Rattle.fv_tree.specs.Denotes.{Denotes, MeansContent, MeansFile, MeansSection, Stream}
 use Rattle.fv_tree.specs.Meaning.{Meaning, FileMeanings, files_list, ContentMeaning, SectionMeanings, sections_list}
 use Rattle.fv_tree.specs.Meaning.{Section, BodyMeaning}

@@ -2,23 +2,20 @@
 -- part of a volume returns, and what it knows of the files.
 use Rattle.std.specs.Prelude.{◌≡◌, ℕ, ◌+◌, ◌<◌, ◌^◌, Bool, true, false, List, length, ◌==◌, ◌&&◌, if◌then◌else◌, ◌≢◌}
 use Rattle.std.specs.Prelude.{◌≤◌, Result, MatchResult}
-use Rattle.fv_file.specs.Cells.{CellForm, Valid}
-use Rattle.fv_file.specs.FileAttributes.{attribute_bits}
-use Rattle.fv_file.specs.NewHeaders.{file_sum_for}
+use Rattle.fv_file.specs.Words.{CellForm, Valid, attribute_bits, file_sum_for}
 use Rattle.fv_file.specs.declared.head.FileHead.{FileHead}
 use Rattle.fv_file.specs.declared.state.FileState.{FileState}
 use Rattle.fv_file.specs.declared.state.FileState.TheVariants as states
 use Rattle.fv_tree.specs.LocatedFiles.{state_by, header_len_by}
 use Rattle.fv_tree.specs.declared.volume_files.Mark.{Mark}
 use Rattle.fv_tree.specs.declared.volume_files.Mark.TheVariants as marks
-use Rattle.fv_head.specs.HeadChecks.{is_one_volume}
-use Rattle.fv_section.specs.Frames.{FrameForm}
+use Rattle.fv_head.specs.Words.{is_one_volume}
+use Rattle.fv_section.specs.Words.{FrameForm}
 use Rattle.fv_tree.specs.Denotes.{group_kind, volume_kind}
 use Rattle.fv_tree.specs.declared.shape.Shape.{Shape}
 use Rattle.fv_tree.specs.declared.shape.Shape.TheVariants as shapes
 use Rattle.std.specs.List.{AllByRecursion}
-use Rattle.fv_base.specs.Faults.{out_of_memory}
-use Rattle.fv_base.specs.Limits.{volume_limit}
+use Rattle.fv_base.specs.Words.{out_of_memory, volume_limit}
 use Rattle.fv_base.specs.declared.fault.Fault.{Fault}
 use Rattle.fv_tree.specs.ReadParts.{IsStoredFile}
 use Rattle.fv_tree.specs.VolumeFiles.{FileForm}

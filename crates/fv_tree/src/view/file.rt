@@ -1,7 +1,7 @@
 //! The calls of a `FileView`.
 
 ghost use Rattle.std.specs.Prelude.{◌≡◌, option_map};
-ghost use Rattle.fv_file.specs.FileAttributes.{attribute_bits};
+ghost use Rattle.fv_file.specs.Words.{attribute_bits};
 ghost use Rattle.fv_tree.specs.ReadParts.{IsReadFile};
 ghost use Rattle.fv_tree.specs.Meaning.{File, file_name_of, attributes_of, content_of, content_len};
 ghost use Rattle.fv_tree.specs.MeaningParts.{file_kind_of, plain_of, sections_from, sections_in_data};

@@ -1,7 +1,7 @@
 //! The calls of a `SectionView`, and the sections of a group.
 
 ghost use Rattle.std.specs.Prelude.{◌≡◌, ◌+◌, option_map, IfOk, IfErr};
-ghost use Rattle.fv_base.specs.Faults.{out_of_memory};
+ghost use Rattle.fv_base.specs.Words.{out_of_memory};
 ghost use Rattle.fv_tree.specs.ReadParts.{IsReadSection};
 ghost use Rattle.fv_tree.specs.Meaning.{Section, Leaf, Group, Nested, sections_end, body_len};
 ghost use Rattle.fv_tree.specs.MeaningParts.{sections_from, sections_in};

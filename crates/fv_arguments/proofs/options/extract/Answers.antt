@@ -2,7 +2,7 @@ use Rattle.std.proofs.Common.{◌∙◌, codes, refl}
 use Rattle.fv_base.proofs.Laws.{err_is}
 use Rattle.fv_arguments.proofs.ArgumentReadLemmas.{text_answer}
 use Rattle.fv_arguments.proofs.RefusalLemmas.{no_input, right_part}
-use Rattle.fv_arguments.specs.Options.{extract_app}
+use Rattle.fv_arguments.specs.Words.{extract_app}
 use Rattle.fv_arguments.proofs.options.extract.Goals as goal
 
 pub returns-in_err-part : goal.returns-in_err-part

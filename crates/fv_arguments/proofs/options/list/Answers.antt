@@ -2,7 +2,7 @@ use Rattle.std.proofs.Common.{◌∙◌, codes, refl, sym}
 use Rattle.fv_base.proofs.Laws.{err_is}
 use Rattle.fv_arguments.proofs.RefusalLemmas.{no_input}
 use Rattle.fv_arguments.proofs.TaskLemmas.{by_flag}
-use Rattle.fv_arguments.specs.Options.{list_app}
+use Rattle.fv_arguments.specs.Words.{list_app}
 use Rattle.fv_plan.specs.declared.plan.Task.TheVariants.{List as Listing, ListSums}
 use Rattle.fv_arguments.proofs.options.list.Goals as goal
 

@@ -3,7 +3,7 @@ use Rattle.fv_base.proofs.Laws.{err_is}
 use Rattle.fv_arguments.proofs.ArgumentReadLemmas.{none_is}
 use Rattle.fv_arguments.proofs.RefusalLemmas.{no_place, no_input}
 use Rattle.fv_arguments.proofs.TaskLemmas.{by_flag}
-use Rattle.fv_arguments.specs.Options.{normalise_app}
+use Rattle.fv_arguments.specs.Words.{normalise_app}
 use Rattle.fv_plan.specs.declared.plan.Task.TheVariants.{Normalise, NormaliseAll}
 use Rattle.fv_arguments.proofs.options.normalise.Goals as goal
 use Rattle.fv_arguments.proofs.options.normalise.Goals.{else-all-via-then-all+else-is_some, else-all-via-else-all}

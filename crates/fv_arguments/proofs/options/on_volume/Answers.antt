@@ -3,7 +3,7 @@ use Rattle.fv_base.proofs.Laws.{err_is}
 use Rattle.fv_plan.specs.declared.plan.Task.TheVariants.{Cells, Check}
 use Rattle.fv_arguments.proofs.RefusalLemmas.{no_input}
 use Rattle.fv_arguments.proofs.TaskLemmas.{single_asked}
-use Rattle.fv_arguments.specs.Options.{volume_app}
+use Rattle.fv_arguments.specs.Words.{volume_app}
 use Rattle.fv_arguments.proofs.options.on_volume.Goals as goal
 
 pub returns-in_err-at-clause-check : goal.returns-in_err-at-clause-check

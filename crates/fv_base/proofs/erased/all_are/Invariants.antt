@@ -1,6 +1,6 @@
 use Rattle.std.proofs.Common.{length}
 use Rattle.std.specs.Prelude.{◌↔◌}
-use Rattle.fv_base.specs.Flash.{AllAre}
+use Rattle.fv_base.specs.Words.{AllAre}
 use Rattle.fv_base.proofs.erased.all_are.Given as goal
 
 -- what is left decides for all

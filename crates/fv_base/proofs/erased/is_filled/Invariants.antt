@@ -1,6 +1,6 @@
 use Rattle.std.proofs.Common.{◌≡◌, take}
 use Rattle.std.specs.Prelude.{◌↔◌}
-use Rattle.fv_base.specs.Flash.{AllAre}
+use Rattle.fv_base.specs.Words.{AllAre}
 use Rattle.fv_base.proofs.erased.is_filled.Given as goal
 
 -- nothing differed so far

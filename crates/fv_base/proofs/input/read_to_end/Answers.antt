@@ -1,6 +1,6 @@
 use Rattle.std.proofs.Common.{◌≡◌, ◌<◌, ◌+◌, ◌++◌, ◌∙◌, ℕ, List, length, length-append, take, ap, refl, sym, arith, true, false}
 use Rattle.std.proofs.KnownBytes.{Consumes-kept, Consumes-trans}
-use Rattle.fv_base.specs.Port.{has_erred}
+use Rattle.fv_base.specs.Words.{has_erred}
 use Rattle.fv_base.proofs.TestLemmas.{or_parts}
 use Rattle.fv_base.proofs.input.read_to_end.Goals as goal
 use Rattle.fv_base.proofs.input.read_to_end.Goals.{in-Ok+else-count-from+in_ok-take-in-Ok, in-Err}

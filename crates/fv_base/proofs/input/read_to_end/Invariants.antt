@@ -1,6 +1,6 @@
 use Rattle.std.proofs.Common.{◌≡◌, ◌≤◌, ℕ, List, length, false}
 use Rattle.std.specs.Io.KnownBytes.{Consumes}
-use Rattle.fv_base.specs.Port.{inner_of, has_erred}
+use Rattle.fv_base.specs.Words.{inner_of, has_erred}
 use Rattle.fv_base.proofs.input.read_to_end.Given as goal
 
 -- what the reader gave so far is what the collector holds, and without an error each read gave a byte

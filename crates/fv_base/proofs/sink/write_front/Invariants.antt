@@ -1,6 +1,6 @@
 use Rattle.std.proofs.Common.{◌≡◌, length, take, ◌-◌, ◌≤◌}
 use Rattle.std.specs.Io.KnownBytes.{Appends}
-use Rattle.fv_base.specs.Port.{inner_of, has_erred}
+use Rattle.fv_base.specs.Words.{inner_of, has_erred}
 use Rattle.fv_base.proofs.sink.write_front.Given as goal
 
 abbrev pub invariant-loop-at : goal.invariant-loop-at

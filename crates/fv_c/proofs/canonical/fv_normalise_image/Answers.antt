@@ -1,5 +1,5 @@
 use Rattle.std.proofs.Common.{◌∙◌, ◌++◌, List, ℕ, length, drop, ap, refl, subst, ◌<◌}
-use Rattle.fv_base.specs.Faults.{fault_number}
+use Rattle.fv_base.specs.Words.{fault_number}
 use Rattle.fv_base.specs.declared.fault.Fault.{Fault}
 use Rattle.fv_c.proofs.canonical.fv_normalise_image.Goals as goal
 

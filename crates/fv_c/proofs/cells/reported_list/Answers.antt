@@ -1,7 +1,7 @@
 use Rattle.std.proofs.Common.{◌∙◌, map, ap, sym}
 use Rattle.std.proofs.lemmas.Result.{IfOk-weaker}
 use Rattle.std.proofs.lemmas.Simd.{map-map}
-use Rattle.fv_file.specs.CellForms.{cell_form}
+use Rattle.fv_file.specs.Words.{cell_form}
 use Rattle.fv_c.specs.ReportedCells.{reported_cell}
 use Rattle.fv_c.proofs.cells.reported_list.Goals as goal
 

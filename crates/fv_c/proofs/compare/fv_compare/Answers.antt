@@ -1,5 +1,5 @@
 use Rattle.std.proofs.Common.{ap, arith, inl, refl}
-use Rattle.fv_base.specs.Faults.{out_of_memory}
+use Rattle.fv_base.specs.Words.{out_of_memory}
 use Rattle.fv_c.specs.declared.compare.FvComparison.{FvComparison}
 use Rattle.fv_c.proofs.MemoryLaws.{header_of}
 use Rattle.fv_c.proofs.compare.fv_compare.Goals as goal

@@ -1,5 +1,5 @@
 use Rattle.std.proofs.Common.{◌∙◌, subst}
-use Rattle.fv_depex.specs.OpChecks.{BeginsFirstOp}
+use Rattle.fv_depex.specs.Words.{BeginsFirstOp}
 use Rattle.fv_depex.specs.declared.op.Phase.{Phase}
 use Rattle.fv_c.specs.ReportedTruths.{NoExpression}
 use Rattle.fv_c.proofs.depex.fv_depex.Goals as goal

@@ -1,6 +1,6 @@
 use Rattle.std.proofs.Common.{◌∙◌, List, ap, map}
 use Rattle.fv_base.proofs.Laws.{err_is}
-use Rattle.fv_tree.specs.LocatedFiles.{file_form}
+use Rattle.fv_tree.specs.Words.{file_form}
 use Rattle.fv_tree.specs.declared.volume_files.LocatedFile.{LocatedFile}
 use Rattle.fv_c.specs.ReportedFiles.{reported_files}
 use Rattle.fv_c.proofs.FileRowLaws.{have_rows, only_memory}

@@ -1,5 +1,5 @@
 use Rattle.std.proofs.Common.{◌≤◌, length}
-use Rattle.fv_tree.specs.MeaningParts.{sections_from}
+use Rattle.fv_tree.specs.Words.{sections_from}
 use Rattle.fv_tree.specs.inner.Sizes.{sections_size}
 use Rattle.fv_c.proofs.SectionRowLaws.{Walks}
 use Rattle.fv_c.proofs.parts.+add_sections.Given as goal

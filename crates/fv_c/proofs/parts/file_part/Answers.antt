@@ -2,9 +2,7 @@ use Rattle.std.proofs.Common.{◌≡◌, ◌∙◌, Bor, Option, Some, None, sym
 use Rattle.std.specs.Prelude.{option_copied, option_map}
 use Rattle.std.proofs.lemmas.Iterator.Consumers.{YieldsList-from_first, nth_from_yields_List}
 use Rattle.fv_base.proofs.Laws.{err_is}
-use Rattle.fv_tree.specs.LookupInstances.{preorder}
-use Rattle.fv_tree.specs.Meaning.{SectionMeaning, content_of}
-use Rattle.fv_tree.specs.MeaningParts.{sections_in_data}
+use Rattle.fv_tree.specs.Words.{preorder, SectionMeaning, content_of, sections_in_data}
 use Rattle.fv_c.specs.ExtractedParts.{Data, part_of_file}
 use Rattle.fv_c.proofs.PartLaws.{body_part, section_at, shows_none, shows_part, stops_part, whole_part}
 use Rattle.fv_c.proofs.parts.file_part.Goals.{After-nth}

@@ -1,8 +1,7 @@
 use Rattle.std.proofs.Common.{◌≡◌, ◌∙◌, ◌++◌, ◌<◌, ℕ, List, ap, arith, drop, length, map, refl, subst}
 use Rattle.std.specs.Prelude.{slice_get, Some}
 use Rattle.std.proofs.lemmas.List.{length-map}
-use Rattle.fv_tree.specs.Denotes.{Accepted}
-use Rattle.fv_tree.specs.Meaning.{Meaning, FileMeaning, content_of, files_of}
+use Rattle.fv_tree.specs.Words.{Accepted, Meaning, FileMeaning, content_of, files_of}
 use Rattle.fv_c.specs.ReportedFiles.{reported_section, section_rows}
 use Rattle.fv_c.specs.Reports.{no_fault}
 use Rattle.fv_c.specs.declared.sections.FvSection.{FvSection}

@@ -1,5 +1,5 @@
 use Rattle.std.proofs.Common.{[], append-nil, subst, sym}
-use Rattle.fv_canon.specs.LayoutForms.{LaysVolume}
+use Rattle.fv_canon.specs.Words.{LaysVolume}
 use Rattle.fv_canon.proofs.canonical_image.put_canonical.Goals as goal
 
 pub put_laid_volume-requires : goal.put_laid_volume-requires

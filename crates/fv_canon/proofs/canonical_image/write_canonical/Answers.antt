@@ -1,7 +1,7 @@
 use Rattle.std.proofs.Common.{rules, length, ◌<◌, ◌^◌, arith}
 use Rattle.std.specs.Io.KnownBytes.{Appends}
 use Rattle.std.proofs.lemmas.Result.{on_ok_weaker, IfErr-weaker}
-use Rattle.fv_base.specs.Input.{WriteStops}
+use Rattle.fv_base.specs.Words.{WriteStops}
 use Rattle.fv_canon.proofs.ImageLaws.{image_length, length_limit}
 use Rattle.fv_canon.proofs.canonical_image.write_canonical.Goals as goal
 

@@ -2,7 +2,7 @@ use Rattle.std.proofs.Common.{◌≡◌, ◌∙◌, ℕ, List, ap, subst, sym}
 use Rattle.fv_base.proofs.Laws.{err_is}
 use Rattle.fv_base.specs.declared.fault.Fault.{Fault}
 use Rattle.fv_base.specs.declared.fault.FaultKind.TheVariants as kinds
-use Rattle.fv_flash.specs.FoundVolumes.{Found}
+use Rattle.fv_flash.specs.Words.{Found}
 use Rattle.fv_canon.proofs.FlashImageLaws.{only_want}
 use Rattle.fv_canon.proofs.flash_image.lay_out_image.Goals as goal
 

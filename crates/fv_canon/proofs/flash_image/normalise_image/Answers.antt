@@ -1,7 +1,7 @@
 use Rattle.std.proofs.Common.{◌≡◌, ◌∙◌, ℕ, List, subst, sym}
 use Rattle.std.proofs.lemmas.Result.{IfOk-weaker}
 use Rattle.fv_base.proofs.Laws.{kept_whole, err_is}
-use Rattle.fv_canon.specs.FlashImages.{NormalisesAll}
+use Rattle.fv_canon.specs.Words.{NormalisesAll}
 use Rattle.fv_canon.proofs.FlashImageLaws.{normalised_one}
 use Rattle.fv_canon.proofs.flash_image.normalise_image.Goals as goal
 

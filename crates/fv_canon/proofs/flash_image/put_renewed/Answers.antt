@@ -1,5 +1,5 @@
 use Rattle.std.proofs.Common.{ap, arith}
-use Rattle.fv_head.specs.Head.{HeadFields}
+use Rattle.fv_head.specs.Words.{HeadFields}
 use Rattle.fv_canon.proofs.LaidVolumeLaws.{laid_all, laid_ends, laid_more, laid_next, laid_none}
 use Rattle.fv_canon.proofs.flash_image.put_renewed.Goals as goal
 

@@ -1,4 +1,4 @@
-use Rattle.fv_canon.specs.FlashImages.{starts_of}
+use Rattle.fv_canon.specs.Words.{starts_of}
 use Rattle.fv_canon.proofs.FlashImageLaws.{Puts}
 use Rattle.fv_canon.proofs.flash_image.put_renewed.Given as goal
 

@@ -1,5 +1,5 @@
 use Rattle.std.proofs.Common.{List, ℕ, subst, sym, arith}
-use Rattle.fv_head.specs.Head.{BeginsVolume}
+use Rattle.fv_head.specs.Words.{BeginsVolume}
 use Rattle.fv_flash.proofs.Laws.{at_within}
 use Rattle.fv_canon.proofs.flash_image.volume_at.Goals as goal
 

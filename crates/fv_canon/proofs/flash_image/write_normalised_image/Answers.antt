@@ -1,7 +1,7 @@
 use Rattle.std.proofs.Common.{ℕ, List, inl, rules, subst}
 use Rattle.std.specs.Io.KnownBytes.{Appends}
 use Rattle.std.proofs.lemmas.Result.{on_ok_weaker}
-use Rattle.fv_canon.specs.FlashImages.{NormalisesAll}
+use Rattle.fv_canon.specs.Words.{NormalisesAll}
 use Rattle.std.proofs.KnownBytes.{Keeps-refl}
 use Rattle.fv_base.proofs.Laws.{err_is}
 use Rattle.fv_canon.proofs.flash_image.write_normalised_image.Goals as goal

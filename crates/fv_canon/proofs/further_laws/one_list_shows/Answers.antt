@@ -1,5 +1,5 @@
 use Rattle.std.proofs.Common.{ℕ, List, sym, subst}
-use Rattle.fv_canon.specs.PlacedBytes.{ShowsPlaced}
+use Rattle.fv_canon.specs.Words.{ShowsPlaced}
 use Rattle.fv_canon.proofs.PositionLaws.{shows_walk, one_image}
 use Rattle.fv_canon.proofs.further_laws.one_list_shows.Goals as goal
 

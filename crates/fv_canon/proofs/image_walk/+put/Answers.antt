@@ -1,17 +1,13 @@
 use Rattle.std.proofs.Common.{◌≡◌, ◌<◌, ◌+◌, ◌-◌, ℕ, true, List, false, length, drop, replicate, get_or, sym, ap, ◌∙◌, subst, arith}
 use Rattle.std.proofs.lemmas.Grind.{common_steps}
-use Rattle.fv_file.specs.FileAttributes.{is_summed}
-use Rattle.fv_head.specs.Head.{HeadFields}
-use Rattle.fv_head.specs.VolumeAttributes.{polarity_of}
-use Rattle.fv_tree.specs.Meaning.{Meaning, SectionMeaning, BodyMeaning, FileMeaning, attributes_of}
-use Rattle.fv_tree.specs.MeaningParts.{body_of, files_from}
-use Rattle.fv_tree.specs.Views.{body_view}
+use Rattle.fv_file.specs.Words.{is_summed}
+use Rattle.fv_head.specs.Words.{HeadFields, polarity_of}
+use Rattle.fv_tree.specs.Words.{Meaning, SectionMeaning, BodyMeaning, FileMeaning, attributes_of, body_of, files_from, body_view, Inside}
+use Rattle.fv_tree.specs.Words.{volumes_in_body}
 use Rattle.fv_tree.specs.inner.Sizes.{volume_size, body_size, files_size}
 use Rattle.fv_tree.proofs.Laws.{file_falls, section_body_falls}
-use Rattle.fv_canon.specs.StoredFiles.{size_for}
-use Rattle.fv_tree.specs.Volumes.{Inside, volumes_in_body}
+use Rattle.fv_canon.specs.Words.{size_for, BeginsWithStarts}
 use Rattle.fv_canon.specs.inner.ImageOf.{image_of, starts_in}
-use Rattle.fv_canon.specs.LayoutForms.{BeginsWithStarts}
 use Rattle.fv_canon.specs.inner.SummingSinks.{ImageTakes, image_by, sums}
 use Rattle.fv_canon.proofs.DataBodyLaws.{data_image, data_size, data_volumes}
 use Rattle.fv_canon.proofs.LaidFileLaws.{file_long, stored_is, size_is, at_file, file_passed, files_end, walk_goes, placed_on}

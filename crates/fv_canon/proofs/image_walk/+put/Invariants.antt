@@ -1,10 +1,8 @@
 use Rattle.std.proofs.Common.{◌+◌, ◌-◌, ◌*◌, ◌≤◌, drop}
-use Rattle.fv_tree.specs.MeaningParts.{sections_from, files_from}
+use Rattle.fv_tree.specs.Words.{sections_from, files_from, body_view, volumes_in_sections, volumes_in_files}
 use Rattle.fv_tree.specs.inner.Sizes.{volume_size, files_size, file_size, sections_size, body_size}
-use Rattle.fv_tree.specs.Views.{body_view}
 use Rattle.fv_canon.specs.inner.ImageOf.{stored_of, starts_in, files_bytes}
 use Rattle.fv_canon.proofs.ImageParts.{sections_bytes, ComesTo, TakesFront}
-use Rattle.fv_tree.specs.Volumes.{volumes_in_sections, volumes_in_files}
 use Rattle.fv_canon.specs.inner.FileWalks.{ArePlaced}
 use Rattle.fv_canon.specs.inner.SummingSinks.{ImageTakes}
 use Rattle.fv_canon.proofs.image_walk.+put.Given as goal

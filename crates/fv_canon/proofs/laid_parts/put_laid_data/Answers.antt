@@ -1,4 +1,4 @@
-use Rattle.fv_tree.specs.Meaning.{content_of}
+use Rattle.fv_tree.specs.Words.{content_of}
 use Rattle.fv_canon.specs.inner.ImageOf.{data_of}
 use Rattle.fv_canon.proofs.DataBodyLaws.{data_held, data_image}
 use Rattle.fv_canon.proofs.ImagePieceLaws.{data_is}

@@ -3,12 +3,9 @@ use Rattle.std.proofs.lemmas.List.{take_all}
 use Rattle.std.proofs.lemmas.Result.{on_ok_weaker, IfErr-weaker}
 use Rattle.fv_base.proofs.Laws.{err_is, or_more}
 use Rattle.fv_tree.specs.inner.Sizes.{volume_size, body_size}
-use Rattle.fv_tree.specs.Meaning.{FileMeaning, SectionMeaning}
-use Rattle.fv_tree.specs.MeaningParts.{files_from, sections_from}
-use Rattle.fv_tree.specs.Views.{body_view}
+use Rattle.fv_tree.specs.Words.{FileMeaning, SectionMeaning, files_from, sections_from, body_view, volumes_in_files, volumes_in_sections}
 use Rattle.fv_tree.specs.inner.NestingDepths.{NestsVolume, NestsBody}
 use Rattle.fv_canon.specs.inner.FileWalks.{Grew, Shallow}
-use Rattle.fv_tree.specs.Volumes.{volumes_in_files, volumes_in_sections}
 use Rattle.fv_canon.proofs.DataBodyLaws.{data_falls}
 use Rattle.fv_canon.proofs.LayoutWalkLaws.{file_count, own_counted, section_count}
 use Rattle.fv_canon.proofs.VolumeListLaws.{own_count}

@@ -1,8 +1,6 @@
 use Rattle.std.proofs.Common.{◌+◌, ◌*◌, take}
-use Rattle.fv_tree.specs.MeaningParts.{sections_from, files_from}
+use Rattle.fv_tree.specs.Words.{sections_from, files_from, body_view, volumes_in_sections, volumes_in_files}
 use Rattle.fv_tree.specs.inner.Sizes.{volume_size, files_size, sections_size, body_size}
-use Rattle.fv_tree.specs.Views.{body_view}
-use Rattle.fv_tree.specs.Volumes.{volumes_in_sections, volumes_in_files}
 use Rattle.fv_canon.specs.inner.FileWalks.{Grew}
 use Rattle.fv_canon.proofs.layout_walk.+lay.Given as goal
 

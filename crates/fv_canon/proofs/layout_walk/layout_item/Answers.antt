@@ -1,5 +1,5 @@
 use Rattle.std.proofs.Common.{arith}
-use Rattle.fv_file.specs.NewHeaders.{needs_large}
+use Rattle.fv_file.specs.Words.{needs_large}
 use Rattle.fv_canon.proofs.PartBytesLaws.{data_short, head_most}
 use Rattle.fv_canon.proofs.layout_walk.layout_item.Goals as goal
 

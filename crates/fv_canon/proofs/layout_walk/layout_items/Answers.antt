@@ -2,11 +2,11 @@ use Rattle.std.proofs.Common.{◌≡◌, ◌<◌, ◌+◌, ℕ, List, [], ◌∷
 use Rattle.std.specs.Prelude.{All}
 use Rattle.std.proofs.lemmas.List.{map-append, take_all, take_more}
 use Rattle.fv_base.proofs.Laws.{err_is}
-use Rattle.fv_canon.specs.Layouts.{layout_item}
-use Rattle.fv_placement.specs.Items.{IsLawfulItem}
+use Rattle.fv_canon.specs.Words.{layout_item}
+use Rattle.fv_placement.specs.Words.{IsLawfulItem}
 use Rattle.fv_placement.specs.declared.first_placement.LayoutItem.{LayoutItem}
 use Rattle.fv_tree.proofs.Laws.{files_list_back}
-use Rattle.fv_tree.specs.Meaning.{FileMeaning, files_of, head_of}
+use Rattle.fv_tree.specs.Words.{FileMeaning, files_of, head_of}
 use Rattle.fv_canon.proofs.PartBytesLaws.{parts_fit}
 use Rattle.fv_canon.proofs.LayoutWalkLaws.{some_items}
 use Rattle.fv_canon.proofs.layout_walk.layout_items.Goals as goal

@@ -1,6 +1,5 @@
 use Rattle.fv_base.proofs.Laws.{err_is, first_only}
-use Rattle.fv_tree.specs.Views.{body_view}
-use Rattle.fv_tree.specs.Volumes.{volumes_in_body}
+use Rattle.fv_tree.specs.Words.{body_view, volumes_in_body}
 use Rattle.fv_canon.proofs.FitLaws.{first_none}
 use Rattle.fv_canon.proofs.layout_walk.layout_of_body.Goals as goal
 

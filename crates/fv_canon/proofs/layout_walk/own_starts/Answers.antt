@@ -1,7 +1,7 @@
 use Rattle.std.proofs.Common.{ℕ, List, sym, ap, ◌∙◌, subst, rules}
 use Rattle.std.specs.Prelude.{All}
-use Rattle.fv_head.specs.Head.{HeadFields}
-use Rattle.fv_placement.specs.Items.{IsLawfulItem}
+use Rattle.fv_head.specs.Words.{HeadFields}
+use Rattle.fv_placement.specs.Words.{IsLawfulItem}
 use Rattle.fv_placement.specs.declared.first_placement.LayoutItem.{LayoutItem}
 use Rattle.fv_canon.proofs.layout_walk.own_starts.Goals as goal
 

@@ -1,14 +1,12 @@
 use Rattle.std.proofs.Common.{◌≡◌, ◌⊎◌, List, ℕ, length, subst, sym}
 use Rattle.std.proofs.lemmas.Result.{IfOk-weaker, IfErr-weaker}
 use Rattle.fv_base.proofs.Laws.{err_is}
-use Rattle.fv_base.specs.Faults.{out_of_memory}
+use Rattle.fv_base.specs.Words.{out_of_memory}
 use Rattle.fv_base.specs.declared.fault.Fault.{Fault}
-use Rattle.fv_head.specs.Head.{HeadFields, BeginsVolume}
+use Rattle.fv_head.specs.Words.{HeadFields, BeginsVolume}
 use Rattle.fv_head.specs.declared.extent.Extent.{Extent}
-use Rattle.fv_tree.specs.Meaning.{head_of}
-use Rattle.fv_canon.specs.Headline.{MeanSame, NormalisesTo}
-use Rattle.fv_canon.specs.InputRefusals.{IsOfLayout, IsUnfit}
-use Rattle.fv_canon.specs.Layouts.{Fits}
+use Rattle.fv_tree.specs.Words.{head_of}
+use Rattle.fv_canon.specs.Words.{MeanSame, NormalisesTo, IsOfLayout, IsUnfit, Fits}
 use Rattle.fv_canon.proofs.ImageLaws.{image_again, image_stays_long}
 use Rattle.fv_canon.proofs.ImageFits.{image_fits as has_image_fits}
 use Rattle.fv_canon.proofs.RejectedInputLaws.{image_fits, not_placed, not_read, not_read_never, refused_unplaced, unread_refused}

@@ -1,9 +1,9 @@
 use Rattle.std.proofs.Common.{◌≡◌, true}
 use Rattle.fv_base.proofs.Laws.{err_is}
-use Rattle.fv_base.specs.Port.{has_erred}
+use Rattle.fv_base.specs.Words.{has_erred}
 use Rattle.fv_base.specs.declared.fault.Fault.{Fault}
 use Rattle.fv_base.specs.declared.fault.FaultKind.TheVariants as kinds
-use Rattle.fv_tree.specs.Meaning.{head_of}
+use Rattle.fv_tree.specs.Words.{head_of}
 use Rattle.fv_canon.proofs.NormaliseRunLaws.{input_writes, writer_stops, refused_stops, write_not_read, of_some_kind}
 use Rattle.fv_canon.proofs.RejectedInputLaws.{not_placed, unfit_kind}
 use Rattle.fv_canon.proofs.normalising.write_laid_out.Goals as goal

@@ -1,11 +1,11 @@
 use Rattle.std.proofs.Common.{◌≡◌}
 use Rattle.std.proofs.lemmas.Result.{IfErr-weaker}
 use Rattle.fv_base.proofs.Laws.{err_is}
-use Rattle.fv_base.specs.Faults.{out_of_memory}
+use Rattle.fv_base.specs.Words.{out_of_memory}
 use Rattle.fv_base.specs.declared.fault.Fault.{Fault}
-use Rattle.fv_head.specs.Head.{HeadFields, BeginsVolume}
+use Rattle.fv_head.specs.Words.{HeadFields, BeginsVolume}
 use Rattle.fv_head.specs.declared.extent.Extent.{Extent}
-use Rattle.fv_tree.specs.Meaning.{head_of}
+use Rattle.fv_tree.specs.Words.{head_of}
 use Rattle.fv_canon.proofs.NormaliseRunLaws.{refused_stops}
 use Rattle.fv_canon.proofs.RejectedInputLaws.{not_read}
 use Rattle.fv_canon.proofs.normalising.write_normalised.Goals as goal

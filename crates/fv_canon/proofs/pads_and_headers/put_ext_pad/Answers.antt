@@ -1,14 +1,10 @@
 use Rattle.std.proofs.Common.{◌≡◌, ◌+◌, ◌-◌, ℕ, List, [], ◌++◌, replicate, sym, ap, ◌∙◌, subst, arith, append_assoc}
 use Rattle.std.specs.Prelude.{Option, None, Some, option_copied}
-use Rattle.fv_base.specs.Flash.{erased_byte}
-use Rattle.fv_base.specs.Value.{up_to_8}
+use Rattle.fv_base.specs.Words.{erased_byte, up_to_8}
 use Rattle.fv_base.specs.declared.flash.Polarity.{Polarity}
-use Rattle.fv_file.specs.NewHeaders.{pad_head_of}
-use Rattle.fv_head.specs.Ext.{Extension}
-use Rattle.fv_head.specs.Head.{HeadFields, header_len_of}
-use Rattle.fv_head.specs.ExtImage.{canonical_end, first_edge, ext_len, ext_spelled}
-use Rattle.fv_head.specs.VolumeAttributes.{polarity_of}
-use Rattle.fv_canon.specs.StoredFiles.{ext_pad}
+use Rattle.fv_file.specs.Words.{pad_head_of}
+use Rattle.fv_head.specs.Words.{Extension, HeadFields, header_len_of, canonical_end, first_edge, ext_len, ext_spelled, polarity_of}
+use Rattle.fv_canon.specs.Words.{ext_pad}
 use Rattle.fv_canon.proofs.pads_and_headers.put_ext_pad.Goals as goal
 
 none_text : (p : Polarity) (h : HeadFields) (x : Option Extension) (used n : ℕ) → x ≡ None

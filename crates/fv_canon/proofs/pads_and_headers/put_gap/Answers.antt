@@ -1,5 +1,5 @@
 use Rattle.std.proofs.Common.{◌≡◌, ◌≤◌, ◌⊎◌, inl, inr, ◌-◌, ℕ, List, [], ◌++◌, refl, sym, ap, ◌∙◌, subst, arith, append_assoc}
-use Rattle.fv_canon.specs.StoredFiles.{pad_bytes, long_pad, gap_bytes}
+use Rattle.fv_canon.specs.Words.{pad_bytes, long_pad, gap_bytes}
 use Rattle.fv_canon.proofs.PadLaws.{gap_none, pads_rule}
 use Rattle.fv_canon.proofs.pads_and_headers.put_gap.Goals as goal
 

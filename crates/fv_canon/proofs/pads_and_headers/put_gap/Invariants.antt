@@ -1,5 +1,5 @@
 use Rattle.std.proofs.Common.{◌≡◌, ◌≤◌, ◌%◌}
-use Rattle.fv_canon.specs.StoredFiles.{gap_bytes}
+use Rattle.fv_canon.specs.Words.{gap_bytes}
 use Rattle.fv_canon.proofs.ImageParts.{TakesFront}
 use Rattle.fv_canon.proofs.pads_and_headers.put_gap.Given as goal
 

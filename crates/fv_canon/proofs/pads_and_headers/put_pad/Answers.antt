@@ -1,5 +1,5 @@
 use Rattle.std.proofs.Common.{ℕ, ◌-◌, List, replicate, subst, ◌∙◌}
-use Rattle.fv_canon.specs.StoredFiles.{pad_bytes}
+use Rattle.fv_canon.specs.Words.{pad_bytes}
 use Rattle.fv_canon.proofs.pads_and_headers.put_pad.Goals as goal
 
 pub returns : goal.returns

@@ -2,12 +2,11 @@ use Rattle.std.proofs.Common.{◌≡◌, ◌≤◌, ◌<◌, ◌+◌, ◌-◌, �
 use Rattle.std.specs.Prelude.{map}
 use Rattle.std.proofs.lemmas.Grind.{common_steps}
 use Rattle.std.proofs.lemmas.List.{length-map}
-use Rattle.fv_base.specs.Limits.{volume_limit}
+use Rattle.fv_base.specs.Words.{volume_limit}
 use Rattle.fv_canon.specs.inner.FileWalks.{used_by}
-use Rattle.fv_canon.specs.Layouts.{layout_item}
-use Rattle.fv_canon.specs.StoredFiles.{size_for}
+use Rattle.fv_canon.specs.Words.{layout_item, size_for}
 use Rattle.fv_placement.proofs.Laws.{follow_length}
-use Rattle.fv_tree.specs.Meaning.{data_len_of}
+use Rattle.fv_tree.specs.Words.{data_len_of}
 use Rattle.fv_canon.proofs.VolumeWalks.{used_last}
 use Rattle.fv_canon.proofs.pads_and_headers.used_end.Goals.{After-data_len}
 use Rattle.fv_canon.proofs.pads_and_headers.used_end.Goals as goal

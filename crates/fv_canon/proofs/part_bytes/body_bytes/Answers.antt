@@ -1,7 +1,7 @@
 use Rattle.std.proofs.lemmas.Result.{IfOk-weaker}
 use Rattle.fv_base.proofs.Laws.{err_is}
-use Rattle.fv_tree.specs.MeaningParts.{body_of}
-use Rattle.fv_canon.specs.Image.{IsBodyImage}
+use Rattle.fv_tree.specs.Words.{body_of}
+use Rattle.fv_canon.specs.Words.{IsBodyImage}
 use Rattle.fv_canon.specs.inner.ImageOf.{body_image}
 use Rattle.fv_canon.proofs.OneImageLaws.{body_one}
 use Rattle.fv_canon.proofs.ImagePieceLaws.{body_is, kept_text}

@@ -1,11 +1,8 @@
 use Rattle.std.proofs.Common.{[], append-nil, subst, sym}
 use Rattle.std.proofs.lemmas.Result.{IfOk-weaker}
 use Rattle.fv_base.proofs.Laws.{kept_whole, err_is}
-use Rattle.fv_tree.specs.Meaning.{content_of}
-use Rattle.fv_tree.specs.Volumes.{volumes_in_content}
-use Rattle.fv_canon.specs.Image.{IsData}
-use Rattle.fv_canon.specs.LayoutForms.{Laid}
-use Rattle.fv_canon.specs.Layouts.{AreStarts}
+use Rattle.fv_tree.specs.Words.{content_of, volumes_in_content}
+use Rattle.fv_canon.specs.Words.{IsData, Laid, AreStarts}
 use Rattle.fv_canon.proofs.DataBodyLaws.{data_held}
 use Rattle.fv_canon.proofs.LayoutWalkLaws.{shallow_data}
 use Rattle.fv_canon.proofs.OneImageLaws.{data_one}

@@ -1,6 +1,5 @@
 use Rattle.std.proofs.Common.{◌≡◌, ◌+◌, ℕ, refl, ap, arith}
-use Rattle.fv_tree.specs.Meaning.{SectionMeaning, FileMeaning, head_of}
-use Rattle.fv_tree.specs.MeaningParts.{files_from}
+use Rattle.fv_tree.specs.Words.{SectionMeaning, FileMeaning, head_of, files_from}
 use Rattle.fv_tree.specs.inner.Sizes.{volume_size, files_size}
 use Rattle.fv_canon.proofs.DataBodyLaws.{data_falls, data_volumes}
 use Rattle.fv_canon.proofs.LaidFileLaws.{file_passed, files_last}

@@ -1,10 +1,8 @@
 use Rattle.std.proofs.Common.{◌+◌, ◌*◌, drop}
-use Rattle.fv_tree.specs.MeaningParts.{sections_from, files_from}
+use Rattle.fv_tree.specs.Words.{sections_from, files_from, body_view, volumes_in_sections, volumes_in_files}
 use Rattle.fv_tree.specs.inner.Sizes.{volume_size, sections_size, body_size}
-use Rattle.fv_tree.specs.Views.{body_view}
 use Rattle.fv_canon.specs.inner.ImageOf.{starts_in}
 use Rattle.fv_canon.proofs.ImageParts.{ComesTo}
-use Rattle.fv_tree.specs.Volumes.{volumes_in_sections, volumes_in_files}
 use Rattle.fv_canon.proofs.start_walk.+skip.Given as goal
 
 abbrev pub invariant-skip_sections-loop-section : goal.invariant-skip_sections-loop-section

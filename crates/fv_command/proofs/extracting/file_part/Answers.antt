@@ -1,10 +1,8 @@
 use Rattle.std.proofs.Common.{◌≡◌, ℕ, List, Option, Some, refl, sym, subst}
 use Rattle.fv_base.proofs.Laws.{err_is}
-use Rattle.fv_section.specs.Frames.{FrameForm}
-use Rattle.fv_section.specs.StreamReads.{frame_form}
-use Rattle.fv_tree.specs.LookupInstances.{section_of_type, frame_of_type}
-use Rattle.fv_tree.specs.Meaning.{Plain, Sectioned, SectionMeaning, SectionMeanings, content_of}
-use Rattle.fv_command.specs.Extractions.{IsSectionPart, IsFramePart}
+use Rattle.fv_section.specs.Words.{FrameForm, frame_form}
+use Rattle.fv_tree.specs.Words.{section_of_type, frame_of_type, Plain, Sectioned, SectionMeaning, SectionMeanings, content_of}
+use Rattle.fv_command.specs.Words.{IsSectionPart, IsFramePart}
 use Rattle.fv_command.specs.declared.extracting.Extraction.TheVariants.{Made, Stored}
 use Rattle.fv_command.proofs.PartLemmas.{stops_section}
 use Rattle.fv_command.proofs.extracting.file_part.Goals as goal

@@ -1,4 +1,4 @@
-use Rattle.fv_text.specs.PortViews.{change}
+use Rattle.fv_text.specs.Words.{change}
 use Rattle.fv_command.proofs.OpenerLemmas.{runs_new}
 use Rattle.fv_command.proofs.opener.run_over.Goals as goal
 

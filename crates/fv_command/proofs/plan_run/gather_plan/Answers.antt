@@ -1,6 +1,6 @@
 use Rattle.std.proofs.Common.{ℕ, ap, subst, take}
 use Rattle.fv_text.proofs.Laws.{gathered_all}
-use Rattle.fv_text.specs.PortViews.{change}
+use Rattle.fv_text.specs.Words.{change}
 use Rattle.fv_command.proofs.plan_run.gather_plan.Goals as goal
 
 pub returns : goal.returns

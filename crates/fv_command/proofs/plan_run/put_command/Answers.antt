@@ -1,7 +1,7 @@
 use Rattle.std.proofs.Common.{ℕ, subst}
 use Rattle.std.specs.Prelude.{Option}
-use Rattle.fv_text.specs.PortViews.{Change, change}
-use Rattle.fv_command.specs.PairRuns.{SaysHobs, StopsHobs}
+use Rattle.fv_text.specs.Words.{Change, change}
+use Rattle.fv_command.specs.Words.{SaysHobs, StopsHobs}
 use Rattle.fv_command.specs.inner.RunSteps.{Puts}
 use Rattle.fv_command.proofs.plan_run.put_command.Goals as goal
 

@@ -1,8 +1,8 @@
 use Rattle.std.proofs.Common.{[], append-nil, refl, subst, sym}
 use Rattle.fv_base.proofs.Laws.{err_is}
-use Rattle.fv_canon.specs.LayoutForms.{BeginsWithStarts, LaysVolume}
+use Rattle.fv_canon.specs.Words.{BeginsWithStarts, LaysVolume}
 use Rattle.fv_command.proofs.RunLemmas.{sums_denied}
-use Rattle.fv_tree.specs.Volumes.{volumes_in}
+use Rattle.fv_tree.specs.Words.{volumes_in}
 use Rattle.fv_command.proofs.task_run.list_sums.Goals as goal
 
 pub returns-in_err-places : goal.returns-in_err-places

@@ -1,6 +1,6 @@
 use Rattle.std.proofs.Common.{◌≤◌, ◌∙◌, length, subst, sym}
 use Rattle.std.specs.Prelude.{IfSome}
-use Rattle.fv_compare.specs.Difference.{Differs}
+use Rattle.fv_compare.specs.Words.{Differs}
 use Rattle.fv_compare.proofs.FewStepLaws.{few_steps}
 use Rattle.fv_compare.proofs.compare.put_comparison.Goals as goal
 

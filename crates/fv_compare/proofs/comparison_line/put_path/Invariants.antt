@@ -1,5 +1,5 @@
 use Rattle.std.proofs.Common.{◌≤◌, ◌*◌, length, take}
-use Rattle.fv_compare.specs.ComparisonLines.{path_text}
+use Rattle.fv_compare.specs.Words.{path_text}
 use Rattle.fv_compare.proofs.comparison_line.put_path.Given as goal
 
 abbrev pub invariant-loop-step : goal.invariant-loop-step

@@ -1,5 +1,5 @@
 use Rattle.std.proofs.Common.{◌≡◌, drop}
-use Rattle.fv_compare.specs.Difference.{entries_eq}
+use Rattle.fv_compare.specs.Words.{entries_eq}
 use Rattle.fv_compare.proofs.head_difference.same_entries.Given as goal
 
 abbrev pub invariant-loop-i : goal.invariant-loop-i

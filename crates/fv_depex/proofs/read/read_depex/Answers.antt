@@ -1,6 +1,6 @@
 use Rattle.std.proofs.Common.{◌∙◌, refl, sym, subst}
 use Rattle.fv_base.proofs.Laws.{err_is}
-use Rattle.fv_depex.specs.Expressions.{Spells}
+use Rattle.fv_depex.specs.Words.{Spells}
 use Rattle.fv_depex.proofs.OpReadLemmas.{none_after, spells_first}
 use Rattle.fv_depex.proofs.PathLemmas.{one_spelling}
 use Rattle.fv_depex.proofs.read.read_depex.Goals as goal

@@ -1,5 +1,5 @@
 use Rattle.std.proofs.Common.{◌≡◌, ◌++◌, rules}
-use Rattle.fv_depex.specs.Expressions.{ops_bytes}
+use Rattle.fv_depex.specs.Words.{ops_bytes}
 use Rattle.fv_depex.proofs.PathLemmas.{spelled_again}
 use Rattle.fv_depex.proofs.write.depex_bytes.Goals as goal
 

@@ -1,7 +1,7 @@
 use Rattle.std.proofs.lemmas.Grind.{common_steps}
 use Rattle.std.proofs.Common.{◌++◌, ◌∷◌, [], get_or, take, sym, ap, ◌∙◌, append-nil, arith}
 use Rattle.std.proofs.lemmas.List.{take_more}
-use Rattle.fv_depex.specs.Expressions.{op_code, op_operand, ops_bytes}
+use Rattle.fv_depex.specs.Words.{op_code, op_operand, ops_bytes}
 use Rattle.fv_depex.specs.declared.op.Op.{Op}
 use Rattle.fv_depex.specs.declared.op.Op.TheVariants as ops
 use Rattle.fv_depex.proofs.PathLemmas.{bytes_join}

@@ -1,5 +1,5 @@
 use Rattle.std.proofs.Common.{◌≡◌, take}
-use Rattle.fv_depex.specs.Expressions.{ops_bytes}
+use Rattle.fv_depex.specs.Words.{ops_bytes}
 use Rattle.fv_depex.proofs.write.spelled.Given as goal
 
 abbrev pub invariant-loop-op : goal.invariant-loop-op

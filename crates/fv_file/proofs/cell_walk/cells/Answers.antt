@@ -1,7 +1,7 @@
 use Rattle.std.proofs.Common.{◌≡◌, ℕ, ◌+◌, length, sym, ap, subst, arith, length-drop}
 use Rattle.std.proofs.lemmas.Result.{IfOk-weaker, IfErr-weaker}
-use Rattle.fv_base.specs.Checks.{First}
-use Rattle.fv_file.specs.CellForms.{CellsWithin}
+use Rattle.fv_base.specs.Words.{First}
+use Rattle.fv_file.specs.Words.{CellsWithin}
 use Rattle.fv_file.proofs.BodyLemmas.{only_one, none_after, all_within}
 use Rattle.fv_file.proofs.cell_walk.cells.Goals as goal
 

@@ -1,7 +1,7 @@
 use Rattle.std.proofs.Common.{◌∙◌, sym, length}
 use Rattle.std.specs.Prelude.{slice_index}
 use Rattle.std.proofs.lemmas.Bool.{lt-ltb, eq-eqb}
-use Rattle.fv_base.specs.Flash.{erased_byte}
+use Rattle.fv_base.specs.Words.{erased_byte}
 use Rattle.fv_file.proofs.ErasedByteLemmas.{not_all}
 use Rattle.fv_file.proofs.cell_walk.is_free.Goals as goal
 use Rattle.fv_file.proofs.cell_walk.is_free.Goals.{then-rest-lt-HEADER_LEN, else-rest-lt-HEADER_LEN}

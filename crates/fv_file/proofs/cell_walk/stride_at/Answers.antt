@@ -1,6 +1,6 @@
 use Rattle.std.proofs.Common.{◌≡◌, ℕ, Bool, List, length, sym, ap, ◌∙◌, subst, arith}
-use Rattle.fv_base.specs.Value.{up_to_8}
-use Rattle.fv_file.specs.FileChecks.{file_size_at}
+use Rattle.fv_base.specs.Words.{up_to_8}
+use Rattle.fv_file.specs.Words.{file_size_at}
 use Rattle.fv_file.specs.inner.CellVerdicts.{is_unfinished}
 use Rattle.fv_file.proofs.StrideLemmas.{Stride, cell_stride, stride_by}
 use Rattle.fv_file.proofs.cell_walk.stride_at.Goals as goal

@@ -1,7 +1,6 @@
 use Rattle.std.proofs.Common.{◌≡◌, ◌∙◌, false, refl, sym}
 use Rattle.fv_base.proofs.Laws.{err_is}
-use Rattle.fv_file.specs.FileChecks.{skips_data}
-use Rattle.fv_file.specs.States.{is_alive}
+use Rattle.fv_file.specs.Words.{skips_data, is_alive}
 use Rattle.fv_file.proofs.FileVerdictLemmas.{IsHeaderRight, data_right, data_skipped, data_wrong, file_fixed, form_wrong, header_cut, is_not_skipped, is_skipped, size_wrong, sizes, sum_wrong}
 use Rattle.fv_file.proofs.head.file_at.Goals.{After-is_fixed, In_ok-check-4}
 use Rattle.fv_file.proofs.head.file_at.Goals as goal

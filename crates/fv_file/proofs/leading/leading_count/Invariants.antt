@@ -1,5 +1,5 @@
 use Rattle.std.proofs.Common.{◌≡◌, ◌≤◌, ◌+◌, ◌-◌, length, drop}
-use Rattle.fv_file.specs.FileChecks.{leading_count}
+use Rattle.fv_file.specs.Words.{leading_count}
 use Rattle.fv_file.proofs.leading.leading_count.Given as goal
 
 abbrev pub invariant-loop-at : goal.invariant-loop-at

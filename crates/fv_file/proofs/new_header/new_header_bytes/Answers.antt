@@ -1,5 +1,5 @@
 use Rattle.std.proofs.Common.{◌∙◌, zero-add}
-use Rattle.fv_file.specs.NewHeaders.{header_bytes}
+use Rattle.fv_file.specs.Words.{header_bytes}
 use Rattle.fv_file.proofs.new_header.new_header_bytes.Goals as goal
 
 pub returns-clause-is : goal.returns-clause-is

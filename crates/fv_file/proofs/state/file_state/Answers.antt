@@ -1,5 +1,5 @@
 use Rattle.std.proofs.Common.{◌∙◌, ap}
-use Rattle.fv_file.specs.States.{state_of, state_in}
+use Rattle.fv_file.specs.Words.{state_of, state_in}
 use Rattle.fv_file.proofs.state.file_state.Goals as goal
 
 pub returns : goal.returns

@@ -1,6 +1,6 @@
 use Rattle.std.proofs.Common.{arith, ap, sym}
 use Rattle.std.proofs.lemmas.Bool.Decides.{nat_tests}
-use Rattle.fv_file.specs.States.{state_in}
+use Rattle.fv_file.specs.Words.{state_in}
 use Rattle.fv_file.proofs.state.state_in.Goals as goal
 
 pub returns-in-0 : goal.returns-in-0

@@ -1,5 +1,5 @@
 use Rattle.std.proofs.Common.{refl, sym, subst}
-use Rattle.fv_head.specs.Head.{BeginsVolume}
+use Rattle.fv_head.specs.Words.{BeginsVolume}
 use Rattle.fv_flash.proofs.ScanLaws.{reached_first, reached_joined, reached_more, from_joined}
 use Rattle.fv_flash.proofs.scanner.next_volume.Goals as goal
 

@@ -1,5 +1,5 @@
 use Rattle.std.proofs.Common.{ℕ, List, ◌++◌, length}
-use Rattle.fv_head.specs.Ext.{SplitsEntries}
+use Rattle.fv_head.specs.Words.{SplitsEntries}
 use Rattle.fv_head.proofs.ext.entries_of.Given as goal
 
 -- the entries so far, before those that the rest has, are those of all the bytes

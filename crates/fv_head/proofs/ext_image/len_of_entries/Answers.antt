@@ -1,5 +1,5 @@
 use Rattle.std.proofs.Common.{◌≡◌, ◌+◌, ap, arith, drop, length}
-use Rattle.fv_head.specs.ExtImage.{entries_len}
+use Rattle.fv_head.specs.Words.{entries_len}
 use Rattle.fv_head.proofs.ExtImageLemmas.{entries_len_step}
 use Rattle.fv_head.proofs.ext_image.len_of_entries.Goals.{After-payload}
 use Rattle.fv_head.proofs.ext_image.len_of_entries.Goals as goal

@@ -1,5 +1,5 @@
 use Rattle.std.proofs.Common.{◌≡◌, ◌+◌, drop}
-use Rattle.fv_head.specs.ExtImage.{entries_len}
+use Rattle.fv_head.specs.Words.{entries_len}
 use Rattle.fv_head.proofs.ext_image.len_of_entries.Given as goal
 
 -- the bytes so far and those to come are all

@@ -1,5 +1,5 @@
 use Rattle.std.proofs.Common.{ap, arith, length, rules}
-use Rattle.fv_head.specs.ExtImage.{entries_len}
+use Rattle.fv_head.specs.Words.{entries_len}
 use Rattle.fv_head.proofs.ExtImageLemmas.{ext_len_most}
 use Rattle.fv_head.proofs.ext_image.len_of_ext.Goals as goal
 

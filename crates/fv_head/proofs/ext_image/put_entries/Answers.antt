@@ -1,5 +1,5 @@
 use Rattle.std.proofs.Common.{◌++◌, arith, List, ℕ, subst}
-use Rattle.fv_head.specs.ExtImage.{entry_bytes}
+use Rattle.fv_head.specs.Words.{entry_bytes}
 use Rattle.fv_head.proofs.ExtImageLemmas.{entries_len_step, entries_step, entries_end}
 use Rattle.fv_head.proofs.ext_image.put_entries.Goals as goal
 

@@ -1,6 +1,6 @@
 use Rattle.std.proofs.Common.{◌≡◌, ◌≤◌, ◌++◌, List, ℕ, drop}
-use Rattle.fv_base.specs.Limits.{ext_limit}
-use Rattle.fv_head.specs.ExtImage.{entries_bytes, entries_len}
+use Rattle.fv_base.specs.Words.{ext_limit}
+use Rattle.fv_head.specs.Words.{entries_bytes, entries_len}
 use Rattle.fv_head.proofs.ext_image.put_entries.Given as goal
 
 -- the entries so far are put

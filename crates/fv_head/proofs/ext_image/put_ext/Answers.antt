@@ -1,7 +1,6 @@
 use Rattle.std.proofs.Common.{◌∙◌, ap}
-use Rattle.fv_base.specs.Guids.{bytes_of}
-use Rattle.fv_base.specs.Value.{le_bytes}
-use Rattle.fv_head.specs.ExtImage.{entries_bytes, ext_spelled}
+use Rattle.fv_base.specs.Words.{bytes_of, le_bytes}
+use Rattle.fv_head.specs.Words.{entries_bytes, ext_spelled}
 use Rattle.fv_head.proofs.ExtImageLemmas.{ext_again}
 use Rattle.fv_head.proofs.HeadWalkLemmas.{renamed}
 use Rattle.fv_head.proofs.ext_image.put_ext.Goals as goal

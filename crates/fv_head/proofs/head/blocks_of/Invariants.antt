@@ -1,5 +1,5 @@
 use Rattle.std.proofs.Common.{◌≡◌, ◌%◌, ◌++◌, length}
-use Rattle.fv_head.specs.Pairs.{pairs_of}
+use Rattle.fv_head.specs.Words.{pairs_of}
 use Rattle.fv_head.proofs.head.blocks_of.Given as goal
 
 -- the pairs so far and those to come are all

@@ -1,5 +1,5 @@
 use Rattle.std.proofs.Common.{◌∙◌, ap, arith, sym, refl}
-use Rattle.fv_head.specs.Pairs.{pairs_of}
+use Rattle.fv_head.specs.Words.{pairs_of}
 use Rattle.fv_head.proofs.HeadPlaceLemmas.{front_within, kept_fields}
 use Rattle.fv_head.proofs.head.head_of.Goals as goal
 

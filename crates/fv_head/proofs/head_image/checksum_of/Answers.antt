@@ -1,5 +1,5 @@
 use Rattle.std.proofs.Common.{◌∙◌}
-use Rattle.fv_head.specs.Head.{canonical_offset}
+use Rattle.fv_head.specs.Words.{canonical_offset}
 use Rattle.fv_head.proofs.HeadImageLemmas.{checksum_from}
 use Rattle.fv_head.proofs.head_image.checksum_of.Goals as goal
 

@@ -2,10 +2,7 @@ use Rattle.std.proofs.Common.{◌≡◌, ◌∙◌, ◌++◌, ◌≤◌, ℕ, Li
 use Rattle.std.specs.Prelude.{IfOk}
 use Rattle.std.proofs.lemmas.Result.{IfOk-weaker}
 use Rattle.fv_base.proofs.Laws.{kept_whole}
-use Rattle.fv_head.specs.HeadReads.{IsCanonicalHead, extent_of, CanonicalRest}
-use Rattle.fv_head.specs.Head.{BeginsVolume}
-use Rattle.fv_head.specs.HeadImage.{canonical_head}
-use Rattle.fv_head.specs.ExtImage.{canonical_end, first_edge}
+use Rattle.fv_head.specs.Words.{IsCanonicalHead, extent_of, CanonicalRest, BeginsVolume, canonical_head, canonical_end, first_edge}
 use Rattle.fv_head.proofs.HeadImageLemmas.{canonical_is, canonical_only, canonical_front}
 use Rattle.fv_head.proofs.head_image.head_bytes.Goals.{After-finish}
 use Rattle.fv_head.proofs.head_image.head_bytes.Goals as goal

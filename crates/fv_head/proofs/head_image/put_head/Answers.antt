@@ -1,6 +1,5 @@
 use Rattle.std.proofs.Common.{ap, ℕ}
-use Rattle.fv_head.specs.Head.{canonical_offset}
-use Rattle.fv_head.specs.HeadImage.{head_spelled, canonical_head}
+use Rattle.fv_head.specs.Words.{canonical_offset, head_spelled, canonical_head}
 use Rattle.fv_head.proofs.HeadWalkLemmas.{renamed}
 use Rattle.fv_head.proofs.head_image.put_head.Goals as goal
 

@@ -1,5 +1,5 @@
 use Rattle.std.proofs.Common.{◌++◌, List, ℕ, get_or, subst}
-use Rattle.fv_base.specs.Value.{le_bytes}
+use Rattle.fv_base.specs.Words.{le_bytes}
 use Rattle.fv_head.proofs.HeadWalkLemmas.{pairs_step, pairs_end}
 use Rattle.fv_head.proofs.head_image.put_pairs.Goals as goal
 

@@ -1,5 +1,5 @@
 use Rattle.std.proofs.Common.{◌≡◌, ◌++◌, List, ℕ, drop}
-use Rattle.fv_head.specs.Pairs.{pairs_bytes}
+use Rattle.fv_head.specs.Words.{pairs_bytes}
 use Rattle.fv_head.proofs.head_image.put_pairs.Given as goal
 
 -- the pairs so far are put

@@ -1,8 +1,6 @@
 use Rattle.std.proofs.Common.{◌∙◌, ap, ℕ, [], ◌∷◌}
-use Rattle.fv_base.specs.Value.{le_bytes}
-use Rattle.fv_head.specs.Head.{system_guid}
-use Rattle.fv_head.specs.Pairs.{pairs_bytes}
-use Rattle.fv_head.specs.HeadImage.{head_spelled}
+use Rattle.fv_base.specs.Words.{le_bytes}
+use Rattle.fv_head.specs.Words.{system_guid, pairs_bytes, head_spelled}
 use Rattle.fv_head.proofs.HeadWalkLemmas.{eleven, renamed}
 use Rattle.fv_head.proofs.head_image.put_spelled.Goals as goal
 

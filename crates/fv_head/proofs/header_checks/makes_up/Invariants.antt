@@ -1,6 +1,5 @@
 use Rattle.std.proofs.Common.{◌≡◌, ◌%◌, length}
-use Rattle.fv_head.specs.Pairs.{pairs_of}
-use Rattle.fv_head.specs.HeadChecks.{makes_up}
+use Rattle.fv_head.specs.Words.{pairs_of, makes_up}
 use Rattle.fv_head.proofs.header_checks.makes_up.Given as goal
 
 -- what is left of the blocks decides for all of them

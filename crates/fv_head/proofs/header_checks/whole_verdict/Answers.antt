@@ -1,7 +1,7 @@
 use Rattle.std.proofs.Common.{◌≡◌, ◌∙◌, drop, refl, sym, rules}
 use Rattle.fv_base.proofs.Laws.{err_is}
 use Rattle.fv_base.specs.inner.Verdicts.{first_fault}
-use Rattle.fv_head.specs.HeadChecks.{whole_checks}
+use Rattle.fv_head.specs.Words.{whole_checks}
 use Rattle.fv_head.proofs.header_checks.whole_verdict.Goals.{In_ok-check-3}
 use Rattle.fv_head.proofs.header_checks.whole_verdict.Goals as goal
 

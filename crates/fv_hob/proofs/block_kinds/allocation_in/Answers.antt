@@ -1,6 +1,6 @@
 use Rattle.std.proofs.Common.{◌≡◌, ◌∙◌, ap}
-use Rattle.fv_base.specs.Guids.{guid_of}
-use Rattle.fv_hob.specs.Hobs.{guid_in}
+use Rattle.fv_base.specs.Words.{guid_of}
+use Rattle.fv_hob.specs.Words.{guid_in}
 use Rattle.fv_hob.proofs.block_kinds.allocation_in.Goals as goal
 
 pub returns : goal.returns

@@ -1,6 +1,6 @@
 use Rattle.std.proofs.Common.{drop, subst, sym, take, rules}
 use Rattle.fv_base.proofs.Laws.{first_is}
-use Rattle.fv_hob.specs.HobChecks.{BeginsBlock, hob_checks}
+use Rattle.fv_hob.specs.Words.{BeginsBlock, hob_checks}
 use Rattle.fv_hob.proofs.HobCheckLemmas.{stands}
 use Rattle.fv_hob.proofs.read.block_at.Goals as goal
 

@@ -2,8 +2,7 @@ use Rattle.std.proofs.Common.{◌≡◌, ◌++◌, ap, subst, ◌∙◌, List, l
 use Rattle.std.specs.Prelude.{[]}
 use Rattle.std.specs.List.{cons_option}
 use Rattle.std.proofs.lemmas.List.{take_all}
-use Rattle.fv_hob.specs.Hobs.{HobForm}
-use Rattle.fv_hob.specs.Lists.{spans_of}
+use Rattle.fv_hob.specs.Words.{HobForm, spans_of}
 use Rattle.fv_hob.specs.declared.span.Span.{Span}
 use Rattle.fv_hob.proofs.WriteLemmas.{spans_more, span_none, span_some}
 use Rattle.fv_hob.proofs.span.volume_hobs.Goals.{in-Some+in_ok-push, in_default}

@@ -1,6 +1,5 @@
 use Rattle.std.proofs.Common.{sym, subst, ap, ◌∙◌}
-use Rattle.fv_hob.specs.Lists.{IsHobList}
-use Rattle.fv_hob.specs.Hobs.{list_spelled}
+use Rattle.fv_hob.specs.Words.{IsHobList, list_spelled}
 use Rattle.fv_hob.proofs.HobImageLemmas.{list_again, list_kept}
 use Rattle.fv_hob.proofs.write.hob_bytes.Goals as goal
 

@@ -1,5 +1,5 @@
 use Rattle.std.proofs.Common.{◌≡◌, take}
-use Rattle.fv_hob.specs.Hobs.{list_spelled}
+use Rattle.fv_hob.specs.Words.{list_spelled}
 use Rattle.fv_hob.proofs.write.list_spelled.Given as goal
 
 abbrev pub invariant-loop-hob : goal.invariant-loop-hob

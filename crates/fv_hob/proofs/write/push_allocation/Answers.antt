@@ -1,7 +1,6 @@
 use Rattle.std.proofs.Common.{◌++◌, ◌∷◌, ◌∙◌, [], ap}
 use Rattle.std.proofs.lemmas.Result.{on_ok_weaker}
-use Rattle.fv_base.specs.Guids.{bytes_of}
-use Rattle.fv_base.specs.Value.{le_bytes}
+use Rattle.fv_base.specs.Words.{bytes_of, le_bytes}
 use Rattle.fv_hob.proofs.WriteLemmas.{more_fields, no_field, one_field}
 use Rattle.fv_hob.proofs.write.push_allocation.Goals as goal
 

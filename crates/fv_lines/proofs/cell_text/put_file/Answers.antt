@@ -1,6 +1,6 @@
 use Rattle.std.proofs.Common.{ℕ, List, codes, subst}
-use Rattle.fv_lines.specs.CellTexts.{span_text}
-use Rattle.fv_text.specs.HexText.{two_digits}
+use Rattle.fv_lines.specs.Words.{span_text}
+use Rattle.fv_text.specs.Words.{two_digits}
 use Rattle.fv_lines.proofs.cell_text.put_file.Goals as goal
 
 pub returns : goal.returns

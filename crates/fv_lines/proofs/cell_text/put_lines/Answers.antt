@@ -1,5 +1,5 @@
 use Rattle.std.proofs.Common.{arith, subst}
-use Rattle.fv_lines.specs.CellTexts.{sums_line}
+use Rattle.fv_lines.specs.Words.{sums_line}
 use Rattle.fv_lines.specs.declared.cell_text.LengthSums.{LengthSums}
 use Rattle.fv_lines.proofs.cell_text.put_lines.Goals as goal
 

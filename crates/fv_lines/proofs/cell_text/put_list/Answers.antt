@@ -1,9 +1,9 @@
 use Rattle.std.proofs.Common.{ℕ, List, map, subst, sym}
 use Rattle.std.specs.List.{flat_map}
 use Rattle.std.proofs.lemmas.List.{take_all}
-use Rattle.fv_file.specs.CellForms.{cell_form}
+use Rattle.fv_file.specs.Words.{cell_form}
 use Rattle.fv_file.specs.declared.cell.Cell.{Cell}
-use Rattle.fv_lines.specs.CellTexts.{cell_line}
+use Rattle.fv_lines.specs.Words.{cell_line}
 use Rattle.fv_lines.proofs.CellSumLemmas.{fits_at}
 use Rattle.fv_text.proofs.Laws.{seen_next}
 use Rattle.fv_lines.proofs.cell_text.put_list.Goals as goal

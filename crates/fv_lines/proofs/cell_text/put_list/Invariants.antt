@@ -1,7 +1,7 @@
 use Rattle.std.proofs.Common.{map, take}
 use Rattle.std.specs.List.{flat_map}
-use Rattle.fv_file.specs.CellForms.{cell_form}
-use Rattle.fv_lines.specs.CellTexts.{cell_line}
+use Rattle.fv_file.specs.Words.{cell_form}
+use Rattle.fv_lines.specs.Words.{cell_line}
 use Rattle.fv_lines.proofs.cell_text.put_list.Given as goal
 
 abbrev pub invariant-loop-cell : goal.invariant-loop-cell

@@ -1,8 +1,8 @@
 use Rattle.std.proofs.Common.{◌∙◌, List, ap, map, sym}
 use Rattle.std.proofs.lemmas.List.{take_all}
-use Rattle.fv_file.specs.CellForms.{cell_form}
+use Rattle.fv_file.specs.Words.{cell_form}
 use Rattle.fv_file.specs.declared.cell.Cell.{Cell}
-use Rattle.fv_lines.specs.CellTexts.{sums_of}
+use Rattle.fv_lines.specs.Words.{sums_of}
 use Rattle.fv_lines.proofs.CellSumLemmas.{counted_next, sums_next}
 use Rattle.fv_lines.proofs.cell_text.sums_of.Goals as goal
 

@@ -1,6 +1,6 @@
 use Rattle.std.proofs.Common.{◌≡◌, map, take}
-use Rattle.fv_file.specs.CellForms.{cell_form}
-use Rattle.fv_lines.specs.CellTexts.{sums_of}
+use Rattle.fv_file.specs.Words.{cell_form}
+use Rattle.fv_lines.specs.Words.{sums_of}
 use Rattle.fv_lines.proofs.cell_text.sums_of.Given as goal
 
 abbrev pub invariant-loop-cell : goal.invariant-loop-cell

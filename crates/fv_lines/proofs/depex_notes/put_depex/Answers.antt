@@ -1,5 +1,5 @@
 use Rattle.std.proofs.Common.{ℕ, subst, refl}
-use Rattle.fv_lines.specs.Notes.{HeldDepex, depex_line, note_of}
+use Rattle.fv_lines.specs.Words.{HeldDepex, depex_line, note_of}
 use Rattle.fv_lines.proofs.DepexNoteLemmas.{puts_one, puts_spelled}
 use Rattle.fv_lines.proofs.depex_notes.put_depex.Goals as goal
 

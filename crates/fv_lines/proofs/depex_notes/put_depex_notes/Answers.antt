@@ -1,8 +1,8 @@
 use Rattle.std.proofs.Common.{◌≡◌, ◌∙◌, ℕ, List, take, sym, ap, subst}
 use Rattle.std.proofs.lemmas.List.{take_all}
-use Rattle.fv_tree.specs.Meaning.{FileMeaning, files_of}
+use Rattle.fv_tree.specs.Words.{FileMeaning, files_of}
 use Rattle.fv_tree.proofs.Laws.{files_list_back}
-use Rattle.fv_lines.specs.Notes.{HeldDepex, depexes_in, file_depexes}
+use Rattle.fv_lines.specs.Words.{HeldDepex, depexes_in, file_depexes}
 use Rattle.fv_lines.specs.inner.LineRuns.{PutsNotes}
 use Rattle.fv_lines.proofs.DepexNoteLemmas.{files_next, puts_none, puts_then}
 use Rattle.fv_lines.proofs.depex_notes.put_depex_notes.Goals as goal

@@ -1,5 +1,5 @@
 use Rattle.std.proofs.Common.{take}
-use Rattle.fv_lines.specs.Notes.{depexes_in}
+use Rattle.fv_lines.specs.Words.{depexes_in}
 use Rattle.fv_lines.specs.inner.LineRuns.{PutsNotes}
 use Rattle.fv_lines.proofs.depex_notes.put_depex_notes.Given as goal
 

@@ -1,7 +1,7 @@
 use Rattle.std.proofs.Common.{◌∙◌, List, sym, subst}
-use Rattle.fv_tree.specs.Meaning.{SectionMeaning}
+use Rattle.fv_tree.specs.Words.{SectionMeaning}
 use Rattle.fv_lines.specs.inner.LineRuns.{PutsNotes}
-use Rattle.fv_lines.specs.Notes.{HeldDepex, section_depex, sections_depexes}
+use Rattle.fv_lines.specs.Words.{HeldDepex, section_depex, sections_depexes}
 use Rattle.fv_lines.proofs.DepexNoteLemmas.{of_file, puts_none, puts_then}
 use Rattle.fv_lines.proofs.depex_notes.put_file.Goals as goal
 

@@ -1,5 +1,5 @@
 use Rattle.fv_lines.specs.inner.LineRuns.{PutsNotes}
-use Rattle.fv_lines.specs.Notes.{sections_depexes}
+use Rattle.fv_lines.specs.Words.{sections_depexes}
 use Rattle.fv_lines.proofs.depex_notes.put_file.Given as goal
 
 -- once the notes of the sections that are left are put, those of all are

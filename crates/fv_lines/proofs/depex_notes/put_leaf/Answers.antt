@@ -1,7 +1,7 @@
 use Rattle.std.proofs.Common.{◌≡◌, ◌∙◌, Option, Some, sym, subst}
 use Rattle.fv_depex.specs.declared.op.Phase.{Phase}
 use Rattle.fv_lines.specs.inner.LineRuns.{PutsNotes}
-use Rattle.fv_lines.specs.Notes.{phase_of, read_by}
+use Rattle.fv_lines.specs.Words.{phase_of, read_by}
 use Rattle.fv_lines.proofs.depex_notes.put_leaf.Goals as goal
 
 pub returns-in-Some : goal.returns-in-Some

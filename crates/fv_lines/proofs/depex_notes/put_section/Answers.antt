@@ -1,9 +1,8 @@
 use Rattle.std.proofs.Common.{◌≡◌, ◌∙◌, ℕ, List, Some, sym, ap, subst}
 use Rattle.std.specs.Prelude.{option_copied}
-use Rattle.fv_tree.specs.Meaning.{SectionMeaning}
-use Rattle.fv_tree.specs.MeaningParts.{body_of, leaf_of}
+use Rattle.fv_tree.specs.Words.{SectionMeaning, body_of, leaf_of}
 use Rattle.fv_lines.specs.inner.LineRuns.{PutsNotes}
-use Rattle.fv_lines.specs.Notes.{HeldDepex, phase_of, read_by}
+use Rattle.fv_lines.specs.Words.{HeldDepex, phase_of, read_by}
 use Rattle.fv_lines.proofs.DepexNoteLemmas.{leaf_depex}
 use Rattle.fv_lines.proofs.depex_notes.put_section.Goals as goal
 

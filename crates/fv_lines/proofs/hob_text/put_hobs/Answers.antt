@@ -1,4 +1,4 @@
-use Rattle.fv_lines.specs.HobLines.{HobLines, held_image}
+use Rattle.fv_lines.specs.Words.{HobLines, held_image}
 use Rattle.fv_lines.proofs.HobLemmas.{hobs_more, hobs_all}
 use Rattle.fv_text.proofs.Laws.{tells_none}
 use Rattle.fv_lines.proofs.hob_text.put_hobs.Goals as goal

@@ -1,4 +1,4 @@
-use Rattle.fv_lines.specs.HobLines.{HobLines, held_image}
+use Rattle.fv_lines.specs.Words.{HobLines, held_image}
 use Rattle.fv_text.proofs.Laws.{Tells}
 use Rattle.fv_lines.proofs.hob_text.put_hobs.Given as goal
 

@@ -1,6 +1,6 @@
 use Rattle.std.proofs.Common.{◌≡◌, ◌++◌, ℕ, List, codes, ap, sym, subst, ◌∙◌, add-one}
 use Rattle.fv_lines.specs.inner.LineRuns.{levels}
-use Rattle.fv_lines.specs.ListTexts.{spaces}
+use Rattle.fv_lines.specs.Words.{spaces}
 use Rattle.fv_lines.proofs.indent.+put_indent.Goals as goal
 
 pub returns-in-Inside : goal.returns-in-Inside

@@ -1,7 +1,7 @@
 use Rattle.std.proofs.Common.{[], ◌++◌, codes, inl, inr, refl}
 use Rattle.std.specs.List.{flat_map}
-use Rattle.fv_base.specs.Sums.{words_of}
-use Rattle.fv_lines.specs.ListTexts.{unit_text}
+use Rattle.fv_base.specs.Words.{words_of}
+use Rattle.fv_lines.specs.Words.{unit_text}
 use Rattle.fv_lines.proofs.leaf_text.put_interface.Goals as goal
 
 pub returns-in-Some : goal.returns-in-Some

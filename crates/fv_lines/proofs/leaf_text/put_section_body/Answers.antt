@@ -1,7 +1,7 @@
 use Rattle.std.proofs.Common.{◌∙◌, ℕ, [], ap, sym, subst}
 use Rattle.std.specs.Prelude.{option_map}
-use Rattle.fv_tree.specs.MeaningParts.{body_of}
-use Rattle.fv_lines.specs.ListTexts.{BodyShown}
+use Rattle.fv_tree.specs.Words.{body_of}
+use Rattle.fv_lines.specs.Words.{BodyShown}
 use Rattle.fv_lines.proofs.ListTextLemmas.{shown_leaf, shown_none}
 use Rattle.fv_lines.proofs.leaf_text.put_section_body.Goals as goal
 

@@ -1,6 +1,5 @@
 use Rattle.std.proofs.Common.{ℕ, List, [], ◌++◌, codes, inl, inr, refl, subst}
-use Rattle.fv_base.specs.Guids.{bytes_of}
-use Rattle.fv_base.specs.GuidTexts.{guid_text}
+use Rattle.fv_base.specs.Words.{bytes_of, guid_text}
 use Rattle.fv_lines.proofs.leaf_text.put_subtype.Goals as goal
 
 pub returns-in-Some : goal.returns-in-Some

@@ -1,6 +1,6 @@
 use Rattle.std.proofs.Common.{◌∷◌, ◌++◌, [], Bool, codes, sym, subst, ◌∙◌}
 use Rattle.std.specs.Prelude.{if◌then◌else◌}
-use Rattle.fv_text.specs.HexText.{four_digits}
+use Rattle.fv_text.specs.Words.{four_digits}
 use Rattle.fv_lines.proofs.leaf_text.put_unit.Goals as goal
 
 pub returns-else-is_plain : goal.returns-else-is_plain

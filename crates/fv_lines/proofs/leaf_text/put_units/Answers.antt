@@ -2,9 +2,8 @@ use Rattle.std.proofs.Common.{◌≡◌, ◌++◌, ◌∙◌, ◌-◌, ℕ, List
 use Rattle.std.proofs.Common.{append_assoc, length-drop}
 use Rattle.std.proofs.lemmas.List.{take_all}
 use Rattle.std.specs.List.{flat_map}
-use Rattle.fv_base.specs.Sums.{words_of}
-use Rattle.fv_base.specs.Value.{le_at}
-use Rattle.fv_lines.specs.ListTexts.{unit_text}
+use Rattle.fv_base.specs.Words.{words_of, le_at}
+use Rattle.fv_lines.specs.Words.{unit_text}
 use Rattle.fv_lines.proofs.ListTextLemmas.{units_next}
 use Rattle.fv_lines.proofs.leaf_text.put_units.Goals as goal
 

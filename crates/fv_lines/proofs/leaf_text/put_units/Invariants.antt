@@ -1,7 +1,7 @@
 use Rattle.std.proofs.Common.{◌≡◌, ◌++◌, ℕ, List, length}
 use Rattle.std.specs.List.{flat_map}
-use Rattle.fv_base.specs.Sums.{words_of}
-use Rattle.fv_lines.specs.ListTexts.{unit_text}
+use Rattle.fv_base.specs.Words.{words_of}
+use Rattle.fv_lines.specs.Words.{unit_text}
 use Rattle.fv_lines.proofs.leaf_text.put_units.Given as goal
 
 -- the text so far, and that of the units to come, make the whole

@@ -1,14 +1,13 @@
 use Rattle.std.proofs.Common.{◌≡◌, ◌++◌, List, [], append-nil, drop, refl, ap, arith, subst, sym}
-use Rattle.fv_tree.specs.Meaning.{FileMeaning, Meaning, SectionMeaning, content_of, head_of}
-use Rattle.fv_tree.specs.MeaningParts.{body_of, files_from, sections_from}
-use Rattle.fv_tree.specs.Volumes.{Inside, volumes_in, volumes_in_body, volumes_in_content, volumes_in_files, volumes_in_sections}
-use Rattle.fv_tree.specs.inner.Sizes.{volume_size, content_size, sections_size, body_size}
-use Rattle.fv_tree.specs.Views.{body_view, content_view}
+use Rattle.fv_tree.specs.Words.{FileMeaning, Meaning, SectionMeaning, content_of, head_of, body_of, files_from, sections_from, Inside}
+use Rattle.fv_tree.specs.Words.{volumes_in, volumes_in_body, volumes_in_content, volumes_in_files, volumes_in_sections, body_view}
+use Rattle.fv_tree.specs.Words.{content_view}
 use Rattle.fv_tree.specs.declared.view.Body.{Body}
 use Rattle.fv_tree.specs.declared.view.Content.{Content}
+use Rattle.fv_tree.specs.inner.Sizes.{volume_size, content_size, sections_size, body_size}
 use Rattle.fv_tree.proofs.Laws.{content_falls, file_falls, section_body_falls}
 use Rattle.fv_lines.specs.inner.LineRuns.{levels}
-use Rattle.fv_lines.specs.ListTexts.{Leaves, volume_text}
+use Rattle.fv_lines.specs.Words.{Leaves, volume_text}
 use Rattle.fv_lines.proofs.CoverLemmas.{covered_first, file_left, section_left}
 use Rattle.fv_lines.proofs.ListTextLemmas.{file_more, is_volume, section_more}
 use Rattle.fv_text.proofs.Laws.{tells_all}

@@ -1,7 +1,6 @@
 use Rattle.std.proofs.Common.{◌+◌, ◌*◌}
-use Rattle.fv_tree.specs.MeaningParts.{files_from, sections_from}
+use Rattle.fv_tree.specs.Words.{files_from, sections_from, body_view, content_view}
 use Rattle.fv_tree.specs.inner.Sizes.{volume_size, files_size, content_size, sections_size, body_size}
-use Rattle.fv_tree.specs.Views.{body_view, content_view}
 use Rattle.fv_lines.specs.inner.LineRuns.{levels}
 use Rattle.fv_lines.proofs.ListTextLemmas.{Walked, files_lines, held_in_files, held_in_sections, sections_lines}
 use Rattle.fv_lines.proofs.list_text.+lines.Given as goal

@@ -1,8 +1,7 @@
 use Rattle.std.proofs.Common.{◌∙◌, ℕ, List, decimal, subst}
-use Rattle.fv_base.specs.Guids.{bytes_of}
-use Rattle.fv_base.specs.GuidTexts.{guid_text}
+use Rattle.fv_base.specs.Words.{bytes_of, guid_text}
 use Rattle.fv_base.specs.declared.guid.Guid.{Guid}
-use Rattle.fv_text.specs.HexText.{two_digits}
+use Rattle.fv_text.specs.Words.{two_digits}
 use Rattle.fv_lines.proofs.ListTextLemmas.{begun}
 use Rattle.fv_lines.proofs.list_text.put_file_line.Goals as goal
 

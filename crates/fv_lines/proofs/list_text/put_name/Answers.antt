@@ -1,9 +1,8 @@
 use Rattle.std.proofs.Common.{◌≡◌, ◌++◌, ◌∙◌, List, ℕ, codes, ap, sym, subst}
 use Rattle.std.specs.Prelude.{option_copied}
-use Rattle.fv_base.specs.Guids.{bytes_of}
-use Rattle.fv_base.specs.GuidTexts.{guid_text}
+use Rattle.fv_base.specs.Words.{bytes_of, guid_text}
 use Rattle.fv_base.specs.declared.guid.Guid.{Guid}
-use Rattle.fv_lines.specs.ListTexts.{name_text}
+use Rattle.fv_lines.specs.Words.{name_text}
 use Rattle.fv_lines.proofs.list_text.put_name.Goals as goal
 
 pub returns-in-Some : goal.returns-in-Some

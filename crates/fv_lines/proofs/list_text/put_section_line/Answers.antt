@@ -1,6 +1,6 @@
 use Rattle.std.proofs.Common.{◌∙◌, ℕ, List, ap, decimal, subst}
-use Rattle.fv_lines.specs.ListTexts.{form_text}
-use Rattle.fv_text.specs.HexText.{two_digits}
+use Rattle.fv_lines.specs.Words.{form_text}
+use Rattle.fv_text.specs.Words.{two_digits}
 use Rattle.fv_lines.proofs.ListTextLemmas.{begun}
 use Rattle.fv_lines.proofs.list_text.put_section_line.Goals as goal
 

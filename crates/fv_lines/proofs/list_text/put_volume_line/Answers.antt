@@ -1,6 +1,6 @@
 use Rattle.std.proofs.Common.{◌∙◌, ℕ, List, ap, decimal, subst}
-use Rattle.fv_head.specs.Head.{HeadFields}
-use Rattle.fv_lines.specs.ListTexts.{system_text, name_text}
+use Rattle.fv_head.specs.Words.{HeadFields}
+use Rattle.fv_lines.specs.Words.{system_text, name_text}
 use Rattle.fv_lines.proofs.ListTextLemmas.{begun}
 use Rattle.fv_lines.proofs.list_text.put_volume_line.Goals as goal
 

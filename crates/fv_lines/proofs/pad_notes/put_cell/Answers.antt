@@ -1,5 +1,5 @@
 use Rattle.std.proofs.Common.{ℕ, subst}
-use Rattle.fv_lines.specs.Notes.{pad_line}
+use Rattle.fv_lines.specs.Words.{pad_line}
 use Rattle.fv_lines.proofs.pad_notes.put_cell.Goals as goal
 
 pub returns-in-Pad : goal.returns-in-Pad

@@ -1,8 +1,8 @@
 use Rattle.std.proofs.Common.{ℕ, List, map, subst, sym}
 use Rattle.std.proofs.lemmas.List.{take_all}
-use Rattle.fv_file.specs.CellForms.{cell_form}
+use Rattle.fv_file.specs.Words.{cell_form}
 use Rattle.fv_file.specs.declared.cell.Cell.{Cell}
-use Rattle.fv_lines.specs.Notes.{pad_note, pad_notes}
+use Rattle.fv_lines.specs.Words.{pad_note, pad_notes}
 use Rattle.fv_text.proofs.Laws.{seen_next}
 use Rattle.fv_lines.proofs.pad_notes.put_pad_notes.Goals as goal
 

@@ -1,6 +1,6 @@
 use Rattle.std.proofs.Common.{map, take}
-use Rattle.fv_file.specs.CellForms.{cell_form}
-use Rattle.fv_lines.specs.Notes.{pad_notes}
+use Rattle.fv_file.specs.Words.{cell_form}
+use Rattle.fv_lines.specs.Words.{pad_notes}
 use Rattle.fv_lines.proofs.pad_notes.put_pad_notes.Given as goal
 
 abbrev pub invariant-loop-cell : goal.invariant-loop-cell

@@ -1,5 +1,5 @@
 use Rattle.std.proofs.Common.{◌≡◌, take}
-use Rattle.fv_lines.specs.Notes.{written_in}
+use Rattle.fv_lines.specs.Words.{written_in}
 use Rattle.fv_lines.proofs.pad_notes.written_in.Given as goal
 
 abbrev pub invariant-loop-byte : goal.invariant-loop-byte

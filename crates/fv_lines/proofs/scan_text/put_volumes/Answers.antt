@@ -1,5 +1,5 @@
 use Rattle.std.proofs.Common.{ℕ, List, get_or, refl, sym, subst}
-use Rattle.fv_head.specs.Head.{BeginsVolume}
+use Rattle.fv_head.specs.Words.{BeginsVolume}
 use Rattle.fv_lines.proofs.ScanLemmas.{found_at, place_within, scan_more}
 use Rattle.fv_text.proofs.Laws.{tells_all}
 use Rattle.fv_lines.proofs.scan_text.put_volumes.Goals as goal

@@ -1,4 +1,4 @@
-use Rattle.fv_lines.specs.ScanLines.{ScanText}
+use Rattle.fv_lines.specs.Words.{ScanText}
 use Rattle.fv_text.proofs.Laws.{Tells}
 use Rattle.fv_lines.proofs.scan_text.put_volumes.Given as goal
 

@@ -1,5 +1,5 @@
 use Rattle.std.proofs.Common.{◌≡◌, length, rules}
-use Rattle.fv_base.specs.Value.{IsBytes}
+use Rattle.fv_base.specs.Words.{IsBytes}
 use Rattle.fv_names.proofs.name_index.numbers_in.Goals as goal
 
 pub returns-clause-whole : goal.returns-clause-whole

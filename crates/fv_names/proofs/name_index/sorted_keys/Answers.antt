@@ -4,8 +4,7 @@ use Rattle.std.specs.List.Sorted.{IsPermutation}
 use Rattle.std.proofs.lemmas.List.{get_or-map, length-map}
 use Rattle.std.proofs.lemmas.List.Elements.{All-from_all_within, All-map, AllWithin-more, AllWithin-none, recursion_from_All}
 use Rattle.std.proofs.lemmas.List.FromFn.{length-map-range_with_len, map-range_with_len_more}
-use Rattle.fv_names.specs.NamedFiles.{NamedFile, names_in}
-use Rattle.fv_names.specs.NameIndexes.{IsName, Halves, halves_of}
+use Rattle.fv_names.specs.Words.{NamedFile, names_in, IsName, Halves, halves_of}
 use Rattle.fv_names.specs.inner.NameOrders.{key_of}
 use Rattle.fv_names.proofs.IndexLaws.{no_named}
 use Rattle.fv_names.proofs.KeyLaws.{are_keys, entry_at}

@@ -1,7 +1,6 @@
 use Rattle.std.proofs.Common.{◌≡◌, ℕ, map}
 use Rattle.std.specs.List.{AllWithin, range_with_len}
-use Rattle.fv_names.specs.NamedFiles.{NamedFile}
-use Rattle.fv_names.specs.NameIndexes.{IsName}
+use Rattle.fv_names.specs.Words.{NamedFile, IsName}
 use Rattle.fv_names.specs.inner.NameOrders.{key_of}
 use Rattle.fv_names.proofs.KeyLaws.{entry_at}
 use Rattle.fv_names.proofs.name_index.sorted_keys.Given as goal

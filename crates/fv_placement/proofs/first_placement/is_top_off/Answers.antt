@@ -1,7 +1,7 @@
 use Rattle.std.proofs.Common.{◌+◌, ◌<◌, ◌≤◌, ℕ, List, length, drop, get_or, subst, sym, inl, inr, false, refl}
 use Rattle.std.specs.Prelude.{IsTrue}
 use Rattle.std.proofs.lemmas.List.{drop_more, drop_all}
-use Rattle.fv_placement.specs.NoPlacement.{TopOff, IsOff}
+use Rattle.fv_placement.specs.Words.{TopOff, IsOff}
 use Rattle.fv_placement.specs.declared.first_placement.LayoutItem.{LayoutItem}
 use Rattle.fv_placement.proofs.first_placement.is_top_off.Goals as goal
 use Rattle.fv_placement.proofs.first_placement.is_top_off.Goals.{else-item-via-then-item+else-is_off, else-item-via-else-item}

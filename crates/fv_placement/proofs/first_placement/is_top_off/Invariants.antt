@@ -1,5 +1,5 @@
 use Rattle.std.proofs.Common.{drop}
-use Rattle.fv_placement.specs.NoPlacement.{TopOff}
+use Rattle.fv_placement.specs.Words.{TopOff}
 use Rattle.fv_placement.proofs.first_placement.is_top_off.Given as goal
 
 abbrev pub invariant-loop-item : goal.invariant-loop-item

@@ -1,5 +1,5 @@
 use Rattle.std.proofs.Common.{◌≡◌, ℕ, ◌+◌, ◌-◌, ◌%◌, ◌^◌, ◌<◌, ◌≤◌}
-use Rattle.fv_placement.specs.Starts.{Lawful}
+use Rattle.fv_placement.specs.Words.{Lawful}
 use Rattle.fv_placement.specs.inner.Reaches.{Serves}
 use Rattle.fv_placement.proofs.usable_start.first_start.Given as goal
 

@@ -1,7 +1,6 @@
 use Rattle.std.proofs.Common.{◌≡◌, ◌<◌, ◌∷◌, ◌++◌, [], ℕ, List, length, map, subst, sym, true≢false, arith, rules}
 use Rattle.fv_base.proofs.Laws.{err_is}
-use Rattle.fv_section.specs.Frames.{FrameForm, Splits}
-use Rattle.fv_section.specs.StreamReads.{frame_form}
+use Rattle.fv_section.specs.Words.{FrameForm, Splits, frame_form}
 use Rattle.fv_section.proofs.FrameWalkLemmas.{whole_within}
 use Rattle.fv_section.proofs.StreamLemmas.{from_least}
 use Rattle.fv_section.proofs.frame_walk.frames.Goals as goal

@@ -1,6 +1,5 @@
 use Rattle.std.proofs.Common.{◌++◌, length, map}
-use Rattle.fv_section.specs.Frames.{Splits}
-use Rattle.fv_section.specs.StreamReads.{frame_form}
+use Rattle.fv_section.specs.Words.{Splits, frame_form}
 use Rattle.fv_section.proofs.frame_walk.frames.Given as goal
 
 -- the frames in the list and those that are left are the frames of the stream

@@ -3,8 +3,7 @@ use Rattle.fv_base.proofs.Laws.{err_is}
 use Rattle.fv_section.proofs.FrameLemmas.{size_least}
 use Rattle.fv_section.proofs.FrameWalkLemmas.{first_here, stands_within, step, whole_of}
 use Rattle.fv_section.proofs.StreamLemmas.{tail_small}
-use Rattle.fv_section.specs.Frames.{FrameForm}
-use Rattle.fv_section.specs.StreamReads.{frame_form}
+use Rattle.fv_section.specs.Words.{FrameForm, frame_form}
 use Rattle.fv_section.proofs.frame_walk.stream_size.Goals as goal
 
 pub loop-frame-init : goal.loop-frame-init

@@ -1,5 +1,5 @@
 use Rattle.std.proofs.Common.{◌≡◌, ◌≤◌, ◌-◌, min, List, length, take}
-use Rattle.fv_section.specs.Frames.{FrameForm, Splits, up_to_4}
+use Rattle.fv_section.specs.Words.{FrameForm, Splits, up_to_4}
 use Rattle.fv_section.proofs.frame_walk.stream_size.Given as goal
 
 abbrev pub invariant-loop-frame : goal.invariant-loop-frame

@@ -1,5 +1,5 @@
 use Rattle.std.proofs.Common.{◌≡◌, length}
-use Rattle.fv_base.specs.Sums.{words_of}
+use Rattle.fv_base.specs.Words.{words_of}
 use Rattle.fv_section.specs.inner.FrameVerdicts.{none_zero}
 use Rattle.fv_section.proofs.texts.none_zero.Given as goal
 

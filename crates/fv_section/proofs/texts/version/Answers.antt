@@ -1,5 +1,5 @@
 use Rattle.std.proofs.Common.{subst, sym}
-use Rattle.fv_section.specs.Texts.{IsText}
+use Rattle.fv_section.specs.Words.{IsText}
 use Rattle.fv_section.proofs.SectionTextLemmas.{version_none}
 use Rattle.fv_section.proofs.texts.version.Goals as goal
 

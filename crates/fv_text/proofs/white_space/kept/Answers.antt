@@ -2,7 +2,7 @@
 use Rattle.std.proofs.Common.{◌≡◌, ℕ, ◌<◌, Bool, true, nat_eq, get_or, List, refl, ap, ◌∙◌, arith}
 use Rattle.std.specs.Prelude.{if◌then◌else◌}
 use Rattle.std.proofs.lemmas.Bool.{agree_below, agree_below_at, eqb-true}
-use Rattle.fv_text.specs.HexIn.{is_space}
+use Rattle.fv_text.specs.Words.{is_space}
 use Rattle.fv_text.specs.declared.white_space.TheConstants.{KEPT}
 use Rattle.fv_text.proofs.white_space.kept.Goals as goal
 

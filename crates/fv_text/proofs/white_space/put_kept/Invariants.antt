@@ -1,5 +1,5 @@
 use Rattle.std.proofs.Common.{◌≡◌, ◌≤◌, ◌+◌, ◌++◌, length, take}
-use Rattle.fv_text.specs.HexIn.{squeezed}
+use Rattle.fv_text.specs.Words.{squeezed}
 use Rattle.fv_text.proofs.white_space.put_kept.Given as goal
 
 -- the text so far is put into the room, without its white space

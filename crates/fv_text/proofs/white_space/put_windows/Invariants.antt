@@ -1,5 +1,5 @@
 use Rattle.std.proofs.Common.{◌≡◌, ◌≤◌, ◌+◌, ◌*◌, ◌++◌, length, take}
-use Rattle.fv_text.specs.HexIn.{squeezed}
+use Rattle.fv_text.specs.Words.{squeezed}
 use Rattle.fv_text.proofs.white_space.put_windows.Given as goal
 
 -- the windows so far are put into the room, without their white space

@@ -3,8 +3,7 @@ use Rattle.std.specs.Prelude.{slice_get}
 use Rattle.std.specs.Option.{unwrap_or}
 use Rattle.std.proofs.lemmas.List.Folds.{find_at}
 use Rattle.std.proofs.lemmas.Option.{slice_get_past}
-use Rattle.fv_tree.specs.FileNames.{is_named}
-use Rattle.fv_tree.specs.Meaning.{files_of}
+use Rattle.fv_tree.specs.Words.{is_named, files_of}
 use Rattle.fv_tree.proofs.lookup.file_by_name.Goals as goal
 
 pub returns-in_err-number : goal.returns-in_err-number

@@ -2,9 +2,7 @@ use Rattle.std.proofs.Common.{◌∙◌, List, sym, ap, Bool, rules, tests}
 use Rattle.std.specs.Prelude.{◌==◌}
 use Rattle.std.proofs.lemmas.Iterator.{YieldsList-from_slice}
 use Rattle.std.proofs.lemmas.Iterator.Consumers.{YieldsList-from_filter}
-use Rattle.fv_tree.specs.LookupInstances.{file_of_type}
-use Rattle.fv_tree.specs.Meaning.{FileMeaning, files_of}
-use Rattle.fv_tree.specs.MeaningParts.{file_kind_of}
+use Rattle.fv_tree.specs.Words.{file_of_type, FileMeaning, files_of, file_kind_of}
 use Rattle.fv_tree.proofs.LookupLaws.{numbered_is}
 use Rattle.fv_tree.proofs.VolumePartLaws.{files_list_back}
 use Rattle.fv_tree.proofs.lookup.file_by_type.Goals as goal

@@ -2,9 +2,8 @@ use Rattle.std.proofs.Common.{◌∙◌, List, Bool, sym, ap, rules, tests}
 use Rattle.std.specs.Prelude.{◌==◌}
 use Rattle.std.proofs.lemmas.Iterator.Consumers.{YieldsList-from_filter, YieldsList-from_first}
 use Rattle.fv_base.proofs.Laws.{err_is}
-use Rattle.fv_section.specs.Frames.{FrameForm}
-use Rattle.fv_section.specs.StreamReads.{frame_form}
-use Rattle.fv_tree.specs.LookupInstances.{frame_of_type}
+use Rattle.fv_section.specs.Words.{FrameForm, frame_form}
+use Rattle.fv_tree.specs.Words.{frame_of_type}
 use Rattle.fv_tree.proofs.LookupLaws.{numbered_is}
 use Rattle.fv_tree.proofs.lookup.frame_by_type.Goals as goal
 

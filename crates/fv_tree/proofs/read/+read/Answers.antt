@@ -2,28 +2,20 @@ use Rattle.std.proofs.Common.{◌≡◌, ℕ, List, map, [], ◌∷◌, ◌++◌
 use Rattle.std.specs.Prelude.{◌⊎◌}
 use Rattle.std.proofs.lemmas.List.{length-take-le}
 use Rattle.std.proofs.lemmas.Result.{IfOk-weaker, IfErr-weaker, MatchResult-from_both}
-use Rattle.fv_base.specs.Faults.{out_of_memory}
-use Rattle.fv_base.specs.Checks.{IsFirstFault, First}
+use Rattle.fv_base.specs.Words.{out_of_memory, IsFirstFault, First, IsBytes}
 use Rattle.fv_base.specs.declared.fault.Fault.{Fault}
 use Rattle.fv_base.specs.declared.fault.Place.{Place}
 use Rattle.fv_base.specs.declared.guid.Guid.{Guid}
 use Rattle.fv_base.proofs.Laws.{bytes_take, err_is}
-use Rattle.fv_base.specs.Value.{IsBytes}
 use Rattle.fv_head.proofs.Laws.{fault_known, front_lies, first_lies}
-use Rattle.fv_head.specs.Head.{HeadFields, BeginsVolume}
-use Rattle.fv_head.specs.HeadChecks.{head_checks}
+use Rattle.fv_head.specs.Words.{HeadFields, BeginsVolume, head_checks}
 use Rattle.fv_head.specs.declared.extent.Extent.{Extent}
-use Rattle.fv_section.specs.Frames.{FrameForm}
+use Rattle.fv_section.specs.Words.{FrameForm}
 use Rattle.fv_section.specs.StreamReads as framed
 use Rattle.fv_tree.specs.inner.ReadingParts.{IsReadyFile}
-use Rattle.fv_tree.specs.Denotes.{Denotes, MeansFile, MeansSection, Stream}
-use Rattle.fv_names.specs.NameIndexes.{IsIndex, entries_of}
-use Rattle.fv_tree.specs.FirstFault.{FileFault, InStream, data_at}
-use Rattle.fv_tree.specs.Meaning.{Volume, File, SectionMeaning, Section, Group, Nested, length_of}
-use Rattle.fv_tree.specs.MeaningParts.{files_from, sections_from}
-use Rattle.fv_tree.specs.LocatedFiles.{file_form}
-use Rattle.fv_tree.specs.Views.{content_view}
-use Rattle.fv_tree.specs.VolumeFiles.{FileForm}
+use Rattle.fv_tree.specs.Words.{Denotes, MeansFile, MeansSection, Stream, FileFault, InStream, data_at, Volume, File, SectionMeaning}
+use Rattle.fv_tree.specs.Words.{Section, Group, Nested, length_of, files_from, sections_from, file_form, content_view, FileForm}
+use Rattle.fv_names.specs.Words.{IsIndex, entries_of}
 use Rattle.fv_tree.proofs.BodyLaws.{files_first}
 use Rattle.fv_tree.proofs.LengthLaws.{body_long, content_long}
 use Rattle.fv_tree.proofs.ListPairs.{of_item, kept_pairs, first_refused, all_pairs}

@@ -1,6 +1,5 @@
 use Rattle.std.proofs.Common.{◌+◌, ◌*◌, length, take, map}
-use Rattle.fv_tree.specs.Denotes.{Pairwise, MeansFile, Stream}
-use Rattle.fv_tree.specs.LocatedFiles.{file_form}
+use Rattle.fv_tree.specs.Words.{Pairwise, MeansFile, Stream, file_form}
 use Rattle.fv_tree.proofs.StreamWalkLaws.{Walked}
 use Rattle.fv_tree.proofs.read.+read.Given as goal
 

@@ -1,7 +1,6 @@
 use Rattle.std.proofs.lemmas.Result.{MatchResult-weaker}
-use Rattle.fv_base.specs.Checks.{First}
-use Rattle.fv_base.specs.Limits.{depth_limit}
-use Rattle.fv_tree.specs.FirstFault.{outermost}
+use Rattle.fv_base.specs.Words.{First, depth_limit}
+use Rattle.fv_tree.specs.Words.{outermost}
 use Rattle.fv_tree.proofs.FaultLaws.{fault_stands}
 use Rattle.fv_tree.proofs.FaultPlaceLaws.{refused_within}
 use Rattle.fv_tree.proofs.FirstLaws.{only_answer, one_answer, sound_answer}

@@ -1,9 +1,8 @@
 use Rattle.std.proofs.Common.{◌≡◌, ◌≤◌, ◌∙◌, ℕ, length, drop, arith, map, sym, ap, subst, inr, rules}
 use Rattle.std.specs.List.{AllByRecursion}
-use Rattle.fv_base.specs.Value.{IsBytes}
-use Rattle.fv_file.specs.CellForms.{CellsWithin}
-use Rattle.fv_tree.specs.LocatedFiles.{file_form}
-use Rattle.fv_tree.specs.VolumeFiles.{FileForm, files_in}
+use Rattle.fv_base.specs.Words.{IsBytes}
+use Rattle.fv_file.specs.Words.{CellsWithin}
+use Rattle.fv_tree.specs.Words.{file_form, FileForm, files_in}
 use Rattle.fv_tree.specs.inner.ReadingParts.{IsSmallCell}
 use Rattle.std.proofs.lemmas.List.{length-drop, length-map}
 use Rattle.fv_file.proofs.Laws.{cells_few}

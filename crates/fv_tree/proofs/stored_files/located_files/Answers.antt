@@ -1,9 +1,9 @@
 use Rattle.std.proofs.Common.{map, ap}
 use Rattle.fv_base.proofs.Laws.{err_is}
-use Rattle.fv_base.specs.Checks.{First}
+use Rattle.fv_base.specs.Words.{First}
 use Rattle.fv_base.specs.declared.fault.Fault.{Fault}
 use Rattle.fv_head.proofs.Laws.{fault_known}
-use Rattle.fv_tree.specs.LocatedFiles.{file_form}
+use Rattle.fv_tree.specs.Words.{file_form}
 use Rattle.fv_tree.proofs.LocatedLaws.{located_data, located_stand}
 use Rattle.fv_tree.proofs.MeaningLaws.{one_stand}
 use Rattle.fv_tree.proofs.RefusalLaws.{files_refused}

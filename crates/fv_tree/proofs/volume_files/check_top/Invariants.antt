@@ -1,7 +1,6 @@
 use Rattle.std.proofs.Common.{◌≡◌, ◌+◌, ◌<◌, map, take, length, false}
 use Rattle.std.specs.List.{AllByRecursion}
-use Rattle.fv_tree.specs.LocatedFiles.{file_form}
-use Rattle.fv_tree.specs.VolumeFiles.{is_top, TopAtEnd}
+use Rattle.fv_tree.specs.Words.{file_form, is_top, TopAtEnd}
 use Rattle.fv_tree.proofs.volume_files.check_top.Given as goal
 
 abbrev pub invariant-loop-file : goal.invariant-loop-file

@@ -3,8 +3,7 @@ use Rattle.std.proofs.lemmas.List.{get_or-map, length-map, map_push}
 use Rattle.fv_base.proofs.Laws.{at_index}
 use Rattle.fv_file.specs.CellForms as cellular
 use Rattle.fv_file.specs.declared.cell.Cell.{Cell}
-use Rattle.fv_tree.specs.LocatedFiles.{file_form}
-use Rattle.fv_tree.specs.VolumeFiles.{files_in}
+use Rattle.fv_tree.specs.Words.{file_form, files_in}
 use Rattle.fv_tree.specs.inner.ReadingParts.{IsSmallCell}
 use Rattle.fv_tree.proofs.NameLaws.{files_in_items}
 use Rattle.fv_tree.proofs.SmallCellLaws.{no_cell}

@@ -1,7 +1,6 @@
 use Rattle.std.proofs.Common.{◌≡◌, map, take}
 use Rattle.fv_file.specs.CellForms as cellular
-use Rattle.fv_tree.specs.LocatedFiles.{file_form}
-use Rattle.fv_tree.specs.VolumeFiles.{files_in}
+use Rattle.fv_tree.specs.Words.{file_form, files_in}
 use Rattle.fv_tree.proofs.volume_files.files_of.Given as goal
 
 abbrev pub invariant-loop-cell : goal.invariant-loop-cell

@@ -4,10 +4,9 @@ use Rattle.std.specs.List.{All, list_any, filter}
 use Rattle.std.proofs.lemmas.Fn.{filter_same}
 use Rattle.std.proofs.lemmas.List.{length-map}
 use Rattle.fv_base.proofs.Laws.{in_place, kept_noted}
-use Rattle.fv_tree.specs.LocatedFiles.{file_form}
-use Rattle.fv_tree.specs.VolumeFiles.{FileForm, replaced_by}
-use Rattle.fv_tree.specs.inner.ReadingParts.{is_noted}
+use Rattle.fv_tree.specs.Words.{file_form, FileForm, replaced_by}
 use Rattle.fv_tree.specs.declared.volume_files.LocatedFile.{LocatedFile}
+use Rattle.fv_tree.specs.inner.ReadingParts.{is_noted}
 use Rattle.fv_tree.proofs.volume_files.keep_current.Goals as goal
 
 pub returns : goal.returns

@@ -4,15 +4,13 @@ use Rattle.std.specs.List.{list_any}
 use Rattle.std.proofs.lemmas.Bool.{cases_eq, cases_lt}
 use Rattle.std.proofs.lemmas.List.{get_or-map, get_or-set_same, get_or-set_other, length-map, map-set, set-get_or}
 use Rattle.fv_names.specs.NamedFiles as names
-use Rattle.fv_names.specs.NamedFiles.{NamedFile, names_in}
-use Rattle.fv_names.specs.NameIndexes.{Entry, IsIndex, entries_of}
+use Rattle.fv_names.specs.Words.{NamedFile, names_in, Entry, IsIndex, entries_of}
 use Rattle.fv_names.proofs.Laws.{entry_of, no_entry, no_named}
-use Rattle.fv_tree.specs.LocatedFiles.{file_form, state_by}
-use Rattle.fv_tree.specs.VolumeFiles.{FileForm, NoTwins, is_marked, replaced_by}
-use Rattle.fv_tree.specs.inner.NameForms.{named_file}
-use Rattle.fv_tree.specs.inner.ReadingParts.{is_noted}
+use Rattle.fv_tree.specs.Words.{file_form, state_by, FileForm, NoTwins, is_marked, replaced_by}
 use Rattle.fv_tree.specs.declared.volume_files.LocatedFile.{LocatedFile}
 use Rattle.fv_tree.specs.declared.volume_files.Mark.{Mark}
+use Rattle.fv_tree.specs.inner.NameForms.{named_file}
+use Rattle.fv_tree.specs.inner.ReadingParts.{is_noted}
 use Rattle.fv_tree.proofs.NamedLaws.{file_within, no_file, replaced_at, replaced_marked, same_named, twins_to}
 use Rattle.fv_tree.proofs.volume_files.set_replaced.Goals as goal
 

@@ -1,10 +1,9 @@
 use Rattle.std.proofs.Common.{◌≡◌, ◌<◌, ℕ, map, get_or}
 use Rattle.std.specs.List.{list_any}
-use Rattle.fv_names.specs.NameIndexes.{Entry, entries_of}
-use Rattle.fv_tree.specs.LocatedFiles.{file_form}
-use Rattle.fv_tree.specs.VolumeFiles.{FileForm, replaced_by}
-use Rattle.fv_tree.specs.inner.ReadingParts.{is_noted}
+use Rattle.fv_names.specs.Words.{Entry, entries_of}
+use Rattle.fv_tree.specs.Words.{file_form, FileForm, replaced_by}
 use Rattle.fv_tree.specs.declared.volume_files.LocatedFile.{LocatedFile}
+use Rattle.fv_tree.specs.inner.ReadingParts.{is_noted}
 use Rattle.fv_tree.proofs.volume_files.set_replaced.Given as goal
 
 abbrev pub invariant-loop-place : goal.invariant-loop-place

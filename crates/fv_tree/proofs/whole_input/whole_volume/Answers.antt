@@ -1,11 +1,9 @@
 use Rattle.std.proofs.Common.{◌≢◌, inl, inr, subst, sym}
 use Rattle.std.specs.Prelude.{IfErr}
 use Rattle.fv_base.proofs.Laws.{err_is}
-use Rattle.fv_base.specs.Faults.{out_of_memory}
-use Rattle.fv_tree.specs.Meaning.{head_of}
+use Rattle.fv_base.specs.Words.{out_of_memory, depth_limit}
+use Rattle.fv_tree.specs.Words.{head_of, FaultStandsInInput}
 use Rattle.fv_tree.proofs.VolumePartLaws.{front_of}
-use Rattle.fv_base.specs.Limits.{depth_limit}
-use Rattle.fv_tree.specs.InputFaults.{FaultStandsInInput}
 use Rattle.fv_tree.proofs.WholeInputLaws.{volume_refused, goes_on, end_refused, end_found, end_only, stood_kind}
 use Rattle.fv_tree.proofs.whole_input.whole_volume.Goals as goal
 

@@ -1,5 +1,5 @@
 use Rattle.std.proofs.Common.{◌≡◌, ◌∙◌, ℕ, List, sym, ap, subst, length, rules, Some}
-use Rattle.fv_base.specs.GuidTexts.{guid_read}
+use Rattle.fv_base.specs.Words.{guid_read}
 use Rattle.fv_base.proofs.GuidLemmas.{text_is, text_length, reads_again}
 use Rattle.fv_base.proofs.guid.Guid.text.Goals as goal
 

@@ -1,7 +1,7 @@
 use Rattle.std.proofs.Common.{subst, sym}
 use Rattle.std.specs.Prelude.{◌++◌, drop}
-use Rattle.fv_canon.specs.LayoutForms.{BeginsWithStarts}
-use Rattle.fv_tree.specs.Volumes.{volumes_in}
+use Rattle.fv_canon.specs.Words.{BeginsWithStarts}
+use Rattle.fv_tree.specs.Words.{volumes_in}
 use Rattle.fv_command.proofs.image_digests.ImageDigestsDigests.inside.Goals as goal
 
 pub returns : goal.returns

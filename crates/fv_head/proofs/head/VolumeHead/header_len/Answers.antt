@@ -1,7 +1,6 @@
 use Rattle.std.proofs.Common.{arith, ap, length, ◌≤◌, subst}
-use Rattle.fv_base.specs.Limits.{header_limit}
-use Rattle.fv_head.specs.Head.{HeadFields, header_len_of}
-use Rattle.fv_head.specs.HeadView.{fields_held}
+use Rattle.fv_base.specs.Words.{header_limit}
+use Rattle.fv_head.specs.Words.{HeadFields, header_len_of, fields_held}
 use Rattle.fv_head.proofs.HeadImageLemmas.{header_len_most}
 use Rattle.fv_head.proofs.head.VolumeHead.header_len.Goals as goal
 

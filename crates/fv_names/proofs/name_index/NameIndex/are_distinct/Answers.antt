@@ -3,7 +3,7 @@ use Rattle.std.specs.Prelude.{◌==◌, ◌&&◌}
 use Rattle.std.proofs.lemmas.Bool.{cases_lt}
 use Rattle.std.proofs.lemmas.Bool.Decides.{not_from_Decides}
 use Rattle.std.proofs.lemmas.List.{get_or_default}
-use Rattle.fv_names.specs.NameIndexes.{Entry}
+use Rattle.fv_names.specs.Words.{Entry}
 use Rattle.fv_names.proofs.EntryOrderLaws.{halves_decide}
 use Rattle.fv_names.proofs.name_index.NameIndex.are_distinct.Goals as goal
 

@@ -1,6 +1,6 @@
 use Rattle.std.proofs.Common.{◌<◌, ◌-◌, ℕ, get_or}
 use Rattle.std.specs.Prelude.{◌≢◌}
-use Rattle.fv_names.specs.NameIndexes.{Entry}
+use Rattle.fv_names.specs.Words.{Entry}
 use Rattle.fv_names.proofs.name_index.NameIndex.are_distinct.Given as goal
 
 abbrev pub invariant-loop-next : goal.invariant-loop-next

@@ -2,8 +2,7 @@ use Rattle.std.proofs.Common.{◌≡◌, ◌<◌, ◌≤◌, ◌⊎◌, ◌+◌,
 use Rattle.std.specs.List.{list_any}
 use Rattle.std.proofs.lemmas.Bool.{cases_lt}
 use Rattle.std.proofs.lemmas.List.{get_or_default, length-map}
-use Rattle.fv_names.specs.NamedFiles.{NamedFile, is_twin}
-use Rattle.fv_names.specs.NameIndexes.{Entry}
+use Rattle.fv_names.specs.Words.{NamedFile, is_twin, Entry}
 use Rattle.fv_names.specs.inner.NameOrders.{IsTwinAt}
 use Rattle.fv_names.proofs.IndexLaws.{no_entry, no_named}
 use Rattle.fv_names.proofs.NeighbourLaws.{first_none, twin_before}

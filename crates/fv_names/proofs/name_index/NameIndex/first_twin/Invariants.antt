@@ -1,7 +1,6 @@
 use Rattle.std.proofs.Common.{◌≡◌, ◌<◌, ◌≤◌, ℕ, length, map, take, get_or, true}
 use Rattle.std.specs.List.{list_any}
-use Rattle.fv_names.specs.NamedFiles.{NamedFile, is_twin}
-use Rattle.fv_names.specs.NameIndexes.{Entry}
+use Rattle.fv_names.specs.Words.{NamedFile, is_twin, Entry}
 use Rattle.fv_names.specs.inner.NameOrders.{IsTwinAt}
 use Rattle.fv_names.proofs.name_index.NameIndex.first_twin.Given as goal
 

@@ -6,7 +6,7 @@ use Rattle.std.specs.Ordering.{ordering_index}
 use Rattle.std.specs.declared.cmp.Ordering.TheVariants.{Less, Equal, Greater}
 use Rattle.std.proofs.lemmas.Bool.Decides.{not_from_Decides}
 use Rattle.std.proofs.lemmas.List.{get_or_default}
-use Rattle.fv_names.specs.NameIndexes.{Entry, Halves, entry_cmp, halves_of}
+use Rattle.fv_names.specs.Words.{Entry, Halves, entry_cmp, halves_of}
 use Rattle.fv_names.proofs.EntryOrderLaws.{halves_decide}
 use Rattle.fv_names.proofs.IndexLaws.{found_first, found_there, found_none, rises}
 use Rattle.fv_names.proofs.name_index.NameIndex.get.Goals as goal

@@ -1,7 +1,6 @@
 use Rattle.std.proofs.Common.{◌≡◌, ◌<◌, List, length, map, get_or, ap, ◌∙◌, arith, rules}
 use Rattle.std.proofs.lemmas.List.{get_or_default}
-use Rattle.fv_names.specs.NamedFiles.{NamedFile}
-use Rattle.fv_names.specs.NameIndexes.{Entry}
+use Rattle.fv_names.specs.Words.{NamedFile, Entry}
 use Rattle.fv_names.specs.inner.NameOrders.{mark_at}
 use Rattle.fv_names.proofs.NeighbourLaws.{alone_kept, file_within, marked_replaced}
 use Rattle.fv_names.proofs.name_index.NameIndex.is_replaced.Goals as goal

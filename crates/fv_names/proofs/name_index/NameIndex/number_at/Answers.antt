@@ -1,6 +1,6 @@
 use Rattle.std.proofs.Common.{ap, ◌∙◌}
 use Rattle.std.proofs.lemmas.List.{get_or_default}
-use Rattle.fv_names.specs.NameIndexes.{Entry, entries_of}
+use Rattle.fv_names.specs.Words.{Entry, entries_of}
 use Rattle.fv_names.proofs.name_index.NameIndex.number_at.Goals as goal
 
 pub returns : goal.returns

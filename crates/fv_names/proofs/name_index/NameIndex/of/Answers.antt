@@ -2,8 +2,7 @@ use Rattle.std.proofs.Common.{◌≡◌, ◌<◌, ◌≤◌, ◌%◌, ◌^◌, �
 use Rattle.std.specs.List.Sorted.{IsPermutation}
 use Rattle.std.proofs.lemmas.List.{length-map, map_more, take_all}
 use Rattle.std.proofs.lemmas.List.Sorted.{IsPermutation-trans}
-use Rattle.fv_names.specs.NamedFiles.{NamedFile, names_in}
-use Rattle.fv_names.specs.NameIndexes.{Entry, numbered}
+use Rattle.fv_names.specs.Words.{NamedFile, names_in, Entry, numbered}
 use Rattle.fv_names.specs.inner.NameOrders.{key_of}
 use Rattle.fv_names.proofs.IndexLaws.{no_named}
 use Rattle.fv_names.proofs.KeyLaws.{entry_at, key_within, keyed_all}

@@ -1,6 +1,6 @@
 use Rattle.std.proofs.Common.{ℕ, List, length, take, drop, ◌≤◌, arith, subst, sym, length-drop}
 use Rattle.std.proofs.Math.Seq.{take-add}
-use Rattle.fv_text.specs.SinkAdapters.{Lined}
+use Rattle.fv_text.specs.Words.{Lined}
 use Rattle.fv_text.specs.inner.SinkAdapterLaws.{lined_joined}
 use Rattle.fv_text.proofs.hex_lines.HexSinkSink.put.Goals as goal
 

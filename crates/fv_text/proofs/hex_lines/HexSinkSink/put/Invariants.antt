@@ -1,5 +1,5 @@
 use Rattle.std.proofs.Common.{length, ◌-◌, ◌≤◌, take}
-use Rattle.fv_text.specs.SinkAdapters.{HexTakes}
+use Rattle.fv_text.specs.Words.{HexTakes}
 use Rattle.fv_text.proofs.hex_lines.HexSinkSink.put.Given as goal
 
 abbrev pub invariant-loop-at : goal.invariant-loop-at

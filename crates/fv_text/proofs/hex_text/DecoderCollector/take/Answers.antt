@@ -1,7 +1,6 @@
 use Rattle.std.proofs.Common.{◌≡◌, ◌≤◌, ◌+◌, ◌++◌, ◌∷◌, ◌∙◌, [], List, ℕ, length, length-append, ap, arith}
-use Rattle.fv_base.specs.Input.{read_limit}
-use Rattle.fv_base.specs.Limits.{volume_limit}
-use Rattle.fv_text.specs.HexIn.{squeezed}
+use Rattle.fv_base.specs.Words.{read_limit, volume_limit}
+use Rattle.fv_text.specs.Words.{squeezed}
 use Rattle.fv_text.proofs.WhiteSpaceLemmas.{squeezed_short}
 use Rattle.fv_text.proofs.HexInLemmas.{stays_wrong, taken, taken_wrong}
 use Rattle.fv_text.proofs.hex_text.DecoderCollector.take.Goals as goal

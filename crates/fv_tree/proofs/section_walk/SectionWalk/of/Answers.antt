@@ -1,6 +1,5 @@
 use Rattle.std.proofs.Common.{◌∙◌, sym, ap, subst}
-use Rattle.fv_tree.specs.LookupInstances.{preorder}
-use Rattle.fv_tree.specs.SectionWalks.{AreLevels, left_in}
+use Rattle.fv_tree.specs.Words.{preorder, AreLevels, left_in}
 use Rattle.fv_tree.proofs.SectionWalkLaws.{file_nests}
 use Rattle.fv_tree.proofs.section_walk.SectionWalk.of.Goals as goal
 

@@ -1,6 +1,6 @@
 use Rattle.std.proofs.Common.{◌∙◌, ◌∷◌, ◌++◌, [], length, length-append, refl, sym, ap, subst, arith, rules}
 use Rattle.std.proofs.lemmas.List.{nil_from_length}
-use Rattle.fv_tree.specs.SectionWalks.{AreLevels, left_in}
+use Rattle.fv_tree.specs.Words.{AreLevels, left_in}
 use Rattle.fv_tree.proofs.SectionWalkLaws.{levels_less, next_are, next_fits, next_left, none_left}
 use Rattle.fv_tree.proofs.section_walk.SectionWalkIterator.next.Goals as goal
 

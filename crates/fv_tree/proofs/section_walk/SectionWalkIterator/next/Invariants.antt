@@ -1,5 +1,5 @@
 use Rattle.std.proofs.Common.{◌≡◌, length}
-use Rattle.fv_tree.specs.SectionWalks.{AreLevels, left_in}
+use Rattle.fv_tree.specs.Words.{AreLevels, left_in}
 use Rattle.fv_tree.proofs.section_walk.SectionWalkIterator.next.Given as goal
 
 -- no section was taken yet

@@ -1,6 +1,5 @@
 use Rattle.std.proofs.Common.{length, ap, arith}
-use Rattle.fv_tree.specs.Meaning.{Volume}
-use Rattle.fv_tree.specs.MeaningParts.{files_from}
+use Rattle.fv_tree.specs.Words.{Volume, files_from}
 use Rattle.fv_tree.proofs.FileCountLaws.{few_of}
 use Rattle.fv_tree.proofs.VolumePartLaws.{files_list_back}
 use Rattle.fv_tree.proofs.view.VolumeView.file_count.Goals as goal

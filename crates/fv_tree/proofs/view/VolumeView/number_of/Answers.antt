@@ -1,5 +1,5 @@
 use Rattle.std.proofs.Common.{map}
-use Rattle.fv_tree.specs.Meaning.{file_name_of}
+use Rattle.fv_tree.specs.Words.{file_name_of}
 use Rattle.fv_tree.proofs.NamedLaws.{looked_up}
 use Rattle.fv_tree.proofs.VolumePartLaws.{files_list_back}
 use Rattle.fv_tree.proofs.view.VolumeView.number_of.Goals as goal

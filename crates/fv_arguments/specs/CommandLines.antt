@@ -1,0 +1,154 @@
+-- What a command line asks for.
+use Rattle.std.specs.Prelude.{◌≡◌, ◌<◌, ◌≤◌, ◌^◌, ◌++◌, ◌⊎◌, ℕ, true, false, List, [], ◌∷◌, length}
+use Rattle.std.specs.Prelude.{Option, Some, None, IsSomeAnd, String, codes, option_and_then, option_map}
+use Rattle.std.specs.Str.Parse.{IsNumeral, digits_value, without_leading_plus}
+use Rattle.std.specs.Global.{Global}
+use Rattle.std.specs.String.{string_bytes}
+use Rattle.clap.specs.Words.{App}
+use Rattle.fv_base.specs.Words.{guid_read}
+use Rattle.fv_plan.specs.declared.plan.Part.{Part}
+use Rattle.fv_plan.specs.declared.plan.Command.{Command}
+use Rattle.fv_plan.specs.declared.plan.ImageFile.{ImageFile}
+use Rattle.fv_plan.specs.declared.plan.Plan.{Plan}
+use Rattle.fv_plan.specs.declared.plan.VolumeFile.{VolumeFile}
+use Rattle.fv_plan.specs.declared.plan.Task.{Task}
+use Rattle.fv_arguments.specs.Options.{compare_app, extract_app, faults_in, flag_in, hobs_app, list_app, normalise_app, one_input_app}
+use Rattle.fv_arguments.specs.Options.{text_in, volume_app}
+use Rattle.fv_plan.specs.declared.plan.Command.TheVariants.{Single, Hobs, Compare}
+use Rattle.fv_plan.specs.declared.plan.Task.TheVariants.{Normalise, NormaliseAll, List as Listing, ListSums, Extract, Check}
+use Rattle.fv_plan.specs.declared.plan.Task.TheVariants.{Cells, Scan}
+
+-- with no arguments: hexadecimal text from standard input is normalised
+abbrev pub plan_without_words : Plan
+plan_without_words = record { hex = true; command = Single Normalise None None }
+
+-- the argument that names a task, and the one that names a command
+abbrev pub task_name : Task → List ℕ
+task_name Normalise = codes "normalise"
+task_name NormaliseAll = codes "normalise"
+task_name Listing = codes "list"
+task_name ListSums = codes "list"
+task_name (Extract part) = codes "extract"
+task_name Check = codes "check"
+task_name Cells = codes "cells"
+task_name Scan = codes "scan"
+
+abbrev pub command_name : Command → List ℕ
+command_name (Single task at file) = task_name task
+command_name (Hobs file image) = codes "hobs"
+command_name (Compare first second) = codes "compare"
+
+-- the options of the command
+abbrev pub task_app : Task → App
+task_app Normalise = normalise_app
+task_app NormaliseAll = normalise_app
+task_app Listing = list_app
+task_app ListSums = list_app
+task_app (Extract part) = extract_app
+task_app Check = volume_app
+task_app Cells = volume_app
+task_app Scan = one_input_app
+
+abbrev pub command_app : Command → App
+command_app (Single task at file) = task_app task
+command_app (Hobs file image) = hobs_app
+command_app (Compare first second) = compare_app
+
+-- the type of a section is that of one or two hexadecimal digits, if these are given
+abbrev pub IsSectionTypeWord : Option (List ℕ) → Option ℕ → Type 0
+IsSectionTypeWord None kind = kind ≡ None
+IsSectionTypeWord (Some text) kind = IsNumeral 16 text × (length text ≤ 2) × (kind ≡ Some (digits_value 16 text))
+
+-- the digits spell n in this radix, and it has at most `bits` bits
+abbrev pub IsNumeralOf : (radix bits : ℕ) → List ℕ → ℕ → Type 0
+IsNumeralOf radix bits digits n = IsNumeral radix digits × (n ≡ digits_value radix digits) × (n < 2 ^ bits)
+
+-- the text is a decimal number, perhaps with a plus before it
+abbrev pub IsNumberWord : ℕ → List ℕ → ℕ → Type 0
+IsNumberWord bits text n = IsNumeralOf 10 bits (without_leading_plus text) n
+
+-- which of the sections it is; the first if nothing is given
+abbrev pub IsInstanceWord : Option (List ℕ) → ℕ → Type 0
+IsInstanceWord None n = n ≡ 1
+IsInstanceWord (Some text) n = IsNumberWord 32 text n
+
+-- a part of a volume: a file whose name is read as a GUID, the type of a section, and which of these sections it is
+pub record IsPartBy (name section which : Option (List ℕ)) (part : Part) : Type 0 where
+  pub name_is : option_and_then guid_read name ≡ Some part.name
+  pub section_is : IsSectionTypeWord section part.section
+  pub instance_is : IsInstanceWord which part.instance
+
+-- a named image with its base, the address of its first byte: both are given, or neither
+abbrev pub IsImageWords : (path base : Option (List ℕ)) → Option ImageFile → Type 0
+IsImageWords path base None = (path ≡ None) × (base ≡ None)
+IsImageWords path base (Some image) =
+    (path ≡ Some (string_bytes image.path)) × IsSomeAnd base (λ text. IsNumberWord 64 text image.base)
+
+-- the byte at which a volume begins: a decimal number, or `0x` and a hexadecimal one
+abbrev pub IsPlaceWord : List ℕ → ℕ → Type 0
+IsPlaceWord text n =
+    IsNumberWord 64 text n ⊎ ((digits : List ℕ) × (text ≡ codes "0x" ++ digits) × IsNumeralOf 16 64 digits n)
+
+-- that byte, if it is given
+abbrev pub IsAtWord : Option (List ℕ) → Option ℕ → Type 0
+IsAtWord None at = at ≡ None
+IsAtWord (Some text) None = ⊥
+IsAtWord (Some text) (Some n) = IsPlaceWord text n
+
+-- a named file and the byte at which the volume begins in it
+abbrev pub IsVolumeWords : (path at : Option (List ℕ)) → VolumeFile → Type 0
+IsVolumeWords path at volume = (Some (string_bytes volume.path) ≡ path) × IsAtWord at volume.at
+
+-- a named file, if one is given
+abbrev pub IsFileWord : Option (List ℕ) → Option (String Global) → Type 0
+IsFileWord text file = option_map string_bytes file ≡ text
+
+-- the input of a command: the file, and the byte at which the volume begins
+abbrev pub HasInput : App → List (List ℕ) → Option ℕ → Option (String Global) → Type 0
+HasInput app rest at file = IsAtWord (text_in app (codes "at") rest) at × IsFileWord (text_in app (codes "file") rest) file
+
+-- the texts of a task, and those of a command, are those that the parser finds; a flag says which of two tasks of one
+-- name it is, `--all` or `--sums`; with `--all` no byte is given
+abbrev pub HasTaskTexts : List (List ℕ) → Task → Option ℕ → Option (String Global) → Type 0
+HasTaskTexts rest Normalise at file =
+    (flag_in normalise_app (codes "all") rest ≡ false) × HasInput normalise_app rest at file
+HasTaskTexts rest NormaliseAll at file =
+    (flag_in normalise_app (codes "all") rest ≡ true) × (at ≡ None) × HasInput normalise_app rest at file
+HasTaskTexts rest Listing at file =
+    (flag_in list_app (codes "sums") rest ≡ false) × HasInput list_app rest at file
+HasTaskTexts rest ListSums at file =
+    (flag_in list_app (codes "sums") rest ≡ true) × HasInput list_app rest at file
+HasTaskTexts rest (Extract part) at file =
+    HasInput extract_app rest at file
+    × IsPartBy (text_in extract_app (codes "name") rest) (text_in extract_app (codes "section") rest)
+    (text_in extract_app (codes "instance") rest) part
+HasTaskTexts rest Check at file = HasInput volume_app rest at file
+HasTaskTexts rest Cells at file = HasInput volume_app rest at file
+HasTaskTexts rest Scan at file = (at ≡ None) × IsFileWord (text_in one_input_app (codes "file") rest) file
+
+abbrev pub HasTexts : List (List ℕ) → Command → Type 0
+HasTexts rest (Single task at file) = HasTaskTexts rest task at file
+HasTexts rest (Hobs file image) =
+    IsFileWord (text_in hobs_app (codes "file") rest) file
+    × IsImageWords (text_in hobs_app (codes "image") rest) (text_in hobs_app (codes "base") rest) image
+HasTexts rest (Compare first second) =
+    IsVolumeWords (text_in compare_app (codes "first") rest) (text_in compare_app (codes "at") rest) first
+    × IsVolumeWords (text_in compare_app (codes "second") rest) (text_in compare_app (codes "other-at") rest) second
+
+-- the plan is that of the command that the first argument names; the parser finds no fault in the arguments after it,
+-- and inputs are text if the flag `--hex` is given
+pub record AsksBy (name : List ℕ) (rest : List (List ℕ)) (plan : Plan) : Type 0 where
+  pub command : name ≡ command_name plan.command
+  pub taken : faults_in (command_app plan.command) rest ≡ []
+  pub hex : plan.hex ≡ flag_in (command_app plan.command) (codes "hex") rest
+  pub texts : HasTexts rest plan.command
+
+-- the same for a whole command line, whose first argument is the program's name
+abbrev pub Asks : List (List ℕ) → Plan → Type 0
+Asks [] plan = plan ≡ plan_without_words
+Asks (program ∷ []) plan = plan ≡ plan_without_words
+Asks (program ∷ name ∷ rest) plan = AsksBy name rest plan
+
+-- the arguments of a command line are right if there is a plan that they ask for
+abbrev pub AreRight : List (List ℕ) → Type 0
+AreRight words = (plan : Plan) × Asks words plan

@@ -1,0 +1,13 @@
+-- The door of this crate: all that its specs define for other crates.
+pub use Rattle.fv_command.specs.Extractions.{IsSectionPart, IsFramePart, IsSectionOf, IsFilePart, IsPart, StopsFilePart}
+pub use Rattle.fv_command.specs.Extractions.{StopsPart}
+pub use Rattle.fv_command.specs.Endings.{exit_code, FlushFails, Ends, numbered_line, fault_line, hob_fault_line}
+pub use Rattle.fv_command.specs.Endings.{side_fault_line, refusal_line}
+pub use Rattle.fv_command.specs.RunInputs.{Gives, At, TakenAt, GivesAt, GivingStops, BeginsWith, BeginsNone}
+pub use Rattle.fv_command.specs.PairRuns.{GivesImage, HobImageStops, ListsHobs, HobInputStops, RefusesHobs, SaysHobs}
+pub use Rattle.fv_command.specs.PairRuns.{StopsHobs, GivesVolume, VolumeInputStops, SideStops, IsVerdict}
+pub use Rattle.fv_command.specs.PairRuns.{SaysComparison}
+pub use Rattle.fv_command.specs.Tasks.{AreCells, CheckText, VolumeDigest, FileDigest, SumsText, PartText, Says, Denies}
+pub use Rattle.fv_command.specs.Tasks.{StopsTask, SaysTask}
+pub use Rattle.fv_command.specs.PlanRuns.{unread, IsOpened, IsFirstSource, IsSecondSource, SaysCommand, StopsCommand}
+pub use Rattle.fv_command.specs.PlanRuns.{HasText, Runs, fresh, RunsOver}

@@ -1,0 +1,7 @@
+-- The door of this crate: all that its specs define for other crates.
+pub use Rattle.fv_text.specs.HexText.{line_feed, two_digits, four_digits, line_text, lines_text, last_text, IsWholeLine}
+pub use Rattle.fv_text.specs.HexText.{IsHexText, ShowsBytes}
+pub use Rattle.fv_text.specs.PortViews.{Shown, seen, shown, Change, change, Ports, Writes, StopsIn}
+pub use Rattle.fv_text.specs.HexIn.{is_space, squeezed, IsPair, DigitsSpell, text_limit, SpellsWhole, IsNoText}
+pub use Rattle.fv_text.specs.HexIn.{IsLongText, RefusesText, TextStops}
+pub use Rattle.fv_text.specs.SinkAdapters.{LentTakes, Gathered, GatheringTakes, Lined, HexTakes}

@@ -1,0 +1,29 @@
+-- The door of this crate: all that its specs define for other crates.
+pub use Rattle.fv_tree.specs.Meaning.{Meaning, Volume, FileMeanings, NoFiles, MoreFiles, FileMeaning, File}
+pub use Rattle.fv_tree.specs.Meaning.{ContentMeaning, Plain, Sectioned, SectionMeanings, NoSections, MoreSections}
+pub use Rattle.fv_tree.specs.Meaning.{SectionMeaning, Section, BodyMeaning, Leaf, Group, Nested, files_list}
+pub use Rattle.fv_tree.specs.Meaning.{sections_list, head_of, files_of, length_of, file_name_of, attributes_of}
+pub use Rattle.fv_tree.specs.Meaning.{content_of, body_len, sections_end, section_len, content_len, data_len_of}
+pub use Rattle.fv_tree.specs.VolumeFiles.{FileForm, files_in, is_marked, same_name, is_twin, NoTwins, replaced_by}
+pub use Rattle.fv_tree.specs.VolumeFiles.{current_in, top_name, is_top, end_of, TopAtEnd, AreCurrent}
+pub use Rattle.fv_tree.specs.Denotes.{group_kind, volume_kind, Opens, holds_sections, Pairwise, SectionRelation}
+pub use Rattle.fv_tree.specs.Denotes.{StreamRelation, VolumeRelation, StreamOver, MeansContent, MeansFile, VolumeOver}
+pub use Rattle.fv_tree.specs.Denotes.{MeansBody, SectionOver, MeansSection, Stream, Denotes, Accepted, IsMeaning}
+pub use Rattle.fv_tree.specs.MeaningParts.{files_from, sections_from, file_kind_of, plain_of, section_kind_of}
+pub use Rattle.fv_tree.specs.MeaningParts.{section_is_extended, body_of, leaf_of, sections_in_data, sections_in}
+pub use Rattle.fv_tree.specs.Volumes.{Inside, deeper, volumes_in, volumes_in_files, volumes_in_file, volumes_in_content}
+pub use Rattle.fv_tree.specs.Volumes.{volumes_in_sections, volumes_in_section, volumes_in_body}
+pub use Rattle.fv_tree.specs.ReadParts.{IsStoredFile, IsReadFile, IsStoredFrame, IsReadSection}
+pub use Rattle.fv_tree.specs.FirstFault.{moved_fault, Moved, body_place, data_place, body_at, data_at, Faulty}
+pub use Rattle.fv_tree.specs.FirstFault.{FrameFaulty, IfFirst, OneOf, HasTwin, TopElsewhere, NamesFault, LayoutFault}
+pub use Rattle.fv_tree.specs.FirstFault.{StreamFault, FileFault, BodyFault, VolumeFault, InSection, InStream, InVolume}
+pub use Rattle.fv_tree.specs.FirstFault.{outermost, IsFirstOfVolume, FaultStands}
+pub use Rattle.fv_tree.specs.InputFaults.{GoesOn, IsFirstOfInput, FaultStandsInInput, NotRead, MemoryRanOut}
+pub use Rattle.fv_tree.specs.LocatedFiles.{BeginsTiled, IsFirstOfCells, NotTiled, state_by, header_len_by, file_form}
+pub use Rattle.fv_tree.specs.LocatedFiles.{StandIn, BeginWithFiles, HasDataIn, IsFirstOfFiles}
+pub use Rattle.fv_tree.specs.FileNames.{is_named, file_named, HasNumbers}
+pub use Rattle.fv_tree.specs.LookupInstances.{number_after, file_after, instance_of, file_of_type, preorder}
+pub use Rattle.fv_tree.specs.LookupInstances.{inside_section, inside_body, of_type, section_of_type, security_core}
+pub use Rattle.fv_tree.specs.LookupInstances.{frame_of_type, SeesSection, SeesFrame, IsNotSectioned}
+pub use Rattle.fv_tree.specs.SectionWalks.{left_in, NestsAt, AreLevels}
+pub use Rattle.fv_tree.specs.Views.{sections_of, parts_view, HasLength, body_view, content_view}
