@@ -1,13 +1,13 @@
 # Builds, installs and packs the program fvtool and the library libfv. docs/INSTALL.md says what goes where.
 #
-#   make                  the program, proved and built where its sources have changed, and put into out/
+#   make                  the program and the library, proved and built where sources have changed: out/ and clib/out/
 #   make try              runs it over a volume
 #   make check            that, and all checks that prove nothing (.ci/quick). The gate is .ci/run
-#   make install          the program, manual page, completion for bash and zsh, documents: after ./fvtool or `make`
-#   make install-lib      the library: fv.h, libfv.a, libfv.so, fv.pc, fv.py: after clib/build
+#   make install          the program, the tools that use it, manual pages, completion, documents: after `make`
+#   make install-lib      the library, with files for pkg-config, CMake and Python: after `make`
 #   make uninstall        removes both
 #   make dist             out/capstanolive-VERSION.tar.gz, the files of the last commit
-#   make version          writes VERSION into the three files that show it
+#   make version          writes VERSION into the files that show it
 #   make clean            removes out/ and clib/out/, not what is proved
 #
 # `make install PREFIX=/usr DESTDIR=folder` puts into folder/usr what is to be in /usr. What installs proves nothing, and
@@ -19,29 +19,42 @@ PREFIX ?= /usr/local
 BINDIR ?= $(PREFIX)/bin
 MANDIR ?= $(PREFIX)/share/man
 DOCDIR ?= $(PREFIX)/share/doc/fvtool
+DATADIR ?= $(PREFIX)/share/fvtool
 BASHDIR ?= $(PREFIX)/share/bash-completion/completions
 ZSHDIR ?= $(PREFIX)/share/zsh/site-functions
 OBJCOPY ?= objcopy
 INSTALL ?= install
 
-# What is installed: the program that ./fvtool or rt ci has built. PROGRAM=FILE names another one, of packaging/static.
+# What is installed: the program and the library that `make` or rt ci has built. PROGRAM=FILE names another program, of
+# packaging/static, and ARCHIVE=FILE another library.
 BUILT := crates/fv_tool/out/fv_tool
 PROGRAM ?= $(BUILT)
-ARCHIVE := crates/fv_c/out/libfv_c.a
+BUILT_ARCHIVE := crates/fv_c/out/libfv_c.a
+ARCHIVE ?= $(BUILT_ARCHIVE)
 # With the folders, so that a file that is removed counts too.
 SOURCES := crates.txt $(shell find crates/fv_*/src crates/fv_*/specs crates/fv_*/proofs)
-DOCUMENTS := README.md CHANGELOG.md SECURITY.md docs/PROGRAM.md docs/FAULTS.md packaging/copyright
-# clib/Makefile with the variables of this run. It has PREFIX, INCLUDEDIR, LIBDIR and PYTHONDIR.
-CLIB := $(MAKE) --no-print-directory -f clib/Makefile PREFIX="$(PREFIX)" DESTDIR="$(DESTDIR)"
+DOCUMENTS := CHANGELOG.md SECURITY.md docs/PROGRAM.md docs/FAULTS.md packaging/copyright
+PAGES := $(notdir $(wildcard man/*.1))
+# The tools: recipes and what they import. DATADIR has them, the program and the library where this folder has them, so
+# that they find each other there as here. COMMANDS are links in BINDIR: NAME=RECIPE.
+RECIPES := $(notdir $(wildcard recipes/fv*.py)) repro/fv-same unpack/fv-unpack open-ovmf/open-firmware git/fv-textconv \
+    git/fv-diff map/fvmap.py map/guids.txt
+COMMANDS := fv-same=repro/fv-same fv-unpack=unpack/fv-unpack fvmap=map/fvmap.py
+FOLDERS := $(sort $(dir $(addprefix recipes/,$(RECIPES))))
+# clib/Makefile with the variables of this run. It has PREFIX, INCLUDEDIR, LIBDIR and PYTHONDIR. `-tools` is of what the
+# tools need of it.
+CLIB := $(MAKE) --no-print-directory -f clib/Makefile PREFIX="$(PREFIX)" DESTDIR="$(DESTDIR)" LIBFV="$(ARCHIVE)" \
+    TOOLDIR="$(DATADIR)/clib"
 
 .PHONY: all try check install install-lib uninstall dist version clean FORCE
-all: $(OUT)/fvtool
+all: $(OUT)/fvtool $(ARCHIVE)
+	+$(CLIB) OUT=clib/out lib
 
 # Both prove nothing where a source is newer but has not changed. What they leave is newer than its sources.
 $(BUILT): $(SOURCES)
 	packaging/prove fv_tool
 
-$(ARCHIVE): $(SOURCES)
+$(BUILT_ARCHIVE): $(SOURCES)
 	packaging/prove fv_c
 
 # Makes of the program in a folder `fvtool`: it has no symbols, and a section that names the version. The section is not
@@ -54,35 +67,48 @@ $(OUT)/fvtool: $(PROGRAM) VERSION FORCE
 	mkdir -p "$(OUT)"
 	$(call shipped,"$(OUT)")
 
-try: all
+try: $(OUT)/fvtool
 	"$(OUT)/fvtool" < crates/fv_tool/stdin | cmp - crates/fv_tool/stdout
 	test "$$("$(OUT)/fvtool" check --hex crates/fv_tool/stdin)" = canonical
 
 check: try
 	MAKEFLAGS= .ci/quick
 
+# Installs a text, with the folders of this run in place of those of a package.
+text = sed 's|/usr/share/doc/fvtool|$(DOCDIR)|g;s|/usr/share/fvtool|$(DATADIR)|g' $(1) > $(2) && chmod 644 $(2)
+
 install:
 	@if [ "$(PROGRAM)" = "$(BUILT)" ]; then packaging/prove --is-made fv_tool; fi
+	@if [ "$(ARCHIVE)" = "$(BUILT_ARCHIVE)" ]; then packaging/prove --is-made fv_c; fi
 	$(INSTALL) -d "$(DESTDIR)$(BINDIR)" "$(DESTDIR)$(MANDIR)/man1" "$(DESTDIR)$(DOCDIR)"
-	$(INSTALL) -d "$(DESTDIR)$(BASHDIR)" "$(DESTDIR)$(ZSHDIR)"
-	room=$$(mktemp -d) && $(call shipped,"$$room") && $(INSTALL) -m 755 "$$room/fvtool" "$(DESTDIR)$(BINDIR)/fvtool"; \
-	    status=$$?; rm -rf "$$room"; exit $$status
-	$(INSTALL) -m 644 man/fvtool.1 "$(DESTDIR)$(MANDIR)/man1/fvtool.1"
+	$(INSTALL) -d "$(DESTDIR)$(BASHDIR)" "$(DESTDIR)$(ZSHDIR)" $(foreach it,$(FOLDERS),"$(DESTDIR)$(DATADIR)/$(it)")
+	+room=$$(mktemp -d) && $(call shipped,"$$room") && $(INSTALL) -m 755 "$$room/fvtool" "$(DESTDIR)$(BINDIR)/fvtool" && \
+	    $(CLIB) OUT="$$room" install-tools; status=$$?; rm -rf "$$room"; exit $$status
+	for it in $(RECIPES); do \
+	    mode=644; [ ! -x recipes/$$it ] || mode=755; \
+	    $(INSTALL) -m $$mode recipes/$$it "$(DESTDIR)$(DATADIR)/recipes/$$it" || exit; done
+	for it in $(COMMANDS); do ln -srf "$(DESTDIR)$(DATADIR)/recipes/$${it#*=}" "$(DESTDIR)$(BINDIR)/$${it%=*}" || exit; done
+	ln -srf "$(DESTDIR)$(BINDIR)/fvtool" "$(DESTDIR)$(DATADIR)/fvtool"
 	$(INSTALL) -m 644 $(DOCUMENTS) "$(DESTDIR)$(DOCDIR)"
+	$(call text,packaging/installed.md,"$(DESTDIR)$(DOCDIR)/README.md")
+	$(call text,packaging/gitconfig,"$(DESTDIR)$(DATADIR)/gitconfig")
+	for it in $(PAGES); do $(call text,man/$$it,"$(DESTDIR)$(MANDIR)/man1/$$it") || exit; done
 	$(INSTALL) -m 644 packaging/completion.bash "$(DESTDIR)$(BASHDIR)/fvtool"
 	$(INSTALL) -m 644 packaging/completion.zsh "$(DESTDIR)$(ZSHDIR)/_fvtool"
 
 install-lib:
-	@packaging/prove --is-made fv_c
+	@if [ "$(ARCHIVE)" = "$(BUILT_ARCHIVE)" ]; then packaging/prove --is-made fv_c; fi
 	+room=$$(mktemp -d) && $(CLIB) OUT="$$room" install; status=$$?; rm -rf "$$room"; exit $$status
 
-# The folders may be shared, so only the files that were installed go, and then a folder of documents that is empty.
+# The folders may be shared, so only the files that were installed go, and then those folders of fvtool that are empty.
 uninstall:
-	rm -f "$(DESTDIR)$(BINDIR)/fvtool" "$(DESTDIR)$(MANDIR)/man1/fvtool.1"
-	rm -f "$(DESTDIR)$(BASHDIR)/fvtool" "$(DESTDIR)$(ZSHDIR)/_fvtool"
-	rm -f $(foreach it,$(notdir $(DOCUMENTS)),"$(DESTDIR)$(DOCDIR)/$(it)")
-	[ ! -d "$(DESTDIR)$(DOCDIR)" ] || rmdir --ignore-fail-on-non-empty "$(DESTDIR)$(DOCDIR)"
-	+$(CLIB) uninstall
+	rm -f "$(DESTDIR)$(BINDIR)/fvtool" $(foreach it,$(COMMANDS),"$(DESTDIR)$(BINDIR)/$(firstword $(subst =, ,$(it)))")
+	rm -f "$(DESTDIR)$(BASHDIR)/fvtool" "$(DESTDIR)$(ZSHDIR)/_fvtool" $(foreach it,$(PAGES),"$(DESTDIR)$(MANDIR)/man1/$(it)")
+	rm -f $(foreach it,README.md $(notdir $(DOCUMENTS)),"$(DESTDIR)$(DOCDIR)/$(it)")
+	+$(CLIB) uninstall uninstall-tools
+	rm -f $(foreach it,fvtool gitconfig $(addprefix recipes/,$(RECIPES)),"$(DESTDIR)$(DATADIR)/$(it)")
+	for it in $(foreach it,$(FOLDERS) recipes,"$(DESTDIR)$(DATADIR)/$(it)") "$(DESTDIR)$(DATADIR)" "$(DESTDIR)$(DOCDIR)"; do \
+	    [ ! -d "$$it" ] || rmdir --ignore-fail-on-non-empty "$$it"; done
 
 dist:
 	mkdir -p "$(OUT)"
@@ -90,8 +116,9 @@ dist:
 
 version:
 	sed -i 's/^#define FV_VERSION .*/#define FV_VERSION "$(VERSION)"/' clib/include/fv.h
-	sed -i 's/^__version__ = .*/__version__ = "$(VERSION)"/' clib/fv.py
-	sed -i '1s/"Capstanolive [^"]*"/"Capstanolive $(VERSION)"/' man/fvtool.1
+	sed -i 's/^__version__ = .*/__version__ = "$(VERSION)"/' clib/python/fv/__init__.py
+	sed -i '/^name = "fv"$$/{n;s/^version = .*/version = "$(VERSION)"/}' clib/rust/Cargo.toml clib/rust/Cargo.lock
+	sed -i '1s/"Capstanolive [^"]*"/"Capstanolive $(VERSION)"/' man/*.1
 
 clean:
 	rm -rf "$(OUT)" clib/out

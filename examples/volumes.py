@@ -1,6 +1,6 @@
 #!/usr/bin/env python3
 """Lists the volumes of a flash image and the data of their files, and whether the image is as it would be rebuilt.
-LIBFV=clib/out/libfv.so.0 PYTHONPATH=clib examples/volumes.py IMAGE"""
+LIBFV=clib/out/libfv.so.0 PYTHONPATH=clib/python examples/volumes.py IMAGE"""
 
 import sys
 

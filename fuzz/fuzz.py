@@ -825,12 +825,23 @@ def check_cells(tool, case, _image):
     require(set(listed) <= set(names), "cells: a file that is listed is missing", text, *listed)
 
 
+def has_sums(lines):
+    """Whether exactly the lines of volumes, files and leaf sections end with a digest."""
+    indents = [len(it) - len(it.lstrip()) for it in lines] + [0]
+    for at, line in enumerate(lines):
+        what, *words = line.split()
+        is_leaf = what != "section" or (int(words[2], 16) != GROUP and indents[at + 1] <= indents[at])
+        if is_leaf != bool(re.search(r" sha256 [0-9a-f]{64}$", line)):
+            return False
+    return True
+
+
 def check_sums(tool, case, image):
     """`list --sums` has the lines of `list`, and the digests of the image and of the parts that `extract` writes."""
     status, text = tool.ask("list", case.data, options=["--sums"])
     plain = re.sub(rb"(?m)( sha256 [0-9a-f]{64})$", b"", text)
     require((status, plain) == tool.ask("list", case.data), "list --sums: other lines", text)
-    require(text.count(b" sha256 ") == len(re.findall(rb"(?m)^ *(?:volume|file) ", text)), "list --sums: no sum", text)
+    require(has_sums(text.decode().splitlines()), "list --sums: no sum, or one too many", text)
     require(text.splitlines()[0].endswith(hashlib.sha256(image).hexdigest().encode()), "list --sums: the image", text)
     require(tool.ask("list", image, options=["--sums"]) == (0, text), "list --sums: another text of the image", text)
     files = re.findall(rb"(?m)^  file \d+ (\S+) .* sha256 (\S+)$", text)
@@ -848,7 +859,8 @@ def check_prefix(tool, case, _image):
 
 
 def sections_below(lines):
-    """Type and length of each section in the lines of a file, through groups and not into volumes."""
+    """Type, length and digest, if it is a leaf, of each section in the lines of a file, through groups and not into
+    volumes."""
     hidden = None
     for it in lines:
         indent = len(it) - len(it.lstrip())
@@ -857,36 +869,38 @@ def sections_below(lines):
         words = it.split()
         hidden = indent if words[0] == "volume" else None
         if hidden is None:
-            yield words[3], int(words[6])
+            yield words[3], int(words[6]), words[-1] if words[-2] == "sha256" else None
 
 
 def check_section(tool, image, name, kind, sections):
     """`extract` writes a section of a file, or tells that there is none."""
-    wanted = tool.pick.choice([found for found, _ in sections] + ["19"])
+    wanted = tool.pick.choice([found for found, _, _ in sections] + ["19"])
     instance = tool.pick.randrange(4)
-    lengths = [length for found, length in sections if found == wanted]
+    parts = [it for it in sections if it[0] == wanted]
     options = ["--name", name, "--section", wanted, "--instance", str(instance)]
     status, out = tool.ask("extract", image, options=options)
     if kind == "03":
         require(status == 0 and out in image or out in (b"not found\n", b"not sectioned\n"), f"extract {options}", out)
     elif int(kind, 16) not in STREAMS:
         require((status, out) == (1, b"not sectioned\n"), f"extract {options}", out)
-    elif 1 <= instance <= len(lengths):
-        require(status == 0 and len(out) == lengths[instance - 1] and out in image, f"extract {options}", out)
+    elif 1 <= instance <= len(parts):
+        _, length, digest = parts[instance - 1]
+        require(status == 0 and len(out) == length and out in image, f"extract {options}", out)
+        require(digest in (None, hashlib.sha256(out).hexdigest()), f"list --sums: {options}", out)
     else:
         require((status, out) == (1, b"not found\n"), f"extract {options}", out)
 
 
 def check_parts(tool, case, image):
     """`extract` writes the parts that `list` tells of, as the image has them."""
-    lines = tool.ask("list", image)[1].decode().splitlines()
+    lines = tool.ask("list", image, options=["--sums"])[1].decode().splitlines()
     starts = [at for at, it in enumerate(lines) if it.startswith("  file ")]
     strange = str(uuid.UUID(bytes=bytes_of(tool.pick, 16)))
     require(tool.ask("extract", image, options=["--name", strange]) == (1, b"not found\n"), "extract: a strange name")
     if starts:
         number = tool.pick.randrange(len(starts))
         below = lines[starts[number] : [*starts, len(lines)][number + 1]]
-        _, _, name, _, kind, _, _, _, length = below[0].split()
+        _, _, name, _, kind, _, _, _, length, *_ = below[0].split()
         status, out = tool.ask("extract", tool.pick.choice((case.data, image)), options=["--name", name.upper()])
         require(status == 0 and len(out) == int(length) and out in image, f"extract {name}", out)
         check_section(tool, image, name, kind, list(sections_below(below[1:])))
@@ -959,11 +973,29 @@ def check_places(tool, case, text):
         require(placed == tool.ask("list", case.data[offset : offset + length]), f"list: --at {offset}", placed)
 
 
+def check_all(tool, case, text):
+    """`check --all` says of each volume what `check` says of its bytes. A fault is at its place in the image."""
+    places = [tuple(map(int, it)) for it in re.findall(rb"at (\d+) length (\d+)", text)]
+    if len(places) > 8:
+        return
+    worst, wanted = 0, b""
+    for offset, length in places:
+        status, said = tool.ask("check", case.data[offset : offset + length])
+        last = said.splitlines()[-1].decode()
+        if status == 2:
+            number, place = map(int, re.findall(r"\d+", last))
+            last = f"fault {number} at {offset + place}"
+        worst, wanted = max(worst, status), wanted + line(f"volume at {offset} length {length} {last}")
+    found = tool.once("check", (case.data,), ["--all"], None, 0, False)
+    require(found == (worst, wanted), "check --all: other lines", found, (worst, wanted))
+
+
 def check_image(tool, case):
     status, text = tool.ask("scan", case.data)
     require(status == 0, "scan: refused", text)
     require(case.lines is None or text == joined(case.lines), "scan: other volumes", text, case.lines)
     check_places(tool, case, text)
+    check_all(tool, case, text)
     return "scanned"
 
 
@@ -993,7 +1025,7 @@ extract --name NAME --section 100 a|extract --name NAME --section 0x1 a|extract 
 extract --name NAME --section g a|extract --name NAME --instance -1 a|extract --name NAME --instance 4294967296 a|
 extract --name NAME --instance x a|hobs --image a b|hobs --base 1 b|hobs --image a --base -1 b|list -x|hobs a b|
 list --at|list --sums --sums|check --sums a|cells a b|cells --all a|list --at x a|list --at=-1 a|list --at 0x a|list --at 0x+1 a|list --at 18446744073709551616 a|scan --at 8 a|
-hobs --at 8 a|normalise --all --at 8 a|list --other-at 8 a|compare a b --other-at x|
+hobs --at 8 a|normalise --all --at 8 a|check --all --at 8 a|list --other-at 8 a|compare a b --other-at x|
 hobs --image a --base 0x10 b|hobs --image a --base 18446744073709551616 b|list --name NAME a"""
 
 

@@ -16,7 +16,7 @@ sys.dont_write_bytecode = True  # no folder beside the scripts
 from fuzz import DATA_VALID, FFS3, GROUP, LARGE, MARKED, PAD, ROOT, SUMMED, VOLUME, sum8, sum16  # noqa: E402
 
 MIB = 1 << 20
-COMMANDS = ("normalise", "normalise --all", "list", "list --sums", "cells", "check", "scan", "compare")
+COMMANDS = ("normalise", "normalise --all", "list", "list --sums", "cells", "check", "check --all", "scan", "compare")
 MOST_SECONDS, MOST_SUMS_SECONDS = 3, 10
 EMPTY_SECTION = b"\x04\0\0\x19"
 EXPRESSION = 0x13
@@ -221,7 +221,7 @@ INPUTS += (names, replaced_names, mixed_names, late_pair, twin_names, empty_sect
 INPUTS += (small_groups, groups_of_three, nested_sections, entries, small_volumes)
 # How many times its input a run may hold where it is not twice.
 RATIOS = {names: 10, replaced_names: 8, mixed_names: 8, late_pair: 10, empty_sections: 8, empty_expressions: 8}
-RATIOS |= {small_groups: 10, groups_of_three: 11, nested_sections: 9, entries: 14}
+RATIOS |= {small_groups: 10, groups_of_three: 11, nested_sections: 9, entries: 7}
 # Of these an input of 16 MiB takes less.
 RATIOS |= {stubs: 5, pads: 4, levels: 8, level_groups: 8, small_volumes: 5}
 

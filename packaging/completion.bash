@@ -51,9 +51,9 @@ _fvtool() {
                 # With no answer the shell completes names of files.
                 if [[ $current != -* ]]; then return; fi
                 case ${COMP_WORDS[1]} in
-                    normalise) choices='--all --at --hex' ;;
+                    normalise | check) choices='--all --at --hex' ;;
                     list) choices='--sums --at --hex' ;;
-                    cells | check) choices='--at --hex' ;;
+                    cells) choices='--at --hex' ;;
                     extract) choices='--name --section --instance --at --hex' ;;
                     scan) choices='--hex' ;;
                     compare) choices='--at --other-at --hex' ;;

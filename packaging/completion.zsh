@@ -59,9 +59,9 @@ _fvtool() {
     _arguments -C '1:command:_fvtool_commands' '*::argument:->rest'
     if [[ $state != rest ]]; then return; fi
     case $words[1] in
-        normalise) _arguments "(--all)$at" '(--at)--all[each volume of a flash image]' $hex '1:file:_files' ;;
+        normalise|check) _arguments "(--all)$at" '(--at)--all[each volume of a flash image]' $hex '1:file:_files' ;;
         list) _arguments '--sums[with digests]' $at $hex '1:file:_files' ;;
-        cells|check) _arguments $at $hex '1:file:_files' ;;
+        cells) _arguments $at $hex '1:file:_files' ;;
         extract)
             _arguments '--name[the name of the file]:name:_fvtool_names' $at $hex '1:file:_files' \
                 "--section[the type of the section]:type:$sections" '--instance[which of these sections]:number:'

@@ -166,7 +166,7 @@ def files_of(text: str) -> list[File]:
             files.append(file)
             open_parts.append((indentation, file))
         elif words[0] == "section":
-            shown = re.search(r' ui "(.*)"$', line)
+            shown = re.search(r' ui "([^"]*)"', line)
             section = Section(int(words[3], 16), 8 if words[4] == "extended" else 4, shown[1] if shown else None)
             around[-1].sections.append(section)
             open_parts.append((indentation, section))

@@ -41,6 +41,15 @@ has() { # TEXT LINE
     fi
 }
 
+# Whether the library is built that some recipes use.
+has_library() {
+    export LIBFV=${LIBFV:-$recipes/../clib/out/libfv.so.0}
+    if [[ ! -e $LIBFV ]]; then
+        skipped libfv
+        return 1
+    fi
+}
+
 skipped() { # WHAT IS MISSING
     echo "skipped: $1"
 }

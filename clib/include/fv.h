@@ -5,6 +5,30 @@
  * out of memory. Not proved are also this header, src/heap.c, and that the caller keeps the rules below. Link with
  * `pkg-config --libs fv`.
  *
+ * Question                                                  Call                  Input            Memory
+ *   Do the bytes begin with a volume? How long is it?       fv_verify             begins with one  none
+ *   Where do the volumes of a flash image begin?            fv_scan               any bytes        14
+ *   Is a volume its own canonical image?                    fv_is_canonical       a volume         14
+ *   What is its canonical image?                            fv_normalise          a volume         14
+ *   What is a flash image with each volume canonical?       fv_normalise_image    any bytes        14
+ *   Which volumes of a flash image are canonical?           fv_check_image        any bytes        14
+ *   By which digest are volumes of one meaning found?       fv_digest             a volume         14
+ *   Do two volumes mean the same? Where do they differ?     fv_compare            two volumes      13, of both
+ *   Where do files, pads, deleted files, free bytes lie?    fv_cells              begins with one  14
+ *   Which files does a volume have?                         fv_files              a volume         15
+ *   Which sections does a file have?                        fv_sections           a volume         22
+ *   What is in a volume, at every level?                    fv_tree               a volume         29
+ *   Which digest does each of these parts have?             fv_list_sums          a volume         17
+ *   What are the data of a file, the body of a section?     fv_extract            a volume         14
+ *   Is a dependency expression true?                        fv_depex              an expression    14
+ *   Which blocks does a hand-off list have?                 fv_hobs               begins with one  14
+ *   What does a result mean?                                fv_fault_text         a number         none
+ *
+ * Input: "a volume" is all bytes of one, and bytes after it are fault 8. Where the bytes only begin with one, those
+ * after it are not looked at, and so it is with an expression. Memory: beside the arguments, a call takes up to this
+ * many times the input, for inputs of nothing but tiny parts, as measured; 14 is the most of all calls that have it.
+ * Stack: at most 16.5 KiB, as measured.
+ *
  * Rules for the caller
  *   1. No pointer is NULL, not even if the length after it is 0. Then pass the address of any byte.
  *   2. A buffer or a result (what is not const) overlaps no other argument of the same call.
@@ -13,17 +37,30 @@
  *   4. No call is made in a signal handler.
  * The library keeps no state. Any number of threads may call it at once, also with the same input.
  *
- * Results: 0 is success. 1 to 24 is the number of the first fault of the input, as docs/FAULTS.md has them. 24 is
- * out of memory: a call that reads an input as a volume returns it only if that input begins with the header of a
- * volume. Results of the library itself begin at 256, since the number of a fault is less. 256 is a buffer that is too
- * small; in every call it comes only where the input has no fault. 257 says that there is no file or section of the
- * number that was passed. Calls for dependency expressions and hand-off lists have numbers of their own, also below
- * 256. After any result except 0 the buffer is as it was. All lengths and offsets are in bytes. A volume has at most
- * 268,435,456 bytes, and so has an image for fv_normalise_image.
+ * Results: 0 is success. A call that can return several of the others returns the first in this order:
+ *   1 to 24   The first fault of the input, as docs/FAULTS.md has them and their order. 24 is out of memory. It may
+ *             come in place of every other result, as soon as memory runs out; but a call that reads an input as a
+ *             volume returns it only if that input begins with the header of a volume. Faults 22 and 23 of fv_extract
+ *             are those of the part that was asked for.
+ *   257       There is no file or section of the number that was passed. It comes only if the input is a volume.
+ *   256       The buffer is too small. It comes only if the input has no fault, and the part is there. Where a count
+ *             is written, it is then the number of elements that the buffer needs.
+ * So results of the library itself begin at 256, and the number of a fault is less. fv_depex and fv_hobs have faults
+ * with numbers of their own, also below 256. After any result except 0 the buffer is as it was. All lengths and
+ * offsets are in bytes. A volume has at most 268,435,456 bytes, and so has an image for fv_normalise_image and
+ * fv_check_image.
  *
- * Memory, beside the arguments, for inputs of nothing but tiny parts, as measured: fv_sections takes up to 19
- * times the input, fv_files 15, fv_compare 13 times both, every other call up to 14. A call takes at most
- * 15.5 KiB of stack. */
+ * Rows: a field is as it is stored in the input, or it is of the meaning, which the canonical image has too.
+ *   fv_extent   as stored.
+ *   fv_cell     as stored. All cells are there: superseded and deleted files too, which the meaning does not have.
+ *   fv_file     `data_offset` and `attributes` are as stored: a meaning has no offsets, and not the attribute 0x01.
+ *               `sections` is of the meaning. `data_len`, `kind` and `name` are both. Only files of the meaning are
+ *               there, in their order.
+ *   fv_section  `parent`, `depth` and `holds` are of the meaning. `len`, `kind` and `header_len` are both. No row has
+ *               the offset of a section.
+ *   fv_node     `offset` is as stored, and so is `header_len` of a file. All other fields are of the meaning.
+ *   fv_hob      as stored.
+ * What fv_extract writes is of the meaning: the bytes that the canonical image has. */
 #ifndef FV_H
 #define FV_H
 
@@ -147,6 +184,27 @@ uint32_t fv_digest(const uint8_t *input, size_t len, fv_sha256 *FV_RESTRICT dige
 uint32_t fv_scan(const uint8_t *bytes, size_t len, uint64_t *FV_RESTRICT buffer, size_t buffer_count,
                  uint64_t *FV_RESTRICT count);
 
+/* A volume of a flash image, and what is said of it. */
+typedef struct fv_volume_check {
+    uint64_t offset;    /* from the first byte of the image */
+    uint64_t length;    /* the number of its bytes */
+    fv_fault fault;     /* the fault with which it is rejected, at its offset in the image; all fields are 0 if none */
+    uint32_t canonical; /* 1 if it is its own canonical image, else 0 */
+    uint32_t reserved;  /* 0 */
+} fv_volume_check;
+FV_ASSERT(sizeof(fv_volume_check) == 40 && offsetof(fv_volume_check, length) == 8 &&
+              offsetof(fv_volume_check, fault) == 16 && offsetof(fv_volume_check, canonical) == 32 &&
+              offsetof(fv_volume_check, reserved) == 36,
+          "the layout of fv_volume_check");
+
+/* Writes what is said of each volume that fv_scan finds in a flash image, in their order, to the start of the
+ * buffer. *count is their number. Returns 0, also if a volume is rejected: its row has the fault, 1 to 21. One that
+ * has no canonical image, since it does not fit, is not canonical. Returns 256 if *count > buffer_count. Returns 8 if
+ * the image is above the limit, or 24 if memory runs out, which it can only if a volume begins in an image within the
+ * limit; *count is unchanged then. */
+uint32_t fv_check_image(const uint8_t *image, size_t len, fv_volume_check *FV_RESTRICT buffer, size_t buffer_count,
+                        uint64_t *FV_RESTRICT count, fv_fault *FV_RESTRICT fault);
+
 /* Compares the meanings of two inputs that are volumes. found->same says whether they are the same. The
  * line `same`, or `different at` with the steps down to the first difference and its kind, is written to
  * the start of the buffer. It ends with a line feed, not with a NUL. Returns 0. Returns 256 if
@@ -231,7 +289,7 @@ FV_ASSERT(sizeof(fv_section) == 40 && offsetof(fv_section, parent) == 8 && offse
  * file are not sections (those of a security core are not, for this call). Returns 0. Returns 256 if
  * *count > buffer_count, and 257 if the volume has no such file. Else returns the first fault of the input,
  * 1 to 21, or 24. *count is unchanged then, and if it returns 257.
- * The sections of a nested volume are not included. To see its files, get its bytes by fv_extract. */
+ * The sections of a nested volume are not included: fv_tree has them. */
 uint32_t fv_sections(const uint8_t *input, size_t len, uint64_t file, fv_section *FV_RESTRICT buffer,
                      size_t buffer_count, uint64_t *FV_RESTRICT count, fv_fault *FV_RESTRICT fault);
 
@@ -248,6 +306,54 @@ uint32_t fv_sections(const uint8_t *input, size_t len, uint64_t file, fv_section
 uint32_t fv_extract(const uint8_t *input, size_t len, uint64_t file, uint64_t section,
                     uint8_t *FV_RESTRICT buffer, size_t buffer_len, uint64_t *FV_RESTRICT part_len,
                     fv_fault *FV_RESTRICT fault);
+
+/* What a row of fv_tree is: a volume, a file, a section. */
+enum { FV_NODE_VOLUME = 1, FV_NODE_FILE = 2, FV_NODE_SECTION = 3 };
+
+/* What the row of a volume holds. The rows of files and sections hold FV_HOLDS_BYTES to FV_HOLDS_VOLUME. */
+enum { FV_HOLDS_FILES = 0 };
+
+/* A volume, a file or a section of the tree of a volume. A field that it does not have is 0. */
+typedef struct fv_node {
+    uint64_t offset;     /* its data, its body, or the volume itself, are at this offset of the input, as stored */
+    uint64_t len;        /* the number of their bytes; of a volume FvLength */
+    uint64_t parent;     /* the number of the row that holds it; FV_NO_PARENT of the first */
+    uint64_t depth;      /* the number of rows around it */
+    uint64_t number;     /* its number among the parts that its parent holds, from 0 */
+    uint32_t what;       /* FV_NODE_VOLUME to FV_NODE_SECTION */
+    uint32_t kind;       /* Type of a file or a section */
+    uint32_t attributes; /* Attributes of a file without bit 0x01, FFS_ATTRIB_LARGE_FILE: its header_len is 32 */
+    uint32_t header_len; /* HeaderLength of a volume; 24 or 32 of a file, 4 or 8 of a section, both before the offset */
+    uint32_t holds;      /* FV_HOLDS_FILES to FV_HOLDS_VOLUME */
+    uint32_t reserved;   /* 0 */
+    uint8_t guid[16];    /* FileSystemGuid of a volume, Name of a file, by its bytes in the volume */
+} fv_node;
+FV_ASSERT(sizeof(fv_node) == 80 && offsetof(fv_node, len) == 8 && offsetof(fv_node, parent) == 16 &&
+              offsetof(fv_node, depth) == 24 && offsetof(fv_node, number) == 32 && offsetof(fv_node, what) == 40 &&
+              offsetof(fv_node, kind) == 44 && offsetof(fv_node, attributes) == 48 &&
+              offsetof(fv_node, header_len) == 52 && offsetof(fv_node, holds) == 56 &&
+              offsetof(fv_node, reserved) == 60 && offsetof(fv_node, guid) == 64,
+          "the layout of fv_node");
+
+/* Writes the whole tree of the volume that the input is to the start of the buffer: the volume, its files, their
+ * sections and, in the same way, each volume that a section holds. Each row is followed by the rows of what it
+ * holds. Row 0 is the volume itself. *count is the number of rows. Returns 0. Returns 256 if *count > buffer_count.
+ * Else returns the first fault of the input, 1 to 21, or 24, and *count is unchanged. The files of a volume are
+ * those of fv_files. Data are read once. To find the places of the parts, headers are read again, except those of the
+ * volume's own files. The bytes at an offset are as they are in the input, also those of a nested volume, whereas
+ * fv_extract writes its canonical image. */
+uint32_t fv_tree(const uint8_t *input, size_t len, fv_node *FV_RESTRICT buffer, size_t buffer_count,
+                 uint64_t *FV_RESTRICT count, fv_fault *FV_RESTRICT fault);
+
+/* Writes the SHA-256 digests of the parts of the volume that the input is to the start of the buffer: one for each row
+ * of fv_tree, in the same order. That of a volume is the digest of its canonical image, as by fv_digest.
+ * That of a file is the digest of its data as the canonical image has them, which fv_extract writes. That of a section
+ * that holds bytes is the digest of its body; a section that holds sections or a volume has 32 zero bytes in place of
+ * it. *count is the number of digests, and of the rows. Returns 0. Returns 256 if *count > buffer_count. Else returns
+ * the first fault of the input, 1 to 24, and *count is unchanged. The input is read once, and no image is kept in
+ * memory. */
+uint32_t fv_list_sums(const uint8_t *input, size_t len, fv_sha256 *FV_RESTRICT buffer, size_t buffer_count,
+                      uint64_t *FV_RESTRICT count, fv_fault *FV_RESTRICT fault);
 
 /* A GUID by its bytes in a volume. The first three fields have their least significant byte first. */
 typedef struct fv_guid {

@@ -26,6 +26,10 @@ int main(int, char **argv)
         if (fv_extract(image.data(), in.size(), i, FV_WHOLE_FILE, data.data(), data.size(), &len, &fault)) return 1;
         if (len != files[i].data_len || !std::equal(&data[0], &data[len], &image[files[i].data_offset])) return 1;
     }
+    std::vector<fv_node> tree(in.size() / 4 + 1);
+    if (fv_tree(image.data(), in.size(), tree.data(), tree.size(), &len, &fault) || tree[0].len != in.size()) return 1;
+    auto is_file = [](const fv_node &node) { return node.depth == 1; };
+    if (std::count_if(tree.begin(), tree.begin() + static_cast<long>(len), is_file) != static_cast<long>(count)) return 1;
     std::printf("C++: the image is its own image, and has the data of its %d files\n", static_cast<int>(count));
     return 0;
 }

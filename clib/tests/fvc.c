@@ -1,5 +1,6 @@
 /* The commands of the program by the library, so that a script can compare their output; and runs for a sanitizer.
- *   fvc normalise|all|check|scan|cells|list|hobs|digest|flips|prefixes FILE      fvc compare FIRST SECOND
+ *   fvc normalise|all|check|checkall|scan|cells|list|tree|sums|hobs|digest|flips|prefixes FILE
+ *   fvc compare FIRST SECOND
  * The status is that of the program. */
 #include <fv.h>
 #include <inttypes.h>
@@ -62,12 +63,45 @@ static int check(struct bytes in)
     return !canonical;
 }
 
+static int check_all(struct bytes in)
+{
+    uint64_t count = 0;
+    fv_volume_check none, *checks = &none;
+    fv_fault fault;
+    int worst = 0;
+    uint32_t status = fv_check_image(in.p, in.n, checks, 0, &count, &fault);
+    if (status == FV_BUFFER_TOO_SMALL) {
+        checks = malloc(count * sizeof *checks);
+        status = fv_check_image(in.p, in.n, checks, count, &count, &fault);
+    }
+    if (status) return refuse("", fault);
+    for (uint64_t i = 0; i < count; i++) {
+        fv_volume_check it = checks[i];
+        int found = it.fault.number ? 2 : !it.canonical;
+        if (it.reserved || it.canonical > 1 || (it.canonical && it.fault.number)) abort();
+        if (!it.fault.number && (it.fault.offset || it.fault.depth)) abort();
+        printf("volume at %" PRIu64 " length %" PRIu64 " ", it.offset, it.length);
+        if (it.fault.number)
+            refuse("", it.fault);
+        else
+            puts(it.canonical ? "canonical" : "not canonical");
+        if (found > worst) worst = found;
+    }
+    if (checks != &none) free(checks);
+    return worst;
+}
+
+static void print_sum(const fv_sha256 *sum)
+{
+    for (int i = 0; i < 32; i++) printf("%02x", sum->bytes[i]);
+}
+
 static int digest(struct bytes in)
 {
     fv_fault fault;
     fv_sha256 sum;
     if (fv_digest(in.p, in.n, &sum, &fault)) return refuse("", fault);
-    for (int i = 0; i < 32; i++) printf("%02x", sum.bytes[i]);
+    print_sum(&sum);
     puts("");
     return 0;
 }
@@ -214,6 +248,207 @@ static int compare(struct bytes in, struct bytes other)
     return !found.same;
 }
 
+static uint64_t same_sections(const uint8_t *p, size_t n, const fv_node *nodes, uint64_t at, uint64_t file);
+
+/* The rows of the tree of an input are those of fv_files and fv_sections. Returns the number of rows. */
+static uint64_t same_tree(const uint8_t *p, size_t n, const fv_node *nodes)
+{
+    fv_fault fault;
+    fv_file none, *files = &none;
+    uint64_t count = 0, at = 1;
+    if (fv_files(p, n, files, 0, &count, &fault) == FV_BUFFER_TOO_SMALL) {
+        files = malloc(count * sizeof *files);
+        if (fv_files(p, n, files, count, &count, &fault)) abort();
+    }
+    for (uint64_t i = 0; i < count; i++) {
+        fv_node it = nodes[at];
+        if (it.what != FV_NODE_FILE || it.number != i || it.offset != files[i].data_offset) abort();
+        if (it.len != files[i].data_len || it.kind != files[i].kind || memcmp(it.guid, files[i].name, 16)) abort();
+        if (it.attributes != (files[i].attributes & ~1u) || p[it.offset - it.header_len + 18] != it.kind) abort();
+        if (it.header_len != (files[i].attributes & 1 ? 32 : 24) || it.reserved) abort();
+        at = same_sections(p, n, nodes, at, i);
+    }
+    if (files != &none) free(files);
+    return at;
+}
+
+/* A volume at a place of the input: its rows follow, as of an input of its own, with offsets from its start. */
+static uint64_t same_nested(const uint8_t *p, const fv_node *nodes, uint64_t at)
+{
+    fv_node top = nodes[at];
+    fv_fault fault;
+    fv_node none;
+    uint64_t count = 0;
+    if (fv_tree(p + top.offset, top.len, &none, 0, &count, &fault) != FV_BUFFER_TOO_SMALL) abort();
+    fv_node *own = malloc(count * sizeof *own);
+    if (fv_tree(p + top.offset, top.len, own, count, &count, &fault)) abort();
+    for (uint64_t i = 0; i < count; i++) {
+        fv_node moved = own[i];
+        moved.offset += top.offset;
+        moved.depth += top.depth;
+        moved.parent = i ? moved.parent + at : top.parent;
+        if (memcmp(&moved, nodes + at + i, sizeof moved)) abort();
+    }
+    if (same_tree(p + top.offset, top.len, own) != count) abort();
+    free(own);
+    return at + count;
+}
+
+/* The rows in that of a file are those of fv_sections, and the bytes at their places those of fv_extract. The rows of a
+ * volume in a section are those of its bytes. Returns the number of the row after them. */
+static uint64_t same_sections(const uint8_t *p, size_t n, const fv_node *nodes, uint64_t at, uint64_t file)
+{
+    fv_fault fault;
+    uint64_t count = 0, row = at + 1, len;
+    fv_section none, *sections = &none;
+    if (fv_sections(p, n, file, sections, 0, &count, &fault) == FV_BUFFER_TOO_SMALL) {
+        sections = malloc(count * sizeof *sections);
+        if (fv_sections(p, n, file, sections, count, &count, &fault)) abort();
+    }
+    uint64_t *rows = malloc((count + 1) * sizeof *rows);
+    for (uint64_t i = 0; i < count; i++) {
+        fv_section s = sections[i];
+        fv_node it = nodes[row];
+        rows[i] = row;
+        if (it.what != FV_NODE_SECTION || it.number != place_of(sections, i)) abort();
+        if (it.parent != (s.parent == FV_NO_PARENT ? at : rows[s.parent])) abort();
+        if (it.depth != nodes[at].depth + 1 + s.depth || it.len != s.len || it.kind != s.kind) abort();
+        if (it.header_len != s.header_len || it.holds != s.holds || p[it.offset - it.header_len + 3] != s.kind) abort();
+        if (s.holds == FV_HOLDS_BYTES) {
+            uint8_t *part = malloc(s.len ? s.len : 1);
+            if (fv_extract(p, n, file, i, part, s.len, &len, &fault) || memcmp(part, p + it.offset, s.len)) abort();
+            free(part);
+        }
+        row = s.holds == FV_HOLDS_VOLUME ? same_nested(p, nodes, row + 1) : row + 1;
+    }
+    if (!count && nodes[at].holds == FV_HOLDS_BYTES) {
+        uint8_t *part = malloc(nodes[at].len ? nodes[at].len : 1);
+        if (fv_extract(p, n, file, FV_WHOLE_FILE, part, nodes[at].len, &len, &fault)) abort();
+        if (len != nodes[at].len || memcmp(part, p + nodes[at].offset, len)) abort();
+        free(part);
+    }
+    free(rows);
+    if (sections != &none) free(sections);
+    return row;
+}
+
+/* The tree of an input, through the calls for its parts. */
+static void vary_tree(const uint8_t *p, size_t n, uint32_t read)
+{
+    static fv_node nodes[2048];
+    uint64_t count = 0;
+    fv_fault fault;
+    if (fv_tree(p, n, nodes, 2048, &count, &fault) != read || fault.number != read) abort();
+    if (read) return;
+    fv_node top = nodes[0];
+    if (top.what != FV_NODE_VOLUME || top.parent != FV_NO_PARENT || top.depth || top.number || top.offset) abort();
+    if (top.len != n || top.holds != FV_HOLDS_FILES || memcmp(top.guid, p + 16, 16)) abort();
+    if (same_tree(p, n, nodes) != count) abort();
+}
+
+/* The number of rows that a row holds. */
+static uint64_t held_by(const fv_node *nodes, uint64_t count, uint64_t number)
+{
+    uint64_t held = 0;
+    for (uint64_t i = number + 1; i < count && nodes[i].depth > nodes[number].depth; i++)
+        held += nodes[i].parent == number;
+    return held;
+}
+
+/* The line of a row, without its end. */
+static void print_node(const fv_node *nodes, uint64_t count, uint64_t number)
+{
+    fv_node it = nodes[number];
+    printf("%*s", 2 * (int)it.depth, "");
+    switch (it.what) {
+    case FV_NODE_VOLUME:
+        printf("volume ffs%d length %" PRIu64, it.guid[0] == 0x7a ? 3 : 2, it.len);
+        printf(" files %" PRIu64, held_by(nodes, count, number));
+        return;
+    case FV_NODE_FILE:
+        printf("file %" PRIu64 " ", it.number);
+        print_guid(it.guid);
+        printf(" type %02" PRIx32 " attributes %02" PRIx32 " data %" PRIu64, it.kind, it.attributes, it.len);
+        return;
+    default:
+        printf("section %" PRIu64 " type %02" PRIx32 " ", it.number, it.kind);
+        printf("%s body %" PRIu64, it.header_len == 8 ? "extended" : "short", it.len);
+    }
+}
+
+/* The lines of the program's `list`, those of nested volumes included. */
+static int tree(struct bytes in)
+{
+    uint64_t count = 0;
+    fv_node none, *nodes = &none;
+    fv_fault fault;
+    uint32_t status = fv_tree(in.p, in.n, nodes, 0, &count, &fault);
+    if (status == FV_BUFFER_TOO_SMALL) {
+        nodes = malloc(count * sizeof *nodes);
+        status = fv_tree(in.p, in.n, nodes, count, &count, &fault);
+    }
+    if (status) return refuse("", fault);
+    if (same_tree(in.p, in.n, nodes) != count) abort();
+    for (uint64_t i = 0; i < count; i++) {
+        print_node(nodes, count, i);
+        puts("");
+    }
+    if (nodes != &none) free(nodes);
+    return 0;
+}
+
+/* Whether a row is a section that holds sections or a volume. */
+static int is_holder(const fv_node *node)
+{
+    return node->what == FV_NODE_SECTION && node->holds != FV_HOLDS_BYTES;
+}
+
+/* The digest of a volume is that of its bytes, and that of such a section is 32 zero bytes. */
+static void check_sum(const uint8_t *p, const fv_node *node, const fv_sha256 *sum)
+{
+    static const fv_sha256 zeros;
+    fv_sha256 own;
+    fv_fault fault;
+    if (is_holder(node) && memcmp(sum, &zeros, sizeof zeros)) abort();
+    if (node->what != FV_NODE_VOLUME) return;
+    if (fv_digest(p + node->offset, node->len, &own, &fault) || memcmp(sum, &own, sizeof own)) abort();
+}
+
+/* The lines of the program's `list --sums`. */
+static int sums(struct bytes in)
+{
+    uint64_t count = 0, rows = 0;
+    fv_sha256 none;
+    fv_fault fault;
+    if (fv_list_sums(in.p, in.n, &none, 0, &count, &fault) != FV_BUFFER_TOO_SMALL) return refuse("", fault);
+    fv_sha256 *digests = malloc(count * sizeof *digests);
+    fv_node *nodes = malloc(count * sizeof *nodes);
+    if (fv_list_sums(in.p, in.n, digests, count, &count, &fault)) abort();
+    if (fv_tree(in.p, in.n, nodes, count, &rows, &fault) || rows != count) abort();
+    for (uint64_t i = 0; i < count; i++) {
+        check_sum(in.p, nodes + i, digests + i);
+        print_node(nodes, count, i);
+        if (!is_holder(nodes + i)) {
+            printf(" sha256 ");
+            print_sum(digests + i);
+        }
+        puts("");
+    }
+    free(digests);
+    free(nodes);
+    return 0;
+}
+
+/* The digests of an input, of which the first is that of the volume. */
+static void vary_sums(const uint8_t *p, size_t n, uint32_t status, const fv_sha256 *sum)
+{
+    static fv_sha256 digests[2048];
+    uint64_t count;
+    fv_fault fault;
+    if (fv_list_sums(p, n, digests, 2048, &count, &fault) != status || fault.number != status) abort();
+    if (!status && memcmp(digests, sum, sizeof *sum)) abort();
+}
+
 /* The files of an input, the sections of the first two and their parts, through all calls for them. */
 static void vary_parts(const uint8_t *p, size_t n, uint32_t status)
 {
@@ -224,6 +459,7 @@ static void vary_parts(const uint8_t *p, size_t n, uint32_t status)
     fv_fault fault;
     uint32_t read = fv_files(p, n, files, 512, &count, &fault);
     if (read != fault.number || (read && read != status)) abort();
+    vary_tree(p, n, read);
     for (uint64_t i = 0; i < 2; i++) {
         uint32_t told = fv_sections(p, n, i, sections, 512, &inside, &fault);
         if (told != (read ? read : i < count ? 0 : FV_NOT_FOUND)) abort();
@@ -256,6 +492,7 @@ static int vary(const char *command, struct bytes in)
     size_t turns = command[0] == 'f' ? 8 * in.n : in.n;
     uint8_t *buffer = malloc(in.n ? in.n : 1);
     static uint64_t offsets[64];
+    static fv_volume_check checks[64];
     static fv_cell cells[512];
     static fv_hob blocks[512];
     fv_fault fault;
@@ -285,9 +522,11 @@ static int vary(const char *command, struct bytes in)
         fv_is_canonical(p, n, &canonical, &fault);
         empty_buffer(p, n, status, fv_normalise_image(p, n, buffer, n, &fault));
         fv_scan(p, n, offsets, 64, &count);
+        fv_check_image(p, n, checks, 64, &count, &fault);
         fv_cells(p, n, cells, 512, &count, &fault);
         fv_hobs(p, n, blocks, 512, &count, &consumed, &fault);
         vary_parts(p, n, status);
+        vary_sums(p, n, status, &sum);
         fv_depex(p, n, 0, &guid, 1, &value, &fault);
         fv_depex(p, n, 1, &guid, 1, &value, &fault);
         if (command[0] == 'f')
@@ -310,10 +549,13 @@ int main(int argc, char **argv)
     int status = 3;
     if (!strcmp(command, "normalise") || !strcmp(command, "all")) status = normalise(command, in);
     if (!strcmp(command, "check")) status = check(in);
+    if (!strcmp(command, "checkall")) status = check_all(in);
     if (!strcmp(command, "digest")) status = digest(in);
     if (!strcmp(command, "scan")) status = scan(in);
     if (!strcmp(command, "cells")) status = cells(in);
     if (!strcmp(command, "list")) status = list(in);
+    if (!strcmp(command, "tree")) status = tree(in);
+    if (!strcmp(command, "sums")) status = sums(in);
     if (!strcmp(command, "hobs")) status = hobs(in);
     if (!strcmp(command, "flips") || !strcmp(command, "prefixes")) status = vary(command, in);
     if (!strcmp(command, "compare") && argc == 4) {

@@ -77,6 +77,30 @@ static void faults_and_extents(void)
     make(9);
 }
 
+/* The volume after 8 bytes, and then one whose second section is too short for its header. */
+static void checks_of_an_image(void)
+{
+    static uint8_t image[8 + 2 * LENGTH];
+    GUARDED(fv_volume_check, 2) checks;
+    uint64_t count = 0;
+    fv_fault f;
+    memcpy(image + 8, volume, LENGTH);
+    make(40);
+    memcpy(image + 8 + LENGTH, volume, LENGTH);
+    make(9);
+    FILL(checks);
+    EXPECT(fv_check_image(image, sizeof image, checks.it, 1, &count, &f) == FV_BUFFER_TOO_SMALL && count == 2);
+    EXPECT(checks.it->offset == 0xeeeeeeeeeeeeeeee);
+    EXPECT(fv_check_image(image, sizeof image, checks.it, 2, &count, &f) == FV_DONE && count == 2 && f.number == 0);
+    EXPECT(checks.it[0].offset == 8 && checks.it[0].length == LENGTH && checks.it[0].canonical == 1);
+    EXPECT(checks.it[0].fault.number == 0 && checks.it[0].fault.offset == 0 && checks.it[0].fault.depth == 0);
+    EXPECT(checks.it[1].offset == 8 + LENGTH && checks.it[1].length == LENGTH && checks.it[1].canonical == 0);
+    EXPECT(checks.it[1].fault.number == FV_SECTION_SIZE && checks.it[1].fault.depth == 1);
+    EXPECT(checks.it[1].fault.offset == 8 + LENGTH + DATA_AT + 20);
+    EXPECT(checks.it[0].reserved == 0 && checks.it[1].reserved == 0);
+    KEPT(checks);
+}
+
 static void cells_and_files(void)
 {
     /* bit 0x10 was written; the highest bit that was is 0x02 */
@@ -141,6 +165,61 @@ static void sections_and_parts(void)
     EXPECT(!memcmp(room, volume + DATA_AT, DATA_LEN));
 }
 
+static void trees(void)
+{
+    static const fv_node wanted[7] = {
+        {0, LENGTH, FV_NO_PARENT, 0, 0, FV_NODE_VOLUME, 0, 0, 72, FV_HOLDS_FILES, 0, {0}},
+        {DATA_AT, DATA_LEN, 0, 1, 0, FV_NODE_FILE, 2, 0x40, 24, FV_HOLDS_SECTIONS, 0, {0}},
+        {DATA_AT + 8, 6, 1, 2, 0, FV_NODE_SECTION, 0x14, 0, 8, FV_HOLDS_BYTES, 0, {0}},
+        {DATA_AT + 20, 16, 1, 2, 1, FV_NODE_SECTION, 0x03, 0, 4, FV_HOLDS_SECTIONS, 0, {0}},
+        {DATA_AT + 24, 5, 3, 3, 0, FV_NODE_SECTION, 0x19, 0, 4, FV_HOLDS_BYTES, 0, {0}},
+        {DATA_AT + 36, 0, 3, 3, 1, FV_NODE_SECTION, 0x03, 0, 4, FV_HOLDS_SECTIONS, 0, {0}},
+        {DATA_AT + 40, 3, 1, 2, 2, FV_NODE_SECTION, 0x19, 0, 4, FV_HOLDS_BYTES, 0, {0}}};
+    GUARDED(fv_node, 7) nodes;
+    fv_node right[7];
+    uint64_t count = 9;
+    fv_fault f;
+    memcpy(right, wanted, sizeof wanted);
+    memcpy(right[0].guid, volume + 16, 16);
+    memcpy(right[1].guid, name, sizeof name);
+    FILL(nodes);
+    make(40);
+    EXPECT(fv_tree(volume, LENGTH, nodes.it, 7, &count, &f) == FV_SECTION_SIZE && count == 9 && f.depth == 1);
+    make(9);
+    EXPECT(fv_tree(volume, LENGTH, nodes.it, 6, &count, &f) == FV_BUFFER_TOO_SMALL && count == 7 && f.number == 0);
+    EXPECT(nodes.it[0].offset == 0xeeeeeeeeeeeeeeee);
+    EXPECT(fv_tree(volume, LENGTH, nodes.it, 7, &count, &f) == FV_DONE && count == 7 && f.number == 0);
+    EXPECT(!memcmp(nodes.it, right, sizeof right));
+    KEPT(nodes);
+}
+
+/* The digests of the rows above: the first bytes of each, as sha256sum has them. */
+static void sums_of_trees(void)
+{
+    static const uint8_t wanted[7][4] = {
+        [1] = {0xdb, 0x77, 0xfb, 0xa8}, /* the 44 bytes of data */
+        [2] = {0xb8, 0x06, 0x4f, 0x50}, /* 07 00 76 00 31 00 */
+        [4] = {0xe4, 0xdc, 0x78, 0x1c}, /* a1 a2 a3 a4 a5 */
+        [6] = {0x0d, 0xe8, 0x0e, 0x00}  /* b1 b2 b3 */
+    };
+    static const fv_sha256 zeros;
+    GUARDED(fv_sha256, 7) sums;
+    fv_sha256 whole;
+    uint64_t count = 9;
+    fv_fault f;
+    FILL(sums);
+    make(40);
+    EXPECT(fv_list_sums(volume, LENGTH, sums.it, 7, &count, &f) == FV_SECTION_SIZE && count == 9 && f.depth == 1);
+    make(9);
+    EXPECT(fv_list_sums(volume, LENGTH, sums.it, 6, &count, &f) == FV_BUFFER_TOO_SMALL && count == 7 && f.number == 0);
+    EXPECT(sums.it[0].bytes[0] == 0xee && sums.it[6].bytes[31] == 0xee);
+    EXPECT(fv_list_sums(volume, LENGTH, sums.it, 7, &count, &f) == FV_DONE && count == 7 && f.number == 0);
+    EXPECT(fv_digest(volume, LENGTH, &whole, &f) == FV_DONE && !memcmp(&sums.it[0], &whole, sizeof whole));
+    for (int i = 1; i < 7; i++) EXPECT(!memcmp(sums.it[i].bytes, wanted[i], sizeof wanted[i]));
+    EXPECT(!memcmp(&sums.it[3], &zeros, sizeof zeros) && !memcmp(&sums.it[5], &zeros, sizeof zeros));
+    KEPT(sums);
+}
+
 static void comparisons_and_blocks(void)
 {
     GUARDED(fv_comparison, 1) found;
@@ -183,8 +262,11 @@ int main(void)
 {
     make(9);
     faults_and_extents();
+    checks_of_an_image();
     cells_and_files();
     sections_and_parts();
+    trees();
+    sums_of_trees();
     comparisons_and_blocks();
     puts("layout: each field is where the header has it");
     return 0;

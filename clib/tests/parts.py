@@ -1,19 +1,23 @@
 #!/usr/bin/env python3
-"""parts.py [--program PROGRAM] FILE..: files, sections, extract and cells of fv.py.
+"""parts.py [--program PROGRAM] FILE..: files, sections, tree, list_sums, extract and cells of the Python package.
 
 First over the volumes of crates/fv_run_tests/rows/read.rows, whose files and faults were worked out by hand. Then over
-each FILE: the places of the data against the input itself, and, with the program, the lines of `list`, the output of
-`extract` for each file and section, and the names of the cells."""
+each FILE: the places of the data against the input itself, the rows of the tree against files and sections, the sums
+against hashlib, and, with the program, the lines of `list`, the output of `extract` for each file and section, and the
+names of the cells."""
 
 import argparse
 import collections
+import dataclasses
+import hashlib
 import re
 import subprocess
 import sys
+import uuid
 from pathlib import Path
 
 ROOT = Path(__file__).resolve().parents[2]
-sys.path[:0] = [str(ROOT / "clib"), str(ROOT / "crates/fv_run_tests/rows")]
+sys.path += [str(ROOT / "clib/python"), str(ROOT / "crates/fv_run_tests/rows")]
 import fv
 import rows
 
@@ -42,7 +46,7 @@ def listed(data):
     for number, file in enumerate(fv.files(data)):
         outer = sum(section.depth == 0 for section in fv.sections(data, number))
         sections = outer if rows.is_stream(file.kind) else "-"
-        parts.append(f"{file._name[0]:02x} {file.kind:02x} {file.attributes & ~1:02x} {file.data_len} {sections}")
+        parts.append(f"{file.name.bytes_le[0]:02x} {file.kind:02x} {file.attributes & ~1:02x} {file.data_len} {sections}")
     return ", ".join(parts)
 
 
@@ -57,6 +61,8 @@ def check_read():
         whole = data[: int(wanted.split(",")[0])]
         assert listed(whole) == wanted, row
         check_places(whole)
+        check_tree(whole)
+        check_sums(whole)
         for count in range(len(whole) if len(whole) < 4096 else 0):
             assert is_fault(outcome(fv.files, whole[:count]), (1, count, 0)), (row, count)
 
@@ -64,7 +70,7 @@ def check_read():
 def check_rejected():
     """Each of the others has its fault."""
     for row, data, wanted in rows.read("rejected"):
-        for call in (fv.files, lambda it: fv.sections(it, 0), lambda it: fv.extract(it, 0)):
+        for call in (fv.files, fv.tree, fv.list_sums, lambda it: fv.sections(it, 0), lambda it: fv.extract(it, 0)):
             fault = outcome(call, data)
             assert is_fault(fault, tuple(map(int, wanted.split()))), (row, fault)
 
@@ -124,6 +130,62 @@ def check_places(data):
         for call, bad in ((fv.extract, len(sections)), (fv.extract, -1)):
             assert is_missing(call, data, number, bad)
     assert is_missing(fv.sections, data, len(fv.files(data))) and is_missing(fv.extract, data, len(fv.files(data)))
+
+
+def add_sections(wanted, data, base, number, row):
+    """Adds the rows that the tree should have for the sections of a file, whose row is there."""
+    start, depth = wanted[row][0], wanted[row][3]
+    owners, starts, ends, counts = {fv.NO_PARENT: row}, {fv.NO_PARENT: start}, {fv.NO_PARENT: 0}, collections.Counter()
+    for place, section in enumerate(fv.sections(data, number)):
+        at = (ends[section.parent] + 3) // 4 * 4
+        body = starts[section.parent] + at + section.header_len
+        ends[section.parent] = at + section.header_len + section.len
+        owners[place], starts[place], ends[place] = len(wanted), body, 0
+        held = owners[section.parent], depth + 1 + section.depth, counts[section.parent]
+        form = section.kind, 0, section.header_len, section.holds, None
+        wanted.append((body, section.len, *held, fv.NODE_SECTION, *form))
+        counts[section.parent] += 1
+        if section.holds == fv.VOLUME:
+            add_volume(wanted, data[body - base : body - base + section.len], body, owners[place], held[1] + 1)
+
+
+def add_volume(wanted, data, base, parent, depth):
+    """Adds the rows that the tree should have for a volume at this place of the input."""
+    number = len(wanted)
+    form = 0, 0, int.from_bytes(data[48:50], "little"), fv.FILES, uuid.UUID(bytes_le=data[16:32])
+    wanted.append((base, len(data), parent, depth, 0, fv.NODE_VOLUME, *form))
+    for place, file in enumerate(fv.files(data)):
+        holds = fv.SECTIONS if rows.is_stream(file.kind) else fv.BYTES
+        form = file.kind, file.attributes & ~1, 32 if file.attributes & 1 else 24, holds, file.name
+        wanted.append((base + file.data_offset, file.data_len, number, depth + 1, place, fv.NODE_FILE, *form))
+        add_sections(wanted, data, base, place, len(wanted) - 1)
+
+
+def check_tree(data):
+    """The rows of the tree are the files and the sections of each volume."""
+    wanted = []
+    add_volume(wanted, data, 0, fv.NO_PARENT, 0)
+    nodes = fv.tree(data)
+    assert len(nodes) == len(wanted), (len(nodes), len(wanted))
+    for row, node in zip(wanted, nodes):
+        assert dataclasses.astuple(node) == row, (row, node)
+        assert isinstance(node.what, fv.NodeWhat) and isinstance(node.holds, fv.Holds), node
+
+
+def check_sums(data):
+    """The sums are those of the rows of the image's tree, in which a nested volume is its own image."""
+    image = outcome(fv.normalise, data)
+    if isinstance(image, fv.Fault):
+        assert str(outcome(fv.list_sums, data)) == str(image), image
+        return
+    nodes, sums = fv.tree(image), fv.list_sums(data)
+    assert len(nodes) == len(sums) and sums == fv.list_sums(image) and sums[0] == fv.digest(data)
+    for node, found in zip(nodes, sums):
+        has_none = node.what == fv.NODE_SECTION and node.holds != fv.BYTES
+        part = image[node.offset : node.offset + node.len]
+        assert found == (None if has_none else hashlib.sha256(part).digest()), node
+    outer = [digest for node, digest in zip(nodes, sums) if node.depth == 1]
+    assert outer == [hashlib.sha256(fv.extract(data, number)).digest() for number in range(len(outer))]
 
 
 def lines(data):
@@ -193,6 +255,8 @@ def main():
             continue
         volumes += 1
         check_places(data)
+        check_tree(data)
+        check_sums(data)
         if given.program:
             compared += check_program(given.program, path, data)
     print(f"parts: {volumes} volumes; {compared} outputs of the program are the same")

@@ -40,18 +40,21 @@ void rattle_dealloc(uint8_t *p)
     free(p);
 }
 
-enum { CALLS = 13 };
+enum { CALLS = 16 };
 static const char *const names[CALLS] = {"normalise", "normalise_image", "is_canonical", "digest", "scan",
                                          "compare",   "cells",           "files",        "sections", "extract",
-                                         "extract_section", "hobs",      "depex"};
+                                         "extract_section", "check_image", "tree", "list_sums", "hobs", "depex"};
 static uint8_t in[1 << 24], buffer[1 << 24];
 static fv_fault fault;
 
 static uint32_t call(int which, size_t n)
 {
     static fv_cell cells[4096];
+    static fv_volume_check checks[64];
     static fv_file files[4096];
     static fv_section sections[4096];
+    static fv_node nodes[4096];
+    static fv_sha256 sums[4096];
     static fv_hob list[4096];
     static char line[553];
     static uint64_t offsets[64];
@@ -75,7 +78,10 @@ static uint32_t call(int which, size_t n)
     case 8: return fv_sections(in, n, 0, sections, 4096, &count, &fault);
     case 9: return fv_extract(in, n, 0, FV_WHOLE_FILE, buffer, n, &count, &fault);
     case 10: return fv_extract(in, n, 0, 0, buffer, n, &count, &fault);
-    case 11: return fv_hobs(blocks_of, sizeof blocks_of, list, 4096, &count, &consumed, &fault);
+    case 11: return fv_check_image(in, n, checks, 64, &count, &fault);
+    case 12: return fv_tree(in, n, nodes, 4096, &count, &fault);
+    case 13: return fv_list_sums(in, n, sums, 4096, &count, &fault);
+    case 14: return fv_hobs(blocks_of, sizeof blocks_of, list, 4096, &count, &consumed, &fault);
     default: return fv_depex(expression, sizeof expression, 0, &guid, 1, &value, &fault);
     }
 }
@@ -87,7 +93,7 @@ int main(int argc, char **argv)
     size_t n = fread(in, 1, sizeof in, f);
     fclose(f);
     for (int which = 0; which < CALLS; which++) {
-        uint32_t want = 0, memory = which < 11 ? 24 : 6;
+        uint32_t want = 0, memory = which < 14 ? 24 : 6;
         long k;
         for (k = -1;; k++) {
             left = k;

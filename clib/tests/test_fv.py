@@ -1,19 +1,24 @@
 #!/usr/bin/env python3
-"""test_fv.py FILE..: the calls of fv.py over files, each held against the others and against hashlib."""
+"""test_fv.py FILE..: the calls of the Python package over files, each held against the others and against hashlib."""
 
 import concurrent.futures
 import copy
+import dataclasses
 import hashlib
 import multiprocessing
 import pickle
+import re
 import sys
 import threading
 import time
 import uuid
 from pathlib import Path
 
-sys.path.insert(0, str(Path(__file__).resolve().parent.parent))
+ROOT = Path(__file__).resolve().parents[2]
+# A copy that is installed, or that PYTHONPATH names, comes first.
+sys.path.append(str(ROOT / "clib/python"))
 import fv
+from fv import _library
 
 NOT_FOUND = "the volume has no file of this number, or the file no section of this number"
 
@@ -23,6 +28,14 @@ def outcome(call, *arguments):
         return call(*arguments)
     except fv.Fault as fault:
         return str(fault)
+
+
+def raised_or(call, *arguments):
+    """What a call returns, or the fault that it raises."""
+    try:
+        return call(*arguments)
+    except fv.Fault as fault:
+        return fault
 
 
 def fields(fault):
@@ -80,6 +93,52 @@ def results_have_texts(faults):
     assert all(fv.fault_text(number) == none for number in (*range(faults + 1, 256), *range(258, 1024)))
 
 
+def calls_are_all():
+    """The package knows each call that the library exports."""
+    exported = re.findall(r"(?m)^ *(fv_\w+);", (ROOT / "clib/fv.map").read_text(encoding="utf-8"))
+    assert sorted(exported) == sorted(_library.ARGUMENTS), set(exported) ^ set(_library.ARGUMENTS)
+
+
+def rows_are_sequences(volume):
+    """What a call returns cannot be changed. Rows are a sequence, can be copied and sent, and may be many."""
+    rows = fv.cells(volume)
+    assert isinstance(raised(setattr, rows[0], "offset", 1), dataclasses.FrozenInstanceError)
+    assert isinstance(raised(setattr, fv.verify(volume), "length", 1), dataclasses.FrozenInstanceError)
+    assert rows == list(rows) == rows[:] == [*reversed(rows)][::-1] and rows[-1] == rows[len(rows) - 1]
+    assert isinstance(raised(lambda: rows[len(rows)]), IndexError) and rows != rows[:-1] and rows != "rows"
+    for again in (copy.copy(rows), copy.deepcopy(rows), pickle.loads(pickle.dumps(rows))):
+        assert isinstance(again, fv.Rows) and again == rows
+    for count in (1023, 1024, 1025, 3000):
+        many = volume_of(b"\x05\x00\x00\x19z000" * count)
+        assert len(fv.sections(many, 0)) == fv.files(many)[0].sections == count
+        assert fv.sections(many, 0)[count - 1] == fv.Section(1, None, 0, 0x19, 4, fv.Holds.BYTES)
+        last = fv.Node(72 + 24 + 8 * count - 4, 1, 1, 2, count - 1, fv.NODE_SECTION, 0x19, 0, 4, fv.BYTES, None)
+        assert len(fv.tree(many)) == count + 2 and fv.tree(many)[-1] == last
+        assert len(fv.list_sums(many)) == count + 2 and fv.list_sums(many)[-1] == hashlib.sha256(b"z").digest()
+        assert fv.scan(volume * count) == [*range(0, len(volume) * count, len(volume))]
+        checks = [fv.VolumeCheck(at, len(volume), True, None) for at in fv.scan(volume * count)]
+        assert fv.check_image(volume * count) == checks
+        table = b"\x01\x00\x38\x00".ljust(56, b"\0")
+        blocks = b"\xfe\xff\x08\x00".ljust(8, b"\0") * (count - 2) + b"\xff\xff\x08\x00".ljust(8, b"\0")
+        hobs, consumed = fv.hobs(table + blocks)
+        assert len(hobs) == count and consumed == len(table + blocks) and hobs[-1] == fv.Hob(0, 0, 0xFFFF, 8)
+
+
+def checks_have_faults(volume):
+    """The row of a volume that is rejected has its fault. Rows with faults are equal, and can be copied and sent."""
+    wrong = volume.replace(b"\x05\x00\x00\x19", b"\x03\x00\x00\x19")
+    fault = raised(fv.is_canonical, wrong)
+    rows = fv.check_image(volume + wrong)
+    wanted = fv.Fault(fault.number, fault.offset + len(volume), fault.depth)
+    assert rows == [fv.VolumeCheck(0, len(volume), True, None), fv.VolumeCheck(len(volume), len(volume), False, wanted)]
+    assert isinstance(raised(setattr, rows[0], "canonical", False), dataclasses.FrozenInstanceError)
+    for again in (copy.copy(rows), copy.deepcopy(rows), pickle.loads(pickle.dumps(rows))):
+        assert isinstance(again, fv.Rows) and again == rows and hash(again[1].fault) == hash(wanted)
+    for again in (copy.deepcopy(rows[1]), pickle.loads(pickle.dumps(rows[1]))):
+        assert again == rows[1] and again.fault.text == wanted.text
+    assert wanted != fault and wanted != "fault" and fv.check_image(wrong[8:]) == []
+
+
 def buffers_are_read(volume):
     """Each kind of buffer is read, and a buffer that is read in place as it is."""
     image = fv.normalise(volume)
@@ -90,6 +149,9 @@ def buffers_are_read(volume):
             assert fv.compare(data, image, in_place=in_place) == "same"
             assert fv.scan(data, in_place=in_place) == [0]
             assert len(fv.files(data, in_place=in_place)) == len(fv.files(volume))
+            assert fv.tree(data, in_place=in_place) == fv.tree(volume)
+            assert fv.check_image(data, in_place=in_place) == fv.check_image(volume)
+            assert fv.list_sums(data, in_place=in_place) == fv.list_sums(volume)
 
 
 def buffers_may_change(seconds):
@@ -109,14 +171,28 @@ def buffers_may_change(seconds):
     writer.start()
     begin, calls = time.monotonic(), 0
     while time.monotonic() - begin < seconds:
-        for call in (fv.normalise, fv.digest, fv.is_canonical):
+        for call in (fv.normalise, fv.digest, fv.is_canonical, fv.tree, fv.check_image, fv.list_sums):
             outcome(call, data)
         for call in (fv.sections, fv.extract):
             outcome(call, data, 0)
-        calls += 5
+        calls += 8
     ends.set()
     writer.join()
     return calls
+
+
+def checks_are_of_volumes(path, data, offsets):
+    """What is said of each volume of an image is what is said of the volume."""
+    checks = fv.check_image(data)
+    assert [it.offset for it in checks] == offsets, path
+    for check in checks:
+        judged = raised_or(fv.is_canonical, data[check.offset :][: check.length])
+        assert check.length == fv.verify(data[check.offset :]).length, path
+        if check.fault is None:
+            assert judged is check.canonical, (path, check)
+        else:
+            place = check.fault.number, check.fault.offset - check.offset, check.fault.depth
+            assert not check.canonical and place == (judged.number, judged.offset, judged.depth), (path, check)
 
 
 def volume_of(stream):
@@ -139,6 +215,9 @@ def main(paths):
     assert fv.is_canonical(volume) and len(fv.sections(volume, 0)) == 1
     faults_are_sent(volume)
     numbers_are_not_cut(volume)
+    calls_are_all()
+    rows_are_sequences(volume)
+    checks_have_faults(volume)
     buffers_are_read(volume)
     calls = buffers_may_change(2)
     images = 0
@@ -148,6 +227,7 @@ def main(paths):
         offsets = fv.scan(data)
         assert all(isinstance(outcome(fv.verify, data[at:]), fv.Extent) for at in offsets), path
         all_of_it = outcome(fv.normalise_image, data)
+        checks_are_of_volumes(path, data, offsets)
         if isinstance(image, str):
             assert outcome(fv.digest, data) == image, path
             assert not isinstance(all_of_it, bytes) or len(all_of_it) == len(data), path
@@ -171,7 +251,7 @@ def main(paths):
     for kind in (bytearray, memoryview):
         assert fv.depex(kind(both), fv.PEI, [a, b]) is True
         assert outcome(fv.normalise, kind(b"")) == "fault 1 at 0"
-    page = (Path(__file__).resolve().parents[2] / "docs/FAULTS.md").read_text(encoding="utf-8")
+    page = (ROOT / "docs/FAULTS.md").read_text(encoding="utf-8")
     page = page.split("## What each fault means for you")[1].split("\n## ")[0]
     rows = [line.strip("| ").split(" | ") for line in page.splitlines() if line.startswith("| ")][1:]
     assert [int(row[0]) for row in rows] == list(range(1, len(rows) + 1)), rows

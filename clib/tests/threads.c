@@ -16,7 +16,10 @@ static void *work(void *unused)
     uint8_t *buffer = malloc(n), *part = malloc(n);
     fv_file *files = malloc((n / 24 + 1) * sizeof *files);
     fv_section *sections = malloc((n / 4 + 1) * sizeof *sections);
-    uint64_t count, inside, len;
+    fv_node *nodes = malloc((n / 4 + 1) * sizeof *nodes);
+    fv_sha256 *sums = malloc((n / 4 + 1) * sizeof *sums);
+    fv_volume_check volume;
+    uint64_t count, inside, len, rows;
     fv_fault fault;
     uint32_t canonical;
     long bad = 0;
@@ -24,6 +27,9 @@ static void *work(void *unused)
     for (int i = 0; i < turns; i++) {
         bad += fv_normalise(in, n, buffer, n, &fault) != 0 || memcmp(buffer, in, n) != 0;
         bad += fv_is_canonical(in, n, &canonical, &fault) != 0 || canonical != 1;
+        bad += fv_check_image(in, n, &volume, 1, &count, &fault) != 0 || count != 1 || volume.canonical != 1;
+        bad += fv_tree(in, n, nodes, n / 4 + 1, &rows, &fault) != 0 || nodes[0].len != n;
+        bad += fv_list_sums(in, n, sums, n / 4 + 1, &count, &fault) != 0 || count != rows;
         bad += fv_files(in, n, files, n / 24 + 1, &count, &fault) != 0;
         for (uint64_t j = 0; j < count && j < 4; j++) {
             bad += fv_sections(in, n, j, sections, n / 4 + 1, &inside, &fault) != 0 || inside != files[j].sections;
@@ -35,6 +41,8 @@ static void *work(void *unused)
     free(part);
     free(files);
     free(sections);
+    free(nodes);
+    free(sums);
     return (void *)bad;
 }
 

@@ -1,17 +1,18 @@
 #!/usr/bin/env python3
-"""volumes.py: normalise, normalise_image, is_canonical, compare, verify and cells of fv.py over the volumes of
-crates/fv_run_tests/rows, and depex and hobs over its expressions and lists.
+"""volumes.py: normalise, normalise_image, is_canonical, check_image, compare, verify and cells of the Python package over
+the volumes of crates/fv_run_tests/rows, and depex and hobs over its expressions and lists.
 
 The images and the faults of these were worked out by hand. Of some, each byte is then replaced by each other one: the
 calls have to agree on what they are given, and whatever has an image has to keep it."""
 
+import dataclasses
 import re
 import sys
 import uuid
 from pathlib import Path
 
 ROOT = Path(__file__).resolve().parents[2]
-sys.path[:0] = [str(ROOT / "clib"), str(ROOT / "crates/fv_run_tests/rows")]
+sys.path += [str(ROOT / "clib/python"), str(ROOT / "crates/fv_run_tests/rows")]
 import fv
 import rows
 
@@ -75,11 +76,27 @@ def check_flash(accepted, rejected):
     return len(accepted) + len(rejected)
 
 
+def said_of(check):
+    """What is said of a volume of a flash image, as a row has it."""
+    fault = check.fault
+    words = "canonical" if check.canonical else "another" if fault is None else f"{fault.number} {fault.offset} {fault.depth}"
+    return f"{check.offset} {check.length} {words}"
+
+
+def check_checks(table):
+    """Each volume of a flash image is canonical, is another, or has its fault, as the row says."""
+    for row in table:
+        given, _, wanted = row.partition(" -> ")
+        found = [*map(said_of, fv.check_image(rows.spelled(given)))]
+        assert found == [it for it in wanted.split(", ") if it != "none"], (row, found)
+    return len(table)
+
+
 def check_extents(table):
     """Each volume has its extent."""
     for name, words, _ in map(rows.parts, table):
-        extent = fv.verify(rows.spelled(name))
-        assert [getattr(extent, it) for it, _ in extent._fields_] == [*map(int, words.split())], name
+        extent = dataclasses.astuple(fv.verify(rows.spelled(name)))
+        assert extent == tuple(map(int, words.split())), name
     return len(table)
 
 
@@ -187,6 +204,7 @@ def main():
     images, unfit = check_images(), check_unfit(library["unfit"])
     flash = check_flash(library["flash images"], library["rejected images"])
     print(f"volumes: {images} have their images, {unfit} do not fit; {flash} flash images and {check_full()} full volumes")
+    print(f"volumes: the volumes of {check_checks(library['checked images'])} flash images are checked")
     extents, bodies = check_extents(library["extents"]), check_bodies(rows.tables("bodies")[""])
     print(f"volumes: {extents} have their extents, and {bodies} their cells or their fault")
     print(f"volumes: {check_rejected(rows.tables('parts')[''])} expressions, hand-off lists and heads are as the rows say")

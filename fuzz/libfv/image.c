@@ -1,5 +1,5 @@
-/* What holds of fv_scan and fv_normalise_image: each volume is found, nothing else is, and each is replaced by its
- * image. */
+/* What holds of fv_scan, fv_normalise_image and fv_check_image: each volume is found, nothing else is, each is replaced
+ * by its image, and of each is said what fv_is_canonical says of it. */
 #include "coverage.h"
 #include "harness.h"
 #include "heap.h"
@@ -99,6 +99,60 @@ static void try_normalise_image(const uint8_t *bytes, size_t len, uint64_t count
     if (again) check_untouched(buffer, "normalise_image without memory");
 }
 
+/* What fv_is_canonical says of a volume of the image is what its row says. */
+static void check_row(const uint8_t *bytes, size_t len, uint64_t number, const fv_volume_check *row)
+{
+    uint64_t at = offsets[number];
+    uint32_t canonical = 0;
+    fv_extent extent = {0, 0, 0, 0, 0};
+    fv_fault fault = unset_fault;
+    fv_verify(bytes + at, len - at, &extent, &fault);
+    uint32_t result = fv_is_canonical(bytes + at, extent.length, &canonical, &fault);
+    if (result) fault.offset += at;
+    CHECK(row->offset == at && row->length == extent.length && !row->reserved, "check_image: number %lu", number);
+    CHECK(row->canonical == canonical && row->fault.number == result && is_same_fault(&row->fault, &fault),
+          "check_image: number %lu: %u, fault %u at %lu, not %u, fault %u at %lu", number, row->canonical,
+          row->fault.number, row->fault.offset, canonical, result, fault.offset);
+    saw(SEEN_CHECK, number > 3 ? 3 : (uint32_t)number, result, canonical);
+}
+
+static void read_checks(const uint8_t *bytes, size_t len, uint64_t n)
+{
+    static fv_volume_check rows[MOST_VOLUMES];
+    uint64_t count = 5;
+    fv_fault fault = unset_fault;
+    if (n) {
+        uint8_t *less = new_buffer((n - 1) * sizeof *rows, 8);
+        uint32_t result = fv_check_image(bytes, len, (fv_volume_check *)(void *)less, n - 1, &count, &fault);
+        check_plain("check_image", result, FV_BUFFER_TOO_SMALL, &fault);
+        CHECK(count == n, "check_image: %lu of %lu", count, n);
+        check_untouched(less, "check_image");
+        count = 5;
+    }
+    uint8_t *buffer = new_buffer(n * sizeof *rows, 8);
+    fault = unset_fault;
+    uint32_t result = fv_check_image(bytes, len, (fv_volume_check *)(void *)buffer, n, &count, &fault);
+    check_no_block_is_kept("check_image");
+    check_plain("check_image", result, FV_DONE, &fault);
+    CHECK(count == n, "check_image: %lu of %lu", count, n);
+    check_written(buffer, n * sizeof *rows, "check_image");
+    memcpy(rows, buffer, n * sizeof *rows);
+    for (uint64_t i = 0; i < n; i++) check_row(bytes, len, i, rows + i);
+}
+
+static void try_check_image(const uint8_t *bytes, size_t len, uint64_t n, const uint8_t *parameters)
+{
+    read_checks(bytes, len, n);
+    uint64_t count = 5;
+    fv_fault fault = unset_fault;
+    fv_volume_check *none = (fv_volume_check *)(void *)new_buffer(0, 8);
+    refuse_allocation(parameters[REFUSED + 2]);
+    uint32_t result = fv_check_image(bytes, len, none, 0, &count, &fault);
+    uint32_t usual = n ? FV_BUFFER_TOO_SMALL : FV_DONE;
+    check_refusal("check_image", result, usual, FV_OUT_OF_MEMORY, &fault);
+    CHECK(result == usual ? count == n : count == 5, "check_image: count %lu without memory", count);
+}
+
 void try_image(const uint8_t *bytes, size_t len, const uint8_t *parameters)
 {
     uint64_t count = UNTOUCHED_64;
@@ -110,6 +164,7 @@ void try_image(const uint8_t *bytes, size_t len, const uint8_t *parameters)
     read_offsets(bytes, len, count);
     saw(SEEN_SCAN, count > 9 ? 9 : (uint32_t)count, 0, 0);
     try_normalise_image(bytes, len, count, parameters);
+    try_check_image(bytes, len, count, parameters);
     uint64_t kept = 5;
     refuse_allocation(parameters[REFUSED + 1]);
     uint32_t again = fv_scan(bytes, len, none, 0, &kept);

@@ -4,6 +4,9 @@
 
 #undef fv_normalise
 #undef fv_scan
+#undef fv_check_image
+#undef fv_tree
+#undef fv_list_sums
 #undef fv_extract
 #undef fv_depex
 
@@ -14,7 +17,10 @@ enum {
     FOURTH_VOLUME,  /* scan leaves out the fourth of four volumes */
     WRITE_ON_TWINS, /* fault 17 writes to the buffer */
     SHORT_VOLUME,   /* the last byte of a nested volume that is extracted is wrong */
-    NO_NOT          /* a NOT at the third place, after FALSE, does nothing */
+    NO_NOT,         /* a NOT at the third place, after FALSE, does nothing */
+    UNMOVED_FILE,   /* the offset of a file in a nested volume counts from that volume */
+    UNMOVED_FAULT,  /* the offset of the fault of a second volume counts from that volume */
+    SIXTH_SUM       /* the last byte of the last of exactly six sums is wrong, if there is such a sum */
 };
 
 static int planted(void)
@@ -58,6 +64,32 @@ uint32_t planted_scan(const uint8_t *bytes, size_t len, uint64_t *buffer, size_t
         memcpy(buffer, all, 3 * sizeof *all);
     }
     *count = 3;
+    return result;
+}
+
+uint32_t planted_check_image(const uint8_t *image, size_t len, fv_volume_check *buffer, size_t buffer_count,
+                             uint64_t *count, fv_fault *fault)
+{
+    uint32_t result = fv_check_image(image, len, buffer, buffer_count, count, fault);
+    if (planted() == UNMOVED_FAULT && !result && *count > 1 && buffer[1].fault.number)
+        buffer[1].fault.offset -= buffer[1].offset;
+    return result;
+}
+
+uint32_t planted_tree(const uint8_t *input, size_t len, fv_node *buffer, size_t buffer_count, uint64_t *count,
+                      fv_fault *fault)
+{
+    uint32_t result = fv_tree(input, len, buffer, buffer_count, count, fault);
+    for (uint64_t i = 0; planted() == UNMOVED_FILE && !result && i < *count; i++)
+        if (buffer[i].what == FV_NODE_FILE) buffer[i].offset -= buffer[buffer[i].parent].offset;
+    return result;
+}
+
+uint32_t planted_list_sums(const uint8_t *input, size_t len, fv_sha256 *buffer, size_t buffer_count, uint64_t *count,
+                           fv_fault *fault)
+{
+    uint32_t result = fv_list_sums(input, len, buffer, buffer_count, count, fault);
+    if (planted() == SIXTH_SUM && !result && *count == 6 && buffer[5].bytes[0]) buffer[5].bytes[31] ^= 1;
     return result;
 }
 

@@ -176,6 +176,8 @@ void try_volume(const uint8_t *bytes, size_t len, const uint8_t *parameters)
     try_digest(&volume);
     try_cells(&volume);
     try_files(&volume);
+    try_tree(&volume);
+    try_sums(&volume);
     try_compare_with_itself(&volume);
     if (volume.image) try_image_of(&volume);
 }

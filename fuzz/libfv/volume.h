@@ -6,6 +6,8 @@
 
 /* The most rows of a table that are looked at. */
 #define MOST_ROWS 16000u
+/* The same of a tree. */
+#define MOST_NODES (MOST_BUFFER / sizeof(fv_node))
 
 struct volume {
     const uint8_t *bytes;
@@ -23,6 +25,7 @@ struct volume {
     uint64_t cell_count;
     const fv_file *files;
     uint64_t file_count;
+    uint64_t node_count; /* the number of rows of its tree */
 };
 
 /* Each compares a call with what is known of the volume, and adds to that. */
@@ -30,5 +33,7 @@ void try_cells(struct volume *volume);
 void try_files(struct volume *volume);
 void try_sections(const struct volume *volume, uint64_t file);
 void try_parts(const struct volume *volume, uint64_t file, const fv_section *sections, uint64_t count);
+void try_tree(struct volume *volume);
+void try_sums(const struct volume *volume);
 
 #endif

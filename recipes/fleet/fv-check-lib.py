@@ -4,7 +4,7 @@
 The answers are added to the file ANSWERS, in the order of the list. Images that have an answer there already are passed
 over: a run that was ended in the middle is started again in the same way. If memory runs out for an image while others
 are checked beside it, it is checked again alone. If it runs out then too, `0 fault 24 at 0` is its answer. LIBFV names
-the shared object, PYTHONPATH the folder of fv.py."""
+the shared object, PYTHONPATH the folder clib/python; neither is needed where the package is installed."""
 
 from __future__ import annotations
 

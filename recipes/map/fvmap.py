@@ -75,6 +75,8 @@ LEGEND = {
     "header": "header",
     "free": "free",
     "bad": "refused volume",
+    "none": "no volume",
+    "unread": "not shown",
 }
 # Parts of a volume that are no files of it: what they are called, and the class of their colour.
 GONE = {
@@ -122,7 +124,7 @@ VOLUME_LINE = re.compile(rf"volume (ffs[23]) length (\d+) files (\d+)(?: name ({
 FILE_LINE = re.compile(
     rf"file \d+ ({GUID}) type ([0-9a-f]{{2}}) attributes ([0-9a-f]{{2}}) data (\d+)(?: sha256 ([0-9a-f]{{64}}))?"
 )
-SECTION_LINE = re.compile(r'section \d+ type ([0-9a-f]{2}) (short|extended) body (\d+)(?: ui "([^"]*)"| .*)?')
+SECTION_LINE = re.compile(r'section \d+ type ([0-9a-f]{2}) (short|extended) body (\d+)(?: ui "([^"]*)")?(?: .*)?')
 CELL_LINE = re.compile(
     rf"(\w+) at (\d+) length (\d+)(?: ({GUID}) type ([0-9a-f]{{2}}) attributes .. data at \d+ length (\d+))?"
 )
@@ -196,6 +198,18 @@ class Volume:
         return sum(cell.length for cell in self.cells if cell.what in whats)
 
 
+@dataclass
+class Image:
+    """An image: where it is, its size and SHA-256, its volumes, and from which byte on volumes are not shown."""
+
+    path: str
+    size: int
+    digest: str
+    volumes: list[Volume]
+    unread: int
+    is_cut: bool
+
+
 class Failed(Exception):
     """The program could not be asked."""
 
@@ -209,6 +223,7 @@ class Tool:
     def __init__(self, program: str, room: str) -> None:
         self.program, self.room, self.count, self.opened, self.sections, self.volumes = program, room, 0, 0, 0, 0
         self.is_cut = False  # whether the image has more than is drawn
+        self.unread: int | None = None  # where the first volume of the image lies that is not drawn
 
     def keep(self, data: bytes) -> str:
         """A file with these bytes."""
@@ -244,16 +259,29 @@ class Tool:
         return status, said.decode("ascii").rstrip("\n")
 
 
+def read_image(program: str, path: str, room: str) -> Image:
+    """An image, with all that the program says of it."""
+    with open(path, "rb") as file:
+        data = file.read()
+    tool = Tool(program, room)
+    volumes = volumes_in(tool, data)
+    unread = len(data) if tool.unread is None else tool.unread
+    return Image(path, len(data), hashlib.sha256(data).hexdigest(), volumes, unread, tool.is_cut)
+
+
 def volumes_in(tool: Tool, data: bytes, depth: int = 0) -> list[Volume]:
     """The volumes of an image, with their files and what those hold."""
     path = tool.keep(data)
     status, said = tool.text("scan", path)
     if status:
         raise Failed(f"scan: {said}")
-    places = [line.split() for line in said.splitlines()]
+    places = [(int(words[2]), int(words[4])) for words in map(str.split, said.splitlines())]
     left = max(MOST_VOLUMES - tool.volumes, 0)
-    tool.is_cut = tool.is_cut or len(places) > left
-    volumes = [Volume(int(words[2]), int(words[4]), number) for number, words in enumerate(places[:left])]
+    if len(places) > left:
+        tool.is_cut = True
+        if depth == 0:
+            tool.unread = places[left][0]
+    volumes = [Volume(at, length, number) for number, (at, length) in enumerate(places[:left])]
     tool.volumes += len(volumes)
     for volume in volumes:
         read_volume(tool, path, volume, depth)
@@ -457,14 +485,44 @@ def amount(count: int) -> str:
     return f"{count / 1024:.1f} KiB" if count >= 1024 else f"{count} B"
 
 
+def offset(at: int) -> str:
+    """An offset, decimal and hexadecimal."""
+    return f"{at} ({at:#x})"
+
+
+def name_of(path: str, other: str | None) -> str:
+    """What an image is called: the name of its file, with as much of its path as it takes to know it from another."""
+    ours, theirs = (Path(os.path.abspath(it)).parts for it in (path, other or path))
+    count = 1
+    while ours != theirs and ours[-count:] == theirs[-count:]:
+        count += 1
+    return printable(os.path.join(*ours[-count:]))
+
+
+def bytes_of(count: int) -> str:
+    """A number of bytes with a unit, and exactly."""
+    return f"{amount(count)} ({count:,} bytes)"
+
+
 def percent(part: int, whole: int) -> str:
     """A share of a whole."""
     return f"{100 * part / whole:.1f} %" if whole else "0 %"
 
 
+def offset_cells(at: int | None) -> str:
+    """Two cells of a table: an offset, decimal and hexadecimal."""
+    shown = ("", "") if at is None else (at, f"{at:#x}")
+    return "".join(f'<td class="n mono">{it}' for it in shown)
+
+
 def text(value: object) -> str:
     """Text for the page: of the image nothing is taken for markup."""
     return html.escape(str(value), quote=True)
+
+
+def breakable(name: str) -> str:
+    """A name for the page, which may be broken between its words."""
+    return "<wbr>".join(text(it) for it in re.split(r"(?<=[a-z0-9])(?=[A-Z])", name))
 
 
 def kind_of(kind: int) -> tuple[str, str]:
@@ -473,9 +531,10 @@ def kind_of(kind: int) -> tuple[str, str]:
 
 
 def fault_of(fault: str) -> str:
-    """A fault, and what it means."""
+    """A fault, its offset in both ways, and what it means."""
     match = re.match(r"fault (\d+)", fault)
     meaning = FAULTS.get(int(match[1])) if match else None
+    fault = re.sub(r"\bat (\d+)", lambda it: f"at {offset(int(it[1]))}", fault)
     return f"{fault}: {meaning}" if meaning else fault
 
 
@@ -483,6 +542,7 @@ def fault_of(fault: str) -> str:
 
 
 Box = tuple[float, float, float, float]
+Part = tuple[int, int, str, str]  # of a strip: offset, length, colour, title
 
 
 def worst_side(areas: list[float], short: float) -> float:
@@ -535,78 +595,83 @@ class Page:
         """What the place of a volume on the page is called."""
         return self.anchors.setdefault(id(volume), f"v{len(self.anchors)}")
 
-    def head(self, path: str, data: bytes, volumes: list[Volume]) -> None:
+    def head(self, image: Image, name: str) -> None:
         """What image it is."""
-        total = sum(volume.length for volume in volumes)
-        count = f"{len(volumes)} volume{'s' * (len(volumes) != 1)} in {percent(total, len(data))}"
-        self.add(f"<header><h1>{text(printable(os.path.basename(path)))}</h1>")
-        self.add(f"<p>{amount(len(data))} ({len(data):,} bytes), {count} of it</p>")
-        self.add(f'<p class="mono dim">SHA-256 {hashlib.sha256(data).hexdigest()}</p></header>')
+        total = sum(volume.length for volume in image.volumes)
+        count = f"{len(image.volumes)} volume{'s' * (len(image.volumes) != 1)} in {percent(total, image.size)}"
+        self.add(f"<header><h1>{text(name)}</h1>")
+        self.add(f"<p>{text(bytes_of(image.size))}, {count} of it</p>")
+        self.add(f'<p class="mono dim">SHA-256 {image.digest}</p></header>')
 
-    def strip(self, parts: list[tuple[int, int, str, str]], whole: int, first: int = 0) -> None:
-        """Parts of a whole: offset, length, colour, title. Parts too thin to be seen are drawn as one."""
+    def strip(self, parts: list[Part], whole: int) -> None:
+        """Parts of a whole. Parts too thin to be seen are drawn as one, but none with what is no volume."""
         self.add('<div class="strip">')
         thin = whole / 1200
         at, length, color, title = 0, 0, "", ""
         for part in [*parts, (whole, 0, "", "")]:
-            if length and length < thin and 0 < part[1] < thin and part[0] == at + length:
+            are_thin = 0 < length < thin and 0 < part[1] < thin and part[0] == at + length
+            if are_thin and "none" not in (color, part[2]):
                 length, title = length + part[1], "several parts"
                 continue
             if length:
-                self.part(at, length, color, title, whole, first)
+                self.part((at, length, color, title), whole)
             at, length, color, title = part
         self.add("</div>")
-        self.add(f'<div class="ends"><span>{first:#x}</span><span>{first + whole:#x}</span></div>')
+        self.add(f'<div class="ends"><span>{offset(0)}</span><span>{offset(whole)}</span></div>')
 
-    def part(self, at: int, length: int, color: str, title: str, whole: int, first: int) -> None:
+    def part(self, part: Part, whole: int) -> None:
         """A part of a strip, with its name on it if that has room."""
-        place = f"left:{100 * at / whole:.4f}%;width:{100 * length / whole:.4f}%"
-        about = text(f"{title}\nat {first + at:#x}, {amount(length)}")
+        at, length, color, title = part
+        sides = f"left:{100 * at / whole:.4f}%;right:{100 * (whole - at - length) / whole:.4f}%"
+        about = text(f"{title}\nat {offset(at)}, {amount(length)}")
         edge = " edge" if length > whole / 200 else ""
         label = f"{title} {amount(length)}"
         shown = text(label) if len(label) < 130 * length / whole else ""
-        self.add(f'<i class="{self.color(color)}{edge}" style="{place}" title="{about}">{shown}</i>')
+        self.add(f'<i class="{self.color(color)}{edge}" style="{sides}" title="{about}">{shown}</i>')
 
-    def flash(self, volumes: list[Volume], size: int) -> None:
-        """Where the volumes of the image lie."""
-        parts, end = [], 0
-        for volume in volumes:
-            if volume.at > end:
-                parts.append((end, volume.at - end, "pad", "no volume"))
+    def flash(self, image: Image) -> None:
+        """Where the volumes of the image lie, and what is none."""
+        parts: list[Part] = []
+        end = 0
+        for volume in image.volumes:
+            parts.append((end, volume.at - end, "none", "no volume"))
             color = "bad" if volume.fault else "image"
             parts.append((volume.at, volume.length, color, self.names.volume(volume)))
             end = volume.at + volume.length
-        if end < size:
-            parts.append((end, size - end, "pad", "no volume"))
+        parts.append((end, image.unread - end, "none", "no volume"))
+        parts.append((image.unread, image.size - image.unread, "unread", "not shown"))
         self.add("<section><h2>The image</h2>")
-        self.strip(parts, size)
-        self.add(
-            '<table><tr><th>Volume<th class="n">Offset<th class="n">Size<th class="n">Files<th>Used<th class="n">Pads'
-            '<th class="n">Free<th>Verdict</tr>'
-        )
-        self.rows(volumes, 0)
-        self.add("</table></section>")
+        self.strip([part for part in parts if part[1]], image.size)
+        self.add('<div class="wide"><table><tr><th>Volume<th class="n" colspan="2">Offset<th class="n">Size')
+        self.add('<th class="n">Files<th>Used<th class="n">Pads<th class="n">Free<th>Verdict</tr>')
+        volumes = {volume.at: volume for volume in image.volumes}
+        for at, length, color, title in parts:
+            if color in ("none", "unread") and length:
+                cells = f'{title}{offset_cells(at)}<td class="n">{amount(length)}<td colspan="5">'
+                self.add(f'<tr class="dim"><td class="name">{cells}</tr>')
+            elif length:
+                self.rows(volumes[at], 0)
+        self.add("</table></div></section>")
 
-    def rows(self, volumes: list[Volume], depth: int) -> None:
-        """A line of the table of volumes for each, and for those inside."""
-        for volume in volumes:
+    def rows(self, volume: Volume, depth: int) -> None:
+        """A row of the table of volumes, and those of the volumes inside."""
+        self.add(
+            f'<tr><td class="name" style="padding-left:{18 * depth}px"><a href="#{self.anchor(volume)}">'
+            f'{text(self.names.volume(volume))}</a>{offset_cells(volume.at)}<td class="n">{amount(volume.length)}'
+        )
+        if volume.cells:
             used = volume.sum_of("header", "file")
-            self.add(
-                f'<tr><td style="padding-left:{18 * depth}px"><a href="#{self.anchor(volume)}">'
-                f"{text(self.names.volume(volume))}</a>"
-                f'<td class="n mono">{volume.at:#x}<td class="n">{amount(volume.length)}'
-            )
-            if volume.cells:
-                width = f"width:{100 * used / volume.length:.1f}%"
-                meter = f'<span class="meter"><i style="{width}"></i></span> {percent(used, volume.length)}'
-                rest = "".join(f'<td class="n">{amount(volume.sum_of(what))}' for what in ("pad", "free"))
-                self.add(f'<td class="n">{len(volume.files)}<td>{meter}{rest}')
-            else:
-                self.add("<td><td><td><td>")
-            self.add(f"<td>{self.verdict(volume)}</tr>")
-            for file in volume.files:
-                for inside in file.inside:
-                    self.rows(inside.volumes, depth + 1)
+            width = f"width:{100 * used / volume.length:.1f}%"
+            meter = f'<span class="meter"><i style="{width}"></i></span> {percent(used, volume.length)}'
+            rest = "".join(f'<td class="n">{amount(volume.sum_of(what))}' for what in ("pad", "free"))
+            self.add(f'<td class="n">{len(volume.files)}<td>{meter}{rest}')
+        else:
+            self.add("<td><td><td><td>")
+        self.add(f"<td>{self.verdict(volume)}</tr>")
+        for file in volume.files:
+            for inside in file.inside:
+                for inner in inside.volumes:
+                    self.rows(inner, depth + 1)
 
     def verdict(self, volume: Volume) -> str:
         """Whether a volume is its own canonical image."""
@@ -620,40 +685,43 @@ class Page:
         self.add(
             f'<section id="{self.anchor(volume)}"><h2>{text(self.names.volume(volume))} {self.verdict(volume)}</h2>'
         )
-        facts = [f"{inside}at {volume.at:#x}", f"{amount(volume.length)} ({volume.length:,} bytes)", volume.system]
+        facts = [f"{inside}at {offset(volume.at)}", bytes_of(volume.length), volume.system]
         whats = {"file": "files", "pad": "pads", "free": "free"}
         facts += [f"{name} {amount(volume.sum_of(what))}" for what, name in whats.items() if volume.sum_of(what)]
         gone = volume.sum_of("deleted", "unfinished")
         facts += [f"deleted or unfinished {amount(gone)}"] if gone else []
         self.add(f"<p>{text(' · '.join(fact for fact in facts if fact))}</p>")
-        if volume.before and volume.before.cells and volume.before.cells != volume.cells:
-            self.add('<p class="label">Where it lay before</p>')
-            self.cells(volume.before)
-            self.add('<p class="label">Where it lies now</p>')
-        elif volume.cells:
-            self.add('<p class="label">Where it lies</p>')
-        if volume.cells:
-            self.cells(volume)
+        self.places(volume)
         if len(volume.files) > 2 and any(file.size for file in volume.files):
             self.add('<p class="label">How large the files are</p>')
-            self.treemap(volume)
+            self.areas(volume)
         if volume.files:
             self.table(volume)
         for file in volume.files:
             for part in file.inside:
-                ratio = (
-                    f"{amount(part.packed)} unpacked to {amount(part.size)}"
-                    if part.how == "LZMA"
-                    else amount(part.size)
-                )
+                size = amount(part.size)
+                if part.how == "LZMA":
+                    size = f"{amount(part.packed)} unpacked to {size}"
                 for inner in part.volumes:
-                    self.volume(inner, f"in {self.names.file(file)} ({part.how}, {ratio}) ")
+                    self.volume(inner, f"in {self.names.file(file)} ({part.how}, {size}) ")
         self.add("</section>")
 
+    def places(self, volume: Volume) -> None:
+        """Where the parts of a volume lie, and where they lay before."""
+        if not volume.cells:
+            return
+        label = "Where it lies"
+        if volume.before and volume.before.cells and volume.before.cells != volume.cells:
+            self.add('<p class="label">Where it lay before</p>')
+            self.cells(volume.before)
+            label = "Where it lies now"
+        self.add(f'<p class="label">{label}</p>')
+        self.cells(volume)
+
     def cells(self, volume: Volume) -> None:
-        """Where the parts of a volume lie."""
+        """The parts of a volume in a strip."""
         files = {file.at: file for file in volume.files}
-        parts = []
+        parts: list[Part] = []
         for cell in volume.cells:
             if cell.at in files:
                 name, color = self.names.file(files[cell.at]), kind_of(cell.kind)[1]
@@ -662,70 +730,75 @@ class Page:
             parts.append((cell.at, cell.length, color, name))
         self.strip(parts, volume.length)
 
-    def treemap(self, volume: Volume) -> None:
-        """Files as rectangles of their sizes."""
+    def areas(self, volume: Volume) -> None:
+        """Files as rectangles of their sizes. The style hides a name that has no room."""
         files = sorted((file for file in volume.files if file.size), key=lambda it: -it.size)[:MOST_DRAWN]
         height = 560 if len(files) > 40 else 340 if len(files) > 8 else 180
         total = sum(file.size for file in files)
-        self.add(f'<svg viewBox="0 0 1100 {height}" role="img" aria-label="sizes of files">')
-        for file, (x, y, width, tall) in zip(files, squarified([file.size for file in files], (0, 0, 1100, height))):
+        boxes = squarified([file.size for file in files], (0, 0, 1100, height))
+        self.add(f'<div class="areas" style="height:{height}px" role="img" aria-label="sizes of files">')
+        for file, (x, y, width, tall) in zip(files, boxes):
             kind, color = kind_of(file.kind)
             name = self.names.file(file)
-            about = f"{name}\n{kind}\n{amount(file.size)} ({file.size:,} bytes)"
-            about += f", {percent(file.size, total)} of the files\n{file.guid}"
+            about = f"{name}\n{kind}\n{bytes_of(file.size)}, {percent(file.size, total)} of the files\n{file.guid}"
             if file.mark:
                 about += f"\n{file.mark}"
                 self.marks.add(file.mark)
-            size = f'width="{max(width - 1.5, 0.5):.1f}" height="{max(tall - 1.5, 0.5):.1f}"'
-            self.add(f'<svg x="{x + 0.75:.1f}" y="{y + 0.75:.1f}" {size}><title>{text(about)}</title>')
-            self.add(f'<rect width="100%" height="100%" class="{self.color(color)} {file.mark}"/>')
-            room = int((width - 10) / 8.3)
-            if room > 2 and tall > 19:
-                shown = name if len(name) <= room else name[: room - 1] + "…"
-                self.add(f'<text x="6" y="15">{text(shown)}</text>')
-                if tall > 36 and width > 60:
-                    self.add(f'<text x="6" y="30" class="small">{amount(file.size)}</text>')
-            self.add("</svg>")
-        self.add("</svg>")
+            sides = f"left:{x / 11:.3f}%;top:{y:.1f}px;width:{width / 11:.3f}%;height:{tall:.1f}px"
+            self.add(f'<i style="{sides}" title="{text(about)}"><span class="{self.color(color)} {file.mark}">')
+            self.add(f"<b>{breakable(name)}</b><small>{amount(file.size)}</small></span></i>")
+        self.add("</div>")
 
     def table(self, volume: Volume) -> None:
         """The files of a volume, in their order."""
         most = max(file.size for file in volume.files) or 1
         count = f"{len(volume.files)} file{'s' * (len(volume.files) != 1)}"
-        self.add(f'<details{" open" * (len(volume.files) < 4)}><summary>{count}</summary><table>')
-        self.add('<tr><th class="n">Offset<th>Name<th>Type<th class="n">Size<th><th>Sections<th>GUID</tr>')
+        self.add(f'<details{" open" * (len(volume.files) < 4)}><summary>{count}</summary><div class="wide"><table>')
+        self.add('<tr><th class="n" colspan="2">Offset<th>Name<th>Type<th class="n">Size<th><th>Sections<th>GUID</tr>')
         for file in volume.files[:MOST_ROWS]:
             kind, color = kind_of(file.kind)
             parts = [f"{SECTIONS.get(it.kind, f'type {it.kind:02x}')} {amount(it.body)}" for it in file.sections[:8]]
             parts += ["…"] if len(file.sections) > 8 else []
             parts += [f"(not opened: {how})" for how in file.closed[:4]]
             mark = f' <span class="chip {file.mark}">{file.mark}</span>' if file.mark else ""
-            at = f"{file.at:#x}" if file.at is not None else ""
-            bar = f'<i class="bar {self.color(color)}" style="width:{max(70 * file.size / most, 1):.0f}px"></i>'
+            bar = f'<i class="bar {self.color(color)}" style="width:{max(50 * file.size / most, 1):.0f}px"></i>'
             self.add(
-                f'<tr><td class="n mono">{at}<td>{text(self.names.file(file))}{mark}<td>{text(kind)}'
+                f'<tr>{offset_cells(file.at)}<td class="name">{breakable(self.names.file(file))}{mark}<td>{text(kind)}'
                 f'<td class="n" title="{file.size:,} bytes">{amount(file.size)}<td>{bar}'
-                f'<td class="dim">{text(", ".join(parts))}<td class="mono dim">{text(file.guid)}</tr>'
+                f'<td class="long dim">{text(", ".join(parts))}<td class="mono dim">{text(file.guid)}</tr>'
             )
-        self.add("</table></details>")
+        self.add("</table></div></details>")
 
-    def changes(self, other: str, found: list[Change]) -> None:
-        """What came, went and changed."""
+    def against(self, old: Image, new: Image, found: list[Change]) -> None:
+        """Which image is which, and what came, went and changed."""
+        self.add(f"<section><h2>Against {text(name_of(old.path, new.path))}</h2>")
+        self.add('<div class="wide"><table><tr><th><th>Image<th class="n">Size<th>SHA-256</tr>')
+        for when, image, other in (("before", old, new), ("now", new, old)):
+            self.add(f'<tr><td>{when}<td class="name">{text(name_of(image.path, other.path))}')
+            self.add(f'<td class="n">{text(bytes_of(image.size))}<td class="mono dim">{image.digest}</tr>')
+        self.add("</table></div>")
+        if old.digest == new.digest:
+            self.add("<p>The two have the same bytes.</p>")
         counts = {kind: sum(it.kind == kind for it in found) for kind in ("came", "went", "changed")}
-        self.add(f"<section><h2>Against {text(printable(os.path.basename(other)))}</h2><p>")
-        self.add(*[f'<span class="chip {kind}">{count} {kind}</span>' for kind, count in counts.items()], "</p>")
+        self.add("<p>", *[f'<span class="chip {kind}">{count} {kind}</span>' for kind, count in counts.items()], "</p>")
         if found:
-            self.add('<table><tr><th><th>File<th>In<th class="n">Before<th class="n">Now<th class="n">By</tr>')
+            self.changes(found)
+        self.add("</section>")
+
+    def changes(self, found: list[Change]) -> None:
+        """The files that came, went or changed."""
+        self.add('<div class="wide"><table>')
+        self.add('<tr><th><th>File<th class="n">Before<th class="n">Now<th class="n">By<th>In</tr>')
         for it in found[:MOST_ROWS]:
             file = it.new or it.old
             sizes = [f'<td class="n">{amount(side.size) if side else "–"}' for side in (it.old, it.new)]
             by = f"{'+' if it.by > 0 else '−' if it.by < 0 else ''}{amount(abs(it.by))}"
             self.add(
                 f'<tr><td><span class="chip {it.kind}">{it.kind}</span>'
-                f'<td>{text(self.names.file(file)) if file else ""}'
-                f'<td class="dim">{text(it.where)}{"".join(sizes)}<td class="n" title="{it.by:+,} bytes">{by}</tr>'
+                f'<td class="name">{breakable(self.names.file(file)) if file else ""}'
+                f'{"".join(sizes)}<td class="n" title="{it.by:+,} bytes">{by}<td class="long dim">{text(it.where)}</tr>'
             )
-        self.add("</table></section>" if found else "</section>")
+        self.add("</table></div>")
 
     def legend(self) -> str:
         """The colours that the page has."""
@@ -738,7 +811,7 @@ class Page:
     def whole(self, title: str) -> str:
         """The page."""
         return "\n".join(
-            [START.replace("@TITLE@", text(printable(title))).replace("@STYLE@", STYLE), *self.lines, "</body></html>"]
+            [START.replace("@TITLE@", text(title)).replace("@STYLE@", STYLE), *self.lines, "</body></html>"]
         )
 
 
@@ -749,14 +822,17 @@ START = """<!doctype html>
 
 STYLE = """
 :root{color-scheme:light dark;--page:#fbfbfa;--card:#fff;--text:#1d2126;--dim:#5d6670;--line:#dfe2e5;--link:#2b5f92;
---free:#eceeef;--pad:#c9cdd1;--header:#8d959d;--good:#2f7047;--fair:#8a5c00;--bad:#a63a3a;--edge:#ffb000}
+--free:#eceeef;--pad:#c9cdd1;--header:#8d959d;--none:#f0dfb8;--hatch:#dcc48d;--good:#2f7047;--fair:#8a5c00;
+--bad:#a63a3a;--edge:#ffb000;--shade:#0004}
 @media(prefers-color-scheme:dark){:root{--page:#15181b;--card:#1c2024;--text:#e4e7ea;--dim:#9aa4ad;--line:#343a40;
---link:#86b6e6;--free:#2a2f34;--pad:#4a5158;--header:#7b848c;--good:#6fc08c;--fair:#e0b053;--bad:#ee8585;--edge:#ffc64d}
+--link:#86b6e6;--free:#2a2f34;--pad:#4a5158;--header:#7b848c;--none:#40361f;--hatch:#5a4c2c;--good:#6fc08c;
+--fair:#e0b053;--bad:#ee8585;--edge:#ffc64d;--shade:#fff3}
 }
 *{box-sizing:border-box}
 body{margin:0 auto;max-width:1180px;padding:24px 28px 40px;background:var(--page);color:var(--text);
 font:15px/1.5 system-ui,"Segoe UI","Noto Sans","DejaVu Sans",sans-serif}
 h1{font-size:25px;line-height:1.2;margin:0 0 4px}h2{font-size:18px;margin:0 0 2px}p{margin:2px 0 6px}
+h1,h2,p{overflow-wrap:anywhere}
 header{margin-bottom:14px}header p,section>p{color:var(--dim)}.dim{color:var(--dim)}
 .mono{font-family:ui-monospace,"DejaVu Sans Mono",monospace;font-size:.87em}
 section{background:var(--card);border:1px solid var(--line);border-radius:8px;padding:14px 18px 16px;margin:14px 0}
@@ -764,65 +840,79 @@ section section{margin:16px 0 0;border-left:4px solid var(--header);border-radiu
 .label{font-size:13px;font-weight:600;margin:10px 0 3px;color:var(--text)!important}
 .strip{position:relative;height:26px;background:var(--card);border-radius:3px;overflow:hidden;outline:1px solid
 var(--line)}
-.strip i{position:absolute;top:0;bottom:0;overflow:hidden;white-space:nowrap;padding-left:7px;color:#fff;
-font-style:normal;font-size:12.5px;line-height:26px} .strip i:empty{padding:0} .strip i.edge{box-shadow:inset -1px 0
-var(--card)}
-.strip .k-free,.strip .k-pad,.strip .k-header{color:var(--text)}
-.ends{display:flex;justify-content:space-between;color:var(--dim);
+.strip i{position:absolute;top:0;bottom:0;overflow:hidden;white-space:nowrap;text-overflow:ellipsis;padding-left:7px;
+color:#fff;font-style:normal;font-size:12.5px;line-height:26px} .strip i:empty{padding:0}
+.strip i.edge{box-shadow:inset -1px 0 var(--card)}
+.strip .k-free,.strip .k-pad,.strip .k-none,.strip .k-unread{color:var(--text)} .strip .k-header{color:#15181b}
+.ends{display:flex;justify-content:space-between;gap:12px;color:var(--dim);
 font:12px/1.5 ui-monospace,"DejaVu Sans Mono",monospace}
-section>svg{display:block;width:100%}svg text{fill:#fff;font-size:12.5px;font-weight:600;pointer-events:none}
-svg text.small{font-size:11.5px;font-weight:400}
-table{border-collapse:collapse;width:100%;font-size:13.5px;margin-top:6px}
-th{text-align:left;color:var(--dim);font-weight:600} th,td{padding:3px 12px 3px
-0;vertical-align:baseline;border-bottom:1px solid var(--line)}
-th:last-child,td:last-child{padding-right:0} td{overflow-wrap:anywhere}
-.n{text-align:right;white-space:nowrap;font-variant-numeric:tabular-nums}
-details{margin-top:8px;overflow-x:auto}summary{cursor:pointer;color:var(--link);font-size:14px}a{color:var(--link)}
+.areas{position:relative}
+.areas i{position:absolute;padding:0 1.5px 1.5px 0;overflow:hidden;container-type:size;font-style:normal}
+.areas span{display:block;height:100%;overflow:hidden;padding:2px 2px 0 5px;color:#fff;font-size:12.5px;
+line-height:15px}
+.areas b{display:-webkit-box;-webkit-box-orient:vertical;-webkit-line-clamp:1;overflow:hidden;text-overflow:ellipsis;
+font-weight:600}.areas small{display:block;font-size:11.5px;white-space:nowrap}
+@container(min-height:52px){.areas b{-webkit-line-clamp:2}}
+@container(min-height:68px){.areas b{-webkit-line-clamp:3}}
+@container(max-width:60px){.areas span{padding-left:3px}.areas b{font-size:11px}}
+@container(max-width:66px) or (max-height:36px){.areas small{display:none}}
+@container(max-width:42px) or (max-height:20px){.areas b{display:none}.areas span{padding:0}}
+.wide{overflow-x:auto;margin-top:6px;
+background:linear-gradient(90deg,var(--card) 50%,transparent) 0/40px 100% local,
+linear-gradient(270deg,var(--card) 50%,transparent) 100%/40px 100% local,
+linear-gradient(90deg,var(--shade),transparent) 0/12px 100% scroll,
+linear-gradient(270deg,var(--shade),transparent) 100%/12px 100% scroll;background-repeat:no-repeat}
+.wide+p{margin-top:8px}
+table{border-collapse:collapse;width:100%;font-size:13.5px}
+th,td{padding:3px 10px 3px 0;vertical-align:baseline;border-bottom:1px solid var(--line);white-space:nowrap}
+th{text-align:left;color:var(--dim);font-weight:600} th:last-child,td:last-child{padding-right:0}
+td.name,td.long{white-space:normal;overflow-wrap:anywhere;min-width:150px} td.long{min-width:200px}
+.n{text-align:right;font-variant-numeric:tabular-nums}
+details{margin-top:8px}summary{cursor:pointer;color:var(--link);font-size:14px}a{color:var(--link)}
 .meter{display:inline-block;width:90px;height:9px;background:var(--free);border-radius:2px;vertical-align:1px}
 .meter i{display:block;height:100%;background:var(--link);border-radius:2px}
 .bar{display:inline-block;height:9px;border-radius:1px}
 .chip{display:inline-block;border:1px solid currentColor;border-radius:9px;padding:0 8px;font-size:12px;font-weight:600;
-line-height:17px;vertical-align:1px;margin-right:6px;white-space:nowrap}
+line-height:17px;vertical-align:1px;margin-right:6px;white-space:nowrap} h2 .chip{white-space:normal}
 .chip.good,.chip.came{color:var(--good)} .chip.fair,.chip.changed{color:var(--fair)}
 .chip.bad,.chip.went{color:var(--bad)}
 .legend{font-size:13px;color:var(--dim)}.legend span{display:inline-block;margin-right:16px}
 .legend i{display:inline-block;width:12px;height:12px;margin-right:5px;vertical-align:-1px;border-radius:2px}
-.k-core{background:#98404c;fill:#98404c}.k-pei{background:#8d6114;fill:#8d6114}.k-dxe{background:#35618f;fill:#35618f}
-.k-mm{background:#6a5598;fill:#6a5598}.k-app{background:#1c7069;fill:#1c7069}.k-image{background:#56687c;fill:#56687c}
-.k-free-form{background:#537338;fill:#537338} .k-raw{background:#75695c;fill:#75695c}
-.k-other{background:#6b6b6b;fill:#6b6b6b}
-.k-pad{background:var(--pad)} .k-deleted{background:#33373b;outline:1px solid var(--dim)}
-.k-header{background:var(--header)}
-.k-free{background:var(--free)}.k-bad{background:#a63a3a}
-.legend i.mark{width:22px;background:none;border:2px solid var(--edge)}.legend i.changed{border-style:dashed}
-rect.came{stroke:var(--edge);stroke-width:3}rect.changed{stroke:var(--edge);stroke-width:2;stroke-dasharray:5 4}
+.k-core{background:#98404c}.k-pei{background:#8d6114}.k-dxe{background:#35618f}.k-mm{background:#6a5598}
+.k-app{background:#1c7069}.k-image{background:#56687c}.k-free-form{background:#537338}.k-raw{background:#75695c}
+.k-other{background:#6b6b6b}.k-bad{background:#a63a3a}.k-header{background:var(--header)}
+.k-pad{background:var(--pad)}.k-free{background:var(--free)}
+.k-deleted{background:#33373b;outline:1px solid var(--dim);outline-offset:-1px}
+.k-none{background:repeating-linear-gradient(135deg,var(--none) 0 6px,var(--hatch) 6px 8px)}
+.k-unread{background:var(--card);outline:1px dashed var(--dim);outline-offset:-1px}
+.legend .k-free{outline:1px solid var(--line);outline-offset:-1px}
+.legend i.mark{width:22px;border:2px solid var(--edge)}.legend i.changed{border-style:dashed}
+.areas .came{border:3px solid var(--edge)}.areas .changed{border:2px dashed var(--edge)}
+@media(max-width:700px){body{padding:14px 12px 24px}section{padding:10px 10px 12px}section section{padding-left:8px}
+td.long{min-width:520px}}
 """
 
 
 def make_page(given: argparse.Namespace) -> str:
     """The page of an image."""
     names = Names([given.guids, *given.names])
-    with open(given.image, "rb") as file:
-        data = file.read()
     with tempfile.TemporaryDirectory(prefix="fvmap-") as room:
-        tool, other = Tool(given.fvtool, room), Tool(given.fvtool, room)
-        volumes = volumes_in(tool, data)
-        found = None
-        if given.against:
-            with open(given.against, "rb") as file:
-                found = changes(names, volumes_in(other, file.read()), volumes)
+        image = read_image(given.fvtool, given.image, room)
+        other = read_image(given.fvtool, given.against, room) if given.against else None
+    found = changes(names, other.volumes, image.volumes) if other else []
+    name = name_of(image.path, other and other.path)
     page = Page(names)
-    page.head(given.image, data, volumes)
-    if tool.is_cut or other.is_cut:
+    page.head(image, name)
+    if image.is_cut or (other and other.is_cut):
         page.add(f"<p>Not all is shown: there are more than {MOST_VOLUMES} volumes, or one has too many sections.</p>")
-    place = len(page.lines)
-    page.flash(volumes, len(data))
-    if found is not None:
-        page.changes(given.against, found)
-    for volume in volumes:
+    top = len(page.lines)
+    page.flash(image)
+    if other:
+        page.against(other, image, found)
+    for volume in image.volumes:
         page.volume(volume)
-    page.lines.insert(place, page.legend())
-    return page.whole(os.path.basename(given.image))
+    page.lines.insert(top, page.legend())
+    return page.whole(name)
 
 
 def main() -> int:

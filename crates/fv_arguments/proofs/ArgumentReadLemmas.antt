@@ -15,7 +15,7 @@ use Rattle.clap.specs.Simple.{built, names_of}
 use Rattle.clap.specs.Walk.{Text, first_of, one_of, rows_after}
 use Rattle.clap.specs.Words.{App, HasMatchesOf, fault_of, is_simple_and_free}
 use Rattle.clap.specs.declared.parser.matches.ArgMatches.{ArgMatches}
-use Rattle.fv_arguments.specs.Words.{compare_app, extract_app, faults_in, flag_in, hobs_app, list_app, normalise_app, one_input_app}
+use Rattle.fv_arguments.specs.Words.{compare_app, extract_app, faults_in, flag_in, hobs_app, list_app, image_app, one_input_app}
 use Rattle.fv_arguments.specs.Words.{text_in, volume_app}
 use Rattle.fv_arguments.specs.inner.CommandWords.{IsRead, app_named}
 
@@ -24,26 +24,28 @@ differ : (a b : Text) → a ≢ b → bytes_eq a b ≡ false
 differ a b h = is_false _ ((Decides-not _ (bytes_eq-Decides a b)).1 h)
 
 -- a name that is no other's has the options of a volume
-pub no_other : (name : Text) → name ≢ codes "normalise" → name ≢ codes "hobs" → name ≢ codes "extract" → name ≢ codes "compare"
+pub no_other : (name : Text) → name ≢ codes "normalise" → name ≢ codes "check" → name ≢ codes "hobs" → name ≢ codes "extract" → name ≢ codes "compare"
     → name ≢ codes "list" → name ≢ codes "scan" → app_named name ≡ volume_app
-no_other name normalise hobs extract compare list scan = grind (arith, common_steps, differ)
+no_other name normalise check hobs extract compare list scan = grind (arith, common_steps, differ)
 
 -- what holds of the options of each command
-pub each_app : (P : App → Type 0) → P normalise_app → P hobs_app → P extract_app → P compare_app → P list_app → P one_input_app
+pub each_app : (P : App → Type 0) → P image_app → P hobs_app → P extract_app → P compare_app → P list_app → P one_input_app
     → P volume_app → (name : Text) → P (app_named name)
-each_app P normalise hobs extract compare list scan volume name =
-    go (bytes_eq name (codes "normalise")) (bytes_eq name (codes "hobs")) (bytes_eq name (codes "extract"))
+each_app P image hobs extract compare list scan volume name =
+    go (bytes_eq name (codes "normalise")) (bytes_eq name (codes "check")) (bytes_eq name (codes "hobs")) (bytes_eq name (codes "extract"))
     (bytes_eq name (codes "compare")) (bytes_eq name (codes "list")) (bytes_eq name (codes "scan"))
   where
-    go : (a b c d e f : Bool)
-        → P (cond a normalise_app (cond b hobs_app (cond c extract_app (cond d compare_app (cond e list_app (cond f one_input_app volume_app))))))
-    go true b c d e f = normalise
-    go false true c d e f = hobs
-    go false false true d e f = extract
-    go false false false true e f = compare
-    go false false false false true f = list
-    go false false false false false true = scan
-    go false false false false false false = volume
+    go : (a b c d e f g : Bool)
+        → P (cond a image_app (cond b image_app (cond c hobs_app (cond d extract_app (cond e compare_app (cond f list_app
+        (cond g one_input_app volume_app)))))))
+    go true b c d e f g = image
+    go false true c d e f g = image
+    go false false true d e f g = hobs
+    go false false false true e f g = extract
+    go false false false false true f g = compare
+    go false false false false false true g = list
+    go false false false false false false true = scan
+    go false false false false false false false = volume
 
 -- none of them changes how words are read, or has a rule on another
 simple : (name : Text) → is_simple_and_free (app_named name) ≡ true

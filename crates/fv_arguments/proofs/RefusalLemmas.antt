@@ -1,7 +1,7 @@
 -- Arguments that are rejected as wrong are not right. The reader finds a fault in them (refused). Or a text of theirs is not read,
 -- and right arguments have one that is (no_input, right_part, right_image, right_volumes), or a byte is given with `--all`
 -- (no_place).
-use Rattle.std.proofs.Common.{◌≡◌, ◌≢◌, ◌∙◌, ◌&&◌, ℕ, Bool, List, [], ◌∷◌, IfErr, Result, Ok, Err, Option, Some, None, ap, codes, inl, inr}
+use Rattle.std.proofs.Common.{◌≡◌, ◌≢◌, ◌∙◌, ◌&&◌, ◌||◌, ℕ, Bool, List, [], ◌∷◌, IfErr, Result, Ok, Err, Option, Some, None, ap, codes, inl, inr}
 use Rattle.std.proofs.Common.{drop, not, refl, subst, sym, true, false, true≢false}
 use Rattle.std.proofs.lemmas.Result.{IfErr-weaker}
 use Rattle.std.proofs.lemmas.Slice.Eq.{bytes_eq-Decides}
@@ -19,9 +19,9 @@ use Rattle.fv_plan.specs.declared.plan.Part.{Part}
 use Rattle.fv_plan.specs.declared.plan.VolumeFile.{VolumeFile}
 use Rattle.fv_plan.specs.declared.plan.Command.TheVariants.{Single, Hobs, Compare}
 use Rattle.fv_plan.specs.declared.plan.Task.TheVariants.{Normalise, NormaliseAll, List as Listing, ListSums, Extract, Check}
-use Rattle.fv_plan.specs.declared.plan.Task.TheVariants.{Cells, Scan}
+use Rattle.fv_plan.specs.declared.plan.Task.TheVariants.{CheckAll, Cells, Scan}
 use Rattle.fv_arguments.proofs.ArgumentReadLemmas.{by_name, faults_read}
-use Rattle.fv_arguments.specs.Words.{compare_app, extract_app, faults_in, flag_in, hobs_app, normalise_app, text_in, HasInput, HasTexts}
+use Rattle.fv_arguments.specs.Words.{compare_app, extract_app, faults_in, flag_in, hobs_app, image_app, text_in, HasInput, HasTexts}
 use Rattle.fv_arguments.specs.Words.{IsAtWord, IsImageWords, IsPartBy, IsVolumeWords, command_app, command_name}
 use Rattle.fv_arguments.specs.declared.words.WordFault.{WordFault}
 use Rattle.fv_arguments.specs.inner.CommandWords.{AreRightFor, AsksFor, IsRead, Reads, app_named}
@@ -35,6 +35,7 @@ named_app (Single Listing at file) = refl
 named_app (Single ListSums at file) = refl
 named_app (Single (Extract part) at file) = refl
 named_app (Single Check at file) = refl
+named_app (Single CheckAll at file) = refl
 named_app (Single Cells at file) = refl
 named_app (Single Scan at file) = refl
 named_app (Hobs file image) = refl
@@ -99,7 +100,8 @@ right_input name rest volume right =
     go (Single Listing at file) volume texts = ((at, file), texts.1)
     go (Single ListSums at file) volume texts = ((at, file), texts.1)
     go (Single (Extract part) at file) volume texts = ((at, file), texts.0)
-    go (Single Check at file) volume texts = ((at, file), texts)
+    go (Single Check at file) volume texts = ((at, file), texts.1)
+    go (Single CheckAll at file) volume texts = ((at, file), texts.2)
     go (Single Cells at file) volume texts = ((at, file), texts)
     go c volume texts = absurd (true≢false (sym volume))
 
@@ -110,20 +112,28 @@ pub no_input : {m : ArgMatches} (f : WordFault) (name : List ℕ) → is_on_volu
 no_input f name volume read = λ words rest r right.
     let input = right_input name rest volume right in read (app_named name) rest r words input.0 input.1
 
+-- a command on an image
+abbrev is_on_image : List ℕ → Bool
+is_on_image name = bytes_eq name (codes "normalise") || bytes_eq name (codes "check")
+
 -- a byte of an input is not given where each volume of it is meant
-pub no_place : (rest : List (List ℕ)) (given : Option ℕ) → flag_in normalise_app (codes "all") rest ≡ true
-    → IsAtWord (text_in normalise_app (codes "at") rest) given → is_some given ≡ true → AreRightFor (codes "normalise") rest → ⊥
-no_place rest given all word some right = go right.0.command right.1.command right.1.texts
+pub no_place : (name : List ℕ) (rest : List (List ℕ)) (given : Option ℕ) → is_on_image name ≡ true
+    → flag_in image_app (codes "all") rest ≡ true → IsAtWord (text_in image_app (codes "at") rest) given → is_some given ≡ true
+    → AreRightFor name rest → ⊥
+no_place name rest given image all word some right =
+    go right.0.command (subst (λ n. is_on_image n ≡ true) right.1.command image) right.1.texts
   where
     placed : (text : Option (List ℕ)) (given at : Option ℕ) → IsAtWord text given → is_some given ≡ true → at ≡ None → IsAtWord text at → ⊥
     placed None given at h some none is = true≢false (sym some ∙ ap is_some h)
     placed (Some t) given None h some none is = is
     placed (Some t) given (Some n) h some none is = cc
 
-    go : (c : Command) → codes "normalise" ≡ command_name c → HasTexts rest c → ⊥
-    go (Single Normalise at file) is texts = true≢false (sym all ∙ texts.0)
-    go (Single NormaliseAll at file) is texts = placed _ given at word some texts.1 texts.2.0
-    go c is texts = absurd (other _ _ refl is)
+    go : (c : Command) → is_on_image (command_name c) ≡ true → HasTexts rest c → ⊥
+    go (Single Normalise at file) image texts = true≢false (sym all ∙ texts.0)
+    go (Single NormaliseAll at file) image texts = placed _ given at word some texts.1 texts.2.0
+    go (Single Check at file) image texts = true≢false (sym all ∙ texts.0)
+    go (Single CheckAll at file) image texts = placed _ given at word some texts.1 texts.2.0
+    go c image texts = true≢false (sym image)
 
 -- the part of `extract`
 abbrev pub SomePart : List (List ℕ) → Type 0

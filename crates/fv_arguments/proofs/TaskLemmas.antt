@@ -23,3 +23,11 @@ pub by_flag : (name : List ℕ) (rest : List (List ℕ)) (at : Option ℕ) (file
     (one other task : Task) → task ≡ (if given then one else other) → (given ≡ true → IsAsked name rest at file one)
     → (given ≡ false → IsAsked name rest at file other) → IsAsked name rest at file task
 by_flag name rest at file given one other task is on off = grind (arith, common_steps, cond_both)
+
+-- the two tasks are those of an image and of a volume
+pub by_tasks : (name : List ℕ) (rest : List (List ℕ)) (at : Option ℕ) (file : Option (String Global)) (given : Bool)
+    (whole single one other task : Task) → whole ≡ one → single ≡ other → task ≡ (if given then whole else single)
+    → (given ≡ true → IsAsked name rest at file one) → (given ≡ false → IsAsked name rest at file other) → IsAsked name rest at file task
+by_tasks name rest at file given whole single one other task is_whole is_single is on off =
+    by_flag name rest at file given whole single task is (λ e. subst (IsAsked name rest at file) (sym is_whole) (on e))
+    (λ e. subst (IsAsked name rest at file) (sym is_single) (off e))

@@ -12,11 +12,11 @@ use Rattle.fv_plan.specs.declared.plan.ImageFile.{ImageFile}
 use Rattle.fv_plan.specs.declared.plan.Plan.{Plan}
 use Rattle.fv_plan.specs.declared.plan.VolumeFile.{VolumeFile}
 use Rattle.fv_plan.specs.declared.plan.Task.{Task}
-use Rattle.fv_arguments.specs.Options.{compare_app, extract_app, faults_in, flag_in, hobs_app, list_app, normalise_app, one_input_app}
+use Rattle.fv_arguments.specs.Options.{compare_app, extract_app, faults_in, flag_in, hobs_app, list_app, image_app, one_input_app}
 use Rattle.fv_arguments.specs.Options.{text_in, volume_app}
 use Rattle.fv_plan.specs.declared.plan.Command.TheVariants.{Single, Hobs, Compare}
 use Rattle.fv_plan.specs.declared.plan.Task.TheVariants.{Normalise, NormaliseAll, List as Listing, ListSums, Extract, Check}
-use Rattle.fv_plan.specs.declared.plan.Task.TheVariants.{Cells, Scan}
+use Rattle.fv_plan.specs.declared.plan.Task.TheVariants.{CheckAll, Cells, Scan}
 
 -- with no arguments: hexadecimal text from standard input is normalised
 abbrev pub plan_without_words : Plan
@@ -30,6 +30,7 @@ task_name Listing = codes "list"
 task_name ListSums = codes "list"
 task_name (Extract part) = codes "extract"
 task_name Check = codes "check"
+task_name CheckAll = codes "check"
 task_name Cells = codes "cells"
 task_name Scan = codes "scan"
 
@@ -40,12 +41,13 @@ command_name (Compare first second) = codes "compare"
 
 -- the options of the command
 abbrev pub task_app : Task → App
-task_app Normalise = normalise_app
-task_app NormaliseAll = normalise_app
+task_app Normalise = image_app
+task_app NormaliseAll = image_app
 task_app Listing = list_app
 task_app ListSums = list_app
 task_app (Extract part) = extract_app
-task_app Check = volume_app
+task_app Check = image_app
+task_app CheckAll = image_app
 task_app Cells = volume_app
 task_app Scan = one_input_app
 
@@ -63,7 +65,7 @@ IsSectionTypeWord (Some text) kind = IsNumeral 16 text × (length text ≤ 2) ×
 abbrev pub IsNumeralOf : (radix bits : ℕ) → List ℕ → ℕ → Type 0
 IsNumeralOf radix bits digits n = IsNumeral radix digits × (n ≡ digits_value radix digits) × (n < 2 ^ bits)
 
--- the text is a decimal number, perhaps with a plus before it
+-- the text is a decimal number below 2 ^ bits, perhaps with a plus before it
 abbrev pub IsNumberWord : ℕ → List ℕ → ℕ → Type 0
 IsNumberWord bits text n = IsNumeralOf 10 bits (without_leading_plus text) n
 
@@ -84,7 +86,7 @@ IsImageWords path base None = (path ≡ None) × (base ≡ None)
 IsImageWords path base (Some image) =
     (path ≡ Some (string_bytes image.path)) × IsSomeAnd base (λ text. IsNumberWord 64 text image.base)
 
--- the byte at which a volume begins: a decimal number, or `0x` and a hexadecimal one
+-- the byte at which a volume begins, below 2 ^ 64: a decimal number, or `0x` and a hexadecimal one
 abbrev pub IsPlaceWord : List ℕ → ℕ → Type 0
 IsPlaceWord text n =
     IsNumberWord 64 text n ⊎ ((digits : List ℕ) × (text ≡ codes "0x" ++ digits) × IsNumeralOf 16 64 digits n)
@@ -111,9 +113,9 @@ HasInput app rest at file = IsAtWord (text_in app (codes "at") rest) at × IsFil
 -- name it is, `--all` or `--sums`; with `--all` no byte is given
 abbrev pub HasTaskTexts : List (List ℕ) → Task → Option ℕ → Option (String Global) → Type 0
 HasTaskTexts rest Normalise at file =
-    (flag_in normalise_app (codes "all") rest ≡ false) × HasInput normalise_app rest at file
+    (flag_in image_app (codes "all") rest ≡ false) × HasInput image_app rest at file
 HasTaskTexts rest NormaliseAll at file =
-    (flag_in normalise_app (codes "all") rest ≡ true) × (at ≡ None) × HasInput normalise_app rest at file
+    (flag_in image_app (codes "all") rest ≡ true) × (at ≡ None) × HasInput image_app rest at file
 HasTaskTexts rest Listing at file =
     (flag_in list_app (codes "sums") rest ≡ false) × HasInput list_app rest at file
 HasTaskTexts rest ListSums at file =
@@ -122,7 +124,10 @@ HasTaskTexts rest (Extract part) at file =
     HasInput extract_app rest at file
     × IsPartBy (text_in extract_app (codes "name") rest) (text_in extract_app (codes "section") rest)
     (text_in extract_app (codes "instance") rest) part
-HasTaskTexts rest Check at file = HasInput volume_app rest at file
+HasTaskTexts rest Check at file =
+    (flag_in image_app (codes "all") rest ≡ false) × HasInput image_app rest at file
+HasTaskTexts rest CheckAll at file =
+    (flag_in image_app (codes "all") rest ≡ true) × (at ≡ None) × HasInput image_app rest at file
 HasTaskTexts rest Cells at file = HasInput volume_app rest at file
 HasTaskTexts rest Scan at file = (at ≡ None) × IsFileWord (text_in one_input_app (codes "file") rest) file
 
@@ -143,7 +148,8 @@ pub record AsksBy (name : List ℕ) (rest : List (List ℕ)) (plan : Plan) : Typ
   pub hex : plan.hex ≡ flag_in (command_app plan.command) (codes "hex") rest
   pub texts : HasTexts rest plan.command
 
--- the same for a whole command line, whose first argument is the program's name
+-- the plan is what a whole command line asks for: that of the command which the argument after the program's name
+-- names, by the options and operands that the parser finds after it (`AsksBy`)
 abbrev pub Asks : List (List ℕ) → Plan → Type 0
 Asks [] plan = plan ≡ plan_without_words
 Asks (program ∷ []) plan = plan ≡ plan_without_words

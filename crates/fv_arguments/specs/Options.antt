@@ -37,8 +37,8 @@ one_input_app = with_rule flag_app (new_rule (codes "file"))
 abbrev pub volume_app : App
 volume_app = with_rule (with_rule flag_app at_rule) (new_rule (codes "file"))
 
-abbrev pub normalise_app : App
-normalise_app = with_rule (with_rule (with_rule flag_app (flag_rule (codes "all"))) at_rule) (new_rule (codes "file"))
+abbrev pub image_app : App
+image_app = with_rule (with_rule (with_rule flag_app (flag_rule (codes "all"))) at_rule) (new_rule (codes "file"))
 
 abbrev pub list_app : App
 list_app = with_rule (with_rule (with_rule flag_app (flag_rule (codes "sums"))) at_rule) (new_rule (codes "file"))
@@ -60,14 +60,14 @@ compare_app =
 abbrev pub rows_in : App → List (List ℕ) → List Row
 rows_in app rest = rows_after (built app).top.rules (names_of (built app)) rest
 
--- what the parser finds wrong with them: nothing, if it accepts them
+-- what the parser finds wrong with the arguments after the command's name: nothing, if it accepts them
 abbrev pub faults_in : App → List (List ℕ) → Kinds
 faults_in app rest = built_fault (built app) nothing_held rest
 
--- the text of an option or an operand
+-- the text of an option or an operand that the parser finds
 abbrev pub text_in : App → List ℕ → List (List ℕ) → Option (List ℕ)
 text_in app id rest = first_of id (rows_in app rest)
 
--- a flag is given: the parser finds `true` for it
+-- a flag is given, before any `--`: the parser finds `true` for it
 abbrev pub flag_in : App → List ℕ → List (List ℕ) → Bool
 flag_in app id rest = option_map_or (λ t. bytes_eq t (codes "true")) (one_of id (rows_in app rest)) false

@@ -19,6 +19,7 @@ use fv_base::Guid;
 use fv_plan::{Command, ImageFile, Part, Plan, Task, VolumeFile};
 use std::alloc::{AllocError, Global};
 
+/// OutOfMemory exactly if that is the kind of the error, else Words.
 impl From<clap::Error> for WordFault {
     ghost use Rattle.clap.specs.Words.{kind_of};
     ghost use Rattle.clap.specs.declared.error.kind.ErrorKind.TheVariants as error_kinds;
@@ -116,16 +117,24 @@ fn task_by(given: bool, task: Task, other: Task) -> Task
     if given { task } else { other }
 }
 
-// A volume, or with the flag an image with all its volumes. Then no byte is given.
-fn normalise(alloc: Global, matches: &ArgMatches<'_>) -> Result<Command, WordFault>
-    ensures { AsksFor (codes "normalise") matches.now result }
+// A volume, or with the flag an image with all its volumes, for `normalise` or `check`. Then no
+// byte is given. The tasks are those for an image and for a volume.
+fn on_image(
+    alloc: Global,
+    matches: &ArgMatches<'_>,
+    whole: Task,
+    single: Task,
+) -> Result<Command, WordFault>
+    ensures normalise { whole ≡ Task.NormaliseAll → single ≡ Task.Normalise
+        → AsksFor (codes "normalise") matches.now result }
+    ensures check { whole ≡ Task.CheckAll → single ≡ Task.Check → AsksFor (codes "check") matches.now result }
 {
     let all = is_given(matches, "all");
     let (at, file) = input_of(alloc, matches)?;
     if all && at.is_some() {
         return Err(WordFault::Words);
     }
-    let task = task_by(all, Task::NormaliseAll, Task::Normalise);
+    let task = task_by(all, whole, single);
     Ok(Command::Single { task, at, file })
 }
 
@@ -269,12 +278,12 @@ fn compare(alloc: Global, matches: &ArgMatches<'_>) -> Result<Command, WordFault
     Ok(Command::Compare { first, second })
 }
 
-// A volume, for `check` or `cells`.
-fn on_volume(alloc: Global, matches: &ArgMatches<'_>, task: Task) -> Result<Command, WordFault>
-    ensures check { task ≡ Task.Check → AsksFor (codes "check") matches.now result }
-    ensures cells { task ≡ Task.Cells → AsksFor (codes "cells") matches.now result }
+// A volume, for `cells`.
+fn cells(alloc: Global, matches: &ArgMatches<'_>) -> Result<Command, WordFault>
+    ensures { AsksFor (codes "cells") matches.now result }
 {
     let (at, file) = input_of(alloc, matches)?;
+    let task = Task::Cells;
     Ok(Command::Single { task, at, file })
 }
 
@@ -292,12 +301,12 @@ fn command_of(alloc: Global, name: &str, matches: &ArgMatches<'_>) -> Result<Com
     ensures { AsksFor name.now matches.now result }
 {
     match name {
-        "normalise" => normalise(alloc, matches),
+        "normalise" => on_image(alloc, matches, Task::NormaliseAll, Task::Normalise),
         "hobs" => hobs(alloc, matches),
         "list" => list(alloc, matches),
         "extract" => extract(alloc, matches),
-        "check" => on_volume(alloc, matches, Task::Check),
-        "cells" => on_volume(alloc, matches, Task::Cells),
+        "check" => on_image(alloc, matches, Task::CheckAll, Task::Check),
+        "cells" => cells(alloc, matches),
         "scan" => scan(alloc, matches),
         "compare" => compare(alloc, matches),
         _ => Err(WordFault::Words),

@@ -88,13 +88,14 @@ fn compare_rules<'a>(alloc: Global) -> Result<Command<'a>, AllocError>
     add(first, Arg::new(alloc, "second"))
 }
 
-// The rules of the command of this name. `check` and `cells` have those of a volume, and so does a
-// name that is no command. It is rejected after parsing.
+// The rules of the command of this name. `cells` has those of a volume, and so does a name that is
+// no command. It is rejected after parsing.
 pub(crate) fn rules_of<'a>(alloc: Global, name: &str) -> Result<Command<'a>, AllocError>
     ensures { IfOk result (λ c. app_of c ≡ app_named name.now) }
 {
     match name {
         "normalise" => flag_rules(alloc, "all"),
+        "check" => flag_rules(alloc, "all"),
         "list" => flag_rules(alloc, "sums"),
         "hobs" => hobs_rules(alloc),
         "extract" => extract_rules(alloc),

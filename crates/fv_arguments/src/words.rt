@@ -33,6 +33,7 @@ impl WordFault {
     }
 }
 
+/// OutOfMemory.
 impl From<AllocError> for WordFault {
     ghost use Rattle.fv_arguments.specs.declared.words.WordFault.TheVariants.{OutOfMemory};
 
@@ -43,6 +44,7 @@ impl From<AllocError> for WordFault {
     }
 }
 
+/// OutOfMemory exactly if that is the kind of the error, else Words.
 impl From<io::Error> for WordFault {
     ghost use Rattle.std.specs.IoError.{error_kind};
     ghost use Rattle.std.specs.Prelude.{◌≡◌, ◌≢◌};

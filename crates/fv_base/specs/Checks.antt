@@ -29,7 +29,8 @@ FailsAfter {F} P cs f =
 abbrev pub IsFirstFault : {F : Type 0} → List (Check F) → F → Type 0
 IsFirstFault cs f = FailsAfter AllHold cs f
 
--- whether a check with a fault of this kind is a guard: it says that the bytes exist which the checks after it look at
+-- whether a check with a fault of this kind is a guard: it says that the bytes exist which the checks after it look at.
+-- That of FreeSpace says that there are 24 bytes, and that State is not erased
 abbrev pub is_guard : FaultKind → Bool
 is_guard kinds.Truncated = true
 is_guard kinds.FreeSpace = true
@@ -41,12 +42,14 @@ is_guard _ = false
 abbrev pub GuardsHold : List (Check Fault) → Type 0
 GuardsHold cs = AllByRecursion (λ c. is_guard c.fault.kind ≡ true → c.holds ≡ true) cs
 
--- which faults are meant: the first one; or any, whatever else is wrong
+-- which faults are meant: the first one, before which all that is read is right; or any whose condition holds at its
+-- place, whatever else is wrong
 pub data Which : Type 0 where
   First : Which
   Any : Which
 
--- a check does not hold, and this is its fault; before the first fault all checks hold, before any fault the guards
+-- a check does not hold, and this is its fault; before the first fault all checks hold, before any fault the guards. So
+-- no fault, first or not, is that of a check on bytes that are not there
 abbrev pub Fails : Which → List (Check Fault) → Fault → Type 0
 Fails First cs f = IsFirstFault cs f
 Fails Any cs f = FailsAfter GuardsHold cs f

@@ -4,7 +4,7 @@ use Rattle.std.specs.Prelude.{ℕ, ◌≡◌, List}
 use Rattle.fv_base.specs.declared.flash.Polarity.{Polarity}
 use Rattle.fv_base.specs.declared.flash.Polarity.TheVariants.{Ones, Zeros}
 
--- the value of an erased byte (PI specification, volume 3, section 3.2.1.1)
+-- the value of an erased byte: 0xFF for ones, 0x00 for zeros (PI specification, volume 3, section 3.2.1.1)
 abbrev pub erased_byte : Polarity → ℕ
 erased_byte Ones = 255
 erased_byte Zeros = 0

@@ -24,6 +24,7 @@ guid_text b =
     digits_at (3 ∷ 2 ∷ 1 ∷ 0 ∷ []) b ++ 45 ∷ digits_at (5 ∷ 4 ∷ []) b ++ 45 ∷ digits_at (7 ∷ 6 ∷ []) b
     ++ 45 ∷ digits_at (8 ∷ 9 ∷ []) b ++ 45 ∷ digits_at (10 ∷ 11 ∷ 12 ∷ 13 ∷ 14 ∷ 15 ∷ []) b
 
--- the GUID that a text names, if it names one: in a UUID the first three fields have the most significant byte first
+-- the GUID that a text names in one of the four forms of the `uuid` crate, if it names one: the first three fields of a
+-- UUID have the most significant byte first
 abbrev pub guid_read : List ℕ → Option Guid
 guid_read text = option_map (λ u. record { bytes = swap_fields u }) (parsed text)

@@ -28,7 +28,8 @@ GaveCount old new n = (bytes : List ℕ) × Consumes old new bytes × (length by
 abbrev pub GaveMore : Option (List ℕ) → Option (List ℕ) → ℕ → Type 0
 GaveMore old new n = (bytes : List ℕ) × Consumes old new bytes × (n < length bytes)
 
--- why reading within a limit stopped, by the kind of the fault and its offset n
+-- why reading within a limit stopped, by the kind of the fault and its offset n: ReadFault at the number of bytes
+-- given; Length at `volume_limit`, if more than the limit came; OutOfMemory at 0; no other
 abbrev pub ReadStopsFor : ℕ → FaultKind → Option (List ℕ) → Option (List ℕ) → ℕ → Type 0
 ReadStopsFor limit kinds.ReadFault old new n = GaveCount old new n
 ReadStopsFor limit kinds.Length old new n = (n ≡ volume_limit) × GaveMore old new limit
@@ -44,7 +45,8 @@ pub record StopsWithin (limit : ℕ) (old new : Option (List ℕ)) (fault : Faul
 abbrev pub ReadStops : Option (List ℕ) → Option (List ℕ) → Fault → Type 0
 ReadStops = StopsWithin volume_limit
 
--- a writer stopped: it holds the first bytes of the output, as many as the fault's offset says, and not all of them
+-- a writer stopped, by WriteFault: it holds the first bytes of the output, as many as the fault's offset says, and not
+-- all of them
 pub record WriteStops (held holds : Option (List ℕ)) (output : List ℕ) (fault : Fault) : Type 0 where
   pub kind : fault.kind ≡ kinds.WriteFault
   pub depth : fault.place.depth ≡ 0

@@ -1,4 +1,5 @@
--- What other calls say of bytes and of numbers: a sum, bytes that are all erased, alignments, and a limit.
+-- What other calls say of bytes and of numbers: a sum, bytes that are all erased, alignments, and a limit (PI
+-- specification, volume 3, section 3.2.3.1).
 use Rattle.std.specs.List.{list_all}
 use Rattle.std.specs.Prelude.{ℕ, ◌%◌, List, sum, ◌≡◌, ◌==◌, Bool, ◌^◌, ◌≤◌}
 

@@ -7,7 +7,8 @@ use Rattle.std.specs.Io.KnownBytes.{Appends}
 use Rattle.fv_base.specs.declared.port.Port.{Port}
 use Rattle.fv_base.specs.declared.sink.WriteSink.{WriteSink}
 
--- `takes s bytes t`: a sink in the state s is in the state t after it took the bytes
+-- `takes s bytes t`: a sink in the state s is in the state t after it took the bytes. No bytes change nothing, and
+-- bytes may come in parts
 pub record WalkLaws {S : Type 0} (takes : S → List ℕ → S → Type 0) : Type 0 where
   pub none : (s : S) → takes s [] s
   pub joined : {s t u : S} {a b : List ℕ} → takes s a t → takes t b u → takes s (a ++ b) u
@@ -19,7 +20,8 @@ kept_in s = s.bytes.items
 abbrev pub is_on : ListSink → Bool
 is_on s = s.on
 
--- all of the bytes were kept; or not, and once an allocation has failed, what is kept does not matter
+-- all of the bytes were kept after the others; or not, and once an allocation has failed, what is kept does not matter,
+-- and the sink stays off
 abbrev pub KeptLatched : List ℕ → Bool → List ℕ → List ℕ → Bool → Type 0
 KeptLatched s true bytes t true = t ≡ s ++ bytes
 KeptLatched s true bytes t false = Unit {0}
@@ -69,6 +71,7 @@ LatchedWrites s true bytes t false = WritesFront s bytes t
 LatchedWrites s false bytes t true = ⊥
 LatchedWrites s false bytes t false = t ≡ s
 
--- the same, for a sink given by its view, by whether it is still on, and by a name that it keeps
+-- how a sink takes bytes, by its view, by whether it is on, and by a name that it keeps: while it is on, it writes all
+-- of them, or a first part of them and goes off; once it is off, nothing changes
 abbrev pub SeenTakes : {S N : Type 0} (view : S → PortShows) (on : S → Bool) (name : S → N) → S → List ℕ → S → Type 0
 SeenTakes view on name s bytes t = (name t ≡ name s) × LatchedWrites (view s) (on s) bytes (view t) (on t)

@@ -9,7 +9,7 @@ pub use Rattle.fv_base.specs.Measures.{data_limit, sum8_of, IsAlignment}
 unfoldable pub use Rattle.fv_base.specs.Measures.{all_are}
 pub use Rattle.fv_base.specs.GuidTexts.{digit, digits, digits_at, guid_read}
 unfoldable pub use Rattle.fv_base.specs.GuidTexts.{guid_text}
-pub use Rattle.fv_base.specs.Faults.{outer_fault, out_of_memory, fault_number}
+pub use Rattle.fv_base.specs.Faults.{OrMemory, outer_fault, out_of_memory, fault_number}
 pub use Rattle.fv_base.specs.Checks.{Check, check, AllHold, FailsAfter, IsFirstFault, is_guard, GuardsHold, Which}
 pub use Rattle.fv_base.specs.Checks.{First, Any, Fails}
 pub use Rattle.fv_base.specs.Input.{read_limit, GivesAll, ReadsWhole, GaveCount, GaveMore, ReadStopsFor, StopsWithin}

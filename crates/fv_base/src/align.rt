@@ -32,7 +32,7 @@ const EXPONENTS: [u32; 16] = [0, 4, 7, 9, 10, 12, 15, 16, 17, 18, 19, 20, 21, 22
 impl Align {
     /// The alignment that a file's attribute bits name. Bits 0x08, 0x10 and 0x20,
     /// `FFS_ATTRIB_DATA_ALIGNMENT`, are its code; bit 0x02, `FFS_ATTRIB_DATA_ALIGNMENT_2`, picks
-    /// the second table.
+    /// the second table. No other bit matters.
     pub fn from_attributes(attributes: u8) -> Align
         ensures { 2 ^ result ≡ alignment_of attributes }
     {

@@ -212,6 +212,7 @@ pub fn check(holds: bool, kind: FaultKind, offset: u64) -> Result<(), Fault>
     }
 }
 
+/// OutOfMemory at 0, depth 0.
 impl From<AllocError> for Fault {
     ghost from_gives = { λ _ f. f ≡ out_of_memory };
 
@@ -220,6 +221,7 @@ impl From<AllocError> for Fault {
     }
 }
 
+/// OutOfMemory at 0, depth 0.
 impl<T: Drop> From<AllocFailed<T>> for Fault {
     ghost from_gives = { λ _ f. f ≡ out_of_memory };
 

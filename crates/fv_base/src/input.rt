@@ -15,7 +15,8 @@ pub trait Collector {
     /// It holds what these bytes come to, which are all that it took.
     ghost holds: { Self → List ℕ → Type 0 };
 
-    /// Takes the next piece of the input, which is no longer than one read gives.
+    /// Takes the next piece of the input, which is no longer than one read gives. If it held some
+    /// bytes, it holds them with the piece after them.
     ///
     /// # Errors
     ///
@@ -44,7 +45,8 @@ fn zeros(alloc: Global, count: usize) -> Result<Vec<u8>, AllocError>
 /// Reads to the end of a reader, and has what it gives collected, up to `limit` bytes. A read that
 /// returns `Interrupted` is repeated. There are at most `limit` + 2 reads: a reader that gives one
 /// byte a call needs one more than the limit, the last of which finds the end or gives the byte
-/// that is too many; and one is spare. So the reads run out only if one was interrupted.
+/// that is too many; and one is spare. So the reads run out only if one was interrupted. The
+/// collector holds no bytes yet. How often `read` is called is only tested.
 ///
 /// # Errors
 ///
@@ -58,9 +60,13 @@ pub fn read_to_end<R: Read, C: Collector>(
     collector: &mut C,
 ) -> Result<(), Fault>
     requires { C.holds collector.old [] }
+
+    // The reader gave all that it had, and the collector holds it.
     ensures ok { OnOk result ((bytes : List ℕ)
         × GivesAll (R.remaining (inner_of reader.old)) (R.remaining (inner_of reader.new)) bytes
         × (length bytes ≤ limit) × C.holds collector.new bytes) }
+
+    // There is no other kind of error than the three.
     ensures err { IfErr result (StopsWithin limit (R.remaining (inner_of reader.old)) (R.remaining (inner_of reader.new))) }
 
     // ReadFault is returned only if the port has erred.
@@ -95,8 +101,11 @@ pub fn read_to_end<R: Read, C: Collector>(
 /// ReadFault at the number of bytes read so far, if the reader fails or the reads run out; Length
 /// at the limit, if more bytes come; OutOfMemory at 0. The first of these is returned.
 pub fn read_input<R: Read>(alloc: Global, reader: &mut Port<R>) -> Result<Vec<u8>, Fault>
+    // These are all bytes that the reader had, in order, and it is at its end.
     ensures ok { IfOk result
         (λ v. ReadsWhole (R.remaining (inner_of reader.old)) (R.remaining (inner_of reader.new)) v.items) }
+
+    // There is no other kind of error than the three.
     ensures err { IfErr result (ReadStops (R.remaining (inner_of reader.old)) (R.remaining (inner_of reader.new))) }
 
     // ReadFault is returned only if the port has erred.

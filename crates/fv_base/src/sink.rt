@@ -57,6 +57,9 @@ pub struct WriteSink<'a, W: Write> {
     count: u64,
 }
 
+/// It keeps its port. While it is on, it writes all of the bytes, in order, and counts them; or it
+/// writes and counts a first part of them, not all, and goes off: the port has erred then. Once it
+/// is off, nothing changes.
 impl<'a, W: Write> Sink for WriteSink<'a, W> {
     ghost takes = { SeenTakes
         (λ s. record { contents = W.contents (inner_of s.port.now); erred = has_erred s.port.now; count = s.count })
@@ -150,6 +153,8 @@ impl ListSink {
     }
 }
 
+/// While it is on, it keeps all of the bytes after the others; or memory runs out, and it goes off.
+/// It never goes on again.
 impl Sink for ListSink {
     ghost takes = { KeptTakes (λ s. s.bytes.items) (λ s. s.on) };
 

@@ -1,12 +1,13 @@
 -- The rows under each row are those of the sections that it holds.
-use Rattle.std.proofs.Common.{◌≡◌, ◌∙◌, ◌⊎◌, ℕ, ◌+◌, ◌<◌, ◌≤◌, List, [], ◌∷◌, ◌++◌, length, Some, None, true, false, cond, refl, sym, ap, subst}
-use Rattle.std.proofs.Common.{append-nil, arith, inl, inr, suc, zero}
+use Rattle.std.proofs.Common.{◌≡◌, ◌∙◌, ◌⊎◌, ℕ, ◌+◌, ◌≤◌, List, [], ◌∷◌, ◌++◌, length, Some, true, false, cond, refl, sym, ap, subst}
+use Rattle.std.proofs.Common.{arith, inl, inr}
 use Rattle.std.proofs.lemmas.Bool.{eq-eqb, eqb-true, eqb-false, ne_eqb}
 use Rattle.std.proofs.lemmas.List.Elements.{filter-append}
 use Rattle.std.specs.List.{filter}
-use Rattle.std.specs.Prelude.{◌==◌, ◌≢◌, ◌&&◌, Bool, not, Option, slice_get}
+use Rattle.std.specs.Prelude.{◌==◌, ◌≢◌, ◌&&◌, Bool, not, slice_get}
 use Rattle.fv_tree.specs.Words.{ContentMeaning, SectionMeanings, NoSections, MoreSections, SectionMeaning, Section, BodyMeaning, Leaf}
 use Rattle.fv_tree.specs.Words.{Group, Nested, sections_in, sections_in_data}
+use Rattle.fv_c.proofs.RowNumbers.{in_either, row_at, row_is_at}
 use Rattle.fv_c.specs.ReportedFiles.{SectionRow, is_in, is_root, no_parent, rows_in_body, rows_of_section, rows_of_sections, rows_under}
 use Rattle.fv_c.specs.ReportedFiles.{rows_under_row, section_rows}
 
@@ -78,41 +79,10 @@ own_inside n depth (Nested volume) = refl
 own_inside n depth (Group ss tail) =
     own_pass (is_in n) (n + 1) n (depth + 1) ss (is_in_it n depth) (λ r p d. not_in n r (inr (λ e. omega arith)))
 
--- the row of number k among rows that are numbered from n on
-abbrev row_at : ℕ → List SectionRow → ℕ → Option SectionRow
-row_at n [] k = None
-row_at n (r ∷ rows) k = cond (n == k) (Some r) (row_at (n + 1) rows k)
-
-none_before : (n : ℕ) (rows : List SectionRow) (k : ℕ) → k < n → row_at n rows k ≡ None
-none_before n [] k l = refl
-none_before n (r ∷ rows) k l =
-    ap (λ (t : Bool). cond t (Some r) (row_at (n + 1) rows k)) (ne_eqb n k (λ e. omega arith)) ∙ none_before (n + 1) rows k (omega arith)
-
-row_is_at : (n : ℕ) (rows : List SectionRow) (i : ℕ) → row_at n rows (n + i) ≡ slice_get rows i
-row_is_at n [] i = refl
-row_is_at n (r ∷ rows) zero =
-    ap (λ (t : Bool). cond t (Some r) (row_at (n + 1) rows (n + zero))) (eq-eqb n (n + zero) (omega arith))
-row_is_at n (r ∷ rows) (suc i) =
-    let next : n + suc i ≡ n + 1 + i = omega arith in
-    ap (λ (t : Bool). cond t (Some r) (row_at (n + 1) rows (n + suc i))) (ne_eqb n (n + suc i) (λ e. omega arith))
-    ∙ ap (row_at (n + 1) rows) next ∙ row_is_at (n + 1) rows i
-
 -- a row of two lists is in one of them
 under_either : (k n : ℕ) (a b : List SectionRow) → rows_under_row k (row_at n (a ++ b) k)
     ≡ rows_under_row k (row_at n a k) ++ rows_under_row k (row_at (n + length a) b k)
-under_either k n [] b = let same : n ≡ n + 0 = omega arith in ap (λ (m : ℕ). rows_under_row k (row_at m b k)) same
-under_either k n (r ∷ a) b = go (n == k) refl (under_either k (n + 1) a b) where
-  go : (t : Bool) → (n == k) ≡ t → rows_under_row k (row_at (n + 1) (a ++ b) k)
-      ≡ rows_under_row k (row_at (n + 1) a k) ++ rows_under_row k (row_at (n + 1 + length a) b k)
-      → rows_under_row k (cond t (Some r) (row_at (n + 1) (a ++ b) k))
-      ≡ rows_under_row k (cond t (Some r) (row_at (n + 1) a k)) ++ rows_under_row k (row_at (n + length (r ∷ a)) b k)
-  go true e more =
-      let is : n ≡ k = eqb-true n k e in
-      sym (ap (λ (o : Option SectionRow). rows_under_row k (Some r) ++ rows_under_row k o)
-      (none_before (n + length (r ∷ a)) b k (omega arith)) ∙ append-nil (rows_under_row k (Some r)))
-  go false e more =
-      let next : n + 1 + length a ≡ n + length (r ∷ a) = omega arith in
-      more ∙ ap (λ (m : ℕ). rows_under_row k (row_at (n + 1) a k) ++ rows_under_row k (row_at m b k)) next
+under_either k = in_either (rows_under_row k) refl k
 
 mutual
   -- if these sections are not in group k, their rows in it are those under row k

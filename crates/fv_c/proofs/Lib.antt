@@ -4,4 +4,15 @@ pub mod FileRowLaws
 pub mod PartLaws
 pub mod PreorderLaws
 pub mod MemoryLaws
+pub mod RowNumbers
 pub mod GroupLaws
+pub mod SectionCountLaws
+pub mod ImageLemmas
+pub mod TreeNesting
+pub mod TreePlaces
+pub mod TreeSiblings
+pub mod TreeGrowth
+pub mod TreeRows
+pub mod TreeParents
+pub mod TreeBytes
+pub mod SumWalks

@@ -1,6 +1,10 @@
 -- What is read begins as it must where memory can run out.
-use Rattle.std.proofs.Common.{◌≡◌, ◌∙◌, ◌++◌, [], ◌∷◌, ℕ, List, ap, drop, sym, take, append_assoc}
+use Rattle.std.proofs.Common.{◌≡◌, ◌≢◌, ◌≤◌, ◌∙◌, ◌++◌, [], ◌∷◌, ℕ, List, ap, drop, length, map, refl, sym, take, append_assoc}
+use Rattle.std.specs.List.{AllByRecursion}
 use Rattle.std.proofs.lemmas.List.{take-append-drop}
+use Rattle.fv_base.specs.Words.{volume_limit}
+use Rattle.fv_canon.specs.Words.{ChecksImage}
+use Rattle.fv_canon.specs.declared.image_check.VolumeCheck.{VolumeCheck}
 use Rattle.fv_depex.proofs.Laws.{whole_ended}
 use Rattle.fv_depex.specs.Words.{Spells, op_code, op_operand, ops_bytes, BeginsFirstOp, OpFits, OpPath}
 use Rattle.fv_depex.specs.declared.op.Op.{Op}
@@ -8,6 +12,7 @@ use Rattle.fv_depex.specs.declared.op.Phase.{Phase}
 use Rattle.fv_depex.specs.declared.op_stage.Stage.{Stage}
 use Rattle.fv_depex.specs.declared.op.Op.TheVariants as ops
 use Rattle.fv_depex.specs.declared.op_stage.Stage.TheVariants as stages
+use Rattle.fv_flash.specs.Words.{IsPlace}
 use Rattle.fv_hob.proofs.Laws.{code_is}
 use Rattle.fv_hob.specs.Words.{BeginsTable, HobForm, BeginWithTable, IsHobList, JoinsHobs}
 use Rattle.fv_tree.specs.Words.{Accepted, Meaning, head_of}
@@ -55,3 +60,14 @@ pub begins_first : (phase : Phase) (all : List Op) (rest b : List ℕ) → Spell
 begins_first phase all rest b spells =
     let e = whole_ended phase all rest b spells in
     first_of phase e.stage e.front rest b e.path e.ended (spells.joined ∙ ap (λ (l : List Op). ops_bytes l ++ rest) e.joined)
+
+-- an image has a volume if something is said of one
+place_of : (b places : List ℕ) (checks : List VolumeCheck) → map (λ (c : VolumeCheck). c.offset) checks ≡ places
+    → AllByRecursion (IsPlace b) places → checks ≢ [] → (place : ℕ) × IsPlace b place
+place_of b [] [] same at some = absurd (some refl)
+place_of b [] (c ∷ cs) same at some = let bad : c.offset ∷ map (λ (d : VolumeCheck). d.offset) cs ≡ [] = same in cc
+place_of b (p ∷ ps) checks same at some = (p, at.0)
+
+pub checked_place : (b : List ℕ) (checks : List VolumeCheck) → ChecksImage b checks → checks ≢ []
+    → (length b ≤ volume_limit) × ((place : ℕ) × IsPlace b place)
+checked_place b checks (short, offsets, found, are) some = (short, place_of b offsets checks are.0 found.places some)

@@ -1,8 +1,8 @@
 -- The part of a volume that two numbers ask for.
 use Rattle.std.proofs.lemmas.Grind.{common_steps}
-use Rattle.std.proofs.Common.{◌≡◌, ◌∙◌, ◌⊎◌, ℕ, List, true, false, Some, None, refl, sym, ap, subst, inl, inr, arith}
+use Rattle.std.proofs.Common.{◌≡◌, ◌∙◌, ◌⊎◌, ◌<◌, ◌≤◌, ◌++◌, ℕ, List, [], length, drop, true, false, Some, None, refl, sym, ap, subst, inl, inr, arith}
 use Rattle.std.specs.Option.{option_and_then}
-use Rattle.std.specs.Prelude.{◌==◌, ◌≢◌, Bool, cond, Option, option_map, slice_get, IfSome, IfNone}
+use Rattle.std.specs.Prelude.{◌==◌, ◌≢◌, Bool, cond, Option, option_map, slice_get}
 use Rattle.std.proofs.lemmas.Bool.Decides.{Decides-eqb}
 use Rattle.std.proofs.lemmas.Option.{slice_get-map}
 use Rattle.fv_base.proofs.Laws.{or_more}
@@ -12,11 +12,14 @@ use Rattle.fv_canon.specs.Words.{FirstUnfit}
 use Rattle.fv_tree.specs.Words.{NotRead, Accepted, preorder, Meaning, Volume, FileMeaning, SectionMeaning, files_of, content_of, body_of}
 use Rattle.fv_tree.specs.Words.{files_from, sections_in_data}
 use Rattle.fv_head.specs.Words.{HeadFields}
+use Rattle.fv_sinks.proofs.Laws.{filled_front}
+use Rattle.fv_sinks.specs.Words.{BufferTakes, buffer_name, rest_in, taken_in}
+use Rattle.fv_sinks.specs.declared.buffer_sink.BufferSink.{BufferSink}
 use Rattle.fv_tree.proofs.Laws.{files_list_back}
 use Rattle.fv_c.specs.ExtractedParts.{PartMeaning, Data, Body, whole_file, part_of_file, part_in, IsPartImage}
 use Rattle.fv_c.specs.ExtractedParts.{volumes_in_part, ExtractsTo, HasNoPart, HasUnfitPart}
 use Rattle.fv_c.specs.ReportedFiles.{SectionRow, no_parent, section_rows}
-use Rattle.fv_c.specs.inner.Rows.{ShowsPart, StopsPart}
+use Rattle.fv_c.specs.inner.Rows.{IsWritten, PutsPart, StopsPart}
 use Rattle.fv_c.proofs.PreorderLaws.{sections_listed}
 
 -- ---- the file
@@ -63,25 +66,37 @@ section_at section f o ne found =
 
 -- ---- what is promised of it
 
-pub shows_none : (p : Option PartMeaning) → p ≡ None → ShowsPart p None
-shows_none p is = subst (λ (o : Option PartMeaning). ShowsPart o None) (sym is) tt
+-- all bytes of a part were put into a buffer that is long enough
+pub part_put : (P : List ℕ → Type 0) (s t : BufferSink) (old new bytes : List ℕ) (total : ℕ) → taken_in s ≡ [] → rest_in s ≡ old → P bytes
+    → BufferTakes taken_in rest_in buffer_name s bytes t → length bytes ≡ total → total ≤ length old
+    → new ≡ t.buffer.now → (all : List ℕ) × P all × (total ≡ length all) × IsWritten all old new 0
+part_put P s t old new bytes total none all is put long fits same =
+    let room : length bytes ≤ length old = omega (arith, long, fits) in (
+      bytes,
+      is,
+      sym long,
+      record {
+        ok = λ _. same ∙ filled_front s t old bytes none all put room;
+        kept = λ failed. absurd (failed refl);
+        small = λ small. absurd (omega (arith, small));
+        room = λ _. room;
+        only = inl refl;
+      },
+    )
 
-pub shows_part : (p : Option PartMeaning) (q : PartMeaning) (bytes : List ℕ) → p ≡ Some q → IsPartImage q bytes → ShowsPart p (Some bytes)
-shows_part p q bytes is image = subst (λ (o : Option PartMeaning). ShowsPart o (Some bytes)) (sym is) image
+pub puts_none : (p : Option PartMeaning) (old : List ℕ) (len : ℕ) → p ≡ None → PutsPart p old old len len 257
+puts_none p old len is = subst (λ (o : Option PartMeaning). PutsPart o old old len len 257) (sym is) (refl, refl, refl)
+
+pub puts_part : (p : Option PartMeaning) (q : PartMeaning) (old new : List ℕ) (before after r : ℕ) → p ≡ Some q
+    → ((bytes : List ℕ) × IsPartImage q bytes × (after ≡ length bytes) × IsWritten bytes old new r) → PutsPart p old new before after r
+puts_part p q old new before after r is put =
+    subst (λ (o : Option PartMeaning). PutsPart o old new before after r) (sym is) put
 
 pub stops_part : (p : Option PartMeaning) (q : PartMeaning) (f : Fault) → p ≡ Some q
     → (f ≡ out_of_memory) ⊎ FirstUnfit (volumes_in_part q) 0 f → StopsPart p f
 stops_part p q f is stop = subst (λ (o : Option PartMeaning). StopsPart o f) (sym is) stop
 
 -- ---- what was promised of it
-
-pub shown_part : (p : Option PartMeaning) (bytes : List ℕ) → ShowsPart p (Some bytes) → (q : PartMeaning) × (p ≡ Some q) × IsPartImage q bytes
-shown_part None bytes never = absurd never
-shown_part (Some q) bytes image = (q, refl, image)
-
-pub shown_none : (p : Option PartMeaning) → ShowsPart p None → p ≡ None
-shown_none None shown = refl
-shown_none (Some q) never = absurd never
 
 pub stopped_part : (p : Option PartMeaning) (f : Fault) → StopsPart p f
     → (f ≡ out_of_memory) ⊎ ((q : PartMeaning) × (p ≡ Some q) × FirstUnfit (volumes_in_part q) 0 f)
@@ -95,22 +110,33 @@ pub extract_stops : (file section : ℕ) (input : List ℕ) (m : Meaning) (f : F
 extract_stops file section input m f accepted stops =
     or_more (stopped_part (part_in file section m) f stops) (λ p. inr (m, p.0, accepted, p.1, p.2))
 
--- the bytes of a part, by the volume that the input is
-pub extracts_to : (file section : ℕ) (input : List ℕ) (m : Meaning) (found : Option (List ℕ)) (bytes : List ℕ) → Accepted input m
-    → ShowsPart (part_in file section m) found → found ≡ Some bytes → ExtractsTo file section input bytes
-extracts_to file section input m found bytes accepted shown is = grind (arith, common_steps, shown_part)
+-- a part that was put, by the volume that the input is
+module _ (file section : ℕ) (input old new : List ℕ) (before after r : ℕ) where
+  -- the input is a volume, and its part was put, or it has none
+  abbrev pub Extracted : Type 0
+  Extracted = (m : Meaning) × Accepted input m × PutsPart (part_in file section m) old new before after r
 
-pub extracts_none : (file section : ℕ) (input : List ℕ) (m : Meaning) (found : Option (List ℕ)) → Accepted input m
-    → ShowsPart (part_in file section m) found → found ≡ None → HasNoPart file section input
-extracts_none file section input m found accepted shown is = grind (arith, common_steps, shown_none)
+  -- the part is in the buffer, or the input has none
+  found : Extracted → ((p : PartMeaning) × (bytes : List ℕ) × ExtractsTo file section input bytes × (after ≡ length bytes)
+      × IsWritten bytes old new r)
+      ⊎ (HasNoPart file section input × (r ≡ 257) × (new ≡ old) × (after ≡ before))
+  found (m, accepted, put) = go (part_in file section m) refl put where
+    go : (o : Option PartMeaning) → part_in file section m ≡ o → PutsPart o old new before after r
+        → ((p : PartMeaning) × (bytes : List ℕ) × ExtractsTo file section input bytes × (after ≡ length bytes) × IsWritten bytes old new r)
+        ⊎ (HasNoPart file section input × (r ≡ 257) × (new ≡ old) × (after ≡ before))
+    go None none (result, same, len) = inr ((m, accepted, none), result, same, len)
+    go (Some p) is (bytes, image, long, written) = inl (p, bytes, (m, p, accepted, is, image), long, written)
 
--- what was found of it, by the volume that the input is
-pub part_some : (file section : ℕ) (input : List ℕ) (m : Meaning) (found : Option (List ℕ)) → Accepted input m
-    → ShowsPart (part_in file section m) found → IfSome found (ExtractsTo file section input)
-part_some file section input m None accepted shown = tt
-part_some file section input m (Some bytes) accepted shown = extracts_to file section input m (Some bytes) bytes accepted shown refl
+  pub extract_done : Extracted → r ≡ 0 → (bytes : List ℕ) × ExtractsTo file section input bytes × (after ≡ length bytes)
+      × (new ≡ bytes ++ drop (length bytes) old)
+  extract_done put done = elim (found put) [
+    | inl it ↦ (it.1, it.2, it.3, it.4.ok done)
+    | inr absent ↦ absurd (omega (arith, done, absent.1))
+  ]
 
-pub part_none : (file section : ℕ) (input : List ℕ) (m : Meaning) (found : Option (List ℕ)) → Accepted input m
-    → ShowsPart (part_in file section m) found → IfNone found (HasNoPart file section input)
-part_none file section input m None accepted shown = extracts_none file section input m None accepted shown refl
-part_none file section input m (Some bytes) accepted shown = tt
+  pub extract_small : Extracted → r ≡ 256 → (bytes : List ℕ) × ExtractsTo file section input bytes × (after ≡ length bytes)
+      × (length old < length bytes)
+  extract_small put small = elim (found put) [
+    | inl it ↦ (it.1, it.2, it.3, it.4.small small)
+    | inr absent ↦ absurd (omega (arith, small, absent.1))
+  ]

@@ -33,7 +33,8 @@ of_bytes at what len = record {
   name = replicate 16 0;
 }
 
--- the number of a file that is not valid, by its state: it was deleted, or its data were never finished
+-- the number of a file that is not valid, by its state: 3 if it was deleted, else 4, as of a header that was never
+-- finished
 abbrev pub dead_number : FileState → ℕ
 dead_number states.Deleted = 3
 dead_number _ = 4

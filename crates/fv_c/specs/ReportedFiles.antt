@@ -11,7 +11,7 @@ use Rattle.fv_tree.specs.Words.{sections_in, sections_in_data, FileForm}
 use Rattle.fv_c.specs.declared.files.FvFile.{FvFile}
 use Rattle.fv_c.specs.declared.sections.FvSection.{FvSection}
 
--- that a section is in no group
+-- the number that says that a section is in no group
 abbrev pub no_parent : ℕ
 no_parent = 18446744073709551615
 

@@ -13,7 +13,7 @@ use Rattle.fv_c.specs.declared.reports.FvFault.{FvFault}
 abbrev pub passed_guid : FvGuid → Guid
 passed_guid g = record { bytes = g.bytes }
 
--- a truth value; 2 says that there is none
+-- a truth value, 1 or 0; 2 says that there is none
 abbrev pub reported_truth : Option Bool → ℕ
 reported_truth (Some true) = 1
 reported_truth (Some false) = 0

@@ -12,7 +12,7 @@ use Rattle.fv_compare.specs.Words.{compare_line, difference}
 use Rattle.fv_tree.specs.Words.{Meaning}
 use Rattle.fv_c.specs.declared.compare.FvComparison.{FvComparison}
 
--- the number of a file system
+-- the number of a file system: 2 for FFS2, 3 for FFS3
 abbrev pub system_number : FileSystem → ℕ
 system_number systems.Ffs2 = 2
 system_number systems.Ffs3 = 3
@@ -31,7 +31,7 @@ reported_extent e = record {
 abbrev pub reported_fault : Fault → FvFault
 reported_fault f = record { offset = f.place.offset; number = fault_number f.kind; depth = f.place.depth }
 
--- that there is no fault
+-- what is reported if there is no fault
 abbrev pub no_fault : FvFault
 no_fault = record { offset = 0; number = 0; depth = 0 }
 

@@ -1,10 +1,12 @@
 //! The caller's buffer.
 
-ghost use Rattle.std.specs.Prelude.{◌≡◌, ◌≤◌, ◌++◌, length, drop};
-ghost use Rattle.fv_c.specs.Reports.{no_fault};
+ghost use Rattle.std.specs.Prelude.{◌≡◌, ◌<◌, ◌≤◌, ◌++◌, length, drop, IfOk, IfErr};
+ghost use Rattle.fv_base.specs.Words.{fault_number};
+ghost use Rattle.fv_c.specs.Reports.{no_fault, reported_fault};
 ghost use Rattle.fv_c.specs.inner.Rows.{IsWritten};
 
-use crate::reports::{BUFFER_TOO_SMALL, FvFault, NO_FAULT};
+use crate::reports::{BUFFER_TOO_SMALL, FvFault, NO_FAULT, refused};
+use fv_base::Fault;
 
 // Writes the elements at the start of the buffer, and keeps what the buffer holds after them.
 pub(crate) fn put_first<T: Copy>(rows: &[T], buffer: &mut [T])
@@ -49,4 +51,22 @@ pub(crate) fn put_found<T: Copy>(
 {
     *fault = NO_FAULT;
     put_rows(rows, buffer, count)
+}
+
+// Does the same as `put_found` with the elements that were found, or reports the fault.
+pub(crate) fn put_result<T: Copy>(
+    found: Result<Vec<T>, Fault>,
+    buffer: &mut [T],
+    count: &mut u64,
+    fault: &mut FvFault,
+) -> u32
+    ensures ok { IfOk found (λ rows. IsWritten rows.items buffer.old buffer.new result
+        × (count.new ≡ length rows.items) × (fault.new ≡ no_fault)) }
+    ensures err { IfErr found (λ f. (result ≡ fault_number f.kind) × (0 < result) × (result < 256)
+        × (fault.new ≡ reported_fault f) × (buffer.new ≡ buffer.old) × (count.new ≡ count.old)) }
+{
+    match found {
+        Ok(rows) => put_found(rows.as_slice(), buffer, count, fault),
+        Err(f) => refused(f, fault),
+    }
 }

@@ -1,19 +1,22 @@
 //! The canonical image of a volume, whether a volume is its own image, its digest, and a flash
-//! image of canonical volumes.
+//! image of canonical volumes. An image is put into the caller's buffer, or hashed, as the walk over
+//! the volume puts it: none is kept in memory.
 
 ghost use Rattle.std.specs.Prelude.{◌≡◌, ◌≢◌, ◌⊎◌, ◌↔◌, ◌<◌, ◌≤◌, ◌++◌, ℕ, List, length, drop, IfOk, IfErr};
 ghost use Rattle.sha2.specs.Sha256.{sha256};
-ghost use Rattle.fv_base.specs.Words.{fault_number, out_of_memory, volume_limit};
+ghost use Rattle.fv_base.specs.Words.{OrMemory, fault_number, out_of_memory, volume_limit};
 ghost use Rattle.fv_base.specs.declared.fault.Fault.{Fault};
-ghost use Rattle.fv_canon.specs.Words.{NormalisesAll, RefusesAll, NormalisesTo, IsImage, Refuses};
+ghost use Rattle.fv_canon.specs.Words.{NormalisesAll, RefusesAll, NormalisesTo, IsImage, IsLayout, Refuses};
 ghost use Rattle.fv_tree.specs.Words.{NotRead, Accepted, Meaning};
 ghost use Rattle.fv_c.specs.Reports.{BeginsWithHeader, reported_fault, no_fault};
 
-use crate::buffer::put_all;
-use crate::reports::{FvFault, NO_FAULT, flag, refused};
+use crate::reports::{BUFFER_TOO_SMALL, FvFault, NO_FAULT, flag, refused};
 use fv_base::Fault;
-use fv_canon::{is_canonical, normalise, normalise_image};
-use sha2::{Digest, Sha256};
+use fv_canon::{
+    Layout, is_canonical, lay_out_image, layout, put_canonical, put_laid_image, whole_volume,
+};
+use fv_sinks::{BufferSink, DigestSink};
+use fv_tree::VolumeView;
 use std::alloc::Global;
 
 /// Whether the input is a volume that is its own canonical image. If the input is a volume, returns
@@ -34,11 +37,12 @@ pub extern "C" fn fv_is_canonical(
     // The input has one meaning, and the flag says whether it is the image of it.
     ensures ok { result ≡ 0 → (m : Meaning) × Accepted input.now m × ((canonical.new ≡ 1) ↔ IsImage m input.now)
         × (canonical.new ≤ 1) × (fault.new ≡ no_fault) }
+
     ensures kept { result ≢ 0 → canonical.new ≡ canonical.old }
 
     // A fault is out of memory, only if the input begins with the header of a volume, or the first
     // of the input.
-    ensures err { result ≢ 0 → (f : Fault) × ((f ≡ out_of_memory) ⊎ NotRead input.now f)
+    ensures err { result ≢ 0 → (f : Fault) × OrMemory (NotRead input.now) f
         × (f ≡ out_of_memory → BeginsWithHeader input.now)
         × (result ≡ fault_number f.kind) × (fault.new ≡ reported_fault f) }
 {
@@ -52,6 +56,25 @@ pub extern "C" fn fv_is_canonical(
     }
 }
 
+// The volume that an input is, and where its files are placed.
+#[derive(Drop)]
+pub(crate) struct LaidVolume<'a> {
+    pub(crate) volume: VolumeView<'a>,
+    pub(crate) places: Layout,
+}
+
+// The volume that the input is, accepted and laid out.
+pub(crate) fn laid_volume(alloc: Global, input: &[u8]) -> Result<LaidVolume<'_>, Fault>
+    ensures ok { IfOk result (λ laid. Accepted input.now laid.volume × IsLayout laid.volume laid.places) }
+    ensures err { IfErr result (OrMemory (Refuses input.now)) }
+    ensures fits { (image : List ℕ) → NormalisesTo input.now image → IfErr result (λ f. f ≡ out_of_memory) }
+    ensures memory { IfErr result (λ f. f ≡ out_of_memory → BeginsWithHeader input.now) }
+{
+    let volume = whole_volume(alloc, input)?;
+    let places = layout(alloc, &volume)?;
+    Ok(LaidVolume { volume, places })
+}
+
 /// A SHA-256 digest.
 #[repr(C)]
 #[derive(Clone, Copy)]
@@ -63,13 +86,15 @@ pub struct FvDigest {
 // The SHA-256 of the canonical image of the volume that the input is.
 fn digest_of(alloc: Global, input: &[u8]) -> Result<FvDigest, Fault>
     ensures ok { IfOk result (λ d. (image : List ℕ) × NormalisesTo input.now image × (d.bytes ≡ sha256 image)) }
-    ensures err { IfErr result (λ f. (f ≡ out_of_memory) ⊎ Refuses input.now f) }
+    ensures err { IfErr result (OrMemory (Refuses input.now)) }
     ensures fits { (image : List ℕ) → NormalisesTo input.now image → IfErr result (λ f. f ≡ out_of_memory) }
     ensures memory { IfErr result (λ f. f ≡ out_of_memory → BeginsWithHeader input.now) }
 {
-    let image = normalise(alloc, input)?;
+    let laid = laid_volume(alloc, input)?;
+    let mut digest = DigestSink::new();
+    put_canonical(&laid.volume, &laid.places, &mut digest);
     Ok(FvDigest {
-        bytes: Sha256::digest(image.as_slice()),
+        bytes: digest.finish(),
     })
 }
 
@@ -90,11 +115,12 @@ pub extern "C" fn fv_digest(
     // The digest is that of the canonical image.
     ensures ok { result ≡ 0 → (image : List ℕ) × NormalisesTo input.now image
         × (digest.new.bytes ≡ sha256 image) × (fault.new ≡ no_fault) }
+
     ensures kept { result ≢ 0 → digest.new ≡ digest.old }
 
     // A fault is out of memory, only if the input begins with the header of a volume, or the first
     // of the input.
-    ensures err { result ≢ 0 → (f : Fault) × ((f ≡ out_of_memory) ⊎ Refuses input.now f)
+    ensures err { result ≢ 0 → (f : Fault) × OrMemory (Refuses input.now) f
         × (f ≡ out_of_memory → BeginsWithHeader input.now)
         × (result ≡ fault_number f.kind) × (fault.new ≡ reported_fault f) }
 
@@ -129,6 +155,7 @@ pub extern "C" fn fv_normalise(
     // The buffer begins with the image, and holds what it held after that.
     ensures ok { result ≡ 0 → (image : List ℕ) × NormalisesTo input.now image × (length image ≡ length input.now)
         × (buffer.new ≡ image ++ drop (length image) buffer.old) × (fault.new ≡ no_fault) }
+
     ensures kept { result ≢ 0 → buffer.new ≡ buffer.old }
 
     // Only for an input that has an image can the buffer be too small: if it is shorter.
@@ -138,19 +165,24 @@ pub extern "C" fn fv_normalise(
 
     // Any other fault is out of memory, only if the input begins with the header of a volume, or
     // the first of the input.
-    ensures err { result ≢ 0 → result ≢ 256 → (f : Fault) × ((f ≡ out_of_memory) ⊎ Refuses input.now f)
+    ensures err { result ≢ 0 → result ≢ 256 → (f : Fault) × OrMemory (Refuses input.now) f
         × (f ≡ out_of_memory → BeginsWithHeader input.now)
         × (result ≡ fault_number f.kind) × (fault.new ≡ reported_fault f) }
 
     // If the input has an image, only memory or the buffer can be too small.
     ensures fits { (image : List ℕ) → NormalisesTo input.now image → result ≢ 0 → result ≢ 256 → result ≡ 24 }
 {
-    let image = match normalise(alloc, input) {
-        Ok(image) => image,
+    let laid = match laid_volume(alloc, input) {
+        Ok(laid) => laid,
         Err(f) => return refused(f, fault),
     };
     *fault = NO_FAULT;
-    put_all(image.as_slice(), buffer)
+    if buffer.len() < input.len() {
+        return BUFFER_TOO_SMALL;
+    }
+    let mut out = BufferSink::new(buffer);
+    put_canonical(&laid.volume, &laid.places, &mut out);
+    0
 }
 
 /// Writes a flash image with each volume that `fv_scan` finds replaced by its canonical image. The
@@ -172,6 +204,7 @@ pub extern "C" fn fv_normalise_image(
     // The buffer begins with the image, and holds what it held after that.
     ensures ok { result ≡ 0 → (bytes : List ℕ) × NormalisesAll image.now bytes × (length bytes ≡ length image.now)
         × (buffer.new ≡ bytes ++ drop (length bytes) buffer.old) × (fault.new ≡ no_fault) }
+
     ensures kept { result ≢ 0 → buffer.new ≡ buffer.old }
 
     // Only if each volume has an image can the buffer be too small: if it is shorter.
@@ -181,17 +214,22 @@ pub extern "C" fn fv_normalise_image(
 
     // Any other fault is out of memory, only if the image is within the limit, or that of the first
     // volume that has no image.
-    ensures err { result ≢ 0 → result ≢ 256 → (f : Fault) × ((f ≡ out_of_memory) ⊎ RefusesAll image.now f)
+    ensures err { result ≢ 0 → result ≢ 256 → (f : Fault) × OrMemory (RefusesAll image.now) f
         × (f ≡ out_of_memory → length image.now ≤ volume_limit)
         × (result ≡ fault_number f.kind) × (fault.new ≡ reported_fault f) }
 
     // If each volume has an image, only memory or the buffer can be too small.
     ensures fits { (bytes : List ℕ) → NormalisesAll image.now bytes → result ≢ 0 → result ≢ 256 → result ≡ 24 }
 {
-    let bytes = match normalise_image(alloc, image) {
-        Ok(bytes) => bytes,
+    let laid = match lay_out_image(alloc, image) {
+        Ok(laid) => laid,
         Err(f) => return refused(f, fault),
     };
     *fault = NO_FAULT;
-    put_all(bytes.as_slice(), buffer)
+    if buffer.len() < image.len() {
+        return BUFFER_TOO_SMALL;
+    }
+    let mut out = BufferSink::new(buffer);
+    put_laid_image(&laid, &mut out);
+    0
 }

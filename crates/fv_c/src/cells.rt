@@ -9,8 +9,8 @@ ghost use Rattle.fv_tree.specs.Words.{BeginsTiled, NotTiled};
 ghost use Rattle.fv_c.specs.ReportedCells.{dead_number, of_bytes, of_file, reported_cell};
 ghost use Rattle.fv_c.specs.Reports.{BeginsWithHeader, reported_fault, no_fault};
 
-use crate::buffer::put_found;
-use crate::reports::{FvFault, refused};
+use crate::buffer::put_result;
+use crate::reports::FvFault;
 use crate::translate::{Translate, translate_all};
 use fv_base::Fault;
 use fv_file::{Cell, Cells, FileHead, FileState};
@@ -138,6 +138,7 @@ pub extern "C" fn fv_cells(
     ensures ok { result ≡ 0 → (e : Extent) × (cs : List CellForm) × BeginsTiled e cs bytes.now
         × (count.new ≡ length cs) × (buffer.new ≡ map reported_cell cs ++ drop (length cs) buffer.old)
         × (fault.new ≡ no_fault) }
+
     ensures kept { result ≢ 0 → buffer.new ≡ buffer.old }
     ensures small { result ≡ 256 → (e : Extent) × (cs : List CellForm) × BeginsTiled e cs bytes.now
         × (count.new ≡ length cs) × (length buffer.old < length cs) × (fault.new ≡ no_fault) }
@@ -148,8 +149,5 @@ pub extern "C" fn fv_cells(
         × (f ≡ out_of_memory → BeginsWithHeader bytes.now)
         × (result ≡ fault_number f.kind) × (fault.new ≡ reported_fault f) × (count.new ≡ count.old) }
 {
-    match cell_rows(alloc, bytes) {
-        Ok(rows) => put_found(rows.as_slice(), buffer, count, fault),
-        Err(f) => refused(f, fault),
-    }
+    put_result(cell_rows(alloc, bytes), buffer, count, fault)
 }

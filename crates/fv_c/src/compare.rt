@@ -1,7 +1,7 @@
 //! Where the meanings of two volumes first differ.
 
 ghost use Rattle.std.specs.Prelude.{◌≡◌, ◌≢◌, ◌⊎◌, ◌↔◌, ◌<◌, ◌++◌, length, drop, true, IfOk, IfErr};
-ghost use Rattle.fv_base.specs.Words.{fault_number, out_of_memory};
+ghost use Rattle.fv_base.specs.Words.{OrMemory, fault_number, out_of_memory};
 ghost use Rattle.fv_base.specs.declared.fault.Fault.{Fault};
 ghost use Rattle.fv_compare.specs.Words.{compare_line, difference};
 ghost use Rattle.fv_tree.specs.Words.{NotRead, Accepted, Meaning};
@@ -107,17 +107,18 @@ pub extern "C" fn fv_compare(
     ensures ok { result ≡ 0 → (m : Meaning) × (k : Meaning) × Accepted first.now m × Accepted second.now k
         × IsReported m k found.new
         × (buffer.new ≡ compare_line (difference m k) ++ drop found.new.line_len buffer.old) }
+
     ensures kept { result ≢ 0 → buffer.new ≡ buffer.old }
     ensures small { result ≡ 256 → (m : Meaning) × (k : Meaning) × Accepted first.now m × Accepted second.now k
         × IsReported m k found.new × (length buffer.old < found.new.line_len) }
 
     // A fault is out of memory, only if the input of its side begins with the header of a volume, or
     // the first of that input. It is the second's only if the first is a volume.
-    ensures first { found.new.side ≡ 1 → (f : Fault) × ((f ≡ out_of_memory) ⊎ NotRead first.now f)
+    ensures first { found.new.side ≡ 1 → (f : Fault) × OrMemory (NotRead first.now) f
         × (f ≡ out_of_memory → BeginsWithHeader first.now)
         × (result ≡ fault_number f.kind) × (found.new ≡ reported_stop 1 f) }
     ensures second { found.new.side ≡ 2 → ((m : Meaning) × Accepted first.now m)
-        × (f : Fault) × ((f ≡ out_of_memory) ⊎ NotRead second.now f)
+        × (f : Fault) × OrMemory (NotRead second.now) f
         × (f ≡ out_of_memory → BeginsWithHeader second.now)
         × (result ≡ fault_number f.kind) × (found.new ≡ reported_stop 2 f) }
 

@@ -94,6 +94,7 @@ pub extern "C" fn fv_depex(
         × ((t : Expression) → IsTree (phase_by_number phase) ops t
         → value.new ≡ reported_truth (Some (truth (map passed_guid installed.now) t)))
         × (IsOrder (phase_by_number phase) ops → value.new ≡ 2) × (fault.new ≡ no_fault) }
+
     ensures kept { result ≢ 0 → value.new ≡ value.old }
 
     // A fault is out of memory, only if the bytes begin with an op that may be the first, or the

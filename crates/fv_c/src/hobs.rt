@@ -79,6 +79,7 @@ pub extern "C" fn fv_hobs(
     ensures ok { result ≡ 0 → (all : List HobForm) × (consumed.new ≤ length bytes.now)
         × IsHobList all (take consumed.new bytes.now) × (count.new ≡ length all)
         × (buffer.new ≡ map reported_hob all ++ drop (length all) buffer.old) × (fault.new ≡ no_fault) }
+
     ensures kept { result ≢ 0 → buffer.new ≡ buffer.old }
     ensures small { result ≡ 256 → (all : List HobForm) × (consumed.new ≤ length bytes.now)
         × IsHobList all (take consumed.new bytes.now) × (count.new ≡ length all)

@@ -1,9 +1,14 @@
 //! Laws over the definitions of this crate.
 
-ghost use Rattle.std.specs.Prelude.{◌≡◌, ℕ, map, slice_get};
+ghost use Rattle.std.specs.Prelude.{◌≡◌, [], ◌∷◌, ℕ, List, Some, map, slice_get};
 ghost use Rattle.std.specs.List.{filter};
-ghost use Rattle.fv_tree.specs.Words.{preorder, ContentMeaning, SectionMeanings, Sectioned, sections_in_data};
+ghost use Rattle.fv_tree.specs.Words.{preorder, ContentMeaning, FileMeaning, Meaning, SectionMeaning, SectionMeanings};
+ghost use Rattle.fv_tree.specs.Words.{Sectioned, sections_in_data, Accepted, plain_of, content_of, leaf_of, body_of};
 ghost use Rattle.fv_c.specs.ReportedFiles.{is_in, is_root, no_parent, rows_under, rows_under_row, section_rows};
+ghost use Rattle.fv_c.specs.TreeParts.{VolumeNode, FileNode, SectionNode, TreeRow, is_first, is_held_by, rows_held};
+ghost use Rattle.fv_c.specs.TreeParts.{rows_of_parts, tree_rows};
+ghost use Rattle.fv_c.specs.ReportedTree.{IsNodeIn, bytes_at};
+ghost use Rattle.fv_c.specs.declared.tree.FvNode.{FvNode};
 
 /// The sections that `fv_sections` writes are those among which `section_by_type` counts, in the
 /// same order. So section number `n` of a type is the n-th row of that type. (PI specification,
@@ -22,4 +27,28 @@ pub fn sections_have_their_group()
         ≡ rows_under no_parent 0 (sections_in_data content) }
     ensures inner { (content : ContentMeaning) (n : ℕ) → filter (is_in n) (section_rows content)
         ≡ rows_under_row n (slice_get (section_rows content) n) }
+{}
+
+/// What the rows that `fv_tree` writes hold. The volume itself is the only row of depth 0, and has
+/// no parent. The rows with the parent `n` are exactly the parts that row number `n` holds, in
+/// order and numbered from 0, and their depth is one more: the files of a volume, the sections of a
+/// file or a group, the volume of a section. There are none if that row holds bytes, or no row has
+/// that number. (PI specification, volume 3, sections 3.2.1, 3.2.3 and 3.2.4.)
+pub fn rows_have_their_parent()
+    ensures first { (m : Meaning) → filter is_first (tree_rows m) ≡ rows_of_parts no_parent 0 0 (VolumeNode m ∷ []) }
+    ensures inner { (m : Meaning) (n : ℕ) → filter (is_held_by n) (tree_rows m)
+        ≡ rows_held n (slice_get (tree_rows m) n) }
+{}
+
+/// Which bytes of the input are at the places of the rows that `fv_tree` writes. At that of a
+/// volume are the bytes of a volume with its meaning. At that of a file of plain bytes are these
+/// bytes, and at that of a section that holds bytes are these. (PI specification, volume 3, sections
+/// 3.2.1, 3.2.3 and 3.2.4.)
+pub fn rows_have_their_bytes()
+    ensures volume { (input : List ℕ) (rows : List FvNode) (row : FvNode) (r : TreeRow) (m : Meaning)
+        → IsNodeIn input rows row r → r.node ≡ VolumeNode m → Accepted (bytes_at input row) m }
+    ensures file { (input : List ℕ) (rows : List FvNode) (row : FvNode) (r : TreeRow) (f : FileMeaning) (b : List ℕ)
+        → IsNodeIn input rows row r → r.node ≡ FileNode f → plain_of (content_of f) ≡ Some b → bytes_at input row ≡ b }
+    ensures section { (input : List ℕ) (rows : List FvNode) (row : FvNode) (r : TreeRow) (s : SectionMeaning) (b : List ℕ)
+        → IsNodeIn input rows row r → r.node ≡ SectionNode s → leaf_of (body_of s) ≡ Some b → bytes_at input row ≡ b }
 {}

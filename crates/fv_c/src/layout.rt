@@ -6,8 +6,10 @@ use crate::compare::FvComparison;
 use crate::depex::FvGuid;
 use crate::files::FvFile;
 use crate::hobs::FvHob;
+use crate::image_checks::FvVolumeCheck;
 use crate::reports::{FvExtent, FvFault};
 use crate::sections::FvSection;
+use crate::tree::FvNode;
 use std::mem::size_of;
 
 const _: () = prove!(size_of::<FvFault>() == 16);
@@ -22,7 +24,11 @@ const _: () = prove!(size_of::<FvCell>() == 56);
 
 const _: () = prove!(size_of::<FvFile>() == 48);
 
+const _: () = prove!(size_of::<FvVolumeCheck>() == 40);
+
 const _: () = prove!(size_of::<FvSection>() == 40);
+
+const _: () = prove!(size_of::<FvNode>() == 80);
 
 const _: () = prove!(size_of::<FvGuid>() == 16);
 

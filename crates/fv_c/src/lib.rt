@@ -1,5 +1,10 @@
 //! The reader, the checker, the rebuilder and the comparer for programs written in C. The header
 //! `clib/include/fv.h` declares what is exported here.
+//!
+//! A call returns 0, or the number of a fault, which is below 256; or 256, if a buffer is too
+//! small, or 257, if there is no file or section of a number. If it returns another number than 0,
+//! the buffer is as it was, which the clause `kept` says. The clause `small` says when it returns
+//! 256, and what the buffer needs then.
 #![tactic(auto)]
 
 mod buffer;
@@ -10,6 +15,7 @@ pub mod depex;
 mod extract;
 pub mod files;
 pub mod hobs;
+pub mod image_checks;
 pub mod laws;
 mod layout;
 mod parts;
@@ -17,4 +23,6 @@ pub mod reports;
 mod scan;
 pub mod sections;
 mod translate;
+pub mod tree;
+pub mod tree_sums;
 mod verify;

@@ -1,14 +1,11 @@
-//! The sections of a file, and the parts of a volume that can be extracted.
+//! The sections of a file.
 
-ghost use Rattle.std.specs.Prelude.{◌≡◌, ◌≤◌, ◌++◌, length, map, IfOk, IfErr, OnOk};
+ghost use Rattle.std.specs.Prelude.{◌≡◌, ◌≤◌, ◌++◌, length, map, IfOk, OnOk};
 ghost use Rattle.fv_tree.specs.Words.{body_of, sections_from, content_of};
-ghost use Rattle.fv_c.specs.ExtractedParts.{part_in, part_of_file};
 ghost use Rattle.fv_c.specs.ReportedFiles.{held_number, rows_of_sections, section_rows};
-ghost use Rattle.fv_c.specs.inner.Rows.{row_form, ShowsPart, StopsPart};
+ghost use Rattle.fv_c.specs.inner.Rows.{row_form};
 
-use fv_base::{ByteList, Fault};
-use fv_canon::{body_bytes, file_bytes};
-use fv_tree::{Body, FileView, SectionView, SectionWalk, VolumeView};
+use fv_tree::{Body, FileView, SectionView};
 use std::alloc::{AllocError, Global};
 
 /// That a section is in no group.
@@ -72,34 +69,4 @@ pub(crate) fn sections_of<'v, 'a>(
     let mut rows = Vec::new(alloc);
     add_sections(file.sections(), NO_PARENT, 0, &mut rows)?;
     Ok(rows)
-}
-
-// The bytes of the part of a file that a number asks for, if there is one.
-fn file_part(alloc: Global, file: &FileView<'_>, section: u64) -> Result<Option<ByteList>, Fault>
-    ensures ok { IfOk result (ShowsPart (part_of_file section file.now)) }
-    ensures err { IfErr result (StopsPart (part_of_file section file.now)) }
-{
-    if section == WHOLE_FILE {
-        return Ok(Some(file_bytes(alloc, file)?));
-    }
-    let Some(section) = SectionWalk::of(file).nth(section as usize) else {
-        return Ok(None);
-    };
-    Ok(Some(body_bytes(alloc, section)?))
-}
-
-// The bytes of the part that the number of a file and that of a section ask for, if there is one.
-pub(crate) fn part_bytes(
-    alloc: Global,
-    volume: &VolumeView<'_>,
-    file: u64,
-    section: u64,
-) -> Result<Option<ByteList>, Fault>
-    ensures ok { IfOk result (ShowsPart (part_in file section volume.now)) }
-    ensures err { IfErr result (StopsPart (part_in file section volume.now)) }
-{
-    let Some(file) = volume.files().get(file as usize) else {
-        return Ok(None);
-    };
-    file_part(alloc, file, section)
 }

@@ -20,6 +20,7 @@ pub extern "C" fn fv_scan(alloc: Global, bytes: &[u8], buffer: &mut [u64], count
     // The buffer begins with the offsets, and holds what it held after them.
     ensures ok { result ≡ 0 → (p : List ℕ) × Found bytes.now p × (count.new ≡ length p)
         × (buffer.new ≡ p ++ drop (length p) buffer.old) }
+
     ensures kept { result ≢ 0 → buffer.new ≡ buffer.old }
     ensures small { result ≡ 256 → (p : List ℕ) × Found bytes.now p × (count.new ≡ length p)
         × (length buffer.old < length p) }

@@ -2,7 +2,7 @@
 
 ghost use Rattle.std.specs.Prelude.{◌≡◌, ◌≢◌, ◌⊎◌, ◌<◌, ◌++◌, length, drop, map, slice_get, Some, None};
 ghost use Rattle.std.specs.Prelude.{IfOk, IfErr, IfSome, IfNone};
-ghost use Rattle.fv_base.specs.Words.{fault_number, out_of_memory};
+ghost use Rattle.fv_base.specs.Words.{OrMemory, fault_number, out_of_memory};
 ghost use Rattle.fv_base.specs.declared.fault.Fault.{Fault};
 ghost use Rattle.fv_tree.specs.Words.{NotRead, Accepted, Meaning, FileMeaning, content_of, files_of};
 ghost use Rattle.fv_c.specs.ReportedFiles.{reported_section, section_rows};
@@ -74,7 +74,7 @@ fn section_rows(alloc: Global, input: &[u8], number: u64) -> Result<Option<Vec<F
         × (v.items ≡ map reported_section (section_rows (content_of f))))) }
     ensures none { IfOk result (λ o. IfNone o ((m : Meaning) × Accepted input.now m
         × (slice_get (files_of m) number ≡ None))) }
-    ensures err { IfErr result (λ f. (f ≡ out_of_memory) ⊎ NotRead input.now f) }
+    ensures err { IfErr result (OrMemory (NotRead input.now)) }
     ensures memory { IfErr result (λ f. f ≡ out_of_memory → BeginsWithHeader input.now) }
 {
     let volume = whole_volume(alloc, input)?;
@@ -109,6 +109,7 @@ pub extern "C" fn fv_sections(
         × (slice_get (files_of m) number ≡ Some f) × (count.new ≡ length (section_rows (content_of f)))
         × (buffer.new ≡ map reported_section (section_rows (content_of f)) ++ drop count.new buffer.old)
         × (fault.new ≡ no_fault) }
+
     ensures kept { result ≢ 0 → buffer.new ≡ buffer.old }
     ensures small { result ≡ 256 → (m : Meaning) × (f : FileMeaning) × Accepted input.now m
         × (slice_get (files_of m) number ≡ Some f) × (count.new ≡ length (section_rows (content_of f)))
@@ -121,7 +122,7 @@ pub extern "C" fn fv_sections(
     // Any other fault is out of memory, only if the input begins with the header of a volume, or
     // the first of the input.
     ensures err { result ≢ 0 → result ≢ 256 → result ≢ 257 → (f : Fault)
-        × ((f ≡ out_of_memory) ⊎ NotRead input.now f)
+        × OrMemory (NotRead input.now) f
         × (f ≡ out_of_memory → BeginsWithHeader input.now)
         × (result ≡ fault_number f.kind) × (fault.new ≡ reported_fault f) × (count.new ≡ count.old) }
 {

@@ -1,6 +1,6 @@
 //! Values that pass between C and the crates, each as the other side has it.
 
-ghost use Rattle.std.specs.Prelude.{◌≡◌, map, IfOk};
+ghost use Rattle.std.specs.Prelude.{◌≡◌, ◌≢◌, [], map, IfOk, OnErr};
 
 use std::alloc::{AllocError, Global};
 
@@ -21,7 +21,10 @@ pub(crate) fn translate_all<T: Translate>(
     alloc: Global,
     list: &[T],
 ) -> Result<Vec<T::Target>, AllocError>
-    ensures { IfOk result (λ v. v.items ≡ map T.translated list.now) }
+    ensures values { IfOk result (λ v. v.items ≡ map T.translated list.now) }
+
+    // Memory runs out only if there are values.
+    ensures some { OnErr result (list.now ≢ []) }
 {
     let mut translated = Vec::with_capacity(alloc, list.len())?;
     for value in list {

@@ -30,6 +30,7 @@ pub extern "C" fn fv_verify(bytes: &[u8], extent: &mut FvExtent, fault: &mut FvF
     // A fault is that of the first check that does not hold.
     ensures first { result ≢ 0 → (f : Fault) × IsFirstFault (head_checks bytes.now) f
         × (result ≡ fault_number f.kind) × (fault.new ≡ reported_fault f) }
+
     ensures kept { result ≢ 0 → extent.new ≡ extent.old }
 {
     match verify_fv(bytes) {

@@ -2,9 +2,10 @@
 -- 1. The fault of a volume is at its place in the image (`told_at`). A volume that is laid out has an image (`has_image`).
 -- 2. The volumes at the first places are laid out: one more (`lays_more`), or one that is rejected (`lays_stop`), or all (`lays_all`).
 -- 3. They are put with the bytes between them: none, the next, and all (`laid_none`, `laid_next`, `laid_more`, `laid_all`).
+-- 4. So what is laid out has an image (`laid_renewed`).
 use Rattle.std.proofs.lemmas.Grind.{common_steps}
-use Rattle.std.proofs.Common.{◌≡◌, ◌≢◌, ◌⊎◌, ◌≤◌, ◌<◌, ◌+◌, ◌-◌, ℕ, List, [], ◌∷◌, ◌++◌, length, take, drop, get_or}
-use Rattle.std.proofs.Common.{sym, ap, ◌∙◌, subst, arith, inl, inr}
+use Rattle.std.proofs.Common.{◌≡◌, ◌≢◌, ◌⊎◌, ◌≤◌, ◌<◌, ◌+◌, ◌-◌, ℕ, zero, suc, List, [], ◌∷◌, ◌++◌, length, take, drop, get_or}
+use Rattle.std.proofs.Common.{refl, sym, ap, ◌∙◌, subst, arith, inl, inr}
 use Rattle.std.specs.List.{AllByRecursion}
 use Rattle.std.proofs.lemmas.List.{drop_more, get_or-map, length-drop, length-map, length-take-le, map-append, take-append-drop}
 use Rattle.std.proofs.lemmas.List.{take_all, take_more}
@@ -34,11 +35,16 @@ told_at b x p own f v is why told = or_more (want_known f) (λ other. elim why [
 ])
 
 -- one that is laid out has an image
-has_image : (b : List ℕ) (v : LaidVolume) → IsLaid b v → HasImageAt b v.start
-has_image b v (n, at, accepted, laid) =
+laid_image : (b : List ℕ) (v : LaidVolume) → IsLaid b v → (image : List ℕ) × IsImage v.view image
+laid_image b v (n, at, accepted, laid) =
     let starts : List ℕ = v.places.own ++ v.places.inner in
     let is : IsMeaning v.view = (depth_limit, omega arith, field v.start n b, accepted.0, accepted.1) in
-    (n, image_of v.view starts, at, (v.view, accepted, image_is v.view starts is laid.0))
+    (image_of v.view starts, image_is v.view starts is laid.0)
+
+has_image : (b : List ℕ) (v : LaidVolume) → IsLaid b v → HasImageAt b v.start
+has_image b v laid =
+    let image = laid_image b v laid in
+    (laid.0, image.0, laid.1, (v.view, laid.2, image.1))
 
 -- and as many bytes as its header says
 laid_long : (b : List ℕ) (p n : ℕ) (m : Meaning) → VolumeAt b p n → Accepted (field p n b) m → n ≡ (head_of m).length
@@ -51,7 +57,7 @@ abbrev pub LaysFirst : List ℕ → List ℕ → ℕ → List LaidVolume → Typ
 LaysFirst b places i volumes = AreLaid b (take i places) volumes
 
 -- one item more
-all_push : {X : Type 0} (P : X → Type 0) (xs : List X) (x : X) → AllByRecursion P xs → P x → AllByRecursion P (xs ++ x ∷ [])
+pub all_push : {X : Type 0} (P : X → Type 0) (xs : List X) (x : X) → AllByRecursion P xs → P x → AllByRecursion P (xs ++ x ∷ [])
 all_push P [] x all h = (h, tt)
 all_push P (y ∷ ys) x all h = (all.0, all_push P ys x all.1 h)
 
@@ -153,3 +159,43 @@ module _ {S : Type 0} (takes : S → List ℕ → S → Type 0) (laws : WalkLaws
       let counted : length (starts_of volumes) ≤ i = omega (arith, length-map volumes (λ (w : LaidVolume). w.start), past) in
       let done = puts_all takes laws s b (starts_of volumes) i from rest found' puts counted is put in
       (done.0, (short, starts_of volumes, found', done.1), done.2)
+
+-- ---- the image of what is laid out
+
+-- an item at a place
+item_at : {X : Type 0} (xs : List X) (i : ℕ) → i < length xs → (x : X) × (x ≡ get_or xs i x)
+item_at [] i less = absurd (never less) where
+  never : i < 0 → ⊥
+  never h = omega (arith, h)
+item_at (x ∷ xs) zero less = (x, refl)
+item_at (x ∷ xs) (suc i) less = item_at xs i (omega arith)
+
+-- a sink that keeps nothing
+abbrev nothing : Unit {0} → List ℕ → Unit {0} → Type 0
+nothing s bytes t = Unit {0}
+
+nothing_by : WalkLaws nothing
+nothing_by = record { none = λ s. tt; joined = λ p q. tt }
+
+-- the first i volumes, put into it
+first_put : (b : List ℕ) (volumes : List LaidVolume) (i : ℕ) → IsLaidOut b volumes → i ≤ length volumes
+    → (from : ℕ) × Puts nothing tt tt b (starts_of volumes) i from
+first_put b volumes zero laid few = (0, laid_none nothing nothing_by tt b volumes laid)
+first_put b volumes (suc i) laid few =
+    let less : i < length volumes = omega arith in
+    let item = item_at volumes i less in
+    let v : LaidVolume = item.0 in
+    let before = first_put b volumes i laid (omega arith) in
+    let image = laid_image b v (laid_item b volumes i v laid.3.1 less item.1).1 in
+    let more = laid_more nothing nothing_by tt b volumes i before.0 v (field before.0 (v.start - before.0) b) image.0 laid before.1 less
+    item.1 refl tt image.1 tt in
+    let end : ℕ = v.start + (head_of v.view).length in
+    let next : i + 1 ≡ suc i = omega arith in
+    (end, subst (λ (k : ℕ). Puts nothing tt tt b (starts_of volumes) k end) next more)
+
+-- volumes that are laid out have images, and so has the whole
+pub laid_renewed : (b : List ℕ) (volumes : List LaidVolume) → IsLaidOut b volumes → (bytes : List ℕ) × NormalisesAll b bytes
+laid_renewed b volumes laid =
+    let put = first_put b volumes (length volumes) laid (omega arith) in
+    let whole = laid_all nothing nothing_by tt b volumes (length volumes) put.0 (drop put.0 b) laid put.1 (omega arith) refl tt in
+    (whole.0, whole.1)

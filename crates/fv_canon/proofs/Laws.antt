@@ -7,11 +7,15 @@ pub use Rattle.fv_canon.proofs.ImageLaws.{image_again, image_stays_long}
 -- in an image the pads from the first file's place on have only erased data
 pub use Rattle.fv_canon.proofs.AlignedLaws.{pads_erased}
 pub use Rattle.fv_canon.proofs.StoredTilingLaws.{PadErased}
+-- the data of a file have one image, and so has the body of a section
+pub use Rattle.fv_canon.proofs.OneImageLaws.{data_one, body_one}
 -- an image has one meaning; bytes that are a volume within the limit are accepted
 pub use Rattle.fv_canon.proofs.HeadlineLaws.{accepted, one_meaning_of}
 -- what has an image fits; what is laid out fits, and what is rejected does not
 pub use Rattle.fv_canon.proofs.ImageFits.{image_fits, data_fits, body_fits}
 pub use Rattle.fv_canon.proofs.FitLaws.{laid_fits, fits_laid, unfit_none}
+-- a flash image with all its volumes laid out has its image
+pub use Rattle.fv_canon.proofs.LaidVolumeLaws.{laid_renewed}
 -- starts that begin with those of some volumes begin with those of the first of them, and of the same volumes one level higher
 pub use Rattle.fv_canon.proofs.VolumeListLaws.{begins_first, begins_higher}
 -- an input that is no volume, or one that does not fit, is rejected; one that has an image is neither

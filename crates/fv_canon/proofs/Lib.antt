@@ -8,6 +8,7 @@ pub mod FaultPlaces
 pub mod FitLaws
 pub mod FlashImageLaws
 pub mod HeadlineLaws
+pub mod ImageCheckLaws
 pub mod ImageFits
 pub mod ImageLaws
 pub mod ImageParts
@@ -27,6 +28,7 @@ pub mod PositionLaws
 pub mod ReadLaws
 pub mod PlacedBytesLaws
 pub mod PartBytesLaws
+pub mod PartLengthLaws
 pub mod RejectedInputLaws
 pub mod StoredTilingLaws
 pub mod StreamImageLaws

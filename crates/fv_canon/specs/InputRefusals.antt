@@ -25,7 +25,7 @@ IsUnfit input = (m : Meaning) × Accepted input m × (Fits m → ⊥)
 abbrev pub IsNoVolume : List ℕ → Type 0
 IsNoVolume input = (m : Meaning) → Accepted input m → ⊥
 
--- the kinds of the faults of a layout
+-- the kinds of the faults of a layout: TopAlignment and NoRoom
 abbrev pub IsOfLayout : FaultKind → Type 0
 IsOfLayout kind = (kind ≡ kinds.TopAlignment) ⊎ (kind ≡ kinds.NoRoom)
 

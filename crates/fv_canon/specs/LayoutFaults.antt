@@ -13,11 +13,12 @@ use Rattle.fv_head.specs.Words.{first_edge}
 abbrev pub AllFit : List Inside → Type 0
 AllFit vs = AllByRecursion IsPlaced vs
 
--- a fault of the layout of a volume at this depth
+-- a fault of the layout of a volume at this depth, at offset 0
 abbrev pub layout_fault : FaultKind → ℕ → Fault
 layout_fault kind depth = record { kind = kind; place = record { offset = 0; depth = depth } }
 
--- the volume top file is not aligned at its only possible start, or else the files of the volume cannot be placed
+-- TopAlignment, if the volume top file is not aligned at its only possible start; else NoRoom, if the files of the
+-- volume cannot be placed
 abbrev pub UnfitHere : Meaning → ℕ → Fault → Type 0
 UnfitHere m depth f =
     (TopOff (length_of m) (layout_items m) × (f ≡ layout_fault kinds.TopAlignment depth))

@@ -34,6 +34,6 @@ pub record Places : Type 0 where
   pub own : List ℕ
   pub inner : List ℕ
 
--- the starts are those of the canonical image
+-- the starts are those of the canonical image, and as many of them are the volume's own as it has files
 abbrev pub IsLayout : Meaning → Places → Type 0
 IsLayout m l = LaysVolume m (l.own ++ l.inner) × (length l.own ≡ length (files_of m))

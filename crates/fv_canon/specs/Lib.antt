@@ -9,6 +9,7 @@ pub mod LayoutFaults
 pub mod ImageRules
 pub mod LayoutForms
 pub mod FlashImages
+pub mod ImageChecks
 pub mod NormaliseRuns
 pub mod Words
 pub mod inner

@@ -1,7 +1,7 @@
 -- What a run over one input reads and writes, and what stops it.
-use Rattle.std.specs.Prelude.{ℕ, ◌≡◌, List, Option, ◌⊎◌}
+use Rattle.std.specs.Prelude.{ℕ, List, Option, ◌⊎◌}
 use Rattle.std.specs.Io.KnownBytes.{Appends, Keeps}
-use Rattle.fv_base.specs.Words.{out_of_memory, ReadsWhole, ReadStops, WriteStops}
+use Rattle.fv_base.specs.Words.{OrMemory, ReadsWhole, ReadStops, WriteStops}
 use Rattle.fv_base.specs.declared.fault.Fault.{Fault}
 use Rattle.fv_tree.specs.Words.{MemoryRanOut}
 use Rattle.fv_canon.specs.FlashImages.{NormalisesAll, RefusesAll}
@@ -26,7 +26,7 @@ ImageWrites b held holds = (bytes : List ℕ) × NormalisesAll b bytes × Append
 -- nothing was written, because memory ran out or the flash image b is rejected; or the writer stopped
 abbrev pub ImageStops : List ℕ → Option (List ℕ) → Option (List ℕ) → Fault → Type 0
 ImageStops b held holds fault =
-    (Keeps held holds × ((fault ≡ out_of_memory) ⊎ RefusesAll b fault))
+    (Keeps held holds × OrMemory (RefusesAll b) fault)
     ⊎ ((bytes : List ℕ) × NormalisesAll b bytes × WriteStops held holds bytes fault)
 
 -- a run read an input to its end, and wrote its image

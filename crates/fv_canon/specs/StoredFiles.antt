@@ -38,7 +38,7 @@ stored_bytes polarity f =
 unfoldable pub pad_bytes : Polarity → ℕ → List ℕ
 pad_bytes polarity size = pad_head_of size polarity ++ replicate (size - 24) (erased_byte polarity)
 
--- the greatest pad that another pad may follow
+-- 0xFFFF00, the greatest pad that another pad may follow
 abbrev pub long_pad : ℕ
 long_pad = 0xffff00
 

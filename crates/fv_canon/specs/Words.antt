@@ -15,4 +15,6 @@ pub use Rattle.fv_canon.specs.ImageRules.{painted, InOrder, PadsRule, OneImage, 
 pub use Rattle.fv_canon.specs.LayoutForms.{AreLeast, Laid, LaysVolume, BeginsWithStarts, LeastVolume, Places, IsLayout}
 pub use Rattle.fv_canon.specs.FlashImages.{IsRenewed, Renewed, NormalisesAll, HasImageAt, RefusedAt, FirstRefused}
 pub use Rattle.fv_canon.specs.FlashImages.{RefusesAll, IsLaid, starts_of, AreLaid, IsLaidOut}
+pub use Rattle.fv_canon.specs.ImageChecks.{IsOtherThanImage, HasOutcome, IsChecked, AreChecked, ChecksImage, IsAboveLimit}
+pub use Rattle.fv_canon.specs.ImageChecks.{AreCanonical, CanonicalImagesStay}
 pub use Rattle.fv_canon.specs.NormaliseRuns.{InputWrites, InputStops, ImageWrites, ImageStops, RunWrites, RunStops}

@@ -2,7 +2,7 @@
 
 ghost use Rattle.std.specs.Prelude.{◌≡◌, ◌⊎◌, ℕ, List, IfOk, IfErr, OnOk, OnErr, true};
 ghost use Rattle.std.specs.Io.KnownBytes.{Appends};
-ghost use Rattle.fv_base.specs.Words.{out_of_memory, inner_of, has_erred, WriteStops};
+ghost use Rattle.fv_base.specs.Words.{OrMemory, out_of_memory, inner_of, has_erred, WriteStops};
 ghost use Rattle.fv_canon.specs.Image.{IsImage};
 ghost use Rattle.fv_canon.specs.Layouts.{Fits};
 ghost use Rattle.fv_canon.specs.LayoutFaults.{Unfit};
@@ -75,7 +75,9 @@ pub fn canonical(alloc: Global, view: &VolumeView<'_>) -> Result<ByteList, Fault
     ensures meaning { IfOk result (λ bytes. (m : Meaning) → IsMeaning m → IsImage m bytes → m ≡ view.now) }
 
     // Any error other than OutOfMemory is that of a volume that does not fit.
-    ensures err { IfErr result (λ f. (f ≡ out_of_memory) ⊎ Unfit view.now 0 f) }
+    ensures err { IfErr result (OrMemory (Unfit view.now 0)) }
+
+    // The only error for a volume that fits is OutOfMemory.
     ensures fits { Fits view.now → IfErr result (λ f. f ≡ out_of_memory) }
 {
     let places = layout(alloc, view)?;

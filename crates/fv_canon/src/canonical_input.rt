@@ -2,7 +2,7 @@
 //! walk puts.
 
 ghost use Rattle.std.specs.Prelude.{◌≡◌, ◌≢◌, ◌↔◌, ◌⊎◌, [], IfOk, IfErr, IsTrue, true};
-ghost use Rattle.fv_base.specs.Words.{out_of_memory};
+ghost use Rattle.fv_base.specs.Words.{OrMemory, out_of_memory};
 ghost use Rattle.fv_canon.specs.Image.{IsImage};
 ghost use Rattle.fv_canon.specs.LayoutForms.{LaysVolume};
 ghost use Rattle.fv_canon.specs.inner.ImageOf.{image_of};
@@ -64,6 +64,8 @@ fn is_image(view: &VolumeView<'_>, starts: &[u64], bytes: &[u8]) -> bool
 pub fn is_canonical_image(alloc: Global, view: &VolumeView<'_>, bytes: &[u8]) -> Result<bool, Fault>
     // Whether the bytes are the image of the view's meaning.
     ensures ok { IfOk result (λ t. (t ≡ true) ↔ IsImage view.now bytes.now) }
+
+    // The only error is OutOfMemory.
     ensures err { IfErr result (λ f. f ≡ out_of_memory) }
 
     // Memory runs out only if the volume has a file.
@@ -82,8 +84,8 @@ pub fn is_canonical_image(alloc: Global, view: &VolumeView<'_>, bytes: &[u8]) ->
     }
 }
 
-/// Whether the input is a volume that is its own canonical image. No image is made. (PI
-/// specification, volume 3, section 3.2.)
+/// Whether the input is a volume that is its own canonical image. No image is made. False if the
+/// volume does not fit. (PI specification, volume 3, section 3.2.)
 ///
 /// # Errors
 ///
@@ -94,7 +96,7 @@ pub fn is_canonical(alloc: Global, input: &[u8]) -> Result<bool, Fault>
     ensures ok { IfOk result (λ t. (m : Meaning) × Accepted input.now m × ((t ≡ true) ↔ IsImage m input.now)) }
 
     // Any error other than OutOfMemory says that the input is no volume.
-    ensures err { IfErr result (λ f. (f ≡ out_of_memory) ⊎ NotRead input.now f) }
+    ensures err { IfErr result (OrMemory (NotRead input.now)) }
 
     // Memory runs out only if the input begins with the header of a volume.
     ensures memory { IfErr result (λ f. f ≡ out_of_memory → BeginsWithHeader input.now) }

@@ -2,7 +2,7 @@
 
 ghost use Rattle.std.specs.Prelude.{◌≡◌, ◌≢◌, ◌⊎◌, ◌-◌, ◌≤◌, ℕ, List, length, true};
 ghost use Rattle.std.specs.Prelude.{IfOk, IfErr, OnOk};
-ghost use Rattle.fv_base.specs.Words.{out_of_memory, volume_limit, inner_of, has_erred, field};
+ghost use Rattle.fv_base.specs.Words.{OrMemory, out_of_memory, volume_limit, inner_of, has_erred, field};
 ghost use Rattle.fv_canon.specs.FlashImages.{FirstRefused, NormalisesAll, RefusedAt, RefusesAll, AreLaid, IsLaid, IsLaidOut};
 ghost use Rattle.fv_canon.specs.LayoutForms.{IsLayout};
 ghost use Rattle.fv_canon.specs.NormaliseRuns.{ImageWrites, ImageStops};
@@ -31,7 +31,7 @@ fn between(image: &[u8], from: usize, to: usize) -> &[u8]
 }
 
 // The bytes of the volume that begins at this offset.
-fn volume_at(image: &[u8], start: usize) -> &[u8]
+pub(crate) fn volume_at(image: &[u8], start: usize) -> &[u8]
     requires { (n : ℕ) × VolumeAt image.now start n }
     ensures volume { VolumeAt image.now start (length result.now) }
     ensures bytes { result.now ≡ field start (length result.now) image.now }
@@ -54,7 +54,7 @@ struct LaidVolume<'a> {
 fn laid_volume(alloc: Global, start: u64, volume: &[u8]) -> Result<LaidVolume<'_>, Fault>
     ensures start { IfOk result (λ v. v.start ≡ start) }
     ensures ok { IfOk result (λ v. Accepted volume.now v.view × IsLayout v.view v.places) }
-    ensures err { IfErr result (λ f. (f ≡ out_of_memory) ⊎ Refuses volume.now f) }
+    ensures err { IfErr result (OrMemory (Refuses volume.now)) }
     ensures kind { IfErr result (λ f. (f.kind ≢ FaultKind.ReadFault) × (f.kind ≢ FaultKind.WriteFault)) }
 {
     let view = whole_volume(alloc, volume)?;
@@ -71,7 +71,7 @@ fn laid_at(alloc: Global, image: &[u8], start: u64) -> Result<LaidVolume<'_>, Fa
     requires { (n : ℕ) × VolumeAt image.now start n }
     ensures start { IfOk result (λ v. v.start ≡ start) }
     ensures ok { IfOk result (IsLaid image.now) }
-    ensures err { IfErr result (λ f. (f ≡ out_of_memory) ⊎ RefusedAt image.now start f) }
+    ensures err { IfErr result (OrMemory (RefusedAt image.now start)) }
     ensures kind { IfErr result (λ f. (f.kind ≢ FaultKind.ReadFault) × (f.kind ≢ FaultKind.WriteFault)) }
 {
     match laid_volume(alloc, start, volume_at(image, start as usize)) {
@@ -94,7 +94,7 @@ fn laid_at_each<'a>(
 ) -> Result<Vec<LaidVolume<'a>>, Fault>
     requires { Found image.now offsets.now }
     ensures ok { IfOk result (λ volumes. AreLaid image.now offsets.now volumes.items) }
-    ensures err { IfErr result (λ f. (f ≡ out_of_memory) ⊎ FirstRefused image.now offsets.now f) }
+    ensures err { IfErr result (OrMemory (FirstRefused image.now offsets.now)) }
     ensures kind { IfErr result (λ f. (f.kind ≢ FaultKind.ReadFault) × (f.kind ≢ FaultKind.WriteFault)) }
 {
     let mut volumes = Vec::with_capacity(alloc, offsets.len())?;
@@ -148,14 +148,20 @@ impl<'a> Model for LaidImage<'a> {
 /// volume that `normalise` rejects, at its offset in the image; NoRoom and TopAlignment are at the
 /// volume's start. OutOfMemory.
 pub fn lay_out_image(alloc: Global, image: &[u8]) -> Result<LaidImage<'_>, Fault>
+    // It is the input, each volume of which has a meaning and a layout.
     ensures ok { IfOk result (λ laid. laid ≡ image.now) }
-    ensures err { IfErr result (λ f. (f ≡ out_of_memory) ⊎ RefusesAll image.now f) }
+
+    // Any error other than OutOfMemory is Length at the limit, or that of the first volume that is
+    // rejected.
+    ensures err { IfErr result (OrMemory (RefusesAll image.now)) }
 
     // If each volume has an image, the only error is OutOfMemory.
     ensures fits { (other : List ℕ) → NormalisesAll image.now other → IfErr result (λ f. f ≡ out_of_memory) }
 
     // Memory runs out only if the image is within the limit.
     ensures memory { IfErr result (λ f. f ≡ out_of_memory → length image.now ≤ volume_limit) }
+
+    // ReadFault and WriteFault are never returned.
     ensures kind { IfErr result (λ f. (f.kind ≢ FaultKind.ReadFault) × (f.kind ≢ FaultKind.WriteFault)) }
 {
     let total = image.len() as u64;
@@ -188,7 +194,10 @@ pub fn normalise_image(alloc: Global, image: &[u8]) -> Result<ByteList, Fault>
 
     // No other bytes are.
     ensures only { (other : List ℕ) → NormalisesAll image.now other → IfOk result (λ bytes. bytes ≡ other) }
-    ensures err { IfErr result (λ f. (f ≡ out_of_memory) ⊎ RefusesAll image.now f) }
+
+    // Any error other than OutOfMemory is Length at the limit, or that of the first volume that is
+    // rejected.
+    ensures err { IfErr result (OrMemory (RefusesAll image.now)) }
 
     // If each volume has an image, the only error is OutOfMemory.
     ensures fits { (other : List ℕ) → NormalisesAll image.now other → IfErr result (λ f. f ≡ out_of_memory) }
@@ -215,8 +224,12 @@ pub fn write_normalised_image<W: Write>(
     image: &[u8],
     writer: &mut Port<W>,
 ) -> Result<(), Fault>
+    // The image was written.
     ensures ok { OnOk result
         (ImageWrites image.now (W.contents (inner_of writer.old)) (W.contents (inner_of writer.new))) }
+
+    // Nothing was written, for an error of `normalise_image`; or WriteFault, and the first bytes of
+    // the image were written, as many as its offset says.
     ensures err { IfErr result
         (ImageStops image.now (W.contents (inner_of writer.old)) (W.contents (inner_of writer.new))) }
     ensures read { IfErr result (λ f. f.kind ≢ FaultKind.ReadFault) }

@@ -6,6 +6,7 @@ ghost use Rattle.fv_base.specs.declared.fault.Fault.{Fault};
 ghost use Rattle.fv_tree.specs.Words.{Accepted, Meaning};
 ghost use Rattle.fv_canon.specs.Headline.{MeanSame};
 ghost use Rattle.fv_canon.specs.ImageRules.{OneImage, OneMeaning, InOrder, painted, PadsRule};
+ghost use Rattle.fv_canon.specs.ImageChecks.{CanonicalImagesStay};
 ghost use Rattle.fv_canon.specs.InputRefusals.{OnlyWhatDoesNotFitIsRefused, WhatDoesNotFitIsRefused};
 ghost use Rattle.fv_canon.specs.Layouts.{Fits};
 ghost use Rattle.fv_canon.specs.LayoutForms.{LaysVolume, LeastVolume};
@@ -65,4 +66,10 @@ pub fn what_does_not_fit_is_refused()
 /// that is rejected with any other fault is no volume.
 pub fn only_what_does_not_fit_is_refused()
     ensures { OnlyWhatDoesNotFitIsRefused }
+{}
+
+/// The volumes of a flash image are all canonical, as `check_image` says it, exactly if
+/// `normalise_image` makes the same image of it.
+pub fn canonical_images_stay()
+    ensures { CanonicalImagesStay }
 {}

@@ -3,14 +3,15 @@
 //! starts that are left of the layout. Those of the volume that it comes to next are first.
 
 ghost use Rattle.std.specs.Prelude.{◌++◌, ℕ, List, drop};
-ghost use Rattle.fv_canon.specs.Image.{IsData, IsImage};
-ghost use Rattle.fv_canon.specs.LayoutForms.{BeginsWithStarts};
-ghost use Rattle.fv_tree.specs.Words.{content_of, Inside, volumes_in, volumes_in_content};
+ghost use Rattle.fv_canon.specs.Image.{IsBodyImage, IsData, IsImage};
+ghost use Rattle.fv_canon.specs.LayoutForms.{BeginsWithStarts, Laid};
+ghost use Rattle.fv_canon.specs.Layouts.{AreStarts};
+ghost use Rattle.fv_tree.specs.Words.{body_of, content_of, Inside, volumes_in, volumes_in_body, volumes_in_content};
 
 use crate::data_body::data_body;
 use crate::image_walk::{put_body_image, put_image};
 use fv_base::Sink;
-use fv_tree::{FileView, VolumeView};
+use fv_tree::{FileView, SectionView, VolumeView};
 
 /// Puts the canonical image of a volume into a sink, in one walk that takes no memory. The starts
 /// must begin with those of the volume. (PI specification, volume 3, section 3.2.)
@@ -33,6 +34,18 @@ pub fn put_laid_data<S: Sink>(file: &FileView<'_>, starts: &[u64], out: &mut S)
     // For what was read, the bytes of the walk are its data.
     file.known();
     put_body_image(out, data_body(file), starts);
+}
+
+/// Puts the body of a section, as it is in its volume's canonical image, into a sink, in one walk
+/// that takes no memory. The starts must be those of the volumes in the body. (PI specification,
+/// volume 3, section 3.2.4.)
+pub fn put_laid_body<S: Sink>(section: &SectionView<'_>, starts: &[u64], out: &mut S)
+    requires { Laid AreStarts (volumes_in_body (body_of section.now)) starts.now }
+    ensures { (bytes : List ℕ) × IsBodyImage (body_of section.now) bytes × S.takes out.old bytes out.new }
+{
+    // For what was read, the bytes of the walk are its body.
+    section.known();
+    put_body_image(out, section.body(), starts);
 }
 
 /// The starts after those of the volume's own files. If the starts begin with those of the volume,

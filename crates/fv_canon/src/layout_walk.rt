@@ -1,7 +1,7 @@
 //! The layout of a volume and of the volumes inside it.
 
 ghost use Rattle.std.specs.Prelude.{◌≡◌, ◌≢◌, ◌<◌, ◌≤◌, ◌⊎◌, ◌+◌, ◌++◌, ℕ, List, [], All, length, take, get_or, IfOk, IfErr, OnOk};
-ghost use Rattle.fv_base.specs.Words.{out_of_memory};
+ghost use Rattle.fv_base.specs.Words.{OrMemory, out_of_memory};
 ghost use Rattle.fv_head.specs.Words.{first_edge};
 ghost use Rattle.fv_tree.specs.inner.NestingDepths.{NestsVolume, NestsFiles, NestsSections, NestsBody};
 ghost use Rattle.fv_canon.specs.inner.FileWalks.{Grew, Shallow};
@@ -45,7 +45,7 @@ pub fn layout(alloc: Global, view: &VolumeView<'_>) -> Result<Layout, Fault>
         → take i others ≡ take i l.own → get_or l.own i 0 ≤ get_or others i 0) }
 
     // Any error other than OutOfMemory is that of the first volume that does not fit.
-    ensures err { IfErr result (λ f. (f ≡ out_of_memory) ⊎ Unfit view.now 0 f) }
+    ensures err { IfErr result (OrMemory (Unfit view.now 0)) }
 
     // The layout of a volume that fits is returned, unless memory runs out.
     ensures fits { Fits view.now → IfErr result (λ f. f ≡ out_of_memory) }
@@ -65,7 +65,7 @@ pub fn layout(alloc: Global, view: &VolumeView<'_>) -> Result<Layout, Fault>
 pub(crate) fn layout_of_body(alloc: Global, body: Body<'_, '_>) -> Result<Vec<u64>, Fault>
     requires shallow { Shallow NestsBody (body_view body) 0 }
     ensures ok { IfOk result (λ starts. Laid AreStarts (volumes_in_body (body_view body.entry)) starts.items) }
-    ensures err { IfErr result (λ f. (f ≡ out_of_memory) ⊎ FirstUnfit (volumes_in_body (body_view body.entry)) 0 f) }
+    ensures err { IfErr result (OrMemory (FirstUnfit (volumes_in_body (body_view body.entry)) 0)) }
     ensures fits { AllFit (volumes_in_body (body_view body.entry)) → IfErr result (λ f. f ≡ out_of_memory) }
 {
     let mut starts = Vec::new(alloc);
@@ -79,7 +79,7 @@ pub(crate) fn layout_of_body(alloc: Global, body: Body<'_, '_>) -> Result<Vec<u6
 fn lay_volume(view: &VolumeView<'_>, depth: u8, starts: &mut Vec<u64>) -> Result<(), Fault>
     requires shallow { Shallow NestsVolume view.now (depth + 1) }
     ensures ok { OnOk result (Grew (volumes_in view.now) starts.old.items starts.new.items) }
-    ensures err { IfErr result (λ f. (f ≡ out_of_memory) ⊎ Unfit view.now depth f) }
+    ensures err { IfErr result (OrMemory (Unfit view.now depth)) }
     ensures memory { IfErr result (λ f. f ≡ out_of_memory → 0 < starts_in (volumes_in view.now)) }
 {
     let own = own_starts(*starts.allocator(), view, depth)?;
@@ -94,7 +94,7 @@ fn lay_files(files: &[FileView<'_>], depth: u8, starts: &mut Vec<u64>) -> Result
     requires shallow { Shallow NestsFiles (files_from files.now) (depth + 1) }
     ensures ok { OnOk result (Grew (volumes_in_files (files_from files.now)) starts.old.items starts.new.items) }
     ensures err { IfErr result
-        (λ f. (f ≡ out_of_memory) ⊎ FirstUnfit (volumes_in_files (files_from files.now)) depth f) }
+        (OrMemory (FirstUnfit (volumes_in_files (files_from files.now)) depth)) }
     ensures memory { IfErr result
         (λ f. f ≡ out_of_memory → 0 < starts_in (volumes_in_files (files_from files.now))) }
 {
@@ -111,7 +111,7 @@ fn lay_sections(sections: &[SectionView<'_>], depth: u8, starts: &mut Vec<u64>) 
     ensures ok { OnOk result
         (Grew (volumes_in_sections (sections_from sections.now)) starts.old.items starts.new.items) }
     ensures err { IfErr result
-        (λ f. (f ≡ out_of_memory) ⊎ FirstUnfit (volumes_in_sections (sections_from sections.now)) depth f) }
+        (OrMemory (FirstUnfit (volumes_in_sections (sections_from sections.now)) depth)) }
     ensures memory { IfErr result
         (λ f. f ≡ out_of_memory → 0 < starts_in (volumes_in_sections (sections_from sections.now))) }
 {
@@ -127,7 +127,7 @@ fn lay_body(body: Body<'_, '_>, depth: u8, starts: &mut Vec<u64>) -> Result<(), 
     requires shallow { Shallow NestsBody (body_view body) depth }
     ensures ok { OnOk result (Grew (volumes_in_body (body_view body.entry)) starts.old.items starts.new.items) }
     ensures err { IfErr result
-        (λ f. (f ≡ out_of_memory) ⊎ FirstUnfit (volumes_in_body (body_view body.entry)) depth f) }
+        (OrMemory (FirstUnfit (volumes_in_body (body_view body.entry)) depth)) }
     ensures memory { IfErr result (λ f. f ≡ out_of_memory → 0 < starts_in (volumes_in_body (body_view body.entry))) }
 {
     match body {
@@ -140,7 +140,7 @@ fn lay_body(body: Body<'_, '_>, depth: u8, starts: &mut Vec<u64>) -> Result<(), 
 // The starts of a volume's own files, or the fault if they have none.
 fn own_starts(alloc: Global, view: &VolumeView<'_>, depth: u8) -> Result<Vec<u64>, Fault>
     ensures ok { IfOk result (λ own. AreStarts view.now own.items) }
-    ensures err { IfErr result (λ f. (f ≡ out_of_memory) ⊎ Unfit view.now depth f) }
+    ensures err { IfErr result (OrMemory (Unfit view.now depth)) }
     ensures memory { IfErr result (λ f. f ≡ out_of_memory → 0 < length (files_of view.now)) }
 {
     let head = view.head();

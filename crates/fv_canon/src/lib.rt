@@ -1,5 +1,7 @@
 //! The canonical image of a firmware volume and its layout, the same for each volume of a flash
 //! image, and runs that write them. Two volumes are compared by the calls of `fv_compare`.
+//! `whole_volume` is that of fv_tree. The calls of the modules `headline` and `further_laws` do
+//! nothing: their contracts are laws, those of the headline among them.
 #![tactic(auto)]
 
 mod canonical_image;
@@ -8,6 +10,7 @@ mod data_body;
 mod flash_image;
 pub mod further_laws;
 pub mod headline;
+mod image_check;
 mod image_walk;
 mod known_layout;
 mod laid_parts;
@@ -15,6 +18,7 @@ mod layout_walk;
 mod normalising;
 mod pads_and_headers;
 mod part_bytes;
+mod part_layout;
 mod start_walk;
 mod summing_sink;
 
@@ -24,8 +28,10 @@ pub use flash_image::{
     LaidImage, lay_out_image, normalise_image, put_laid_image, write_normalised_image,
 };
 pub use fv_tree::whole_volume;
+pub use image_check::{VolumeCheck, VolumeOutcome, check_image};
 pub use known_layout::Layout;
-pub use laid_parts::{put_laid_data, put_laid_volume, starts_inside};
+pub use laid_parts::{put_laid_body, put_laid_data, put_laid_volume, starts_inside};
 pub use layout_walk::layout;
 pub use normalising::{normalise, run_normalise, write_normalised};
 pub use part_bytes::{body_bytes, file_bytes};
+pub use part_layout::{lay_out_body, lay_out_data};

@@ -1,7 +1,7 @@
 //! From bytes that are a volume to its canonical image.
 
 ghost use Rattle.std.specs.Prelude.{◌≡◌, ◌≢◌, ◌⊎◌, ℕ, List, length, IfOk, IfErr, OnOk, true, false};
-ghost use Rattle.fv_base.specs.Words.{out_of_memory, inner_of, has_erred};
+ghost use Rattle.fv_base.specs.Words.{OrMemory, out_of_memory, inner_of, has_erred};
 ghost use Rattle.fv_head.specs.Words.{BeginsWithHeader};
 ghost use Rattle.fv_canon.specs.Headline.{MeanSame, NormalisesTo};
 ghost use Rattle.fv_canon.specs.InputRefusals.{IsNoVolume, IsOfLayout, IsUnfit, NotPlaced, Refuses};
@@ -26,8 +26,13 @@ pub fn normalise(alloc: Global, input: &[u8]) -> Result<ByteList, Fault>
 
     // The image is a volume with the same meaning, and its own image.
     ensures again { IfOk result (λ bytes. MeanSame input.now bytes × NormalisesTo bytes bytes) }
+
+    // The image is as long as the input.
     ensures length { IfOk result (λ bytes. length bytes ≡ length input.now) }
-    ensures err { IfErr result (λ f. (f ≡ out_of_memory) ⊎ Refuses input.now f) }
+
+    // Any error other than OutOfMemory is the first fault of an input that is no volume, or that of
+    // the first volume in it that does not fit.
+    ensures err { IfErr result (OrMemory (Refuses input.now)) }
 
     // Only a volume that does not fit is rejected as NoRoom or TopAlignment, by the fault of the first
     // volume in it that does not. Only an input that is no volume is rejected with any other fault.
@@ -61,8 +66,12 @@ pub fn write_normalised<W: Write>(
     input: &[u8],
     writer: &mut Port<W>,
 ) -> Result<(), Fault>
+    // The image was written.
     ensures ok { OnOk result
         (InputWrites input.now (W.contents (inner_of writer.old)) (W.contents (inner_of writer.new))) }
+
+    // Nothing was written, for an error of `normalise`; or WriteFault, and the first bytes of the
+    // image were written, as many as its offset says.
     ensures err { IfErr result
         (InputStops input.now (W.contents (inner_of writer.old)) (W.contents (inner_of writer.new))) }
     ensures read { IfErr result (λ f. f.kind ≢ FaultKind.ReadFault) }
@@ -111,8 +120,12 @@ pub fn run_normalise<R: Read, W: Write>(
     reader: &mut Port<R>,
     writer: &mut Port<W>,
 ) -> Result<(), Fault>
+    // Some input was read to its end, and its image was written.
     ensures ok { OnOk result (RunWrites (R.remaining (inner_of reader.old)) (R.remaining (inner_of reader.new))
         (W.contents (inner_of writer.old)) (W.contents (inner_of writer.new))) }
+
+    // Nothing was written, and the reading stopped or the input is rejected; or WriteFault, and the
+    // first bytes of the image were written, as many as its offset says.
     ensures err { IfErr result (RunStops (R.remaining (inner_of reader.old)) (R.remaining (inner_of reader.new))
         (W.contents (inner_of writer.old)) (W.contents (inner_of writer.new))) }
 

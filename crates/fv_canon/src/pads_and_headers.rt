@@ -110,7 +110,7 @@ pub(crate) fn put_file_head<S: Sink>(out: &mut S, file: &FileView<'_>, sum: u8, 
 
 // Puts the pad after the head that holds the extended header, if there is one, and erased bytes to
 // the first edge.
-pub(crate) fn put_ext_pad<S: Sink>(out: &mut S, head: &VolumeHead, used: u32)
+pub(crate) fn put_ext_pad<S: Sink>(out: &mut S, head: &VolumeHead<'_>, used: u32)
     ensures { S.takes out.old (ext_pad (polarity_of head.now.attributes) head.now.ext used
         ++ replicate (first_edge head.now head.now.ext - canonical_end head.now head.now.ext)
         (erased_byte (polarity_of head.now.attributes))) out.new }

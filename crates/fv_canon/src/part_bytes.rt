@@ -1,7 +1,7 @@
 //! The canonical bytes of a part of a volume.
 
 ghost use Rattle.std.specs.Prelude.{◌≡◌, ◌⊎◌, ℕ, List, IfOk, IfErr};
-ghost use Rattle.fv_base.specs.Words.{out_of_memory};
+ghost use Rattle.fv_base.specs.Words.{OrMemory, out_of_memory};
 ghost use Rattle.fv_canon.specs.Image.{IsData, IsBodyImage};
 ghost use Rattle.fv_canon.specs.LayoutFaults.{AllFit, FirstUnfit};
 ghost use Rattle.fv_tree.specs.Words.{volumes_in_body, volumes_in_content, content_of, body_of};
@@ -28,7 +28,9 @@ pub fn file_bytes(alloc: Global, file: &FileView<'_>) -> Result<ByteList, Fault>
     ensures only { (other : List ℕ) → IsData (content_of file.now) other → IfOk result (λ o. o ≡ other) }
 
     // Any error other than OutOfMemory is that of the first volume that does not fit.
-    ensures err { IfErr result (λ f. (f ≡ out_of_memory) ⊎ FirstUnfit (volumes_in_content (content_of file.now)) 0 f) }
+    ensures err { IfErr result (OrMemory (FirstUnfit (volumes_in_content (content_of file.now)) 0)) }
+
+    // If all volumes in it fit, the only error is OutOfMemory.
     ensures fits { AllFit (volumes_in_content (content_of file.now)) → IfErr result (λ f. f ≡ out_of_memory) }
 {
     // In a file that was read, groups and volumes nest so little that a byte counts them.
@@ -53,7 +55,9 @@ pub fn body_bytes(alloc: Global, section: &SectionView<'_>) -> Result<ByteList, 
     ensures only { (other : List ℕ) → IsBodyImage (body_of section.now) other → IfOk result (λ o. o ≡ other) }
 
     // Any error other than OutOfMemory is that of the first volume that does not fit.
-    ensures err { IfErr result (λ f. (f ≡ out_of_memory) ⊎ FirstUnfit (volumes_in_body (body_of section.now)) 0 f) }
+    ensures err { IfErr result (OrMemory (FirstUnfit (volumes_in_body (body_of section.now)) 0)) }
+
+    // If all volumes in it fit, the only error is OutOfMemory.
     ensures fits { AllFit (volumes_in_body (body_of section.now)) → IfErr result (λ f. f ≡ out_of_memory) }
 {
     // For what was read, the bytes of the walk are its body.

@@ -13,10 +13,11 @@ use Rattle.fv_hob.specs.Words.{hob_fault_number}
 use Rattle.fv_hob.specs.declared.fault.HobFault.{HobFault}
 use Rattle.fv_text.specs.Words.{line_feed, Change, Shown, StopsIn, Writes}
 
--- the exit statuses
+-- the exit statuses: 0 Done, 1 Different, 2 Faulty and Refused, 3 WrongWords
 abbrev pub exit_code : Status → ℕ
 exit_code statuses.Done = 0
 exit_code statuses.Different = 1
+exit_code statuses.Faulty = 2
 exit_code statuses.Refused = 2
 exit_code statuses.WrongWords = 3
 
@@ -49,7 +50,7 @@ side_fault_line sides.First f = codes "first " ++ fault_line f
 side_fault_line sides.Second f = codes "second " ++ fault_line f
 side_fault_line sides.Output f = fault_line f
 
--- that of a refusal
+-- the line of a refusal: that of a fault, of a fault of one of two inputs, or of a fault of a hand-off list
 abbrev pub refusal_line : Refusal → List ℕ
 refusal_line (Input f) = fault_line f
 refusal_line (OneOfTwo side f) = side_fault_line side f

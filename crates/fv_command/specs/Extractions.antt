@@ -39,7 +39,8 @@ IsFilePart f None instance (Made bytes) = IsData (content_of f) bytes
 IsFilePart f None instance _ = ⊥
 IsFilePart f (Some kind) instance answer = IsSectionOf f kind instance answer
 
--- the part of the file with the part's name, if there is such a file
+-- what the extraction of a part comes to: the data of the file with the part's name, or a section of it; NotFound, if
+-- there is no such file
 abbrev pub IsPart : Option FileMeaning → Part → Extraction → Type 0
 IsPart None part answer = answer ≡ NotFound
 IsPart (Some f) part answer = IsFilePart f part.section part.instance answer
@@ -52,6 +53,7 @@ StopsFilePart f (Some kind) instance fault =
     × (section_of_type kind instance ss ≡ Some s)
     × FirstUnfit (volumes_in_body (body_of s)) 0 fault
 
+-- why a part is not extracted: the fault of the first volume in it that does not fit, with its depth in the part
 abbrev pub StopsPart : Option FileMeaning → Part → Fault → Type 0
 StopsPart None part fault = ⊥
 StopsPart (Some f) part fault = StopsFilePart f part.section part.instance fault

@@ -3,6 +3,7 @@ pub mod Extractions
 pub mod Endings
 pub mod RunInputs
 pub mod PairRuns
+pub mod ImageChecks
 pub mod Tasks
 pub mod PlanRuns
 pub mod Words

@@ -54,7 +54,7 @@ RefusesHobs hex base first second fault =
 abbrev pub SaysHobs : Option ℕ → Bool → (first second : Change) → Status → List ℕ → Type 0
 SaysHobs base hex first second status text = (status ≡ Done) × ListsHobs hex base first second text
 
--- why such a run is refused: for the fault of an input, or for that of a hand-off list
+-- why a run over a hand-off list is refused: for the fault of an input, or for that of the list
 abbrev pub StopsHobs : Option ℕ → Bool → (first second : Change) → Refusal → Type 0
 StopsHobs base hex first second (Input fault) = HobInputStops hex base first second fault
 StopsHobs base hex first second (Hobs fault) = RefusesHobs hex base first second fault

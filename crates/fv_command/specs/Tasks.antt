@@ -1,9 +1,9 @@
 -- What the tasks over one input say of it, and what stops them.
 use Rattle.std.specs.Prelude.{◌≡◌, ◌↔◌, ℕ, Bool, true, List, ◌++◌, drop, Option, Some, ◌⊎◌, false, codes}
-use Rattle.fv_base.specs.Words.{out_of_memory}
+use Rattle.fv_base.specs.Words.{OrMemory, out_of_memory}
 use Rattle.fv_base.specs.declared.flash.Polarity.{Polarity}
 use Rattle.fv_base.specs.declared.fault.Fault.{Fault}
-use Rattle.fv_canon.specs.Words.{IsImage, IsData, NormalisesTo, Unfit, Refuses, NormalisesAll, RefusesAll}
+use Rattle.fv_canon.specs.Words.{IsImage, IsData, NormalisesTo, Unfit, Refuses, NormalisesAll, RefusesAll, IsAboveLimit}
 use Rattle.fv_file.specs.Words.{CellForm, Tiles}
 use Rattle.fv_head.specs.Words.{BeginsVolume}
 use Rattle.fv_head.specs.declared.extent.Extent.{Extent}
@@ -17,13 +17,14 @@ use Rattle.fv_flash.specs.Words.{Found}
 use Rattle.fv_text.specs.Words.{ShowsBytes, Change}
 use Rattle.fv_command.specs.RunInputs.{BeginsWith, BeginsNone, GivesAt, GivingStops}
 use Rattle.fv_command.specs.Extractions.{IsPart, StopsPart}
+use Rattle.fv_command.specs.ImageChecks.{ChecksText}
 use Rattle.fv_command.specs.declared.status.Status.{Status}
 use Rattle.fv_command.specs.declared.status.Status.TheVariants.{Done, Different}
 use Rattle.fv_command.specs.declared.extracting.Extraction.{Extraction}
 use Rattle.fv_command.specs.declared.extracting.Extraction.TheVariants.{Made, Stored, NotFound, NotSectioned}
 use Rattle.fv_plan.specs.declared.plan.Task.{Task}
 use Rattle.fv_plan.specs.declared.plan.Task.TheVariants.{Normalise, NormaliseAll, List as Listing, ListSums, Extract}
-use Rattle.fv_plan.specs.declared.plan.Task.TheVariants.{Check, Cells, Scan}
+use Rattle.fv_plan.specs.declared.plan.Task.TheVariants.{Check, CheckAll, Cells, Scan}
 
 -- a volume with this meaning has these cells, which tile it from its first file's offset on, and its erased bytes are
 -- of this polarity
@@ -54,11 +55,16 @@ VolumeDigest m digest = (image : List ℕ) × IsImage m image × (digest ≡ Som
 abbrev pub FileDigest : FileMeaning → Option (List ℕ) → Type 0
 FileDigest f digest = (bytes : List ℕ) × IsData (content_of f) bytes × (digest ≡ Some (sha256 bytes))
 
--- the text with these digests
-abbrev pub SumsText : Meaning → List ℕ → Type 0
-SumsText m text = VolumeLines VolumeDigest FileDigest 0 m text
+-- the digest of a leaf section: the SHA-256 of its body
+abbrev pub LeafDigest : List ℕ → Option (List ℕ) → Type 0
+LeafDigest b digest = digest ≡ Some (sha256 b)
 
--- what is written of a part, and with which status: its bytes, or that there is no such part
+-- the text of `list --sums`: that of `list`, with these digests
+abbrev pub SumsText : Meaning → List ℕ → Type 0
+SumsText m text = VolumeLines VolumeDigest FileDigest LeafDigest 0 m text
+
+-- what is written of a part, and with which status: its bytes, and Done; or `not found` or `not sectioned`, and
+-- Different
 abbrev pub PartText : Bool → Extraction → Status → List ℕ → Type 0
 PartText hex (Made bytes) Done text = ShowsBytes hex bytes text
 PartText hex (Stored bytes) Done text = ShowsBytes hex bytes.now text
@@ -66,7 +72,11 @@ PartText hex NotFound Different text = text ≡ codes "not found\n"
 PartText hex NotSectioned Different text = text ≡ codes "not sectioned\n"
 PartText hex x status text = ⊥
 
--- what a task writes of its input, and with which status
+-- what a task writes of its input, and with which status. `Normalise`: the image of its meaning. `NormaliseAll`: the
+-- input, with each volume in it replaced by its image. `Listing` and `ListSums`: the lines of the volume that the input
+-- begins with. `Extract`: what the part of that volume comes to. `Check`: the notes and the verdict. `CheckAll`: a line
+-- for each volume in the input. `Cells`: the lines of the cells of the volume that the input begins with. `Scan`: the
+-- lines of the volumes in the input. With any other status nothing
 abbrev pub Says : Task → Bool → List ℕ → Status → List ℕ → Type 0
 Says Normalise hex input Done text = (image : List ℕ) × NormalisesTo input image × ShowsBytes hex image text
 Says NormaliseAll hex input Done text = (image : List ℕ) × NormalisesAll input image × ShowsBytes hex image text
@@ -77,32 +87,37 @@ Says (Extract part) hex input status text =
     × PartText hex x status text
 Says Check hex input Done text = CheckText input true text
 Says Check hex input Different text = CheckText input false text
+Says CheckAll hex input status text = ChecksText input status text
 Says Cells hex input Done text = CellsText input text
 Says Scan hex input Done text = (offsets : List ℕ) × Found input offsets × ScanText input offsets text
 Says task hex input status text = ⊥
 
--- why a task writes nothing of its input
+-- why a task writes nothing of its input. Memory ran out; or, of `Normalise`, the input is no volume or does not fit;
+-- of `NormaliseAll`, a volume in it is so, or it is above the limit; of `Listing`, `ListSums` and `Extract`, it begins
+-- with no volume; of `ListSums` and `Extract` also, the volume, or the part, does not fit; of `Check`, it is no volume;
+-- of `CheckAll`, it is above the limit; of `Cells`, it begins with no volume whose body cells tile
 abbrev pub Denies : Task → List ℕ → Fault → Type 0
-Denies Normalise input fault = (fault ≡ out_of_memory) ⊎ Refuses input fault
-Denies NormaliseAll input fault = (fault ≡ out_of_memory) ⊎ RefusesAll input fault
-Denies Listing input fault = (fault ≡ out_of_memory) ⊎ BeginsNone input fault
+Denies Normalise input fault = OrMemory (Refuses input) fault
+Denies NormaliseAll input fault = OrMemory (RefusesAll input) fault
+Denies Listing input fault = OrMemory (BeginsNone input) fault
 Denies ListSums input fault =
     (fault ≡ out_of_memory) ⊎ (BeginsNone input fault ⊎ ((m : Meaning) × BeginsWith input m × Unfit m 0 fault))
 Denies (Extract part) input fault =
     (fault ≡ out_of_memory) ⊎ (BeginsNone input fault
     ⊎ ((m : Meaning) × BeginsWith input m × StopsPart (file_named part.name (files_of m)) part fault))
-Denies Check input fault = (fault ≡ out_of_memory) ⊎ NotRead input fault
-Denies Cells input fault = (fault ≡ out_of_memory) ⊎ NotTiled input fault
+Denies Check input fault = OrMemory (NotRead input) fault
+Denies CheckAll input fault = OrMemory (IsAboveLimit input) fault
+Denies Cells input fault = OrMemory (NotTiled input) fault
 Denies Scan input fault = fault ≡ out_of_memory
 
 -- the input stops the task: while it is read; or it was read to its end, and what is taken of it is rejected, or memory
--- ran out
+-- ran out (`Denies`)
 abbrev pub StopsTask : Task → Bool → Option ℕ → Change → Fault → Type 0
 StopsTask task hex at input fault =
     GivingStops hex input.old input.new fault
     ⊎ ((bytes : List ℕ) × GivesAt hex at input.old input.new bytes × Denies task bytes fault)
 
--- the input was read to its end, and the task says this text of what is taken of it, with this status
+-- the input was read to its end, and the task says this text of what is taken of it, with this status (`Says`)
 abbrev pub SaysTask : Task → Bool → Option ℕ → Change → Status → List ℕ → Type 0
 SaysTask task hex at input status text =
     (bytes : List ℕ) × GivesAt hex at input.old input.new bytes × Says task hex bytes status text

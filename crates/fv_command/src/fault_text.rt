@@ -16,7 +16,7 @@ use fv_text::put_decimal;
 use std::io::Write;
 
 // Puts the line of a fault, which begins with `words`.
-fn put_fault<S: Sink>(out: &mut S, words: &[u8], number: u8, offset: u64)
+pub(crate) fn put_fault<S: Sink>(out: &mut S, words: &[u8], number: u8, offset: u64)
     ensures { S.takes out.old (words.now ++ numbered_line number offset) out.new }
 {
     out.put(words);
@@ -71,7 +71,11 @@ fn write_refusal<W: Write>(writer: &mut Port<W>, refusal: Refusal) -> bool
 
 /// Writes a line, asks the writer to flush, and returns the status; or Refused if one of them fails.
 pub fn say<W: Write>(writer: &mut Port<W>, line: &str, status: Status) -> Status
+    // The line was written, and this status is returned; or a write failed in it, or the flush
+    // after it, and the status is Refused.
     ensures ends { Ends status line.now (change W.contents writer.old writer.new) result }
+
+    // The last call of the writer was a flush, unless the status is Refused.
     ensures flushed { result ≢ Status.Refused → is_flushed writer.new ≡ true }
 {
     let is_written = write_line(writer, line.as_bytes());

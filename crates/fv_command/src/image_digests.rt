@@ -1,12 +1,14 @@
-//! The SHA-256 of the volumes and of the files in a volume, as they are in a canonical image.
+//! The SHA-256 of the volumes in a volume and of their files, as they are in a canonical image, and
+//! of the bodies of leaf sections.
 
 ghost use Rattle.std.specs.Prelude.{◌≡◌};
-ghost use Rattle.fv_command.specs.Tasks.{FileDigest, VolumeDigest};
+ghost use Rattle.fv_command.specs.Tasks.{FileDigest, LeafDigest, VolumeDigest};
 ghost use Rattle.fv_command.specs.inner.Digests.{BeginWith, begin_with};
 
-use crate::digest_sink::DigestSink;
+use fv_base::Sink;
 use fv_canon::{put_laid_data, put_laid_volume, starts_inside};
 use fv_lines::Digests;
+use fv_sinks::DigestSink;
 use fv_tree::{FileView, VolumeView};
 
 /// The digests of the volumes that a walk comes to, and of the files in them. They are those of the
@@ -35,6 +37,8 @@ impl<'s> Digests for ImageDigests<'s> {
 
     ghost of_file = { FileDigest };
 
+    ghost of_leaf = { LeafDigest };
+
     fn volume_digest(&self, volume: &VolumeView<'_>) -> Option<[u8; 32]> {
         let mut out = DigestSink::new();
         put_laid_volume(volume, self.starts, &mut out);
@@ -44,6 +48,12 @@ impl<'s> Digests for ImageDigests<'s> {
     fn file_digest(&self, file: &FileView<'_>) -> Option<[u8; 32]> {
         let mut out = DigestSink::new();
         put_laid_data(file, self.starts, &mut out);
+        Some(out.finish())
+    }
+
+    fn leaf_digest(&self, body: &[u8]) -> Option<[u8; 32]> {
+        let mut out = DigestSink::new();
+        out.put(body);
         Some(out.finish())
     }
 

@@ -1,16 +1,18 @@
 //! The commands of the program, over readers and a writer.
 //!
 //! A module `.._run` makes a command: it reads or takes the inputs, and puts its text into the sink
-//! of the run. Most lines are those of fv_lines; `fault_text` has the lines of faults.
+//! of the run. Most lines are those of fv_lines; `fault_text` has the lines of faults. A reader or
+//! a writer is seen by what it has left or holds, if that is known, and by whether one of its calls
+//! has failed.
 #![tactic(auto)]
 
 mod check_run;
 mod comparison_run;
-mod digest_sink;
 mod ending;
 mod extracting;
 mod fault_text;
 mod hob_run;
+mod image_check_run;
 mod image_digests;
 mod image_run;
 mod inputs;

@@ -97,6 +97,8 @@ pub fn run_over<O: Opener, W: Write>(
     plan: &Plan,
     writer: &mut Port<W>,
 ) -> Ending
+    // The first input is the file that the plan names, or standard input, and the second is its
+    // file, if it names one.
     ensures runs { RunsOver O.Standard.remaining O.File.remaining (O.opens opener.now) (O.is_standard opener.now)
         plan.now result (change W.contents writer.old writer.new) }
 

@@ -103,10 +103,11 @@ fn gather_plan<First: Read, Second: Read, S: Sink>(
 /// Runs a plan, and writes its result or the line of a fault. A command with one input reads
 /// nothing from the second reader.
 ///
-/// The status is Done or Different if the whole result was written. Different is for two volumes
-/// that differ, for a part that does not exist, and for a volume that is not its own image. Else
-/// it is Refused: an input was rejected, memory ran out, or a write failed. A refusal is returned
-/// exactly if an input was rejected or memory ran out.
+/// The status is Done, Different or Faulty if the whole result was written. Different is for two
+/// volumes that differ, for a part that does not exist, and for a volume that is not its own image.
+/// Faulty is for an image in which a volume is rejected. Else it is Refused: an input was rejected,
+/// memory ran out, or a write failed. A refusal is returned exactly if an input was rejected or
+/// memory ran out.
 pub fn run_plan<First: Read, Second: Read, W: Write>(
     alloc: Global,
     plan: &Plan,
@@ -114,8 +115,9 @@ pub fn run_plan<First: Read, Second: Read, W: Write>(
     second: &mut Port<Second>,
     writer: &mut Port<W>,
 ) -> Ending
-    // By the command, the refusal and the status: what was read of each input, and what was
-    // written.
+    // The run has a text with a status: what the command says of its inputs, or, if it is refused,
+    // the line of the refusal. All of the text was written, and the run ends with its status; or a
+    // write failed in it, or the flush after it, and the run ends with Refused.
     ensures runs { Runs plan.now result (record {
       first = change First.remaining first.old first.new;
       second = change Second.remaining second.old second.new;

@@ -26,6 +26,8 @@ impl<S: Read, F: Read> Read for Source<S, F> {
     ghost remaining = { unread S.remaining F.remaining };
 
     fn read(&mut self, buf: &mut [u8]) -> io::Result<usize>
+        // A read gives bytes that the reader or the file gives, or an error. No clause says that it
+        // fails only if that reader or file does.
         ensures bound { ReadsAtMost result buf.new }
         ensures bytes { ReadConsumes (unread S.remaining F.remaining self.old) (unread S.remaining F.remaining self.new)
             result buf.new }

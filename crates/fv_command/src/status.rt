@@ -8,8 +8,10 @@ ghost use Rattle.fv_command.specs.Endings.{exit_code};
 pub enum Status {
     /// Everything that was asked for was written.
     Done,
-    /// Two inputs, or an input and its image, differ; or there is no such part.
+    /// Two inputs, or a volume and its image, differ; or there is no such part.
     Different,
+    /// A volume of an image was rejected, and everything that was asked for was written.
+    Faulty,
     /// An input was rejected, memory ran out, or a write failed.
     Refused,
     /// The command line is wrong.
@@ -17,14 +19,15 @@ pub enum Status {
 }
 
 impl Status {
-    /// The exit status of the process: 0 for Done, 1 for Different, 2 for Refused, 3 for
-    /// WrongWords.
+    /// The exit status of the process: 0 for Done, 1 for Different, 2 for Faulty and
+    /// Refused, 3 for WrongWords.
     pub fn code(self) -> u8
         ensures { result ≡ exit_code self }
     {
         match self {
             Status::Done => 0,
             Status::Different => 1,
+            Status::Faulty => 2,
             Status::Refused => 2,
             Status::WrongWords => 3,
         }

@@ -1,7 +1,7 @@
 //! The tasks over one input.
 
 ghost use Rattle.std.specs.Prelude.{◌≡◌, ◌⊎◌, ℕ, Bool, List, IfOk, IfErr};
-ghost use Rattle.fv_base.specs.Words.{out_of_memory};
+ghost use Rattle.fv_base.specs.Words.{OrMemory, out_of_memory};
 ghost use Rattle.fv_text.specs.Words.{change};
 ghost use Rattle.fv_tree.specs.Words.{file_named, Meaning, files_of};
 ghost use Rattle.fv_command.specs.Extractions.{IsPart};
@@ -11,6 +11,7 @@ ghost use Rattle.fv_command.specs.inner.RunSteps.{Performs, Puts};
 
 use crate::check_run::put_check;
 use crate::extracting::{Extraction, extract};
+use crate::image_check_run::put_image_check;
 use crate::image_digests::ImageDigests;
 use crate::image_run::lay_out_volume;
 use crate::inputs::{read_bytes, taken_at};
@@ -28,7 +29,7 @@ use std::io::Read;
 // The volume at the start of the input.
 fn volume_at_start(alloc: Global, input: &[u8]) -> Result<VolumeView<'_>, Fault>
     ensures ok { IfOk result (λ view. BeginsWith input.now view) }
-    ensures err { IfErr result (λ f. (f ≡ out_of_memory) ⊎ BeginsNone input.now f) }
+    ensures err { IfErr result (OrMemory (BeginsNone input.now)) }
 {
     let (volume, _length) = read_volume(alloc, input)?;
     Ok(volume)
@@ -143,6 +144,7 @@ fn perform<S: Sink>(
         Task::ListSums => list_sums(alloc, input, out),
         Task::Extract(part) => extract_part(alloc, hex, input, part, out),
         Task::Check => put_check(alloc, input, out),
+        Task::CheckAll => put_image_check(alloc, input, out),
         Task::Cells => cells(alloc, input, out),
         Task::Scan => scan(alloc, input, out),
     }

@@ -1,4 +1,5 @@
--- Where the meanings of two volumes first differ, in the order in which they are compared.
+-- Where the meanings of two volumes first differ, in the order in which they are compared (PI specification, volume 3,
+-- section 3.2).
 use Rattle.std.specs.Prelude.{Bool, true, false, ℕ, ◌+◌, ◌==◌, ◌&&◌, List, [], ◌∷◌, Option, Some, None}
 use Rattle.fv_base.specs.Words.{bytes_of}
 use Rattle.fv_base.specs.declared.flash.FileSystem.{FileSystem}
@@ -15,24 +16,28 @@ use Rattle.fv_compare.specs.declared.difference.Step.TheVariants as steps
 use Rattle.fv_compare.specs.declared.difference.Word.{Word}
 use Rattle.fv_compare.specs.declared.difference.Word.TheVariants as words
 
+-- the file system is FFS3
 abbrev pub is_ffs3 : FileSystem → Bool
 is_ffs3 Ffs2 = false
 is_ffs3 Ffs3 = true
 
 -- ---- whether two values are equal
 
+-- whether two block maps are equal
 abbrev pub blocks_eq : List (ℕ × ℕ) → List (ℕ × ℕ) → Bool
 blocks_eq [] [] = true
 blocks_eq [] (q ∷ qs) = false
 blocks_eq (p ∷ ps) [] = false
 blocks_eq (p ∷ ps) (q ∷ qs) = (p.0 == q.0) && (p.1 == q.1) && blocks_eq ps qs
 
+-- whether the entries of two extended headers are equal
 abbrev pub entries_eq : List (ℕ × List ℕ) → List (ℕ × List ℕ) → Bool
 entries_eq [] [] = true
 entries_eq [] (q ∷ qs) = false
 entries_eq (p ∷ ps) [] = false
 entries_eq (p ∷ ps) (q ∷ qs) = (p.0 == q.0) && bytes_eq p.1 q.1 && entries_eq ps qs
 
+-- whether two extended headers are equal
 abbrev pub ext_eq : Option Extension → Option Extension → Bool
 ext_eq = option_eq (λ (x : Extension) (y : Extension).
     bytes_eq (bytes_of x.name) (bytes_of y.name) && entries_eq x.entries y.entries && bytes_eq x.tail y.tail)
@@ -43,7 +48,7 @@ ext_eq = option_eq (λ (x : Extension) (y : Extension).
 abbrev pub Differs : Type 0
 Differs = Option (List Step × Word)
 
--- they differ, and steps lead down to where
+-- two meanings differ, and steps lead down to where
 abbrev pub has_steps : Differs → Bool
 has_steps (Some (s ∷ ss, word)) = true
 has_steps _ = false
@@ -64,6 +69,8 @@ under s (Some d) = Some (s ∷ d.0, d.1)
 
 -- ---- the comparison
 
+-- where two headers first differ, field by field: zero vector, file system, length, attributes, reserved byte, block
+-- map, extended header
 abbrev pub head_differs : HeadFields → HeadFields → Differs
 head_differs h g =
     option_or (unless_one (bytes_eq h.zero_vector g.zero_vector) words.ZeroVector)
@@ -75,6 +82,8 @@ head_differs h g =
     (unless_one (ext_eq h.ext g.ext) words.ExtendedHeader))))))
 
 abbrev mutual
+  -- where two volumes first differ: in their headers, then in the files that both have, in order, then in how many they
+  -- have
   pub difference : Meaning → Meaning → Differs
   difference (Volume h fs) (Volume g gs) = option_or (head_differs h g) (files_differ 0 fs gs)
 
@@ -86,12 +95,15 @@ abbrev mutual
   files_differ i (MoreFiles f fs) (MoreFiles g gs) =
       option_or (under (steps.File i) (file_differs f g)) (files_differ (i + 1) fs gs)
 
+  -- compares the names of two files, their types, their attributes, and then their content
   pub file_differs : FileMeaning → FileMeaning → Differs
   file_differs (File n k a c) (File m l b d) =
       option_or (unless_one (bytes_eq (bytes_of n) (bytes_of m)) words.Name)
       (option_or (unless_one (k == l) words.Type)
       (option_or (unless_one (a == b) words.Attributes) (content_differs c d)))
 
+  -- compares bytes; or the sections that both have, in order, how many they have, and how many bytes follow the last.
+  -- Bytes and sections differ too: no two accepted files of one type do so
   pub content_differs : ContentMeaning → ContentMeaning → Differs
   content_differs (Plain b) (Plain c) = unless_one (bytes_eq b c) words.Data
   content_differs (Plain b) (Sectioned ss t) = differ_in words.Data
@@ -107,10 +119,12 @@ abbrev mutual
   sections_differ i (MoreSections s ss) (MoreSections r rs) =
       option_or (under (steps.Section i) (section_differs s r)) (sections_differ (i + 1) ss rs)
 
+  -- compares the types of two sections, the forms of their headers, and then their bodies
   pub section_differs : SectionMeaning → SectionMeaning → Differs
   section_differs (Section k e b) (Section l f c) =
       option_or (unless_one (k == l) words.Type) (option_or (unless_one (beq e f) words.Form) (body_differs b c))
 
+  -- compares what the bodies are, bytes, a group or a volume, and then the bytes, the sections or the volumes
   pub body_differs : BodyMeaning → BodyMeaning → Differs
   body_differs (Leaf b) (Leaf c) = unless_one (bytes_eq b c) words.Body
   body_differs (Leaf b) (Group rs u) = differ_in words.Shape

@@ -33,9 +33,11 @@ pub fn put_comparison<S: Sink>(
     ensures same { IfOk result (λ same. (same ≡ true) ↔ (first.now ≡ second.now)) }
     ensures line { OnOk result (S.takes out.old (compare_line (difference first.now second.now)) out.new) }
     ensures err { IfErr result (λ f. (f ≡ out_of_memory) × (first.now ≢ second.now)) }
+
+    // After an error the sink is as it was.
     ensures untouched { OnErr result (out.new ≡ out.old) }
 
-    // The line is short.
+    // The line has at most 553 bytes.
     ensures short { OnOk result (length (compare_line (difference first.now second.now)) ≤ 553) }
 {
     // In a volume that was read, groups and volumes nest so little that a difference has at most 18
@@ -61,14 +63,22 @@ pub fn write_comparison<W: Write>(
     second: &VolumeView<'_>,
     writer: &mut Port<W>,
 ) -> Result<bool, (Side, Fault)>
+    // The result says whether they have the same meaning, and the line was written.
     ensures ok { IfOk result (Compares first.now second.now
         (W.contents (inner_of writer.old)) (W.contents (inner_of writer.new))) }
+
+    // The side is the first with OutOfMemory, after which nothing was written; or the output with
+    // WriteFault. It is never the second.
     ensures err { IfErr result (λ e. ComparisonStops e.0 first.now second.now
         (W.contents (inner_of writer.old)) (W.contents (inner_of writer.new)) e.1) }
 
-    // The writer's fault has the side of the output, and is returned only if the port has erred.
+    // After Ok the port has erred only if it had before.
     ensures writer_fine { OnOk result (has_erred writer.new ≡ has_erred writer.old) }
+
+    // After any error other than WriteFault the port is as it was.
     ensures untouched { IfErr result (λ e. e.1.kind ≢ FaultKind.WriteFault → writer.new ≡ writer.old) }
+
+    // WriteFault has the side of the output, and is returned only if the port has erred.
     ensures writer_erred { IfErr result (λ e. e.1.kind ≡ FaultKind.WriteFault
         → (e.0 ≡ Side.Output) × (has_erred writer.new ≡ true)) }
 {
@@ -130,9 +140,14 @@ pub fn run_compare<R: Read, Q: Read, W: Write>(
     second: &mut Port<Q>,
     writer: &mut Port<W>,
 ) -> Result<bool, (Side, Fault)>
+    // Both inputs were read to their ends, and are volumes. The result says whether they have the
+    // same meaning, and the line was written.
     ensures ok { IfOk result (RunCompares (R.remaining (inner_of first.old)) (R.remaining (inner_of first.new))
         (Q.remaining (inner_of second.old)) (Q.remaining (inner_of second.new))
         (W.contents (inner_of writer.old)) (W.contents (inner_of writer.new))) }
+
+    // The side and the fault say what stopped the run. Nothing is read of the second input unless
+    // the first is a volume, and nothing is written unless both are.
     ensures err { IfErr result (λ e. SideStopsRun e.0
         (R.remaining (inner_of first.old)) (R.remaining (inner_of first.new))
         (Q.remaining (inner_of second.old)) (Q.remaining (inner_of second.new))

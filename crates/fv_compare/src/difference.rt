@@ -278,6 +278,8 @@ pub fn first_difference(
 
     // Memory runs out only if they differ at a place to which steps lead.
     ensures memory { IfErr result (λ _. (a.now ≢ b.now) × (has_steps (difference a.now b.now) ≡ true)) }
+
+    // The only error is OutOfMemory.
     ensures err { IfErr result (λ f. f ≡ out_of_memory) }
 {
     let Some(mut found) = volume_difference(alloc, a, b)? else {

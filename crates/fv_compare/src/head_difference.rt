@@ -15,7 +15,7 @@ fn same_blocks(a: &[(u32, u32)], b: &[(u32, u32)]) -> bool
 }
 
 // Whether the entries of two extended headers are equal.
-fn same_entries(a: &[ExtEntry], b: &[ExtEntry]) -> bool
+fn same_entries(a: &[ExtEntry<'_>], b: &[ExtEntry<'_>]) -> bool
     ensures { result ≡ entries_eq a.now b.now }
 {
     if a.len() != b.len() {
@@ -30,7 +30,7 @@ fn same_entries(a: &[ExtEntry], b: &[ExtEntry]) -> bool
 }
 
 // Whether two extended headers are equal.
-fn same_ext(a: Option<&ExtHeader>, b: Option<&ExtHeader>) -> bool
+fn same_ext(a: Option<&ExtHeader<'_>>, b: Option<&ExtHeader<'_>>) -> bool
     ensures { result ≡ ext_eq (option_copied a.entry) (option_copied b.entry) }
 {
     match (a, b) {
@@ -43,7 +43,7 @@ fn same_ext(a: Option<&ExtHeader>, b: Option<&ExtHeader>) -> bool
 }
 
 // The kind of the first difference between two headers.
-pub(crate) fn head_word(head: &VolumeHead, other: &VolumeHead) -> Option<Word>
+pub(crate) fn head_word(head: &VolumeHead<'_>, other: &VolumeHead<'_>) -> Option<Word>
     ensures { in_word result ≡ head_differs head.now other.now }
 {
     if head.zero_vector() != other.zero_vector() {

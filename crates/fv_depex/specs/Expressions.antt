@@ -97,11 +97,12 @@ truth set (negated t) = not (truth set t)
 truth set (both t u) = truth set t && truth set u
 truth set (either t u) = truth set t || truth set u
 
+-- a dependency expression: a phase, the ops up to END, and the bytes after it
 pub record DepexForm : Type 0 where
   pub phase : Phase
   pub ops : List Op
   pub rest : List ℕ
 
--- some bytes spell this expression
+-- some bytes spell this expression: true of every `Depex`
 abbrev pub IsReadDepex : DepexForm → Type 0
 IsReadDepex d = (b : List ℕ) × Spells d.phase d.ops d.rest b

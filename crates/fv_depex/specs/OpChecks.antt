@@ -13,7 +13,7 @@ use Rattle.fv_depex.specs.declared.op_stage.Stage.{Stage}
 use Rattle.fv_depex.specs.declared.op_stage.Stage.TheVariants as stages
 use Rattle.fv_depex.specs.Expressions.{carries, op_code, op_operand, ops_bytes, IsSized}
 
--- a code that the phase has
+-- a code that the phase has: 02 to 08 in PEI, 00 to 09 in DXE
 abbrev pub has_code : Phase → ℕ → Bool
 has_code Pei code = nat_le 2 code && nat_le code 8
 has_code Dxe code = nat_le code 9
@@ -69,7 +69,7 @@ abbrev pub values_of : Stage → ℕ
 values_of (stages.Values n) = n
 values_of _ = 0
 
--- the stage after an op
+-- the stage after an op: BEFORE or AFTER was read, or how many values are on the stack
 abbrev pub stage_after : Stage → Op → Stage
 stage_after stage (ops.Before g) = stages.Ordered
 stage_after stage (ops.After g) = stages.Ordered
@@ -108,7 +108,7 @@ pub record IsFirstOpFault (phase : Phase) (b : List ℕ) (fault : DepexFault) : 
   pub place : fault.offset ≡ length (ops_bytes before)
   pub kind_is : IsFirstFault (op_checks phase stage r) fault.kind
 
--- the fault of every call when memory runs out
+-- the fault of every call when memory runs out: OutOfMemory at 0
 abbrev pub depex_out_of_memory : DepexFault
 depex_out_of_memory = record { kind = kinds.OutOfMemory; offset = 0 }
 

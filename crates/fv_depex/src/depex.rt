@@ -38,6 +38,8 @@ impl Depex {
     /// The phase that it was read for.
     pub fn phase(&self) -> Phase
         ensures phase { result ≡ self.now.phase }
+
+        // Some bytes spell the expression.
         ensures read { IsReadDepex self.now }
     {
         self.phase
@@ -46,6 +48,8 @@ impl Depex {
     /// The ops in the order of their bytes (postfix: operands first), END last.
     pub fn ops(&self) -> &[Op]
         ensures ops { result.now ≡ self.now.ops }
+
+        // Some bytes spell the expression.
         ensures read { IsReadDepex self.now }
     {
         self.ops.as_slice()

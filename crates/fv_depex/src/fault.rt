@@ -76,6 +76,7 @@ const WANT_OF_MEMORY: DepexFault = DepexFault {
     offset: 0,
 };
 
+/// OutOfMemory at 0.
 impl From<AllocError> for DepexFault {
     ghost from_gives = { λ _ f. f ≡ depex_out_of_memory };
 
@@ -84,6 +85,7 @@ impl From<AllocError> for DepexFault {
     }
 }
 
+/// OutOfMemory at 0.
 impl<T: Drop> From<AllocFailed<T>> for DepexFault {
     ghost from_gives = { λ _ f. f ≡ depex_out_of_memory };
 

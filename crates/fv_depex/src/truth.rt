@@ -109,6 +109,8 @@ pub fn evaluate(
     // They are the ops of at most one tree.
     ensures tree { (t u : Expression) → IsTree depex.now.phase depex.now.ops t → IsTree depex.now.phase depex.now.ops u
         → t ≡ u }
+
+    // The only error is OutOfMemory.
     ensures err { IfErr result (λ f. f ≡ depex_out_of_memory) }
 {
     evaluate_ops(alloc, depex.ops(), installed)

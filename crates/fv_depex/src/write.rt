@@ -46,6 +46,8 @@ pub fn depex_bytes(alloc: Global, depex: &Depex) -> Result<ByteList, DepexFault>
 
     // They are these bytes.
     ensures bytes { IfOk result (λ b. b ≡ ops_bytes depex.now.ops ++ depex.now.rest) }
+
+    // The only error is OutOfMemory.
     ensures err { IfErr result (λ f. f ≡ depex_out_of_memory) }
 {
     let bytes = spelled(alloc, depex.ops(), depex.rest())?;

@@ -40,7 +40,7 @@ payload_at r = take (file_size_at r - file_header_len_at r) (drop (file_header_l
 abbrev pub may_be_large : FileSystem → List ℕ → Bool
 may_be_large system r = not (is_large (attributes_at r)) || allows_large system
 
--- the header sums to zero
+-- the header, with file sum and State as zero, sums to zero
 abbrev pub has_header_sum : List ℕ → Bool
 has_header_sum r = header_sum_of (take (file_header_len_at r) r) == 0
 
@@ -93,7 +93,7 @@ abbrev pub is_standing : Option FileState → Bool
 is_standing None = false
 is_standing (Some state) = is_alive state
 
--- the checks of bytes that must begin with a valid file or with a pad
+-- the checks of bytes that must begin with a valid file or with a pad, in their order, each with its fault
 abbrev pub verify_checks : FileSystem → Polarity → List ℕ → List (Check Fault)
 verify_checks system polarity b =
     check (nat_le 24 (length b)) kinds.FileSize 20

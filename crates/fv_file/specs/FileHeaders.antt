@@ -10,7 +10,7 @@ use Rattle.fv_file.specs.States.{StateOf}
 use Rattle.fv_file.specs.declared.head.FileHead.{FileHead}
 use Rattle.fv_file.specs.declared.state.FileState.{FileState}
 
--- the type of a pad file (EFI_FV_FILETYPE_FFS_PAD)
+-- the type of a pad file, F0 (EFI_FV_FILETYPE_FFS_PAD)
 abbrev pub pad_kind : ℕ
 pad_kind = 0xf0
 
@@ -61,7 +61,7 @@ head_in state b = record {
 abbrev pub header_sum_of : List ℕ → ℕ
 header_sum_of h = (sum (take 17 h) + sum (field 18 5 h) + sum (drop 24 h)) % 256
 
--- the file sum of a file whose data are not summed (FFS_FIXED_CHECKSUM)
+-- 0xAA, the file sum of a file whose data are not summed (FFS_FIXED_CHECKSUM)
 abbrev pub fixed_checksum : ℕ
 fixed_checksum = 0xaa
 
@@ -70,7 +70,8 @@ abbrev pub file_sum_right : ℕ → ℕ → List ℕ → Bool
 file_sum_right attributes file_sum payload =
     if is_summed attributes then (sum payload + file_sum) % 256 == 0 else file_sum == fixed_checksum
 
--- the bytes h are the header with these fields; a large one is allowed in FFS3 only, and its Size is zero
+-- the bytes h are the header with these fields: State shows the state, and the sum is zero; a large one is allowed in
+-- FFS3 only, and its Size is zero
 pub record IsFileHeader (system : FileSystem) (polarity : Polarity) (head : FileHead) (h : List ℕ) : Type 0 where
   pub whole : length h ≡ file_header_len (is_large (attributes_at h))
   pub fields : head ≡ head_in head.state h

@@ -16,7 +16,7 @@ use Rattle.fv_file.specs.declared.attributes.FileAttributes.{FileAttributes}
 use Rattle.fv_file.specs.declared.head.FileHead.{FileHead}
 use Rattle.fv_file.specs.declared.state.FileState.TheVariants as states
 
--- the bytes begin with a valid file or with a pad
+-- the bytes begin with a file of this header that is valid and sound, or with a pad; any bytes may follow
 pub record BeginsFile (system : FileSystem) (polarity : Polarity) (head : FileHead) (b : List ℕ) : Type 0 where
   pub file : List ℕ
   pub payload : List ℕ

@@ -16,12 +16,13 @@ needs_large data_len = nat_lt 0xffffff (24 + data_len)
 abbrev pub with_large : Bool → ℕ → ℕ
 with_large large attributes = if large then attributes + 1 else attributes
 
--- the State byte of a valid file: the bits 0x01, 0x02 and 0x04 were written
+-- the State byte of a valid file, in which the bits 0x01, 0x02 and 0x04 were written: 07, or F8 where erased bytes are
+-- 0xFF
 abbrev pub state_byte : Polarity → ℕ
 state_byte Ones = 0xf8
 state_byte Zeros = 0x07
 
--- the name of a pad
+-- the name of a pad: sixteen bytes 0xFF
 abbrev pub pad_name : List ℕ
 pad_name = replicate 16 0xff
 

@@ -1,4 +1,4 @@
--- The volumes in some bytes.
+-- The volumes in some bytes (PI specification, volume 3, section 3.2.1.1).
 use Rattle.std.specs.Prelude.{◌≡◌, ℕ, ◌+◌, ◌%◌, ◌≤◌, ◌<◌, List, [], ◌∷◌, drop}
 use Rattle.std.specs.List.{AllByRecursion, Contains}
 use Rattle.fv_head.specs.Words.{HeadFields, BeginsVolume}

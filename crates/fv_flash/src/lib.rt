@@ -1,4 +1,4 @@
-//! The firmware volumes in some bytes: where they begin.
+//! The firmware volumes in some bytes: where they begin. Only `scan` takes memory.
 #![tactic(auto)]
 
 mod scanner;

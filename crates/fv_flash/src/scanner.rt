@@ -94,6 +94,8 @@ pub fn scan(alloc: Global, bytes: &[u8]) -> Result<Offsets, Fault>
 
     // No other list of offsets meets this.
     ensures only { IfOk result (λ o. (p : List ℕ) → Found bytes.now p → p ≡ o) }
+
+    // The only error is OutOfMemory.
     ensures err { IfErr result (λ f. f ≡ out_of_memory) }
 
     // Memory runs out only if a volume begins in the bytes.

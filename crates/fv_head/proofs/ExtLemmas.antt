@@ -353,11 +353,11 @@ more_entries items new e bytes rest behind entry n pushed back front size least 
     split n least = omega arith
 
 -- what is left begins no entry
-pub end_entries : (items : List (ℕ × List ℕ)) (bytes rest tail : List ℕ)
-    → ((es : List (ℕ × List ℕ)) (end : List ℕ) → SplitsEntries es end rest → SplitsEntries (items ++ es) end bytes)
-    → BeginNoEntry rest → tail ≡ rest → SplitsEntries items tail bytes
-end_entries items bytes rest tail sofar ended same =
-    subst (λ (xs : List (ℕ × List ℕ)). SplitsEntries xs tail bytes) (append-nil items) (sofar [] tail (sym same, ended))
+pub end_entries : (items : List (ℕ × List ℕ)) (bytes rest : List ℕ)
+    → ((es : List (ℕ × List ℕ)) (tail : List ℕ) → SplitsEntries es tail rest → SplitsEntries (items ++ es) tail bytes)
+    → BeginNoEntry rest → SplitsEntries items rest bytes
+end_entries items bytes rest sofar ended =
+    subst (λ (xs : List (ℕ × List ℕ)). SplitsEntries xs rest bytes) (append-nil items) (sofar [] rest (refl, ended))
 
 -- what is read after the name and the size
 pub ext_from : (b : List ℕ) (g : Guid) (es : List (ℕ × List ℕ)) (tail : List ℕ) → 20 ≤ length b → length b ≤ ext_limit

@@ -18,7 +18,8 @@ zero_used_size = 0 ∷ 0 ∷ 0 ∷ 0 ∷ []
 abbrev pub is_used_size : ℕ → List ℕ → Bool
 is_used_size kind payload = (kind == 3) && (length payload == 4)
 
--- what is kept of a payload: the value of a used size is no part of the meaning
+-- what is kept of a payload: four zero bytes of a used size, whose value is no part of the meaning; otherwise the
+-- payload itself
 abbrev pub kept_payload : ℕ → List ℕ → List ℕ
 kept_payload kind payload = if is_used_size kind payload then zero_used_size else payload
 

@@ -1,4 +1,5 @@
--- How an extended header is spelled, and its place in the canonical image.
+-- How an extended header is spelled, and its place in the canonical image (PI specification, volume 3, section
+-- 3.2.1.2).
 use Rattle.std.specs.Prelude.{ℕ, ◌+◌, if◌then◌else◌, List, [], ◌∷◌, ◌++◌, length, Option, None, Some}
 use Rattle.fv_base.specs.Words.{bytes_of, le_bytes, up_to_8}
 use Rattle.fv_head.specs.Ext.{Extension, is_used_size}

@@ -21,7 +21,8 @@ system_guid Ffs2 =
 system_guid Ffs3 =
     0x7a ∷ 0xc0 ∷ 0x73 ∷ 0x54 ∷ 0xcb ∷ 0x3d ∷ 0xca ∷ 0x4d ∷ 0xbd ∷ 0x6f ∷ 0x1e ∷ 0x96 ∷ 0x89 ∷ 0xe7 ∷ 0x34 ∷ 0x9a ∷ []
 
--- what a header says of its volume
+-- what a header says of its volume: zero vector, file system, length, attributes, reserved byte, block map, and the
+-- extended header, if there is one
 pub record HeadFields : Type 0 where
   pub zero_vector : List ℕ
   pub file_system : FileSystem
@@ -70,7 +71,8 @@ HasExt (Some x) e b =
     × (e.header_len ≤ length before) × (length before + length part ≤ e.length) × IsExt x part
     × (e.first ≡ up_to_8 (length before + length part))
 
--- the bytes begin with a volume of this header and this extent
+-- the bytes begin with a volume of this header and this extent: they have at least FvLength bytes, and the extended
+-- header where the volume header says, or there is none
 pub record BeginsVolume (h : HeadFields) (e : Extent) (b : List ℕ) : Type 0 where
   pub head : IsHead h (take e.header_len b)
   pub long_enough : e.header_len ≤ length b

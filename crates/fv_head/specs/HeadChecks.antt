@@ -29,11 +29,11 @@ header_len_at b = le_at 48 2 b
 abbrev pub volume_len_at : List ℕ → ℕ
 volume_len_at b = le_at 32 8 b
 
--- a header may have n bytes
+-- a header may have n bytes: a multiple of 8 from 64 to `header_limit`
 abbrev pub is_header_len : ℕ → Bool
 is_header_len n = (n % 8 == 0) && nat_le 64 n && nat_le n header_limit
 
--- the first n bytes sum to 0
+-- the 16-bit words of the first n bytes sum to 0
 abbrev pub has_sum : ℕ → List ℕ → Bool
 has_sum n b = sum16_of (take n b) == 0
 
@@ -58,7 +58,7 @@ abbrev pub has_block_map : ℕ → List ℕ → Bool
 has_block_map n b =
     makes_up (blocks_at n b) (volume_len_at b) && is_zero_pair (le_at (n - 8) 4 b, le_at (n - 4) 4 b)
 
--- a volume with a header of n bytes may have len bytes
+-- a volume with a header of n bytes may have len bytes: a multiple of 8, at least n, at most `volume_limit`
 abbrev pub is_volume_len : ℕ → ℕ → Bool
 is_volume_len n len = (len % 8 == 0) && nat_le n len && nat_le len volume_limit
 
@@ -77,7 +77,7 @@ has_ext n len b =
     && nat_le (ext_size_at b) ext_limit
     && nat_le (ext_offset_at b + ext_size_at b) len)
 
--- the checks of a header's first 56 bytes, in their order
+-- the checks of a header's first 56 bytes, in their order, each with its fault
 abbrev pub front_checks : List ℕ → List (Check Fault)
 front_checks b =
     check (nat_le 56 (length b)) kinds.Truncated (length b)
@@ -98,7 +98,7 @@ whole_checks b =
     ∷ check (has_ext (header_len_at b) (volume_len_at b) b) kinds.ExtHeader 52
     ∷ []
 
--- the checks of a header, in their order
+-- the checks of a header, in their order, each with its fault
 abbrev pub head_checks : List ℕ → List (Check Fault)
 head_checks b = front_checks b ++ whole_checks b
 

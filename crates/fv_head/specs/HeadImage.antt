@@ -1,4 +1,4 @@
--- How a header is spelled, field by field.
+-- How a header is spelled, field by field (PI specification, volume 3, section 3.2.1.1).
 use Rattle.std.specs.Prelude.{ℕ, ◌-◌, ◌%◌, List, [], ◌∷◌, ◌++◌}
 use Rattle.fv_base.specs.Words.{sum16_of, le_bytes}
 use Rattle.fv_head.specs.Head.{HeadFields, signature_bytes, system_guid, header_len_of, canonical_offset}

@@ -8,7 +8,7 @@ use Rattle.fv_head.specs.Head.{HeadFields, header_len_of, IsHead, canonical_offs
 use Rattle.fv_head.specs.VolumeAttributes.{polarity_of}
 use Rattle.fv_head.specs.declared.extent.Extent.{Extent}
 
--- some bytes are an extended header with this meaning
+-- some bytes are an extended header with this meaning: true of every `ExtHeader`
 abbrev pub IsReadExt : Extension → Type 0
 IsReadExt x = (b : List ℕ) × IsBytes b × IsExt x b
 
@@ -24,11 +24,11 @@ CanonicalRest None rest = Unit {0}
 CanonicalRest (Some x) rest =
     (pad : List ℕ) × (used : ℕ) × (behind : List ℕ) × (rest ≡ pad ++ (ext_spelled x used ++ behind)) × (length pad ≡ 24)
 
--- these are the fields of some header, as those of each head that was read are
+-- these are the fields of some header: true of every `VolumeHead`
 abbrev pub IsReadHead : HeadFields → Type 0
 IsReadHead h = (b : List ℕ) × IsHead h b
 
--- the bytes are the head of the canonical image
+-- the bytes are the head of the canonical image: a header with these fields whose ExtHeaderOffset is the canonical one
 pub record IsCanonicalHead (h : HeadFields) (b : List ℕ) : Type 0 where
   pub head : IsHead h b
   pub offset : le_at 52 2 b ≡ canonical_offset h h.ext

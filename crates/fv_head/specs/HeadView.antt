@@ -2,6 +2,7 @@
 use Rattle.fv_head.specs.declared.head.VolumeHead.TheInside.{Inside}
 use Rattle.fv_head.specs.Head.{HeadFields}
 
+-- the fields that a `VolumeHead` holds
 abbrev pub fields_held : Inside → HeadFields
 fields_held a = record {
   zero_vector = a.zero_vector;

@@ -10,28 +10,31 @@ use crate::offsets::{
     FV_NAME_OFFSET,
 };
 use fv_base::field::u16_at;
-use fv_base::{ByteList, Fault, Guid, guid_at};
+use fv_base::{Fault, Guid, guid_at};
 use std::alloc::Global;
 use std::marker::Model;
 
 /// The type of an entry that holds the used size: `EFI_FV_EXT_TYPE_USED_SIZE_TYPE`.
 const USED_SIZE: u16 = 3;
 
+/// What is kept of a used size.
+const ZERO_USED_SIZE: [u8; 4] = [0; 4];
+
 /// An entry of an extended header. Contracts see its type and its payload. (PI specification,
 /// volume 3, section 3.2.1.2, `EFI_FIRMWARE_VOLUME_EXT_ENTRY`.)
 #[derive(Drop)]
-pub struct ExtEntry {
+pub struct ExtEntry<'a> {
     kind: u16,
-    payload: ByteList,
+    payload: &'a [u8],
 }
 
-impl Model for ExtEntry {
+impl<'a> Model for ExtEntry<'a> {
     ghost Value = { ℕ × List ℕ };
 
-    ghost view = { λ e. (e.kind, e.payload) };
+    ghost view = { λ e. (e.kind, e.payload.now) };
 }
 
-impl ExtEntry {
+impl<'a> ExtEntry<'a> {
     /// The type, `ExtEntryType`: 1 for OEM types (`EFI_FV_EXT_TYPE_OEM_TYPE`), 2 for a GUID entry
     /// (`EFI_FV_EXT_TYPE_GUID_TYPE`), 3 for the used size (`EFI_FV_EXT_TYPE_USED_SIZE_TYPE`).
     pub fn kind(&self) -> u16
@@ -42,10 +45,10 @@ impl ExtEntry {
 
     /// The bytes after the entry's header. The value of a used size (an entry of type 3 with 4
     /// bytes) is no part of the meaning: it is four zero bytes here.
-    pub fn payload(&self) -> &[u8]
+    pub fn payload(&self) -> &'a [u8]
         ensures { result.now ≡ self.now.1 }
     {
-        self.payload.as_slice()
+        self.payload
     }
 }
 
@@ -53,24 +56,24 @@ impl ExtEntry {
 /// they are those of some bytes. (PI specification, volume 3, section 3.2.1.2,
 /// `EFI_FIRMWARE_VOLUME_EXT_HEADER`.)
 #[derive(Drop)]
-pub struct ExtHeader {
+pub struct ExtHeader<'a> {
     name: Guid,
-    entries: Vec<ExtEntry>,
-    tail: ByteList,
+    entries: Vec<ExtEntry<'a>>,
+    tail: &'a [u8],
 }
 
-impl Model for ExtHeader {
+impl<'a> Model for ExtHeader<'a> {
     ghost use Rattle.fv_head.specs.Ext.{Extension};
     ghost use Rattle.fv_head.specs.HeadReads.{IsReadExt};
 
     ghost Value = { Extension };
 
-    ghost view = { λ x. record { name = x.name; entries = x.entries.items; tail = x.tail } };
+    ghost view = { λ x. record { name = x.name; entries = x.entries.items; tail = x.tail.now } };
 
-    ghost invariant = { λ x. IsReadExt (record { name = x.name; entries = x.entries.items; tail = x.tail }) };
+    ghost invariant = { λ x. IsReadExt (record { name = x.name; entries = x.entries.items; tail = x.tail.now }) };
 }
 
-impl ExtHeader {
+impl<'a> ExtHeader<'a> {
     /// The name of the volume, `FvName`.
     pub fn name(&self) -> Guid
         ensures name { result ≡ self.now.name }
@@ -82,17 +85,17 @@ impl ExtHeader {
     }
 
     /// The entries in order.
-    pub fn entries(&self) -> &[ExtEntry]
+    pub fn entries(&self) -> &[ExtEntry<'a>]
         ensures { result.now ≡ self.now.entries }
     {
         self.entries.as_slice()
     }
 
     /// The bytes after the entries, which begin no entry.
-    pub fn tail(&self) -> &[u8]
+    pub fn tail(&self) -> &'a [u8]
         ensures { result.now ≡ self.now.tail }
     {
-        self.tail.as_slice()
+        self.tail
     }
 }
 
@@ -119,40 +122,38 @@ pub(crate) fn is_used_size(kind: u16, payload: &[u8]) -> bool
 }
 
 // The entry of these bytes, whose first two are its size.
-fn entry_of(alloc: Global, entry: &[u8]) -> Result<ExtEntry, Fault>
+fn entry_of(entry: &[u8]) -> ExtEntry<'_>
     requires { 4 ≤ length entry.now }
-    ensures ok { IfOk result
-        (λ e. (e.0 ≡ le_at 2 2 entry.now) × (e.1 ≡ kept_payload (le_at 2 2 entry.now) (drop 4 entry.now))) }
-    ensures err { IfErr result (λ f. f ≡ out_of_memory) }
+    ensures kind { result.0 ≡ le_at 2 2 entry.now }
+    ensures payload { result.1 ≡ kept_payload (le_at 2 2 entry.now) (drop 4 entry.now) }
 {
     let kind = u16_at(entry, EXT_ENTRY_TYPE_OFFSET);
-    let mut payload = entry[EXT_ENTRY_HEADER_LEN..].to_vec(alloc)?;
-    if is_used_size(kind, &payload) {
-        payload.as_mut_slice().copy_from_slice(&[0; 4]);
-    }
-    Ok(ExtEntry {
-        kind,
-        payload: ByteList::from_vec(payload),
-    })
+    let payload = &entry[EXT_ENTRY_HEADER_LEN..];
+    let payload = if is_used_size(kind, payload) {
+        &ZERO_USED_SIZE
+    } else {
+        payload
+    };
+    ExtEntry { kind, payload }
 }
 
 // The entries at the start of the bytes, and the tail after them.
-fn entries_of(alloc: Global, bytes: &[u8]) -> Result<(Vec<ExtEntry>, ByteList), Fault>
-    ensures ok { IfOk result (λ r. SplitsEntries r.0.items r.1 bytes.now) }
+fn entries_of(alloc: Global, bytes: &[u8]) -> Result<(Vec<ExtEntry<'_>>, &[u8]), Fault>
+    ensures ok { IfOk result (λ r. SplitsEntries r.0.items r.1.now bytes.now) }
     ensures err { IfErr result (λ f. f ≡ out_of_memory) }
 {
     let mut entries = Vec::new(alloc);
     let mut rest = bytes;
     while let Some(len) = entry_len(rest) {
         let (entry, behind) = rest.split_at(len);
-        entries.push(entry_of(alloc, entry)?)?;
+        entries.push(entry_of(entry))?;
         rest = behind;
     }
-    Ok((entries, ByteList::from_vec(rest.to_vec(alloc)?)))
+    Ok((entries, rest))
 }
 
 // The extended header that the bytes are.
-pub(crate) fn ext_of(alloc: Global, bytes: &[u8]) -> Result<ExtHeader, Fault>
+pub(crate) fn ext_of(alloc: Global, bytes: &[u8]) -> Result<ExtHeader<'_>, Fault>
     requires least { 20 ≤ length bytes.now }
     requires most { length bytes.now ≤ ext_limit }
     requires size { le_at 16 4 bytes.now ≡ length bytes.now }

@@ -12,7 +12,7 @@ use fv_base::{ByteList, Fault, ListSink, Sink};
 use std::alloc::Global;
 
 // The number of bytes of the entries.
-fn len_of_entries(entries: &[ExtEntry]) -> u32
+fn len_of_entries(entries: &[ExtEntry<'_>]) -> u32
     requires { entries_len entries.now ≤ ext_limit }
     ensures { result ≡ entries_len entries.now }
 {
@@ -25,9 +25,11 @@ fn len_of_entries(entries: &[ExtEntry]) -> u32
 
 /// The number of bytes of an extended header, `ExtHeaderSize`: 20, the bytes of its entries and
 /// those of its tail. Takes no memory. (PI specification, volume 3, section 3.2.1.2.)
-pub fn len_of_ext(ext: &ExtHeader) -> u32
+pub fn len_of_ext(ext: &ExtHeader<'_>) -> u32
     ensures len { result ≡ ext_len ext.now }
     ensures most { ext_len ext.now ≤ ext_limit }
+
+    // The fields are those of some bytes.
     ensures read { IsReadExt ext.now }
 {
     let _name = ext.name();
@@ -35,7 +37,7 @@ pub fn len_of_ext(ext: &ExtHeader) -> u32
 }
 
 // Puts the payload of an entry; a used size has the value `used`.
-fn put_payload<S: Sink>(out: &mut S, entry: &ExtEntry, used: u32)
+fn put_payload<S: Sink>(out: &mut S, entry: &ExtEntry<'_>, used: u32)
     ensures { S.takes out.old (payload_with used entry.now) out.new }
 {
     let payload = entry.payload();
@@ -47,7 +49,7 @@ fn put_payload<S: Sink>(out: &mut S, entry: &ExtEntry, used: u32)
 }
 
 // Puts an entry; a used size has the value `used`.
-fn put_entry<S: Sink>(out: &mut S, entry: &ExtEntry, used: u32)
+fn put_entry<S: Sink>(out: &mut S, entry: &ExtEntry<'_>, used: u32)
     requires { 4 + length entry.now.1 ≤ ext_limit }
     ensures { S.takes out.old (entry_bytes used entry.now) out.new }
 {
@@ -57,7 +59,7 @@ fn put_entry<S: Sink>(out: &mut S, entry: &ExtEntry, used: u32)
 }
 
 // Puts entries, one after another.
-fn put_entries<S: Sink>(out: &mut S, entries: &[ExtEntry], used: u32)
+fn put_entries<S: Sink>(out: &mut S, entries: &[ExtEntry<'_>], used: u32)
     requires { entries_len entries.now ≤ ext_limit }
     ensures { S.takes out.old (entries_bytes used entries.now) out.new }
 {
@@ -67,9 +69,9 @@ fn put_entries<S: Sink>(out: &mut S, entries: &[ExtEntry], used: u32)
 }
 
 /// Puts an extended header: `FvName`, `ExtHeaderSize`, its entries and its tail. Each used size
-/// (the payload of an entry `EFI_FV_EXT_TYPE_USED_SIZE_TYPE`) has the value `used`, in bytes. (PI
-/// specification, volume 3, section 3.2.1.2.)
-pub fn put_ext<S: Sink>(out: &mut S, ext: &ExtHeader, used: u32)
+/// (the payload of an entry `EFI_FV_EXT_TYPE_USED_SIZE_TYPE`) has the value `used`, in bytes. Takes
+/// no memory. (PI specification, volume 3, section 3.2.1.2.)
+pub fn put_ext<S: Sink>(out: &mut S, ext: &ExtHeader<'_>, used: u32)
     ensures bytes { S.takes out.old (ext_spelled ext.now used) out.new }
     ensures len { length (ext_spelled ext.now used) ≡ ext_len ext.now }
     ensures most { ext_len ext.now ≤ ext_limit }
@@ -87,11 +89,13 @@ pub fn put_ext<S: Sink>(out: &mut S, ext: &ExtHeader, used: u32)
 /// # Errors
 ///
 /// OutOfMemory at 0.
-pub fn ext_bytes(alloc: Global, ext: &ExtHeader, used: u32) -> Result<ByteList, Fault>
+pub fn ext_bytes(alloc: Global, ext: &ExtHeader<'_>, used: u32) -> Result<ByteList, Fault>
     ensures bytes { IfOk result (λ bytes. bytes ≡ ext_spelled ext.now used) }
 
     // Read back, they have the same meaning.
     ensures again { IfOk result (λ bytes. IsExt ext.now bytes) }
+
+    // The only error is OutOfMemory.
     ensures err { IfErr result (λ f. f ≡ out_of_memory) }
 {
     let mut out = ListSink::with_room(alloc, len_of_ext(ext) as usize)?;

@@ -1,7 +1,7 @@
 //! The header of a volume, as kept in memory.
 
 ghost use Rattle.std.specs.Prelude.{◌≡◌, ◌⊎◌, ◌%◌, ◌≤◌, length, IfOk, IfErr, option_copied};
-ghost use Rattle.fv_base.specs.Words.{IsFirstFault, out_of_memory, header_limit};
+ghost use Rattle.fv_base.specs.Words.{OrMemory, IsFirstFault, out_of_memory, header_limit};
 ghost use Rattle.fv_head.specs.Head.{HasExt, HeadFields, BeginsVolume, header_len_of};
 ghost use Rattle.fv_head.specs.HeadReads.{IsReadHead};
 ghost use Rattle.fv_head.specs.HeadChecks.{head_checks, BeginsWithHeader};
@@ -26,17 +26,17 @@ use std::marker::Model;
 /// A volume's header; only reading makes one. Contracts see its fields, and know that they are
 /// those of a header. (PI specification, volume 3, section 3.2.1.1, `EFI_FIRMWARE_VOLUME_HEADER`.)
 #[derive(Drop)]
-pub struct VolumeHead {
+pub struct VolumeHead<'a> {
     zero_vector: [u8; 16],
     file_system: FileSystem,
     length: u64,
     attributes: FvAttributes,
     reserved: u8,
     blocks: BlockMap,
-    ext: Option<ExtHeader>,
+    ext: Option<ExtHeader<'a>>,
 }
 
-impl Model for VolumeHead {
+impl<'a> Model for VolumeHead<'a> {
     ghost use Rattle.fv_head.specs.Head.{HeadFields};
     ghost use Rattle.fv_head.specs.HeadReads.{IsReadHead};
 
@@ -49,7 +49,7 @@ impl Model for VolumeHead {
     ghost invariant = { λ a. IsReadHead (fields_held a) };
 }
 
-impl VolumeHead {
+impl<'a> VolumeHead<'a> {
     /// `ZeroVector`, the 16 bytes at the volume's start, as found.
     pub fn zero_vector(&self) -> &[u8; 16]
         ensures { result.now ≡ self.now.zero_vector }
@@ -104,7 +104,7 @@ impl VolumeHead {
     }
 
     /// The extended header, at `ExtHeaderOffset`, if there is one.
-    pub fn ext(&self) -> Option<&ExtHeader>
+    pub fn ext(&self) -> Option<&ExtHeader<'a>>
         ensures { option_copied result ≡ self.now.ext }
     {
         self.ext.as_ref()
@@ -127,7 +127,11 @@ fn blocks_of(alloc: Global, bytes: &[u8]) -> Result<BlockMap, Fault>
 }
 
 // The extended header of the volume at the start of the bytes, if it has one.
-fn ext_at(alloc: Global, bytes: &[u8], extent: &Extent) -> Result<Option<ExtHeader>, Fault>
+fn ext_at<'a>(
+    alloc: Global,
+    bytes: &'a [u8],
+    extent: &Extent,
+) -> Result<Option<ExtHeader<'a>>, Fault>
     requires front { (h : HeadFields) × BeginsVolume h extent.now bytes.now }
     ensures ok { IfOk result (λ x. HasExt x extent.now bytes.now) }
     ensures err { IfErr result (λ f. f ≡ out_of_memory) }
@@ -139,7 +143,7 @@ fn ext_at(alloc: Global, bytes: &[u8], extent: &Extent) -> Result<Option<ExtHead
 }
 
 // The fields of the header at the start of the bytes.
-fn head_of(alloc: Global, bytes: &[u8], extent: &Extent) -> Result<VolumeHead, Fault>
+fn head_of<'a>(alloc: Global, bytes: &'a [u8], extent: &Extent) -> Result<VolumeHead<'a>, Fault>
     requires front { (h : HeadFields) × BeginsVolume h extent.now bytes.now }
     ensures ok { IfOk result (λ h. BeginsVolume h extent.now bytes.now) }
     ensures err { IfErr result (λ f. f ≡ out_of_memory) }
@@ -169,7 +173,7 @@ fn head_of(alloc: Global, bytes: &[u8], extent: &Extent) -> Result<VolumeHead, F
 ///
 /// The first fault of the header, as for `verify_fv`; or OutOfMemory (at 0), which is returned only
 /// if the bytes begin with a volume.
-pub fn read_head(alloc: Global, bytes: &[u8]) -> Result<(VolumeHead, Extent), Fault>
+pub fn read_head(alloc: Global, bytes: &[u8]) -> Result<(VolumeHead<'_>, Extent), Fault>
     // The bytes begin with this volume.
     ensures found { IfOk result (λ r. BeginsVolume r.0 r.1 bytes.now) }
 
@@ -178,7 +182,7 @@ pub fn read_head(alloc: Global, bytes: &[u8]) -> Result<(VolumeHead, Extent), Fa
         → (result ≡ Ok (h, e)) ⊎ (result ≡ Err out_of_memory) }
 
     // An error names the first check that does not hold.
-    ensures first { IfErr result (λ f. (f ≡ out_of_memory) ⊎ IsFirstFault (head_checks bytes.now) f) }
+    ensures first { IfErr result (OrMemory (IsFirstFault (head_checks bytes.now))) }
 
     // Memory runs out only if they begin with a volume.
     ensures memory { IfErr result (λ f. f ≡ out_of_memory → BeginsWithHeader bytes.now) }

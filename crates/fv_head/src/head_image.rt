@@ -85,7 +85,7 @@ fn put_pairs<S: Sink>(out: &mut S, pairs: &[(u32, u32)])
 }
 
 // `ExtHeaderOffset` of the canonical head: the offset of the extended header, or 0 without one.
-fn canonical_offset(head: &VolumeHead) -> u16
+fn canonical_offset(head: &VolumeHead<'_>) -> u16
     ensures offset { result ≡ canonical_offset head.now head.now.ext }
     ensures read { IfRead head.now.ext }
 {
@@ -102,7 +102,7 @@ fn canonical_offset(head: &VolumeHead) -> u16
 /// the header or, if there is an extended header, at the next multiple of 8 after the pad file that
 /// follows the header. (That pad file is 24 bytes and the extended header.) Takes no memory. (PI
 /// specification, volume 3, sections 3.2.1.1 and 3.2.1.2.)
-pub fn first_edge(head: &VolumeHead) -> u64
+pub fn first_edge(head: &VolumeHead<'_>) -> u64
     ensures edge { result ≡ first_edge head.now head.now.ext }
     ensures most { result ≤ up_to_8 (header_limit + 24 + ext_limit) }
 {
@@ -114,7 +114,7 @@ pub fn first_edge(head: &VolumeHead) -> u64
 }
 
 // Puts a header with this checksum.
-fn put_spelled<S: Sink>(out: &mut S, head: &VolumeHead, checksum: u16)
+fn put_spelled<S: Sink>(out: &mut S, head: &VolumeHead<'_>, checksum: u16)
     ensures bytes { S.takes out.old (head_spelled head.now checksum (canonical_offset head.now head.now.ext)) out.new }
     ensures read { IsReadHead head.now }
     ensures ext { IfRead head.now.ext }
@@ -141,7 +141,7 @@ fn complement(sum: u16) -> u16
 }
 
 // `Checksum`, which makes the 16-bit words of the header sum to 0.
-fn checksum_of(head: &VolumeHead) -> u16
+fn checksum_of(head: &VolumeHead<'_>) -> u16
     ensures { result ≡ checksum_of head.now (canonical_offset head.now head.now.ext) }
 {
     let mut sum = WordSink {
@@ -153,9 +153,9 @@ fn checksum_of(head: &VolumeHead) -> u16
 }
 
 /// Puts the head of the canonical image: the fields of the header, with the right checksum.
-/// ExtHeaderOffset is HeaderLength + 24 if there is an extended header, else 0. (PI specification,
-/// volume 3, section 3.2.1.1, `EFI_FIRMWARE_VOLUME_HEADER`.)
-pub fn put_head<S: Sink>(out: &mut S, head: &VolumeHead)
+/// ExtHeaderOffset is HeaderLength + 24 if there is an extended header, else 0. Takes no memory.
+/// (PI specification, volume 3, section 3.2.1.1, `EFI_FIRMWARE_VOLUME_HEADER`.)
+pub fn put_head<S: Sink>(out: &mut S, head: &VolumeHead<'_>)
     ensures bytes { S.takes out.old (canonical_head head.now) out.new }
     ensures read { IsReadHead head.now }
     ensures ext { IfRead head.now.ext }
@@ -169,7 +169,7 @@ pub fn put_head<S: Sink>(out: &mut S, head: &VolumeHead)
 /// # Errors
 ///
 /// OutOfMemory at 0.
-pub fn head_bytes(alloc: Global, head: &VolumeHead) -> Result<ByteList, Fault>
+pub fn head_bytes(alloc: Global, head: &VolumeHead<'_>) -> Result<ByteList, Fault>
     // They are the head of the canonical image, and nothing else is.
     ensures head { IfOk result (λ bytes. IsCanonicalHead head.now bytes) }
     ensures only { (other : List ℕ) → IsCanonicalHead head.now other → IfOk result (λ bytes. bytes ≡ other) }
@@ -183,6 +183,8 @@ pub fn head_bytes(alloc: Global, head: &VolumeHead) -> Result<ByteList, Fault>
         → canonical_end head.now head.now.ext ≤ head.now.length
         → head.now.length ≤ length (bytes ++ rest)
         → BeginsVolume head.now (extent_of head.now (first_edge head.now head.now.ext)) (bytes ++ rest)) }
+
+    // The only error is OutOfMemory.
     ensures err { IfErr result (λ f. f ≡ out_of_memory) }
 {
     let mut out = ListSink::with_room(alloc, usize::from(head.header_len()))?;

@@ -20,7 +20,7 @@ use std::io::Write;
 ///
 /// WriteFault at the number of bytes written in this call, if a write fails or takes no byte.
 /// Exactly that many bytes of the head were written then.
-pub fn write_head<W: Write>(head: &VolumeHead, writer: &mut Port<W>) -> Result<(), Fault>
+pub fn write_head<W: Write>(head: &VolumeHead<'_>, writer: &mut Port<W>) -> Result<(), Fault>
     ensures ok { OnOk result ((bytes : List ℕ) × IsCanonicalHead head.now bytes
         × Appends (W.contents (inner_of writer.old)) (W.contents (inner_of writer.new)) bytes) }
     ensures err { IfErr result (λ f. (bytes : List ℕ) × IsCanonicalHead head.now bytes
@@ -39,7 +39,11 @@ pub fn write_head<W: Write>(head: &VolumeHead, writer: &mut Port<W>) -> Result<(
 /// # Errors
 ///
 /// WriteFault, as for `write_head`.
-pub fn write_ext<W: Write>(ext: &ExtHeader, used: u32, writer: &mut Port<W>) -> Result<(), Fault>
+pub fn write_ext<W: Write>(
+    ext: &ExtHeader<'_>,
+    used: u32,
+    writer: &mut Port<W>,
+) -> Result<(), Fault>
     ensures ok { OnOk result
         (Appends (W.contents (inner_of writer.old)) (W.contents (inner_of writer.new)) (ext_spelled ext.now used)) }
     ensures err { IfErr result

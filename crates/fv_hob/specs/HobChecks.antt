@@ -27,7 +27,7 @@ hob_checks first r =
     ∷ hob_check (has_shape (hob_type_at r) (hob_len_at r)) kinds.Shape
     ∷ []
 
--- r begins with the block c, which is allowed there
+-- r begins with the block c, which is allowed there: a first block is a hand-off information table
 pub record BeginsBlock (first : Bool) (c r : List ℕ) : Type 0 where
   pub behind : List ℕ
   pub joined : r ≡ c ++ behind
@@ -51,7 +51,7 @@ pub record IsFirstHobFault (b : List ℕ) (fault : HobFault) : Type 0 where
   pub place : fault.offset ≡ length c
   pub kind_is : IsFirstFault (hob_checks (length before == 0) r) fault.kind
 
--- the fault of every call when memory runs out
+-- the fault of every call when memory runs out: OutOfMemory at 0
 abbrev pub hob_out_of_memory : HobFault
 hob_out_of_memory = record { kind = kinds.OutOfMemory; offset = 0 }
 

@@ -15,9 +15,9 @@ pub record HobForm : Type 0 where
   pub reserved : ℕ
   pub kind : HobKind
 
--- the type of a block: EFI_HOB_TYPE_HANDOFF (0x0001), _MEMORY_ALLOCATION (0x0002), _RESOURCE_DESCRIPTOR (0x0003),
--- _GUID_EXTENSION (0x0004), _FV (0x0005), _CPU (0x0006), _MEMORY_POOL (0x0007), _FV2 (0x0009), _UEFI_CAPSULE (0x000B),
--- _UNUSED (0xFFFE), _END_OF_HOB_LIST (0xFFFF)
+-- the type of a block, by what it holds. EFI_HOB_TYPE_HANDOFF is 0x0001, _MEMORY_ALLOCATION 0x0002,
+-- _RESOURCE_DESCRIPTOR 0x0003, _GUID_EXTENSION 0x0004, _FV 0x0005, _CPU 0x0006, _MEMORY_POOL 0x0007, _FV2 0x0009,
+-- _UEFI_CAPSULE 0x000B, _UNUSED 0xFFFE, and _END_OF_HOB_LIST 0xFFFF
 abbrev pub hob_type : HobKind → ℕ
 hob_type (kinds.Handoff said) = 0x0001
 hob_type (kinds.MemoryAllocation said) = 0x0002
@@ -138,7 +138,7 @@ pub record IsHob (h : HobForm) (b : List ℕ) : Type 0 where
   pub block : IsBlock b
   pub said : h ≡ hob_in b
 
--- some bytes are a block with this content
+-- some bytes are a block with this content: true of every `Hob`
 abbrev pub IsReadHob : HobForm → Type 0
 IsReadHob h = (b : List ℕ) × IsHob h b
 

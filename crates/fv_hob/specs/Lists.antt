@@ -37,7 +37,7 @@ pub record IsHobList (all : List HobForm) (b : List ℕ) : Type 0 where
 abbrev pub IsUsedHob : HobForm → Type 0
 IsUsedHob h = hob_type h.kind ≢ 0xfffe
 
--- some bytes are this list
+-- some bytes are this list: true of every `HobList`
 abbrev pub IsReadList : List HobForm → Type 0
 IsReadList all = (b : List ℕ) × IsHobList all b
 

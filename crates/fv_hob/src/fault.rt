@@ -73,6 +73,7 @@ const WANT_OF_MEMORY: HobFault = HobFault {
     offset: 0,
 };
 
+/// OutOfMemory at 0.
 impl From<AllocError> for HobFault {
     ghost from_gives = { λ _ f. f ≡ hob_out_of_memory };
 
@@ -81,6 +82,7 @@ impl From<AllocError> for HobFault {
     }
 }
 
+/// OutOfMemory at 0.
 impl<T: Drop> From<AllocFailed<T>> for HobFault {
     ghost from_gives = { λ _ f. f ≡ hob_out_of_memory };
 

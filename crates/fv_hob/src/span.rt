@@ -70,7 +70,10 @@ impl Hob {
 ///
 /// OutOfMemory.
 pub fn volume_hobs(alloc: Global, hobs: &HobList) -> Result<Spans, HobFault>
+    // They are the base and the length of each volume, in order.
     ensures spans { IfOk result (λ s. s ≡ spans_of hobs.now) }
+
+    // The only error is OutOfMemory.
     ensures err { IfErr result (λ f. f ≡ hob_out_of_memory) }
 {
     let mut list = Vec::new(alloc);

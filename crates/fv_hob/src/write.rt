@@ -196,6 +196,8 @@ pub fn hob_bytes(alloc: Global, hobs: &HobList) -> Result<ByteList, HobFault>
 
     // They are these bytes.
     ensures bytes { IfOk result (λ b. b ≡ list_spelled hobs.now) }
+
+    // The only error is OutOfMemory.
     ensures err { IfErr result (λ f. f ≡ hob_out_of_memory) }
 {
     let bytes = list_spelled(alloc, hobs.as_slice())?;

@@ -8,7 +8,7 @@ use Rattle.fv_tree.specs.Words.{Meaning, Volume, FileMeaning, File, ContentMeani
 use Rattle.fv_tree.specs.Words.{Nested, content_of, files_from, sections_from, section_kind_of, body_of, leaf_of, Inside, volumes_in_body}
 use Rattle.fv_tree.specs.Words.{volumes_in_content, volumes_in_files, volumes_in_sections}
 use Rattle.fv_lines.proofs.CoverLemmas.{file_left, left_next, section_left}
-use Rattle.fv_lines.specs.Words.{CoverLaws, Leaves, unit_text, volume_text, file_text, section_text, LeafText, BodyShown, VolumeLines}
+use Rattle.fv_lines.specs.Words.{CoverLaws, Leaves, unit_text, volume_text, file_text, section_text, LeafText, BodyShown, BodyDigest, DigestOf, VolumeLines}
 use Rattle.fv_lines.specs.Words.{FilesLines, FileLines, ContentLines, SectionsLines, SectionLines, BodyLines}
 use Rattle.fv_text.proofs.Laws.{Tells, tells_more}
 
@@ -35,24 +35,24 @@ shown_none kind (Nested v) is = refl
 
 -- ---- parts and what they hold
 
-module _ (of_volume : Meaning → Option (List ℕ) → Type 0) (of_file : FileMeaning → Option (List ℕ) → Type 0) where
-  pub is_section : (k j : ℕ) (s : SectionMeaning) (body : BodyMeaning) (shown rest : List ℕ) → body ≡ body_of s
-      → BodyShown (section_kind_of s) (body_of s) shown → BodyLines of_volume of_file (k + 1) body rest
-      → SectionLines of_volume of_file k j s (section_text k j s shown ++ rest)
-  is_section k j (Section kind extended own) body shown rest is a lines =
-      (shown, rest, a, refl, subst (λ (b : BodyMeaning). BodyLines of_volume of_file (k + 1) b rest) is lines)
+module _ (of_volume : DigestOf Meaning) (of_file : DigestOf FileMeaning) (of_leaf : DigestOf (List ℕ)) where
+  pub is_section : (k j : ℕ) (s : SectionMeaning) (body : BodyMeaning) (shown : List ℕ) (digest : Option (List ℕ)) (rest : List ℕ) → body ≡ body_of s
+      → BodyShown (section_kind_of s) (body_of s) shown → BodyDigest of_leaf (body_of s) digest → BodyLines of_volume of_file of_leaf (k + 1) body rest
+      → SectionLines of_volume of_file of_leaf k j s (section_text k j s shown digest ++ rest)
+  is_section k j (Section kind extended own) body shown digest rest is a sum lines =
+      (shown, digest, rest, a, sum, refl, subst (λ (b : BodyMeaning). BodyLines of_volume of_file of_leaf (k + 1) b rest) is lines)
 
   pub is_file : (k i : ℕ) (f : FileMeaning) (content : ContentMeaning) (digest : Option (List ℕ)) (rest : List ℕ) → content ≡ content_of f
-      → of_file f digest → ContentLines of_volume of_file (k + 1) content rest
-      → FileLines of_volume of_file k i f (file_text k i f digest ++ rest)
+      → of_file f digest → ContentLines of_volume of_file of_leaf (k + 1) content rest
+      → FileLines of_volume of_file of_leaf k i f (file_text k i f digest ++ rest)
   is_file k i (File name kind attributes own) content digest rest is a lines =
-      (digest, rest, a, refl, subst (λ (c : ContentMeaning). ContentLines of_volume of_file (k + 1) c rest) is lines)
+      (digest, rest, a, refl, subst (λ (c : ContentMeaning). ContentLines of_volume of_file of_leaf (k + 1) c rest) is lines)
 
   pub is_volume : (k : ℕ) (m : Meaning) (head : HeadFields) (fs : List FileMeaning) (digest : Option (List ℕ)) (rest : List ℕ)
-      → m ≡ Volume head (files_from fs) → of_volume m digest → FilesLines of_volume of_file (k + 1) 0 (files_from fs) rest
-      → VolumeLines of_volume of_file k m (volume_text k m digest ++ rest)
+      → m ≡ Volume head (files_from fs) → of_volume m digest → FilesLines of_volume of_file of_leaf (k + 1) 0 (files_from fs) rest
+      → VolumeLines of_volume of_file of_leaf k m (volume_text k m digest ++ rest)
   is_volume k m head fs digest rest is a lines =
-      subst (λ (x : Meaning). of_volume x digest → VolumeLines of_volume of_file k x (volume_text k x digest ++ rest)) (sym is)
+      subst (λ (x : Meaning). of_volume x digest → VolumeLines of_volume of_file of_leaf k x (volume_text k x digest ++ rest)) (sym is)
       (λ own. (digest, rest, own, refl, lines)) a
 
 -- ---- the pieces of a line
@@ -64,13 +64,13 @@ begun laws p q r more = laws.joined p (laws.joined q (laws.joined r more))
 
 -- ---- one part more
 
-abbrev pub sections_lines : (Meaning → Option (List ℕ) → Type 0) → (FileMeaning → Option (List ℕ) → Type 0) → ℕ → ℕ
+abbrev pub sections_lines : DigestOf Meaning → DigestOf FileMeaning → DigestOf (List ℕ) → ℕ → ℕ
     → List SectionMeaning → List ℕ → Type 0
-sections_lines of_volume of_file k j ss text = SectionsLines of_volume of_file k j (sections_from ss) text
+sections_lines of_volume of_file of_leaf k j ss text = SectionsLines of_volume of_file of_leaf k j (sections_from ss) text
 
-abbrev pub files_lines : (Meaning → Option (List ℕ) → Type 0) → (FileMeaning → Option (List ℕ) → Type 0) → ℕ → ℕ → List FileMeaning
+abbrev pub files_lines : DigestOf Meaning → DigestOf FileMeaning → DigestOf (List ℕ) → ℕ → ℕ → List FileMeaning
     → List ℕ → Type 0
-files_lines of_volume of_file k i fs text = FilesLines of_volume of_file k i (files_from fs) text
+files_lines of_volume of_file of_leaf k i fs text = FilesLines of_volume of_file of_leaf k i (files_from fs) text
 
 -- the volumes that they hold
 abbrev pub held_in_sections : List SectionMeaning → List Inside
@@ -101,28 +101,29 @@ pub record Walked {S D X : Type 0} (takes : S → List ℕ → S → Type 0) (co
   pub text : Tells takes Lines xs i s t
   pub left : Leaves covers d (held xs) e (held (drop i xs))
 
-module _ {of_volume : Meaning → Option (List ℕ) → Type 0} {of_file : FileMeaning → Option (List ℕ) → Type 0} {k : ℕ} where
+module _ {of_volume : DigestOf Meaning} {of_file : DigestOf FileMeaning} {of_leaf : DigestOf (List ℕ)} {k : ℕ} where
   pub section_more : {S D : Type 0} {takes : S → List ℕ → S → Type 0} {covers : D → List Inside → Type 0} {ss : List SectionMeaning} {i : ℕ}
       {s : SectionMeaning} {body : BodyMeaning} {a t u v : S} {d e f : D} → WalkLaws takes → CoverLaws covers
-      → Walked takes covers (sections_lines of_volume of_file k) held_in_sections ss i a t d e → i < length ss → s ≡ get_or ss i s
-      → body ≡ body_of s → ((shown : List ℕ) × BodyShown (section_kind_of s) (body_of s) shown × takes t (section_text k i s shown) u)
-      → ((text : List ℕ) × BodyLines of_volume of_file (k + 1) body text × takes u text v) → Leaves covers e (volumes_in_body body) f []
-      → Walked takes covers (sections_lines of_volume of_file k) held_in_sections ss (i + 1) a v d f
+      → Walked takes covers (sections_lines of_volume of_file of_leaf k) held_in_sections ss i a t d e → i < length ss → s ≡ get_or ss i s
+      → body ≡ body_of s → ((shown : List ℕ) × (digest : Option (List ℕ)) × BodyShown (section_kind_of s) (body_of s) shown
+      × BodyDigest of_leaf (body_of s) digest × takes t (section_text k i s shown digest) u)
+      → ((text : List ℕ) × BodyLines of_volume of_file of_leaf (k + 1) body text × takes u text v) → Leaves covers e (volumes_in_body body) f []
+      → Walked takes covers (sections_lines of_volume of_file of_leaf k) held_in_sections ss (i + 1) a v d f
   section_more {covers = covers} {ss = ss} {i = i} {s = s} {body = body} laws digests w l here is line inside rest = record {
-    text = one_more laws (SectionLines of_volume of_file k i) (λ y text h. h) s _ inside.0 l here
-        (is_section of_volume of_file k i s body line.0 inside.0 is line.1 inside.1) w.text line.2 inside.2;
+    text = one_more laws (SectionLines of_volume of_file of_leaf k i) (λ y text h. h) s _ inside.0 l here
+        (is_section of_volume of_file of_leaf k i s body line.0 line.1 inside.0 is line.2 line.3 inside.1) w.text line.4 inside.2;
     left = left_next covers _ _ _ (section_left _ digests ss i s body l here is w.left) rest;
   }
 
   pub file_more : {S D : Type 0} {takes : S → List ℕ → S → Type 0} {covers : D → List Inside → Type 0} {fs : List FileMeaning} {i : ℕ}
       {x : FileMeaning} {content : ContentMeaning} {a t u v : S} {d e f : D} → WalkLaws takes
-      → Walked takes covers (files_lines of_volume of_file k) held_in_files fs i a t d e → i < length fs → x ≡ get_or fs i x
+      → Walked takes covers (files_lines of_volume of_file of_leaf k) held_in_files fs i a t d e → i < length fs → x ≡ get_or fs i x
       → content ≡ content_of x → ((digest : Option (List ℕ)) × of_file x digest × takes t (file_text k i x digest) u)
-      → ((text : List ℕ) × ContentLines of_volume of_file (k + 1) content text × takes u text v)
+      → ((text : List ℕ) × ContentLines of_volume of_file of_leaf (k + 1) content text × takes u text v)
       → Leaves covers e (volumes_in_content content) f []
-      → Walked takes covers (files_lines of_volume of_file k) held_in_files fs (i + 1) a v d f
+      → Walked takes covers (files_lines of_volume of_file of_leaf k) held_in_files fs (i + 1) a v d f
   file_more {covers = covers} {fs = fs} {i = i} {x = x} {content = content} laws w l here is line inside rest = record {
-    text = one_more laws (FileLines of_volume of_file k i) (λ y text h. h) x _ inside.0 l here
-        (is_file of_volume of_file k i x content line.0 inside.0 is line.1 inside.1) w.text line.2 inside.2;
+    text = one_more laws (FileLines of_volume of_file of_leaf k i) (λ y text h. h) x _ inside.0 l here
+        (is_file of_volume of_file of_leaf k i x content line.0 inside.0 is line.1 inside.1) w.text line.2 inside.2;
     left = left_next covers _ _ _ (file_left covers _ fs i x content l here is w.left) rest;
   }

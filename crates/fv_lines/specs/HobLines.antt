@@ -51,7 +51,7 @@ hob_line code n word = codes "hob " ++ (four_digits code ++ (codes " length " ++
 abbrev pub consumed_line : ℕ → List ℕ
 consumed_line n = codes "consumed " ++ (decimal n ++ line_feed)
 
--- what is said of a volume, after a space
+-- what is said of a volume, after a space: `outside`, `volume` or `absent`
 abbrev pub standing_word : Standing → List ℕ
 standing_word Outside = codes " outside"
 standing_word Volume = codes " volume"
@@ -74,7 +74,7 @@ HobLines image [] text = text ≡ []
 HobLines image (h ∷ hs) text = (word : List ℕ) × (rest : List ℕ) × IsWord image h word
     × (text ≡ hob_line (hob_type h.kind) (hob_len h.kind) word ++ rest) × HobLines image hs rest
 
--- those lines, and how many bytes the list has
+-- the text of `hobs`: a line for each block, in order, and the line of how many bytes the list has
 abbrev pub HobsText : Option MappedForm → List HobForm → ℕ → List ℕ → Type 0
 HobsText image hobs consumed text =
     (lines : List ℕ) × HobLines image hobs lines × (text ≡ lines ++ consumed_line consumed)

@@ -1,5 +1,5 @@
 -- The text of `list`: a line for a volume, for each of its files and for each section of these, in order. What a part
--- holds follows its line, indented by two more spaces. The line of a volume and that of a file may end with a digest.
+-- holds follows its line, indented by two more spaces. The line of a volume, of a file and of a leaf may end with a digest.
 use Rattle.std.specs.Prelude.{◌≡◌, ◌≢◌, ◌⊎◌, ℕ, zero, suc, ◌+◌, ◌==◌, ◌&&◌, nat_le, not, Bool, true, false}
 use Rattle.std.specs.Prelude.{if◌then◌else◌, List, [], ◌∷◌, ◌++◌, length, Option, Some, None, codes, decimal}
 use Rattle.std.specs.List.{flat_map}
@@ -61,7 +61,7 @@ BodyShown kind (Nested _) text = text ≡ []
 
 -- ---- lines
 
--- two spaces for each level
+-- the indentation of a line: two spaces for each level
 abbrev pub spaces : ℕ → List ℕ
 spaces zero = []
 spaces (suc k) = codes "  " ++ spaces k
@@ -98,73 +98,83 @@ abbrev pub form_text : Bool → List ℕ
 form_text true = codes " extended body "
 form_text false = codes " short body "
 
-abbrev pub section_text : ℕ → ℕ → SectionMeaning → List ℕ → List ℕ
-section_text k j s shown =
+abbrev pub section_text : ℕ → ℕ → SectionMeaning → List ℕ → Option (List ℕ) → List ℕ
+section_text k j s shown digest =
     spaces k ++ (codes "section " ++ (decimal j ++ (codes " type " ++ (two_digits (section_kind_of s)
-    ++ (form_text (section_is_extended s) ++ (decimal (body_len (body_of s)) ++ (shown ++ line_feed)))))))
+    ++ (form_text (section_is_extended s) ++ (decimal (body_len (body_of s))
+    ++ (shown ++ (digest_text digest ++ line_feed))))))))
 
 -- ---- the walk
 
--- `of_volume m digest` says which digest the line of a volume shows, or that it shows none; `of_file f digest` the same
--- of the line of a file
-abbrev mutual
-  -- the line of a volume, indented by k levels, and the lines of its files
-  pub VolumeLines : (Meaning → Option (List ℕ) → Type 0) → (FileMeaning → Option (List ℕ) → Type 0) → ℕ → Meaning
-      → List ℕ → Type 0
-  VolumeLines of_volume of_file k (Volume head files) text =
-      (digest : Option (List ℕ)) × (rest : List ℕ) × of_volume (Volume head files) digest
-      × (text ≡ volume_text k (Volume head files) digest ++ rest) × FilesLines of_volume of_file (k + 1) 0 files rest
-
-  -- the lines of files, the first of which is number i
-  pub FilesLines : (Meaning → Option (List ℕ) → Type 0) → (FileMeaning → Option (List ℕ) → Type 0) → ℕ → ℕ
-      → FileMeanings → List ℕ → Type 0
-  FilesLines of_volume of_file k i NoFiles text = text ≡ []
-  FilesLines of_volume of_file k i (MoreFiles f files) text =
-      (here : List ℕ) × (rest : List ℕ) × (text ≡ here ++ rest) × FileLines of_volume of_file k i f here
-      × FilesLines of_volume of_file k (i + 1) files rest
-
-  -- the line of a file, and those of its sections, if it holds any
-  pub FileLines : (Meaning → Option (List ℕ) → Type 0) → (FileMeaning → Option (List ℕ) → Type 0) → ℕ → ℕ
-      → FileMeaning → List ℕ → Type 0
-  FileLines of_volume of_file k i (File name kind attributes content) text =
-      (digest : Option (List ℕ)) × (rest : List ℕ) × of_file (File name kind attributes content) digest
-      × (text ≡ file_text k i (File name kind attributes content) digest ++ rest)
-      × ContentLines of_volume of_file (k + 1) content rest
-
-  pub ContentLines : (Meaning → Option (List ℕ) → Type 0) → (FileMeaning → Option (List ℕ) → Type 0) → ℕ
-      → ContentMeaning → List ℕ → Type 0
-  ContentLines of_volume of_file k (Plain b) text = text ≡ []
-  ContentLines of_volume of_file k (Sectioned sections tail) text = SectionsLines of_volume of_file k 0 sections text
-
-  -- the lines of sections, the first of which is number j
-  pub SectionsLines : (Meaning → Option (List ℕ) → Type 0) → (FileMeaning → Option (List ℕ) → Type 0) → ℕ → ℕ
-      → SectionMeanings → List ℕ → Type 0
-  SectionsLines of_volume of_file k j NoSections text = text ≡ []
-  SectionsLines of_volume of_file k j (MoreSections s sections) text =
-      (here : List ℕ) × (rest : List ℕ) × (text ≡ here ++ rest) × SectionLines of_volume of_file k j s here
-      × SectionsLines of_volume of_file k (j + 1) sections rest
-
-  -- the line of a section, and those of what it holds, if it is no leaf
-  pub SectionLines : (Meaning → Option (List ℕ) → Type 0) → (FileMeaning → Option (List ℕ) → Type 0) → ℕ → ℕ
-      → SectionMeaning → List ℕ → Type 0
-  SectionLines of_volume of_file k j (Section kind extended body) text =
-      (shown : List ℕ) × (rest : List ℕ) × BodyShown kind body shown
-      × (text ≡ section_text k j (Section kind extended body) shown ++ rest)
-      × BodyLines of_volume of_file (k + 1) body rest
-
-  pub BodyLines : (Meaning → Option (List ℕ) → Type 0) → (FileMeaning → Option (List ℕ) → Type 0) → ℕ → BodyMeaning
-      → List ℕ → Type 0
-  BodyLines of_volume of_file k (Leaf b) text = text ≡ []
-  BodyLines of_volume of_file k (Group sections tail) text = SectionsLines of_volume of_file k 0 sections text
-  BodyLines of_volume of_file k (Nested volume) text = VolumeLines of_volume of_file k volume text
+-- which digest the line of such a part shows, or that it shows none
+abbrev pub DigestOf : Type 0 → Type 1
+DigestOf A = A → Option (List ℕ) → Type 0
 
 -- no digest is shown of this
-abbrev pub NoDigest : {A : Type 0} → A → Option (List ℕ) → Type 0
+abbrev pub NoDigest : {A : Type 0} → DigestOf A
 NoDigest x digest = digest ≡ None
+
+-- the digest in the line of a section: that of its bytes, if it is a leaf
+abbrev pub BodyDigest : DigestOf (List ℕ) → DigestOf BodyMeaning
+BodyDigest of_leaf (Leaf b) digest = of_leaf b digest
+BodyDigest of_leaf (Group _ _) digest = digest ≡ None
+BodyDigest of_leaf (Nested _) digest = digest ≡ None
+
+abbrev mutual
+  -- the line of a volume, indented by k levels, and those of all that it holds. The three relations say which digest
+  -- the line of a volume, of a file and of a leaf shows, or that it shows none
+  pub VolumeLines : DigestOf Meaning → DigestOf FileMeaning → DigestOf (List ℕ) → ℕ → Meaning
+      → List ℕ → Type 0
+  VolumeLines of_volume of_file of_leaf k (Volume head files) text =
+      (digest : Option (List ℕ)) × (rest : List ℕ) × of_volume (Volume head files) digest
+      × (text ≡ volume_text k (Volume head files) digest ++ rest) × FilesLines of_volume of_file of_leaf (k + 1) 0 files rest
+
+  -- the lines of files, the first of which is number i
+  pub FilesLines : DigestOf Meaning → DigestOf FileMeaning → DigestOf (List ℕ) → ℕ → ℕ
+      → FileMeanings → List ℕ → Type 0
+  FilesLines of_volume of_file of_leaf k i NoFiles text = text ≡ []
+  FilesLines of_volume of_file of_leaf k i (MoreFiles f files) text =
+      (here : List ℕ) × (rest : List ℕ) × (text ≡ here ++ rest) × FileLines of_volume of_file of_leaf k i f here
+      × FilesLines of_volume of_file of_leaf k (i + 1) files rest
+
+  -- the line of a file, and those of its sections, if it holds any
+  pub FileLines : DigestOf Meaning → DigestOf FileMeaning → DigestOf (List ℕ) → ℕ → ℕ
+      → FileMeaning → List ℕ → Type 0
+  FileLines of_volume of_file of_leaf k i (File name kind attributes content) text =
+      (digest : Option (List ℕ)) × (rest : List ℕ) × of_file (File name kind attributes content) digest
+      × (text ≡ file_text k i (File name kind attributes content) digest ++ rest)
+      × ContentLines of_volume of_file of_leaf (k + 1) content rest
+
+  pub ContentLines : DigestOf Meaning → DigestOf FileMeaning → DigestOf (List ℕ) → ℕ
+      → ContentMeaning → List ℕ → Type 0
+  ContentLines of_volume of_file of_leaf k (Plain b) text = text ≡ []
+  ContentLines of_volume of_file of_leaf k (Sectioned sections tail) text = SectionsLines of_volume of_file of_leaf k 0 sections text
+
+  -- the lines of sections, the first of which is number j
+  pub SectionsLines : DigestOf Meaning → DigestOf FileMeaning → DigestOf (List ℕ) → ℕ → ℕ
+      → SectionMeanings → List ℕ → Type 0
+  SectionsLines of_volume of_file of_leaf k j NoSections text = text ≡ []
+  SectionsLines of_volume of_file of_leaf k j (MoreSections s sections) text =
+      (here : List ℕ) × (rest : List ℕ) × (text ≡ here ++ rest) × SectionLines of_volume of_file of_leaf k j s here
+      × SectionsLines of_volume of_file of_leaf k (j + 1) sections rest
+
+  -- the line of a section, and those of what it holds, if it is no leaf
+  pub SectionLines : DigestOf Meaning → DigestOf FileMeaning → DigestOf (List ℕ) → ℕ → ℕ
+      → SectionMeaning → List ℕ → Type 0
+  SectionLines of_volume of_file of_leaf k j (Section kind extended body) text =
+      (shown : List ℕ) × (digest : Option (List ℕ)) × (rest : List ℕ) × BodyShown kind body shown
+      × BodyDigest of_leaf body digest × (text ≡ section_text k j (Section kind extended body) shown digest ++ rest)
+      × BodyLines of_volume of_file of_leaf (k + 1) body rest
+
+  pub BodyLines : DigestOf Meaning → DigestOf FileMeaning → DigestOf (List ℕ) → ℕ → BodyMeaning
+      → List ℕ → Type 0
+  BodyLines of_volume of_file of_leaf k (Leaf b) text = text ≡ []
+  BodyLines of_volume of_file of_leaf k (Group sections tail) text = SectionsLines of_volume of_file of_leaf k 0 sections text
+  BodyLines of_volume of_file of_leaf k (Nested volume) text = VolumeLines of_volume of_file of_leaf k volume text
 
 -- the text of `list` for a volume with this meaning
 abbrev pub ListText : Meaning → List ℕ → Type 0
-ListText m text = VolumeLines NoDigest NoDigest 0 m text
+ListText m text = VolumeLines NoDigest NoDigest NoDigest 0 m text
 
 -- `covers d vs`: in the state d the digests of these volumes, and of the files in them, are at hand. Then those of the
 -- first volumes are, too, however deep these are nested

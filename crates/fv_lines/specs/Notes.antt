@@ -98,7 +98,7 @@ AreNotes (x ∷ xs) notes =
     (IsSpelled x × AreNotes xs notes)
     ⊎ ((note : DepexNote) × (rest : List DepexNote) × IsNoted x note × (notes ≡ note ∷ rest) × AreNotes xs rest)
 
--- the line of a note
+-- the line of a note, and those of some notes
 abbrev pub depex_line : DepexNote → List ℕ
 depex_line note =
     codes "note depex in " ++ (guid_text (bytes_of note.name)
@@ -109,7 +109,7 @@ depex_lines notes = flat_map depex_line notes
 
 -- ---- the verdict
 
--- whether a volume is its own canonical image
+-- whether a volume is its own canonical image: `canonical` or `not canonical`
 abbrev pub verdict_line : Bool → List ℕ
 verdict_line true = codes "canonical" ++ line_feed
 verdict_line false = codes "not canonical" ++ line_feed

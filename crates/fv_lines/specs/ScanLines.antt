@@ -1,11 +1,15 @@
--- The text of `scan`.
+-- The text of `scan`, and the beginning of a line of `check --all`.
 use Rattle.std.specs.Prelude.{◌≡◌, ℕ, List, [], ◌∷◌, ◌++◌, codes, decimal}
 use Rattle.fv_text.specs.Words.{line_feed}
 use Rattle.fv_flash.specs.Words.{VolumeAt}
 
--- the line of a volume of n bytes that begins at an offset
+-- the place of a volume of n bytes that begins at an offset
+abbrev pub volume_place : ℕ → ℕ → List ℕ
+volume_place at n = codes "volume at " ++ (decimal at ++ (codes " length " ++ decimal n))
+
+-- its line
 abbrev pub volume_line : ℕ → ℕ → List ℕ
-volume_line at n = codes "volume at " ++ (decimal at ++ (codes " length " ++ (decimal n ++ line_feed)))
+volume_line at n = volume_place at n ++ line_feed
 
 -- the text of the volumes that begin at these offsets of b: a line for each, in order
 abbrev pub ScanText : List ℕ → List ℕ → List ℕ → Type 0

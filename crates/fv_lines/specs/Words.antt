@@ -1,5 +1,5 @@
 -- The door of this crate: all that its specs define for other crates.
-pub use Rattle.fv_lines.specs.ScanLines.{volume_line, ScanText}
+pub use Rattle.fv_lines.specs.ScanLines.{volume_place, volume_line, ScanText}
 pub use Rattle.fv_lines.specs.HobLines.{IsMapped, bytes_in_span, IsWholeVolume, IsStanding, MappedForm, held_image}
 pub use Rattle.fv_lines.specs.HobLines.{image_form, hob_line, consumed_line, standing_word, IsSpanWord, IsWord}
 pub use Rattle.fv_lines.specs.HobLines.{HobLines, HobsText}
@@ -12,4 +12,5 @@ pub use Rattle.fv_lines.specs.Notes.{IsNoted, AreNotes, depex_line, depex_lines,
 pub use Rattle.fv_lines.specs.ListTexts.{is_plain, unit_text, Shows, VersionText, InterfaceText, SubtypeText, LeafText}
 pub use Rattle.fv_lines.specs.ListTexts.{BodyShown, spaces, digest_text, system_text, name_text, volume_text, file_text}
 pub use Rattle.fv_lines.specs.ListTexts.{form_text, section_text, VolumeLines, FilesLines, FileLines, ContentLines}
-pub use Rattle.fv_lines.specs.ListTexts.{SectionsLines, SectionLines, BodyLines, NoDigest, ListText, CoverLaws, Leaves}
+pub use Rattle.fv_lines.specs.ListTexts.{SectionsLines, SectionLines, BodyLines, DigestOf, NoDigest, BodyDigest, ListText}
+pub use Rattle.fv_lines.specs.ListTexts.{CoverLaws, Leaves}

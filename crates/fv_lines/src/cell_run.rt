@@ -1,7 +1,7 @@
 //! Where the cells of a volume lie.
 
 ghost use Rattle.std.specs.Prelude.{◌≡◌, ◌⊎◌, ℕ, List, IfErr, OnErr, OnOk};
-ghost use Rattle.fv_base.specs.Words.{out_of_memory};
+ghost use Rattle.fv_base.specs.Words.{OrMemory, out_of_memory};
 ghost use Rattle.fv_lines.specs.CellTexts.{CellsText};
 ghost use Rattle.fv_tree.specs.Words.{NotTiled};
 
@@ -17,8 +17,13 @@ use std::alloc::Global;
 ///
 /// Those of `fv_tree::volume_cells`. Nothing was put then.
 pub fn put_cells<S: Sink>(alloc: Global, input: &[u8], out: &mut S) -> Result<(), Fault>
+    // The sink has taken the text of `cells`.
     ensures ok { OnOk result ((text : List ℕ) × CellsText input.now text × S.takes out.old text out.new) }
-    ensures err { IfErr result (λ f. (f ≡ out_of_memory) ⊎ NotTiled input.now f) }
+
+    // Any error other than OutOfMemory is the first fault of the header or of a cell.
+    ensures err { IfErr result (OrMemory (NotTiled input.now)) }
+
+    // After an error the sink is as it was.
     ensures untouched { OnErr result (out.new ≡ out.old) }
 {
     let (extent, list) = volume_cells(alloc, input)?;

@@ -23,5 +23,5 @@ pub use digests::{Digests, NoDigests};
 pub use hob_text::{MappedImage, Standing, put_hobs, standing_of};
 pub use list_text::{put_list, put_list_with};
 pub use pad_notes::put_pad_notes;
-pub use scan_text::put_volumes;
+pub use scan_text::{put_volume_place, put_volumes};
 pub use verdict_text::put_verdict;

@@ -5,7 +5,7 @@ ghost use Rattle.fv_tree.specs.Words.{content_of, files_from, sections_from, sec
 ghost use Rattle.fv_tree.specs.Words.{content_view, volumes_in, volumes_in_body, volumes_in_content, volumes_in_files};
 ghost use Rattle.fv_tree.specs.Words.{volumes_in_sections};
 ghost use Rattle.fv_lines.specs.ListTexts.{Leaves, form_text, system_text, name_text, volume_text, file_text};
-ghost use Rattle.fv_lines.specs.ListTexts.{section_text, BodyShown, ListText, VolumeLines, FilesLines, ContentLines};
+ghost use Rattle.fv_lines.specs.ListTexts.{section_text, BodyShown, BodyDigest, ListText, VolumeLines, FilesLines, ContentLines};
 ghost use Rattle.fv_lines.specs.ListTexts.{SectionsLines, BodyLines};
 ghost use Rattle.fv_lines.specs.inner.LineRuns.{levels};
 
@@ -29,15 +29,28 @@ fn form_words(is_extended: bool) -> &'static [u8]
     }
 }
 
+// The digest that the line of a section shows: that of its body, if it is a leaf.
+fn section_digest<D: Digests>(section: &SectionView<'_>, digests: &D) -> Option<[u8; 32]>
+    ensures { BodyDigest D.of_leaf (body_of section.now) result }
+{
+    match section.body() {
+        Body::Leaf(bytes) => digests.leaf_digest(bytes),
+        _ => None,
+    }
+}
+
 // Puts the line of a section, which has this number in its stream.
-fn put_section_line<S: Sink>(
+fn put_section_line<S: Sink, D: Digests>(
     out: &mut S,
     section: &SectionView<'_>,
     number: u64,
     indent: &Indent<'_>,
+    digests: &D,
 )
-    ensures { (shown : List ℕ) × BodyShown (section_kind_of section.now) (body_of section.now) shown
-        × S.takes out.old (section_text (levels indent.now) number section.now shown) out.new }
+    ensures { (shown : List ℕ) × (digest : Option (List ℕ))
+        × BodyShown (section_kind_of section.now) (body_of section.now) shown
+        × BodyDigest D.of_leaf (body_of section.now) digest
+        × S.takes out.old (section_text (levels indent.now) number section.now shown digest) out.new }
 {
     put_indent(out, indent);
     out.put(b"section ");
@@ -47,6 +60,7 @@ fn put_section_line<S: Sink>(
     out.put(form_words(section.extended()));
     put_decimal(out, section.body_len());
     put_section_body(out, section);
+    put_digest(out, section_digest(section, digests));
     out.put(b"\n");
 }
 
@@ -78,7 +92,7 @@ fn put_file_line<S: Sink, D: Digests>(
 }
 
 // Puts the name of a volume, if its header has one.
-fn put_name<S: Sink>(out: &mut S, head: &VolumeHead)
+fn put_name<S: Sink>(out: &mut S, head: &VolumeHead<'_>)
     ensures { S.takes out.old (name_text head.now.ext) out.new }
 {
     match head.ext() {
@@ -133,14 +147,14 @@ fn put_sections<S: Sink, D: Digests>(
 ) -> D
     requires covered { D.covers digests (volumes_in_sections (sections_from sections.now)) }
     ensures text { (text : List ℕ)
-        × SectionsLines D.of_volume D.of_file (levels indent.now) 0 (sections_from sections.now) text
+        × SectionsLines D.of_volume D.of_file D.of_leaf (levels indent.now) 0 (sections_from sections.now) text
         × S.takes out.old text out.new }
     ensures rest { Leaves D.covers digests (volumes_in_sections (sections_from sections.now)) result [] }
 {
     let further = Indent::Inside(&*indent);
     let mut left = digests;
     for (number, section) in sections.iter().enumerate() {
-        put_section_line(out, section, number as u64, indent);
+        put_section_line(out, section, number as u64, indent, &left);
         left = put_body(out, section.body(), &further, left);
     }
     left
@@ -156,7 +170,7 @@ fn put_body<S: Sink, D: Digests>(
 ) -> D
     requires covered { D.covers digests (volumes_in_body (body_view body)) }
     ensures text { (text : List ℕ)
-        × BodyLines D.of_volume D.of_file (levels indent.now) (body_view body.entry) text
+        × BodyLines D.of_volume D.of_file D.of_leaf (levels indent.now) (body_view body.entry) text
         × S.takes out.old text out.new }
     ensures rest { Leaves D.covers digests (volumes_in_body (body_view body.entry)) result [] }
 {
@@ -177,7 +191,7 @@ fn put_content<S: Sink, D: Digests>(
 ) -> D
     requires covered { D.covers digests (volumes_in_content (content_view content.now)) }
     ensures text { (text : List ℕ)
-        × ContentLines D.of_volume D.of_file (levels indent.now) (content_view content.now) text
+        × ContentLines D.of_volume D.of_file D.of_leaf (levels indent.now) (content_view content.now) text
         × S.takes out.old text out.new }
     ensures rest { Leaves D.covers digests (volumes_in_content (content_view content.now)) result [] }
 {
@@ -199,7 +213,7 @@ fn put_files<S: Sink, D: Digests>(
 ) -> D
     requires covered { D.covers digests (volumes_in_files (files_from files.now)) }
     ensures text { (text : List ℕ)
-        × FilesLines D.of_volume D.of_file (levels indent.now) 0 (files_from files.now) text
+        × FilesLines D.of_volume D.of_file D.of_leaf (levels indent.now) 0 (files_from files.now) text
         × S.takes out.old text out.new }
     ensures rest { Leaves D.covers digests (volumes_in_files (files_from files.now)) result [] }
 {
@@ -221,7 +235,7 @@ fn put_volume<S: Sink, D: Digests>(
     digests: D,
 ) -> D
     requires covered { D.covers digests (volumes_in volume.now) }
-    ensures text { (text : List ℕ) × VolumeLines D.of_volume D.of_file (levels indent.now) volume.now text
+    ensures text { (text : List ℕ) × VolumeLines D.of_volume D.of_file D.of_leaf (levels indent.now) volume.now text
         × S.takes out.old text out.new }
     ensures rest { Leaves D.covers digests (volumes_in volume.now) result [] }
 {
@@ -230,12 +244,13 @@ fn put_volume<S: Sink, D: Digests>(
     put_files(out, volume.files(), &further, digests.inside(volume))
 }
 
-/// Puts a line for the volume, for each of its files and for each section in these, and likewise for
-/// what groups and nested volumes hold. The line of a volume and that of a file end with their
-/// digest, if there is one. (PI specification, volume 3, section 3.2.)
+/// Puts a line for the volume, for each of its files and for each section in these, and likewise
+/// for what groups and nested volumes hold. The line of a volume and that of a file end with their
+/// digest, if there is one. The digests of the volume, of what is in it and of their files are at
+/// hand. Takes no memory. (PI specification, volume 3, section 3.2.)
 pub fn put_list_with<S: Sink, D: Digests>(volume: &VolumeView<'_>, digests: D, out: &mut S)
     requires { D.covers digests (volumes_in volume.now) }
-    ensures { (text : List ℕ) × VolumeLines D.of_volume D.of_file 0 volume.now text × S.takes out.old text out.new }
+    ensures { (text : List ℕ) × VolumeLines D.of_volume D.of_file D.of_leaf 0 volume.now text × S.takes out.old text out.new }
 {
     put_volume(out, volume, &Indent::Margin, digests);
 }

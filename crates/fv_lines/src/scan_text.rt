@@ -1,22 +1,30 @@
-//! The volumes that a scan found.
+//! The volumes that a scan found, and where a volume of an image is.
 
 ghost use Rattle.std.specs.Prelude.{ℕ, List};
 ghost use Rattle.fv_flash.specs.Words.{Found};
-ghost use Rattle.fv_lines.specs.ScanLines.{ScanText, volume_line};
+ghost use Rattle.fv_lines.specs.ScanLines.{ScanText, volume_line, volume_place};
 
 use fv_base::Sink;
 use fv_base::field::bytes_from;
 use fv_head::verify_fv;
 use fv_text::put_decimal;
 
-// Puts the line of a volume that a scan found.
-fn put_found<S: Sink>(out: &mut S, offset: u64, length: u64)
-    ensures { S.takes out.old (volume_line offset length) out.new }
+/// Puts where a volume of an image begins, in bytes from the first of the image, and how many bytes
+/// it has. No line feed follows.
+pub fn put_volume_place<S: Sink>(out: &mut S, offset: u64, length: u64)
+    ensures { S.takes out.old (volume_place offset length) out.new }
 {
     out.put(b"volume at ");
     put_decimal(out, offset);
     out.put(b" length ");
     put_decimal(out, length);
+}
+
+// Puts the line of a volume that a scan found.
+fn put_found<S: Sink>(out: &mut S, offset: u64, length: u64)
+    ensures { S.takes out.old (volume_line offset length) out.new }
+{
+    put_volume_place(out, offset, length);
     out.put(b"\n");
 }
 

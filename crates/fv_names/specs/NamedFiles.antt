@@ -1,5 +1,5 @@
 -- Files by their names and marks: which of them have the same name (PI specification, volume 3, sections 3.2.2 and
--- 3.2.3).
+-- 3.2.3). The definitions of the same names in VolumeFiles of fv_tree say it of files as they are in their volume.
 use Rattle.std.specs.Prelude.{◌≡◌, ◌&&◌, not, Bool, false, List, [], ◌∷◌, map}
 use Rattle.std.specs.Bool.{beq}
 use Rattle.std.specs.List.{list_any}

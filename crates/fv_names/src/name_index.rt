@@ -140,7 +140,11 @@ impl NameIndex {
     /// OutOfMemory at 0.
     pub fn of<F: Named>(alloc: Global, files: &[F]) -> Result<NameIndex, Fault>
         requires { length files.now < 2 ^ 32 }
+
+        // The entries are the names of the files with their numbers, in the order of the names.
         ensures found { IfOk result (λ index. IsIndex (names_in (map F.named files.now)) (entries_of index)) }
+
+        // The only error is OutOfMemory.
         ensures err { IfErr result (λ f. f ≡ out_of_memory) }
     {
         let packing = Packing::of(files.len());
@@ -162,7 +166,7 @@ impl NameIndex {
     }
 
     /// The number of the file whose name is at this place. Places are counted from 0, in the order
-    /// of the names.
+    /// of the names. The place is that of an entry.
     pub fn number_at(&self, place: usize) -> u32
         requires { place < length (entries_of self.now) }
         ensures { (e : Entry) → result ≡ (get_or (entries_of self.now) place e).1 }
@@ -170,7 +174,7 @@ impl NameIndex {
         self.sorted[place].1
     }
 
-    /// Whether no two of the files have the same name.
+    /// Whether no two of the files have the same name. The entries are sorted.
     pub fn are_distinct(&self) -> bool
         requires { IsSorted entry_cmp (entries_of self.now) }
         ensures distinct { IsTrue result → AllApart (entries_of self.now) }
@@ -234,7 +238,7 @@ impl NameIndex {
 
     /// Whether one of the files replaces the one whose name is at this place: this one is marked
     /// for update, and the other has the same name and is not. The index is that of these files,
-    /// and no two of them are twins.
+    /// and no two of them are twins. The place is that of an entry.
     pub fn is_replaced<F: Named>(&self, files: &[F], place: usize) -> bool
         requires index { IsIndex (names_in (map F.named files.now)) (entries_of self.now) }
         requires apart { NoTwins (map F.named files.now) }

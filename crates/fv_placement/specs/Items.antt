@@ -3,7 +3,8 @@ use Rattle.std.specs.Prelude.{◌≡◌, ℕ, ◌%◌, ◌≤◌}
 use Rattle.fv_base.specs.Words.{IsAlignment}
 use Rattle.fv_placement.specs.declared.first_placement.LayoutItem.{LayoutItem}
 
--- what the layout of a volume of `total` bytes knows of a file
+-- a file that may be in a volume of `total` bytes: its header has a multiple of 8 bytes and is within it, it is no
+-- longer than the volume, and its alignment is one
 pub record IsLawfulItem (total : ℕ) (f : LayoutItem) : Type 0 where
   pub header : f.header % 8 ≡ 0
   pub holds : f.header ≤ f.size

@@ -4,12 +4,13 @@ use Rattle.std.specs.Prelude.{◌≢◌, ℕ, ◌+◌, ◌-◌, ◌%◌, ◌⊎�
 use Rattle.fv_placement.specs.Starts.{Placement}
 use Rattle.fv_placement.specs.declared.first_placement.LayoutItem.{LayoutItem}
 
--- the volume top file has only one possible start, with which it ends at the volume's end: there its data are not
--- aligned, or the start is not a multiple of 8
+-- the volume top file has only one possible start, with which it ends at the volume's end (0, if it is longer): there
+-- its data are not aligned, or the start is not a multiple of 8
 abbrev pub IsOff : ℕ → LayoutItem → Type 0
 IsOff total f = ((total - f.size + f.header) % f.alignment ≢ 0) ⊎ ((total - f.size) % 8 ≢ 0)
 
--- the volume top file, if there is one, is so
+-- the volume top file, if there is one, is off at its only possible start: its data are not aligned there, or the start
+-- is not a multiple of 8
 abbrev pub TopOff : ℕ → List LayoutItem → Type 0
 TopOff total [] = ⊥
 TopOff total (f ∷ fs) = (IsTrue f.top × IsOff total f) ⊎ TopOff total fs

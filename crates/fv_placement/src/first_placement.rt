@@ -65,8 +65,13 @@ pub fn first_starts(
     requires total { (total ≤ volume_limit) × (total % 8 ≡ 0) }
     requires first { (first % 8 ≡ 0) × (first < 2 ^ 32) }
     requires items { All (IsLawfulItem total) items.now }
+
+    // They are the first placement of the files.
     ensures found { IfOk result (λ o. IfSome o (λ starts. IsFirstPlacement total first items.now starts.items)) }
+
+    // None is returned only if the files have no placement at all.
     ensures none { IfOk result (λ o. IfNone o ((starts : List ℕ) → Placement total first items.now starts → ⊥)) }
+
     ensures err { IfErr result (λ f. f ≡ out_of_memory) }
     ensures some { IfErr result (λ _. 0 < length items.now) }
 {

@@ -57,6 +57,8 @@ pub enum Task {
     Extract(Part),
     /// Say whether a volume is its own canonical image, and what in it deserves a note.
     Check,
+    /// Say of each volume of an image whether it is its own canonical image, or its fault.
+    CheckAll,
     /// List the cells of a volume, and where they lie.
     Cells,
     /// Find the volumes in some bytes.

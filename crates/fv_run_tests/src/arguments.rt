@@ -77,6 +77,7 @@ fn plans() -> &'static str {
     fv compare a.txt --hex b.txt: Plan { hex: true, command: Compare { first: VolumeFile { path: \"a.txt\", at: \
         None }, second: VolumeFile { path: \"b.txt\", at: None } } }\n\
     fv check: Plan { hex: false, command: Single { task: Check, at: None, file: None } }\n\
+    fv check --all a.bin: Plan { hex: false, command: Single { task: CheckAll, at: None, file: Some(\"a.bin\") } }\n\
     fv check --hex a.txt: Plan { hex: true, command: Single { task: Check, at: None, file: Some(\"a.txt\") } }\n\
     fv list -- --hex: Plan { hex: false, command: Single { task: List, at: None, file: Some(\"--hex\") } }\n\
     fv list -: Plan { hex: false, command: Single { task: List, at: None, file: Some(\"-\") } }\n\

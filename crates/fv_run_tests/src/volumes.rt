@@ -43,13 +43,14 @@ pub(crate) fn parts() -> &'static str {
     "
 }
 
-/// Volumes, one that is rejected, and a hand-off list. After an arrow are the words of a volume's
+/// Volumes, two of them rejected, and a hand-off list. After an arrow are the words of a volume's
 /// image, if it is another volume, or the line of the fault.
 pub(crate) fn volumes() -> &'static str {
     "\
     empty: H128 ff*56\n\
     ext-header-image: 00*16 78e58c8c3d8a1c4f9935896185c32dd3c0 00*7 5f465648fffe04004800eef46000000201000000c0 \
         00*11 ff*16 ecaaf000340000f8 0e*16 1c0000000800030098000000ffffffff 0a*16 47aa0100180000f8 ff*40\n\
+    file-state-bit: H128 0a*16 47aa0100180000b8 ff*32 -> fault 10 at 95\n\
     file-sum-zero-data: H128 0a*16 07000140180000f8 ff*32\n\
     file-without-data: H128 0a*16 47aa0100180000f8 ff*32\n\
     filler-zero: H128 0a*16 46aa0100190000f85a 00*7 ff*24 -> filler-erased\n\

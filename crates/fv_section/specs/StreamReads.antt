@@ -12,7 +12,7 @@ use Rattle.fv_section.specs.FrameChecks.{has_extended_size, section_header_len_a
 abbrev pub frame_form : Frame → FrameForm
 frame_form f = record { offset = f.offset; kind = f.kind; extended = f.extended; body = f.body.now }
 
--- the header of this frame is at the offset `at` of b
+-- this frame, its header and its body, is in b at the offset `at`
 pub record FrameStandsAt (f : FrameForm) (at : ℕ) (b : List ℕ) : Type 0 where
   pub offset : f.offset ≡ at
   pub inside : at < length b

@@ -144,6 +144,8 @@ pub fn next_frame(stream: &[u8], at: u64) -> Result<Option<Frame<'_>>, Fault>
 
     // An error names the first check that does not hold.
     ensures first { IfErr result (IsFirstFault (frame_checks at (drop at stream.now))) }
+
+    // It is at `at`, which is within the stream.
     ensures place { IfErr result (λ e. (e.place.offset ≡ at) × (at < length stream.now)) }
 {
     if at >= stream.len() as u64 {

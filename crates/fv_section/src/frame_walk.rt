@@ -101,6 +101,8 @@ impl<'a> FrameWalk<'a> {
 
         // An error names the first check that does not hold, where no frame begins.
         ensures first { IfErr result (IsFirstFrameFault stream.now) }
+
+        // The fault is within the stream.
         ensures bound { IfErr result (λ f. f.place.offset ≤ length stream.now) }
     {
         let (left, tail) = stream_size(stream)?;
@@ -115,6 +117,8 @@ impl<'a> FrameWalk<'a> {
     /// The next frame, or None after the last. It was checked when the walk began, so this cannot
     /// fail. Takes no memory. (PI specification, volume 3, section 3.2.4.)
     pub fn next_frame(&mut self) -> Option<Frame<'a>>
+        // It is the first of the frames that were left, and the others are left now; None is
+        // returned only if none was left. The tail stays as it was.
         ensures some { IfSome result (λ f. self.old.0 ≡ frame_form f ∷ self.new.0) }
         ensures none { IfNone result ((self.old.0 ≡ []) × (self.new.0 ≡ [])) }
         ensures tail { self.new.1 ≡ self.old.1 }
@@ -143,6 +147,7 @@ impl<'a> FrameWalk<'a> {
     }
 }
 
+/// An iterator, whose `next` is `next_frame`.
 impl<'a> Iterator for FrameWalk<'a> {
     type Item = Frame<'a>;
 

@@ -34,7 +34,8 @@ DigitsSpell (h ∷ l ∷ ds) bytes =
 abbrev pub text_limit : ℕ
 text_limit = 1073741824
 
--- hexadecimal text was read to its end, and it spells the input
+-- hexadecimal text of at most `text_limit` bytes was read to its end; its digits spell the input, which is no longer
+-- than a volume
 pub record SpellsWhole (old new : Option (List ℕ)) (input : List ℕ) : Type 0 where
   pub text : List ℕ
   pub gives : GivesAll old new text
@@ -50,7 +51,8 @@ IsNoText text = (bytes : List ℕ) → DigitsSpell (squeezed text) bytes → ⊥
 abbrev pub IsLongText : List ℕ → Type 0
 IsLongText text = (bytes : List ℕ) × DigitsSpell (squeezed text) bytes × (volume_limit < length bytes)
 
--- why a whole text spells no input
+-- why a whole text spells no input: ReadFault at 0, if it is no even number of digits; Length at the limit of a volume,
+-- if it spells more bytes
 abbrev pub RefusesText : List ℕ → Fault → Type 0
 RefusesText text fault =
     (IsNoText text × (fault ≡ outer_fault kinds.ReadFault 0))

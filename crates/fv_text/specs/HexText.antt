@@ -32,7 +32,8 @@ last_text (x ∷ b) = line_text (x ∷ b)
 abbrev pub IsWholeLine : List ℕ → Type 0
 IsWholeLine b = length b ≡ 32
 
--- the text has a line for every 32 of the bytes, and one for what is left
+-- the text has a line for every 32 of the bytes, of lower-case digits and a line feed, and one for what is left, if
+-- anything is
 pub record IsHexText (bytes text : List ℕ) : Type 0 where
   pub lines : List (List ℕ)
   pub last : List ℕ

@@ -91,6 +91,7 @@ impl<S: Sink> GatheringSink<S> {
     }
 }
 
+/// What it has put into the sink below, and what waits, are together what it took.
 impl<S: Sink> Sink for GatheringSink<S> {
     ghost takes = { GatheringTakes S.takes (λ s. s.below) (λ s. take s.filled s.room) };
 

@@ -98,6 +98,7 @@ impl<S: Sink> HexSink<S> {
     }
 }
 
+/// It puts the lines of all whole parts of 32 bytes of what it has and takes, and keeps the rest.
 impl<S: Sink> Sink for HexSink<S> {
     ghost takes = { HexTakes S.takes (λ s. s.below) (λ s. take s.filled s.line) };
 

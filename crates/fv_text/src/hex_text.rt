@@ -111,8 +111,11 @@ impl Collector for Decoder {
 /// is not an even number of digits; else Length at 268,435,456, if it spells more bytes.
 /// OutOfMemory.
 pub fn read_hex<R: Read>(alloc: Global, reader: &mut Port<R>) -> Result<Vec<u8>, Fault>
+    // Text was read to its end, at most 2 ^ 30 bytes. The input is what its digits spell in pairs,
+    // white space left out, and is no longer than a volume.
     ensures read { IfOk result (λ v. SpellsWhole (R.remaining (inner_of reader.old)) (R.remaining (inner_of reader.new))
         v.items) }
+
     ensures err { IfErr result (TextStops (R.remaining (inner_of reader.old)) (R.remaining (inner_of reader.new))
         (has_erred reader.new)) }
 {

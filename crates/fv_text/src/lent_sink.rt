@@ -23,6 +23,7 @@ impl<'a, S: Sink> LentSink<'a, S> {
     }
 }
 
+/// The sink that is lent takes the bytes.
 impl<'a, S: Sink> Sink for LentSink<'a, S> {
     ghost takes = { LentTakes S.takes (λ s. s.sink.now) (λ s. s.sink.ghost_name) };
 

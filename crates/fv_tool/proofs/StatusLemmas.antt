@@ -1,5 +1,5 @@
 -- How the run of a plan does not end, and what a new port shows.
-use Rattle.std.proofs.Common.{◌≡◌, ◌∙◌, ℕ, List, ap, Bool, false, inl, inr, subst, sym}
+use Rattle.std.proofs.Common.{◌≡◌, ◌∙◌, ℕ, List, ap, Bool, true, false, cond, inl, inr, subst, sym}
 use Rattle.std.specs.Prelude.{Option, None, Some}
 use Rattle.fv_base.specs.Words.{has_erred, inner_of}
 use Rattle.fv_base.specs.declared.port.Port.{Port}
@@ -10,19 +10,24 @@ use Rattle.fv_command.specs.declared.ending.Refusal.{Refusal}
 use Rattle.fv_command.specs.declared.extracting.Extraction.{Extraction}
 use Rattle.fv_command.specs.declared.status.Status.{Status}
 use Rattle.fv_command.specs.declared.extracting.Extraction.TheVariants.{Made, Stored, NotFound, NotSectioned}
-use Rattle.fv_command.specs.declared.status.Status.TheVariants.{Done, Different, Refused, WrongWords}
+use Rattle.fv_command.specs.declared.status.Status.TheVariants.{Done, Different, Faulty, Refused, WrongWords}
 use Rattle.fv_plan.specs.declared.plan.Command.{Command}
 use Rattle.fv_plan.specs.declared.plan.Plan.{Plan}
 use Rattle.fv_plan.specs.declared.plan.Task.{Task}
 use Rattle.fv_plan.specs.declared.plan.Command.TheVariants.{Single, Hobs, Compare}
 use Rattle.fv_plan.specs.declared.plan.Task.TheVariants.{Normalise, NormaliseAll, List as Listing, ListSums, Extract, Check}
-use Rattle.fv_plan.specs.declared.plan.Task.TheVariants.{Cells, Scan}
+use Rattle.fv_plan.specs.declared.plan.Task.TheVariants.{CheckAll, Cells, Scan}
 
 part_not_wrong : (hex : Bool) (x : Extraction) (text : List ℕ) → PartText hex x WrongWords text → ⊥
 part_not_wrong hex (Made bytes) text said = said
 part_not_wrong hex (Stored bytes) text said = said
 part_not_wrong hex NotFound text said = said
 part_not_wrong hex NotSectioned text said = said
+
+checks_not_wrong : (rejected another : Bool) → WrongWords ≡ cond rejected Faulty (cond another Different Done) → ⊥
+checks_not_wrong true another is = cc
+checks_not_wrong false true is = cc
+checks_not_wrong false false is = cc
 
 says_not_wrong : (task : Task) (hex : Bool) (input text : List ℕ) → Says task hex input WrongWords text → ⊥
 says_not_wrong Normalise hex input text said = said
@@ -31,6 +36,7 @@ says_not_wrong Listing hex input text said = said
 says_not_wrong ListSums hex input text said = said
 says_not_wrong (Extract part) hex input text (m, x, begins, is, said) = part_not_wrong hex x text said
 says_not_wrong Check hex input text said = said
+says_not_wrong CheckAll hex input text (checks, found, is, text_is) = checks_not_wrong _ _ is
 says_not_wrong Cells hex input text said = said
 says_not_wrong Scan hex input text said = said
 

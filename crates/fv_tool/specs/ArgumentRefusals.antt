@@ -11,17 +11,17 @@ use Rattle.fv_arguments.specs.declared.words.WordFault.{WordFault}
 use Rattle.fv_arguments.specs.declared.words.WordFault.TheVariants.{Words, OutOfMemory}
 use Rattle.fv_text.specs.Words.{Change}
 
--- the status that a rejection of the command line ends with, and the line that reports it
+-- the status that a rejection of the command line ends with: WrongWords or Refused
 abbrev pub status_of : WordFault → Status
 status_of Words = statuses.WrongWords
 status_of OutOfMemory = statuses.Refused
 
--- out of memory is reported as the fault OutOfMemory, number 24
+-- the line that reports the rejection: `wrong words`; or out of memory as the fault OutOfMemory, number 24
 abbrev pub line_of : WordFault → List ℕ
 line_of Words = codes "wrong words" ++ 10 ∷ []
 line_of OutOfMemory = numbered_line 24 0
 
--- the refusal that is returned with it: of wrong arguments there is none
+-- the refusal that is returned with the rejection: out of memory; of wrong arguments there is none
 abbrev pub refusal_of : WordFault → Option Refusal
 refusal_of Words = None
 refusal_of OutOfMemory = Some (Input out_of_memory)

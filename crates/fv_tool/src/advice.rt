@@ -11,7 +11,7 @@ pub const SYNOPSIS: &str = "\
     fvtool list [--sums] [--at N] [--hex] [FILE]\n\
     fvtool cells [--at N] [--hex] [FILE]\n\
     fvtool extract --name GUID [--section HH] [--instance N] [--at N] [--hex] [FILE]\n\
-    fvtool check [--at N] [--hex] [FILE]\n\
+    fvtool check [--at N | --all] [--hex] [FILE]\n\
     fvtool scan [--hex] [FILE]\n\
     fvtool compare [--at N] [--other-at N] [--hex] A B\n\
     fvtool hobs [--image IMG --base N] [--hex] [FILE]";
@@ -35,6 +35,7 @@ impl Advice {
         match ending.status {
             Status::Done => None,
             Status::Different => None,
+            Status::Faulty => None,
             Status::Refused => Some(match ending.refusal {
                 Some(refusal) => Advice::Refused(refusal),
                 None => Advice::NotWritten,

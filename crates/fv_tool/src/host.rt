@@ -69,6 +69,8 @@ impl<'r, R> Host<'r, R> {
     }
 }
 
+/// The files and the standard input of the process. No clause says what they are, since the
+/// standard library says nothing of them: each call is one of it.
 impl<'r, R: Files + Input> Opener for Host<'r, R> {
     type File = R::File;
 
@@ -98,6 +100,8 @@ impl<'r, R: Files + Input> Opener for Host<'r, R> {
     }
 }
 
+/// The arguments and the standard output of the process. No clause says what they are, since the
+/// standard library says nothing of them: each call is one of it.
 impl<'r, R: Env + Print + AllocGlobal> Process for Host<'r, R> {
     type Writer = Printer<'r, R>;
 

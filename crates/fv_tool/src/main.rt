@@ -1,5 +1,8 @@
 //! The program `fvtool`: does what a command says with firmware volumes and hand-off lists, and
 //! reports the outcome by its exit status.
+//!
+//! Only tests show what the standard library says nothing of: that its calls give the arguments of
+//! the process, the file at a path and the standard streams, and set the exit status.
 #![tactic(auto)]
 
 ghost use Rattle.fv_text.specs.Words.{Writes, change, seen, shown};
@@ -24,7 +27,7 @@ use std::env::Args;
 use std::io::Write;
 use std::process::ExitCode;
 
-// The arguments in order.
+// The arguments in order. Out of memory is never reported as wrong arguments.
 fn collected(alloc: Global, arguments: Args) -> Result<Vec<String>, WordFault>
     ensures ok { IfOk result (λ words. words.items ≡ into_iter_items arguments) }
     ensures err { IfErr result (λ f. f ≡ WordFault.OutOfMemory) }
@@ -38,14 +41,16 @@ fn collected(alloc: Global, arguments: Args) -> Result<Vec<String>, WordFault>
     Ok(words)
 }
 
-// The arguments of a process.
+// The arguments of a process, all of them in order; or why they cannot be had: memory ran out, or
+// they cannot be read.
 fn arguments<P: Process>(alloc: Global, process: &P) -> Result<Vec<String>, WordFault>
     ensures { IsGiven (P.has_arguments process.now) (P.denies_arguments process.now) result }
 {
     collected(alloc, process.arguments()?)
 }
 
-// Reports that the command line is wrong, or that memory ran out while it was read.
+// Reports that the command line is wrong, or that memory ran out while it was read, which is
+// returned as the refusal; of wrong arguments there is none.
 fn refuse_words<W: Write>(writer: &mut Port<W>, fault: WordFault) -> Ending
     ensures ends { Ends (status_of fault) (line_of fault) (change W.contents writer.old writer.new) result.status }
     ensures why { result.refusal ≡ refusal_of fault }
@@ -135,7 +140,9 @@ fn advise<P: Process>(process: &P, ending: Ending) {
 }
 
 // Does what the arguments of a process ask for, and says at a terminal what a person needs to know
-// of how that ended. Returns the exit code, and the output.
+// of how that ended. Returns the exit code of the status with which the run ended, and the output,
+// whose last call was a flush, unless the status is Refused. It holds of any process: whatever its
+// arguments are, whatever opens its files, and wherever it writes.
 fn process<P: Opener + Process>(alloc: Global, process: &P) -> (ExitCode, Port<P::Writer>)
     ensures { (writer : P.Writer) × P.is_output process.now writer
         × (ended : Ending) × (exit_status result.0 ≡ exit_code ended.status)
@@ -151,7 +158,8 @@ fn process<P: Opener + Process>(alloc: Global, process: &P) -> (ExitCode, Port<P
     (exit_with(ending.status), output)
 }
 
-// Does what the arguments ask for, and ends with the exit code of the status.
+// Does what the arguments ask for, and ends with the exit code of the status. The compiler takes no
+// clause of it: it is one expression.
 fn main(rt: HostRuntime) -> ExitCode {
     process(rt.alloc(), &Host::new(&rt, rt.stdin(), rt.stderr())).0
 }

@@ -44,5 +44,5 @@ pub use Rattle.fv_tree.proofs.WholeInputLaws.{ran_out}
 pub use Rattle.fv_tree.proofs.WholeInputLaws.{IsOfInput, input_kind, stood_kind}
 -- ---- the files as they are stored
 
--- bytes that are a volume begin with its files
-pub use Rattle.fv_tree.proofs.LocatedLaws.{volume_files}
+-- bytes that are a volume begin with its files; bytes begin with the files of one volume, and with the data of each
+pub use Rattle.fv_tree.proofs.LocatedLaws.{volume_files, one_files, begun_data}

@@ -12,6 +12,7 @@ use Rattle.fv_file.proofs.Laws.{IsPayloadIn, body_payloads, all_within}
 use Rattle.fv_head.specs.Words.{HeadFields, BeginsVolume}
 use Rattle.fv_head.specs.declared.extent.Extent.{Extent}
 use Rattle.fv_head.proofs.Laws.{first_lies, one_front}
+use Rattle.fv_tree.proofs.MeaningLaws.{one_stand}
 use Rattle.fv_tree.specs.Words.{FileForm, files_in, replaced_by, Denotes, data_place, StandIn, BeginWithFiles, HasDataIn, Meaning}
 
 -- ---- where the data are
@@ -52,12 +53,18 @@ located_data b h e fs front stand =
     let kept = all_filter (λ f. not (list_any (replaced_by f) (files_in stand.cells))) (HasDataIn v) (files_in stand.cells) files in
     in_front e.length b fs front.whole (subst (AllByRecursion (HasDataIn v)) (sym stand.current.files_are) kept)
 
+pub begun_data : (b : List ℕ) (fs : List FileForm) → BeginWithFiles b fs → AllByRecursion (HasDataIn b) fs
+begun_data b fs (h, e, front, stand) = located_data b h e fs front stand
+
 -- ---- that they are the only ones
 
 module _ (b : List ℕ) (h : HeadFields) (e : Extent) (front : BeginsVolume h e b) where
   pub located_stand : (gs : List FileForm) → BeginWithFiles b gs → StandIn e (take e.length b) gs
   located_stand gs (k, x, other, stand) =
       subst (λ (y : Extent). StandIn y (take y.length b) gs) (one_front b k h x e other front).1 stand
+
+pub one_files : (b : List ℕ) (fs gs : List FileForm) → BeginWithFiles b fs → BeginWithFiles b gs → gs ≡ fs
+one_files b fs gs (h, e, front, stand) other = one_stand e (take e.length b) fs gs stand (located_stand b h e front gs other)
 
 -- ---- the files of bytes that are a volume
 

@@ -5,13 +5,14 @@ use Rattle.std.specs.Prelude.{◌==◌}
 use Rattle.std.proofs.lemmas.List.{take_all}
 use Rattle.std.proofs.lemmas.Bool.{eqb-true, eq-eqb}
 use Rattle.fv_base.proofs.Laws.{or_more, want_known}
-use Rattle.fv_base.specs.Words.{outer_fault, out_of_memory, depth_limit}
+use Rattle.fv_base.specs.Words.{First, outer_fault, out_of_memory, depth_limit}
 use Rattle.fv_base.specs.declared.fault.Fault.{Fault}
 use Rattle.fv_base.specs.declared.fault.FaultKind.{FaultKind}
 use Rattle.fv_base.specs.declared.fault.FaultKind.TheVariants as kinds
 use Rattle.fv_head.specs.Words.{BeginsWithHeader}
-use Rattle.fv_tree.specs.Words.{Accepted, Denotes, FaultStands, IsFirstOfVolume, GoesOn, MemoryRanOut, NotRead, Meaning, length_of}
+use Rattle.fv_tree.specs.Words.{Accepted, Denotes, FaultStands, IsFirstOfVolume, GoesOn, MemoryRanOut, NotRead, Meaning, length_of, outermost}
 use Rattle.fv_tree.proofs.FaultKindLaws.{stands_other}
+use Rattle.fv_tree.proofs.RefusalLaws.{fault_refuses}
 
 -- ---- an input and the volume that it begins with
 
@@ -20,12 +21,10 @@ pub input_prefix : (b : List ℕ) (m : Meaning) → Denotes depth_limit b m → 
 input_prefix b m d = subst (λ (xs : List ℕ). Denotes depth_limit xs m) (sym (take_all (length b) b (omega arith))) d
 
 -- an input that begins with no volume is none
-pub volume_refused : (b : List ℕ) (f : Fault)
-    → (f ≢ out_of_memory → (n : ℕ) (m : Meaning) → n ≤ length b → Denotes depth_limit (take n b) m → ⊥)
-    → (f ≢ out_of_memory → IsFirstOfVolume b f) → (f ≡ out_of_memory) ⊎ NotRead b f
-volume_refused b f none first =
+pub volume_refused : (b : List ℕ) (f : Fault) → (f ≢ out_of_memory → IsFirstOfVolume b f) → (f ≡ out_of_memory) ⊎ NotRead b f
+volume_refused b f first =
     or_more (want_known f) (λ other. record {
-      none = λ m d. none other (length b) m (omega arith) (input_prefix b m d.1);
+      none = λ m d. fault_refuses First depth_limit (length b) f b outermost m (omega arith) (first other) (input_prefix b m d.1);
       first = inl (first other);
     })
 

@@ -1,4 +1,5 @@
--- Which bytes are a volume with a given meaning. The definition recurs on how deep groups and opened volumes nest.
+-- Which bytes are a volume with a given meaning (PI specification, volume 3, sections 3.2.1 to 3.2.5). The definition
+-- recurs on how deep groups and opened volumes nest.
 use Rattle.std.specs.Prelude.{◌≡◌, ◌≢◌, ℕ, zero, suc, ◌≤◌, ◌==◌, ◌&&◌, ◌||◌, Bool, true, false, nat_le, List, [], ◌∷◌}
 use Rattle.std.specs.Prelude.{length, drop}
 use Rattle.fv_base.specs.Words.{depth_limit, IsBytes, field, le_at}
@@ -11,8 +12,8 @@ use Rattle.fv_tree.specs.Meaning.{Meaning, FileMeaning, File, ContentMeaning, Pl
 use Rattle.fv_tree.specs.Meaning.{Section, BodyMeaning, Leaf, Group, Nested, sections_list, head_of, files_of}
 use Rattle.fv_tree.specs.VolumeFiles.{FileForm, AreCurrent, files_in}
 
--- the type of a section that groups others, and of one that may hold a volume (section 3.2.5, EFI_SECTION_DISPOSABLE
--- and EFI_SECTION_FIRMWARE_VOLUME_IMAGE)
+-- the type of a section that groups others, 03, and of one that may hold a volume, 17 (section 3.2.5,
+-- EFI_SECTION_DISPOSABLE and EFI_SECTION_FIRMWARE_VOLUME_IMAGE)
 abbrev pub group_kind : ℕ
 group_kind = 0x03
 
@@ -26,7 +27,7 @@ pub record Opens (b : List ℕ) : Type 0 where
   pub file_system : (system : FileSystem) × (field 16 16 b ≡ system_guid system)
   pub whole : le_at 32 8 b ≡ length b
 
--- the types of files that hold sections (section 3.2.3, EFI_FV_FILETYPE_FREEFORM and those from
+-- the types of files that hold sections, 02 and 04 to 0F (section 3.2.3, EFI_FV_FILETYPE_FREEFORM and those from
 -- EFI_FV_FILETYPE_PEI_CORE on)
 abbrev pub holds_sections : ℕ → Bool
 holds_sections kind = (kind == 0x02) || (nat_le 0x04 kind && nat_le kind 0x0f)
@@ -89,6 +90,7 @@ MeansBody is_stream is_volume f (Group sections tail) =
     (f.kind ≡ group_kind) × is_stream (sections_list sections) tail f.body
 MeansBody is_stream is_volume f (Nested volume) = (f.kind ≡ volume_kind) × Opens f.body × is_volume f.body volume
 
+-- the frame is this section: its type, the form of its header, and its body
 abbrev pub SectionOver : StreamRelation → VolumeRelation → SectionRelation
 SectionOver is_stream is_volume f (Section kind extended body) =
     (kind ≡ f.kind) × (extended ≡ f.extended) × MeansBody is_stream is_volume f body
@@ -108,12 +110,13 @@ Stream n = StreamOver (MeansSection n)
 abbrev pub Denotes : ℕ → VolumeRelation
 Denotes n = VolumeOver (Stream n)
 
--- the bytes are accepted as a volume with this meaning
+-- the bytes, each of them below 256, are accepted as a volume with this meaning: groups and volumes nest at most
+-- `depth_limit` deep
 abbrev pub Accepted : VolumeRelation
 Accepted b m = IsBytes b × Denotes depth_limit b m
 
 -- ---- what is known of everything that was read
 
--- some bytes are a volume with this meaning
+-- some bytes are a volume with this meaning: true of every `VolumeView`
 abbrev pub IsMeaning : Meaning → Type 0
 IsMeaning m = (n : ℕ) × (n ≤ depth_limit) × (b : List ℕ) × IsBytes b × Denotes n b m

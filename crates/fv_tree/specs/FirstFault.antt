@@ -134,14 +134,14 @@ InVolume which n = VolumeFault which n (InStream which n)
 
 -- ---- the faults of bytes that were passed to a call
 
--- they begin at 0
+-- where the bytes begin that were passed in: offset 0, depth 0
 abbrev pub outermost : Place
 outermost = record { offset = 0; depth = 0 }
 
--- e is their first fault
+-- e is the first fault of bytes that should begin with a volume
 abbrev pub IsFirstOfVolume : List ℕ → Fault → Type 0
 IsFirstOfVolume b e = InVolume First depth_limit e b outermost
 
--- the condition of e holds at e's place, whatever else is wrong with them
+-- the condition of e holds at e's place in what the bytes begin with, whatever else is wrong with them
 abbrev pub FaultStands : List ℕ → Fault → Type 0
 FaultStands b e = InVolume Any depth_limit e b outermost

@@ -1,4 +1,5 @@
--- The cells of the volume with which bytes begin, and its files as they are stored in it, each with its place.
+-- The cells of the volume with which bytes begin, and its files as they are stored in it, each with its place (PI
+-- specification, volume 3, sections 3.2.2 and 3.2.3).
 use Rattle.std.specs.Prelude.{◌⊎◌, ℕ, List, take, drop, ◌≡◌, ◌≤◌, ◌+◌, length}
 use Rattle.fv_base.specs.Words.{IsFirstFault, First, field}
 use Rattle.fv_base.specs.declared.fault.Fault.{Fault}

@@ -15,7 +15,7 @@ abbrev pub number_after : Option ℕ → ℕ
 number_after None = 0
 number_after (Some last) = last + 1
 
--- that file, with its number
+-- the file after the one with this number, or the first file, with its own number
 abbrev pub file_after : Option ℕ → List FileMeaning → Option (ℕ × FileMeaning)
 file_after after fs = option_map (λ f. (number_after after, f)) (slice_get fs (number_after after))
 

@@ -21,7 +21,7 @@ abbrev pub plain_of : ContentMeaning → Option (List ℕ)
 plain_of (Plain b) = Some b
 plain_of (Sectioned _ _) = None
 
--- the parts of a section
+-- the parts of a section: its type, whether its header is extended, its body
 abbrev pub section_kind_of : SectionMeaning → ℕ
 section_kind_of (Section kind extended body) = kind
 

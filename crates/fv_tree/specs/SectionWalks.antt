@@ -1,4 +1,5 @@
--- What a walk over the sections of a file has left, level by level.
+-- What a walk over the sections of a file has left, level by level (PI specification, volume 3, sections 3.2.4 and
+-- 3.2.5).
 use Rattle.std.specs.Prelude.{ℕ, ◌+◌, ◌≤◌, List, [], ◌∷◌, ◌++◌}
 use Rattle.std.specs.List.{AllByRecursion}
 use denote.Ref.{Bor}

@@ -20,7 +20,7 @@ sections_of (several.One s) = s.value ∷ []
 sections_of (several.Two ss) = ss.value
 sections_of (several.Many ss) = ss.value.items
 
--- the section
+-- the section that the parts of a `SectionView` mean
 abbrev pub parts_view : Parts → SectionMeaning
 parts_view (parts.Leaf kind extended b) = Section kind extended (Leaf b.now)
 parts_view (parts.Group kind extended tail len ss) = Section kind extended (Group (sections_from (sections_of ss)) tail)
@@ -32,11 +32,13 @@ HasLength (parts.Leaf kind extended b) = Unit {0}
 HasLength (parts.Group kind extended tail len ss) = len ≡ sections_end 0 (sections_from (sections_of ss)) + tail
 HasLength (parts.Nested kind extended v) = Unit {0}
 
+-- what a `Body` means
 abbrev pub body_view : Body → BodyMeaning
 body_view (bodies.Leaf b) = Leaf b.now
 body_view (bodies.Group ss t) = Group (sections_from ss.now) t
 body_view (bodies.Nested v) = Nested v.now
 
+-- what a `Content` means
 abbrev pub content_view : Content → ContentMeaning
 content_view (contents.Plain b) = Plain b.now
 content_view (contents.Stream t ss) = Sectioned (sections_from ss.items) t

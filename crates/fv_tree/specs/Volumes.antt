@@ -15,7 +15,7 @@ abbrev pub deeper : List Inside → List Inside
 deeper vs = map (λ v. record { depth = v.depth + 1; volume = v.volume }) vs
 
 -- a volume, and then those in its files, in preorder. What is in a section is one level deeper: a volume, or a group of
--- sections
+-- sections. A volume that is the body passed to `volumes_in_body` is at depth 0
 abbrev mutual
   pub volumes_in : Meaning → List Inside
   volumes_in (Volume h files) = record { depth = 0; volume = Volume h files } ∷ volumes_in_files files

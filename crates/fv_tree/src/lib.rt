@@ -1,4 +1,11 @@
-//! The meaning of a firmware volume, read as a view of its bytes.
+//! The meaning of a firmware volume, read as a view of its bytes. The recursions of its definitions
+//! go by how deep groups and opened volumes may still nest. `scan` and `Offsets` are those of
+//! fv_flash. Only `read_volume`, `whole_volume`, `located_files`, `volume_cells` and `scan` take
+//! memory.
+//!
+//! What `plain` and `leaf` return, and `Content::Plain` and `Body::Leaf` hold, are slices of the
+//! input, which outlive the view: a program that uses one after the view is gone compiles, and one
+//! that uses it after the input is gone does not.
 #![tactic(auto)]
 
 mod body_cells;
@@ -22,4 +29,4 @@ pub use section_walk::SectionWalk;
 pub use stored_files::located_files;
 pub use view::{Body, Content, FileView, SectionView, VolumeView};
 pub use volume_files::{LocatedFile, VOLUME_TOP_FILE};
-pub use whole_input::whole_volume;
+pub use whole_input::{whole_volume, whole_volume_with_files};

@@ -6,6 +6,7 @@ use crate::volume_files::LocatedFile;
 use fv_base::Guid;
 use fv_names::Named;
 
+/// The name of the file, and whether it is marked for update.
 impl<'a> Named for LocatedFile<'a> {
     ghost named = { named_file };
 

@@ -13,7 +13,7 @@ ghost use Rattle.fv_tree.specs.FirstFault.{moved_fault, InSection, InStream, InV
 ghost use Rattle.fv_tree.specs.FirstFault.{OneOf, FileFault, IsFirstOfVolume, FaultStands, body_place, data_place};
 ghost use Rattle.fv_tree.specs.inner.ReadingParts.{Reads, AllStored};
 ghost use Rattle.fv_tree.specs.Views.{content_view};
-ghost use Rattle.fv_tree.specs.LocatedFiles.{file_form};
+ghost use Rattle.fv_tree.specs.LocatedFiles.{BeginWithFiles, file_form};
 
 use crate::fault_place::fault_within;
 use crate::shape::{Shape, holds_sections, shape_of};
@@ -26,12 +26,21 @@ use fv_head::read_head;
 use fv_section::{Frame, FrameWalk, section_header_len};
 use std::alloc::Global;
 
-// Where some bytes begin in those that were passed in, and how many levels may nest in them.
+/// Where some bytes begin in those that were passed in, and how many levels may nest in them.
 #[derive(Clone, Copy)]
-struct Level {
+pub(crate) struct Level {
     place: Place,
     left: u8,
 }
+
+/// The level of bytes that are not within others.
+pub(crate) const OUTERMOST: Level = Level {
+    place: Place {
+        offset: 0,
+        depth: 0,
+    },
+    left: DEPTH_LIMIT,
+};
 
 // The level of the body of a frame; or the fault Depth if no level is left.
 fn deeper(frame: &Frame, at: Level) -> Result<Level, Fault>
@@ -177,6 +186,32 @@ fn read_files<'a>(
     Ok(views)
 }
 
+// The volume at the start of the bytes, the number of its bytes, and its files as they are stored in
+// it.
+#[cycle(read)]
+pub(crate) fn read_with_files(
+    alloc: Global,
+    bytes: &[u8],
+    at: Level,
+) -> Result<(VolumeView<'_>, u64, Vec<LocatedFile<'_>>), Fault>
+    requires place { at.place.offset + length bytes.now < 2 ^ 63 }
+    requires depth { at.place.depth + at.left ≤ depth_limit }
+    ensures read { Reads (λ r. Denotes at.left (take r.1 bytes.now) r.0)
+        (λ f. InVolume First at.left f bytes.now at.place) result }
+    ensures length { IfOk result (λ r. (r.1 ≡ length_of r.0) × (r.1 ≤ length bytes.now)) }
+    ensures files { IfOk result (λ r. BeginWithFiles bytes.now (map file_form r.2.items)) }
+    ensures memory { IfErr result (λ f. f ≡ out_of_memory → BeginsWithHeader bytes.now) }
+{
+    let (head, extent) = match read_head(alloc, bytes) {
+        Ok(read) => read,
+        Err(fault) => return Err(fault_within(fault, at.place)),
+    };
+    let volume = &bytes[..extent.length as usize];
+    let (files, numbers) = files_in_body(alloc, volume, extent, at.place)?;
+    let views = read_files(alloc, files.as_slice(), at)?;
+    Ok((VolumeView::new(head, views, numbers), extent.length, files))
+}
+
 // The volume at the start of the bytes, and the number of its bytes.
 #[cycle(read)]
 fn read_at(alloc: Global, bytes: &[u8], at: Level) -> Result<(VolumeView<'_>, u64), Fault>
@@ -187,14 +222,10 @@ fn read_at(alloc: Global, bytes: &[u8], at: Level) -> Result<(VolumeView<'_>, u6
     ensures length { IfOk result (λ r. (r.1 ≡ length_of r.0) × (r.1 ≤ length bytes.now)) }
     ensures memory { IfErr result (λ f. f ≡ out_of_memory → BeginsWithHeader bytes.now) }
 {
-    let (head, extent) = match read_head(alloc, bytes) {
-        Ok(read) => read,
-        Err(fault) => return Err(fault_within(fault, at.place)),
-    };
-    let volume = &bytes[..extent.length as usize];
-    let (files, numbers) = files_in_body(alloc, volume, extent, at.place)?;
-    let views = read_files(alloc, files.as_slice(), at)?;
-    Ok((VolumeView::new(head, views, numbers), extent.length))
+    match read_with_files(alloc, bytes, at) {
+        Ok((view, length, _)) => Ok((view, length)),
+        Err(fault) => Err(fault),
+    }
 }
 
 /// The meaning of the volume at the start of the bytes, as a view of them, and the number of bytes
@@ -239,13 +270,5 @@ pub fn read_volume(alloc: Global, bytes: &[u8]) -> Result<(VolumeView<'_>, u64),
     // Memory runs out only if they begin with the header of a volume.
     ensures memory { IfErr result (λ f. f ≡ out_of_memory → BeginsWithHeader bytes.now) }
 {
-    let place = Place {
-        offset: 0,
-        depth: 0,
-    };
-    let at = Level {
-        place,
-        left: DEPTH_LIMIT,
-    };
-    read_at(alloc, bytes, at)
+    read_at(alloc, bytes, OUTERMOST)
 }

@@ -102,6 +102,8 @@ impl<'v, 'a> SectionWalk<'v, 'a> {
     }
 }
 
+/// Each item is the first of the sections that were left, and the others are left then. After the
+/// last it is None. Takes no memory.
 impl<'v, 'a> Iterator for SectionWalk<'v, 'a> {
     type Item = &'v SectionView<'a>;
 

@@ -11,13 +11,13 @@ use fv_names::NameIndex;
 use std::marker::Model;
 use std::mem::size_of;
 
-/// The meaning of a volume; only reading makes one. The header is owned, and the bytes of the files
-/// are slices of what was read. Contracts see the meaning, and know that some bytes are a volume
+/// The meaning of a volume; only reading makes one. The bytes of the files, and those of the extended
+/// header, are slices of what was read. Contracts see the meaning, and know that some bytes are a volume
 /// with this meaning. (PI specification, volume 3, section 3.2.)
 #[cycle(tree)]
 #[derive(Drop)]
 pub struct VolumeView<'a> {
-    head: VolumeHead,
+    head: VolumeHead<'a>,
     files: Vec<FileView<'a>>,
     numbers: NameIndex,
 }

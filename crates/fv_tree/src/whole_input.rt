@@ -1,16 +1,55 @@
 //! From an input to the volume that it is.
 
-ghost use Rattle.std.specs.Prelude.{◌≡◌, ◌≢◌, ◌⊎◌, IfOk, IfErr};
-ghost use Rattle.fv_base.specs.Words.{out_of_memory};
+ghost use Rattle.std.specs.Prelude.{◌≡◌, ◌≢◌, ◌⊎◌, map, IfOk, IfErr};
+ghost use Rattle.std.specs.List.{AllByRecursion};
+ghost use Rattle.fv_base.specs.Words.{OrMemory, out_of_memory};
 ghost use Rattle.fv_head.specs.Words.{BeginsWithHeader};
 ghost use Rattle.fv_tree.specs.Denotes.{Accepted};
 ghost use Rattle.fv_tree.specs.InputFaults.{FaultStandsInInput, NotRead};
+ghost use Rattle.fv_tree.specs.LocatedFiles.{BeginWithFiles, HasDataIn, file_form};
 ghost use Rattle.fv_tree.specs.Meaning.{Meaning};
 
-use crate::read::read_volume;
+use crate::read::{OUTERMOST, read_with_files};
 use crate::view::VolumeView;
+use crate::volume_files::LocatedFile;
 use fv_base::{Fault, FaultKind, check};
 use std::alloc::Global;
+
+/// The volume of the whole input, and its files as they are stored in it, in the order of
+/// `VolumeView::files`: with the offset of the header, the header and the data. (PI specification,
+/// volume 3, sections 3.2.2 and 3.2.3.)
+///
+/// # Errors
+///
+/// Those of `whole_volume`.
+pub fn whole_volume_with_files(
+    alloc: Global,
+    input: &[u8],
+) -> Result<(VolumeView<'_>, Vec<LocatedFile<'_>>), Fault>
+    // The input is a volume with this meaning, and with no other.
+    ensures found { IfOk result (λ r. Accepted input.now r.0) }
+    ensures only { IfOk result (λ r. (m : Meaning) → Accepted input.now m → m ≡ r.0) }
+
+    // The volume has these files, and the data of each are in it, at their offset.
+    ensures files { IfOk result (λ r. BeginWithFiles input.now (map file_form r.1.items)) }
+    ensures data { IfOk result (λ r. AllByRecursion (HasDataIn input.now) (map file_form r.1.items)) }
+
+    // Any error other than OutOfMemory says that the input is no volume.
+    ensures refused { IfErr result (OrMemory (NotRead input.now)) }
+
+    // The condition of a fault holds in the input at its offset.
+    ensures stands { IfErr result (λ f. f ≢ out_of_memory → FaultStandsInInput input.now f) }
+
+    // Memory runs out only if the input begins with the header of a volume.
+    ensures memory { IfErr result (λ f. f ≡ out_of_memory → BeginsWithHeader input.now) }
+
+    // ReadFault and WriteFault are never returned.
+    ensures kind { IfErr result (λ f. (f.kind ≢ FaultKind.ReadFault) × (f.kind ≢ FaultKind.WriteFault)) }
+{
+    let (view, length, files) = read_with_files(alloc, input, OUTERMOST)?;
+    check(length == input.len() as u64, FaultKind::Length, length)?;
+    Ok((view, files))
+}
 
 /// The volume of the whole input. (PI specification, volume 3, section 3.2.)
 ///
@@ -18,18 +57,24 @@ use std::alloc::Global;
 ///
 /// Those of `read_volume`; then Length at FvLength if bytes follow the volume. OutOfMemory.
 pub fn whole_volume(alloc: Global, input: &[u8]) -> Result<VolumeView<'_>, Fault>
+    // The input is a volume with this meaning, and with no other.
     ensures found { IfOk result (λ view. Accepted input.now view) }
     ensures only { IfOk result (λ view. (m : Meaning) → Accepted input.now m → m ≡ view) }
-    ensures refused { IfErr result (λ f. (f ≡ out_of_memory) ⊎ NotRead input.now f) }
+
+    // Any error other than OutOfMemory says that the input is no volume.
+    ensures refused { IfErr result (OrMemory (NotRead input.now)) }
 
     // The condition of a fault holds in the input at its offset.
     ensures stands { IfErr result (λ f. f ≢ out_of_memory → FaultStandsInInput input.now f) }
 
     // Memory runs out only if the input begins with the header of a volume.
     ensures memory { IfErr result (λ f. f ≡ out_of_memory → BeginsWithHeader input.now) }
+
+    // ReadFault and WriteFault are never returned.
     ensures kind { IfErr result (λ f. (f.kind ≢ FaultKind.ReadFault) × (f.kind ≢ FaultKind.WriteFault)) }
 {
-    let (view, length) = read_volume(alloc, input)?;
-    check(length == input.len() as u64, FaultKind::Length, length)?;
-    Ok(view)
+    match whole_volume_with_files(alloc, input) {
+        Ok((view, _)) => Ok(view),
+        Err(fault) => Err(fault),
+    }
 }

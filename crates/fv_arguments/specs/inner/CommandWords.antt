@@ -3,7 +3,7 @@ use Rattle.std.specs.Prelude.{◌≡◌, ℕ, List, [], Result, Ok, Err, codes, 
 use Rattle.std.specs.Str.{bytes_eq}
 use Rattle.clap.specs.Words.{App, found_of, rows_of}
 use Rattle.clap.specs.declared.parser.matches.ArgMatches.{ArgMatches}
-use Rattle.fv_arguments.specs.Options.{compare_app, extract_app, faults_in, hobs_app, list_app, normalise_app, one_input_app, rows_in}
+use Rattle.fv_arguments.specs.Options.{compare_app, extract_app, faults_in, hobs_app, list_app, image_app, one_input_app, rows_in}
 use Rattle.fv_arguments.specs.Options.{volume_app}
 use Rattle.fv_arguments.specs.CommandLines.{AsksBy, HasTexts, command_name}
 use Rattle.fv_plan.specs.declared.plan.Command.{Command}
@@ -18,12 +18,13 @@ AreRightFor name rest = (plan : Plan) × AsksBy name rest plan
 -- the options of the command that a name names
 abbrev pub app_named : List ℕ → App
 app_named name =
-    if bytes_eq name (codes "normalise") then normalise_app
+    if bytes_eq name (codes "normalise") then image_app
+    else (if bytes_eq name (codes "check") then image_app
     else (if bytes_eq name (codes "hobs") then hobs_app
     else (if bytes_eq name (codes "extract") then extract_app
     else (if bytes_eq name (codes "compare") then compare_app
     else (if bytes_eq name (codes "list") then list_app
-    else (if bytes_eq name (codes "scan") then one_input_app else volume_app)))))
+    else (if bytes_eq name (codes "scan") then one_input_app else volume_app))))))
 
 -- the parser has accepted the arguments of a command with these options, and found this in them
 pub record IsRead (app : App) (rest : List (List ℕ)) (m : ArgMatches) : Type 0 where

@@ -11,18 +11,6 @@ use Rattle.fv_c.specs.declared.parts.PlacedSection.{PlacedSection}
 abbrev pub row_form : PlacedSection → SectionRow
 row_form p = record { parent = p.parent; depth = p.depth; section = p.section.now }
 
--- the bytes of the part, if there is one
-abbrev pub ShowsPart : Option PartMeaning → Option (List ℕ) → Type 0
-ShowsPart None None = Unit {0}
-ShowsPart None (Some bytes) = ⊥
-ShowsPart (Some p) None = ⊥
-ShowsPart (Some p) (Some bytes) = IsPartImage p bytes
-
--- memory ran out, or there is a part, and this is the fault of the first volume in it that does not fit
-abbrev pub StopsPart : Option PartMeaning → Fault → Type 0
-StopsPart None f = f ≡ out_of_memory
-StopsPart (Some p) f = (f ≡ out_of_memory) ⊎ FirstUnfit (volumes_in_part p) 0 f
-
 -- the buffer begins with the rows, and holds what it held after them; or it has fewer elements and is as it was
 pub record IsWritten {A : Type 0} (rows old new : List A) (result : ℕ) : Type 0 where
   pub ok : result ≡ 0 → new ≡ rows ++ drop (length rows) old
@@ -30,3 +18,15 @@ pub record IsWritten {A : Type 0} (rows old new : List A) (result : ℕ) : Type 
   pub small : result ≡ 256 → length old < length rows
   pub room : result ≡ 0 → length rows ≤ length old
   pub only : (result ≡ 0) ⊎ (result ≡ 256)
+
+-- there is no such part, the result is 257, and nothing has changed; or there is one, `after` is its length, and it is
+-- in the buffer if the buffer is long enough
+abbrev pub PutsPart : Option PartMeaning → (old new : List ℕ) (before after result : ℕ) → Type 0
+PutsPart None old new before after result = (result ≡ 257) × (new ≡ old) × (after ≡ before)
+PutsPart (Some p) old new before after result =
+    (bytes : List ℕ) × IsPartImage p bytes × (after ≡ length bytes) × IsWritten bytes old new result
+
+-- memory ran out, or there is a part, and this is the fault of the first volume in it that does not fit
+abbrev pub StopsPart : Option PartMeaning → Fault → Type 0
+StopsPart None f = f ≡ out_of_memory
+StopsPart (Some p) f = (f ≡ out_of_memory) ⊎ FirstUnfit (volumes_in_part p) 0 f

@@ -5,8 +5,9 @@ use crate::row_bytes::{bytes_in_two_tries, number_of};
 use crate::volumes::row_of;
 use fv_base::{ByteList, Fault, FaultKind, Port};
 use fv_canon::{
-    Layout, body_bytes, canonical, file_bytes, is_canonical, layout, normalise, normalise_image,
-    run_normalise, write_canonical, write_normalised_image,
+    Layout, VolumeCheck, VolumeOutcome, body_bytes, canonical, check_image, file_bytes,
+    is_canonical, layout, normalise, normalise_image, run_normalise, write_canonical,
+    write_normalised_image,
 };
 use fv_compare::{Side, run_compare};
 use fv_tree::{FileView, Item, Lookup, VolumeView, read_volume, section_by_type};
@@ -29,6 +30,19 @@ fn is_made_or_memory_ran_out(made: Result<ByteList, Fault>, wanted: &[u8]) -> bo
 fn is_judged_or_memory_ran_out(alloc: Global, volume: &[u8], wanted: bool) -> bool {
     let judged = is_canonical(alloc, volume);
     judged == Ok(wanted) || judged == Err(out_of_memory())
+}
+
+// Whether this is said of the one volume of an image, or memory ran out.
+fn is_checked_or_memory_ran_out(alloc: Global, image: &[u8], outcome: VolumeOutcome) -> bool {
+    let wanted = VolumeCheck {
+        offset: 0,
+        length: image.len() as u64,
+        outcome,
+    };
+    match check_image(alloc, image) {
+        Ok(checks) => checks.len() == 1 && checks[0] == wanted,
+        Err(fault) => fault == out_of_memory(),
+    }
 }
 
 // Whether the files are at exactly these offsets.
@@ -111,6 +125,8 @@ fn calls_are_right(alloc: Global, volume: &[u8], image: &[u8], starts: &str) -> 
         && call_writes_all_or_nothing(alloc, volume, image)
         && is_judged_or_memory_ran_out(alloc, volume, false)
         && is_judged_or_memory_ran_out(alloc, image, true)
+        && is_checked_or_memory_ran_out(alloc, volume, VolumeOutcome::NotCanonical)
+        && is_checked_or_memory_ran_out(alloc, image, VolumeOutcome::Canonical)
         && run_writes_all_or_nothing(alloc, volume, image)
 }
 

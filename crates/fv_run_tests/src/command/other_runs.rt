@@ -36,6 +36,7 @@ pub(crate) fn small_runs() -> &'static str {
     check: empty -> 0 canonical|\n\
     check: H160 0a*16 3baa07001e0000f8060000130308 ff*18 00aaf000200000f801 ff*31 -> 1 note pad at 104 holds 1 \
         bytes|note depex in 0a0a0a0a-0a0a-0a0a-0a0a-0a0a0a0a0a0a fault 3 at 0|not canonical|\n\
+    check-all: ff*64 file-state-bit -> 2 volume at 64 length 128 fault 10 at 159|\n\
     compare: file-sum-zero-data & file-sum-zero-data -> 0 same|\n\
     compare at 8 at 16: 00*8 empty ff & 00*16 empty ff*8 -> 0 same|\n\
     compare: file-sum-zero-data & file-without-data -> 1 different at file 0 attributes|\n\

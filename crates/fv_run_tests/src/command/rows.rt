@@ -43,6 +43,7 @@ fn commands() -> &'static str {
     scan: fv scan\n\
     cells: fv cells\n\
     check: fv check\n\
+    check-all: fv check --all\n\
     compare: fv compare first second\n\
     compare at 8 at 16: fv compare --at 8 --other-at 16 first second\n\
     hobs: fv hobs\n\

@@ -16,13 +16,13 @@ use fv_names::NameIndex;
 impl<'a> VolumeView<'a> {
     // The view of a volume with this head and these files, with an index of the files' names.
     pub(crate) fn new(
-        head: VolumeHead,
+        head: VolumeHead<'a>,
         files: Vec<FileView<'a>>,
         numbers: NameIndex,
     ) -> VolumeView<'a>
         requires meaning { IsMeaning (Volume head (files_from files.items)) }
         requires numbers { HasNumbers numbers files.items }
-        ensures { result ≡ Volume head (files_from files.entry.items) }
+        ensures { result ≡ Volume head.entry (files_from files.entry.items) }
     {
         VolumeView {
             head,
@@ -33,7 +33,7 @@ impl<'a> VolumeView<'a> {
 
     /// The header, with its extended header, if there is one. (PI specification, volume 3, section
     /// 3.2.1.)
-    pub fn head(&self) -> &VolumeHead
+    pub fn head(&self) -> &VolumeHead<'a>
         ensures head { result.now ≡ head_of self.now }
 
         // Some bytes are a volume with this meaning.

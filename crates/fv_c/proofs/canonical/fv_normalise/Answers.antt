@@ -1,32 +1,29 @@
-use Rattle.std.proofs.Common.{◌∙◌, ◌++◌, List, ℕ, length, drop, ap, refl, subst, ◌<◌}
+use Rattle.std.proofs.Common.{rules, ◌≡◌, ◌∙◌, ◌≤◌, List, ℕ, length, ap, arith, refl}
 use Rattle.fv_base.specs.Words.{fault_number}
 use Rattle.fv_base.specs.declared.fault.Fault.{Fault}
+use Rattle.fv_canon.specs.Words.{NormalisesTo}
+use Rattle.fv_canon.proofs.Laws.{image_stays_long}
+use Rattle.fv_sinks.proofs.Laws.{filled_front}
+use Rattle.fv_c.proofs.ImageLemmas.{has_image}
 use Rattle.fv_c.proofs.canonical.fv_normalise.Goals as goal
 
 pub returns-in-Err-clause-fits : goal.returns-in-Err-clause-fits
 returns-in-Err-clause-fits c = λ image to _ _.
     c.refused.ensures.number ∙ ap (λ (f : Fault). fault_number f.kind) (c.in-Err.ensures.fits image to)
 
-pub returns-in-Err-clause-kept : goal.returns-in-Err-clause-kept
-returns-in-Err-clause-kept c = λ _. refl
+pub returns-then-buffer-input-clause-small : goal.returns-then-buffer-input-clause-small
+returns-then-buffer-input-clause-small c = λ _.
+    let found = c.in-Ok.ensures.ok in
+    let whole = has_image c.args.input.now c.in-Ok.laid.volume _ found.0 found.1.0 in
+    let long : length whole.0 ≡ length c.args.input.now = image_stays_long c.args.input.now whole.0 whole.1 in
+    (whole.0, whole.1, long, omega (arith, long, c.if-buffer-input.true), refl)
 
 pub returns-clause-ok : goal.returns-clause-ok
-returns-clause-ok c = λ done. (
-  c.in-Ok.image,
-  c.in-Ok.ensures.ok,
-  c.in-Ok.ensures.length,
-  c.put_all.ensures.ok done ∙ ap (λ (l : List ℕ). l ++ drop (length l) c.args.buffer.now) c.as_slice.ensures,
-  refl,
-)
-
-pub returns-clause-kept : goal.returns-clause-kept
-returns-clause-kept c = λ failed. c.put_all.ensures.kept failed
-
-pub returns-clause-small : goal.returns-clause-small
-returns-clause-small c = λ small. (
-  c.in-Ok.image,
-  c.in-Ok.ensures.ok,
-  c.in-Ok.ensures.length,
-  subst (λ (l : List ℕ). length c.args.buffer.now < length l) c.as_slice.ensures (c.put_all.ensures.small small),
-  refl,
-)
+returns-clause-ok c = λ _.
+    let put = c.put_canonical.ensures in
+    let image : List ℕ = put.0 in
+    let to : NormalisesTo c.args.input.now image = (c.in-Ok.laid.volume, c.in-Ok.ensures.ok.0, put.1) in
+    let long : length image ≡ length c.args.input.now = image_stays_long c.args.input.now image to in
+    let room : length image ≤ length c.args.buffer.now = omega (arith, long, c.if-buffer-input.false) in
+    let filled = filled_front c.new-out.result c.put_canonical.new.out c.args.buffer.now image c.new-out.ensures.none c.new-out.ensures.all put.2 room in
+    (image, to, long, search rules, refl)

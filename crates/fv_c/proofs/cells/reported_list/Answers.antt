@@ -9,4 +9,4 @@ pub returns : goal.returns
 returns c =
     IfOk-weaker c.translate_all.result _ _
     (λ v is. is ∙ sym (map-map reported_cell cell_form c.as_slice.result.now) ∙ ap (map reported_cell) c.as_slice.ensures)
-    c.translate_all.ensures
+    c.translate_all.ensures.values

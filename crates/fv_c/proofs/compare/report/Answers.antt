@@ -2,7 +2,6 @@ use Rattle.std.proofs.Common.{◌≡◌, ◌∙◌, ◌≤◌, ◌↔◌, ◌++�
 use Rattle.fv_compare.specs.Words.{compare_line, difference}
 use Rattle.fv_tree.specs.Words.{Meaning}
 use Rattle.fv_c.specs.Reports.{IsReported, no_fault}
-use Rattle.fv_c.specs.declared.compare.FvComparison.{FvComparison}
 use Rattle.fv_c.proofs.compare.report.Goals as goal
 
 -- what the flag and the length of the line report

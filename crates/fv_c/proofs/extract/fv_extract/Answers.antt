@@ -1,26 +1,15 @@
-use Rattle.std.proofs.Common.{◌∙◌, ap, arith, drop, length, refl, List, ℕ, ◌++◌}
+use Rattle.std.proofs.Common.{refl}
+use Rattle.fv_c.proofs.PartLaws.{extract_done, extract_small}
 use Rattle.fv_c.proofs.extract.fv_extract.Goals as goal
 
-pub returns-in-Some-clause-ok : goal.returns-in-Some-clause-ok
-returns-in-Some-clause-ok c = λ done. (
-  c.in-Some.bytes,
-  rw c.in-Some.is at c.in-Ok.ensures.some,
-  c.put_rows.ensures.count ∙ ap length c.as_slice.ensures,
-  c.put_rows.ensures.written.ok done ∙ ap (λ (l : List ℕ). l ++ drop (length l) c.args.buffer.now) c.as_slice.ensures,
-  refl,
-)
+pub returns-in-Ok-clause-ok : goal.returns-in-Ok-clause-ok
+returns-in-Ok-clause-ok c = λ done.
+    let part = extract_done c.args.file c.args.section c.args.input.now c.args.buffer.now c.put_extracted.new.buffer c.args.len.now
+    c.put_extracted.new.len c.in-Ok.result c.in-Ok.ensures.ok done in
+    (part.0, part.1, part.2, part.3, refl)
 
-pub returns-in-Some-clause-small : goal.returns-in-Some-clause-small
-returns-in-Some-clause-small c = λ small. (
-  c.in-Some.bytes,
-  rw c.in-Some.is at c.in-Ok.ensures.some,
-  c.put_rows.ensures.count ∙ ap length c.as_slice.ensures,
-  rw (← c.as_slice.ensures) (c.put_rows.ensures.written.small small),
-  refl,
-)
-
-pub returns-in-None-clause-ok : goal.returns-in-None-clause-ok
-returns-in-None-clause-ok c = λ done. absurd (omega (arith, done))
-
-pub returns-in-None-clause-absent : goal.returns-in-None-clause-absent
-returns-in-None-clause-absent c = λ _. (rw c.in-None.is at c.in-Ok.ensures.none, refl, refl)
+pub returns-in-Ok-clause-small : goal.returns-in-Ok-clause-small
+returns-in-Ok-clause-small c = λ small.
+    let part = extract_small c.args.file c.args.section c.args.input.now c.args.buffer.now c.put_extracted.new.buffer c.args.len.now
+    c.put_extracted.new.len c.in-Ok.result c.in-Ok.ensures.ok small in
+    (part.0, part.1, part.2, part.3, refl)

@@ -10,4 +10,4 @@ returns c =
     IfOk-weaker c.translate_all.result _ _
     (λ v is. is ∙ sym (map-map reported_section row_form c.as_slice.result.now)
     ∙ ap (λ l. map reported_section (map row_form l)) c.as_slice.ensures.value ∙ ap (map reported_section) c.in_ok-rows.ensures)
-    c.translate_all.ensures
+    c.translate_all.ensures.values

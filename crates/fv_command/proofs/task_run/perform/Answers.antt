@@ -34,6 +34,9 @@ returns-in-ListSums g c = rw c.in-ListSums.is (c.list_sums.ensures c.args.hex)
 pub returns-in-Check : goal.returns-in-Check
 returns-in-Check g c = rw c.in-Check.is (c.put_check.ensures c.args.hex)
 
+pub returns-in-CheckAll : goal.returns-in-CheckAll
+returns-in-CheckAll g c = rw c.in-CheckAll.is (c.put_image_check.ensures c.args.hex)
+
 pub returns-in-Cells : goal.returns-in-Cells
 returns-in-Cells g c = rw c.in-Cells.is (c.cells.ensures c.args.hex)
 

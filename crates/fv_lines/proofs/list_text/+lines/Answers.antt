@@ -106,7 +106,7 @@ put_volume-returns-clause-text g t c =
     let line = c.put_volume_line.ensures in
     let inside = c.put_files.ensures.text in (
       volume_text k m line.0 ++ inside.0,
-      is_volume g.D.Digests.of_volume g.D.Digests.of_file k m (head_of m) c.files.result.now line.0 inside.0 c.files.ensures line.1 inside.1,
+      is_volume g.D.Digests.of_volume g.D.Digests.of_file g.D.Digests.of_leaf k m (head_of m) c.files.result.now line.0 inside.0 c.files.ensures line.1 inside.1,
       g.S.Sink.laws.joined line.2 inside.2,
     )
 

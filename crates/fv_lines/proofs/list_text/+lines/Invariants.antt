@@ -7,12 +7,12 @@ use Rattle.fv_lines.proofs.list_text.+lines.Given as goal
 
 abbrev pub invariant-put_sections-loop-number : goal.invariant-put_sections-loop-number
 invariant-put_sections-loop-number g l =
-    Walked g.S.Sink.takes g.D.Digests.covers (sections_lines g.D.Digests.of_volume g.D.Digests.of_file (levels l.indent)) held_in_sections
+    Walked g.S.Sink.takes g.D.Digests.covers (sections_lines g.D.Digests.of_volume g.D.Digests.of_file g.D.Digests.of_leaf (levels l.indent)) held_in_sections
     l.sections l.number l.initial.out l.out l.fn.digests l.left
 
 abbrev pub invariant-put_files-loop-number : goal.invariant-put_files-loop-number
 invariant-put_files-loop-number g l =
-    Walked g.S.Sink.takes g.D.Digests.covers (files_lines g.D.Digests.of_volume g.D.Digests.of_file (levels l.indent)) held_in_files
+    Walked g.S.Sink.takes g.D.Digests.covers (files_lines g.D.Digests.of_volume g.D.Digests.of_file g.D.Digests.of_leaf (levels l.indent)) held_in_files
     l.files l.number l.initial.out l.out l.fn.digests l.left
 
 abbrev pub decreases-put_sections : goal.decreases-put_sections

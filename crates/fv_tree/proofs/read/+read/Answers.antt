@@ -25,7 +25,7 @@ use Rattle.fv_tree.proofs.SectionShapeLaws.{one_place, nested_found, nested_firs
 use Rattle.fv_tree.proofs.StreamWalkLaws.{frame_small, walk_ready, walk_begun, walk_more, walk_first, walk_found}
 use Rattle.fv_tree.proofs.VolumePartLaws.{made, head_first, opened_whole}
 use Rattle.fv_tree.proofs.read.+read.Goals.{read_file-After-without_large-attributes, read_section-In_ok-sections-in-Group}
-use Rattle.fv_tree.proofs.read.+read.Goals.{read_section-In_ok-nested-in-Volume, read_at-In_ok-views}
+use Rattle.fv_tree.proofs.read.+read.Goals.{read_section-In_ok-nested-in-Volume, read_with_files-In_ok-views}
 use Rattle.fv_tree.proofs.read.+read.Goals as goal
 
 -- ---- files
@@ -123,27 +123,27 @@ read_file-returns t c = rw c.new.ensures (file_means t (goal.at.read_file-return
 
 -- ---- a volume
 
-pub read_at-fault_within-requires : goal.read_at-fault_within-requires
-read_at-fault_within-requires t c = omega (arith, c.in-Err.ensures.bound, c.requires.place)
+pub read_with_files-fault_within-requires : goal.read_with_files-fault_within-requires
+read_with_files-fault_within-requires t c = omega (arith, c.in-Err.ensures.bound, c.requires.place)
 
-pub read_at-returns-in-Err-clause-read : goal.read_at-returns-in-Err-clause-read
-read_at-returns-in-Err-clause-read t c = λ ne.
+pub read_with_files-returns-in-Err-clause-read : goal.read_with_files-returns-in-Err-clause-read
+read_with_files-returns-in-Err-clause-read t c = λ ne.
     head_first c.args.at.left c.args.bytes.now c.in-Err.fault c.fault_within.result c.args.at.place c.in-Err.ensures.first
     (c.fault_within.ensures.moved ne).0 (c.fault_within.ensures.moved ne).1
 
-pub read_at-returns-in-Err-clause-memory : goal.read_at-returns-in-Err-clause-memory
-read_at-returns-in-Err-clause-memory t c = λ want. go c.in-Err.ensures.first want where
+pub read_with_files-returns-in-Err-clause-memory : goal.read_with_files-returns-in-Err-clause-memory
+read_with_files-returns-in-Err-clause-memory t c = λ want. go c.in-Err.ensures.first want where
   go : (c.in-Err.fault ≡ out_of_memory) ⊎ IsFirstFault (head_checks c.args.bytes.now) c.in-Err.fault
       → c.fault_within.result ≡ out_of_memory → (h : HeadFields) × (e : Extent) × BeginsVolume h e c.args.bytes.now
   go (inl same) want = c.in-Err.ensures.memory same
   go (inr first) want = absurd (fault_known c.args.bytes.now c.in-Err.fault first (sym c.fault_within.ensures.kind
       ∙ ap (λ (f : Fault). f.kind) want))
 
-pub read_at-slice_bounds-volume-end : goal.read_at-slice_bounds-volume-end
-read_at-slice_bounds-volume-end t c = sym (length-take-le c.in-Ok.read.1.length c.args.bytes.now c.in-Ok.ensures.found.whole)
+pub read_with_files-slice_bounds-volume-end : goal.read_with_files-slice_bounds-volume-end
+read_with_files-slice_bounds-volume-end t c = sym (length-take-le c.in-Ok.read.1.length c.args.bytes.now c.in-Ok.ensures.found.whole)
 
-pub read_at-files_in_body-requires : goal.read_at-files_in_body-requires
-read_at-files_in_body-requires t c =
+pub read_with_files-files_in_body-requires : goal.read_with_files-files_in_body-requires
+read_with_files-files_in_body-requires t c =
     let found = c.in-Ok.ensures.found in
     let long = length-take-le c.in-Ok.read.1.length c.args.bytes.now found.whole in
     let lies = front_lies c.args.bytes.now c.in-Ok.read.0 c.in-Ok.read.1 found in
@@ -157,24 +157,24 @@ read_at-files_in_body-requires t c =
       length_is = sym long;
     }
 
-pub read_at-read_files-requires : goal.read_at-read_files-requires
-read_at-read_files-requires t c =
+pub read_with_files-read_files-requires : goal.read_with_files-read_files-requires
+read_with_files-read_files-requires t c =
     (omega arith, (c.requires.depth, rw c.as_slice.ensures.value c.in_ok-files.ensures.stored))
 
-pub read_at-returns-in_err-files-clause-read : goal.read_at-returns-in_err-files-clause-read
-read_at-returns-in_err-files-clause-read t c =
+pub read_with_files-returns-in_err-files-clause-read : goal.read_with_files-returns-in_err-files-clause-read
+read_with_files-returns-in_err-files-clause-read t c =
     rw (err_is c.from_residual.ensures.1)
     (λ ne. inr (c.in-Ok.read.0, c.in-Ok.read.1, c.in-Ok.ensures.found, inl (c.in_err-files.ensures.read ne)))
 
-pub read_at-returns-in_err-files-clause-length : goal.read_at-returns-in_err-files-clause-length
-read_at-returns-in_err-files-clause-length t c = rw (err_is c.from_residual.ensures.1) tt
+pub read_with_files-returns-in_err-files-clause-length : goal.read_with_files-returns-in_err-files-clause-length
+read_with_files-returns-in_err-files-clause-length t c = rw (err_is c.from_residual.ensures.1) tt
 
-pub read_at-returns-in_err-files-clause-memory : goal.read_at-returns-in_err-files-clause-memory
-read_at-returns-in_err-files-clause-memory t c =
+pub read_with_files-returns-in_err-files-clause-memory : goal.read_with_files-returns-in_err-files-clause-memory
+read_with_files-returns-in_err-files-clause-memory t c =
     rw (err_is c.from_residual.ensures.1) (λ want. (c.in-Ok.read.0, c.in-Ok.read.1, c.in-Ok.ensures.found))
 
-pub read_at-returns-in_err-views-clause-read : goal.read_at-returns-in_err-views-clause-read
-read_at-returns-in_err-views-clause-read t c =
+pub read_with_files-returns-in_err-views-clause-read : goal.read_with_files-returns-in_err-views-clause-read
+read_with_files-returns-in_err-views-clause-read t c =
     let read = c.in-Ok.read in
     let first = rw c.as_slice.ensures.value at c.in_err-views.ensures in
     rw (err_is c.from_residual-in_err-views.ensures.1) (λ ne. inr (
@@ -186,39 +186,39 @@ read_at-returns-in_err-views-clause-read t c =
           c.in_ok-files.ensures.read (first ne),
     ))
 
-pub read_at-returns-in_err-views-clause-length : goal.read_at-returns-in_err-views-clause-length
-read_at-returns-in_err-views-clause-length t c = rw (err_is c.from_residual-in_err-views.ensures.1) tt
+pub read_with_files-returns-in_err-views-clause-length : goal.read_with_files-returns-in_err-views-clause-length
+read_with_files-returns-in_err-views-clause-length t c = rw (err_is c.from_residual-in_err-views.ensures.1) tt
 
-pub read_at-returns-in_err-views-clause-memory : goal.read_at-returns-in_err-views-clause-memory
-read_at-returns-in_err-views-clause-memory t c =
+pub read_with_files-returns-in_err-views-clause-memory : goal.read_with_files-returns-in_err-views-clause-memory
+read_with_files-returns-in_err-views-clause-memory t c =
     rw (err_is c.from_residual-in_err-views.ensures.1) (λ want. (c.in-Ok.read.0, c.in-Ok.read.1, c.in-Ok.ensures.found))
 
 -- the volume that is read has this meaning
-volume_made : (t : ℕ) (c : read_at-In_ok-views t) → Denotes c.args.at.left (take c.in-Ok.read.1.length c.args.bytes.now)
+volume_made : (t : ℕ) (c : read_with_files-In_ok-views t) → Denotes c.args.at.left (take c.in-Ok.read.1.length c.args.bytes.now)
     (Volume c.in-Ok.read.0 (files_from c.in_ok-views.views.items))
 volume_made t c =
     made c.args.at.left c.args.bytes.now c.in-Ok.read.0 c.in-Ok.read.1 c.in_ok-views.views.items c.in-Ok.ensures.found
     (map file_form c.in_ok-files.files.items, c.in_ok-files.ensures.read, rw c.as_slice.ensures.value at c.in_ok-views.ensures)
 
-pub read_at-new-requires-clause-meaning : goal.read_at-new-requires-clause-meaning
-read_at-new-requires-clause-meaning t c =
+pub read_with_files-new-requires-clause-meaning : goal.read_with_files-new-requires-clause-meaning
+read_with_files-new-requires-clause-meaning t c =
     let small : IsBytes c.args.bytes.now = search rules in
     let bytes : List ℕ = take c.in-Ok.read.1.length c.args.bytes.now in
-    let made = volume_made t (goal.at.read_at-new-requires-clause-meaning t c).In_ok-views in
+    let made = volume_made t (goal.at.read_with_files-new-requires-clause-meaning t c).In_ok-views in
     (c.args.at.left, omega arith, bytes, bytes_take c.in-Ok.read.1.length c.args.bytes.now small, made)
 
-pub read_at-new-requires-clause-numbers : goal.read_at-new-requires-clause-numbers
-read_at-new-requires-clause-numbers t c =
+pub read_with_files-new-requires-clause-numbers : goal.read_with_files-new-requires-clause-numbers
+read_with_files-new-requires-clause-numbers t c =
     let pairs = rw c.as_slice.ensures.value at c.in_ok-views.ensures in
     subst (λ (ns : List Guid). IsIndex ns (entries_of c.in_ok-files.numbers))
     (sym (read_names (Stream c.args.at.left) c.in_ok-files.files.items c.in_ok-views.views.items pairs))
     c.in_ok-files.ensures.numbers
 
-pub read_at-returns-clause-read : goal.read_at-returns-clause-read
-read_at-returns-clause-read t c = rw c.new.ensures (volume_made t (goal.at.read_at-returns-clause-read t c).In_ok-views)
+pub read_with_files-returns-clause-read : goal.read_with_files-returns-clause-read
+read_with_files-returns-clause-read t c = rw c.new.ensures (volume_made t (goal.at.read_with_files-returns-clause-read t c).In_ok-views)
 
-pub read_at-returns-clause-length : goal.read_at-returns-clause-length
-read_at-returns-clause-length t c =
+pub read_with_files-returns-clause-length : goal.read_with_files-returns-clause-length
+read_with_files-returns-clause-length t c =
     (c.in-Ok.ensures.found.length_is ∙ ap length_of (sym c.new.ensures), c.in-Ok.ensures.found.whole)
 
 -- ---- a stream

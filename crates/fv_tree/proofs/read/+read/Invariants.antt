@@ -14,19 +14,22 @@ invariant-read_files-loop-file l =
     Pairwise (MeansFile (Stream l.at.left)) (take l.file-index (map file_form l.files)) l.views.items
 
 abbrev pub decreases-read_section : goal.decreases-read_section
-decreases-read_section l = 6 * l.at.left
+decreases-read_section l = 7 * l.at.left
 
 abbrev pub decreases-read_stream : goal.decreases-read_stream
-decreases-read_stream l = 6 * l.at.left + 1
+decreases-read_stream l = 7 * l.at.left + 1
 
 abbrev pub decreases-read_content : goal.decreases-read_content
-decreases-read_content l = 6 * l.at.left + 2
+decreases-read_content l = 7 * l.at.left + 2
 
 abbrev pub decreases-read_file : goal.decreases-read_file
-decreases-read_file l = 6 * l.at.left + 3
+decreases-read_file l = 7 * l.at.left + 3
 
 abbrev pub decreases-read_files : goal.decreases-read_files
-decreases-read_files l = 6 * l.at.left + 4
+decreases-read_files l = 7 * l.at.left + 4
+
+abbrev pub decreases-read_with_files : goal.decreases-read_with_files
+decreases-read_with_files l = 7 * l.at.left + 5
 
 abbrev pub decreases-read_at : goal.decreases-read_at
-decreases-read_at l = 6 * l.at.left + 5
+decreases-read_at l = 7 * l.at.left + 6

@@ -1,0 +1,82 @@
+//! GUIDs.
+
+use std::fmt;
+use std::str::FromStr;
+
+/// A GUID. It is shown as `8c8ce578-8a3d-4f1c-9935-896185c32dd3`, and parsed from such a text.
+///
+/// ```
+/// let guid: fv::Guid = "8c8ce578-8a3d-4f1c-9935-896185c32dd3".parse().unwrap();
+/// assert_eq!(guid.to_bytes()[..4], [0x78, 0xe5, 0x8c, 0x8c]);
+/// assert_eq!(guid.to_string(), "8c8ce578-8a3d-4f1c-9935-896185c32dd3");
+/// ```
+#[repr(C)]
+#[derive(Clone, Copy, Default, PartialEq, Eq, PartialOrd, Ord, Hash)]
+pub struct Guid {
+    bytes: [u8; 16],
+}
+
+/// Of the bytes of the text in order, the place in a volume: the first three fields have their
+/// least significant byte first there.
+const PLACES: [usize; 16] = [3, 2, 1, 0, 5, 4, 7, 6, 8, 9, 10, 11, 12, 13, 14, 15];
+
+impl Guid {
+    /// The GUID with these bytes, as a volume has them. The first three fields have their least
+    /// significant byte first.
+    pub const fn from_bytes(bytes: [u8; 16]) -> Guid {
+        Guid { bytes }
+    }
+
+    /// Its bytes, as a volume has them.
+    pub const fn to_bytes(self) -> [u8; 16] {
+        self.bytes
+    }
+}
+
+impl fmt::Display for Guid {
+    fn fmt(&self, f: &mut fmt::Formatter<'_>) -> fmt::Result {
+        for (number, &place) in PLACES.iter().enumerate() {
+            if matches!(number, 4 | 6 | 8 | 10) {
+                f.write_str("-")?;
+            }
+            write!(f, "{:02x}", self.bytes[place])?;
+        }
+        Ok(())
+    }
+}
+
+impl fmt::Debug for Guid {
+    fn fmt(&self, f: &mut fmt::Formatter<'_>) -> fmt::Result {
+        write!(f, "Guid({self})")
+    }
+}
+
+/// That a text is no GUID: 8-4-4-4-12 hexadecimal digits of either case.
+#[derive(Clone, Copy, Debug, PartialEq, Eq)]
+pub struct NoGuid;
+
+impl fmt::Display for NoGuid {
+    fn fmt(&self, f: &mut fmt::Formatter<'_>) -> fmt::Result {
+        f.write_str("a GUID has 8-4-4-4-12 hexadecimal digits")
+    }
+}
+
+impl std::error::Error for NoGuid {}
+
+impl FromStr for Guid {
+    type Err = NoGuid;
+
+    fn from_str(text: &str) -> Result<Guid, NoGuid> {
+        let groups: Vec<&str> = text.split('-').collect();
+        if !groups.iter().map(|it| it.len()).eq([8, 4, 4, 4, 12]) {
+            return Err(NoGuid);
+        }
+        let digits = groups.concat();
+        let mut bytes = [0; 16];
+        for (place, pair) in PLACES.iter().zip(digits.as_bytes().chunks(2)) {
+            let value = |digit: u8| (digit as char).to_digit(16).ok_or(NoGuid);
+            bytes[*place] = (value(pair[0])? * 16 + value(pair[1])?) as u8;
+        }
+        Ok(Guid { bytes })
+    }
+}

@@ -1,0 +1,473 @@
+//! What calls write in rows.
+
+use crate::fault::RawFault;
+use crate::{Fault, Guid};
+use std::fmt;
+use std::iter::Map;
+
+/// What comes in [`Rows`]. No other type can implement it.
+pub trait Row: Sized + sealed::Raw {}
+
+mod sealed {
+    /// How a row lies in memory, and what is made of it.
+    pub trait Raw: Sized {
+        /// The structure of `fv.h`.
+        type Raw: Copy;
+
+        /// What is made of it.
+        fn made(raw: &Self::Raw) -> Self;
+    }
+}
+
+pub(crate) use sealed::Raw;
+
+/// The rows that a call has written, in order. Each is made when it is looked at: there is no
+/// second list.
+///
+/// ```
+/// # include!(concat!(env!("CARGO_MANIFEST_DIR"), "/tests/sample/volumes.rs"));
+/// # fn main() -> Result<(), fv::Fault> {
+/// # let volume = volume();
+/// let cells = fv::cells(&volume)?;
+/// assert_eq!(cells.len(), 2);
+/// for cell in &cells {
+///     println!("{:?} at {}", cell.what, cell.offset);
+/// }
+/// assert_eq!(cells.iter().map(|it| it.offset).collect::<Vec<_>>(), [72, 112]);
+/// # Ok(())
+/// # }
+/// ```
+#[derive(Clone)]
+pub struct Rows<T: Row> {
+    raw: Vec<T::Raw>,
+}
+
+/// An iterator over rows.
+pub type Iter<'r, T> = Map<std::slice::Iter<'r, <T as Raw>::Raw>, fn(&'r <T as Raw>::Raw) -> T>;
+
+/// An iterator over rows that it has for itself.
+pub type IntoIter<T> = Map<std::vec::IntoIter<<T as Raw>::Raw>, fn(<T as Raw>::Raw) -> T>;
+
+impl<T: Row> Rows<T> {
+    pub(crate) fn new(raw: Vec<T::Raw>) -> Rows<T> {
+        Rows { raw }
+    }
+
+    /// How many there are.
+    pub fn len(&self) -> usize {
+        self.raw.len()
+    }
+
+    /// Whether there are none.
+    pub fn is_empty(&self) -> bool {
+        self.raw.is_empty()
+    }
+
+    /// The row of a number, from 0.
+    pub fn get(&self, number: usize) -> Option<T> {
+        self.raw.get(number).map(T::made)
+    }
+
+    /// Goes over the rows, in order.
+    pub fn iter(&self) -> Iter<'_, T> {
+        self.raw.iter().map(T::made as fn(&T::Raw) -> T)
+    }
+}
+
+impl<'r, T: Row> IntoIterator for &'r Rows<T> {
+    type Item = T;
+    type IntoIter = Iter<'r, T>;
+
+    fn into_iter(self) -> Iter<'r, T> {
+        self.iter()
+    }
+}
+
+impl<T: Row> IntoIterator for Rows<T> {
+    type Item = T;
+    type IntoIter = IntoIter<T>;
+
+    fn into_iter(self) -> IntoIter<T> {
+        self.raw.into_iter().map(|raw| T::made(&raw))
+    }
+}
+
+impl<T: Row + fmt::Debug> fmt::Debug for Rows<T> {
+    fn fmt(&self, f: &mut fmt::Formatter<'_>) -> fmt::Result {
+        f.debug_list().entries(self).finish()
+    }
+}
+
+impl<T: Row + PartialEq> PartialEq for Rows<T> {
+    fn eq(&self, other: &Rows<T>) -> bool {
+        self.iter().eq(other.iter())
+    }
+}
+
+impl<T: Row + Eq> Eq for Rows<T> {}
+
+/// The offset of a volume, as [`scan`](crate::scan) finds it.
+impl Row for usize {}
+
+impl Raw for usize {
+    type Raw = u64;
+
+    fn made(raw: &u64) -> usize {
+        *raw as usize
+    }
+}
+
+/// A SHA-256 digest, as [`list_sums`](crate::list_sums) has it for a row of the tree. `None` for a
+/// section that holds sections or a volume.
+impl Row for Option<[u8; 32]> {}
+
+impl Raw for Option<[u8; 32]> {
+    type Raw = [u8; 32];
+
+    fn made(raw: &[u8; 32]) -> Option<[u8; 32]> {
+        (*raw != [0; 32]).then_some(*raw)
+    }
+}
+
+/// A volume of a flash image, and what is said of it.
+#[derive(Clone, Copy, Debug, PartialEq, Eq, Hash)]
+pub struct VolumeCheck {
+    /// Its offset in bytes from the first byte of the image.
+    pub offset: usize,
+    /// The number of its bytes.
+    pub length: usize,
+    /// The fault with which it is rejected, at its offset in the image.
+    pub fault: Option<Fault>,
+    /// Whether it is its own canonical image.
+    pub canonical: bool,
+}
+
+/// `fv_volume_check`.
+#[doc(hidden)]
+#[repr(C)]
+#[derive(Clone, Copy)]
+pub struct RawCheck {
+    offset: u64,
+    length: u64,
+    fault: RawFault,
+    canonical: u32,
+    reserved: u32,
+}
+
+impl Row for VolumeCheck {}
+
+impl Raw for VolumeCheck {
+    type Raw = RawCheck;
+
+    fn made(raw: &RawCheck) -> VolumeCheck {
+        VolumeCheck {
+            offset: raw.offset as usize,
+            length: raw.length as usize,
+            fault: raw.fault.of_row(),
+            canonical: raw.canonical == 1,
+        }
+    }
+}
+
+/// What a cell of a volume's body is.
+#[derive(Clone, Copy, Debug, PartialEq, Eq, Hash)]
+#[non_exhaustive]
+pub enum What {
+    /// A valid file, also one that is superseded.
+    File,
+    /// A pad file.
+    Pad,
+    /// A file that was deleted.
+    Deleted,
+    /// A file whose data or header were never finished.
+    Unfinished,
+    /// Erased bytes up to the volume's end.
+    Free,
+}
+
+/// A cell of a volume's body, as it is stored. A field that the cell does not have is 0.
+#[derive(Clone, Copy, Debug, PartialEq, Eq, Hash)]
+pub struct Cell {
+    /// Its offset in bytes from the volume's first byte.
+    pub offset: usize,
+    /// The number of its bytes; of a file or a pad without the filler after it.
+    pub len: usize,
+    /// The number of bytes of the header of a file or a pad. Its data are at `offset + header_len`.
+    pub header_len: usize,
+    /// What it is.
+    pub what: What,
+    /// `Type` of a file or a pad.
+    pub kind: u8,
+    /// `Attributes` of a file or a pad.
+    pub attributes: u8,
+    /// `Name` of a file or a pad.
+    pub name: Guid,
+}
+
+/// `fv_cell`.
+#[doc(hidden)]
+#[repr(C)]
+#[derive(Clone, Copy)]
+pub struct RawCell {
+    offset: u64,
+    len: u64,
+    header_len: u64,
+    what: u32,
+    kind: u32,
+    attributes: u32,
+    reserved: u32,
+    name: Guid,
+}
+
+impl Row for Cell {}
+
+impl Raw for Cell {
+    type Raw = RawCell;
+
+    fn made(raw: &RawCell) -> Cell {
+        Cell {
+            offset: raw.offset as usize,
+            len: raw.len as usize,
+            header_len: raw.header_len as usize,
+            what: match raw.what {
+                1 => What::File,
+                2 => What::Pad,
+                3 => What::Deleted,
+                4 => What::Unfinished,
+                _ => What::Free,
+            },
+            kind: raw.kind as u8,
+            attributes: raw.attributes as u8,
+            name: raw.name,
+        }
+    }
+}
+
+/// A file of a volume.
+#[derive(Clone, Copy, Debug, PartialEq, Eq, Hash)]
+pub struct File {
+    /// Its data are at this offset of the input.
+    pub data_offset: usize,
+    /// The number of bytes of its data.
+    pub data_len: usize,
+    /// The number of its sections, those in groups included; 0 if its data are not sections.
+    pub sections: usize,
+    /// `Type`.
+    pub kind: u8,
+    /// `Attributes` as stored: a file with a large header has bit 0x01.
+    pub attributes: u8,
+    /// `Name`.
+    pub name: Guid,
+}
+
+/// `fv_file`.
+#[doc(hidden)]
+#[repr(C)]
+#[derive(Clone, Copy)]
+pub struct RawFile {
+    data_offset: u64,
+    data_len: u64,
+    sections: u64,
+    kind: u32,
+    attributes: u32,
+    name: Guid,
+}
+
+impl Row for File {}
+
+impl Raw for File {
+    type Raw = RawFile;
+
+    fn made(raw: &RawFile) -> File {
+        File {
+            data_offset: raw.data_offset as usize,
+            data_len: raw.data_len as usize,
+            sections: raw.sections as usize,
+            kind: raw.kind as u8,
+            attributes: raw.attributes as u8,
+            name: raw.name,
+        }
+    }
+}
+
+/// What a section holds, or a [`Node`].
+#[derive(Clone, Copy, Debug, PartialEq, Eq, Hash)]
+#[non_exhaustive]
+pub enum Holds {
+    /// Files: it is a volume. No section has this.
+    Files,
+    /// Bytes.
+    Bytes,
+    /// Sections: it is a group.
+    Sections,
+    /// A volume.
+    Volume,
+}
+
+impl Holds {
+    fn made(raw: u32) -> Holds {
+        match raw {
+            0 => Holds::Files,
+            1 => Holds::Bytes,
+            2 => Holds::Sections,
+            _ => Holds::Volume,
+        }
+    }
+}
+
+/// A section of a file.
+#[derive(Clone, Copy, Debug, PartialEq, Eq, Hash)]
+pub struct Section {
+    /// The number of bytes of its body.
+    pub len: usize,
+    /// The number of the group that it is in; `None` if it is in none.
+    pub parent: Option<usize>,
+    /// The number of groups around it.
+    pub depth: usize,
+    /// `Type`.
+    pub kind: u8,
+    /// The number of bytes of its header: 4, or 8 if it is extended.
+    pub header_len: usize,
+    /// What it holds.
+    pub holds: Holds,
+}
+
+/// `fv_section`.
+#[doc(hidden)]
+#[repr(C)]
+#[derive(Clone, Copy)]
+pub struct RawSection {
+    len: u64,
+    parent: u64,
+    depth: u64,
+    kind: u32,
+    header_len: u32,
+    holds: u32,
+    reserved: u32,
+}
+
+impl Row for Section {}
+
+impl Raw for Section {
+    type Raw = RawSection;
+
+    fn made(raw: &RawSection) -> Section {
+        Section {
+            len: raw.len as usize,
+            parent: (raw.parent != u64::MAX).then_some(raw.parent as usize),
+            depth: raw.depth as usize,
+            kind: raw.kind as u8,
+            header_len: raw.header_len as usize,
+            holds: Holds::made(raw.holds),
+        }
+    }
+}
+
+/// What a row of the tree is.
+#[derive(Clone, Copy, Debug, PartialEq, Eq, Hash)]
+#[non_exhaustive]
+pub enum NodeWhat {
+    /// A volume.
+    Volume,
+    /// A file.
+    File,
+    /// A section.
+    Section,
+}
+
+/// A volume, a file or a section of the tree of a volume.
+#[derive(Clone, Copy, Debug, PartialEq, Eq, Hash)]
+pub struct Node {
+    /// Its data, its body, or the volume itself, are at this offset of the input, as stored.
+    pub offset: usize,
+    /// The number of their bytes; of a volume `FvLength`.
+    pub len: usize,
+    /// The number of the row that holds it; `None` of the first.
+    pub parent: Option<usize>,
+    /// The number of rows around it.
+    pub depth: usize,
+    /// Its number among the parts that its parent holds, from 0.
+    pub number: usize,
+    /// What it is.
+    pub what: NodeWhat,
+    /// `Type` of a file or a section; 0 of a volume.
+    pub kind: u8,
+    /// `Attributes` of a file without bit 0x01: then its header has 32 bytes. 0 of all others.
+    pub attributes: u8,
+    /// `HeaderLength` of a volume; 24 or 32 of a file, 4 or 8 of a section, both before the offset.
+    pub header_len: usize,
+    /// What it holds.
+    pub holds: Holds,
+    /// `FileSystemGuid` of a volume, `Name` of a file; `None` of a section.
+    pub guid: Option<Guid>,
+}
+
+/// `fv_node`.
+#[doc(hidden)]
+#[repr(C)]
+#[derive(Clone, Copy)]
+pub struct RawNode {
+    offset: u64,
+    len: u64,
+    parent: u64,
+    depth: u64,
+    number: u64,
+    what: u32,
+    kind: u32,
+    attributes: u32,
+    header_len: u32,
+    holds: u32,
+    reserved: u32,
+    guid: Guid,
+}
+
+impl Row for Node {}
+
+impl Raw for Node {
+    type Raw = RawNode;
+
+    fn made(raw: &RawNode) -> Node {
+        let what = match raw.what {
+            1 => NodeWhat::Volume,
+            2 => NodeWhat::File,
+            _ => NodeWhat::Section,
+        };
+        Node {
+            offset: raw.offset as usize,
+            len: raw.len as usize,
+            parent: (raw.parent != u64::MAX).then_some(raw.parent as usize),
+            depth: raw.depth as usize,
+            number: raw.number as usize,
+            what,
+            kind: raw.kind as u8,
+            attributes: raw.attributes as u8,
+            header_len: raw.header_len as usize,
+            holds: Holds::made(raw.holds),
+            guid: (what != NodeWhat::Section).then_some(raw.guid),
+        }
+    }
+}
+
+/// A block of a hand-off list.
+#[repr(C)]
+#[derive(Clone, Copy, Debug, PartialEq, Eq, Hash)]
+pub struct Hob {
+    /// The base address of the volume that an FV or FV2 block describes, else 0.
+    pub base: u64,
+    /// The number of bytes of that volume, else 0.
+    pub length: u64,
+    /// `HobType`.
+    pub code: u32,
+    /// `HobLength`, the number of bytes of the block.
+    pub hob_length: u32,
+}
+
+impl Row for Hob {}
+
+impl Raw for Hob {
+    type Raw = Hob;
+
+    fn made(raw: &Hob) -> Hob {
+        *raw
+    }
+}

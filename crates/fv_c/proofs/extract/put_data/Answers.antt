@@ -1,0 +1,15 @@
+use Rattle.std.proofs.Common.{rules, ◌∙◌, length, ap, arith, sym}
+use Rattle.fv_canon.specs.Words.{IsData}
+use Rattle.fv_canon.proofs.Laws.{data_one}
+use Rattle.fv_tree.specs.Words.{content_of}
+use Rattle.fv_c.proofs.PartLaws.{part_put}
+use Rattle.fv_c.proofs.extract.put_data.Goals as goal
+
+pub returns-clause-ok : goal.returns-clause-ok
+returns-clause-ok c =
+    let put = c.put_laid_data.ensures in
+    let long = c.in_ok-starts.ensures.long in
+    part_put (IsData (content_of c.args.file.now)) c.new-out.result c.put_laid_data.new.out c.args.buffer.now _ put.0 c.data_len-total.result c.new-out.ensures.none
+    c.new-out.ensures.all put.1 put.2
+    (ap length (data_one (content_of c.args.file.now) put.0 long.0 put.1 long.1) ∙ long.2 ∙ sym c.data_len-total.ensures)
+    (omega (arith, c.if-buffer-total.false)) (search rules)

@@ -1,0 +1,19 @@
+use Rattle.std.proofs.Common.{◌≡◌}
+use Rattle.std.proofs.lemmas.Result.{IfErr-weaker}
+use Rattle.fv_base.specs.Words.{out_of_memory}
+use Rattle.fv_base.specs.declared.fault.Fault.{Fault}
+use Rattle.fv_c.specs.Reports.{BeginsWithHeader}
+use Rattle.fv_c.proofs.MemoryLaws.{header_of}
+use Rattle.fv_c.proofs.PartLaws.{extract_stops}
+use Rattle.fv_c.proofs.extract.put_extracted.Goals as goal
+
+pub returns-clause-err : goal.returns-clause-err
+returns-clause-err c =
+    IfErr-weaker c.put_part.result _ _
+    (λ f stops. extract_stops c.args.file c.args.section c.args.input.now c.in_ok-volume.volume f c.in_ok-volume.ensures.found stops)
+    c.put_part.ensures.err
+
+pub returns-clause-memory : goal.returns-clause-memory
+returns-clause-memory c =
+    IfErr-weaker c.put_part.result _ (λ (f : Fault). f ≡ out_of_memory → BeginsWithHeader c.args.input.now)
+    (λ f why same. header_of c.args.input.now c.in_ok-volume.volume c.in_ok-volume.ensures.found) c.put_part.ensures.err

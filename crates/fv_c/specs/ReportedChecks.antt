@@ -1,0 +1,28 @@
+-- What is said of each volume of a flash image, as it is reported to C.
+use Rattle.std.specs.Prelude.{ℕ}
+use Rattle.fv_canon.specs.declared.image_check.VolumeCheck.{VolumeCheck}
+use Rattle.fv_canon.specs.declared.image_check.VolumeOutcome.{VolumeOutcome}
+use Rattle.fv_canon.specs.declared.image_check.VolumeOutcome.TheVariants.{Canonical, Rejected}
+use Rattle.fv_c.specs.Reports.{no_fault, reported_fault}
+use Rattle.fv_c.specs.declared.image_checks.FvVolumeCheck.{FvVolumeCheck}
+use Rattle.fv_c.specs.declared.reports.FvFault.{FvFault}
+
+-- whether a volume is its own canonical image: 1 or 0
+abbrev pub canonical_flag : VolumeOutcome → ℕ
+canonical_flag Canonical = 1
+canonical_flag outcome = 0
+
+-- the fault with which a volume is rejected, or none
+abbrev pub fault_in : VolumeOutcome → FvFault
+fault_in (Rejected fault) = reported_fault fault
+fault_in outcome = no_fault
+
+-- a volume, and what is said of it
+abbrev pub reported_check : VolumeCheck → FvVolumeCheck
+reported_check c = record {
+  offset = c.offset;
+  length = c.length;
+  fault = fault_in c.outcome;
+  canonical = canonical_flag c.outcome;
+  reserved = 0;
+}

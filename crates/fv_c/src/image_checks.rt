@@ -1,0 +1,117 @@
+//! What is said of each volume of a flash image.
+
+ghost use Rattle.std.specs.Prelude.{◌≡◌, ◌≢◌, ◌⊎◌, ◌<◌, ◌≤◌, ◌++◌, ℕ, List, length, drop, map, IfErr, IfOk};
+ghost use Rattle.fv_base.specs.Words.{OrMemory, fault_number, out_of_memory, volume_limit};
+ghost use Rattle.fv_base.specs.declared.fault.Fault.{Fault};
+ghost use Rattle.fv_canon.specs.Words.{ChecksImage, IsAboveLimit};
+ghost use Rattle.fv_canon.specs.declared.image_check.VolumeCheck.{VolumeCheck};
+ghost use Rattle.fv_flash.specs.Words.{IsPlace};
+ghost use Rattle.fv_c.specs.ReportedChecks.{canonical_flag, fault_in, reported_check};
+ghost use Rattle.fv_c.specs.Reports.{no_fault, reported_fault};
+
+use crate::buffer::put_result;
+use crate::reports::{FvFault, NO_FAULT, refused, reported_fault};
+use crate::translate::{Translate, translate_all};
+use fv_base::Fault;
+use fv_canon::{VolumeCheck, VolumeOutcome, check_image};
+use std::alloc::Global;
+
+/// A volume of a flash image, and what is said of it. (PI specification, volume 3, section 3.2.)
+#[repr(C)]
+#[derive(Clone, Copy)]
+pub struct FvVolumeCheck {
+    /// Its offset in bytes from the first byte of the image.
+    pub offset: u64,
+    /// The number of its bytes, `FvLength`.
+    pub length: u64,
+    /// The fault with which it is rejected, at its offset in the image. All fields are 0 if there is
+    /// none.
+    pub fault: FvFault,
+    /// 1 if it is its own canonical image, else 0.
+    pub canonical: u32,
+    /// Always 0.
+    pub reserved: u32,
+}
+
+// Whether a volume is its own canonical image, for C.
+fn canonical_flag(outcome: VolumeOutcome) -> u32
+    ensures { result ≡ canonical_flag outcome }
+{
+    match outcome {
+        VolumeOutcome::Canonical => 1,
+        _ => 0,
+    }
+}
+
+// The fault with which a volume is rejected, for C.
+fn fault_in(outcome: VolumeOutcome) -> FvFault
+    ensures { result ≡ fault_in outcome }
+{
+    match outcome {
+        VolumeOutcome::Rejected(fault) => reported_fault(fault),
+        _ => NO_FAULT,
+    }
+}
+
+impl Translate for VolumeCheck {
+    type Target = FvVolumeCheck;
+
+    ghost translated = { reported_check };
+
+    fn translate(&self) -> FvVolumeCheck {
+        FvVolumeCheck {
+            offset: self.offset,
+            length: self.length,
+            fault: fault_in(self.outcome),
+            canonical: canonical_flag(self.outcome),
+            reserved: 0,
+        }
+    }
+}
+
+// What is said of each volume of the image, for C.
+fn check_rows(alloc: Global, image: &[u8]) -> Result<Vec<FvVolumeCheck>, Fault>
+    ensures ok { IfOk result (λ v. (checks : List VolumeCheck) × ChecksImage image.now checks
+        × (v.items ≡ map reported_check checks)) }
+    ensures err { IfErr result (OrMemory (IsAboveLimit image.now)) }
+    ensures memory { IfErr result (λ f. f ≡ out_of_memory
+        → (length image.now ≤ volume_limit) × ((place : ℕ) × IsPlace image.now place)) }
+{
+    let checks = check_image(alloc, image)?;
+    Ok(translate_all(alloc, checks.as_slice())?)
+}
+
+/// Writes what is said of each volume that `fv_scan` finds in a flash image, in their order, at the
+/// start of the buffer. `count` is their number. Returns 0, also if a volume is rejected: its row
+/// has the fault. (PI specification, volume 3, section 3.2.)
+///
+/// # Errors
+///
+/// 256 if the buffer has fewer elements than `count`. The number of a fault, which is in `fault`: 8
+/// if the image is above the limit; 24 if memory runs out. `count` is unchanged then. The buffer is
+/// unchanged in both cases.
+#[unsafe(no_mangle)]
+pub extern "C" fn fv_check_image(
+    alloc: Global,
+    image: &[u8],
+    buffer: &mut [FvVolumeCheck],
+    count: &mut u64,
+    fault: &mut FvFault,
+) -> u32
+    // The buffer begins with the rows of the volumes, and holds what it held after them.
+    ensures ok { result ≡ 0 → (checks : List VolumeCheck) × ChecksImage image.now checks
+        × (count.new ≡ length checks) × (buffer.new ≡ map reported_check checks ++ drop (length checks) buffer.old)
+        × (fault.new ≡ no_fault) }
+
+    ensures kept { result ≢ 0 → buffer.new ≡ buffer.old }
+    ensures small { result ≡ 256 → (checks : List VolumeCheck) × ChecksImage image.now checks
+        × (count.new ≡ length checks) × (length buffer.old < length checks) × (fault.new ≡ no_fault) }
+
+    // Any other fault is out of memory, only if a volume begins in an image within the limit, or
+    // that of an image above the limit.
+    ensures err { result ≢ 0 → result ≢ 256 → (f : Fault) × OrMemory (IsAboveLimit image.now) f
+        × (f ≡ out_of_memory → (length image.now ≤ volume_limit) × ((place : ℕ) × IsPlace image.now place))
+        × (result ≡ fault_number f.kind) × (fault.new ≡ reported_fault f) × (count.new ≡ count.old) }
+{
+    put_result(check_rows(alloc, image), buffer, count, fault)
+}

@@ -1,0 +1,362 @@
+//! The whole tree of a volume.
+
+ghost use Rattle.std.specs.Prelude.{◌≡◌, ◌≢◌, ◌⊎◌, ◌<◌, ◌≤◌, ◌+◌, ◌^◌, ◌++◌, List, length, drop, map};
+ghost use Rattle.std.specs.Prelude.{IfOk, IfErr, OnOk};
+ghost use Rattle.fv_base.specs.Words.{OrMemory, fault_number, out_of_memory};
+ghost use Rattle.fv_base.specs.declared.fault.Fault.{Fault};
+ghost use Rattle.fv_head.specs.Words.{system_guid};
+ghost use Rattle.fv_section.specs.Words as framed;
+ghost use Rattle.fv_tree.specs.Words.{NotRead, data_place, body_place, file_form, content_of, body_of};
+ghost use Rattle.fv_tree.specs.Words.{body_len, files_from, sections_from};
+ghost use Rattle.fv_c.specs.Reports.{BeginsWithHeader, reported_fault, no_fault};
+ghost use Rattle.fv_c.specs.TreeParts.{VolumeNode, FileNode, SectionNode, tree_of_files, tree_in_content};
+ghost use Rattle.fv_c.specs.TreeParts.{tree_of_sections, tree_in_body};
+ghost use Rattle.fv_c.specs.ReportedTree.{HasTreeRows, reported_node, bytes_at, content_number};
+ghost use Rattle.fv_c.specs.inner.Trees.{Grows, IsAdded, IsHolder, HoldsFiles, HoldsContent, HoldsSections, HoldsBody};
+
+use crate::buffer::put_result;
+use crate::parts::{NO_PARENT, held_number};
+use crate::reports::FvFault;
+use fv_base::{Fault, FileSystem};
+use fv_section::{Frame, FrameWalk, section_header_len};
+use fv_tree::{
+    Body, Content, FileView, LocatedFile, SectionView, VolumeView, located_files,
+    whole_volume_with_files,
+};
+use std::alloc::{AllocError, Global};
+
+/// A part of the tree of a volume: a volume, a file or a section. (PI specification, volume 3,
+/// sections 3.2.1, 3.2.3 and 3.2.4.)
+#[repr(C)]
+#[derive(Clone, Copy)]
+pub struct FvNode {
+    /// The offset in bytes in the input of the first byte of a volume, of the data of a file, or of
+    /// the body of a section, as they are stored.
+    pub offset: u64,
+    /// The number of these bytes; of a volume `FvLength`.
+    pub len: u64,
+    /// The number of the row that holds it, or 2^64 - 1 if it is the first.
+    pub parent: u64,
+    /// The number of rows around it.
+    pub depth: u64,
+    /// Its number among the parts that its parent holds, counted from 0.
+    pub number: u64,
+    /// What it is: 1 a volume, 2 a file, 3 a section.
+    pub what: u32,
+    /// `Type` of a file or of a section, 0 of a volume.
+    pub kind: u32,
+    /// `Attributes` of a file without `FFS_ATTRIB_LARGE_FILE`, else 0.
+    pub attributes: u32,
+    /// The number of bytes of its header: `HeaderLength` of a volume, 24 or 32 of a file, 4 or 8 of
+    /// a section.
+    pub header_len: u32,
+    /// What it holds: 0 files, 1 bytes, 2 sections, 3 a volume.
+    pub holds: u32,
+    /// Always 0.
+    pub reserved: u32,
+    /// `FileSystemGuid` of a volume, or `Name` of a file, by its bytes in the volume, else zeros.
+    pub guid: [u8; 16],
+}
+
+// A row and its number.
+#[derive(Clone, Copy)]
+struct Holder {
+    number: u64,
+    node: FvNode,
+}
+
+/// `EFI_FIRMWARE_FILE_SYSTEM2_GUID`, 8c8ce578-8a3d-4f1c-9935-896185c32dd3.
+const FFS2: [u8; 16] = [
+    0x78, 0xe5, 0x8c, 0x8c, 0x3d, 0x8a, 0x1c, 0x4f, 0x99, 0x35, 0x89, 0x61, 0x85, 0xc3, 0x2d, 0xd3,
+];
+
+/// `EFI_FIRMWARE_FILE_SYSTEM3_GUID`, 5473c07a-3dcb-4dca-bd6f-1e9689e7349a.
+const FFS3: [u8; 16] = [
+    0x7a, 0xc0, 0x73, 0x54, 0xcb, 0x3d, 0xca, 0x4d, 0xbd, 0x6f, 0x1e, 0x96, 0x89, 0xe7, 0x34, 0x9a,
+];
+
+// The GUID of a file system, as in `FileSystemGuid`.
+fn guid_of_system(file_system: FileSystem) -> [u8; 16]
+    ensures { result ≡ system_guid file_system }
+{
+    match file_system {
+        FileSystem::Ffs2 => FFS2,
+        FileSystem::Ffs3 => FFS3,
+    }
+}
+
+// A volume at this offset, for C.
+fn volume_node(volume: &VolumeView<'_>, parent: u64, depth: u64, offset: u64) -> FvNode
+    ensures { result ≡ reported_node offset 0
+        (record { parent = parent; depth = depth; number = 0; node = VolumeNode volume.now }) }
+{
+    let head = volume.head();
+    FvNode {
+        offset,
+        len: head.length(),
+        parent,
+        depth,
+        number: 0,
+        what: 1,
+        kind: 0,
+        attributes: 0,
+        header_len: u32::from(head.header_len()),
+        holds: 0,
+        reserved: 0,
+        guid: guid_of_system(head.file_system()),
+    }
+}
+
+// What the data of a file are, for C: 1 bytes, 2 sections.
+fn content_number(file: &FileView<'_>) -> u32
+    ensures { result ≡ content_number (content_of file.now) }
+{
+    match file.content() {
+        Content::Plain(_) => 1,
+        Content::Stream { .. } => 2,
+    }
+}
+
+// File number `number` of the volume in a row, for C.
+fn file_node(stored: &LocatedFile<'_>, file: &FileView<'_>, holder: &Holder, number: u64) -> FvNode
+    requires offset { holder.now.node.offset + data_place (file_form stored.now) < 2 ^ 63 }
+    requires depth { holder.now.node.depth < 2 ^ 63 }
+    ensures { result ≡ reported_node (holder.now.node.offset + data_place (file_form stored.now))
+        (file_form stored.now).head.header_len
+        (record { parent = holder.now.number; depth = holder.now.node.depth + 1; number = number; node = FileNode file.now }) }
+{
+    let header_len = stored.header_len();
+    FvNode {
+        offset: holder.node.offset + (u64::from(stored.offset) + header_len),
+        len: file.data_len(),
+        parent: holder.number,
+        depth: holder.node.depth + 1,
+        number,
+        what: 2,
+        kind: u32::from(file.kind()),
+        attributes: u32::from(file.attributes().byte()),
+        header_len: header_len as u32,
+        holds: content_number(file),
+        reserved: 0,
+        guid: file.name().to_bytes(),
+    }
+}
+
+// Section number `number` of the stream in a row, for C.
+fn section_node(
+    frame: &Frame<'_>,
+    section: &SectionView<'_>,
+    holder: &Holder,
+    number: u64,
+) -> FvNode
+    requires offset { holder.now.node.offset + body_place (framed.frame_form frame.now) < 2 ^ 63 }
+    requires depth { holder.now.node.depth < 2 ^ 63 }
+    ensures { result ≡ reported_node (holder.now.node.offset + body_place (framed.frame_form frame.now)) 0
+        (record { parent = holder.now.number; depth = holder.now.node.depth + 1; number = number; node = SectionNode section.now }) }
+{
+    FvNode {
+        offset: holder.node.offset + (frame.offset + section_header_len(frame.extended)),
+        len: section.body_len(),
+        parent: holder.number,
+        depth: holder.node.depth + 1,
+        number,
+        what: 3,
+        kind: u32::from(section.kind()),
+        attributes: 0,
+        header_len: section_header_len(section.extended()) as u32,
+        holds: held_number(section),
+        reserved: 0,
+        guid: [0; 16],
+    }
+}
+
+// Adds a row, and returns it with its number.
+fn add_row(node: FvNode, rows: &mut Vec<FvNode>) -> Result<Holder, AllocError>
+    ensures { IfOk result (IsAdded rows.old.items rows.new.items node) }
+{
+    let number = rows.len() as u64;
+    rows.push(node)?;
+    Ok(Holder { number, node })
+}
+
+// The bytes of a row.
+fn bytes_of_row<'a>(input: &'a [u8], node: &FvNode) -> &'a [u8]
+    requires { node.now.offset + node.now.len ≤ length input.now }
+    ensures { result.now ≡ bytes_at input.now node.now }
+{
+    let start = node.offset as usize;
+    &input[start..start + node.len as usize]
+}
+
+// Adds the files of the volume in a row, which are stored so, each followed by what it holds.
+#[cycle(tree)]
+fn add_files(
+    alloc: Global,
+    input: &[u8],
+    holder: &Holder,
+    stored: &[LocatedFile<'_>],
+    files: &[FileView<'_>],
+    rows: &mut Vec<FvNode>,
+) -> Result<(), Fault>
+    requires holder { IsHolder input.now rows.old.items holder.now }
+    requires volume { HoldsFiles (bytes_at input.now holder.now.node) (map file_form stored.now) files.now }
+    ensures rows { OnOk result (Grows input.now rows.old.items rows.new.items (tree_of_files
+        (length rows.old.items) holder.now.number (holder.now.node.depth + 1) 0 (files_from files.now))) }
+    ensures err { IfErr result (λ f. f ≡ out_of_memory) }
+{
+    for (number, file) in files.iter().enumerate() {
+        let node = file_node(&stored[number], file, holder, number as u64);
+        let added = add_row(node, rows)?;
+        add_content(alloc, input, &added, file, rows)?;
+    }
+    Ok(())
+}
+
+// Adds the sections that are the data of the file in a row, each followed by what it holds.
+#[cycle(tree)]
+fn add_content(
+    alloc: Global,
+    input: &[u8],
+    holder: &Holder,
+    file: &FileView<'_>,
+    rows: &mut Vec<FvNode>,
+) -> Result<(), Fault>
+    requires holder { IsHolder input.now rows.old.items holder.now }
+    requires content { HoldsContent (bytes_at input.now holder.now.node) (content_of file.now) }
+    ensures rows { OnOk result (Grows input.now rows.old.items rows.new.items (tree_in_content
+        (length rows.old.items) holder.now.number (holder.now.node.depth + 1) (content_of file.now))) }
+    ensures err { IfErr result (λ f. f ≡ out_of_memory) }
+{
+    match file.content() {
+        Content::Plain(_) => Ok(()),
+        Content::Stream { sections, .. } => add_sections(
+            alloc,
+            input,
+            holder,
+            sections.as_slice(),
+            rows,
+        ),
+    }
+}
+
+// Adds the sections of the stream in a row, each followed by what it holds.
+#[cycle(tree)]
+fn add_sections(
+    alloc: Global,
+    input: &[u8],
+    holder: &Holder,
+    sections: &[SectionView<'_>],
+    rows: &mut Vec<FvNode>,
+) -> Result<(), Fault>
+    requires holder { IsHolder input.now rows.old.items holder.now }
+    requires stream { HoldsSections (bytes_at input.now holder.now.node) sections.now }
+    ensures rows { OnOk result (Grows input.now rows.old.items rows.new.items (tree_of_sections
+        (length rows.old.items) holder.now.number (holder.now.node.depth + 1) 0 (sections_from sections.now))) }
+    ensures err { IfErr result (λ f. f ≡ out_of_memory) }
+{
+    let Ok(mut walk) = FrameWalk::of(bytes_of_row(input, &holder.node)) else {
+        return Ok(());
+    };
+    for (number, section) in sections.iter().enumerate() {
+        let Some(frame) = walk.next_frame() else {
+            break;
+        };
+        let node = section_node(&frame, section, holder, number as u64);
+        let added = add_row(node, rows)?;
+        add_body(alloc, input, &added, section, rows)?;
+    }
+    Ok(())
+}
+
+// Adds what the section in a row holds: sections, or a volume; each is followed by what it holds.
+#[cycle(tree)]
+fn add_body(
+    alloc: Global,
+    input: &[u8],
+    holder: &Holder,
+    section: &SectionView<'_>,
+    rows: &mut Vec<FvNode>,
+) -> Result<(), Fault>
+    requires holder { IsHolder input.now rows.old.items holder.now }
+    requires body { HoldsBody (bytes_at input.now holder.now.node) (body_of section.now) }
+    requires len { holder.now.node.len ≡ body_len (body_of section.now) }
+    ensures rows { OnOk result (Grows input.now rows.old.items rows.new.items (tree_in_body
+        (length rows.old.items) holder.now.number (holder.now.node.depth + 1) (body_of section.now))) }
+    ensures err { IfErr result (λ f. f ≡ out_of_memory) }
+{
+    match section.body() {
+        Body::Leaf(_) => Ok(()),
+        Body::Group { sections, .. } => add_sections(alloc, input, holder, sections, rows),
+        Body::Nested(volume) => {
+            let Holder { number, node } = *holder;
+            let nested = volume_node(volume, number, node.depth + 1, node.offset);
+            let added = add_row(nested, rows)?;
+            let stored = located_files(alloc, bytes_of_row(input, &added.node))?;
+            add_files(
+                alloc,
+                input,
+                &added,
+                stored.as_slice(),
+                volume.files(),
+                rows,
+            )
+        }
+    }
+}
+
+// Reads the input as a volume, and returns its tree, for C.
+fn rows_in(alloc: Global, input: &[u8]) -> Result<Vec<FvNode>, Fault>
+    ensures ok { IfOk result (λ v. HasTreeRows input.now v.items) }
+    ensures err { IfErr result (OrMemory (NotRead input.now)) }
+    ensures memory { IfErr result (λ f. f ≡ out_of_memory → BeginsWithHeader input.now) }
+{
+    let (volume, stored) = whole_volume_with_files(alloc, input)?;
+    let mut rows = Vec::new(alloc);
+    let added = add_row(volume_node(&volume, NO_PARENT, 0, 0), &mut rows)?;
+    add_files(
+        alloc,
+        input,
+        &added,
+        stored.as_slice(),
+        volume.files(),
+        &mut rows,
+    )?;
+    Ok(rows)
+}
+
+/// Writes the whole tree of the volume that the input is at the start of the buffer: the volume,
+/// its files and their sections, and in the same way each volume that a section holds. Each row is
+/// followed by the rows of what it holds. `count` is the number of rows. Returns 0. Data are read
+/// once. To find the places of the parts, headers are read again, except those of the volume's own
+/// files. A file that is marked for update and whose update is in its volume is none of them. (PI
+/// specification, volume 3, sections 3.2.1, 3.2.3 and 3.2.4.)
+///
+/// # Errors
+///
+/// 256 if the buffer has fewer elements than `count`. The number of the first fault, which is in
+/// `fault`: those of `whole_volume`; 24 if memory runs out. `count` is unchanged then. The buffer
+/// is unchanged in both cases.
+#[unsafe(no_mangle)]
+pub extern "C" fn fv_tree(
+    alloc: Global,
+    input: &[u8],
+    buffer: &mut [FvNode],
+    count: &mut u64,
+    fault: &mut FvFault,
+) -> u32
+    // The buffer begins with the rows, and holds what it held after them.
+    ensures ok { result ≡ 0 → (rows : List FvNode) × HasTreeRows input.now rows × (count.new ≡ length rows)
+        × (buffer.new ≡ rows ++ drop (length rows) buffer.old) × (fault.new ≡ no_fault) }
+
+    ensures kept { result ≢ 0 → buffer.new ≡ buffer.old }
+    ensures small { result ≡ 256 → (rows : List FvNode) × HasTreeRows input.now rows × (count.new ≡ length rows)
+        × (length buffer.old < length rows) × (fault.new ≡ no_fault) }
+
+    // Any other fault is out of memory, only if the input begins with the header of a volume, or
+    // the first of the input.
+    ensures err { result ≢ 0 → result ≢ 256 → (f : Fault) × OrMemory (NotRead input.now) f
+        × (f ≡ out_of_memory → BeginsWithHeader input.now)
+        × (result ≡ fault_number f.kind) × (fault.new ≡ reported_fault f) × (count.new ≡ count.old) }
+{
+    put_result(rows_in(alloc, input), buffer, count, fault)
+}

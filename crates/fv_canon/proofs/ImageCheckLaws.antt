@@ -1,0 +1,187 @@
+-- What is said of each volume of an image. The steps:
+-- 1. An input has one first fault (`one_first`), so bytes have one outcome (`one_outcome`), and an image one list of checks
+--    (`checks_one`).
+-- 2. What reads a volume rejects it, or memory ran out (`ran_out_only`, `is_rejected`).
+-- 3. The volumes at the first places are checked: one more (`checks_more`), or all (`checks_all`).
+-- 4. They are all canonical exactly if the image stays as it is (`canonical_images_stay`).
+use Rattle.std.proofs.Common.{◌≡◌, ◌≢◌, ◌⊎◌, ◌≤◌, ◌<◌, ◌+◌, ℕ, List, [], ◌∷◌, ◌++◌, length, take, get_or, map, refl, sym, ap}
+use Rattle.std.proofs.Common.{◌∙◌, subst, arith, inl, inr}
+use Rattle.std.specs.List.{AllByRecursion}
+use Rattle.std.proofs.lemmas.List.{map-append, take_all, take_more}
+use Rattle.fv_base.specs.Words.{out_of_memory, outer_fault, depth_limit, field}
+use Rattle.fv_base.specs.declared.fault.Fault.{Fault}
+use Rattle.fv_base.specs.declared.fault.FaultKind.TheVariants as kinds
+use Rattle.fv_base.proofs.Laws.{first_only}
+use Rattle.fv_flash.specs.Words.{VolumeAt}
+use Rattle.fv_flash.proofs.Laws.{one_found, one_length}
+use Rattle.fv_head.proofs.Laws.{one_front}
+use Rattle.fv_head.specs.declared.extent.Extent.{Extent}
+use Rattle.fv_tree.specs.Words.{moved_fault, GoesOn, IsFirstOfInput, IsFirstOfVolume, Meaning, NotRead, head_of, length_of, outermost}
+use Rattle.fv_tree.proofs.Laws.{fault_refuses, fault_stands, first_once, front_of, one_meaning, stands_other}
+use Rattle.fv_base.specs.Words.{First}
+use Rattle.fv_canon.specs.ImageChecks.{AreCanonical, AreChecked, CanonicalImagesStay, ChecksImage, HasOutcome, IsChecked}
+use Rattle.fv_canon.specs.Words.{IsImage, IsRenewed, NormalisesTo}
+use Rattle.fv_canon.specs.declared.image_check.VolumeCheck.{VolumeCheck}
+use Rattle.fv_canon.specs.declared.image_check.VolumeOutcome.{VolumeOutcome}
+use Rattle.fv_canon.specs.declared.image_check.VolumeOutcome.TheVariants.{Canonical, NotCanonical, Rejected}
+use Rattle.fv_canon.proofs.LaidVolumeLaws.{all_push}
+
+-- ---- 1. one outcome
+
+-- bytes with a first fault begin with no volume
+first_or_on : (b : List ℕ) (f g : Fault) → IsFirstOfVolume b f → GoesOn b g → ⊥
+first_or_on b f g first (m, d, less, is) =
+    fault_refuses First depth_limit (length_of m) f b outermost m (omega (arith, less)) first d.1
+
+-- the volume that bytes go on after has one length
+one_end : (b : List ℕ) (f g : Fault) → GoesOn b f → GoesOn b g → f ≡ g
+one_end b f g (m, d, less, is) (k, d', less', is') =
+    let front = front_of depth_limit (length_of m) b m (omega (arith, less)) d.1 in
+    let front' = front_of depth_limit (length_of k) b k (omega (arith, less')) d'.1 in
+    let same = one_front b (head_of m) (head_of k) d.1.extent d'.1.extent front.0 front'.0 in
+    let long : length_of m ≡ length_of k = sym front.1 ∙ (ap (λ (e : Extent). e.length) same.1 ∙ front'.1) in
+    is ∙ (ap (outer_fault kinds.Length) long ∙ sym is')
+
+-- an input has one first fault
+one_first : (b : List ℕ) (f g : Fault) → IsFirstOfInput b f → IsFirstOfInput b g → f ≡ g
+one_first b f g (inl first) (inl other) = first_once depth_limit f g b outermost first other
+one_first b f g (inl first) (inr on) = absurd (first_or_on b f g first on)
+one_first b f g (inr on) (inl other) = absurd (first_or_on b g f other on)
+one_first b f g (inr on) (inr on') = one_end b f g on on'
+
+-- bytes have one outcome
+one_outcome : (at : ℕ) (b : List ℕ) (x y : VolumeOutcome) → HasOutcome at b x → HasOutcome at b y → x ≡ y
+one_outcome at b Canonical Canonical has has' = refl
+one_outcome at b Canonical NotCanonical (m, a, is) (k, c, none) =
+    absurd (none (subst (λ (n : Meaning). IsImage n b) (one_meaning depth_limit depth_limit b m k a.1 c.1) is))
+one_outcome at b Canonical (Rejected f) (m, a, is) (own, bad, e) = absurd (bad.none m a)
+one_outcome at b NotCanonical Canonical (k, c, none) (m, a, is) =
+    absurd (none (subst (λ (n : Meaning). IsImage n b) (one_meaning depth_limit depth_limit b m k a.1 c.1) is))
+one_outcome at b NotCanonical NotCanonical has has' = refl
+one_outcome at b NotCanonical (Rejected f) (m, a, none) (own, bad, e) = absurd (bad.none m a)
+one_outcome at b (Rejected f) Canonical (own, bad, e) (m, a, is) = absurd (bad.none m a)
+one_outcome at b (Rejected f) NotCanonical (own, bad, e) (m, a, none) = absurd (bad.none m a)
+one_outcome at b (Rejected f) (Rejected g) (own, bad, e) (own', bad', e') =
+    let same : own ≡ own' = one_first b own own' bad.first bad'.first in
+    ap Rejected (e ∙ (ap (λ (o : Fault). moved_fault at o.place.depth o) same ∙ sym e'))
+
+-- and a volume at a place one check
+one_check : (b : List ℕ) (c d : VolumeCheck) → c.offset ≡ d.offset → IsChecked b c → IsChecked b d → c ≡ d
+one_check b c d same (v, has) (w, has') =
+    let long : c.length ≡ d.length = one_length b d.offset c.length d.length (subst (λ (k : ℕ). VolumeAt b k c.length) same v) w in
+    let there : HasOutcome d.offset (field d.offset c.length b) c.outcome =
+    subst (λ (k : ℕ). HasOutcome k (field k c.length b) c.outcome) same has in
+    let has_it : HasOutcome d.offset (field d.offset d.length b) c.outcome =
+    subst (λ (n : ℕ). HasOutcome d.offset (field d.offset n b) c.outcome) long there in
+    let out : c.outcome ≡ d.outcome = one_outcome d.offset (field d.offset d.length b) c.outcome d.outcome has_it has' in
+    let made : ℕ → ℕ → VolumeOutcome → VolumeCheck = λ o n x. record { offset = o; length = n; outcome = x } in
+    ap (λ (o : ℕ). made o c.length c.outcome) same ∙ (ap (λ (n : ℕ). made d.offset n c.outcome) long
+    ∙ ap (λ (x : VolumeOutcome). made d.offset d.length x) out)
+
+-- so the volumes at some places have one list of checks
+each_one : (b offsets : List ℕ) (xs ys : List VolumeCheck) → AreChecked b offsets xs → AreChecked b offsets ys → xs ≡ ys
+each_one b [] [] [] (at, all) (at', all') = refl
+each_one b [] (x ∷ xs) ys (at, all) other = let bad : x.offset ∷ map (λ (c : VolumeCheck). c.offset) xs ≡ [] = at in cc
+each_one b [] [] (y ∷ ys) (at, all) (at', all') = let bad : y.offset ∷ map (λ (c : VolumeCheck). c.offset) ys ≡ [] = at' in cc
+each_one b (o ∷ os) [] ys (at, all) other = let bad : [] ≡ o ∷ os = at in cc
+each_one b (o ∷ os) (x ∷ xs) [] (at, all) (at', all') = let bad : [] ≡ o ∷ os = at' in cc
+each_one b (o ∷ os) (x ∷ xs) (y ∷ ys) (at, (is, all)) (at', (is', all')) =
+    let first : x.offset ≡ o = cc in
+    let other : y.offset ≡ o = cc in
+    let rest : map (λ (c : VolumeCheck). c.offset) xs ≡ os = cc in
+    let rest' : map (λ (c : VolumeCheck). c.offset) ys ≡ os = cc in
+    ap (λ (c : VolumeCheck). c ∷ xs) (one_check b x y (first ∙ sym other) is is')
+    ∙ ap (λ (l : List VolumeCheck). y ∷ l) (each_one b os xs ys (rest, all) (rest', all'))
+
+-- and so have those of an image
+pub checks_one : (b : List ℕ) (xs ys : List VolumeCheck) → ChecksImage b xs → ChecksImage b ys → xs ≡ ys
+checks_one b xs ys (short, offsets, found, are) (short', offsets', found', are') =
+    each_one b offsets' xs ys (subst (λ (l : List ℕ). AreChecked b l xs) (one_found b offsets offsets' found found') are) are'
+
+-- ---- 2. one that is rejected
+
+-- the first fault of an input is not out of memory
+not_memory : (b : List ℕ) (f : Fault) → NotRead b f → f.kind ≢ kinds.OutOfMemory
+not_memory b f bad = go bad.first where
+  go : IsFirstOfInput b f → f.kind ≢ kinds.OutOfMemory
+  go (inl first) = stands_other b f kinds.OutOfMemory refl (fault_stands b f first)
+  go (inr (m, d, less, is)) = λ want. let never : kinds.Length ≡ kinds.OutOfMemory = sym (ap (λ (g : Fault). g.kind) is) ∙ want in cc
+
+-- a reading that fails with this kind fails because memory ran out
+pub ran_out_only : (b : List ℕ) (f : Fault) → (f ≡ out_of_memory) ⊎ NotRead b f → f.kind ≡ kinds.OutOfMemory → f ≡ out_of_memory
+ran_out_only b f why kind = first_only why (λ bad. not_memory b f bad kind)
+
+-- and with any other kind the bytes are rejected
+pub is_not_read : (b : List ℕ) (f : Fault) → (f ≡ out_of_memory) ⊎ NotRead b f → f.kind ≢ kinds.OutOfMemory → NotRead b f
+is_not_read b f (inl want) other = absurd (other (ap (λ (g : Fault). g.kind) want))
+is_not_read b f (inr bad) other = bad
+
+pub is_rejected : (at : ℕ) (b : List ℕ) (own f : Fault) → (own ≡ out_of_memory) ⊎ NotRead b own → own.kind ≢ kinds.OutOfMemory
+    → (f ≢ out_of_memory → (own ≢ out_of_memory) × (f ≡ moved_fault at own.place.depth own)) → f.kind ≡ own.kind
+    → HasOutcome at b (Rejected f)
+is_rejected at b own f why other moved kind =
+    let memory : f ≢ out_of_memory = λ want. other (sym kind ∙ ap (λ (g : Fault). g.kind) want) in
+    (own, is_not_read b own why other, (moved memory).1)
+
+-- ---- 3. the volumes, checked one after another
+
+-- the next is checked too
+pub checks_more : (b places : List ℕ) (i : ℕ) (checks : List VolumeCheck) (c : VolumeCheck) → AreChecked b (take i places) checks
+    → i < length places → c.offset ≡ get_or places i 0 → IsChecked b c → AreChecked b (take (i + 1) places) (checks ++ c ∷ [])
+checks_more b places i checks c (same, all) less at is = (
+  map-append (λ (d : VolumeCheck). d.offset) checks (c ∷ [])
+      ∙ ap (λ (l : List ℕ). l ++ c.offset ∷ []) same
+      ∙ ap (λ (k : ℕ). take i places ++ k ∷ []) at ∙ sym (take_more places i 0 less),
+  all_push (IsChecked b) checks c all is,
+)
+
+-- all are checked
+pub checks_all : (b places : List ℕ) (i : ℕ) (checks : List VolumeCheck) → AreChecked b (take i places) checks → length places ≤ i
+    → AreChecked b places checks
+checks_all b places i checks are past = subst (λ (l : List ℕ). AreChecked b l checks) (take_all i places past) are
+
+-- ---- 4. an image whose volumes are all canonical
+
+-- each of them is renewed where the image is as it was
+renewed_own : (b offsets : List ℕ) (checks : List VolumeCheck) → AreChecked b offsets checks → AreCanonical checks
+    → AllByRecursion (IsRenewed b b) offsets
+renewed_own b [] [] (at, all) own = tt
+renewed_own b [] (c ∷ cs) (at, all) own = tt
+renewed_own b (o ∷ os) [] (at, all) own = let bad : [] ≡ o ∷ os = at in cc
+renewed_own b (o ∷ os) (c ∷ cs) (at, ((v, has), all)) (is, own) =
+    let first : c.offset ≡ o = cc in
+    let rest : map (λ (d : VolumeCheck). d.offset) cs ≡ os = cc in
+    let to : NormalisesTo (field c.offset c.length b) (field c.offset c.length b) =
+    subst (HasOutcome c.offset (field c.offset c.length b)) is has in
+    (subst (IsRenewed b b) first (c.length, v, to), renewed_own b os cs (rest, all) own)
+
+-- and is canonical where it is renewed as it was
+is_own : (at : ℕ) (b : List ℕ) (x : VolumeOutcome) → HasOutcome at b x → NormalisesTo b b → x ≡ Canonical
+is_own at b x has to = one_outcome at b x Canonical has to
+
+own_renewed : (b offsets : List ℕ) (checks : List VolumeCheck) → AreChecked b offsets checks → AllByRecursion (IsRenewed b b) offsets
+    → AreCanonical checks
+own_renewed b offsets [] (at, all) renewed = tt
+own_renewed b [] (c ∷ cs) (at, all) renewed = let bad : c.offset ∷ map (λ (d : VolumeCheck). d.offset) cs ≡ [] = at in cc
+own_renewed b (o ∷ os) (c ∷ cs) (at, ((v, has), all)) ((n, w, to), renewed) =
+    let first : o ≡ c.offset = cc in
+    let rest : map (λ (d : VolumeCheck). d.offset) cs ≡ os = cc in
+    let there : VolumeAt b c.offset n = subst (λ (k : ℕ). VolumeAt b k n) first w in
+    let long : n ≡ c.length = one_length b c.offset n c.length there v in
+    let own : NormalisesTo (field c.offset c.length b) (field c.offset c.length b) =
+    subst (λ (k : ℕ). NormalisesTo (field c.offset k b) (field c.offset k b)) long
+    (subst (λ (k : ℕ). NormalisesTo (field k n b) (field k n b)) first to) in
+    (is_own c.offset (field c.offset c.length b) c.outcome has own, own_renewed b os cs (rest, all) renewed)
+
+pub canonical_images_stay : CanonicalImagesStay
+canonical_images_stay b checks (short, offsets, found, are) = (
+  λ own. (
+    short,
+    offsets,
+    found,
+    record { length_is = refl; volumes = renewed_own b offsets checks are own; others = λ k inside none. refl },
+  ),
+  λ (short', places, found', renewed).
+      own_renewed b offsets checks are
+      (subst (AllByRecursion (IsRenewed b b)) (one_found b places offsets found' found) renewed.volumes),
+)

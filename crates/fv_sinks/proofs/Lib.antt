@@ -1,0 +1,2 @@
+pub mod BufferLemmas
+pub mod Laws

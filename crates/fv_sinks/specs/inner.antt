@@ -1,0 +1,2 @@
+-- Definitions that serve only private clauses: there is nothing to believe here.
+pub mod SinkLaws

@@ -1,0 +1,9 @@
+//! Sinks that keep no copy of what they take: one has the SHA-256 of the bytes, and one puts them
+//! into a buffer of the caller.
+#![tactic(auto)]
+
+mod buffer_sink;
+mod digest_sink;
+
+pub use buffer_sink::BufferSink;
+pub use digest_sink::DigestSink;

@@ -1,0 +1,69 @@
+use Rattle.std.proofs.Common.{◌≢◌, map, inl, inr, subst, sym, rules}
+use Rattle.std.specs.Prelude.{IfErr, Ok}
+use Rattle.fv_base.proofs.Laws.{err_is, bytes_take}
+use Rattle.fv_base.specs.Words.{IsBytes, out_of_memory, depth_limit}
+use Rattle.fv_tree.specs.Words.{head_of, FaultStandsInInput, file_form}
+use Rattle.fv_tree.proofs.FaultLaws.{fault_stands}
+use Rattle.fv_tree.proofs.FirstLaws.{only_answer}
+use Rattle.fv_tree.proofs.LocatedLaws.{begun_data}
+use Rattle.fv_tree.proofs.VolumePartLaws.{front_of}
+use Rattle.fv_tree.proofs.WholeInputLaws.{volume_refused, goes_on, end_refused, end_found, end_only, stood_kind}
+use Rattle.fv_tree.proofs.whole_input.whole_volume_with_files.Goals as goal
+
+pub returns-in_err-view-clause-refused : goal.returns-in_err-view-clause-refused
+returns-in_err-view-clause-refused c = rw (err_is c.from_residual.ensures.1) (volume_refused c.args.input.now _ c.in_err-view.ensures.read)
+
+pub returns-in_err-view-clause-stands : goal.returns-in_err-view-clause-stands
+returns-in_err-view-clause-stands c =
+    subst (λ r. IfErr r (λ f. f ≢ out_of_memory → FaultStandsInInput c.args.input.now f)) (sym (err_is c.from_residual.ensures.1))
+    (λ other. inl (fault_stands c.args.input.now _ (c.in_err-view.ensures.read other)))
+
+pub returns-in_err-view-clause-kind : goal.returns-in_err-view-clause-kind
+returns-in_err-view-clause-kind c =
+    rw (err_is c.from_residual.ensures.1)
+    (stood_kind c.args.input.now c.in_err-view.field-0.0 (λ ne. fault_stands c.args.input.now _ (c.in_err-view.ensures.read ne)))
+
+pub returns-in_err-view-clause-memory : goal.returns-in_err-view-clause-memory
+returns-in_err-view-clause-memory c = rw (err_is c.from_residual.ensures.1) c.in_err-view.ensures.memory
+
+pub returns-in_err-check-clause-refused : goal.returns-in_err-check-clause-refused
+returns-in_err-check-clause-refused c =
+    let b = c.args.input.now in
+    let read = c.in_ok-view.ensures.read in
+    let long = c.in_ok-view.ensures.length in
+    let small : IsBytes c.args.input.now = search rules in
+    rw (err_is c.from_residual-in_err-check.ensures.1)
+    (inr (end_refused b _ c.in_ok-view.view c.in_ok-view.length (bytes_take c.in_ok-view.length b small, read) long
+    c.in_err-check.ensures.err.0 c.in_err-check.ensures.err.1 (only_answer b (Ok (c.in_ok-view.view, c.in_ok-view.length)) read long)))
+
+pub returns-in_err-check-clause-stands : goal.returns-in_err-check-clause-stands
+returns-in_err-check-clause-stands c =
+    let b = c.args.input.now in
+    let small : IsBytes c.args.input.now = search rules in
+    subst (λ r. IfErr r (λ f. f ≢ out_of_memory → FaultStandsInInput c.args.input.now f)) (sym (err_is c.from_residual-in_err-check.ensures.1))
+    (λ other. inr (goes_on b _ c.in_ok-view.view c.in_ok-view.length (bytes_take c.in_ok-view.length b small, c.in_ok-view.ensures.read)
+    c.in_ok-view.ensures.length c.in_err-check.ensures.err.0 c.in_err-check.ensures.err.1))
+
+pub returns-in_err-check-clause-kind : goal.returns-in_err-check-clause-kind
+returns-in_err-check-clause-kind c = rw (err_is c.from_residual-in_err-check.ensures.1, c.in_err-check.ensures.err.1) (λ e. cc, λ e. cc)
+
+pub returns-in_err-check-clause-memory : goal.returns-in_err-check-clause-memory
+returns-in_err-check-clause-memory c =
+    let d = c.in_ok-view.ensures.read in
+    let front = front_of depth_limit c.in_ok-view.length c.args.input.now c.in_ok-view.view c.in_ok-view.ensures.length.1 d in
+    rw (err_is c.from_residual-in_err-check.ensures.1) (λ want. (head_of c.in_ok-view.view, d.extent, front.0))
+
+pub returns-clause-found : goal.returns-clause-found
+returns-clause-found c =
+    let small : IsBytes c.args.input.now = search rules in
+    end_found c.args.input.now c.in_ok-view.view c.in_ok-view.length
+    (bytes_take c.in_ok-view.length c.args.input.now small, c.in_ok-view.ensures.read) c.in_ok-check.ensures.ok
+
+pub returns-clause-only : goal.returns-clause-only
+returns-clause-only c =
+    let v = c.in_ok-view.view in
+    end_only c.args.input.now v c.in_ok-view.length
+    (only_answer c.args.input.now (Ok (v, c.in_ok-view.length)) c.in_ok-view.ensures.read c.in_ok-view.ensures.length)
+
+pub returns-clause-data : goal.returns-clause-data
+returns-clause-data c = begun_data c.args.input.now (map file_form c.in_ok-view.files.items) c.in_ok-view.ensures.files

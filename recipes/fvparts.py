@@ -1,0 +1,287 @@
+"""What an image holds, by libfv in one process, for the recipes in Python: volumes, their files and sections, and what
+compressed sections hold.
+
+libfv reads volumes. What an opened section holds is no volume: its sections are read here. An image is not trusted, so
+a reader opens and reads only so much of one (`Reader`)."""
+
+from __future__ import annotations
+
+import resource
+import struct
+import uuid
+from collections.abc import Iterator
+from dataclasses import dataclass, field
+from pathlib import Path
+from typing import Any
+
+import fvlib
+from fvopen import COMPRESSION, DEEPEST, GROUP, GUIDED, UI, VOLUME, Closed, Full, frames, opened
+
+fv = fvlib.load()
+
+MOST_BYTES = 1 << 30  # of an image, and of all that its sections hold
+MOST_OPENED = 1000  # sections of an image that are opened
+MOST_PARTS = 100_000  # volumes, files and sections of an image that are read
+MOST_MEMORY = 4 << 30  # that the process may take
+SECURITY_CORE = 0x03  # a type of files
+PE32, TE = 0x10, 0x12  # types of sections
+NAMES = Path(__file__).resolve().parent / "map" / "guids.txt"
+
+SYSTEMS = {
+    uuid.UUID("8c8ce578-8a3d-4f1c-9935-896185c32dd3"): "FFS2",
+    uuid.UUID("5473c07a-3dcb-4dca-bd6f-1e9689e7349a"): "FFS3",
+}
+# Types of files and of sections, as the PI specification names them.
+FILES = {
+    0x01: "raw",
+    0x02: "freeform",
+    0x03: "SEC core",
+    0x04: "PEI core",
+    0x05: "DXE core",
+    0x06: "PEI module",
+    0x07: "DXE driver",
+    0x08: "PEI module and DXE driver",
+    0x09: "application",
+    0x0A: "MM driver",
+    0x0B: "volume image",
+    0x0C: "MM and DXE driver",
+    0x0D: "MM core",
+    0x0E: "standalone MM driver",
+    0x0F: "standalone MM core",
+}
+SECTIONS = {
+    COMPRESSION: "compressed",
+    GUIDED: "GUID-defined",
+    GROUP: "group",
+    PE32: "PE32",
+    0x11: "PIC",
+    TE: "TE",
+    0x13: "DXE depex",
+    0x14: "version",
+    UI: "UI",
+    0x16: "16-bit",
+    VOLUME: "volume",
+    0x18: "freeform GUID",
+    0x19: "raw",
+    0x1B: "PEI depex",
+    0x1C: "MM depex",
+}
+
+
+@dataclass
+class Part:
+    """A volume, a file or a section, and what it holds. Its bytes, its data or its body are `length` bytes at `offset`
+    of `data`: of the image, or of what an opened section holds. A volume that is rejected has its fault, and no parts.
+    A section has what it holds after it was opened, or the reason why it was not."""
+
+    what: str
+    data: bytes
+    offset: int
+    length: int
+    kind: int = 0
+    attributes: int = 0
+    header: int = 0
+    guid: uuid.UUID | None = None
+    parts: list[Part] = field(default_factory=list)
+    fault: Any = None
+    opened: Opened | None = None
+    closed: str = ""
+
+    @property
+    def body(self) -> bytes:
+        return self.data[self.offset : self.offset + self.length]
+
+    @property
+    def volume(self) -> Part | None:
+        """The volume that a section holds."""
+        return self.parts[0] if self.parts and self.parts[0].what == "volume" else None
+
+    @property
+    def is_packed(self) -> bool:
+        """Whether it is a section that may be opened."""
+        return self.what == "section" and self.kind in (COMPRESSION, GUIDED)
+
+    @property
+    def type_name(self) -> str:
+        """The type of a file or a section, or the file system of a volume."""
+        if self.what == "volume":
+            return SYSTEMS.get(self.guid, "") if self.guid else ""
+        names = {"file": FILES, "data": FILES, "section": SECTIONS}.get(self.what)
+        return names.get(self.kind, f"type {self.kind:02x}") if names else ""
+
+
+@dataclass
+class Opened:
+    """What a section holds: how it was opened, the data, their sections, the volumes after these, and the offset from
+    which on the data are no sections any more."""
+
+    how: str
+    data: bytes
+    sections: list[Part]
+    volumes: list[Part]
+    end: int
+
+    @property
+    def others(self) -> list[Part]:
+        """The bytes after the last section that are in no volume."""
+        return outside(self.data, self.end, self.volumes)
+
+
+def limit_memory() -> None:
+    """Has memory run out for this process before it does for others. libfv is proved to end well then."""
+    soft, hard = resource.getrlimit(resource.RLIMIT_AS)
+    if soft == resource.RLIM_INFINITY or soft > MOST_MEMORY:
+        resource.setrlimit(resource.RLIMIT_AS, (MOST_MEMORY, hard))
+
+
+def leaves(parts: list[Part]) -> Iterator[Part]:
+    """The sections of a file, or of a stream, that are no groups, in order."""
+    for part in parts:
+        if part.kind == GROUP:
+            yield from leaves(part.parts)
+        else:
+            yield part
+
+
+def ui_texts(parts: list[Part]) -> Iterator[str]:
+    """The names for people that sections have: their own first, then those in what was opened."""
+    found = list(leaves(parts))
+    yield from (it.body.decode("utf-16-le", "replace").split("\0")[0] for it in found if it.kind == UI)
+    for it in found:
+        if it.opened:
+            yield from ui_texts(it.opened.sections)
+
+
+def ui_text(parts: list[Part]) -> str:
+    """The first name for people that is not empty."""
+    return next(filter(None, ui_texts(parts)), "")
+
+
+def known_names() -> dict[str, str]:
+    """The names of GUIDs that the map has (recipes/map), if it is there."""
+    try:
+        lines = NAMES.read_text(encoding="utf-8").splitlines()
+    except OSError:
+        return {}
+    return dict(line.split(maxsplit=1) for line in lines if line and not line.startswith("#"))
+
+
+def places(data: bytes, start: int = 0) -> list[tuple[int, int]]:
+    """Where the volumes in some data lie, from an offset on, and their lengths."""
+    offsets = [start + it for it in fv.scan(data[start:])]
+    return [(it, struct.unpack_from("<Q", data, it + 32)[0]) for it in offsets]
+
+
+def outside(data: bytes, start: int, volumes: list[Part]) -> list[Part]:
+    """The bytes of some data, from an offset on, that are in no volume."""
+    starts = [start, *(it.offset + it.length for it in volumes)]
+    ends = [*(it.offset for it in volumes), len(data)]
+    return [Part("outside", data, at, end - at) for at, end in zip(starts, ends) if at < end]
+
+
+def volume_guid(volume: Part) -> uuid.UUID | None:
+    """The name of a volume, which is in its extended header, if it has one. Faults up to 9 are of the headers."""
+    if volume.fault and volume.fault.number < 10:
+        return None
+    (place,) = struct.unpack_from("<H", volume.data, volume.offset + 52)
+    start = volume.offset + place
+    return uuid.UUID(bytes_le=volume.data[start : start + 16]) if place else None
+
+
+class Reader:
+    """Reads the parts of an image, up to the most that it may. Raises Full for what is more."""
+
+    def __init__(self, image: bytes, most: int = MOST_BYTES) -> None:
+        self.image = image
+        self.most = most
+        self.left = most - len(image)
+        self.parts = self.opened = 0
+        if self.left < 0:
+            raise Full(f"{most} bytes")
+
+    def volumes(self, data: bytes | None = None, start: int = 0) -> list[Part]:
+        """The volumes of the image, or of other data from an offset on."""
+        data = self.image if data is None else data
+        return [self.volume(data, *place) for place in places(data, start)]
+
+    def volume(self, data: bytes, offset: int, length: int) -> Part:
+        """The volume that some bytes are, with all that it holds."""
+        try:
+            rows = fv.tree(data[offset : offset + length])
+        except fv.Fault as fault:
+            self.count(1)
+            there = fv.Fault(fault.number, offset + fault.offset, fault.depth)
+            return Part("volume", data, offset, length, fault=there)
+        self.count(len(rows))
+        parts: list[Part] = []
+        for row in rows:
+            what = fv.NodeWhat(row.what).name.lower()
+            place = offset + row.offset, row.len
+            parts.append(Part(what, data, *place, row.kind, row.attributes, row.header_len, row.guid))
+            if row.parent is not None:
+                parts[row.parent].parts.append(parts[-1])
+        return parts[0]
+
+    def core_sections(self, file: Part) -> list[Part]:
+        """The sections of a security core. To libfv its data are bytes, since they need not be sections."""
+        end = file.offset + file.length
+        parts, after = self.stream(file.data, file.offset, end, 0) if file.kind == SECURITY_CORE else ([], 0)
+        return parts if after == end else []
+
+    def count(self, more: int) -> None:
+        """Counts parts."""
+        self.parts += more
+        if self.parts > MOST_PARTS:
+            raise Full(f"{MOST_PARTS} parts")
+
+    def open_all(self, parts: list[Part], depth: int) -> None:
+        """Opens the sections that can be opened, and those in them, or notes why one is not opened. `depth` is the
+        number of opened sections around them. What is in a volume is not opened."""
+        for section in leaves(parts):
+            if section.is_packed:
+                self.open(section, depth)
+
+    def open(self, section: Part, depth: int) -> None:
+        """Opens a section, and those in it, unless that was done."""
+        if section.opened or section.closed:
+            return
+        parts = self.parts
+        try:
+            section.opened = self.what_holds(section, depth)
+        except Closed as reason:
+            section.closed = str(reason)
+        except Full as what:
+            section.closed, self.parts = f"more than {what}", parts
+        except MemoryError:
+            section.closed = "memory ran out"
+        else:
+            self.open_all(section.opened.sections, depth + 1)
+
+    def what_holds(self, section: Part, depth: int) -> Opened:
+        """What a section holds. Raises Closed if it is not opened."""
+        if depth >= DEEPEST:
+            raise Closed("too deep")
+        if self.opened == MOST_OPENED:
+            raise Full(f"{MOST_OPENED} sections")
+        self.opened += 1
+        try:
+            how, data = opened(section.kind, section.header, section.body, self.left)
+        except Full:
+            raise Full(f"{self.most} bytes") from None
+        self.left -= len(data)
+        sections, end = self.stream(data, 0, len(data), 0)
+        return Opened(how, data, sections, self.volumes(data, end), end)
+
+    def stream(self, data: bytes, start: int, end: int, depth: int) -> tuple[list[Part], int]:
+        """The sections in some bytes, and where the last one ends."""
+        parts: list[Part] = []
+        for kind, head, body, after in frames(data, start, end):
+            self.count(1)
+            part = Part("section", data, body, after - body, kind, header=body - head)
+            if kind == VOLUME:
+                part.parts = [self.volume(data, body, after - body)]
+            elif kind == GROUP and depth < DEEPEST:
+                part.parts, _ = self.stream(data, body, after, depth + 1)
+            parts.append(part)
+            start = min(after + (head - after) % 4, end)
+        return parts, start
