@@ -1,9 +1,13 @@
 /* fv.h - reads, checks, compares and rebuilds UEFI firmware volumes (PI specification 1.8, volume 3).
+ * Link with `pkg-config --libs fv`.
  *
  * The calls are written in Rattle. Each is proved to do what its comment here says, except for three statements:
- * which faults a call can return, that 553 bytes are enough for a line, and the side of a comparison that runs
- * out of memory. Not proved are also this header, src/heap.c, and that the caller keeps the rules below. Link with
- * `pkg-config --libs fv`.
+ * which faults a call can return, that 553 bytes are enough for the line of a comparison, and which side a comparison
+ * reports when it runs out of memory. This header, src/heap.c, and that the caller keeps the rules below are not
+ * proved either.
+ *
+ * The meaning of a volume is the content of its header, files and sections, wherever they are stored, and whatever
+ * pads, fillers and deleted files hold. Its canonical image is the one image that all volumes of that meaning share.
  *
  * Question                                                  Call                  Input            Memory
  *   Do the bytes begin with a volume? How long is it?       fv_verify             begins with one  none
@@ -12,9 +16,9 @@
  *   What is its canonical image?                            fv_normalise          a volume         14
  *   What is a flash image with each volume canonical?       fv_normalise_image    any bytes        14
  *   Which volumes of a flash image are canonical?           fv_check_image        any bytes        14
- *   By which digest are volumes of one meaning found?       fv_digest             a volume         14
+ *   Which digest do all volumes of one meaning share?       fv_digest             a volume         14
  *   Do two volumes mean the same? Where do they differ?     fv_compare            two volumes      13, of both
- *   Where do files, pads, deleted files, free bytes lie?    fv_cells              begins with one  14
+ *   Where are files, pads, deleted files, free bytes?       fv_cells              begins with one  14
  *   Which files does a volume have?                         fv_files              a volume         15
  *   Which sections does a file have?                        fv_sections           a volume         22
  *   What is in a volume, at every level?                    fv_tree               a volume         29
@@ -24,43 +28,45 @@
  *   Which blocks does a hand-off list have?                 fv_hobs               begins with one  14
  *   What does a result mean?                                fv_fault_text         a number         none
  *
- * Input: "a volume" is all bytes of one, and bytes after it are fault 8. Where the bytes only begin with one, those
- * after it are not looked at, and so it is with an expression. Memory: beside the arguments, a call takes up to this
- * many times the input, for inputs of nothing but tiny parts, as measured; 14 is the most of all calls that have it.
+ * Input: "a volume" must be exactly one volume; bytes after it are fault 8. If the input only "begins with one", the
+ * bytes after it are not read, and neither are the bytes after an expression.
+ * Memory: in addition to its arguments, a call takes up to this many times the size of the input. This was measured
+ * for inputs that consist of tiny parts only; 14 is the highest figure among the calls listed with 14.
  * Stack: at most 16.5 KiB, as measured.
  *
  * Rules for the caller
- *   1. No pointer is NULL, not even if the length after it is 0. Then pass the address of any byte.
- *   2. A buffer or a result (what is not const) overlaps no other argument of the same call.
- *   3. While a call runs, nothing else writes to an argument: no other thread, no process that has the same memory
- *      mapped, no device. No other thread reads a buffer or a result.
- *   4. No call is made in a signal handler.
- * The library keeps no state. Any number of threads may call it at once, also with the same input.
+ *   1. No pointer may be NULL, not even if the length after it is 0. Pass the address of any byte then.
+ *   2. A buffer or a result (what is not const) must not overlap any other argument of the same call.
+ *   3. While a call runs, nothing else may write to an argument: no other thread, no process that has the same memory
+ *      mapped, no device. No other thread may read a buffer or a result.
+ *   4. No call may be made from a signal handler.
+ * The library keeps no state. Any number of threads may call it at once, even with the same input.
  *
- * Results: 0 is success. A call that can return several of the others returns the first in this order:
- *   1 to 24   The first fault of the input, as docs/FAULTS.md has them and their order. 24 is out of memory. It may
- *             come in place of every other result, as soon as memory runs out; but a call that reads an input as a
- *             volume returns it only if that input begins with the header of a volume. Faults 22 and 23 of fv_extract
- *             are those of the part that was asked for.
- *   257       There is no file or section of the number that was passed. It comes only if the input is a volume.
- *   256       The buffer is too small. It comes only if the input has no fault, and the part is there. Where a count
- *             is written, it is then the number of elements that the buffer needs.
- * So results of the library itself begin at 256, and the number of a fault is less. fv_depex and fv_hobs have faults
- * with numbers of their own, also below 256. After any result except 0 the buffer is as it was. All lengths and
- * offsets are in bytes. A volume has at most 268,435,456 bytes, and so has an image for fv_normalise_image and
- * fv_check_image.
+ * Results: 0 is success. If several other results are possible, a call returns the first of them in this order:
+ *   1 to 24   The first fault of the input. docs/FAULTS.md lists the faults and their order. 24 is out of memory. It
+ *             may replace any other result as soon as memory runs out; but a call that reads its input as a volume
+ *             returns it only if that input begins with the header of a volume. Faults 22 and 23 of fv_extract are
+ *             those of the requested part.
+ *   257       There is no file or section with the number that was passed. Returned only if the input is a volume.
+ *   256       The buffer is too small. Returned only if the input has no fault and the part exists. If the call
+ *             writes a count, the count is then the number of elements that the buffer needs.
+ * So the results of the library itself begin at 256, and every fault has a smaller number. fv_depex and fv_hobs have
+ * their own fault numbers, also below 256. After any result except 0 the buffer is unchanged.
  *
- * Rows: a field is as it is stored in the input, or it is of the meaning, which the canonical image has too.
- *   fv_extent   as stored.
- *   fv_cell     as stored. All cells are there: superseded and deleted files too, which the meaning does not have.
- *   fv_file     `data_offset` and `attributes` are as stored: a meaning has no offsets, and not the attribute 0x01.
- *               `sections` is of the meaning. `data_len`, `kind` and `name` are both. Only files of the meaning are
- *               there, in their order.
- *   fv_section  `parent`, `depth` and `holds` are of the meaning. `len`, `kind` and `header_len` are both. No row has
- *               the offset of a section.
- *   fv_node     `offset` is as stored, and so is `header_len` of a file. All other fields are of the meaning.
- *   fv_hob      as stored.
- * What fv_extract writes is of the meaning: the bytes that the canonical image has. */
+ * All lengths and offsets are in bytes. A volume has at most 268,435,456 bytes. The same limit applies to an image
+ * that is passed to fv_normalise_image or fv_check_image.
+ *
+ * Rows: a field is either as stored in the input, or part of the meaning, and then the canonical image has it too.
+ *   fv_extent   As stored.
+ *   fv_cell     As stored. All cells are listed, also superseded and deleted files, which the meaning does not have.
+ *   fv_file     `data_offset` and `attributes` are as stored: a meaning has no offsets, and no attribute 0x01.
+ *               `sections` is part of the meaning. `data_len`, `kind` and `name` are both. Only the files of the
+ *               meaning are listed, in their order.
+ *   fv_section  `parent`, `depth` and `holds` are part of the meaning. `len`, `kind` and `header_len` are both. No row
+ *               has the offset of a section.
+ *   fv_node     `offset` is as stored, and so is the `header_len` of a file. All other fields are part of the meaning.
+ *   fv_hob      As stored.
+ * fv_extract writes what is part of the meaning: the bytes that the canonical image has. */
 #ifndef FV_H
 #define FV_H
 
@@ -108,16 +114,16 @@ enum {
     FV_NOT_FOUND = 257
 };
 
-/* A fault and its place. All fields are 0 if there is none. */
+/* A fault and its place. All fields are 0 if there is no fault. */
 typedef struct fv_fault {
     uint64_t offset; /* in bytes, from the first byte of the input */
-    uint32_t number; /* FV_TRUNCATED to FV_OUT_OF_MEMORY; fv_depex and fv_hobs have numbers of their own */
+    uint32_t number; /* FV_TRUNCATED to FV_OUT_OF_MEMORY; fv_depex and fv_hobs have their own numbers */
     uint32_t depth;  /* the number of groups and opened volumes around it, 0 to 8 */
 } fv_fault;
 FV_ASSERT(sizeof(fv_fault) == 16 && offsetof(fv_fault, number) == 8 && offsetof(fv_fault, depth) == 12,
           "the layout of fv_fault");
 
-/* The extent of a volume. */
+/* The extent of a volume, as fv_verify finds it. */
 typedef struct fv_extent {
     uint64_t length;      /* FvLength */
     uint64_t header_len;  /* HeaderLength */
@@ -129,11 +135,11 @@ FV_ASSERT(sizeof(fv_extent) == 32 && offsetof(fv_extent, header_len) == 8 && off
               offsetof(fv_extent, file_system) == 24 && offsetof(fv_extent, erased) == 28,
           "the layout of fv_extent");
 
-/* What a comparison found. */
+/* What fv_compare found. */
 typedef struct fv_comparison {
     uint64_t line_len; /* the number of bytes of the line with its line feed, at most 553 */
-    uint32_t same;     /* 1: the two volumes have the same meaning; else 0 */
-    uint32_t side;     /* the input that was rejected, 1 or 2; 0 if none was */
+    uint32_t same;     /* 1 if the two volumes have the same meaning, otherwise 0 */
+    uint32_t side;     /* the input that was rejected, 1 or 2; 0 if neither was */
     fv_fault fault;    /* the fault of that input */
 } fv_comparison;
 FV_ASSERT(sizeof(fv_comparison) == 32 && offsetof(fv_comparison, same) == 8 && offsetof(fv_comparison, side) == 12 &&
@@ -146,50 +152,52 @@ typedef struct fv_sha256 {
 } fv_sha256;
 FV_ASSERT(sizeof(fv_sha256) == 32, "the layout of fv_sha256");
 
-/* What a result of a call means, in a sentence that ends with a NUL. It knows the results 0 to 26, 256 and 257; of
- * fv_depex and fv_hobs, which have numbers of their own, only 0 and 256. Not proved, and it cannot fail. */
+/* Returns a sentence, ended by a NUL, that explains a result. It knows the results 0 to 26, 256 and 257. Of the results
+ * of fv_depex and fv_hobs, which have their own fault numbers, it knows only 0 and 256. It is not proved, and it cannot
+ * fail. */
 const char *fv_fault_text(uint32_t number);
 
-/* Whether the bytes begin with a volume. Only its header is read. Returns 0 and the extent if they do.
- * Else returns the first fault, 1 to 9, and *extent is unchanged. Takes no memory. */
+/* Checks whether the bytes begin with a volume. Reads only its header, and takes no memory.
+ * Returns 0 and sets *extent if they do. Otherwise returns the first fault, 1 to 9, and leaves *extent unchanged. */
 uint32_t fv_verify(const uint8_t *bytes, size_t len, fv_extent *FV_RESTRICT extent,
                    fv_fault *FV_RESTRICT fault);
 
-/* Writes the canonical image of the volume that the input is to the first `len` bytes of the buffer; the
- * image is as long as the input. Returns 0. Returns the first fault of the input, 1 to 24, if it has one; else
- * 256 if buffer_len < len. */
+/* Writes the canonical image of the input volume to the first `len` bytes of the buffer. The image is as long as the
+ * input.
+ * Returns 0; the first fault of the input, 1 to 24, if it has one; otherwise 256 if buffer_len < len. */
 uint32_t fv_normalise(const uint8_t *input, size_t len, uint8_t *FV_RESTRICT buffer, size_t buffer_len,
                       fv_fault *FV_RESTRICT fault);
 
-/* The same for a flash image. Each volume that fv_scan finds in it is replaced by its canonical image,
- * and all other bytes are kept. The fault is that of the first volume that has no image, at its offset in
- * the flash image. 24 comes only if the image is within the limit. */
+/* Does the same for a flash image: replaces each volume that fv_scan finds in it by its canonical image, and keeps all
+ * other bytes. The fault is that of the first volume that has no canonical image, with its offset in the flash image.
+ * 24 is returned only if the image is within the limit. */
 uint32_t fv_normalise_image(const uint8_t *image, size_t len, uint8_t *FV_RESTRICT buffer, size_t buffer_len,
                             fv_fault *FV_RESTRICT fault);
 
-/* Whether the input is a volume that is its own canonical image. Returns 0 if the input is a volume, and
- * *canonical is 1 if it is its own image; else, also if it has none, *canonical is 0. Returns the first
- * fault if the input is no volume, 1 to 21, or 24, and *canonical is unchanged. */
+/* Checks whether the input volume is its own canonical image.
+ * Returns 0 if the input is a volume, and sets *canonical to 1 if it is its own image, or to 0 if it is not or has no
+ * image. Otherwise returns the first fault, 1 to 21, or 24, and leaves *canonical unchanged. */
 uint32_t fv_is_canonical(const uint8_t *input, size_t len, uint32_t *FV_RESTRICT canonical,
                          fv_fault *FV_RESTRICT fault);
 
-/* The SHA-256 digest of the canonical image of the volume that the input is. Returns 0. Else returns the
- * first fault, 1 to 24, and *digest is unchanged. */
+/* Computes the SHA-256 digest of the canonical image of the input volume.
+ * Returns 0. Otherwise returns the first fault, 1 to 24, and leaves *digest unchanged. */
 uint32_t fv_digest(const uint8_t *input, size_t len, fv_sha256 *FV_RESTRICT digest,
                    fv_fault *FV_RESTRICT fault);
 
-/* Writes the offsets of the volumes in the bytes, in rising order, to the start of the buffer. *count is
- * their number. Returns 0. Returns 256 if *count > buffer_count; so an empty buffer asks for the number.
- * Returns 24 if memory runs out, which it can only if a volume begins in the bytes, and *count is unchanged. */
+/* Writes the offsets of the volumes in the bytes, in rising order, to the start of the buffer, and their number to
+ * *count.
+ * Returns 0, or 256 if *count > buffer_count; so pass an empty buffer to ask for the number. Returns 24 if memory runs
+ * out, and leaves *count unchanged. Memory can run out only if a volume begins in the bytes. */
 uint32_t fv_scan(const uint8_t *bytes, size_t len, uint64_t *FV_RESTRICT buffer, size_t buffer_count,
                  uint64_t *FV_RESTRICT count);
 
-/* A volume of a flash image, and what is said of it. */
+/* A volume of a flash image, and the result of its check. */
 typedef struct fv_volume_check {
     uint64_t offset;    /* from the first byte of the image */
     uint64_t length;    /* the number of its bytes */
-    fv_fault fault;     /* the fault with which it is rejected, at its offset in the image; all fields are 0 if none */
-    uint32_t canonical; /* 1 if it is its own canonical image, else 0 */
+    fv_fault fault;     /* why it is rejected, with the offset in the image; all fields are 0 if it is not */
+    uint32_t canonical; /* 1 if it is its own canonical image, otherwise 0 */
     uint32_t reserved;  /* 0 */
 } fv_volume_check;
 FV_ASSERT(sizeof(fv_volume_check) == 40 && offsetof(fv_volume_check, length) == 8 &&
@@ -197,33 +205,34 @@ FV_ASSERT(sizeof(fv_volume_check) == 40 && offsetof(fv_volume_check, length) == 
               offsetof(fv_volume_check, reserved) == 36,
           "the layout of fv_volume_check");
 
-/* Writes what is said of each volume that fv_scan finds in a flash image, in their order, to the start of the
- * buffer. *count is their number. Returns 0, also if a volume is rejected: its row has the fault, 1 to 21. One that
- * has no canonical image, since it does not fit, is not canonical. Returns 256 if *count > buffer_count. Returns 8 if
- * the image is above the limit, or 24 if memory runs out, which it can only if a volume begins in an image within the
- * limit; *count is unchanged then. */
+/* Checks each volume that fv_scan finds in a flash image. Writes the results, in the order of the volumes, to the start
+ * of the buffer, and their number to *count. A volume that has no canonical image, since it does not fit, is not
+ * canonical.
+ * Returns 0 even if a volume is rejected: its row has the fault, 1 to 21. Returns 256 if *count > buffer_count. Returns
+ * 8 if the image is above the limit, or 24 if memory runs out, and leaves *count unchanged then. Memory can run out
+ * only if a volume begins in an image within the limit. */
 uint32_t fv_check_image(const uint8_t *image, size_t len, fv_volume_check *FV_RESTRICT buffer, size_t buffer_count,
                         uint64_t *FV_RESTRICT count, fv_fault *FV_RESTRICT fault);
 
-/* Compares the meanings of two inputs that are volumes. found->same says whether they are the same. The
- * line `same`, or `different at` with the steps down to the first difference and its kind, is written to
- * the start of the buffer. It ends with a line feed, not with a NUL. Returns 0. Returns 256 if
- * buffer_len < found->line_len; 553 bytes are always enough. Else returns the first fault of the input
- * found->side, which is 2 only if the first input is a volume. 24 has side 1 if memory runs out while the two
- * are compared. */
+/* Compares the meanings of two volumes. Sets found->same, and writes a line to the start of the buffer: `same`, or
+ * `different at` with the steps down to the first difference and its kind. The line ends with a line feed, not with a
+ * NUL.
+ * Returns 0, or 256 if buffer_len < found->line_len; 553 bytes are always enough. Otherwise returns the first fault of
+ * the input found->side, which is 2 only if the first input is a volume. If memory runs out while the two volumes are
+ * compared, found->side is 1 with the fault 24. */
 uint32_t fv_compare(const uint8_t *first, size_t first_len, const uint8_t *second, size_t second_len,
                     char *FV_RESTRICT buffer, size_t buffer_len, fv_comparison *FV_RESTRICT found);
 
-/* What a cell of a volume's body is: a valid file, also one that is superseded; a pad file; a file that was
- * deleted; a file whose data or header were never finished; erased bytes up to the volume's end. The state of
- * the file decides between deleted and unfinished, here and in the lines of `fvtool cells`. */
+/* What a cell of a volume's body is: a valid file, even if it is superseded; a pad file; a deleted file; a file whose
+ * data or header were never finished; erased bytes up to the end of the volume. The state of the file decides between
+ * deleted and unfinished, here and in the lines of `fvtool cells`. */
 enum { FV_CELL_FILE = 1, FV_CELL_PAD = 2, FV_CELL_DELETED = 3, FV_CELL_UNFINISHED = 4, FV_CELL_FREE = 5 };
 
 /* A cell of a volume's body. A field that the cell does not have is 0. */
 typedef struct fv_cell {
-    uint64_t offset;     /* from the volume's first byte */
-    uint64_t len;        /* the number of its bytes; of a file or a pad without the filler after it */
-    uint64_t header_len; /* of a file or a pad; its data are at offset + header_len */
+    uint64_t offset;     /* from the first byte of the volume */
+    uint64_t len;        /* the number of its bytes; for a file or a pad, without the filler after it */
+    uint64_t header_len; /* of a file or a pad, whose data are at offset + header_len */
     uint32_t what;       /* FV_CELL_FILE to FV_CELL_FREE */
     uint32_t kind;       /* Type of a file or a pad */
     uint32_t attributes; /* Attributes of a file or a pad */
@@ -235,18 +244,18 @@ FV_ASSERT(sizeof(fv_cell) == 56 && offsetof(fv_cell, len) == 8 && offsetof(fv_ce
               offsetof(fv_cell, reserved) == 36 && offsetof(fv_cell, name) == 40,
           "the layout of fv_cell");
 
-/* Writes the cells of the volume with which the bytes begin, in order, to the start of the buffer. *count
- * is their number. Returns 0. Returns 256 if *count > buffer_count. Else returns the first fault of the
- * header or of the cells, 1 to 16, or 24, and *count is unchanged. Duplicate names, the volume top file
- * and sections are not checked. */
+/* Writes the cells of the volume with which the bytes begin, in order, to the start of the buffer, and their number to
+ * *count. Does not check duplicate names, the volume top file or sections.
+ * Returns 0, or 256 if *count > buffer_count. Otherwise returns the first fault of the header or of the cells, 1 to 16,
+ * or 24, and leaves *count unchanged. */
 uint32_t fv_cells(const uint8_t *bytes, size_t len, fv_cell *FV_RESTRICT buffer, size_t buffer_count,
                   uint64_t *FV_RESTRICT count, fv_fault *FV_RESTRICT fault);
 
 /* A file of a volume. */
 typedef struct fv_file {
-    uint64_t data_offset; /* its data are at this offset of the input */
+    uint64_t data_offset; /* the offset of its data in the input */
     uint64_t data_len;    /* the number of bytes of its data */
-    uint64_t sections;    /* the number of its sections, those in groups included; 0 if its data are not sections */
+    uint64_t sections;    /* the number of its sections, including those in groups; 0 if its data are not sections */
     uint32_t kind;        /* Type */
     uint32_t attributes;  /* Attributes as stored: a file with a large header has bit 0x01, FFS_ATTRIB_LARGE_FILE */
     uint8_t name[16];     /* Name, by its bytes in the volume */
@@ -255,14 +264,14 @@ FV_ASSERT(sizeof(fv_file) == 48 && offsetof(fv_file, data_len) == 8 && offsetof(
               offsetof(fv_file, kind) == 24 && offsetof(fv_file, attributes) == 28 && offsetof(fv_file, name) == 32,
           "the layout of fv_file");
 
-/* Writes the files of the volume that the input is, in order, to the start of the buffer. *count is their
- * number. Returns 0. Returns 256 if *count > buffer_count. Else returns the first fault of the input, 1 to
- * 21, or 24, and *count is unchanged. Pads are no files. A file that is marked for update is none either if
- * its update is in the volume. */
+/* Writes the files of the input volume, in order, to the start of the buffer, and their number to *count. Pads are not
+ * listed, nor is a file that is marked for update if its update is in the volume.
+ * Returns 0, or 256 if *count > buffer_count. Otherwise returns the first fault of the input, 1 to 21, or 24, and
+ * leaves *count unchanged. */
 uint32_t fv_files(const uint8_t *input, size_t len, fv_file *FV_RESTRICT buffer, size_t buffer_count,
                   uint64_t *FV_RESTRICT count, fv_fault *FV_RESTRICT fault);
 
-/* What a section holds: bytes, sections (it is a group), a volume. */
+/* What a section holds: bytes, sections (the section is a group), or a volume. */
 enum { FV_HOLDS_BYTES = 1, FV_HOLDS_SECTIONS = 2, FV_HOLDS_VOLUME = 3 };
 
 /* The parent of a section that is in no group. */
@@ -283,47 +292,47 @@ FV_ASSERT(sizeof(fv_section) == 40 && offsetof(fv_section, parent) == 8 && offse
               offsetof(fv_section, holds) == 32 && offsetof(fv_section, reserved) == 36,
           "the layout of fv_section");
 
-/* Writes the sections of a file of the volume that the input is, in preorder, to the start of the buffer:
- * each group is followed by the sections in it. The number of a section is its place there, from 0. `file`
- * is the place of the file in what fv_files writes. *count is the number of sections, 0 if the data of the
- * file are not sections (those of a security core are not, for this call). Returns 0. Returns 256 if
- * *count > buffer_count, and 257 if the volume has no such file. Else returns the first fault of the input,
- * 1 to 21, or 24. *count is unchanged then, and if it returns 257.
- * The sections of a nested volume are not included: fv_tree has them. */
+/* Writes the sections of a file of the input volume, in preorder, to the start of the buffer: each group is followed by
+ * the sections in it. The number of a section is its place in this order, counted from 0. `file` is the place of the
+ * file among those that fv_files writes. Sets *count to the number of sections, which is 0 if the data of the file are
+ * not sections. (For this call, those of a security core are not.) The sections of a nested volume are not included:
+ * fv_tree lists them.
+ * Returns 0, 256 if *count > buffer_count, or 257 if the volume has no such file. Otherwise returns the first fault of
+ * the input, 1 to 21, or 24. Leaves *count unchanged after a fault and after 257. */
 uint32_t fv_sections(const uint8_t *input, size_t len, uint64_t file, fv_section *FV_RESTRICT buffer,
                      size_t buffer_count, uint64_t *FV_RESTRICT count, fv_fault *FV_RESTRICT fault);
 
-/* The section number that asks for all data of a file. */
+/* The section number that requests all data of a file. */
 #define FV_WHOLE_FILE UINT64_MAX
 
-/* Writes the body of a section of a file, or all data of the file (FV_WHOLE_FILE), to the start of the
- * buffer. *part_len is the number of bytes. Returns 0. Returns 256 if buffer_len < *part_len; so an empty
- * buffer asks for the number. Returns 257 if the volume has no such file or section. Else returns the first
- * fault of the input, 1 to 21; or that of a volume in the part that does not fit in its canonical form, 22
- * or 23; or 24. *part_len is unchanged then, and if it returns 257.
- * The bytes are those that the canonical image has: a volume in the part is its own canonical image, and the
- * bytes between sections are 0. Plain data, and a section that holds bytes, are as they are in the input. */
+/* Writes the body of a section of a file, or all data of the file (FV_WHOLE_FILE), to the start of the buffer, and the
+ * number of the bytes to *part_len. They are the bytes that the canonical image has: a volume in the part is its own
+ * canonical image, and the bytes between sections are 0. Plain data, and the body of a section that holds bytes, are as
+ * they are in the input.
+ * Returns 0, or 256 if buffer_len < *part_len; so pass an empty buffer to ask for the number. Returns 257 if the volume
+ * has no such file or section. Otherwise returns the first fault of the input, 1 to 21; or that of a volume in the part
+ * that does not fit in its canonical form, 22 or 23; or 24. Leaves *part_len unchanged after a fault and after 257. */
 uint32_t fv_extract(const uint8_t *input, size_t len, uint64_t file, uint64_t section,
                     uint8_t *FV_RESTRICT buffer, size_t buffer_len, uint64_t *FV_RESTRICT part_len,
                     fv_fault *FV_RESTRICT fault);
 
-/* What a row of fv_tree is: a volume, a file, a section. */
+/* What a row of fv_tree is: a volume, a file, or a section. */
 enum { FV_NODE_VOLUME = 1, FV_NODE_FILE = 2, FV_NODE_SECTION = 3 };
 
-/* What the row of a volume holds. The rows of files and sections hold FV_HOLDS_BYTES to FV_HOLDS_VOLUME. */
+/* What a volume's row holds. The rows of files and sections hold FV_HOLDS_BYTES to FV_HOLDS_VOLUME. */
 enum { FV_HOLDS_FILES = 0 };
 
 /* A volume, a file or a section of the tree of a volume. A field that it does not have is 0. */
 typedef struct fv_node {
-    uint64_t offset;     /* its data, its body, or the volume itself, are at this offset of the input, as stored */
-    uint64_t len;        /* the number of their bytes; of a volume FvLength */
-    uint64_t parent;     /* the number of the row that holds it; FV_NO_PARENT of the first */
+    uint64_t offset;     /* where in the input the file's data, the section's body or the volume are stored */
+    uint64_t len;        /* the number of these bytes; for a volume FvLength */
+    uint64_t parent;     /* the number of the row that holds it; FV_NO_PARENT for the first row */
     uint64_t depth;      /* the number of rows around it */
     uint64_t number;     /* its number among the parts that its parent holds, from 0 */
     uint32_t what;       /* FV_NODE_VOLUME to FV_NODE_SECTION */
     uint32_t kind;       /* Type of a file or a section */
-    uint32_t attributes; /* Attributes of a file without bit 0x01, FFS_ATTRIB_LARGE_FILE: its header_len is 32 */
-    uint32_t header_len; /* HeaderLength of a volume; 24 or 32 of a file, 4 or 8 of a section, both before the offset */
+    uint32_t attributes; /* Attributes of a file without bit 0x01, FFS_ATTRIB_LARGE_FILE: header_len is 32 instead */
+    uint32_t header_len; /* HeaderLength of a volume; 24 or 32 (file), 4 or 8 (section): a header before the offset */
     uint32_t holds;      /* FV_HOLDS_FILES to FV_HOLDS_VOLUME */
     uint32_t reserved;   /* 0 */
     uint8_t guid[16];    /* FileSystemGuid of a volume, Name of a file, by its bytes in the volume */
@@ -335,44 +344,44 @@ FV_ASSERT(sizeof(fv_node) == 80 && offsetof(fv_node, len) == 8 && offsetof(fv_no
               offsetof(fv_node, reserved) == 60 && offsetof(fv_node, guid) == 64,
           "the layout of fv_node");
 
-/* Writes the whole tree of the volume that the input is to the start of the buffer: the volume, its files, their
- * sections and, in the same way, each volume that a section holds. Each row is followed by the rows of what it
- * holds. Row 0 is the volume itself. *count is the number of rows. Returns 0. Returns 256 if *count > buffer_count.
- * Else returns the first fault of the input, 1 to 21, or 24, and *count is unchanged. The files of a volume are
- * those of fv_files. Data are read once. To find the places of the parts, headers are read again, except those of the
- * volume's own files. The bytes at an offset are as they are in the input, also those of a nested volume, whereas
- * fv_extract writes its canonical image. */
+/* Writes the whole tree of the input volume to the start of the buffer: the volume, its files, their sections and, in
+ * the same way, each volume that a section holds. Each row is followed by the rows of what it holds. Row 0 is the
+ * volume itself. The files of a volume are those of fv_files. Sets *count to the number of rows. The bytes at an offset
+ * are as stored in the input, also those of a nested volume, whereas fv_extract writes its canonical image. Data are
+ * read once. To find the places of the parts, headers are read again, except those of the volume's own files.
+ * Returns 0, or 256 if *count > buffer_count. Otherwise returns the first fault of the input, 1 to 21, or 24, and
+ * leaves *count unchanged. */
 uint32_t fv_tree(const uint8_t *input, size_t len, fv_node *FV_RESTRICT buffer, size_t buffer_count,
                  uint64_t *FV_RESTRICT count, fv_fault *FV_RESTRICT fault);
 
-/* Writes the SHA-256 digests of the parts of the volume that the input is to the start of the buffer: one for each row
- * of fv_tree, in the same order. That of a volume is the digest of its canonical image, as by fv_digest.
- * That of a file is the digest of its data as the canonical image has them, which fv_extract writes. That of a section
- * that holds bytes is the digest of its body; a section that holds sections or a volume has 32 zero bytes in place of
- * it. *count is the number of digests, and of the rows. Returns 0. Returns 256 if *count > buffer_count. Else returns
- * the first fault of the input, 1 to 24, and *count is unchanged. The input is read once, and no image is kept in
- * memory. */
+/* Writes the SHA-256 digests of the parts of the input volume to the start of the buffer, one for each row of fv_tree,
+ * in the same order. A volume's digest covers its canonical image, as for fv_digest. A file's digest covers its data as
+ * the canonical image has them, which is what fv_extract writes. The digest of a section that holds bytes covers its
+ * body; a section that holds sections or a volume has 32 zero bytes instead of a digest. Sets *count to the number of
+ * digests, which is that of the rows. The input is read once, and no image is kept in memory.
+ * Returns 0, or 256 if *count > buffer_count. Otherwise returns the first fault of the input, 1 to 24, and leaves
+ * *count unchanged. */
 uint32_t fv_list_sums(const uint8_t *input, size_t len, fv_sha256 *FV_RESTRICT buffer, size_t buffer_count,
                       uint64_t *FV_RESTRICT count, fv_fault *FV_RESTRICT fault);
 
-/* A GUID by its bytes in a volume. The first three fields have their least significant byte first. */
+/* A GUID by its bytes in a volume: the first three fields have their least significant byte first. */
 typedef struct fv_guid {
     uint8_t bytes[16];
 } fv_guid;
 FV_ASSERT(sizeof(fv_guid) == 16, "the layout of fv_guid");
 
-/* Evaluates a dependency expression (phase 0: PEI; any other number: DXE and MM). *value is its truth value
- * when these GUIDs are installed, 1 or 0, or 2 for BEFORE and AFTER, which have none. Bytes after the END op
- * are not looked at. Returns 0. Else returns the first fault by the numbers of dependency expressions: 1 to 5,
- * or 6 if memory runs out, which it can only if the bytes begin with an op that may be the first. *value is
- * unchanged then. */
+/* Evaluates a dependency expression (phase 0: PEI; any other number: DXE and MM). Sets *value to its truth value if
+ * these GUIDs are installed, 1 or 0, or to 2 for BEFORE and AFTER, which have no truth value. Bytes after the END op
+ * are not read.
+ * Returns 0. Otherwise returns the first fault, by the numbers for dependency expressions: 1 to 5, or 6 if memory runs
+ * out, and leaves *value unchanged. Memory can run out only if the bytes begin with an op that may be the first. */
 uint32_t fv_depex(const uint8_t *bytes, size_t len, uint32_t phase, const fv_guid *installed,
                   size_t installed_count, uint32_t *FV_RESTRICT value, fv_fault *FV_RESTRICT fault);
 
 /* A block of a hand-off list. */
 typedef struct fv_hob {
-    uint64_t base;       /* the base address of the volume that an FV or FV2 block describes, else 0 */
-    uint64_t length;     /* the number of bytes of that volume, else 0 */
+    uint64_t base;       /* the base address of the volume that an FV or FV2 block describes, otherwise 0 */
+    uint64_t length;     /* the number of bytes of that volume, otherwise 0 */
     uint32_t code;       /* HobType */
     uint32_t hob_length; /* HobLength */
 } fv_hob;
@@ -380,11 +389,11 @@ FV_ASSERT(sizeof(fv_hob) == 24 && offsetof(fv_hob, length) == 8 && offsetof(fv_h
               offsetof(fv_hob, hob_length) == 20,
           "the layout of fv_hob");
 
-/* Writes the blocks of the hand-off list with which the bytes begin, in order, to the start of the buffer.
- * *count is their number, and *consumed the number of bytes of the list. Returns 0. Returns 256 if
- * *count > buffer_count. Else returns the first fault by the numbers of hand-off lists: 1 to 5, or 6 if
- * memory runs out, which it can only if the bytes begin with a hand-off information table. *count and *consumed
- * are unchanged then. */
+/* Writes the blocks of the hand-off list with which the bytes begin, in order, to the start of the buffer, their number
+ * to *count, and the number of bytes of the list to *consumed.
+ * Returns 0, or 256 if *count > buffer_count. Otherwise returns the first fault, by the numbers for hand-off lists: 1
+ * to 5, or 6 if memory runs out, and leaves *count and *consumed unchanged. Memory can run out only if the bytes begin
+ * with a hand-off information table. */
 uint32_t fv_hobs(const uint8_t *bytes, size_t len, fv_hob *FV_RESTRICT buffer, size_t buffer_count,
                  uint64_t *FV_RESTRICT count, uint64_t *FV_RESTRICT consumed, fv_fault *FV_RESTRICT fault);
 

@@ -1,4 +1,4 @@
--- What a command line asks for.
+-- Which plan a command line asks for.
 use Rattle.std.specs.Prelude.{◌≡◌, ◌<◌, ◌≤◌, ◌^◌, ◌++◌, ◌⊎◌, ℕ, true, false, List, [], ◌∷◌, length}
 use Rattle.std.specs.Prelude.{Option, Some, None, IsSomeAnd, String, codes, option_and_then, option_map}
 use Rattle.std.specs.Str.Parse.{IsNumeral, digits_value, without_leading_plus}
@@ -18,11 +18,11 @@ use Rattle.fv_plan.specs.declared.plan.Command.TheVariants.{Single, Hobs, Compar
 use Rattle.fv_plan.specs.declared.plan.Task.TheVariants.{Normalise, NormaliseAll, List as Listing, ListSums, Extract, Check}
 use Rattle.fv_plan.specs.declared.plan.Task.TheVariants.{CheckAll, Cells, Scan}
 
--- with no arguments: hexadecimal text from standard input is normalised
+-- the plan of a command line without arguments: normalise hexadecimal text from standard input
 abbrev pub plan_without_words : Plan
 plan_without_words = record { hex = true; command = Single Normalise None None }
 
--- the argument that names a task, and the one that names a command
+-- the argument that names the task's command
 abbrev pub task_name : Task → List ℕ
 task_name Normalise = codes "normalise"
 task_name NormaliseAll = codes "normalise"
@@ -34,12 +34,13 @@ task_name CheckAll = codes "check"
 task_name Cells = codes "cells"
 task_name Scan = codes "scan"
 
+-- the argument that names the command
 abbrev pub command_name : Command → List ℕ
 command_name (Single task at file) = task_name task
 command_name (Hobs file image) = codes "hobs"
 command_name (Compare first second) = codes "compare"
 
--- the options of the command
+-- the rules of the task's command
 abbrev pub task_app : Task → App
 task_app Normalise = image_app
 task_app NormaliseAll = image_app
@@ -51,66 +52,68 @@ task_app CheckAll = image_app
 task_app Cells = volume_app
 task_app Scan = one_input_app
 
+-- the rules of the command
 abbrev pub command_app : Command → App
 command_app (Single task at file) = task_app task
 command_app (Hobs file image) = hobs_app
 command_app (Compare first second) = compare_app
 
--- the type of a section is that of one or two hexadecimal digits, if these are given
+-- the section type that one or two hexadecimal digits give, or None if there is no text
 abbrev pub IsSectionTypeWord : Option (List ℕ) → Option ℕ → Type 0
 IsSectionTypeWord None kind = kind ≡ None
 IsSectionTypeWord (Some text) kind = IsNumeral 16 text × (length text ≤ 2) × (kind ≡ Some (digits_value 16 text))
 
--- the digits spell n in this radix, and it has at most `bits` bits
+-- the digits spell n in this radix, and n has at most `bits` bits
 abbrev pub IsNumeralOf : (radix bits : ℕ) → List ℕ → ℕ → Type 0
 IsNumeralOf radix bits digits n = IsNumeral radix digits × (n ≡ digits_value radix digits) × (n < 2 ^ bits)
 
--- the text is a decimal number below 2 ^ bits, perhaps with a plus before it
+-- the text is a decimal number below 2 ^ bits, which may have a plus before it
 abbrev pub IsNumberWord : ℕ → List ℕ → ℕ → Type 0
 IsNumberWord bits text n = IsNumeralOf 10 bits (without_leading_plus text) n
 
--- which of the sections it is; the first if nothing is given
+-- which of the sections with one type is meant: the first if there is no text
 abbrev pub IsInstanceWord : Option (List ℕ) → ℕ → Type 0
 IsInstanceWord None n = n ≡ 1
 IsInstanceWord (Some text) n = IsNumberWord 32 text n
 
--- a part of a volume: a file whose name is read as a GUID, the type of a section, and which of these sections it is
+-- the part of a volume that three texts name: the GUID of its file, the type of a section, and which of the sections
+-- with this type it is
 pub record IsPartBy (name section which : Option (List ℕ)) (part : Part) : Type 0 where
   pub name_is : option_and_then guid_read name ≡ Some part.name
   pub section_is : IsSectionTypeWord section part.section
   pub instance_is : IsInstanceWord which part.instance
 
--- a named image with its base, the address of its first byte: both are given, or neither
+-- an image and its base, the address of its first byte: both are given, or neither
 abbrev pub IsImageWords : (path base : Option (List ℕ)) → Option ImageFile → Type 0
 IsImageWords path base None = (path ≡ None) × (base ≡ None)
 IsImageWords path base (Some image) =
     (path ≡ Some (string_bytes image.path)) × IsSomeAnd base (λ text. IsNumberWord 64 text image.base)
 
--- the byte at which a volume begins, below 2 ^ 64: a decimal number, or `0x` and a hexadecimal one
+-- the byte at which a volume begins, below 2 ^ 64: a decimal number, or `0x` and hexadecimal digits
 abbrev pub IsPlaceWord : List ℕ → ℕ → Type 0
 IsPlaceWord text n =
     IsNumberWord 64 text n ⊎ ((digits : List ℕ) × (text ≡ codes "0x" ++ digits) × IsNumeralOf 16 64 digits n)
 
--- that byte, if it is given
+-- the byte at which a volume begins, or None if there is no text
 abbrev pub IsAtWord : Option (List ℕ) → Option ℕ → Type 0
 IsAtWord None at = at ≡ None
 IsAtWord (Some text) None = ⊥
 IsAtWord (Some text) (Some n) = IsPlaceWord text n
 
--- a named file and the byte at which the volume begins in it
+-- a file that is named, and the byte at which the volume in it begins
 abbrev pub IsVolumeWords : (path at : Option (List ℕ)) → VolumeFile → Type 0
 IsVolumeWords path at volume = (Some (string_bytes volume.path) ≡ path) × IsAtWord at volume.at
 
--- a named file, if one is given
+-- a file that is named, or None if there is no text
 abbrev pub IsFileWord : Option (List ℕ) → Option (String Global) → Type 0
 IsFileWord text file = option_map string_bytes file ≡ text
 
--- the input of a command: the file, and the byte at which the volume begins
+-- the input of a command: its file, and the byte at which the volume begins, each if it is given
 abbrev pub HasInput : App → List (List ℕ) → Option ℕ → Option (String Global) → Type 0
 HasInput app rest at file = IsAtWord (text_in app (codes "at") rest) at × IsFileWord (text_in app (codes "file") rest) file
 
--- the texts of a task, and those of a command, are those that the parser finds; a flag says which of two tasks of one
--- name it is, `--all` or `--sums`; with `--all` no byte is given
+-- the task, its byte and its file are those that the arguments give. A flag (`--all`, `--sums`) distinguishes two tasks
+-- with one name. With `--all` no byte is given
 abbrev pub HasTaskTexts : List (List ℕ) → Task → Option ℕ → Option (String Global) → Type 0
 HasTaskTexts rest Normalise at file =
     (flag_in image_app (codes "all") rest ≡ false) × HasInput image_app rest at file
@@ -131,6 +134,7 @@ HasTaskTexts rest CheckAll at file =
 HasTaskTexts rest Cells at file = HasInput volume_app rest at file
 HasTaskTexts rest Scan at file = (at ≡ None) × IsFileWord (text_in one_input_app (codes "file") rest) file
 
+-- the command is the one that the arguments after its name give
 abbrev pub HasTexts : List (List ℕ) → Command → Type 0
 HasTexts rest (Single task at file) = HasTaskTexts rest task at file
 HasTexts rest (Hobs file image) =
@@ -140,21 +144,21 @@ HasTexts rest (Compare first second) =
     IsVolumeWords (text_in compare_app (codes "first") rest) (text_in compare_app (codes "at") rest) first
     × IsVolumeWords (text_in compare_app (codes "second") rest) (text_in compare_app (codes "other-at") rest) second
 
--- the plan is that of the command that the first argument names; the parser finds no fault in the arguments after it,
--- and inputs are text if the flag `--hex` is given
+-- the plan is for the command with this name. The parser accepts the arguments after the name, the command is the one
+-- that they give, and inputs are text exactly if the flag `--hex` is given
 pub record AsksBy (name : List ℕ) (rest : List (List ℕ)) (plan : Plan) : Type 0 where
   pub command : name ≡ command_name plan.command
   pub taken : faults_in (command_app plan.command) rest ≡ []
   pub hex : plan.hex ≡ flag_in (command_app plan.command) (codes "hex") rest
   pub texts : HasTexts rest plan.command
 
--- the plan is what a whole command line asks for: that of the command which the argument after the program's name
--- names, by the options and operands that the parser finds after it (`AsksBy`)
+-- the plan is what a complete command line asks for. The argument after the program's name names the command
+-- (`AsksBy`). Without that argument, the plan is `plan_without_words`
 abbrev pub Asks : List (List ℕ) → Plan → Type 0
 Asks [] plan = plan ≡ plan_without_words
 Asks (program ∷ []) plan = plan ≡ plan_without_words
 Asks (program ∷ name ∷ rest) plan = AsksBy name rest plan
 
--- the arguments of a command line are right if there is a plan that they ask for
+-- the arguments of a command line are right: there is a plan that they ask for
 abbrev pub AreRight : List (List ℕ) → Type 0
 AreRight words = (plan : Plan) × Asks words plan

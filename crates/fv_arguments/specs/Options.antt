@@ -1,4 +1,4 @@
--- The options of the commands, as given to the command-line parser.
+-- The rules of the commands, as the command-line parser gets them: flags, options and files.
 use Rattle.std.specs.Prelude.{ℕ, Bool, false, List, Option, Some, codes}
 use Rattle.std.specs.Option.{option_map_or}
 use Rattle.std.specs.Str.{bytes_eq}
@@ -9,65 +9,70 @@ use Rattle.clap.specs.Walk.{nothing_held, rows_after}
 use Rattle.clap.specs.Words.{App, Row, Rule, built, first_of, new_app, new_rule, one_of, with_rule}
 use Rattle.clap.specs.declared.builder.action.ArgAction.TheVariants.{SetTrue}
 
--- a flag of this name
+-- the rule for a flag with this name
 abbrev pub flag_rule : List ℕ → Rule
 flag_rule name = record (new_rule name) { long = Some name; action = Some SetTrue }
 
--- an option of this name, with one value
+-- the rule for an option with this name, which takes one value
 abbrev pub option_rule : List ℕ → Rule
 option_rule name = record (new_rule name) { long = Some name }
 
--- the options `--at` and `--other-at`: the byte of an input at which the volume begins, and that of a second input
+-- the option `--at`: the byte of an input at which the volume begins
 abbrev pub at_rule : Rule
 at_rule = option_rule (codes "at")
 
+-- the option `--other-at`: the byte of the second input at which the volume begins
 abbrev pub other_at_rule : Rule
 other_at_rule = option_rule (codes "other-at")
 
--- a command with the flag `--hex`, that inputs and outputs are text
+-- the rules that all commands share: `--hex`, which says that inputs and outputs are text
 abbrev pub flag_app : App
 flag_app = with_rule (new_app (codes "fvtool")) (flag_rule (codes "hex"))
 
--- a command with one input, and one with a volume in an input. The others have also: `--all`, that all volumes of an
--- image are meant; `--sums`, that a list shows digests; the image of a hand-off list and its address `--base`, of 64
--- bits; the parts that are extracted, where `--instance` has 32 bits; and a second input, with its own byte
+-- the rules of a command with one input and without `--at`
 abbrev pub one_input_app : App
 one_input_app = with_rule flag_app (new_rule (codes "file"))
 
+-- the rules of a command with a volume in an input
 abbrev pub volume_app : App
 volume_app = with_rule (with_rule flag_app at_rule) (new_rule (codes "file"))
 
+-- the rules of a command with a volume in an input, or with `--all` an image with all its volumes
 abbrev pub image_app : App
 image_app = with_rule (with_rule (with_rule flag_app (flag_rule (codes "all"))) at_rule) (new_rule (codes "file"))
 
+-- the rules of `list`: a volume in an input, and `--sums`, which shows digests
 abbrev pub list_app : App
 list_app = with_rule (with_rule (with_rule flag_app (flag_rule (codes "sums"))) at_rule) (new_rule (codes "file"))
 
+-- the rules of `hobs`: a hand-off list, and an image with its address `--base`, which has 64 bits
 abbrev pub hobs_app : App
 hobs_app = with_rule (with_rule (with_rule flag_app (option_rule (codes "image"))) (option_rule (codes "base"))) (new_rule (codes "file"))
 
+-- the rules of `extract`: a volume in an input, and the part that is extracted, where `--instance` has 32 bits
 abbrev pub extract_app : App
 extract_app =
     with_rule (with_rule (with_rule (with_rule (with_rule flag_app (option_rule (codes "name"))) (option_rule (codes "section")))
     (option_rule (codes "instance"))) at_rule) (new_rule (codes "file"))
 
+-- the rules of `compare`: two inputs, each with the byte at which its volume begins
 abbrev pub compare_app : App
 compare_app =
     with_rule (with_rule (with_rule (with_rule flag_app at_rule) other_at_rule)
     (new_rule (codes "first"))) (new_rule (codes "second"))
 
--- what the parser finds in the arguments after the command's name
+-- the values that the parser finds in the arguments after the command's name
 abbrev pub rows_in : App → List (List ℕ) → List Row
 rows_in app rest = rows_after (built app).top.rules (names_of (built app)) rest
 
--- what the parser finds wrong with the arguments after the command's name: nothing, if it accepts them
+-- the faults that the parser finds in the arguments after the command's name: none, if it accepts them
 abbrev pub faults_in : App → List (List ℕ) → Kinds
 faults_in app rest = built_fault (built app) nothing_held rest
 
--- the text of an option or an operand that the parser finds
+-- the text that the parser finds for an option or an operand, if it is given
 abbrev pub text_in : App → List ℕ → List (List ℕ) → Option (List ℕ)
 text_in app id rest = first_of id (rows_in app rest)
 
--- a flag is given, before any `--`: the parser finds `true` for it
+-- whether a flag is given, before any `--`: the parser then finds `true` for it
 abbrev pub flag_in : App → List ℕ → List (List ℕ) → Bool
 flag_in app id rest = option_map_or (λ t. bytes_eq t (codes "true")) (one_of id (rows_in app rest)) false

@@ -1,4 +1,4 @@
-//! The command line: what its arguments ask for.
+//! The command line: reads its arguments into a plan.
 #![tactic(auto)]
 
 mod options;

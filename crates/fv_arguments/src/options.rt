@@ -1,4 +1,4 @@
-//! The commands: their arguments as a plan.
+//! Reads the arguments of each command into a plan.
 
 ghost use Rattle.clap.specs.Words.{App, first_value, found_of};
 ghost use Rattle.fv_arguments.specs.Options.{flag_in};
@@ -19,7 +19,7 @@ use fv_base::Guid;
 use fv_plan::{Command, ImageFile, Part, Plan, Task, VolumeFile};
 use std::alloc::{AllocError, Global};
 
-/// OutOfMemory exactly if that is the kind of the error, else Words.
+/// An error of the kind OutOfMemory becomes OutOfMemory, and any other error becomes Words.
 impl From<clap::Error> for WordFault {
     ghost use Rattle.clap.specs.Words.{kind_of};
     ghost use Rattle.clap.specs.declared.error.kind.ErrorKind.TheVariants as error_kinds;
@@ -34,7 +34,7 @@ impl From<clap::Error> for WordFault {
     }
 }
 
-// The file that the argument with this name gives, if it was given.
+// Returns the file that the argument with this name gives, if it is given.
 fn file_of(
     alloc: Global,
     matches: &ArgMatches<'_>,
@@ -48,7 +48,7 @@ fn file_of(
     }
 }
 
-// The number that a text spells: decimal digits, perhaps after a plus.
+// Reads a decimal number, which may have a plus before it.
 fn decimal(text: &str) -> Result<u64, WordFault>
     ensures { Reads (IsNumberWord 64 text.now) result }
 {
@@ -58,7 +58,7 @@ fn decimal(text: &str) -> Result<u64, WordFault>
     }
 }
 
-// The number that hexadecimal digits spell, in upper or lower case.
+// Reads a hexadecimal number without a prefix. Its digits are in upper or lower case.
 fn hexadecimal(digits: &str) -> Result<u64, WordFault>
     ensures { Reads (IsNumeralOf 16 64 digits.now) result }
 {
@@ -71,7 +71,7 @@ fn hexadecimal(digits: &str) -> Result<u64, WordFault>
     }
 }
 
-// The byte at which a volume begins: a decimal number, or `0x` and a hexadecimal one.
+// Reads the byte at which a volume begins: a decimal number, or `0x` and hexadecimal digits.
 fn place(text: &str) -> Result<u64, WordFault>
     ensures { Reads (IsPlaceWord text.now) result }
 {
@@ -81,7 +81,7 @@ fn place(text: &str) -> Result<u64, WordFault>
     }
 }
 
-// That byte, if a text gives it.
+// Reads the byte at which a volume begins, or returns None if there is no text.
 fn place_of(text: Option<&str>) -> Result<Option<u64>, WordFault>
     ensures { Reads (IsAtWord (option_map (λ s. s.now) text.entry)) result }
 {
@@ -91,7 +91,8 @@ fn place_of(text: Option<&str>) -> Result<Option<u64>, WordFault>
     }
 }
 
-// The input of a command: the byte at which the volume begins, and the file, if they were given.
+// Returns the input of a command: the byte at which the volume begins, and the file, each if it is
+// given.
 fn input_of(
     alloc: Global,
     matches: &ArgMatches<'_>,
@@ -103,22 +104,23 @@ fn input_of(
     Ok((at, file_of(alloc, matches, "file")?))
 }
 
-// Whether the flag of this name is given.
+// Returns whether the flag with this name is given.
 fn is_given(matches: &ArgMatches<'_>, name: &str) -> bool
     ensures { (app : App) (rest : List (List ℕ)) → IsRead app rest matches.now → result ≡ flag_in app name.now rest }
 {
     matches.get_one::<bool>(name).unwrap_or(false)
 }
 
-// One task if a flag is given, and another if it is not.
+// Returns the first task if the flag is given, otherwise the other one.
 fn task_by(given: bool, task: Task, other: Task) -> Task
     ensures { result ≡ if given then task else other }
 {
     if given { task } else { other }
 }
 
-// A volume, or with the flag an image with all its volumes, for `normalise` or `check`. Then no
-// byte is given. The tasks are those for an image and for a volume.
+// Reads the arguments of `normalise` or `check`. The task is `whole`, for an image with all its
+// volumes, if the flag `--all` is given. It is `single`, for one volume, otherwise. With the flag,
+// `--at` is wrong.
 fn on_image(
     alloc: Global,
     matches: &ArgMatches<'_>,
@@ -138,7 +140,7 @@ fn on_image(
     Ok(Command::Single { task, at, file })
 }
 
-// A volume, and whether its list shows digests.
+// Reads the arguments of `list`: a volume, and whether the list shows digests.
 fn list(alloc: Global, matches: &ArgMatches<'_>) -> Result<Command, WordFault>
     ensures { AsksFor (codes "list") matches.now result }
 {
@@ -147,7 +149,8 @@ fn list(alloc: Global, matches: &ArgMatches<'_>) -> Result<Command, WordFault>
     Ok(Command::Single { task, at, file })
 }
 
-// The image of this path and this base, if they are given: one without the other is wrong.
+// Returns the image with this path and this base, if both are given. It is wrong to give only one
+// of them.
 fn image_of(
     alloc: Global,
     path: Option<&str>,
@@ -165,7 +168,7 @@ fn image_of(
     }
 }
 
-// A list, and the image in which its volumes are looked for.
+// Reads the arguments of `hobs`: a list, and the image in which its volumes are looked up.
 fn hobs(alloc: Global, matches: &ArgMatches<'_>) -> Result<Command, WordFault>
     ensures { AsksFor (codes "hobs") matches.now result }
 {
@@ -176,7 +179,8 @@ fn hobs(alloc: Global, matches: &ArgMatches<'_>) -> Result<Command, WordFault>
     })
 }
 
-// The type of a section that a text names: one or two hexadecimal digits, in upper or lower case.
+// Reads a section type: one or two hexadecimal digits, in upper or lower case. Returns None if the
+// text is anything else.
 fn section_type(text: &str) -> Option<u8>
     ensures { SomeIff result (IsNumeral 16 text.now × (length text.now ≤ 2)) (digits_value 16 text.now) }
 {
@@ -189,7 +193,7 @@ fn section_type(text: &str) -> Option<u8>
     }
 }
 
-// The type of the section that a text names, if one is given.
+// Reads a section type, or returns None if there is no text.
 fn section_of(text: Option<&str>) -> Result<Option<u8>, WordFault>
     ensures { Reads (IsSectionTypeWord (option_map (λ s. s.now) text.entry)) result }
 {
@@ -202,7 +206,7 @@ fn section_of(text: Option<&str>) -> Result<Option<u8>, WordFault>
     }
 }
 
-// The name of the file that a text gives, as a GUID: it must be given.
+// Reads the name of a file, which is a GUID and must be given.
 fn name_of(text: Option<&str>) -> Result<Guid, WordFault>
     ensures { Reads (λ name. option_and_then guid_read (option_map (λ s. s.now) text.entry) ≡ Some name) result }
 {
@@ -215,7 +219,7 @@ fn name_of(text: Option<&str>) -> Result<Guid, WordFault>
     }
 }
 
-// Which of the sections of a type a text names: the first if none is given.
+// Reads which of the sections with the same type is meant: the first if no number is given.
 fn instance_of(text: Option<&str>) -> Result<u32, WordFault>
     ensures { Reads (IsInstanceWord (option_map (λ s. s.now) text.entry)) result }
 {
@@ -228,7 +232,7 @@ fn instance_of(text: Option<&str>) -> Result<u32, WordFault>
     }
 }
 
-// The part of a volume that these texts name.
+// Returns the part of a volume that these texts name.
 fn part_of(
     name: Option<&str>,
     section: Option<&str>,
@@ -244,7 +248,7 @@ fn part_of(
     })
 }
 
-// A volume, and the part of it that is written.
+// Reads the arguments of `extract`: a volume, and the part of it that is written.
 fn extract(alloc: Global, matches: &ArgMatches<'_>) -> Result<Command, WordFault>
     ensures { AsksFor (codes "extract") matches.now result }
 {
@@ -255,7 +259,8 @@ fn extract(alloc: Global, matches: &ArgMatches<'_>) -> Result<Command, WordFault
     Ok(Command::Single { task, at, file })
 }
 
-// A volume in the file of this path, which must be named, and the byte at which it begins there.
+// Returns the volume in the file with this path, which must be given, and the byte at which it
+// begins there.
 fn volume_of(alloc: Global, path: Option<&str>, at: Option<&str>) -> Result<VolumeFile, WordFault>
     ensures { Reads (IsVolumeWords (option_map (λ s. s.now) path.entry) (option_map (λ s. s.now) at.entry)) result }
 {
@@ -268,7 +273,7 @@ fn volume_of(alloc: Global, path: Option<&str>, at: Option<&str>) -> Result<Volu
     })
 }
 
-// The two volumes that are compared.
+// Reads the arguments of `compare`: two volumes.
 fn compare(alloc: Global, matches: &ArgMatches<'_>) -> Result<Command, WordFault>
     ensures { AsksFor (codes "compare") matches.now result }
 {
@@ -278,7 +283,7 @@ fn compare(alloc: Global, matches: &ArgMatches<'_>) -> Result<Command, WordFault
     Ok(Command::Compare { first, second })
 }
 
-// A volume, for `cells`.
+// Reads the arguments of `cells`: a volume.
 fn cells(alloc: Global, matches: &ArgMatches<'_>) -> Result<Command, WordFault>
     ensures { AsksFor (codes "cells") matches.now result }
 {
@@ -287,7 +292,7 @@ fn cells(alloc: Global, matches: &ArgMatches<'_>) -> Result<Command, WordFault>
     Ok(Command::Single { task, at, file })
 }
 
-// A file that is searched for volumes.
+// Reads the arguments of `scan`: a file that is searched for volumes.
 fn scan(alloc: Global, matches: &ArgMatches<'_>) -> Result<Command, WordFault>
     ensures { AsksFor (codes "scan") matches.now result }
 {
@@ -296,7 +301,7 @@ fn scan(alloc: Global, matches: &ArgMatches<'_>) -> Result<Command, WordFault>
     Ok(Command::Single { task, at, file })
 }
 
-// The command of this name, with what was found in its arguments.
+// Returns the command with this name, from what the parser found in its arguments.
 fn command_of(alloc: Global, name: &str, matches: &ArgMatches<'_>) -> Result<Command, WordFault>
     ensures { AsksFor name.now matches.now result }
 {
@@ -313,7 +318,8 @@ fn command_of(alloc: Global, name: &str, matches: &ArgMatches<'_>) -> Result<Com
     }
 }
 
-/// Reads the arguments of the command with this name. The first of them is the name itself.
+/// Reads the arguments of the command with this name. The first of the arguments is the name
+/// itself.
 ///
 /// # Errors
 ///
@@ -321,7 +327,7 @@ fn command_of(alloc: Global, name: &str, matches: &ArgMatches<'_>) -> Result<Com
 pub fn parse_command(alloc: Global, name: &str, words: &[String]) -> Result<Plan, WordFault>
     ensures asked { IfOk result (AsksBy name.now (drop 1 (map string_bytes words.now))) }
 
-    // No arguments that are right are rejected as wrong.
+    // Right arguments are never rejected as wrong.
     ensures wrong { IfErr result (λ f. f ≡ WordFault.Words
         → AreRightFor name.now (drop 1 (map string_bytes words.now)) → ⊥) }
 {

@@ -1,4 +1,4 @@
-//! The rules of the commands: the flags, options and files that each of them takes.
+//! The rules of the commands: the flags, options and files that each command takes.
 
 ghost use Rattle.clap.specs.Words.{App, Rule, app_of, new_rule, rule_of, with_rule};
 ghost use Rattle.fv_arguments.specs.Options.{at_rule, compare_app, extract_app, flag_app, flag_rule, hobs_app, option_rule};
@@ -8,7 +8,7 @@ ghost use Rattle.std.specs.Prelude.{◌≡◌, codes, false, IfOk};
 use clap::{Arg, ArgAction, Command};
 use std::alloc::{AllocError, Global};
 
-// A flag of this name.
+// Makes a flag with this name.
 fn flag<'a>(alloc: Global, name: &'static str) -> Arg<'a>
     ensures rule { rule_of result ≡ flag_rule name.now }
     ensures local { result.global ≡ false }
@@ -16,7 +16,7 @@ fn flag<'a>(alloc: Global, name: &'static str) -> Arg<'a>
     Arg::new(alloc, name).long(name).action(ArgAction::SetTrue)
 }
 
-// An option of this name, with one value.
+// Makes an option with this name, which takes one value.
 fn option<'a>(alloc: Global, name: &'static str) -> Arg<'a>
     ensures rule { rule_of result ≡ option_rule name.now }
     ensures local { result.global ≡ false }
@@ -24,7 +24,7 @@ fn option<'a>(alloc: Global, name: &'static str) -> Arg<'a>
     Arg::new(alloc, name).long(name)
 }
 
-// These rules and this argument, if memory did not run out for the rules.
+// Adds this argument to the rules, unless memory ran out while they were made.
 fn add<'a>(rules: Result<Command<'a>, AllocError>, arg: Arg<'a>) -> Result<Command<'a>, AllocError>
     ensures { (app : App) (rule : Rule) → IfOk rules.entry (λ c. app_of c ≡ app) → rule_of arg.entry ≡ rule
         → arg.entry.global ≡ false → IfOk result (λ c. app_of c ≡ with_rule app rule) }
@@ -32,7 +32,7 @@ fn add<'a>(rules: Result<Command<'a>, AllocError>, arg: Arg<'a>) -> Result<Comma
     rules?.arg(arg)
 }
 
-// These rules, and a volume in an input: the byte at which it begins, and the file.
+// Adds a volume in an input to the rules: the byte at which it begins, and the file.
 fn add_volume<'a>(
     alloc: Global,
     rules: Result<Command<'a>, AllocError>,
@@ -44,14 +44,15 @@ fn add_volume<'a>(
     add(at, Arg::new(alloc, "file"))
 }
 
-// The rules of a command with the flag that inputs and outputs are text.
+// Makes the rules that every command has: the flag `--hex`, which says that inputs and outputs are
+// text.
 fn text_rules<'a>(alloc: Global) -> Result<Command<'a>, AllocError>
     ensures { IfOk result (λ c. app_of c ≡ flag_app) }
 {
     Command::new(alloc, "fvtool").arg(flag(alloc, "hex"))
 }
 
-// The rules of a command with a volume and a flag of this name.
+// Makes the rules of a command that takes a volume and a flag with this name.
 fn flag_rules<'a>(alloc: Global, name: &'static str) -> Result<Command<'a>, AllocError>
     ensures { IfOk result (λ c. app_of c
         ≡ with_rule (with_rule (with_rule flag_app (flag_rule name.now)) at_rule) (new_rule (codes "file"))) }
@@ -59,7 +60,8 @@ fn flag_rules<'a>(alloc: Global, name: &'static str) -> Result<Command<'a>, Allo
     add_volume(alloc, add(text_rules(alloc), flag(alloc, name)))
 }
 
-// The rules of `hobs`. That an image and a base are given together is checked after parsing.
+// Makes the rules of `hobs`. Whether the image and its base are given together is checked after
+// parsing.
 fn hobs_rules<'a>(alloc: Global) -> Result<Command<'a>, AllocError>
     ensures { IfOk result (λ c. app_of c ≡ hobs_app) }
 {
@@ -68,7 +70,7 @@ fn hobs_rules<'a>(alloc: Global) -> Result<Command<'a>, AllocError>
     add(base, Arg::new(alloc, "file"))
 }
 
-// The rules of `extract`. That a file is named is checked after parsing.
+// Makes the rules of `extract`. Whether a file is named is checked after parsing.
 fn extract_rules<'a>(alloc: Global) -> Result<Command<'a>, AllocError>
     ensures { IfOk result (λ c. app_of c ≡ extract_app) }
 {
@@ -78,7 +80,8 @@ fn extract_rules<'a>(alloc: Global) -> Result<Command<'a>, AllocError>
     add_volume(alloc, instance)
 }
 
-// The rules of `compare`, which has two inputs. That both are named is checked after parsing.
+// Makes the rules of `compare`, which has two inputs. Whether both are named is checked after
+// parsing.
 fn compare_rules<'a>(alloc: Global) -> Result<Command<'a>, AllocError>
     ensures { IfOk result (λ c. app_of c ≡ compare_app) }
 {
@@ -88,8 +91,8 @@ fn compare_rules<'a>(alloc: Global) -> Result<Command<'a>, AllocError>
     add(first, Arg::new(alloc, "second"))
 }
 
-// The rules of the command of this name. `cells` has those of a volume, and so does a name that is
-// no command. It is rejected after parsing.
+// Makes the rules of the command with this name. `cells` takes a volume. A name that is not a
+// command gets the same rules, and is rejected after parsing.
 pub(crate) fn rules_of<'a>(alloc: Global, name: &str) -> Result<Command<'a>, AllocError>
     ensures { IfOk result (λ c. app_of c ≡ app_named name.now) }
 {

@@ -1,4 +1,4 @@
-//! The command line.
+//! Reading a command line.
 
 ghost use Rattle.std.specs.String.{string_bytes};
 ghost use Rattle.std.specs.Prelude.{◌≡◌, ◌≤◌, false, length, map, true, IfErr, IfOk, Ok};
@@ -13,14 +13,14 @@ use std::io::ErrorKind;
 /// Why a command line is rejected.
 #[derive(Clone, Copy, Debug, PartialEq, Eq)]
 pub enum WordFault {
-    /// The arguments name no command that exists, or are wrong for the command.
+    /// The arguments do not name a command, or are wrong for the command that they name.
     Words,
     /// Memory ran out.
     OutOfMemory,
 }
 
 impl WordFault {
-    // The fault that an error is: memory ran out, or anything else.
+    // Returns OutOfMemory if memory ran out, otherwise Words.
     pub(crate) fn by_memory(ran_out: bool) -> WordFault
         ensures memory { ran_out ≡ true → result ≡ WordFault.OutOfMemory }
         ensures other { ran_out ≡ false → result ≡ WordFault.Words }
@@ -33,7 +33,7 @@ impl WordFault {
     }
 }
 
-/// OutOfMemory.
+/// A failed allocation becomes OutOfMemory.
 impl From<AllocError> for WordFault {
     ghost use Rattle.fv_arguments.specs.declared.words.WordFault.TheVariants.{OutOfMemory};
 
@@ -44,7 +44,7 @@ impl From<AllocError> for WordFault {
     }
 }
 
-/// OutOfMemory exactly if that is the kind of the error, else Words.
+/// An error of the kind OutOfMemory becomes OutOfMemory, and any other error becomes Words.
 impl From<io::Error> for WordFault {
     ghost use Rattle.std.specs.IoError.{error_kind};
     ghost use Rattle.std.specs.Prelude.{◌≡◌, ◌≢◌};
@@ -59,20 +59,20 @@ impl From<io::Error> for WordFault {
     }
 }
 
-/// Reads a command line, whose first argument is the program's name. With no argument after it, the
+/// Reads a command line, whose first argument is the program's name. If no argument follows it, the
 /// plan is to normalise hexadecimal text from standard input.
 ///
 /// # Errors
 ///
-/// Words, if the arguments name no command that exists, or are wrong for the command. OutOfMemory.
+/// Words, if the arguments do not name a command, or are wrong for the command that they name.
+/// OutOfMemory.
 pub fn parse_words(alloc: Global, words: &[String]) -> Result<Plan, WordFault>
     ensures none { length words.now ≤ 1 → result ≡ Ok plan_without_words }
 
-    // A plan is returned only for arguments that are right: it is what they ask for.
+    // A plan is returned only if the arguments are right, and it is the plan that they ask for.
     ensures right { IfOk result (Asks (map string_bytes words.now)) }
 
-    // Only arguments that are not right are rejected as wrong: for right ones the only error is
-    // OutOfMemory.
+    // Right arguments are never rejected as wrong: the only error for them is OutOfMemory.
     ensures wrong { IfErr result (λ f. f ≡ WordFault.Words → AreRight (map string_bytes words.now) → ⊥) }
 {
     if words.len() <= 1 {

@@ -1,4 +1,4 @@
--- Checks in a fixed order, and those that do not hold: the first; or any, whatever else is wrong.
+-- Checks in a fixed order, and which of their faults may be reported: the first, or any whose check does not hold.
 use Rattle.std.specs.Prelude.{ℕ, Bool, true, false, List, ◌∷◌, ◌++◌, ◌≡◌}
 use Rattle.std.specs.List.{AllByRecursion}
 use Rattle.fv_base.specs.Faults.{outer_fault}
@@ -6,12 +6,12 @@ use Rattle.fv_base.specs.declared.fault.Fault.{Fault}
 use Rattle.fv_base.specs.declared.fault.FaultKind.{FaultKind}
 use Rattle.fv_base.specs.declared.fault.FaultKind.TheVariants as kinds
 
--- a check: whether it holds, and the fault if it does not
+-- a check: whether it holds, and its fault if it does not
 pub record Check (F : Type 0) : Type 0 where
   pub holds : Bool
   pub fault : F
 
--- a check of a volume, by the kind of its fault and its offset
+-- a check of a volume, with the kind and the offset of its fault
 abbrev pub check : Bool → FaultKind → ℕ → Check Fault
 check holds kind offset = record { holds = holds; fault = outer_fault kind offset }
 
@@ -19,18 +19,18 @@ check holds kind offset = record { holds = holds; fault = outer_fault kind offse
 abbrev pub AllHold : {F : Type 0} → List (Check F) → Type 0
 AllHold cs = AllByRecursion (λ c. c.holds ≡ true) cs
 
--- a check of the table does not hold, f is its fault, and P is true of the checks before it
+-- f is the fault of a check that does not hold, and P is true of the checks before it
 abbrev pub FailsAfter : {F : Type 0} → (List (Check F) → Type 0) → List (Check F) → F → Type 0
 FailsAfter {F} P cs f =
     (before : List (Check F)) × (c : Check F) × (after : List (Check F)) × (cs ≡ before ++ (c ∷ after))
     × P before × (c.holds ≡ false) × (f ≡ c.fault)
 
--- the fault is that of a check which does not hold, and all checks before it hold
+-- f is the fault of a check that does not hold, and all checks before it hold
 abbrev pub IsFirstFault : {F : Type 0} → List (Check F) → F → Type 0
 IsFirstFault cs f = FailsAfter AllHold cs f
 
--- whether a check with a fault of this kind is a guard: it says that the bytes exist which the checks after it look at.
--- That of FreeSpace says that there are 24 bytes, and that State is not erased
+-- whether a check with a fault of this kind is a guard: a guard makes sure that the bytes which later checks read
+-- exist. The guard of FreeSpace makes sure that there are 24 bytes, and that State is not erased
 abbrev pub is_guard : FaultKind → Bool
 is_guard kinds.Truncated = true
 is_guard kinds.FreeSpace = true
@@ -38,18 +38,18 @@ is_guard kinds.FileSize = true
 is_guard kinds.SectionTail = true
 is_guard _ = false
 
--- each of the checks that is a guard holds
+-- every check that is a guard holds
 abbrev pub GuardsHold : List (Check Fault) → Type 0
 GuardsHold cs = AllByRecursion (λ c. is_guard c.fault.kind ≡ true → c.holds ≡ true) cs
 
--- which faults are meant: the first one, before which all that is read is right; or any whose condition holds at its
--- place, whatever else is wrong
+-- which faults are meant: only the first, before which everything that is read is right; or any fault whose condition
+-- holds at its place, whatever else is wrong
 pub data Which : Type 0 where
   First : Which
   Any : Which
 
--- a check does not hold, and this is its fault; before the first fault all checks hold, before any fault the guards. So
--- no fault, first or not, is that of a check on bytes that are not there
+-- f is the fault of a check that does not hold: for `First` all checks before it hold, and for `Any` all guards before
+-- it hold. So no fault, first or not, comes from a check of bytes that do not exist
 abbrev pub Fails : Which → List (Check Fault) → Fault → Type 0
 Fails First cs f = IsFirstFault cs f
 Fails Any cs f = FailsAfter GuardsHold cs f

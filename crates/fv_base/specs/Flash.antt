@@ -1,10 +1,11 @@
--- What an erased byte of the flash memory holds, and bytes that are all erased.
+-- The value of an erased byte of flash memory, and lists of bytes that all have one value.
 use Rattle.std.specs.List.{AllByRecursion}
 use Rattle.std.specs.Prelude.{ℕ, ◌≡◌, List}
 use Rattle.fv_base.specs.declared.flash.Polarity.{Polarity}
 use Rattle.fv_base.specs.declared.flash.Polarity.TheVariants.{Ones, Zeros}
 
--- the value of an erased byte: 0xFF for ones, 0x00 for zeros (PI specification, volume 3, section 3.2.1.1)
+-- the value of an erased byte: 0xFF if erased bits are ones, 0x00 if they are zeros (PI specification, volume 3,
+-- section 3.2.1.1)
 abbrev pub erased_byte : Polarity → ℕ
 erased_byte Ones = 255
 erased_byte Zeros = 0

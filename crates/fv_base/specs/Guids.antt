@@ -6,6 +6,6 @@ use Rattle.fv_base.specs.declared.guid.Guid.{Guid}
 abbrev pub bytes_of : Guid → List ℕ
 bytes_of g = g.bytes
 
--- the GUID of sixteen bytes
+-- the GUID with these sixteen bytes
 abbrev pub guid_of : List ℕ → Guid
 guid_of b = record { bytes = b }

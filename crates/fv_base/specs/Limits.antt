@@ -1,19 +1,20 @@
--- The limits of what is read. For the first three the code has constants of its own (src/limits.rt): a contract that
--- cites one of these numbers is proved only while the two agree.
+-- The limits on what is read. The code has its own constants for them (src/limits.rt): a contract that cites one of
+-- these numbers can be proved only while the two agree.
 use Rattle.std.specs.Prelude.{ℕ}
 
--- the most bytes that a volume may have, and that a run reads as binary input
+-- the maximum length of a volume, and of the binary input of a run, in bytes
 abbrev pub volume_limit : ℕ
 volume_limit = 268435456
 
--- the most bytes of a volume header: 56, and 8 for each of 256 block map entries and for the pair of zeros after them
+-- the maximum length of a volume header in bytes: 56, and 8 for each of 256 block map entries and for the pair of zeros
+-- after them
 abbrev pub header_limit : ℕ
 header_limit = 2112
 
--- the most bytes of an extended header
+-- the maximum length of an extended header in bytes
 abbrev pub ext_limit : ℕ
 ext_limit = 65535
 
--- how many levels deep groups and opened volumes nest at most in a volume
+-- the maximum depth to which groups and opened volumes nest in a volume
 abbrev pub depth_limit : ℕ
 depth_limit = 8

@@ -1,16 +1,16 @@
--- The values that bytes spell. A list of bytes is a list of numbers below 256.
+-- The numbers that bytes spell. A list of bytes is a list of numbers below 256.
 use Rattle.std.specs.Prelude.{ℕ, zero, suc, ◌+◌, ◌*◌, ◌/◌, ◌%◌, ◌<◌, List, [], ◌∷◌, take, drop, slice_index}
 
--- each item is a byte
+-- every item is a byte: a number below 256
 abbrev pub IsBytes : List ℕ → Type 0
 IsBytes b = (i : ℕ) → slice_index b i < 256
 
--- the number that bytes spell, the least significant byte first
+-- the number that the bytes spell, least significant byte first
 abbrev pub le : List ℕ → ℕ
 le [] = 0
 le (b ∷ bs) = b + 256 * le bs
 
--- the lowest k bytes of a number, the least significant byte first
+-- the lowest k bytes of a number, least significant byte first
 abbrev pub le_bytes : ℕ → ℕ → List ℕ
 le_bytes zero n = []
 le_bytes (suc k) n = (n % 256) ∷ le_bytes k (n / 256)
@@ -19,7 +19,7 @@ le_bytes (suc k) n = (n % 256) ∷ le_bytes k (n / 256)
 abbrev pub field : ℕ → ℕ → List ℕ → List ℕ
 field at size b = take size (drop at b)
 
--- the number that a field spells
+-- the number that a field holds, least significant byte first
 abbrev pub le_at : ℕ → ℕ → List ℕ → ℕ
 le_at at size b = le (field at size b)
 

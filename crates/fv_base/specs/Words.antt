@@ -1,4 +1,4 @@
--- The door of this crate: all that its specs define for other crates.
+-- The door of this crate: all definitions of its `specs/` that other crates may import.
 pub use Rattle.fv_base.specs.Limits.{volume_limit, header_limit, ext_limit, depth_limit}
 pub use Rattle.fv_base.specs.Value.{IsBytes, le, le_bytes, field, le_at, up_to_8}
 pub use Rattle.fv_base.specs.Sums.{words_of, sum16_of}

@@ -1,4 +1,4 @@
-//! The alignment that a file asks for.
+//! The alignment of a file's data.
 
 ghost use Rattle.std.specs.Prelude.{◌≡◌, ◌^◌};
 ghost use Rattle.fv_base.specs.Alignment.{alignment_of};
@@ -6,8 +6,8 @@ ghost use Rattle.fv_base.specs.Measures.{IsAlignment};
 
 use std::marker::Model;
 
-/// The alignment of a file's data, counted from the first byte of its volume. Contracts see the
-/// exponent of the power of two. (PI specification, volume 3, section 3.2.3.1,
+/// The alignment of a file's data, relative to the first byte of its volume: a power of two.
+/// Contracts see its exponent. (PI specification, volume 3, section 3.2.3.1,
 /// `FFS_ATTRIB_DATA_ALIGNMENT` and `FFS_ATTRIB_DATA_ALIGNMENT_2`.)
 #[derive(Clone, Copy, Debug, PartialEq, Eq)]
 pub struct Align {
@@ -26,13 +26,13 @@ impl Model for Align {
     ghost invariant = { λ a. a.exponent ≤ 24 };
 }
 
-/// The exponents of the sixteen alignments, the first table and then the second.
+/// The exponents of the sixteen alignments: the first table, then the second.
 const EXPONENTS: [u32; 16] = [0, 4, 7, 9, 10, 12, 15, 16, 17, 18, 19, 20, 21, 22, 23, 24];
 
 impl Align {
-    /// The alignment that a file's attribute bits name. Bits 0x08, 0x10 and 0x20,
-    /// `FFS_ATTRIB_DATA_ALIGNMENT`, are its code; bit 0x02, `FFS_ATTRIB_DATA_ALIGNMENT_2`, picks
-    /// the second table. No other bit matters.
+    /// Returns the alignment that a file's attribute bits select. Bits 0x08, 0x10 and 0x20
+    /// (`FFS_ATTRIB_DATA_ALIGNMENT`) are the alignment code; bit 0x02
+    /// (`FFS_ATTRIB_DATA_ALIGNMENT_2`) selects the second table. No other bit matters.
     pub fn from_attributes(attributes: u8) -> Align
         ensures { 2 ^ result ≡ alignment_of attributes }
     {
@@ -43,7 +43,7 @@ impl Align {
         }
     }
 
-    /// The alignment in bytes, a power of two of at most 2 ^ 24.
+    /// Returns the alignment in bytes: a power of two, at most 2 ^ 24.
     pub fn bytes(self) -> u64
         ensures value { result ≡ 2 ^ self }
         ensures power { IsAlignment result }

@@ -4,10 +4,10 @@ ghost use Rattle.std.specs.Prelude.{◌≡◌, ◌↔◌, IsTrue};
 ghost use Rattle.fv_base.specs.Flash.{AllAre};
 ghost use Rattle.fv_base.specs.Measures.{all_are};
 
-/// The number of bytes that are looked at before the loop decides whether to go on.
+/// The number of bytes that are tested at once before the loop decides whether to go on.
 const PIECE: usize = 4096;
 
-// Whether every byte of the piece has this value. Looks at all of them.
+// Returns whether every byte of the piece has this value. Reads all of the bytes.
 fn is_filled(piece: &[u8], byte: u8) -> bool
     ensures { IsTrue result ↔ AllAre byte piece.now }
 {
@@ -18,7 +18,8 @@ fn is_filled(piece: &[u8], byte: u8) -> bool
     seen == 0
 }
 
-/// Whether every byte has the value `byte`. True if there are no bytes. Takes no memory.
+/// Returns whether every byte has the value `byte`, which is also true if there are no bytes.
+/// Allocates no memory.
 pub fn all_are(bytes: &[u8], byte: u8) -> bool
     ensures test { result ≡ all_are byte bytes.now }
     ensures all { IsTrue result ↔ AllAre byte bytes.now }

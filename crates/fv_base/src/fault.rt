@@ -7,87 +7,90 @@ use std::alloc::{AllocError, AllocFailed};
 use std::fmt;
 use thiserror::Error;
 
-/// Why an input was rejected, or a run stopped. Each variant says when it is the fault, and its
-/// offset. A valid file is one whose data are valid, marked for update or not.
+/// Why an input was rejected, or why a run stopped. The comment of each variant gives its
+/// condition, then its offset. A valid file is a file whose data are valid, marked for update or
+/// not.
 #[derive(Clone, Copy, Debug, PartialEq, Eq)]
 pub enum FaultKind {
-    /// There are fewer bytes than 56, than `HeaderLength` or than `FvLength`. At the end of the
-    /// bytes.
+    /// There are fewer than 56 bytes, fewer than `HeaderLength` bytes, or fewer than `FvLength`
+    /// bytes. At the end of the bytes.
     Truncated,
-    /// `Signature`, the four bytes at 40, is not `_FVH`, `EFI_FVH_SIGNATURE`. At 40.
+    /// `Signature`, the four bytes at 40, is not `_FVH` (`EFI_FVH_SIGNATURE`). At 40.
     Signature,
-    /// `FileSystemGuid`, at 16, is neither that of FFS2 nor that of FFS3. At 16.
+    /// `FileSystemGuid`, at 16, is neither the GUID of FFS2 nor that of FFS3. At 16.
     FileSystem,
-    /// `Revision`, the byte at 55, is not 2, `EFI_FVH_REVISION`. At 55.
+    /// `Revision`, the byte at 55, is not 2 (`EFI_FVH_REVISION`). At 55.
     Revision,
     /// `HeaderLength` is not a multiple of 8 from 64 to 2112. At 48.
     HeaderLength,
-    /// The 16-bit words of the header, with its `Checksum`, do not sum to 0. At 0.
+    /// The 16-bit words of the header, including its `Checksum`, do not sum to 0. At 0.
     HeaderSum,
-    /// The first pair of zeros of `BlockMap` is not at `HeaderLength` - 8, or the blocks do not sum
+    /// The first pair of zeros in `BlockMap` is not at `HeaderLength` - 8, or the blocks do not sum
     /// to `FvLength`. At 56.
     BlockMap,
-    /// `FvLength` is not a multiple of 8, is below `HeaderLength` or is above the limit (at 32). Or
-    /// bytes follow the volume in a call that takes a whole one (at `FvLength`). Or an input is
-    /// longer than the limit (at the limit).
+    /// `FvLength` is not a multiple of 8, is less than `HeaderLength` or exceeds the limit (at 32).
+    /// Or bytes follow the volume in a call that takes a whole volume (at `FvLength`). Or an input
+    /// is longer than the limit (at the limit).
     Length,
     /// The extended header, at `ExtHeaderOffset`, begins before `HeaderLength`, has fewer than 20
-    /// bytes before `FvLength` or ends past it; or `ExtHeaderSize` is below 20 or above 65,535. At
-    /// 52.
+    /// bytes before `FvLength`, or ends after `FvLength`; or `ExtHeaderSize` is less than 20 or
+    /// more than 65,535. At 52.
     ExtHeader,
-    /// Bit 0x40 or 0x80 of `State` was written; or `verify_ffs_file` is given a file that is not
+    /// Bit 0x40 or 0x80 of `State` was written, or `verify_ffs_file` was given a file that is not
     /// valid. At the file + 23.
     FileState,
     /// The bytes of a file header, with `IntegrityCheck.Checksum.File` and `State` taken as 0, do
     /// not sum to 0. At the file.
     FileHeaderSum,
-    /// `Size` or `ExtendedSize` of a file is below its header's length or past the end; `Size` of a
-    /// large header is not 0; or the header is cut short by the end. At the file + 20.
+    /// `Size` or `ExtendedSize` of a file is less than the length of its header, or reaches past
+    /// the end; or `Size` of a large header is not 0; or the end cuts the header short. At the file
+    /// + 20.
     FileSize,
     /// `Attributes` of a file in FFS2 has `FFS_ATTRIB_LARGE_FILE`, bit 0x01. (A header that was
-    /// never finished may have it.) At the file + 19.
+    /// never finished may have this bit.) At the file + 19.
     LargeFile,
-    /// The file sum of a valid file that is no pad is wrong: with `FFS_ATTRIB_CHECKSUM`, the data
-    /// and `IntegrityCheck.Checksum.File` do not sum to 0; without it,
+    /// The file checksum of a valid file that is not a pad is wrong: with `FFS_ATTRIB_CHECKSUM`,
+    /// the data and `IntegrityCheck.Checksum.File` do not sum to 0; without it,
     /// `IntegrityCheck.Checksum.File` is not 0xAA. At the file + 17.
     FileSum,
-    /// `Attributes` of a valid file that is no pad has `FFS_ATTRIB_FIXED`, bit 0x04. At the file +
-    /// 19.
+    /// `Attributes` of a valid file that is not a pad has `FFS_ATTRIB_FIXED`, bit 0x04. At the file
+    /// + 19.
     Fixed,
-    /// Where a cell would begin, not all bytes up to the volume's end are erased, and either fewer
-    /// than 24 are left or `State` is erased. At the first byte from there on that is not erased.
+    /// Where a cell would begin, the bytes up to the end of the volume are not all erased, and
+    /// either fewer than 24 of them are left or `State` is erased. At the first of these bytes that
+    /// is not erased.
     FreeSpace,
-    /// A valid file that is no pad has the `Name` of an earlier one in the same state. At the later
-    /// file.
+    /// A valid file that is not a pad has the same `Name` as an earlier one in the same state. At
+    /// the later file.
     DuplicateName,
-    /// A file whose `Name` is `EFI_FFS_VOLUME_TOP_FILE_GUID`, and which is not superseded, is not
-    /// the last file, or does not end at `FvLength`. At the file.
+    /// A file that has the `Name` `EFI_FFS_VOLUME_TOP_FILE_GUID` and is not superseded is not the
+    /// last file, or does not end at `FvLength`. At the file.
     TopFile,
-    /// `Size` or `ExtendedSize` of a section is below its header's length or past the end, or an
-    /// extended header is cut short by the end. At the section header.
+    /// `Size` or `ExtendedSize` of a section is less than the length of its header, or reaches past
+    /// the end; or the end cuts an extended header short. At the section header.
     SectionSize,
     /// One to three bytes are left where a section would begin. At the first of them.
     SectionTail,
-    /// The content of a group or of an opened volume would lie at depth 9. At the section header.
+    /// The content of a group or of an opened volume would be at depth 9. At the section header.
     Depth,
-    /// The files of a volume that was read have no placement in its `FvLength` bytes, though its
-    /// volume top file, if it has one, could be placed. At 0, with the depth of that volume.
+    /// A volume was read, but its files cannot be laid out within its `FvLength` bytes, although
+    /// its volume top file, if it has one, could be placed. At 0, with the depth of that volume.
     NoRoom,
-    /// The volume top file of a volume that was read, placed so that it ends at `FvLength`, does
-    /// not begin at a multiple of 8, or its data are not aligned (`FFS_ATTRIB_DATA_ALIGNMENT`). At
-    /// 0, with the depth of that volume.
+    /// A volume was read, but its volume top file, placed so that it ends at `FvLength`, does not
+    /// begin at a multiple of 8, or the file's data are not aligned (`FFS_ATTRIB_DATA_ALIGNMENT`).
+    /// At 0, with the depth of that volume.
     TopAlignment,
     /// Memory ran out. At 0.
     OutOfMemory,
     /// The reader failed, or was interrupted too often. At the number of bytes read so far.
     ReadFault,
-    /// The writer failed, or took no byte though some were given. At the number of bytes written so
-    /// far.
+    /// The writer failed, or took none of the bytes that it was given. At the number of bytes
+    /// written so far.
     WriteFault,
 }
 
 impl FaultKind {
-    /// The number of the kind, from 1 to 26.
+    /// Returns the number of the kind, from 1 to 26.
     pub fn number(self) -> u8
         ensures { result ≡ fault_number self }
     {
@@ -121,7 +124,7 @@ impl FaultKind {
         }
     }
 
-    // What the kind means, in a sentence, which `Display` writes.
+    // The meaning of the kind, as `Display` writes it.
     fn text(self) -> &'static str {
         match self {
             FaultKind::Truncated => "the bytes end before the volume does",
@@ -172,13 +175,13 @@ impl std::error::Error for FaultKind {}
 /// Where a fault is.
 #[derive(Clone, Copy, Debug, PartialEq, Eq)]
 pub struct Place {
-    /// The offset in bytes from the first byte that was passed to the call.
+    /// The offset in bytes, counted from the first byte that was passed to the call.
     pub offset: u64,
-    /// The number of groups and opened volumes around it.
+    /// The number of groups and opened volumes that contain this place.
     pub depth: u8,
 }
 
-/// Why an input was rejected or a run stopped, and where.
+/// Why an input was rejected or why a run stopped, and where.
 #[derive(Clone, Copy, Debug, PartialEq, Eq, Error)]
 #[error("{kind} (fault {}) at offset {}, depth {}", .kind.number(), .place.offset, .place.depth)]
 pub struct Fault {
@@ -189,7 +192,7 @@ pub struct Fault {
 }
 
 impl Fault {
-    /// A fault at the outermost level, at an offset in bytes.
+    /// Returns the fault of this kind at an offset in bytes, at the outermost level (depth 0).
     pub const fn outer(kind: FaultKind, offset: u64) -> Fault
         ensures { result ≡ outer_fault kind offset }
     {
@@ -200,7 +203,11 @@ impl Fault {
     }
 }
 
-/// Ok if the check holds, else the fault of this kind at this offset, at the outermost level.
+/// Turns the outcome of a check into a result.
+///
+/// # Errors
+///
+/// The fault of this kind at this offset, at depth 0, if `holds` is false.
 pub fn check(holds: bool, kind: FaultKind, offset: u64) -> Result<(), Fault>
     ensures ok { OnOk result (holds ≡ true) }
     ensures err { IfErr result (λ f. (holds ≡ false) × (f ≡ outer_fault kind offset)) }
@@ -212,7 +219,7 @@ pub fn check(holds: bool, kind: FaultKind, offset: u64) -> Result<(), Fault>
     }
 }
 
-/// OutOfMemory at 0, depth 0.
+/// A failed allocation becomes OutOfMemory at 0, depth 0.
 impl From<AllocError> for Fault {
     ghost from_gives = { λ _ f. f ≡ out_of_memory };
 
@@ -221,7 +228,7 @@ impl From<AllocError> for Fault {
     }
 }
 
-/// OutOfMemory at 0, depth 0.
+/// A failed allocation becomes OutOfMemory at 0, depth 0.
 impl<T: Drop> From<AllocFailed<T>> for Fault {
     ghost from_gives = { λ _ f. f ≡ out_of_memory };
 

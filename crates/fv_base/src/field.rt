@@ -1,9 +1,10 @@
-//! Offsets in bytes: a field at an offset, the number that it spells, and the next multiple of 8.
+//! Offsets in bytes: the field at an offset, the number in it, and the next multiple of 8.
 
 ghost use Rattle.std.specs.Prelude.{◌≡◌, ◌+◌, ◌<◌, ◌≤◌, ◌^◌, length, drop};
 ghost use Rattle.fv_base.specs.Value.{field, le_at, up_to_8};
 
-/// The bytes of a field: `size` bytes from the offset `at` on, which lie within `bytes`.
+/// Returns the bytes of a field: `size` bytes from the offset `at` on. They must lie within
+/// `bytes`.
 pub fn field(bytes: &[u8], at: usize, size: usize) -> &[u8]
     requires { at + size ≤ length bytes.now }
     ensures bytes { result.now ≡ field at size bytes.now }
@@ -12,7 +13,7 @@ pub fn field(bytes: &[u8], at: usize, size: usize) -> &[u8]
     &bytes[at..at + size]
 }
 
-/// The bytes from the offset `at` on. `at` is at most the number of bytes.
+/// Returns the bytes from the offset `at` on. `at` is at most the number of bytes.
 pub fn bytes_from(bytes: &[u8], at: usize) -> &[u8]
     requires { at ≤ length bytes.now }
     ensures { result.now ≡ drop at bytes.now }
@@ -20,7 +21,7 @@ pub fn bytes_from(bytes: &[u8], at: usize) -> &[u8]
     &bytes[at..]
 }
 
-/// The 2-byte number at the offset `at`, the least significant byte first. It lies within `bytes`.
+/// Returns the little-endian 2-byte number at the offset `at`. It must lie within `bytes`.
 pub fn u16_at(bytes: &[u8], at: usize) -> u16
     requires { at + 2 ≤ length bytes.now }
     ensures { result ≡ le_at at 2 bytes.now }
@@ -29,7 +30,7 @@ pub fn u16_at(bytes: &[u8], at: usize) -> u16
     u16::from_le_bytes([part[0], part[1]])
 }
 
-/// The 4-byte number at the offset `at`, the least significant byte first. It lies within `bytes`.
+/// Returns the little-endian 4-byte number at the offset `at`. It must lie within `bytes`.
 pub fn u32_at(bytes: &[u8], at: usize) -> u32
     requires { at + 4 ≤ length bytes.now }
     ensures { result ≡ le_at at 4 bytes.now }
@@ -38,7 +39,7 @@ pub fn u32_at(bytes: &[u8], at: usize) -> u32
     u32::from_le_bytes([part[0], part[1], part[2], part[3]])
 }
 
-/// The 8-byte number at the offset `at`, the least significant byte first. It lies within `bytes`.
+/// Returns the little-endian 8-byte number at the offset `at`. It must lie within `bytes`.
 pub fn u64_at(bytes: &[u8], at: usize) -> u64
     requires { at + 8 ≤ length bytes.now }
     ensures { result ≡ le_at at 8 bytes.now }
@@ -49,7 +50,7 @@ pub fn u64_at(bytes: &[u8], at: usize) -> u64
     ])
 }
 
-/// The least multiple of 8 that is at least `offset`. `offset` is below 2 ^ 64 - 7.
+/// Rounds an offset up to a multiple of 8. `offset` must be less than 2 ^ 64 - 7.
 pub fn up_to_8(offset: u64) -> u64
     requires { offset + 7 < 2 ^ 64 }
     ensures { result ≡ up_to_8 offset }

@@ -1,10 +1,10 @@
-//! The value of erased bits, and the two file systems.
+//! The erase polarity, and the two file systems.
 
 ghost use Rattle.std.specs.Prelude.{◌≡◌, ◌⊎◌};
 ghost use Rattle.fv_base.specs.Flash.{erased_byte};
 
-/// The value of erased bits: ones or zeros. (PI specification, volume 3, section 3.2.1.1,
-/// `EFI_FVB2_ERASE_POLARITY`.)
+/// The erase polarity: whether erased bits are ones or zeros. (PI specification, volume 3, section
+/// 3.2.1.1, `EFI_FVB2_ERASE_POLARITY`.)
 #[derive(Clone, Copy, Debug, PartialEq, Eq)]
 pub enum Polarity {
     /// An erased byte is 0xFF.
@@ -14,7 +14,7 @@ pub enum Polarity {
 }
 
 impl Polarity {
-    /// The value of an erased byte: 0xFF or 0x00.
+    /// Returns the value of an erased byte: 0xFF or 0x00.
     pub fn erased(self) -> u8
         ensures value { result ≡ erased_byte self }
         ensures either { (result ≡ 0) ⊎ (result ≡ 255) }
@@ -26,7 +26,7 @@ impl Polarity {
     }
 }
 
-/// The two file systems that are read. (PI specification, volume 3, section 3.2.2.)
+/// The two file systems that can be read. (PI specification, volume 3, section 3.2.2.)
 #[derive(Clone, Copy, Debug, PartialEq, Eq)]
 pub enum FileSystem {
     /// Files below 16 MiB: `EFI_FIRMWARE_FILE_SYSTEM2_GUID`,

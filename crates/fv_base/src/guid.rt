@@ -8,7 +8,7 @@ ghost use Rattle.fv_base.specs.Value.{field};
 use crate::field::field;
 use uuid::Uuid;
 
-/// A GUID, `EFI_GUID`: sixteen bytes as they are stored in a volume. (PI specification, volume 1;
+/// A GUID (`EFI_GUID`): its sixteen bytes, as a volume stores them. (PI specification, volume 1;
 /// UEFI specification, appendix A.)
 #[derive(Clone, Copy, Debug, PartialEq, Eq, PartialOrd, Ord)]
 pub struct Guid {
@@ -30,8 +30,8 @@ impl Guid {
         self.bytes
     }
 
-    /// The GUID that a text names, in any of the four forms that `uuid` reads, or None if `uuid`
-    /// does not read it.
+    /// Reads a GUID from a text, in any of the four forms that `uuid` accepts. Returns None if
+    /// `uuid` rejects the text.
     pub fn parse(text: &str) -> Option<Guid>
         ensures { result ≡ guid_read text.now }
     {
@@ -41,12 +41,13 @@ impl Guid {
         }
     }
 
-    /// The text of 36 characters: 8-4-4-4-12 lower-case digits. The three numbers come first, each
-    /// with its most significant digit first, then the last eight bytes in order.
+    /// Returns the text of the GUID, 36 characters: 8-4-4-4-12 lower-case digits. The three numbers
+    /// come first, each with its most significant digit first. The last eight bytes follow in
+    /// order.
     pub fn text(self) -> [u8; 36]
         ensures text { result ≡ guid_text (bytes_of self) }
 
-        // The text names this GUID.
+        // Reading this text gives the GUID back.
         ensures read { guid_read result ≡ Some self }
     {
         let mut buffer = Uuid::encode_buffer();
@@ -58,7 +59,7 @@ impl Guid {
     }
 }
 
-/// The GUID at the offset `at` of some bytes. Its 16 bytes lie within `bytes`.
+/// Returns the GUID at the offset `at`. Its 16 bytes must lie within `bytes`.
 pub fn guid_at(bytes: &[u8], at: usize) -> Guid
     requires { at + 16 ≤ length bytes.now }
     ensures { bytes_of result ≡ field at 16 bytes.now }

@@ -1,4 +1,4 @@
-//! An input, read to its end.
+//! Reading an input to its end.
 
 ghost use Rattle.std.specs.Prelude.{◌≡◌, ◌≤◌, ◌++◌, ℕ, List, [], length, true, false, IfOk, IfErr, OnOk, vec_len};
 ghost use Rattle.fv_base.specs.Port.{inner_of, has_erred};
@@ -10,13 +10,13 @@ use crate::port::Port;
 use std::alloc::{AllocError, Global};
 use std::io::{ErrorKind, Read};
 
-/// What collects an input, piece after piece.
+/// Collects an input, piece after piece.
 pub trait Collector {
-    /// It holds what these bytes come to, which are all that it took.
+    /// Its state is the result of collecting exactly these bytes.
     ghost holds: { Self → List ℕ → Type 0 };
 
-    /// Takes the next piece of the input, which is no longer than one read gives. If it held some
-    /// bytes, it holds them with the piece after them.
+    /// Takes the next piece of the input, which is at most as long as one read. A collector that
+    /// held some bytes then holds these bytes followed by the piece.
     ///
     /// # Errors
     ///
@@ -35,24 +35,24 @@ impl Collector for Vec<u8> {
     }
 }
 
-// A vector of `count` zero bytes.
+// Returns a vector of `count` zero bytes.
 fn zeros(alloc: Global, count: usize) -> Result<Vec<u8>, AllocError>
     ensures { IfOk result (λ v. vec_len v ≡ count) }
 {
     vec![in alloc; 0u8; count]
 }
 
-/// Reads to the end of a reader, and has what it gives collected, up to `limit` bytes. A read that
-/// returns `Interrupted` is repeated. There are at most `limit` + 2 reads: a reader that gives one
-/// byte a call needs one more than the limit, the last of which finds the end or gives the byte
-/// that is too many; and one is spare. So the reads run out only if one was interrupted. The
-/// collector holds no bytes yet. How often `read` is called is only tested.
+/// Reads a reader to its end and passes its bytes to the collector, up to `limit` bytes. The
+/// collector must hold no bytes at first. A read that returns `Interrupted` is repeated. There are
+/// at most `limit` + 2 reads. A reader that gives one byte per call needs `limit` + 1 of them: the
+/// last finds the end, or gives one byte too many. The other read is spare, so the reads run out
+/// only if one of them was interrupted. How often `read` is called is only tested.
 ///
 /// # Errors
 ///
-/// ReadFault at the number of bytes read so far, if the reader fails or the reads run out; Length
-/// at the limit of a volume, if more than `limit` bytes come; OutOfMemory at 0. The first of these
-/// is returned.
+/// ReadFault at the number of bytes read so far, if the reader fails or the reads run out. Length
+/// at the limit of a volume, if there are more than `limit` bytes. OutOfMemory at 0. The first of
+/// these to occur is returned.
 pub fn read_to_end<R: Read, C: Collector>(
     alloc: Global,
     reader: &mut Port<R>,
@@ -61,15 +61,15 @@ pub fn read_to_end<R: Read, C: Collector>(
 ) -> Result<(), Fault>
     requires { C.holds collector.old [] }
 
-    // The reader gave all that it had, and the collector holds it.
+    // The reader gave all the bytes that it had, and the collector holds them.
     ensures ok { OnOk result ((bytes : List ℕ)
         × GivesAll (R.remaining (inner_of reader.old)) (R.remaining (inner_of reader.new)) bytes
         × (length bytes ≤ limit) × C.holds collector.new bytes) }
 
-    // There is no other kind of error than the three.
+    // The fault is ReadFault, Length or OutOfMemory, never another.
     ensures err { IfErr result (StopsWithin limit (R.remaining (inner_of reader.old)) (R.remaining (inner_of reader.new))) }
 
-    // ReadFault is returned only if the port has erred.
+    // If ReadFault is returned, the port's error flag is set.
     ensures erred { IfErr result (λ f. f.kind ≡ FaultKind.ReadFault → has_erred reader.new ≡ true) }
 {
     let mut store = zeros(alloc, READ_LIMIT)?;
@@ -92,23 +92,25 @@ pub fn read_to_end<R: Read, C: Collector>(
     Err(Fault::outer(FaultKind::ReadFault, count))
 }
 
-/// The bytes of an input, read to its end: at most as many as a volume may have. A read that
-/// returns `Interrupted` is repeated, and counts as a read. The vector begins with the port's room,
+/// Reads an input to its end: at most as many bytes as a volume may have. A read that returns
+/// `Interrupted` is repeated, and counts as a read. The vector is allocated with the port's `room`,
 /// up to the limit of a volume.
 ///
 /// # Errors
 ///
-/// ReadFault at the number of bytes read so far, if the reader fails or the reads run out; Length
-/// at the limit, if more bytes come; OutOfMemory at 0. The first of these is returned.
+/// ReadFault at the number of bytes read so far, if the reader fails or the reads run out. Length
+/// at the limit, if there are more bytes. OutOfMemory at 0. The first of these to occur is
+/// returned.
 pub fn read_input<R: Read>(alloc: Global, reader: &mut Port<R>) -> Result<Vec<u8>, Fault>
-    // These are all bytes that the reader had, in order, and it is at its end.
+    // The result is all the bytes that the reader had, in order, and the reader is at its end.
     ensures ok { IfOk result
         (λ v. ReadsWhole (R.remaining (inner_of reader.old)) (R.remaining (inner_of reader.new)) v.items) }
 
-    // There is no other kind of error than the three.
+    // The fault is ReadFault, Length or OutOfMemory, never another.
     ensures err { IfErr result (ReadStops (R.remaining (inner_of reader.old)) (R.remaining (inner_of reader.new))) }
 
-    // ReadFault is returned only if the port has erred.
+    // For a port whose error flag was not set before: if ReadFault is returned, the flag is set
+    // afterwards.
     ensures erred { has_erred reader.old ≡ false
         → IfErr result (λ f. f.kind ≡ FaultKind.ReadFault → has_erred reader.new ≡ true) }
 {

@@ -1,4 +1,4 @@
-//! What all crates here use: GUIDs, sums, alignments, faults, limits, ports, inputs and sinks.
+//! The basis of all other crates: GUIDs, sums, alignments, faults, limits, ports, inputs and sinks.
 #![tactic(auto)]
 
 mod align;

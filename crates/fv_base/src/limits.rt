@@ -1,24 +1,25 @@
-//! The limits of what is read, each defined once in code. The limits in bytes have definitions with
-//! numbers of their own: those of a volume and of its headers in `specs/Limits.antt`, that of one
-//! read in `specs/Input.antt`, that of hexadecimal text in `specs/HexIn.antt` of `fv_text`.
-//! Contracts tie the two: such a limit has to be changed in both, or nothing is proved.
+//! The limits on what is read. The code defines each of them only here. Each of them also has a
+//! definition with a number of its own: in `specs/Limits.antt` for volumes, their headers and the
+//! nesting depth, in `specs/Input.antt` for one read, and in `specs/HexIn.antt` of `fv_text` for
+//! hexadecimal text. Contracts tie the two together, so a limit must be changed in both places, or
+//! the proof fails.
 
-/// The most bytes that a volume may have, and that a run reads as binary input.
+/// The maximum length of a volume, and of the binary input of a run, in bytes.
 pub const VOLUME_LIMIT: u64 = 268_435_456;
 
-/// The most bytes of a volume header: 56, and 8 for each of 256 block map entries and for the pair
-/// of zeros after them.
+/// The maximum length of a volume header in bytes: 56, and 8 for each of 256 block map entries and
+/// for the pair of zeros after them.
 pub const HEADER_LIMIT: usize = 2112;
 
-/// The most bytes of an extended header.
+/// The maximum length of an extended header in bytes.
 pub const EXT_LIMIT: u32 = 65_535;
 
-/// How many levels deep groups and opened volumes nest at most in a volume.
+/// The maximum depth to which groups and opened volumes nest in a volume.
 pub const DEPTH_LIMIT: u8 = 8;
 
-/// The most bytes that a run reads as hexadecimal text: for each byte of a volume, two digits and
-/// as much white space.
+/// The maximum length of the hexadecimal text that a run reads, in bytes: two digits, and as much
+/// white space, for each byte of a volume.
 pub const TEXT_LIMIT: u64 = 4 * VOLUME_LIMIT;
 
-/// The most bytes that one read asks for.
+/// The maximum number of bytes that a single read asks for.
 pub const READ_LIMIT: usize = 65_536;

@@ -1,4 +1,4 @@
-//! What takes bytes, part after part: one walk serves every kind of sink.
+//! Sinks: they take bytes, part after part. One walk serves every kind of sink.
 
 ghost use Rattle.std.specs.Prelude.{◌≡◌, ℕ, ◌⊎◌, ◌<◌, ◌≤◌, ◌^◌, List, [], length, take, replicate, true, false};
 ghost use Rattle.std.specs.Prelude.{IfOk, IfErr, OnErr, OnOk};
@@ -16,13 +16,13 @@ use crate::port::Port;
 use std::alloc::{AllocError, Global};
 use std::io::Write;
 
-/// What takes bytes, part after part. A sink that can stop remembers that it has stopped, and takes
-/// no more from then on.
+/// Takes bytes, part after part. A sink that can stop remembers that it has stopped, and takes
+/// nothing after that.
 pub trait Sink {
-    /// A sink in the first state is in the second after it took the bytes.
+    /// Relates the state of a sink before it takes the bytes to its state afterwards.
     ghost takes: { Self → List ℕ → Self → Type 0 };
 
-    /// Taking no bytes changes nothing, and bytes may come in parts.
+    /// Taking no bytes changes nothing, and bytes may be taken in parts.
     ghost laws: { WalkLaws takes };
 
     /// Takes the bytes.
@@ -30,7 +30,8 @@ pub trait Sink {
         ensures { takes self.old bytes.now self.new };
 }
 
-// Writes the bytes from the first on: all of them, unless the port errs.
+// Writes the bytes in order: all of them, unless a write fails. Returns the number of bytes
+// written.
 fn write_front<W: Write>(port: &mut Port<W>, bytes: &[u8]) -> usize
     ensures bound { result ≤ length bytes.now }
     ensures front { Appends (W.contents (inner_of port.old)) (W.contents (inner_of port.new)) (take result bytes.now) }
@@ -47,19 +48,19 @@ fn write_front<W: Write>(port: &mut Port<W>, bytes: &[u8]) -> usize
     at
 }
 
-/// A borrowed port that is written to until a write fails.
+/// Writes to a borrowed port until a write fails.
 #[derive(Drop)]
 pub struct WriteSink<'a, W: Write> {
     port: &'a mut Port<W>,
-    /// True while no write has failed.
+    /// Whether no write has failed.
     on: bool,
-    /// How many bytes were written, modulo 2 ^ 64.
+    /// The number of bytes written, modulo 2 ^ 64.
     count: u64,
 }
 
-/// It keeps its port. While it is on, it writes all of the bytes, in order, and counts them; or it
-/// writes and counts a first part of them, not all, and goes off: the port has erred then. Once it
-/// is off, nothing changes.
+/// The sink keeps its port. It is on until a write fails: it writes all of the bytes, in order, and
+/// counts them. When a write fails, it has written and counted only a first part of the bytes, the
+/// port's error flag is set, and the sink goes off. From then on nothing changes.
 impl<'a, W: Write> Sink for WriteSink<'a, W> {
     ghost takes = { SeenTakes
         (λ s. record { contents = W.contents (inner_of s.port.now); erred = has_erred s.port.now; count = s.count })
@@ -79,7 +80,7 @@ impl<'a, W: Write> Sink for WriteSink<'a, W> {
 }
 
 impl<'a, W: Write> WriteSink<'a, W> {
-    /// A sink that has written nothing to the port.
+    /// Makes a sink that has written nothing to the port.
     pub fn new(port: &'a mut Port<W>) -> WriteSink<'a, W>
         ensures same_port { port_name result ≡ port.entry.ghost_name }
         ensures now { port_of result ≡ port.old }
@@ -93,7 +94,7 @@ impl<'a, W: Write> WriteSink<'a, W> {
         }
     }
 
-    /// Whether everything was written.
+    /// Reports whether everything was written.
     ///
     /// # Errors
     ///
@@ -112,7 +113,7 @@ impl<'a, W: Write> WriteSink<'a, W> {
     }
 }
 
-/// Bytes that are kept in memory, until memory runs out.
+/// Keeps bytes in memory, until memory runs out.
 #[derive(Drop)]
 pub struct ListSink {
     bytes: Vec<u8>,
@@ -120,7 +121,7 @@ pub struct ListSink {
 }
 
 impl ListSink {
-    /// A sink with room for `total` bytes.
+    /// Makes an empty sink with room for `total` bytes.
     ///
     /// # Errors
     ///
@@ -134,7 +135,7 @@ impl ListSink {
         })
     }
 
-    /// The bytes that it took.
+    /// Returns the bytes that the sink took.
     ///
     /// # Errors
     ///
@@ -153,8 +154,8 @@ impl ListSink {
     }
 }
 
-/// While it is on, it keeps all of the bytes after the others; or memory runs out, and it goes off.
-/// It never goes on again.
+/// The sink is on until memory runs out: it keeps all of the bytes, after the earlier ones. Then it
+/// goes off, and never goes on again.
 impl Sink for ListSink {
     ghost takes = { KeptTakes (λ s. s.bytes.items) (λ s. s.on) };
 
@@ -167,13 +168,13 @@ impl Sink for ListSink {
     }
 }
 
-/// The zero bytes from which fills are written.
+/// The source of fills with 0x00.
 static ZEROS: [u8; 65536] = [0; 65536];
 
-/// The bytes 0xFF from which fills are written.
+/// The source of fills with 0xFF.
 static ONES: [u8; 65536] = [0xff; 65536];
 
-// Copies of the byte, at least one.
+// Returns a block of copies of the byte, at least one.
 fn fill_block(byte: u8) -> &'static [u8]
     requires { (byte ≡ 0) ⊎ (byte ≡ 255) }
     ensures some { 0 < length result.now }
@@ -182,7 +183,7 @@ fn fill_block(byte: u8) -> &'static [u8]
     if byte == 0 { &ZEROS } else { &ONES }
 }
 
-// The first `count` bytes of the chunk.
+// Returns the first `count` bytes of the chunk.
 fn cut(chunk: &[u8], count: u64) -> &[u8]
     requires { count ≤ length chunk.now }
     ensures { result.now ≡ take count chunk.now }
@@ -190,7 +191,7 @@ fn cut(chunk: &[u8], count: u64) -> &[u8]
     &chunk[..count as usize]
 }
 
-// Puts the byte `count` times, a chunk at a time.
+// Puts the byte into the sink `count` times, a chunk at a time.
 fn fill_by<S: Sink>(out: &mut S, chunk: &[u8], byte: u8, count: u64)
     requires some { 0 < length chunk.now }
     requires same { chunk.now ≡ replicate (length chunk.now) byte }
@@ -204,7 +205,7 @@ fn fill_by<S: Sink>(out: &mut S, chunk: &[u8], byte: u8, count: u64)
     out.put(cut(chunk, left));
 }
 
-/// Puts the byte, which is 0x00 or 0xFF, `count` times.
+/// Puts the byte, which must be 0x00 or 0xFF, into the sink `count` times.
 pub fn fill<S: Sink>(out: &mut S, byte: u8, count: u64)
     requires { (byte ≡ 0) ⊎ (byte ≡ 255) }
     ensures { S.takes out.old (replicate count byte) out.new }

@@ -1,11 +1,11 @@
-//! The sums in headers.
+//! The sums that header checksums use.
 
 ghost use Rattle.std.specs.Prelude.{◌≡◌, ◌%◌, length};
 ghost use Rattle.fv_base.specs.Measures.{sum8_of};
 ghost use Rattle.fv_base.specs.Sums.{sum16_of};
 
-/// The plain sum of the bytes, modulo 256, as in `IntegrityCheck` of a file. (PI specification,
-/// volume 3, section 3.2.3.1.)
+/// Returns the plain sum of the bytes, modulo 256, as `IntegrityCheck` of a file uses it. (PI
+/// specification, volume 3, section 3.2.3.1.)
 pub fn sum8(bytes: &[u8]) -> u8
     ensures { result ≡ sum8_of bytes.now }
 {
@@ -16,8 +16,8 @@ pub fn sum8(bytes: &[u8]) -> u8
     total
 }
 
-/// The plain sum of the 16-bit words, least significant byte first, modulo 65536, as in `Checksum`
-/// of a volume header. The number of bytes is even. (PI specification, volume 3, section 3.2.1.1.)
+/// Returns the plain sum of the little-endian 16-bit words, modulo 65536, as `Checksum` of a volume
+/// header uses it. The number of bytes must be even. (PI specification, volume 3, section 3.2.1.1.)
 pub fn sum16(bytes: &[u8]) -> u16
     requires { length bytes.now % 2 ≡ 0 }
     ensures { result ≡ sum16_of bytes.now }

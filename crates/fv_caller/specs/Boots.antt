@@ -9,8 +9,8 @@ use Rattle.fv_depex.specs.declared.op.Phase.TheVariants as phases
 use Rattle.fv_hob.specs.Words.{hob_out_of_memory, HobForm, IsHobList}
 use Rattle.fv_tree.specs.Words.{Accepted, Meaning}
 
--- the first bytes are a volume (PI specification, volume 3, section 3.2), the second begin with an expression of DXE
--- (volume 2, section 10.7), and the third begin with a hand-off list (volume 3, section 5)
+-- the first input is a volume, the second begins with an expression of DXE, and the third begins with a hand-off list
+-- (PI specification, volume 3, section 3.2; volume 2, section 10.7; volume 3, section 5)
 pub record IsBoot (volume expression hand_off : List ℕ) : Type 0 where
   pub read : (m : Meaning) × Accepted volume m
   pub spelled : (ops : List Op) × (rest : List ℕ) × Spells phases.Dxe ops rest expression

@@ -15,24 +15,25 @@ use std::alloc::Global;
 /// A volume in the archive.
 #[derive(Drop)]
 pub struct Archived {
-    /// Its canonical image.
+    /// The canonical image of the volume.
     pub image: ByteList,
-    /// The number of its files.
+    /// The number of files of the volume.
     pub files: u32,
 }
 
-/// What the archive keeps of the volume that the input is. (PI specification, volume 3, section
-/// 3.2.)
+/// Returns what the archive keeps of the volume that the input is. (PI specification, volume 3,
+/// section 3.2.)
 ///
 /// # Errors
 ///
-/// `CallerFault::Volume`: the fault with which `normalise` rejects the input, or OutOfMemory.
+/// `CallerFault::Volume`, with the fault for which `normalise` rejects the input, or with
+/// OutOfMemory.
 pub fn archive_volume(alloc: Global, input: &[u8]) -> Result<Archived, CallerFault>
-    // The input is a volume. The image is that of its meaning, and the number is that of its files.
+    // The input is a volume, `image` is its canonical image, and `files` counts its files.
     ensures ok { IfOk result
         (λ a. (m : Meaning) × Accepted input.now m × IsImage m a.image × (a.files ≡ length (files_of m))) }
 
-    // Memory ran out, or the input has no image.
+    // Memory ran out, or the input has no canonical image.
     ensures err { IfErr result
         (λ e. (f : Fault) × (e ≡ Volume f) × OrMemory (Refuses input.now) f) }
 {

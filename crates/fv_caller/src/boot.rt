@@ -1,4 +1,4 @@
-//! A check of what a boot reads.
+//! A check of the inputs that a boot reads.
 
 ghost use Rattle.std.specs.Prelude.{IfErr, OnOk};
 ghost use Rattle.fv_caller.specs.Boots.{IsBoot, IsOutOfMemory};
@@ -9,14 +9,13 @@ use fv_depex::{Phase, read_depex};
 use fv_hob::read_hobs;
 use std::alloc::Global;
 
-/// Ok if a boot can read its three inputs: a volume and nothing after it, the body of a dependency
-/// section of DXE, and a hand-off list, after which anything may follow. (PI specification, volume
-/// 2, section 10.7, and volume 3, sections 3.2 and 5.)
+/// Checks that a boot can read its three inputs: a volume with nothing after it, the body of a DXE
+/// dependency section, and a hand-off list, after which anything may follow. (PI specification,
+/// volume 2, section 10.7, and volume 3, sections 3.2 and 5.)
 ///
 /// # Errors
 ///
-/// The fault of the first of the three that is rejected, or that of the first for which memory runs
-/// out.
+/// The fault of the first input that is rejected or for which memory runs out.
 pub fn check_boot(
     alloc: Global,
     volume: &[u8],

@@ -7,8 +7,8 @@ use fv_depex::DepexFault;
 use fv_hob::HobFault;
 use thiserror::Error;
 
-/// Why an input was rejected. The crates that read have three types of fault, and `?` needs one
-/// that is made from each.
+/// Why an input was rejected. The crates that read have three types of fault, and `?` needs a type
+/// that can be made from each of them.
 #[derive(Clone, Copy, Debug, PartialEq, Eq, Error)]
 pub enum CallerFault {
     /// The volume is rejected, or does not fit.

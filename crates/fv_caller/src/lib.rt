@@ -1,5 +1,5 @@
-//! An example of a library on top of the crates, which `docs/LIBRARY.md` goes through: an archive
-//! that keeps volumes in canonical form, and a check of what a boot reads. Nothing in this
+//! An example of a library on top of the crates, which `docs/LIBRARY.md` explains: an archive that
+//! keeps volumes in canonical form, and a check of the inputs that a boot reads. Nothing in this
 //! repository uses it.
 #![tactic(auto)]
 

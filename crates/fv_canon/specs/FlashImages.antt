@@ -1,4 +1,4 @@
--- Every volume of a flash image, replaced by its canonical image; and each with its meaning and its layout.
+-- Flash images with each volume replaced by its canonical image, rejected, or read and laid out.
 use Rattle.std.specs.Prelude.{◌≡◌, ◌⊎◌, ◌<◌, ◌≤◌, ℕ, List, ◌∷◌, ◌++◌, length, get_or, map}
 use Rattle.std.specs.List.{AllByRecursion}
 use Rattle.fv_base.specs.Words.{outer_fault, volume_limit, field}
@@ -11,18 +11,18 @@ use Rattle.fv_canon.specs.InputRefusals.{Refuses}
 use Rattle.fv_canon.specs.LayoutForms.{IsLayout}
 use Rattle.fv_canon.specs.declared.flash_image.LaidVolume.{LaidVolume}
 
--- a volume begins at the offset p of b, and o has its canonical image there
+-- a volume begins at the offset p of b, and o contains its canonical image there
 abbrev pub IsRenewed : List ℕ → List ℕ → ℕ → Type 0
 IsRenewed b o p = (n : ℕ) × VolumeAt b p n × NormalisesTo (field p n b) (field p n o)
 
--- o is as long as b. At each of the offsets it has the canonical image of the volume that begins there in b. Every byte
--- outside these volumes is that of b
+-- o is as long as b. At each of these offsets, o contains the canonical image of the volume that begins there in b.
+-- Every byte outside these volumes is the same in o as in b
 pub record Renewed (b places o : List ℕ) : Type 0 where
   pub length_is : length o ≡ length b
   pub volumes : AllByRecursion (IsRenewed b o) places
   pub others : (k : ℕ) → k < length b → (IsCovered b places k → ⊥) → get_or o k 0 ≡ get_or b k 0
 
--- b is within the limit, and o is b with each volume that is found in it renewed
+-- b is within the limit, and o is b with each volume that is found in it replaced by its canonical image
 abbrev pub NormalisesAll : List ℕ → List ℕ → Type 0
 NormalisesAll b o = (length b ≤ volume_limit) × (places : List ℕ) × Found b places × Renewed b places o
 
@@ -30,13 +30,14 @@ NormalisesAll b o = (length b ≤ volume_limit) × (places : List ℕ) × Found 
 abbrev pub HasImageAt : List ℕ → ℕ → Type 0
 HasImageAt b p = (n : ℕ) × (image : List ℕ) × VolumeAt b p n × NormalisesTo (field p n b) image
 
--- the volume that begins at the offset p of b is rejected; the fault is that of the volume, with its offset counted from
--- the first byte of b
+-- the volume that begins at the offset p of b is rejected, and this is its fault, with the offset counted from the
+-- first byte of b
 abbrev pub RefusedAt : List ℕ → ℕ → Fault → Type 0
 RefusedAt b p fault =
     (n : ℕ) × VolumeAt b p n × (own : Fault) × Refuses (field p n b) own × (fault ≡ moved_fault p own.place.depth own)
 
--- the volume at one of the offsets is rejected, and those at the offsets before it have canonical images
+-- the volume at one of these offsets is rejected with this fault, and all volumes at earlier offsets have canonical
+-- images
 pub record FirstRefused (b places : List ℕ) (fault : Fault) : Type 0 where
   pub before : List ℕ
   pub place : ℕ
@@ -45,13 +46,14 @@ pub record FirstRefused (b places : List ℕ) (fault : Fault) : Type 0 where
   pub images : AllByRecursion (HasImageAt b) before
   pub refused : RefusedAt b place fault
 
--- b is longer than the limit; or it is not, and the fault is that of the first volume in it that is rejected
+-- either b is longer than the limit, and the fault is Length at the limit; or b is within the limit, and the fault is
+-- that of the first volume in b that is rejected
 abbrev pub RefusesAll : List ℕ → Fault → Type 0
 RefusesAll b fault =
     ((volume_limit < length b) × (fault ≡ outer_fault kinds.Length volume_limit))
     ⊎ ((length b ≤ volume_limit) × (places : List ℕ) × Found b places × FirstRefused b places fault)
 
--- a volume of b begins at the start, with this meaning and this layout
+-- a volume of b begins at the offset `v.start`, with the meaning `v.view` and the layout `v.places`
 abbrev pub IsLaid : List ℕ → LaidVolume → Type 0
 IsLaid b v = (n : ℕ) × VolumeAt b v.start n × Accepted (field v.start n b) v.view × IsLayout v.view v.places
 
@@ -59,10 +61,10 @@ IsLaid b v = (n : ℕ) × VolumeAt b v.start n × Accepted (field v.start n b) v
 abbrev pub starts_of : List LaidVolume → List ℕ
 starts_of volumes = map (λ v. v.start) volumes
 
--- the volumes begin at these offsets of b, each with its meaning and its layout
+-- these are the volumes that begin at these offsets of b, in order, each with its meaning and its layout
 abbrev pub AreLaid : List ℕ → List ℕ → List LaidVolume → Type 0
 AreLaid b offsets volumes = (starts_of volumes ≡ offsets) × AllByRecursion (IsLaid b) volumes
 
--- b is within the limit, and these are the volumes that are found in it, each with its meaning and its layout
+-- b is within the limit, and these are all volumes that are found in it, in order, each with its meaning and its layout
 abbrev pub IsLaidOut : List ℕ → List LaidVolume → Type 0
 IsLaidOut b volumes = (length b ≤ volume_limit) × (offsets : List ℕ) × Found b offsets × AreLaid b offsets volumes

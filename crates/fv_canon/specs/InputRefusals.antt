@@ -1,4 +1,4 @@
--- Why an input is rejected, and as what: the third sentence of the headline.
+-- Why an input is rejected, and with which kind of fault: the third sentence of the headline.
 use Rattle.std.specs.Prelude.{◌≡◌, ◌⊎◌, ℕ, List}
 use Rattle.fv_base.specs.declared.fault.Fault.{Fault}
 use Rattle.fv_base.specs.declared.fault.FaultKind.{FaultKind}
@@ -7,11 +7,11 @@ use Rattle.fv_tree.specs.Words.{Accepted, NotRead, Meaning}
 use Rattle.fv_canon.specs.Layouts.{Fits}
 use Rattle.fv_canon.specs.LayoutFaults.{Unfit}
 
--- an input is a volume that does not fit, and this is the fault of its layout
+-- the input is a volume that does not fit, and f is the fault of its layout
 abbrev pub NotPlaced : List ℕ → Fault → Type 0
 NotPlaced input f = (m : Meaning) × Accepted input m × Unfit m 0 f
 
--- the input is rejected: it is no volume, or it does not fit
+-- the input is rejected with the fault f: it is not a volume, or it is a volume that does not fit
 abbrev pub Refuses : List ℕ → Fault → Type 0
 Refuses input f = NotRead input f ⊎ NotPlaced input f
 
@@ -21,20 +21,21 @@ Refuses input f = NotRead input f ⊎ NotPlaced input f
 abbrev pub IsUnfit : List ℕ → Type 0
 IsUnfit input = (m : Meaning) × Accepted input m × (Fits m → ⊥)
 
--- the input is no volume
+-- the input is not a volume
 abbrev pub IsNoVolume : List ℕ → Type 0
 IsNoVolume input = (m : Meaning) → Accepted input m → ⊥
 
--- the kinds of the faults of a layout: TopAlignment and NoRoom
+-- the kind is TopAlignment or NoRoom, the kinds of fault that a layout can have
 abbrev pub IsOfLayout : FaultKind → Type 0
 IsOfLayout kind = (kind ≡ kinds.TopAlignment) ⊎ (kind ≡ kinds.NoRoom)
 
--- an input that is rejected is a volume that does not fit, if the fault is one of a layout, and otherwise no volume
+-- an input that is rejected with a fault of a layout is a volume that does not fit. An input that is rejected with any
+-- other fault is not a volume
 abbrev pub OnlyWhatDoesNotFitIsRefused : Type 0
 OnlyWhatDoesNotFitIsRefused =
     (input : List ℕ) (f : Fault) → Refuses input f
     → (IsOfLayout f.kind → IsUnfit input) × ((IsOfLayout f.kind → ⊥) → IsNoVolume input)
 
--- a volume that does not fit is rejected, with a fault of a layout
+-- each volume that does not fit is rejected with a fault of a layout
 abbrev pub WhatDoesNotFitIsRefused : Type 0
 WhatDoesNotFitIsRefused = (input : List ℕ) → IsUnfit input → (f : Fault) × Refuses input f × IsOfLayout f.kind

@@ -1,4 +1,4 @@
--- Where the files of a volume, and of the volumes inside it, are in the canonical image.
+-- Where the files of a volume, and of the volumes inside it, lie in the canonical image.
 use Rattle.std.specs.Prelude.{ℕ, List, map}
 use Rattle.std.specs.List.{AllByRecursion}
 use Rattle.std.specs.Str.{bytes_eq}
@@ -10,7 +10,7 @@ use Rattle.fv_placement.specs.Words.{IsFirstPlacement}
 use Rattle.fv_placement.specs.declared.first_placement.LayoutItem.{LayoutItem}
 use Rattle.fv_canon.specs.StoredFiles.{head_len_for, size_for}
 
--- what the layout knows of a file
+-- what the placement of a file depends on. `layout_items` lists it for each of a volume's own files
 abbrev pub layout_item : FileMeaning → LayoutItem
 layout_item f = record {
   header = head_len_for (data_len_of f);
@@ -22,16 +22,16 @@ layout_item f = record {
 abbrev pub layout_items : Meaning → List LayoutItem
 layout_items m = map layout_item (files_of m)
 
--- the starts of a volume's own files: the first placement
+-- the starts are the first placement of the volume's own files
 abbrev pub AreStarts : Meaning → List ℕ → Type 0
 AreStarts m starts = IsFirstPlacement (length_of m) (first_edge (head_of m) (head_of m).ext) (layout_items m) starts
 
 -- ---- at every level
 
--- the files of a volume can be placed
+-- the volume's own files can be placed
 abbrev pub IsPlaced : Inside → Type 0
 IsPlaced v = (starts : List ℕ) × AreStarts v.volume starts
 
--- a volume fits: its files and those of each volume inside can be placed
+-- a volume fits if its own files, and the files of each volume inside it, can be placed
 abbrev pub Fits : Meaning → Type 0
 Fits m = AllByRecursion IsPlaced (volumes_in m)

@@ -8,32 +8,33 @@ use Rattle.fv_canon.specs.FlashImages.{NormalisesAll, RefusesAll}
 use Rattle.fv_canon.specs.Headline.{NormalisesTo}
 use Rattle.fv_canon.specs.InputRefusals.{Refuses}
 
--- the image of the input was written
+-- the canonical image of the input was written
 abbrev pub InputWrites : List ℕ → Option (List ℕ) → Option (List ℕ) → Type 0
 InputWrites input held holds = (image : List ℕ) × NormalisesTo input image × Appends held holds image
 
--- nothing was written, because the input is rejected, or because it begins with the header of a volume and memory ran
--- out; or the writer stopped
+-- either nothing was written, because the input is rejected, or because memory ran out and the input begins with a
+-- volume header; or the writer stopped before the end of the image
 abbrev pub InputStops : List ℕ → Option (List ℕ) → Option (List ℕ) → Fault → Type 0
 InputStops input held holds fault =
     (Keeps held holds × (MemoryRanOut input fault ⊎ Refuses input fault))
     ⊎ ((image : List ℕ) × NormalisesTo input image × WriteStops held holds image fault)
 
--- the flash image b was written with each of its volumes renewed
+-- the flash image b was written, with each of its volumes replaced by its canonical image
 abbrev pub ImageWrites : List ℕ → Option (List ℕ) → Option (List ℕ) → Type 0
 ImageWrites b held holds = (bytes : List ℕ) × NormalisesAll b bytes × Appends held holds bytes
 
--- nothing was written, because memory ran out or the flash image b is rejected; or the writer stopped
+-- either nothing was written, because memory ran out or because the flash image b is rejected; or the writer stopped
+-- before the end of the new image
 abbrev pub ImageStops : List ℕ → Option (List ℕ) → Option (List ℕ) → Fault → Type 0
 ImageStops b held holds fault =
     (Keeps held holds × OrMemory (RefusesAll b) fault)
     ⊎ ((bytes : List ℕ) × NormalisesAll b bytes × WriteStops held holds bytes fault)
 
--- a run read an input to its end, and wrote its image
+-- a run read an input to its end, and wrote its canonical image
 abbrev pub RunWrites : Option (List ℕ) → Option (List ℕ) → Option (List ℕ) → Option (List ℕ) → Type 0
 RunWrites unread left held holds = (input : List ℕ) × ReadsWhole unread left input × InputWrites input held holds
 
--- a run stopped while it read, and nothing was written; or it stopped after an input that it had read to its end
+-- either a run stopped while it read, and nothing was written; or it stopped after it had read an input to its end
 abbrev pub RunStops : Option (List ℕ) → Option (List ℕ) → Option (List ℕ) → Option (List ℕ) → Fault → Type 0
 RunStops unread left held holds fault =
     (Keeps held holds × ReadStops unread left fault)

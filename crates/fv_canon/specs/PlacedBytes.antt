@@ -1,21 +1,21 @@
--- Which bytes are where in a list of bytes that is erased elsewhere.
+-- Spans of bytes in a list of bytes that is erased elsewhere.
 use Rattle.std.specs.Prelude.{◌≡◌, ℕ, ◌+◌, ◌<◌, ◌≤◌, List, length, take, drop, get_or}
 use Rattle.std.specs.List.{AllByRecursion}
 
--- bytes and their offset
+-- a span: bytes, and the offset of the first of them
 pub record PlacedBytes : Type 0 where
   pub at : ℕ
   pub bytes : List ℕ
 
--- b has these bytes at that offset
+-- b contains the span at its offset
 abbrev pub StandsIn : List ℕ → PlacedBytes → Type 0
 StandsIn b p = (p.at + length p.bytes ≤ length b) × (take (length p.bytes) (drop p.at b) ≡ p.bytes)
 
--- the offset k is one of these bytes
+-- the offset k lies in the span
 abbrev pub IsIn : ℕ → PlacedBytes → Type 0
 IsIn k p = (p.at ≤ k) × (k < p.at + length p.bytes)
 
--- b has this length and each of the spans, and every byte outside them is erased
+-- b has `total` bytes and contains each span at its offset, and every byte outside the spans is erased
 pub record ShowsPlaced (total erased : ℕ) (placed : List PlacedBytes) (b : List ℕ) : Type 0 where
   pub length_is : length b ≡ total
   pub stand : AllByRecursion (StandsIn b) placed

@@ -17,8 +17,8 @@ use fv_tree::VolumeView;
 use std::alloc::Global;
 use std::io::Write;
 
-/// Puts the canonical image of the view into a sink, in one walk that takes no memory. The layout
-/// must be that of the view. (PI specification, volume 3, section 3.2.)
+/// Puts the canonical image of the view into a sink, in one walk that takes no memory. `layout`
+/// must be the layout of the view. (PI specification, volume 3, section 3.2.)
 pub fn put_canonical<S: Sink>(view: &VolumeView<'_>, layout: &Layout, out: &mut S)
     requires { IsLayout view.now layout.now }
     ensures { (image : List ℕ) × IsImage view.now image × S.takes out.old image out.new }
@@ -26,13 +26,13 @@ pub fn put_canonical<S: Sink>(view: &VolumeView<'_>, layout: &Layout, out: &mut 
     put_laid_volume(view, layout.starts(), out);
 }
 
-/// Writes the canonical image of the view to a port, in one walk that takes no memory. The layout
-/// must be that of the view. (PI specification, volume 3, section 3.2.)
+/// Writes the canonical image of the view to a port, in one walk that takes no memory. `layout`
+/// must be the layout of the view. (PI specification, volume 3, section 3.2.)
 ///
 /// # Errors
 ///
 /// WriteFault at the number of bytes written in this call, if a write fails or takes no byte.
-/// Exactly that many bytes of the image were written then.
+/// Exactly that many bytes of the image were written.
 pub fn write_canonical<W: Write>(
     view: &VolumeView<'_>,
     layout: &Layout,
@@ -44,40 +44,42 @@ pub fn write_canonical<W: Write>(
     ensures ok { OnOk result ((image : List ℕ) × IsImage view.now image
         × Appends (W.contents (inner_of writer.old)) (W.contents (inner_of writer.new)) image) }
 
-    // The first bytes of it were written, as many as the fault's offset says.
+    // The first bytes of the image were written, as many as the fault's offset says.
     ensures err { IfErr result (λ f. (image : List ℕ) × IsImage view.now image
         × WriteStops (W.contents (inner_of writer.old)) (W.contents (inner_of writer.new)) image f) }
 
-    // The writer's fault is returned exactly if a write failed.
+    // WriteFault is returned exactly if a write failed.
     ensures fine { OnOk result (has_erred writer.new ≡ has_erred writer.old) }
     ensures erred { OnErr result (has_erred writer.new ≡ true) }
 {
     let mut out = WriteSink::new(writer);
-    // The image of what was read is as long as the volume, so a fault's offset counts its bytes.
+    // The image of a volume that was read is as long as the volume, so a fault's offset can count
+    // its bytes.
     view.known();
     put_canonical(view, layout, &mut out);
     out.outcome()
 }
 
-/// The canonical image of the view. Memory for the whole length is reserved once. (PI
+/// Returns the canonical image of the view. Memory for the full length is reserved once. (PI
 /// specification, volume 3, section 3.2.)
 ///
 /// # Errors
 ///
-/// Those of `layout`. OutOfMemory.
+/// The errors of `layout`, and OutOfMemory.
 pub fn canonical(alloc: Global, view: &VolumeView<'_>) -> Result<ByteList, Fault>
-    // It is the image of the meaning, and nothing else is.
+    // The result is the image of the view's meaning, and no other bytes are.
     ensures image { IfOk result (λ bytes. IsImage view.now bytes) }
     ensures only { (other : List ℕ) → IsImage view.now other → IfOk result (λ bytes. bytes ≡ other) }
 
-    // It is a volume with this meaning, and the image of no other meaning that some bytes have.
+    // The result is a volume with this meaning. It is not the image of any other meaning that some
+    // bytes have.
     ensures denotes { IfOk result (λ bytes. Accepted bytes view.now) }
     ensures meaning { IfOk result (λ bytes. (m : Meaning) → IsMeaning m → IsImage m bytes → m ≡ view.now) }
 
-    // Any error other than OutOfMemory is that of a volume that does not fit.
+    // Any error other than OutOfMemory is the fault of a volume that does not fit.
     ensures err { IfErr result (OrMemory (Unfit view.now 0)) }
 
-    // The only error for a volume that fits is OutOfMemory.
+    // If the volume fits, the only error is OutOfMemory.
     ensures fits { Fits view.now → IfErr result (λ f. f ≡ out_of_memory) }
 {
     let places = layout(alloc, view)?;

@@ -1,5 +1,5 @@
-//! Whether bytes are a canonical image: that of a view, or their own. They are compared with what a
-//! walk puts.
+//! Checks whether bytes are a canonical image: the image of a view, or their own image. The bytes
+//! are compared with the bytes that a walk over the view puts.
 
 ghost use Rattle.std.specs.Prelude.{◌≡◌, ◌≢◌, ◌↔◌, ◌⊎◌, [], IfOk, IfErr, IsTrue, true};
 ghost use Rattle.fv_base.specs.Words.{OrMemory, out_of_memory};
@@ -16,13 +16,13 @@ use fv_base::{Fault, FaultKind, Sink};
 use fv_tree::{VolumeView, whole_volume};
 use std::alloc::Global;
 
-// Bytes that are compared with those that are put. What was put is taken off their front, until the
-// two differ.
+// A sink that compares expected bytes with the bytes that are put into it. The bytes that are put
+// are taken off the front of the expected bytes, until the two differ.
 #[derive(Drop)]
 struct MatchSink<'a> {
-    // The bytes after all that were put.
+    // The expected bytes that have not been put yet.
     rest: &'a [u8],
-    // Whether the bytes began with all that were put.
+    // Whether all bytes that were put were as expected.
     same: bool,
 }
 
@@ -41,7 +41,7 @@ impl<'a> Sink for MatchSink<'a> {
     }
 }
 
-// Whether the bytes are the canonical image of the view, given that its files have these starts. No
+// Returns whether the bytes are the canonical image of the view, given the starts of its layout. No
 // image is made.
 fn is_image(view: &VolumeView<'_>, starts: &[u64], bytes: &[u8]) -> bool
     requires { LaysVolume view.now starts.now }
@@ -55,14 +55,14 @@ fn is_image(view: &VolumeView<'_>, starts: &[u64], bytes: &[u8]) -> bool
     out.same && out.rest.is_empty()
 }
 
-/// Whether the bytes are the canonical image of the view. False if the view does not fit. No image
-/// is made. (PI specification, volume 3, section 3.2.)
+/// Returns whether the bytes are the canonical image of the view. Returns false if the view does
+/// not fit. No image is made. (PI specification, volume 3, section 3.2.)
 ///
 /// # Errors
 ///
 /// OutOfMemory, only if the volume has a file.
 pub fn is_canonical_image(alloc: Global, view: &VolumeView<'_>, bytes: &[u8]) -> Result<bool, Fault>
-    // Whether the bytes are the image of the view's meaning.
+    // The result is true exactly if the bytes are the image of the view's meaning.
     ensures ok { IfOk result (λ t. (t ≡ true) ↔ IsImage view.now bytes.now) }
 
     // The only error is OutOfMemory.
@@ -71,7 +71,7 @@ pub fn is_canonical_image(alloc: Global, view: &VolumeView<'_>, bytes: &[u8]) ->
     // Memory runs out only if the volume has a file.
     ensures memory { IfErr result (λ f. f ≡ out_of_memory → files_of view.now ≢ []) }
 {
-    // For what was read, the bytes of the walk are its image; if it does not fit, it has none.
+    // If a volume that was read fits, the walk puts its image. If it does not fit, it has no image.
     view.known();
     match layout(alloc, view) {
         Ok(places) => Ok(is_image(view, places.starts(), bytes)),
@@ -84,18 +84,19 @@ pub fn is_canonical_image(alloc: Global, view: &VolumeView<'_>, bytes: &[u8]) ->
     }
 }
 
-/// Whether the input is a volume that is its own canonical image. No image is made. False if the
-/// volume does not fit. (PI specification, volume 3, section 3.2.)
+/// Returns whether the input is a volume that is its own canonical image. Returns false if the
+/// volume does not fit. No image is made. (PI specification, volume 3, section 3.2.)
 ///
 /// # Errors
 ///
-/// The first fault: those of `read_volume`; then Length at FvLength if bytes follow the volume.
-/// OutOfMemory.
+/// The first fault in this order: the faults of `read_volume`, and Length at FvLength if bytes
+/// follow the volume. OutOfMemory.
 pub fn is_canonical(alloc: Global, input: &[u8]) -> Result<bool, Fault>
-    // Whether the bytes are the image of the meaning that they have.
+    // The input is a volume, and the result is true exactly if the input is the image of its own
+    // meaning.
     ensures ok { IfOk result (λ t. (m : Meaning) × Accepted input.now m × ((t ≡ true) ↔ IsImage m input.now)) }
 
-    // Any error other than OutOfMemory says that the input is no volume.
+    // Any error other than OutOfMemory is the first fault of an input that is not a volume.
     ensures err { IfErr result (OrMemory (NotRead input.now)) }
 
     // Memory runs out only if the input begins with the header of a volume.

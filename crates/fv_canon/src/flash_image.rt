@@ -1,4 +1,4 @@
-//! From a flash image to the same image with each of its volumes in canonical form.
+//! Replaces each volume of a flash image by its canonical image.
 
 ghost use Rattle.std.specs.Prelude.{◌≡◌, ◌≢◌, ◌⊎◌, ◌-◌, ◌≤◌, ℕ, List, length, true};
 ghost use Rattle.std.specs.Prelude.{IfOk, IfErr, OnOk};
@@ -22,7 +22,7 @@ use std::alloc::Global;
 use std::io::Write;
 use std::marker::Model;
 
-// The bytes from one offset to another.
+// Returns the bytes from the offset `from` up to the offset `to`.
 fn between(image: &[u8], from: usize, to: usize) -> &[u8]
     requires { (from ≤ to) × (to ≤ length image.now) }
     ensures { result.now ≡ field from (to - from) image.now }
@@ -30,7 +30,7 @@ fn between(image: &[u8], from: usize, to: usize) -> &[u8]
     &image[from..to]
 }
 
-// The bytes of the volume that begins at this offset.
+// Returns the bytes of the volume that begins at this offset.
 pub(crate) fn volume_at(image: &[u8], start: usize) -> &[u8]
     requires { (n : ℕ) × VolumeAt image.now start n }
     ensures volume { VolumeAt image.now start (length result.now) }
@@ -42,7 +42,7 @@ pub(crate) fn volume_at(image: &[u8], start: usize) -> &[u8]
     between(image, start, start + extent.length as usize)
 }
 
-// A volume of an image: where it begins, what it means, and where its files are placed.
+// A volume of an image: the offset at which it begins, its view, and its layout.
 #[derive(Drop)]
 struct LaidVolume<'a> {
     start: u64,
@@ -50,7 +50,7 @@ struct LaidVolume<'a> {
     places: Layout,
 }
 
-// The volume that the bytes are, which begin at this offset of an image.
+// Reads these bytes as a volume, and lays it out. They begin at the offset `start` of an image.
 fn laid_volume(alloc: Global, start: u64, volume: &[u8]) -> Result<LaidVolume<'_>, Fault>
     ensures start { IfOk result (λ v. v.start ≡ start) }
     ensures ok { IfOk result (λ v. Accepted volume.now v.view × IsLayout v.view v.places) }
@@ -66,7 +66,7 @@ fn laid_volume(alloc: Global, start: u64, volume: &[u8]) -> Result<LaidVolume<'_
     })
 }
 
-// The volume that begins at this offset of the image.
+// Reads the volume that begins at this offset of the image, and lays it out.
 fn laid_at(alloc: Global, image: &[u8], start: u64) -> Result<LaidVolume<'_>, Fault>
     requires { (n : ℕ) × VolumeAt image.now start n }
     ensures start { IfOk result (λ v. v.start ≡ start) }
@@ -86,7 +86,7 @@ fn laid_at(alloc: Global, image: &[u8], start: u64) -> Result<LaidVolume<'_>, Fa
     }
 }
 
-// The volumes that begin at these offsets of the image, which are all of them.
+// Reads and lays out each volume of the image. `offsets` are the offsets at which they begin.
 fn laid_at_each<'a>(
     alloc: Global,
     image: &'a [u8],
@@ -104,7 +104,8 @@ fn laid_at_each<'a>(
     Ok(volumes)
 }
 
-// Puts the image with its volumes in canonical form. `volumes` are all of them.
+// Puts the image with each of its volumes replaced by its canonical image. `volumes` are all
+// volumes of the image.
 fn put_renewed<S: Sink>(image: &[u8], volumes: &[LaidVolume<'_>], out: &mut S)
     requires { IsLaidOut image.now volumes.now }
     ensures { (bytes : List ℕ) × NormalisesAll image.now bytes × S.takes out.old bytes out.new }
@@ -119,9 +120,9 @@ fn put_renewed<S: Sink>(image: &[u8], volumes: &[LaidVolume<'_>], out: &mut S)
     out.put(bytes_from(image, from));
 }
 
-/// A flash image, each volume of which is accepted and laid out. The image is a slice of what was
-/// given. Contracts see its bytes, and know that each volume that is found in them has a canonical
-/// image. (PI specification, volume 3, section 3.2.)
+/// A flash image in which every volume is accepted and laid out. It refers to the bytes that were
+/// passed in. Contracts see these bytes, and know that each volume that is found in them has a
+/// canonical image. (PI specification, volume 3, section 3.2.)
 #[derive(Drop)]
 pub struct LaidImage<'a> {
     image: &'a [u8],
@@ -139,23 +140,23 @@ impl<'a> Model for LaidImage<'a> {
     ghost invariant = { λ l. IsLaidOut l.image.now l.volumes.items };
 }
 
-/// The image with each volume that `scan` finds in it accepted and laid out. (PI specification,
-/// volume 3, section 3.2.)
+/// Reads and lays out each volume that `scan` finds in the image. (PI specification, volume 3,
+/// section 3.2.)
 ///
 /// # Errors
 ///
-/// Length at the limit of 268,435,456 bytes, if the image is longer. Else the fault of the first
-/// volume that `normalise` rejects, at its offset in the image; NoRoom and TopAlignment are at the
-/// volume's start. OutOfMemory.
+/// Length at the limit of 268,435,456 bytes, if the image is longer. Otherwise the fault of the
+/// first volume that `normalise` rejects, with its offset counted from the start of the image;
+/// NoRoom and TopAlignment are at the volume's start. OutOfMemory.
 pub fn lay_out_image(alloc: Global, image: &[u8]) -> Result<LaidImage<'_>, Fault>
-    // It is the input, each volume of which has a meaning and a layout.
+    // The result is the image, in which each volume has a meaning and a layout.
     ensures ok { IfOk result (λ laid. laid ≡ image.now) }
 
-    // Any error other than OutOfMemory is Length at the limit, or that of the first volume that is
-    // rejected.
+    // Any error other than OutOfMemory is Length at the limit, or the fault of the first volume
+    // that is rejected.
     ensures err { IfErr result (OrMemory (RefusesAll image.now)) }
 
-    // If each volume has an image, the only error is OutOfMemory.
+    // If each volume has a canonical image, the only error is OutOfMemory.
     ensures fits { (other : List ℕ) → NormalisesAll image.now other → IfErr result (λ f. f ≡ out_of_memory) }
 
     // Memory runs out only if the image is within the limit.
@@ -172,34 +173,34 @@ pub fn lay_out_image(alloc: Global, image: &[u8]) -> Result<LaidImage<'_>, Fault
 }
 
 /// Puts the image into a sink, with each volume that `scan` finds in it replaced by its canonical
-/// image, in one walk that takes no memory. Every other byte is kept. (PI specification, volume 3,
-/// section 3.2.)
+/// image. Every other byte is kept. The walk takes no memory. (PI specification, volume 3, section
+/// 3.2.)
 pub fn put_laid_image<S: Sink>(laid: &LaidImage<'_>, out: &mut S)
     ensures { (bytes : List ℕ) × NormalisesAll laid.now bytes × S.takes out.old bytes out.new }
 {
     put_renewed(laid.image, laid.volumes.as_slice(), out);
 }
 
-/// The image with each volume that `scan` finds in it replaced by its canonical image. Every other
-/// byte is kept. Memory for the whole length is reserved once. (PI specification, volume 3, section
-/// 3.2.)
+/// Returns the image with each volume that `scan` finds in it replaced by its canonical image.
+/// Every other byte is kept. Memory for the full length is reserved once. (PI specification, volume
+/// 3, section 3.2.)
 ///
 /// # Errors
 ///
-/// Length at the limit of 268,435,456 bytes, if the image is longer. Else the fault of the first
-/// volume that `normalise` rejects, at its offset in the image; NoRoom and TopAlignment are at the
-/// volume's start. OutOfMemory.
+/// Length at the limit of 268,435,456 bytes, if the image is longer. Otherwise the fault of the
+/// first volume that `normalise` rejects, with its offset counted from the start of the image;
+/// NoRoom and TopAlignment are at the volume's start. OutOfMemory.
 pub fn normalise_image(alloc: Global, image: &[u8]) -> Result<ByteList, Fault>
     ensures ok { IfOk result (λ bytes. NormalisesAll image.now bytes) }
 
-    // No other bytes are.
+    // The result is unique.
     ensures only { (other : List ℕ) → NormalisesAll image.now other → IfOk result (λ bytes. bytes ≡ other) }
 
-    // Any error other than OutOfMemory is Length at the limit, or that of the first volume that is
-    // rejected.
+    // Any error other than OutOfMemory is Length at the limit, or the fault of the first volume
+    // that is rejected.
     ensures err { IfErr result (OrMemory (RefusesAll image.now)) }
 
-    // If each volume has an image, the only error is OutOfMemory.
+    // If each volume has a canonical image, the only error is OutOfMemory.
     ensures fits { (other : List ℕ) → NormalisesAll image.now other → IfErr result (λ f. f ≡ out_of_memory) }
 
     // Memory runs out only if the image is within the limit.
@@ -212,24 +213,24 @@ pub fn normalise_image(alloc: Global, image: &[u8]) -> Result<ByteList, Fault>
 }
 
 /// Writes the image with each volume that `scan` finds in it replaced by its canonical image. Every
-/// other byte is kept. Nothing is written before each volume is accepted and laid out. The image is
-/// not kept in memory. (PI specification, volume 3, section 3.2.)
+/// other byte is kept. Nothing is written before every volume is accepted and laid out. The new
+/// image is not kept in memory. (PI specification, volume 3, section 3.2.)
 ///
 /// # Errors
 ///
-/// Those of `normalise_image`; nothing was written then. WriteFault at the number of bytes written;
-/// exactly that many bytes of the image were written then.
+/// The errors of `normalise_image`, with nothing written. WriteFault at the number of bytes
+/// written; exactly that many bytes of the new image were written.
 pub fn write_normalised_image<W: Write>(
     alloc: Global,
     image: &[u8],
     writer: &mut Port<W>,
 ) -> Result<(), Fault>
-    // The image was written.
+    // The new image was written.
     ensures ok { OnOk result
         (ImageWrites image.now (W.contents (inner_of writer.old)) (W.contents (inner_of writer.new))) }
 
-    // Nothing was written, for an error of `normalise_image`; or WriteFault, and the first bytes of
-    // the image were written, as many as its offset says.
+    // Either the error is one of `normalise_image`, and nothing was written. Or it is WriteFault,
+    // and the first bytes of the new image were written, as many as its offset says.
     ensures err { IfErr result
         (ImageStops image.now (W.contents (inner_of writer.old)) (W.contents (inner_of writer.new))) }
     ensures read { IfErr result (λ f. f.kind ≢ FaultKind.ReadFault) }
@@ -237,7 +238,7 @@ pub fn write_normalised_image<W: Write>(
     // Memory runs out only if the image is within the limit.
     ensures memory { IfErr result (λ f. f ≡ out_of_memory → length image.now ≤ volume_limit) }
 
-    // The writer's fault is returned exactly if a write failed.
+    // WriteFault is returned exactly if a write failed.
     ensures fine { OnOk result (has_erred writer.new ≡ has_erred writer.old) }
     ensures erred { IfErr result (λ f. f.kind ≡ FaultKind.WriteFault → has_erred writer.new ≡ true) }
 {

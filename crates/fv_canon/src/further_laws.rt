@@ -1,5 +1,5 @@
-//! What else holds of layouts and canonical images, as laws over the definitions. None of these
-//! functions does anything: their contracts are what is proved.
+//! Further laws of layouts and canonical images, over the definitions. None of these functions does
+//! anything: their contracts are what is proved.
 
 ghost use Rattle.std.specs.Prelude.{◌↔◌, ◌≡◌, ◌⊎◌, List, ℕ};
 ghost use Rattle.fv_base.specs.declared.fault.Fault.{Fault};
@@ -13,63 +13,65 @@ ghost use Rattle.fv_canon.specs.LayoutForms.{LaysVolume, LeastVolume};
 ghost use Rattle.fv_canon.specs.LayoutFaults.{Unfit};
 ghost use Rattle.fv_canon.specs.PlacedBytes.{ShowsPlaced, PlacedBytes};
 
-/// A meaning has at most one image, and an image has one meaning.
+/// A meaning has at most one image, and an image is the image of only one meaning.
 pub fn one_image()
     ensures image { OneImage }
     ensures meaning { OneMeaning }
 {}
 
-/// A volume fits exactly if it has a layout, and a volume that is rejected does not fit.
+/// A volume fits exactly if it has a layout. A volume with a fault of its layout does not fit.
 pub fn fits()
     ensures laid { (m : Meaning) (starts : List ℕ) → LaysVolume m starts → Fits m }
     ensures lays { (m : Meaning) → Fits m → (starts : List ℕ) × LaysVolume m starts }
     ensures unfit { (m : Meaning) (depth : ℕ) (f : Fault) → Unfit m depth f → Fits m → ⊥ }
 {}
 
-/// A volume that does not fit is rejected with one fault only.
+/// A volume that does not fit is rejected with only one fault.
 pub fn one_fault()
     ensures { (m : Meaning) (depth : ℕ) (f g : Fault) → Unfit m depth f → Unfit m depth g → f ≡ g }
 {}
 
-/// If the least starts are a placement at every level, they are the layout.
+/// If the least starts of each volume, at every level, are a placement, they are the layout.
 pub fn least_starts()
     ensures { (m : Meaning) (starts : List ℕ) → LeastVolume m starts → LaysVolume m starts }
 {}
 
-/// How a gap is split into pads.
+/// A gap whose length is a multiple of 8 and at least 24 is one pad if it has at most 0xFFFFF8
+/// bytes. Otherwise it begins with a pad of 0xFFFF00 bytes, and at least 256 bytes are left for the
+/// pads after it.
 pub fn pads()
     ensures { PadsRule }
 {}
 
-/// Exactly one list of bytes has these spans and is erased elsewhere: the spans and the erased
-/// bytes between them, joined.
+/// If spans are in order and do not overlap, exactly one list of bytes contains them and is erased
+/// elsewhere: the list that joins the spans and the erased bytes between them.
 pub fn one_list_shows()
     ensures { (erased total : ℕ) (placed : List PlacedBytes) (bytes : List ℕ) → InOrder total 0 placed
         → ShowsPlaced total erased placed bytes ↔ (bytes ≡ painted erased total 0 placed) }
 {}
 
-/// The same bytes have at most one meaning. So two volumes have the same meaning exactly if their
-/// meanings are equal.
+/// Bytes have at most one meaning. So two volumes have the same meaning exactly if their meanings
+/// are equal.
 pub fn one_reading()
     ensures meaning { (b : List ℕ) (m k : Meaning) → Accepted b m → Accepted b k → m ≡ k }
     ensures same { (a b : List ℕ) (m k : Meaning) → Accepted a m → Accepted b k → MeanSame a b ↔ (m ≡ k) }
 {}
 
-/// A volume fits, or has a fault of its layout. So a volume that does not fit is rejected as NoRoom
-/// or TopAlignment.
+/// Either a volume fits, or its layout has a fault. So a volume that does not fit is rejected as
+/// NoRoom or TopAlignment.
 pub fn what_does_not_fit_is_refused()
     ensures either { (m : Meaning) → Fits m ⊎ ((f : Fault) × Unfit m 0 f) }
     ensures refused { WhatDoesNotFitIsRefused }
 {}
 
-/// An input that is rejected as NoRoom or TopAlignment is a volume whose layout does not fit. One
-/// that is rejected with any other fault is no volume.
+/// An input that is rejected as NoRoom or TopAlignment is a volume whose layout does not fit. An
+/// input that is rejected with any other fault is not a volume.
 pub fn only_what_does_not_fit_is_refused()
     ensures { OnlyWhatDoesNotFitIsRefused }
 {}
 
-/// The volumes of a flash image are all canonical, as `check_image` says it, exactly if
-/// `normalise_image` makes the same image of it.
+/// The volumes of a flash image are all canonical, as `check_image` reports them, exactly if
+/// `normalise_image` leaves the image as it is.
 pub fn canonical_images_stay()
     ensures { CanonicalImagesStay }
 {}

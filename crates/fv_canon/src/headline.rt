@@ -1,9 +1,10 @@
-//! The headline, with one law for each clause of its first two sentences. Two accepted volumes whose
+//! The headline, with a law for each clause of its first two sentences. Two accepted volumes whose
 //! canonical layouts fit have the same meaning exactly if their canonical images are byte-equal. An
-//! accepted volume whose layout fits normalises to an accepted volume of the same length and meaning
-//! that normalises to itself, with each data start on its alignment and each sum right. One whose
-//! layout does not fit is rejected as NoRoom or TopAlignment, and no other volume is: the laws of
-//! that are in `further_laws`, and `normalise` has its clauses.
+//! accepted volume whose layout fits normalises to an accepted volume of the same length and
+//! meaning that normalises to itself, with each file's data aligned and each checksum right. An
+//! accepted volume whose layout does not fit is rejected as NoRoom or TopAlignment, and no other
+//! volume is. The laws of this third sentence are in `further_laws`, and `normalise` has clauses
+//! for it.
 //!
 //! None of these functions does anything: their contracts are what is proved.
 
@@ -12,45 +13,46 @@ ghost use Rattle.fv_canon.specs.Headline.{ImageKeepsLengthAndMeaning};
 ghost use Rattle.fv_canon.specs.Headline.{SameMeaningIffSameImage, SumsAreRight};
 ghost use Rattle.fv_canon.specs.Headline.{WhatFitsHasAnImage};
 
-/// Two volumes that have images have the same meaning exactly if the images are equal.
+/// Two volumes that have canonical images have the same meaning exactly if these images are equal.
 pub fn same_meaning_iff_same_image()
     ensures { SameMeaningIffSameImage }
 {}
 
-/// The image of a volume is as long as the volume, and is accepted as a volume with the same
-/// meaning.
+/// The canonical image of a volume is as long as the volume, and is accepted as a volume with the
+/// same meaning.
 pub fn image_keeps_length_and_meaning()
     ensures { ImageKeepsLengthAndMeaning }
 {}
 
-/// The image of a volume normalises to itself.
+/// The canonical image of a volume normalises to itself.
 pub fn image_is_its_own_image()
     ensures { ImageIsItsOwnImage }
 {}
 
-/// In the image of a volume the data of each file are aligned, counted from the volume's first
-/// byte. Each volume inside is its own image, so this holds at every level. (PI specification,
-/// volume 3, section 3.2.3.1.)
+/// In the canonical image of a volume the data of each file are aligned, counted from the volume's
+/// first byte. Each volume inside is its own canonical image, so this is true at every level. (PI
+/// specification, volume 3, section 3.2.3.1.)
 pub fn data_are_aligned()
     ensures { DataAreAligned }
 {}
 
-/// The image of a volume begins with its header, whose 16-bit words sum to zero, and files and pads
-/// with right sums tile the rest: the header of each sums to zero, the file sum of a file is right,
-/// and that of a pad is 0xAA. The pad that holds the extended header is one of them. Each volume
-/// inside is its own image, so this holds at every level. (PI specification, volume 3, sections
-/// 3.2.1.1 and 3.2.3.1.)
+/// The canonical image of a volume begins with its header, whose 16-bit words sum to zero. The rest
+/// is tiled by files and pads with right checksums: the header of each sums to zero, a file's file
+/// checksum is right, and a pad's file checksum is 0xAA. The pad that holds the extended header is
+/// one of these pads. Each volume inside is its own canonical image, so this is true at every
+/// level. (PI specification, volume 3, sections 3.2.1.1 and 3.2.3.1.)
 pub fn sums_are_right()
     ensures { SumsAreRight }
 {}
 
-/// In the image of a volume each volume inside has a meaning that some bytes have, and its own
-/// image, as consecutive bytes. So what holds of an image holds at every level.
+/// For each volume inside a volume, some bytes have its meaning, and the canonical image of the
+/// outer volume contains its own canonical image as consecutive bytes. So what is true of every
+/// canonical image is true at every level.
 pub fn each_volume_has_its_image()
     ensures { EachVolumeHasItsImage }
 {}
 
-/// A volume fits exactly if it has an image.
+/// A volume fits exactly if it has a canonical image.
 pub fn what_fits_has_an_image()
     ensures { WhatFitsHasAnImage }
 {}

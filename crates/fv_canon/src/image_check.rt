@@ -1,5 +1,5 @@
-//! What is said of each volume of a flash image: whether it is its own canonical image, or with
-//! which fault it is rejected.
+//! Checks each volume of a flash image: whether it is its own canonical image, or with which fault
+//! it is rejected.
 
 ghost use Rattle.std.specs.Prelude.{◌≡◌, ◌⊎◌, ◌+◌, ◌<◌, ◌≤◌, ◌^◌, ℕ, List, length, IfOk, IfErr};
 ghost use Rattle.fv_base.specs.Words.{OrMemory, out_of_memory, volume_limit};
@@ -13,31 +13,32 @@ use fv_base::{Fault, FaultKind, Place, check};
 use fv_tree::{fault_within, scan};
 use std::alloc::Global;
 
-/// What is said of a volume of an image.
+/// The result of checking a volume of a flash image.
 #[derive(Clone, Copy, Debug, PartialEq, Eq)]
 pub enum VolumeOutcome {
     /// The volume is its own canonical image.
     Canonical,
-    /// It is a volume, and is not its own canonical image. If its files have no placement, it has
-    /// none.
+    /// The volume is accepted, but is not its own canonical image. If it does not fit, it has no
+    /// canonical image.
     NotCanonical,
-    /// It is rejected, and this is its first fault. The offset is in bytes from the first of the
-    /// image, and the depth is the number of groups and opened volumes around it in the volume.
+    /// The volume is rejected, and this is its first fault. The offset counts bytes from the first
+    /// byte of the image. The depth is the number of groups and opened volumes around the place of
+    /// the fault, within the volume.
     Rejected(Fault),
 }
 
-/// A volume of an image, and what is said of it.
+/// A volume of a flash image, and the result of checking it.
 #[derive(Clone, Copy, Debug, PartialEq, Eq)]
 pub struct VolumeCheck {
-    /// The byte of the image at which the volume begins, counted from 0.
+    /// The offset in the image at which the volume begins, in bytes.
     pub offset: u64,
-    /// How many bytes the volume has, its FvLength.
+    /// The length of the volume in bytes, its FvLength.
     pub length: u64,
-    /// What is said of it.
+    /// The result of the check.
     pub outcome: VolumeOutcome,
 }
 
-// The outcome of the volume that these bytes should be, which begin at this offset of an image.
+// Checks bytes that begin at the offset `start` of an image, and that should be a volume.
 fn outcome_of(alloc: Global, start: u64, volume: &[u8]) -> Result<VolumeOutcome, Fault>
     requires { start + length volume.now < 2 ^ 64 }
     ensures ok { IfOk result (HasOutcome start volume.now) }
@@ -59,7 +60,7 @@ fn outcome_of(alloc: Global, start: u64, volume: &[u8]) -> Result<VolumeOutcome,
     }
 }
 
-// The volume that begins at this offset of the image, and its outcome.
+// Checks the volume that begins at this offset of the image.
 fn check_at(alloc: Global, image: &[u8], start: u64) -> Result<VolumeCheck, Fault>
     requires { (n : ℕ) × VolumeAt image.now start n }
     ensures start { IfOk result (λ c. c.offset ≡ start) }
@@ -75,7 +76,7 @@ fn check_at(alloc: Global, image: &[u8], start: u64) -> Result<VolumeCheck, Faul
     })
 }
 
-// The volumes that begin at these offsets of the image, which are all of them.
+// Checks each volume of the image. `offsets` are the offsets at which they begin.
 fn check_each(alloc: Global, image: &[u8], offsets: &[u64]) -> Result<Vec<VolumeCheck>, Fault>
     requires { Found image.now offsets.now }
     ensures ok { IfOk result (λ checks. AreChecked image.now offsets.now checks.items) }
@@ -91,26 +92,26 @@ fn check_each(alloc: Global, image: &[u8], offsets: &[u64]) -> Result<Vec<Volume
     Ok(checks)
 }
 
-/// What is said of each volume that `scan` finds in the image, in their order. A volume that is
-/// rejected does not keep the others from being checked. The image is gone through once by `scan`,
-/// and each volume is read once. (PI specification, volume 3, section 3.2.)
+/// Checks each volume that `scan` finds in the image, and returns the results in the order of the
+/// volumes. A volume that is rejected does not stop the check of the other volumes. `scan` walks
+/// the image once, and each volume is read once. (PI specification, volume 3, section 3.2.)
 ///
 /// # Errors
 ///
 /// Length at the limit of 268,435,456 bytes, if the image is longer. OutOfMemory at 0, only if a
 /// volume begins in the image.
 pub fn check_image(alloc: Global, image: &[u8]) -> Result<Vec<VolumeCheck>, Fault>
-    // There is one check for each volume of the image, and it says of the volume what holds of it.
-    // Canonical: it is its own image. NotCanonical: it is a volume and another than its image, of
-    // which there may be none. Rejected: it is no volume, and the fault is its first, at its offset
-    // in the image.
+    // There is one check for each volume of the image, and its outcome says what is true of the
+    // volume. Canonical: the volume is its own canonical image. NotCanonical: it is a volume, but
+    // is not its own canonical image, and may have none. Rejected: it is not a volume, and the
+    // fault is its first, at its offset in the image.
     ensures found { IfOk result (λ checks. ChecksImage image.now checks.items) }
 
-    // No other list of checks meets this.
+    // The result is unique.
     ensures only { IfOk result
         (λ checks. (other : List VolumeCheck) → ChecksImage image.now other → other ≡ checks.items) }
 
-    // Any error other than OutOfMemory is that of an image above the limit.
+    // Any error other than OutOfMemory is Length at the limit, because the image is longer.
     ensures err { IfErr result (OrMemory (IsAboveLimit image.now)) }
 
     // Memory runs out only if the image is within the limit and a volume begins in it.

@@ -1,4 +1,4 @@
-//! One walk over a volume, which puts its canonical image into any sink.
+//! A walk over a volume that puts its canonical image into any sink.
 
 ghost use Rattle.std.specs.Prelude.{◌≡◌, ◌≤◌, ◌<◌, ◌-◌, ◌%◌, [], drop, true, false};
 ghost use Rattle.fv_base.specs.Words.{data_limit};
@@ -26,7 +26,7 @@ use fv_file::FIXED_CHECKSUM;
 use fv_head::{first_edge, put_head};
 use fv_tree::{Body, FileView, SectionView, VolumeView};
 
-// What must be added to make a sum of bytes 0.
+// Returns the byte that, added to a sum of bytes, makes it 0 modulo 256.
 fn complement(sum: u8) -> u8
     ensures value { result ≡ (256 - sum) % 256 }
     ensures small { sum < 256 }
@@ -34,8 +34,8 @@ fn complement(sum: u8) -> u8
     0u8.wrapping_sub(sum)
 }
 
-// Puts some sections with the zero bytes between them, and those after the last. Each of these
-// walks returns the starts that it has not used.
+// Puts sections, with the zero bytes between them and after the last. Each of these walks returns
+// the starts that it has not used.
 #[cycle(put)]
 fn put_sections<'s, S: Sink>(
     out: &mut SummingSink<'_, S>,
@@ -85,7 +85,8 @@ fn put_body<'s, S: Sink>(
     }
 }
 
-// The file sum of a file. If it is a sum of the data, they are walked for it, and nothing is put.
+// Returns the file checksum of a file. If it covers the data, a walk over the data sums them, and
+// nothing is put.
 #[cycle(put)]
 fn file_sum<S: Sink>(out: &mut SummingSink<'_, S>, file: &FileView<'_>, starts: &[u64]) -> u8
     requires laid { BeginsWithStarts (volumes_in_file file.now) starts.now }
@@ -101,8 +102,8 @@ fn file_sum<S: Sink>(out: &mut SummingSink<'_, S>, file: &FileView<'_>, starts: 
     complement(out.end_sum())
 }
 
-// Puts a file. While the data of another file are summed, a file with the checksum attribute adds
-// only its State (`summing_sink` says why).
+// Puts a file. While the data of another file are being summed, a file with the checksum attribute
+// adds only its State byte (`summing_sink` explains why).
 #[cycle(put)]
 fn put_file<'s, S: Sink>(
     out: &mut SummingSink<'_, S>,
@@ -119,7 +120,7 @@ fn put_file<'s, S: Sink>(
         put_state(out, polarity);
         return skip_body(data_body(file), starts);
     }
-    // In a file that was read, the data that the walk puts are as long as those that were read.
+    // For a file that was read, the walk puts data of the same length.
     file.known();
     let sum = file_sum(out, file, starts);
     put_file_head(out, file, sum, polarity);
@@ -127,7 +128,7 @@ fn put_file<'s, S: Sink>(
 }
 
 // Puts the files of a volume from the edge `first` on, with the pads of the gaps, and erased bytes
-// to the end.
+// up to the volume's end.
 #[cycle(put)]
 fn put_files<'s, S: Sink>(
     out: &mut SummingSink<'_, S>,
@@ -147,7 +148,7 @@ fn put_files<'s, S: Sink>(
     let mut edge = first;
     let mut rest = starts;
     for (i, file) in files.iter().enumerate() {
-        // In a file that was read, the data that the walk puts are as long as those that were read.
+        // For a file that was read, the walk puts data of the same length.
         file.known();
         let start = own[i];
         put_gap(out, start - edge, polarity);
@@ -160,7 +161,7 @@ fn put_files<'s, S: Sink>(
     rest
 }
 
-// Puts the image of a volume: its head, the pad of its extended header, and its files.
+// Puts the image of a volume: its header, the pad with the extended header, and its files.
 #[cycle(put)]
 fn put_volume<'s, S: Sink>(
     out: &mut SummingSink<'_, S>,

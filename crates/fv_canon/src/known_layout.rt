@@ -1,19 +1,19 @@
-//! Where the files of a canonical image are placed.
+//! The layout of a canonical image.
 
 ghost use Rattle.std.specs.Prelude.{◌≡◌, ◌++◌, slice_get, take, drop};
 
 use std::marker::Model;
 
-/// Where the files of a canonical image are placed. The starts of the volume's own files come
-/// first, in order. The starts of the files of the volumes inside it follow, in the order of these
-/// volumes; each volume's own files come before those of the volumes inside it. A start counts
-/// bytes from the start of the file's own volume. Contracts see the two parts. (PI specification,
-/// volume 3, section 3.2.3.1.)
+/// The layout of a canonical image: the starts of all its files. The starts of the volume's own
+/// files come first, in order. The starts of the files of the volumes inside it follow, in the
+/// order of these volumes; each volume's own files come before the files of the volumes inside it.
+/// A start counts bytes from the start of the file's own volume. Contracts see two parts, `own` and
+/// `inner`. (PI specification, volume 3, section 3.2.3.1.)
 #[derive(Drop)]
 pub struct Layout {
-    /// All starts.
+    /// All starts, in this order.
     starts: Vec<u64>,
-    /// How many of them belong to the volume's own files.
+    /// The number of the volume's own files, whose starts come first.
     own: usize,
 }
 
@@ -27,7 +27,7 @@ impl Model for Layout {
 }
 
 impl Layout {
-    // The layout of a volume with `own` files of its own.
+    // Returns the layout of a volume with `own` files of its own.
     pub(crate) fn new(starts: Vec<u64>, own: usize) -> Layout
         ensures own { result.own ≡ take own starts.items }
         ensures inner { result.inner ≡ drop own starts.items }
@@ -35,8 +35,8 @@ impl Layout {
         Layout { starts, own }
     }
 
-    /// The offset of file number `index`, counted from 0 in the order of the files, in bytes from
-    /// the volume's start; None past the last file.
+    /// Returns the start of the volume's own file number `index`, counted from 0 in the order of
+    /// the files, in bytes from the volume's start. Returns None past the last file.
     pub fn start(&self, index: u32) -> Option<u64>
         ensures { result ≡ slice_get self.now.own index }
     {
@@ -48,7 +48,8 @@ impl Layout {
         }
     }
 
-    /// All starts: those of the volume's own files, and then those of the volumes inside it.
+    /// Returns all starts: those of the volume's own files, and then those of the files of the
+    /// volumes inside it.
     pub fn starts(&self) -> &[u64]
         ensures { result.now ≡ self.now.own ++ self.now.inner }
     {

@@ -22,17 +22,18 @@ use fv_placement::{LayoutItem, first_starts, is_top_off};
 use fv_tree::{Body, FileView, SectionView, VOLUME_TOP_FILE, VolumeView};
 use std::alloc::Global;
 
-/// Where the files of the view's canonical image are placed, and those of the volumes inside it.
-/// (PI specification, volume 3, section 3.2.3.1.)
+/// Returns the layout of the view's canonical image: where its files, and the files of the volumes
+/// inside it, begin. (PI specification, volume 3, section 3.2.3.1.)
 ///
 /// # Errors
 ///
-/// The fault of the first volume that does not fit (the outer volume comes before those inside it),
-/// at 0 and with the depth of that volume: TopAlignment if the only possible start of its volume top
-/// file is no multiple of 8, or its data are not aligned there; else NoRoom if its files cannot be
-/// placed in their order. OutOfMemory, only if the volume has a file.
+/// The fault of the first volume that does not fit, at offset 0 and with the depth of that volume;
+/// the outer volume comes before the volumes inside it. The fault is TopAlignment if the only
+/// possible start of the volume top file is not a multiple of 8, or if its data are not aligned
+/// there. Otherwise it is NoRoom: the files cannot be placed in their order. OutOfMemory, only if
+/// the volume has a file.
 pub fn layout(alloc: Global, view: &VolumeView<'_>) -> Result<Layout, Fault>
-    // At every level the files are in their first placement.
+    // The files are in their first placement at every level.
     ensures layout { IfOk result (IsLayout view.now) }
 
     // There is no other layout.
@@ -44,16 +45,17 @@ pub fn layout(alloc: Global, view: &VolumeView<'_>) -> Result<Layout, Fault>
         → Placement (length_of view.now) (first_edge (head_of view.now) (head_of view.now).ext) (layout_items view.now) others
         → take i others ≡ take i l.own → get_or l.own i 0 ≤ get_or others i 0) }
 
-    // Any error other than OutOfMemory is that of the first volume that does not fit.
+    // Any error other than OutOfMemory is the fault of the first volume that does not fit.
     ensures err { IfErr result (OrMemory (Unfit view.now 0)) }
 
-    // The layout of a volume that fits is returned, unless memory runs out.
+    // If the volume fits, its layout is returned, unless memory runs out.
     ensures fits { Fits view.now → IfErr result (λ f. f ≡ out_of_memory) }
 
     // Memory runs out only if the volume has a file.
     ensures memory { IfErr result (λ f. f ≡ out_of_memory → files_of view.now ≢ []) }
 {
-    // In a volume that was read, groups and volumes nest so little that a byte counts them.
+    // In a volume that was read, groups and volumes nest so little that a byte can count the
+    // levels.
     view.known();
     let own = view.files().len();
     let mut starts = Vec::new(alloc);
@@ -61,7 +63,8 @@ pub fn layout(alloc: Global, view: &VolumeView<'_>) -> Result<Layout, Fault>
     Ok(Layout::new(starts, own))
 }
 
-// The starts of the volumes in a body. A volume that is the body itself is at depth 0.
+// Returns the starts of the volumes in a body. If the body is itself a volume, that volume is at
+// depth 0.
 pub(crate) fn layout_of_body(alloc: Global, body: Body<'_, '_>) -> Result<Vec<u64>, Fault>
     requires shallow { Shallow NestsBody (body_view body) 0 }
     ensures ok { IfOk result (λ starts. Laid AreStarts (volumes_in_body (body_view body.entry)) starts.items) }
@@ -73,8 +76,8 @@ pub(crate) fn layout_of_body(alloc: Global, body: Body<'_, '_>) -> Result<Vec<u6
     Ok(starts)
 }
 
-// Adds the starts of a volume at this depth: those of its own files, and then those of the volumes
-// in them.
+// Adds the starts of a volume at this depth: first the starts of its own files, then the starts of
+// the volumes in these files.
 #[cycle(lay)]
 fn lay_volume(view: &VolumeView<'_>, depth: u8, starts: &mut Vec<u64>) -> Result<(), Fault>
     requires shallow { Shallow NestsVolume view.now (depth + 1) }
@@ -88,7 +91,7 @@ fn lay_volume(view: &VolumeView<'_>, depth: u8, starts: &mut Vec<u64>) -> Result
     lay_files(view.files(), depth, starts)
 }
 
-// Adds the starts of the volumes in some files of a volume at this depth.
+// Adds the starts of the volumes in these files of a volume at this depth.
 #[cycle(lay)]
 fn lay_files(files: &[FileView<'_>], depth: u8, starts: &mut Vec<u64>) -> Result<(), Fault>
     requires shallow { Shallow NestsFiles (files_from files.now) (depth + 1) }
@@ -104,7 +107,7 @@ fn lay_files(files: &[FileView<'_>], depth: u8, starts: &mut Vec<u64>) -> Result
     Ok(())
 }
 
-// Adds the starts of the volumes in some sections: their bodies are one level deeper.
+// Adds the starts of the volumes in these sections. The bodies are one level deeper than `depth`.
 #[cycle(lay)]
 fn lay_sections(sections: &[SectionView<'_>], depth: u8, starts: &mut Vec<u64>) -> Result<(), Fault>
     requires shallow { Shallow NestsSections (sections_from sections.now) (depth + 1) }
@@ -121,7 +124,8 @@ fn lay_sections(sections: &[SectionView<'_>], depth: u8, starts: &mut Vec<u64>) 
     Ok(())
 }
 
-// Adds the starts of the volumes in a body whose volumes and groups are at this depth.
+// Adds the starts of the volumes in a body. If the body is a volume or a group, it is at this
+// depth.
 #[cycle(lay)]
 fn lay_body(body: Body<'_, '_>, depth: u8, starts: &mut Vec<u64>) -> Result<(), Fault>
     requires shallow { Shallow NestsBody (body_view body) depth }
@@ -137,7 +141,7 @@ fn lay_body(body: Body<'_, '_>, depth: u8, starts: &mut Vec<u64>) -> Result<(), 
     }
 }
 
-// The starts of a volume's own files, or the fault if they have none.
+// Returns the starts of a volume's own files, or the fault if they cannot be placed.
 fn own_starts(alloc: Global, view: &VolumeView<'_>, depth: u8) -> Result<Vec<u64>, Fault>
     ensures ok { IfOk result (λ own. AreStarts view.now own.items) }
     ensures err { IfErr result (OrMemory (Unfit view.now depth)) }
@@ -156,7 +160,7 @@ fn own_starts(alloc: Global, view: &VolumeView<'_>, depth: u8) -> Result<Vec<u64
     }
 }
 
-// What the layout knows of a volume's files, in order.
+// Returns what the placement of each file of a volume depends on, in the order of the files.
 fn layout_items(alloc: Global, view: &VolumeView<'_>) -> Result<Vec<LayoutItem>, Fault>
     ensures ok { IfOk result (λ items. (items.items ≡ layout_items view.now)
         × All (IsLawfulItem (head_of view.now).length) items.items) }
@@ -173,7 +177,7 @@ fn layout_items(alloc: Global, view: &VolumeView<'_>) -> Result<Vec<LayoutItem>,
     Ok(items)
 }
 
-// What the layout knows of a file.
+// Returns what the placement of a file depends on.
 fn layout_item(file: &FileView<'_>) -> LayoutItem
     ensures { result ≡ layout_item file.now }
 {
@@ -188,7 +192,7 @@ fn layout_item(file: &FileView<'_>) -> LayoutItem
     }
 }
 
-// A fault of the layout of a volume at this depth.
+// Returns a fault of the layout of a volume at this depth.
 fn layout_fault(kind: FaultKind, depth: u8) -> Fault
     ensures { result ≡ layout_fault kind depth }
 {

@@ -1,7 +1,8 @@
-//! The canonical image of a firmware volume and its layout, the same for each volume of a flash
-//! image, and runs that write them. Two volumes are compared by the calls of `fv_compare`.
-//! `whole_volume` is that of fv_tree. The calls of the modules `headline` and `further_laws` do
-//! nothing: their contracts are laws, those of the headline among them.
+//! Computes the canonical image of a firmware volume and its layout, which says where the files of
+//! the image begin. It does the same for each volume of a flash image, and writes images to a port.
+//! The calls of `fv_compare` compare two volumes. `whole_volume` comes from fv_tree. The calls of
+//! the modules `headline` and `further_laws` do nothing: their contracts are laws, among them the
+//! headline.
 #![tactic(auto)]
 
 mod canonical_image;

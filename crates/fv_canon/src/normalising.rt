@@ -1,4 +1,4 @@
-//! From bytes that are a volume to its canonical image.
+//! Reads bytes as a volume, and makes its canonical image.
 
 ghost use Rattle.std.specs.Prelude.{◌≡◌, ◌≢◌, ◌⊎◌, ℕ, List, length, IfOk, IfErr, OnOk, true, false};
 ghost use Rattle.fv_base.specs.Words.{OrMemory, out_of_memory, inner_of, has_erred};
@@ -15,35 +15,38 @@ use fv_tree::{VolumeView, whole_volume};
 use std::alloc::Global;
 use std::io::{Read, Write};
 
-/// The canonical image of the volume that the input is. (PI specification, volume 3, section 3.2.)
+/// Reads the input as a volume with no bytes after it, and returns its canonical image. (PI
+/// specification, volume 3, section 3.2.)
 ///
 /// # Errors
 ///
-/// The first fault: those of `read_volume`; then Length at FvLength if bytes follow the volume;
-/// then those of `layout`. OutOfMemory.
+/// The first fault in this order: the faults of `read_volume`, Length at FvLength if bytes follow
+/// the volume, and the faults of `layout`. OutOfMemory.
 pub fn normalise(alloc: Global, input: &[u8]) -> Result<ByteList, Fault>
     ensures ok { IfOk result (λ bytes. NormalisesTo input.now bytes) }
 
-    // The image is a volume with the same meaning, and its own image.
+    // The image is a volume with the same meaning, and is its own image.
     ensures again { IfOk result (λ bytes. MeanSame input.now bytes × NormalisesTo bytes bytes) }
 
     // The image is as long as the input.
     ensures length { IfOk result (λ bytes. length bytes ≡ length input.now) }
 
-    // Any error other than OutOfMemory is the first fault of an input that is no volume, or that of
-    // the first volume in it that does not fit.
+    // Any error other than OutOfMemory is the first fault of an input that is not a volume, or the
+    // fault of the first volume in the input that does not fit.
     ensures err { IfErr result (OrMemory (Refuses input.now)) }
 
-    // Only a volume that does not fit is rejected as NoRoom or TopAlignment, by the fault of the first
-    // volume in it that does not. Only an input that is no volume is rejected with any other fault.
+    // NoRoom or TopAlignment is returned only if the input is a volume that does not fit, and is
+    // the fault of the first volume in it that does not fit. Any other error except OutOfMemory is
+    // returned only if the input is not a volume.
     ensures unfit { IfErr result (λ f. IsOfLayout f.kind → NotPlaced input.now f) }
     ensures unread { IfErr result (λ f. f ≢ out_of_memory → (IsOfLayout f.kind → ⊥) → IsNoVolume input.now) }
 
-    // A volume that does not fit is rejected: as NoRoom or TopAlignment, unless memory runs out.
+    // A volume that does not fit is always rejected: as NoRoom or TopAlignment, unless memory runs
+    // out.
     ensures refused { IsUnfit input.now → IfOk result (λ _. ⊥)
         × IfErr result (λ f. (f ≡ out_of_memory) ⊎ IsOfLayout f.kind) }
 
-    // The only error for a volume that has an image is OutOfMemory.
+    // If the input has an image, the only error is OutOfMemory.
     ensures fits { (image : List ℕ) → NormalisesTo input.now image → IfErr result (λ f. f ≡ out_of_memory) }
 
     // Memory runs out only if the input begins with the header of a volume.
@@ -53,14 +56,14 @@ pub fn normalise(alloc: Global, input: &[u8]) -> Result<ByteList, Fault>
     canonical(alloc, &view)
 }
 
-/// Writes the canonical image of the volume that the input is. Nothing is written before the whole
-/// input is accepted and laid out. The image is not kept in memory. (PI specification, volume 3,
-/// section 3.2.)
+/// Reads the input as a volume with no bytes after it, and writes its canonical image. Nothing is
+/// written before the whole input is accepted and laid out. The image is not kept in memory. (PI
+/// specification, volume 3, section 3.2.)
 ///
 /// # Errors
 ///
-/// Those of `normalise`; nothing was written then. WriteFault at the number of bytes written;
-/// exactly that many bytes of the image were written then.
+/// The errors of `normalise`, with nothing written. WriteFault at the number of bytes written;
+/// exactly that many bytes of the image were written.
 pub fn write_normalised<W: Write>(
     alloc: Global,
     input: &[u8],
@@ -70,8 +73,8 @@ pub fn write_normalised<W: Write>(
     ensures ok { OnOk result
         (InputWrites input.now (W.contents (inner_of writer.old)) (W.contents (inner_of writer.new))) }
 
-    // Nothing was written, for an error of `normalise`; or WriteFault, and the first bytes of the
-    // image were written, as many as its offset says.
+    // Either the error is one of `normalise`, and nothing was written. Or it is WriteFault, and the
+    // first bytes of the image were written, as many as its offset says.
     ensures err { IfErr result
         (InputStops input.now (W.contents (inner_of writer.old)) (W.contents (inner_of writer.new))) }
     ensures read { IfErr result (λ f. f.kind ≢ FaultKind.ReadFault) }
@@ -79,7 +82,7 @@ pub fn write_normalised<W: Write>(
     // Memory runs out only if the input begins with the header of a volume.
     ensures memory { IfErr result (λ f. f ≡ out_of_memory → BeginsWithHeader input.now) }
 
-    // The writer's fault is returned exactly if a write failed.
+    // WriteFault is returned exactly if a write failed.
     ensures fine { OnOk result (has_erred writer.new ≡ has_erred writer.old) }
     ensures erred { IfErr result (λ f. f.kind ≡ FaultKind.WriteFault → has_erred writer.new ≡ true) }
 {
@@ -87,7 +90,7 @@ pub fn write_normalised<W: Write>(
     write_laid_out(alloc, &view, writer)
 }
 
-// Lays out a volume, and writes its canonical image. Nothing is written before it is laid out.
+// Lays out a volume and writes its canonical image. Nothing is written before it is laid out.
 fn write_laid_out<W: Write>(
     alloc: Global,
     view: &VolumeView<'_>,
@@ -105,31 +108,32 @@ fn write_laid_out<W: Write>(
     write_canonical(view, &places, writer)
 }
 
-/// Reads an input to its end, and then writes the canonical image of the volume that it is. The
-/// input and its view are kept in memory; the image is not. (PI specification, volume 3, section
-/// 3.2.)
+/// Reads an input to its end, as a volume with no bytes after it, and then writes its canonical
+/// image. The input and its view are kept in memory; the image is not. (PI specification, volume 3,
+/// section 3.2.)
 ///
 /// # Errors
 ///
-/// ReadFault at the number of bytes read so far, Length at the limit if more bytes come, and those
-/// of `normalise`; nothing was written then. Reading takes memory, so OutOfMemory may be returned
+/// ReadFault at the number of bytes read so far, Length at the limit if more bytes come, or an
+/// error of `normalise`, with nothing written. Reading takes memory, so OutOfMemory may be returned
 /// whatever the input is. WriteFault at the number of bytes written; exactly that many bytes of the
-/// image were written then.
+/// image were written.
 pub fn run_normalise<R: Read, W: Write>(
     alloc: Global,
     reader: &mut Port<R>,
     writer: &mut Port<W>,
 ) -> Result<(), Fault>
-    // Some input was read to its end, and its image was written.
+    // An input was read to its end, and its image was written.
     ensures ok { OnOk result (RunWrites (R.remaining (inner_of reader.old)) (R.remaining (inner_of reader.new))
         (W.contents (inner_of writer.old)) (W.contents (inner_of writer.new))) }
 
-    // Nothing was written, and the reading stopped or the input is rejected; or WriteFault, and the
-    // first bytes of the image were written, as many as its offset says.
+    // Either reading stopped or the input is rejected, and nothing was written. Or the fault is
+    // WriteFault, and the first bytes of the image were written, as many as its offset says.
     ensures err { IfErr result (RunStops (R.remaining (inner_of reader.old)) (R.remaining (inner_of reader.new))
         (W.contents (inner_of writer.old)) (W.contents (inner_of writer.new))) }
 
-    // A fault of the reader or the writer is returned only if its port has erred.
+    // If ReadFault is returned, the error flag of the reader's port is set, provided that it was
+    // clear before the call. If WriteFault is returned, the error flag of the writer's port is set.
     ensures reader_erred { has_erred reader.old ≡ false
         → IfErr result (λ f. f.kind ≡ FaultKind.ReadFault → has_erred reader.new ≡ true) }
     ensures writer_erred { IfErr result (λ f. f.kind ≡ FaultKind.WriteFault → has_erred writer.new ≡ true) }

@@ -18,7 +18,7 @@ use fv_head::{VolumeHead, len_of_ext, put_ext};
 use fv_section::{section_head_bytes, section_header_len};
 use fv_tree::{FileView, SectionView};
 
-// The number of zero bytes between a section and the next.
+// Returns the number of zero bytes between a section and the next section.
 pub(crate) fn filler_of(section: &SectionView<'_>) -> u64
     requires { section_len section.now < 2 ^ 32 }
     ensures { result ≡ up_to_4 (section_len section.now) - section_len section.now }
@@ -36,7 +36,7 @@ pub(crate) fn put_section_head<S: Sink>(out: &mut S, section: &SectionView<'_>)
     out.put(section_head_bytes(section.kind(), section.extended(), section.body_len()).as_slice());
 }
 
-// Puts a pad.
+// Puts a pad of `size` bytes.
 fn put_pad<S: Sink>(out: &mut S, size: u64, polarity: Polarity)
     requires least { 24 ≤ size }
     requires most { size ≤ 0xffffff }
@@ -46,13 +46,13 @@ fn put_pad<S: Sink>(out: &mut S, size: u64, polarity: Polarity)
     fill(out, polarity.erased(), size - 24);
 }
 
-/// The most bytes of a pad in a gap: the greatest multiple of 8 that fits in `Size`.
+/// The largest pad in a gap, in bytes: the greatest multiple of 8 that fits in the field `Size`.
 const PAD_MOST: u64 = 0xff_fff8;
 
-/// The size of every pad of a longer gap except its last.
+/// The size in bytes of each pad except the last, in a gap of more than `PAD_MOST` bytes.
 const LONG_PAD: u64 = 0xff_ff00;
 
-// Puts the pads of a gap.
+// Puts the pads of a gap of `gap` bytes.
 pub(crate) fn put_gap<S: Sink>(out: &mut S, gap: u64, polarity: Polarity)
     requires fits { (gap ≡ 0) ⊎ (24 ≤ gap) }
     requires multiple { gap % 8 ≡ 0 }
@@ -69,8 +69,8 @@ pub(crate) fn put_gap<S: Sink>(out: &mut S, gap: u64, polarity: Polarity)
     put_pad(out, left, polarity);
 }
 
-// The length of the header of a file with `data_len` bytes of data: it is large if the size would
-// not fit in a short one.
+// Returns the length of the header of a file with `data_len` bytes of data. The header is large if
+// the size does not fit in a short header.
 pub(crate) fn header_len_for(data_len: u64) -> u64
     requires { data_len < 2 ^ 62 }
     ensures { result ≡ head_len_for data_len }
@@ -82,7 +82,7 @@ pub(crate) fn header_len_for(data_len: u64) -> u64
     }
 }
 
-// The size of a file with `data_len` bytes of data, its header included.
+// Returns the size of a file with `data_len` bytes of data, including its header.
 pub(crate) fn size_for(data_len: u64) -> u64
     requires { data_len < 2 ^ 62 }
     ensures { result ≡ size_for data_len }
@@ -90,7 +90,7 @@ pub(crate) fn size_for(data_len: u64) -> u64
     header_len_for(data_len) + data_len
 }
 
-// Puts the header of a file with this file sum.
+// Puts the header of a file, with the file checksum `sum`.
 pub(crate) fn put_file_head<S: Sink>(out: &mut S, file: &FileView<'_>, sum: u8, polarity: Polarity)
     requires most { data_len_of file.now ≤ data_limit }
     ensures { S.takes out.old (file_head_of (file_name_of file.now) (file_kind_of file.now)
@@ -108,8 +108,8 @@ pub(crate) fn put_file_head<S: Sink>(out: &mut S, file: &FileView<'_>, sum: u8, 
     out.put(head.as_slice());
 }
 
-// Puts the pad after the head that holds the extended header, if there is one, and erased bytes to
-// the first edge.
+// Puts the pad with the extended header, if there is one, and erased bytes up to the first edge.
+// The pad directly follows the volume header.
 pub(crate) fn put_ext_pad<S: Sink>(out: &mut S, head: &VolumeHead<'_>, used: u32)
     ensures { S.takes out.old (ext_pad (polarity_of head.now.attributes) head.now.ext used
         ++ replicate (first_edge head.now head.now.ext - canonical_end head.now head.now.ext)
@@ -126,7 +126,7 @@ pub(crate) fn put_ext_pad<S: Sink>(out: &mut S, head: &VolumeHead<'_>, used: u32
     }
 }
 
-// The end of the last file, or the first edge if there is none.
+// Returns the end of the last file, or the first edge if there is no file.
 pub(crate) fn used_end(files: &[FileView<'_>], own: &[u64], first: u64) -> u64
     requires { (total : ℕ) × ArePlaced total first files.now own.now }
     ensures used { result ≡ used_by first files.now own.now }

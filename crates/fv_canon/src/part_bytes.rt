@@ -14,26 +14,27 @@ use fv_base::{ByteList, Fault, ListSink};
 use fv_tree::{FileView, SectionView};
 use std::alloc::Global;
 
-/// The data of a file as they are in its volume's canonical image. Memory for the whole length is
-/// reserved once. (PI specification, volume 3, section 3.2.3.)
+/// Returns the data of a file, as they are in the canonical image of the file's volume. Memory for
+/// the full length is reserved once. (PI specification, volume 3, section 3.2.3.)
 ///
 /// # Errors
 ///
-/// The fault of the first volume in the data that does not fit, at 0 and with its depth: 1 if it is
-/// the body of one of the file's own sections. OutOfMemory.
+/// The fault of the first volume in the data that does not fit, at offset 0 and with the depth of
+/// that volume, which is 1 if the volume is the body of one of the file's own sections.
+/// OutOfMemory.
 pub fn file_bytes(alloc: Global, file: &FileView<'_>) -> Result<ByteList, Fault>
     ensures data { IfOk result (λ o. IsData (content_of file.now) o) }
 
-    // No other bytes are.
+    // The result is unique.
     ensures only { (other : List ℕ) → IsData (content_of file.now) other → IfOk result (λ o. o ≡ other) }
 
-    // Any error other than OutOfMemory is that of the first volume that does not fit.
+    // Any error other than OutOfMemory is the fault of the first volume that does not fit.
     ensures err { IfErr result (OrMemory (FirstUnfit (volumes_in_content (content_of file.now)) 0)) }
 
-    // If all volumes in it fit, the only error is OutOfMemory.
+    // If all volumes in the data fit, the only error is OutOfMemory.
     ensures fits { AllFit (volumes_in_content (content_of file.now)) → IfErr result (λ f. f ≡ out_of_memory) }
 {
-    // In a file that was read, groups and volumes nest so little that a byte counts them.
+    // In a file that was read, groups and volumes nest so little that a byte can count the levels.
     file.known();
     let starts = layout_of_body(alloc, data_body(file))?;
     let mut out = ListSink::with_room(alloc, file.data_len() as usize)?;
@@ -41,26 +42,26 @@ pub fn file_bytes(alloc: Global, file: &FileView<'_>) -> Result<ByteList, Fault>
     out.finish()
 }
 
-/// The body of a section as it is in its volume's canonical image. Memory for the whole length is
-/// reserved once. (PI specification, volume 3, section 3.2.4.)
+/// Returns the body of a section, as it is in the canonical image of the section's volume. Memory
+/// for the full length is reserved once. (PI specification, volume 3, section 3.2.4.)
 ///
 /// # Errors
 ///
-/// The fault of the first volume in the body that does not fit, at 0; a volume that is the body
-/// itself is at depth 0. OutOfMemory.
+/// The fault of the first volume in the body that does not fit, at offset 0 and with the depth of
+/// that volume, which is 0 if the volume is the body itself. OutOfMemory.
 pub fn body_bytes(alloc: Global, section: &SectionView<'_>) -> Result<ByteList, Fault>
     ensures body { IfOk result (λ o. IsBodyImage (body_of section.now) o) }
 
-    // No other bytes are.
+    // The result is unique.
     ensures only { (other : List ℕ) → IsBodyImage (body_of section.now) other → IfOk result (λ o. o ≡ other) }
 
-    // Any error other than OutOfMemory is that of the first volume that does not fit.
+    // Any error other than OutOfMemory is the fault of the first volume that does not fit.
     ensures err { IfErr result (OrMemory (FirstUnfit (volumes_in_body (body_of section.now)) 0)) }
 
-    // If all volumes in it fit, the only error is OutOfMemory.
+    // If all volumes in the body fit, the only error is OutOfMemory.
     ensures fits { AllFit (volumes_in_body (body_of section.now)) → IfErr result (λ f. f ≡ out_of_memory) }
 {
-    // For what was read, the bytes of the walk are its body.
+    // For a section that was read, the walk puts its body.
     section.known();
     let body = section.body();
     let starts = layout_of_body(alloc, body)?;

@@ -1,4 +1,4 @@
-//! The starts of the files of the volumes in a part of a volume.
+//! The starts of the volumes in a part of a volume.
 
 ghost use Rattle.std.specs.Prelude.{◌≡◌, ◌⊎◌, ℕ, List, length, IfOk, IfErr};
 ghost use Rattle.fv_base.specs.Words.{OrMemory, out_of_memory};
@@ -14,48 +14,49 @@ use fv_base::Fault;
 use fv_tree::{FileView, SectionView};
 use std::alloc::Global;
 
-/// The starts of the volumes in the data of a file, with which `put_laid_data` puts them. (PI
-/// specification, volume 3, section 3.2.3.1.)
+/// Returns the starts of the volumes in the data of a file, which `put_laid_data` needs to put the
+/// data. (PI specification, volume 3, section 3.2.3.1.)
 ///
 /// # Errors
 ///
-/// The fault of the first volume in the data that does not fit, at 0 and with its depth: 1 if it is
-/// the body of one of the file's own sections. OutOfMemory.
+/// The fault of the first volume in the data that does not fit, at offset 0 and with the depth of
+/// that volume, which is 1 if the volume is the body of one of the file's own sections.
+/// OutOfMemory.
 pub fn lay_out_data(alloc: Global, file: &FileView<'_>) -> Result<Vec<u64>, Fault>
     ensures ok { IfOk result
         (λ starts. BeginsWithStarts (volumes_in_content (content_of file.now)) starts.items) }
 
-    // The data are as long in the image.
+    // The data in the canonical image are as long as the data that were read.
     ensures long { IfOk result
         (λ _. (bytes : List ℕ) × IsData (content_of file.now) bytes × (length bytes ≡ data_len_of file.now)) }
 
-    // Any error other than OutOfMemory is that of the first volume that does not fit.
+    // Any error other than OutOfMemory is the fault of the first volume that does not fit.
     ensures err { IfErr result (OrMemory (FirstUnfit (volumes_in_content (content_of file.now)) 0)) }
 {
-    // In a file that was read, groups and volumes nest so little that a byte counts them.
+    // In a file that was read, groups and volumes nest so little that a byte can count the levels.
     file.known();
     layout_of_body(alloc, data_body(file))
 }
 
-/// The starts of the volumes in the body of a section, with which `put_laid_body` puts it. (PI
-/// specification, volume 3, section 3.2.3.1.)
+/// Returns the starts of the volumes in the body of a section, which `put_laid_body` needs to put
+/// the body. (PI specification, volume 3, section 3.2.3.1.)
 ///
 /// # Errors
 ///
-/// The fault of the first volume in the body that does not fit, at 0; a volume that is the body
-/// itself is at depth 0. OutOfMemory.
+/// The fault of the first volume in the body that does not fit, at offset 0 and with the depth of
+/// that volume, which is 0 if the volume is the body itself. OutOfMemory.
 pub fn lay_out_body(alloc: Global, section: &SectionView<'_>) -> Result<Vec<u64>, Fault>
     ensures ok { IfOk result
         (λ starts. Laid AreStarts (volumes_in_body (body_of section.now)) starts.items) }
 
-    // The body is as long in the image.
+    // The body in the canonical image is as long as the body that was read.
     ensures long { IfOk result (λ _. (bytes : List ℕ) × IsBodyImage (body_of section.now) bytes
         × (length bytes ≡ body_len (body_of section.now))) }
 
-    // Any error other than OutOfMemory is that of the first volume that does not fit.
+    // Any error other than OutOfMemory is the fault of the first volume that does not fit.
     ensures err { IfErr result (OrMemory (FirstUnfit (volumes_in_body (body_of section.now)) 0)) }
 {
-    // For what was read, the bytes of the walk are its body.
+    // For a section that was read, the walk with these starts puts its body.
     section.known();
     layout_of_body(alloc, section.body())
 }

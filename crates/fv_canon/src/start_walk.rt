@@ -1,4 +1,4 @@
-//! The starts of a layout that follow those of some part of a volume.
+//! Skips the starts of a part of a volume in a layout.
 
 ghost use Rattle.std.specs.Prelude.{◌≡◌, drop};
 ghost use Rattle.fv_tree.specs.Words.{sections_from, body_view, volumes_in, volumes_in_body, volumes_in_sections};
@@ -8,7 +8,7 @@ ghost use Rattle.fv_canon.specs.LayoutForms.{BeginsWithStarts};
 use crate::data_body::data_body;
 use fv_tree::{Body, SectionView, VolumeView};
 
-// The starts after those of the sections.
+// Returns the starts that follow the starts of these sections.
 #[cycle(skip)]
 fn skip_sections<'s>(sections: &[SectionView<'_>], starts: &'s [u64]) -> &'s [u64]
     requires laid { BeginsWithStarts (volumes_in_sections (sections_from sections.now)) starts.now }
@@ -21,7 +21,7 @@ fn skip_sections<'s>(sections: &[SectionView<'_>], starts: &'s [u64]) -> &'s [u6
     rest
 }
 
-// The starts after those of a body.
+// Returns the starts that follow the starts of a body.
 #[cycle(skip)]
 pub(crate) fn skip_body<'s>(body: Body<'_, '_>, starts: &'s [u64]) -> &'s [u64]
     requires laid { BeginsWithStarts (volumes_in_body (body_view body)) starts.now }
@@ -34,13 +34,14 @@ pub(crate) fn skip_body<'s>(body: Body<'_, '_>, starts: &'s [u64]) -> &'s [u64]
     }
 }
 
-// The starts after those of a volume: of its own files, and of the volumes in them.
+// Returns the starts that follow the starts of a volume: those of its own files and of the volumes
+// in them.
 #[cycle(skip)]
 fn skip_volume<'s>(volume: &VolumeView<'_>, starts: &'s [u64]) -> &'s [u64]
     requires laid { BeginsWithStarts (volumes_in volume.now) starts.now }
     ensures { result.now ≡ drop (starts_in (volumes_in volume.now)) starts.now }
 {
-    // A volume that was read has a start for each file.
+    // A volume that was read has a start for each of its files.
     volume.known();
     let files = volume.files();
     let (_own, inner) = starts.split_at(files.len());

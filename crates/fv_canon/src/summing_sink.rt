@@ -1,28 +1,30 @@
-//! The sink of a walk over a volume: it puts what it is given into the sink below it, or sums it.
+//! The sink of a walk over a volume. It puts the bytes that it takes into the sink below it, or
+//! sums them.
 //!
-//! The header of a file with the checksum attribute has the sum of the file's data, and comes
-//! before them. So a walk goes over the data of such a file twice: it sums them, and then it puts
-//! them. The data may hold a volume, which may have such files too. While the data of the outer
-//! file are summed, such an inner file adds only its State: its header sums to 0 without its file
-//! sum and its State, and its file sum and its data sum to 0. So its data are skipped, and no byte
-//! is summed more than once, however deep such files nest.
+//! The header of a file with the checksum attribute contains a checksum of the file's data, and
+//! comes before the data. So a walk goes over the data of such a file twice: it sums them first,
+//! and then it puts them. The data may contain a volume, which may have files with this attribute
+//! too. While the data of the outer file are being summed, such an inner file adds only its State
+//! byte: its header without the file checksum and State sums to 0, and its file checksum and its
+//! data sum to 0. So its data are skipped, and no byte is summed more than once, however deep such
+//! files nest.
 
 ghost use Rattle.std.specs.Prelude.{◌≡◌, false, true};
 ghost use Rattle.fv_canon.specs.inner.SummingSinks.{ImageTakes, image_by, sums, total_of};
 
 use fv_base::{Sink, sum8};
 
-/// What a `SummingSink` does with the bytes that it is given.
+/// What a `SummingSink` does with the bytes that it takes.
 #[derive(Clone, Copy, Drop)]
 pub(crate) enum Mode {
     /// It puts them into the sink below.
     Putting,
-    /// It sums them, and puts nothing. This is their sum so far, modulo 256.
+    /// It sums them, and puts nothing. The number is their sum so far, modulo 256.
     Summing(u8),
 }
 
-/// A sink that puts what it is given into the sink below it, except between `begin_sum` and
-/// `end_sum`: then it sums what it is given, and puts nothing.
+/// A sink that puts the bytes that it takes into the sink below it. Between `begin_sum` and
+/// `end_sum` it sums them instead, and puts nothing.
 #[derive(Drop)]
 pub(crate) struct SummingSink<'a, S: Sink> {
     below: &'a mut S,
@@ -43,7 +45,7 @@ impl<'a, S: Sink> Sink for SummingSink<'a, S> {
 }
 
 impl<'a, S: Sink> SummingSink<'a, S> {
-    // A sink that puts into the one below.
+    // Makes a sink that puts into the sink `below`.
     pub(crate) fn new(below: &'a mut S) -> SummingSink<'a, S>
         ensures same_sink { result.below.ghost_name ≡ below.entry.ghost_name }
         ensures now { result.below.now ≡ below.old }
@@ -55,7 +57,7 @@ impl<'a, S: Sink> SummingSink<'a, S> {
         }
     }
 
-    // Whether it sums what it is given.
+    // Returns whether the sink sums the bytes that it takes.
     pub(crate) fn is_summing(&self) -> bool
         ensures { result ≡ sums self.now.mode }
     {
@@ -75,7 +77,7 @@ impl<'a, S: Sink> SummingSink<'a, S> {
         self.mode = Mode::Summing(0);
     }
 
-    // Ends a sum, and returns it.
+    // Ends the sum and returns it, modulo 256.
     pub(crate) fn end_sum(&mut self) -> u8
         ensures same_sink { self.new.below.ghost_name ≡ self.old.below.ghost_name }
         ensures now { self.new.below.now ≡ self.old.below.now }

@@ -1,4 +1,4 @@
--- How a run ends: its status, and the line of a fault.
+-- How a run ends: its exit status, and the line of a fault.
 use Rattle.std.specs.Io.KnownBytes.{Appends}
 use Rattle.std.specs.Prelude.{◌≡◌, ◌⊎◌, ◌++◌, ℕ, true, List, codes, decimal}
 use Rattle.fv_base.specs.Words.{fault_number}
@@ -13,7 +13,7 @@ use Rattle.fv_hob.specs.Words.{hob_fault_number}
 use Rattle.fv_hob.specs.declared.fault.HobFault.{HobFault}
 use Rattle.fv_text.specs.Words.{line_feed, Change, Shown, StopsIn, Writes}
 
--- the exit statuses: 0 Done, 1 Different, 2 Faulty and Refused, 3 WrongWords
+-- the exit status for each status of a run: 0 Done, 1 Different, 2 Faulty and Refused, 3 WrongWords
 abbrev pub exit_code : Status → ℕ
 exit_code statuses.Done = 0
 exit_code statuses.Different = 1
@@ -21,36 +21,36 @@ exit_code statuses.Faulty = 2
 exit_code statuses.Refused = 2
 exit_code statuses.WrongWords = 3
 
--- all of a text was written, and the flush after it failed
+-- all of the text was written, and the flush after it failed
 abbrev pub FlushFails : Shown → Shown → List ℕ → Type 0
 FlushFails old new text = Appends old.bytes new.bytes text × (new.erred ≡ true)
 
--- a run with this status has this text. All of it was written, and the run ends with its own status; or a write failed
--- in it, or the flush after it, and the run ends with Refused
+-- a run has this text and the status `ran`. Either all of the text was written, and the run ends with `ran`; or a write
+-- of the text or the flush after it failed, and the run ends with Refused
 abbrev pub Ends : Status → List ℕ → Change → Status → Type 0
 Ends ran text output status =
     ((status ≡ ran) × Writes output.old output.new text)
     ⊎ ((status ≡ statuses.Refused) × (StopsIn output.old output.new text ⊎ FlushFails output.old output.new text))
 
--- a number and an offset in bytes
+-- the line `fault N at M` with a number and an offset in bytes
 abbrev pub numbered_line : ℕ → ℕ → List ℕ
 numbered_line number at = codes "fault " ++ (decimal number ++ (codes " at " ++ (decimal at ++ line_feed)))
 
--- the line of a fault
+-- the line of a fault, with its number and its offset
 abbrev pub fault_line : Fault → List ℕ
 fault_line f = numbered_line (fault_number f.kind) f.place.offset
 
--- that of a fault of a hand-off list
+-- the line of a fault of a hand-off list
 abbrev pub hob_fault_line : HobFault → List ℕ
 hob_fault_line f = codes "hob " ++ numbered_line (hob_fault_number f.kind) f.offset
 
--- that of a fault of one of two inputs
+-- the line of a fault of one of two inputs
 abbrev pub side_fault_line : Side → Fault → List ℕ
 side_fault_line sides.First f = codes "first " ++ fault_line f
 side_fault_line sides.Second f = codes "second " ++ fault_line f
 side_fault_line sides.Output f = fault_line f
 
--- the line of a refusal: that of a fault, of a fault of one of two inputs, or of a fault of a hand-off list
+-- the line of a refusal: it begins with `hob` for a hand-off list, and with `first` or `second` for one of two inputs
 abbrev pub refusal_line : Refusal → List ℕ
 refusal_line (Input f) = fault_line f
 refusal_line (OneOfTwo side f) = side_fault_line side f

@@ -10,34 +10,34 @@ use Rattle.fv_command.specs.Endings.{fault_line}
 use Rattle.fv_command.specs.declared.status.Status.{Status}
 use Rattle.fv_command.specs.declared.status.Status.TheVariants.{Done, Different, Faulty}
 
--- what is said of a volume of an image: whether it is its own canonical image, or its fault
+-- the end of the line of a volume of an image: whether the volume is its own canonical image, or its fault
 abbrev pub outcome_line : VolumeOutcome → List ℕ
 outcome_line Canonical = verdict_line true
 outcome_line NotCanonical = verdict_line false
 outcome_line (Rejected fault) = fault_line fault
 
--- the line of a volume of an image: its place, and what is said of it
+-- the line of a volume of an image: its place, and the outcome of its check
 abbrev pub checked_line : VolumeCheck → List ℕ
 checked_line check = volume_place check.offset check.length ++ (codes " " ++ outcome_line check.outcome)
 
--- a volume is rejected
+-- the volume is rejected
 abbrev pub is_rejected : VolumeOutcome → Bool
 is_rejected (Rejected fault) = true
 is_rejected outcome = false
 
--- a volume is not its own canonical image
+-- the volume is accepted but is not its own canonical image
 abbrev pub is_another : VolumeOutcome → Bool
 is_another NotCanonical = true
 is_another outcome = false
 
--- the status of some checks, by the worst: Faulty if a volume is rejected, else Different if one is not its own
--- canonical image, else Done
+-- the worst check determines the status: Faulty if a volume is rejected, otherwise Different if a volume is not its own
+-- canonical image, otherwise Done
 abbrev pub checks_status : List VolumeCheck → Status
 checks_status checks =
     if list_any (λ c. is_rejected c.outcome) checks then Faulty
     else (if list_any (λ c. is_another c.outcome) checks then Different else Done)
 
--- the text has a line for each volume that is found in the input, in order, and the status is that of all of them
+-- the text has a line for each volume that is found in the input, in order, and the status is that of all these checks
 abbrev pub ChecksText : List ℕ → Status → List ℕ → Type 0
 ChecksText input status text =
     (checks : List VolumeCheck) × ChecksImage input checks × (status ≡ checks_status checks)

@@ -1,4 +1,4 @@
--- Runs over two inputs: a hand-off list with the image of its volumes, and two volumes that are compared.
+-- Runs over two inputs: a hand-off list with an image of its volumes, and two volumes that are compared.
 use Rattle.std.specs.Prelude.{◌≡◌, ◌≤◌, ◌⊎◌, ℕ, Bool, List, [], Option, Some, None, length, take, ◌≢◌}
 use Rattle.fv_base.specs.Words.{out_of_memory}
 use Rattle.fv_base.specs.declared.fault.Fault.{Fault}
@@ -16,17 +16,17 @@ use Rattle.fv_compare.specs.declared.side.Side.{Side}
 use Rattle.fv_compare.specs.declared.side.Side.TheVariants as sides
 use Rattle.fv_tree.specs.Words.{Accepted, Meaning}
 
--- with a base, an image was read to its end; without one, nothing was read, and there are no bytes
+-- if there is a base, an image was read to its end; otherwise nothing was read, and the image has no bytes
 abbrev pub GivesImage : Bool → Option ℕ → Change → List ℕ → Type 0
 GivesImage hex None input bytes = (input.new ≡ input.old) × (bytes ≡ [])
 GivesImage hex (Some base) input bytes = Gives hex input.old input.new bytes
 
--- the reading of the image stopped; there is a base
+-- there is a base, and reading the image stopped with this fault
 abbrev pub HobImageStops : Bool → Option ℕ → Change → Fault → Type 0
 HobImageStops hex None input fault = ⊥
 HobImageStops hex (Some base) input fault = GivingStops hex input.old input.new fault
 
--- the list and the image were read, the first input begins with this list, and the text has its lines
+-- the list and the image were read, the first input begins with a hand-off list, and the text is that of `hobs` for it
 pub record ListsHobs (hex : Bool) (base : Option ℕ) (first second : Change) (text : List ℕ) : Type 0 where
   pub list : List ℕ
   pub gives : Gives hex first.old first.new list
@@ -38,40 +38,42 @@ pub record ListsHobs (hex : Bool) (base : Option ℕ) (first second : Change) (t
   pub is_list : IsHobList all (take consumed list)
   pub text_is : HobsText (image_form base image) all consumed text
 
--- an input stopped the run: the list; or the image, after a list that was read to its end
+-- reading an input stopped with this fault: the list, and nothing of the image was read; or the image, after the list
+-- was read to its end
 abbrev pub HobInputStops : Bool → Option ℕ → (first second : Change) → Fault → Type 0
 HobInputStops hex base first second fault =
     ((second.new ≡ second.old) × GivingStops hex first.old first.new fault)
     ⊎ ((list : List ℕ) × Gives hex first.old first.new list × HobImageStops hex base second fault)
 
--- both were read, and the first input begins with no hand-off list, or memory ran out
+-- both inputs were read, and the first does not begin with a hand-off list, or memory ran out
 abbrev pub RefusesHobs : Bool → Option ℕ → (first second : Change) → HobFault → Type 0
 RefusesHobs hex base first second fault =
     (list : List ℕ) × (image : List ℕ) × Gives hex first.old first.new list × GivesImage hex base second image
     × ((fault ≡ hob_out_of_memory) ⊎ IsFirstHobFault list fault)
 
--- what a run over a hand-off list says, and with which status
+-- the text and the status of a successful run over a hand-off list
 abbrev pub SaysHobs : Option ℕ → Bool → (first second : Change) → Status → List ℕ → Type 0
 SaysHobs base hex first second status text = (status ≡ Done) × ListsHobs hex base first second text
 
--- why a run over a hand-off list is refused: for the fault of an input, or for that of the list
+-- why a run over a hand-off list is refused: for a fault of an input, or for a fault of the list
 abbrev pub StopsHobs : Option ℕ → Bool → (first second : Change) → Refusal → Type 0
 StopsHobs base hex first second (Input fault) = HobInputStops hex base first second fault
 StopsHobs base hex first second (Hobs fault) = RefusesHobs hex base first second fault
 StopsHobs base hex first second (OneOfTwo side fault) = ⊥
 
--- an input was read to its end, and it, or what begins at byte `at` of it, is a volume with this meaning
+-- an input was read to its end, and what is taken of it (all of it, or what begins at byte `at`) is a volume with this
+-- meaning
 abbrev pub GivesVolume : Bool → Option ℕ → Change → Meaning → Type 0
 GivesVolume hex at input m = (bytes : List ℕ) × GivesAt hex at input.old input.new bytes × Accepted bytes m
 
--- an input stopped the run: while it was read, or because it is no volume, or because memory ran out
+-- an input stopped the run: reading it stopped, what is taken of it is not a volume, or memory ran out
 abbrev pub VolumeInputStops : Bool → Option ℕ → Change → Fault → Type 0
 VolumeInputStops hex at input fault =
     GivingStops hex input.old input.new fault
     ⊎ ((bytes : List ℕ) × GivesAt hex at input.old input.new bytes × VolumeStops bytes fault)
 
--- the side says which input stopped the run. The second is read only after a first that is a volume. Memory may also run
--- out while two that differ are compared
+-- the side names the input that stopped the run. The second input is read only if the first is a volume. If memory runs
+-- out while two different volumes are compared, the side is First
 abbrev pub SideStops : Side → Bool → (at other : Option ℕ) → (first second : Change) → Fault → Type 0
 SideStops sides.First hex at other first second fault =
     ((second.new ≡ second.old) × VolumeInputStops hex at first fault)
@@ -81,11 +83,11 @@ SideStops sides.Second hex at other first second fault =
     ((m : Meaning) × GivesVolume hex at first m) × VolumeInputStops hex other second fault
 SideStops sides.Output hex at other first second fault = ⊥
 
--- the status of a comparison: Done if the two have the same meaning, else Different
+-- the status of a comparison: Done if the two volumes have the same meaning, otherwise Different
 abbrev pub IsVerdict : Meaning → Meaning → Status → Type 0
 IsVerdict m k status = ((status ≡ Done) × (m ≡ k)) ⊎ ((status ≡ Different) × (m ≢ k))
 
--- what a comparison says, and with which status: where two volumes first differ
+-- the text and the status of a comparison: `same`, or where the two volumes first differ
 abbrev pub SaysComparison : Bool → (at other : Option ℕ) → (first second : Change) → Status → List ℕ → Type 0
 SaysComparison hex at other first second status text =
     (m : Meaning) × (k : Meaning) × GivesVolume hex at first m × GivesVolume hex other second k

@@ -18,32 +18,33 @@ use Rattle.fv_command.specs.declared.ending.Refusal.TheVariants.{Input, OneOfTwo
 use Rattle.fv_command.specs.declared.status.Status.{Status}
 use Rattle.fv_command.specs.declared.status.Status.TheVariants.{Refused}
 
--- the unread bytes of a source, given those of standard input and of a file; a file that could not be opened, and no
--- input, have none
+-- the unread bytes of a source, given those of standard input and of a file; a file that could not be opened has none,
+-- and neither has an input that does not exist
 abbrev pub unread : {S F : Type 0} → (S → Option (List ℕ)) → (F → Option (List ℕ)) → Source S F → Option (List ℕ)
 unread of_input of_file (Standard reader) = of_input reader
 unread of_input of_file (File file) = of_file file
 unread of_input of_file Missing = Some []
 unread of_input of_file Nothing = Some []
 
--- the source is what opening a path gives: the file, or the mark that it cannot be opened
+-- the source that opening a path returns: the file, or Missing if it cannot be opened
 abbrev pub IsOpened : {S F : Type 0} → (List ℕ → Option F → Type 0) → List ℕ → Source S F → Type 0
 IsOpened opens path (File file) = opens path (Some file)
 IsOpened opens path Missing = opens path None
 IsOpened opens path _ = ⊥
 
--- the source of a command's first input: standard input if no file is named, else the file at that path
+-- the source of a command's first input: standard input if no file is named, otherwise the file at that path
 abbrev pub IsFirstSource : {S F : Type 0} → (List ℕ → Option F → Type 0) → (S → Type 0) → Option (String Global) → Source S F → Type 0
 IsFirstSource opens is_standard None (Standard reader) = is_standard reader
 IsFirstSource opens is_standard None source = ⊥
 IsFirstSource opens is_standard (Some path) source = IsOpened opens (string_bytes path) source
 
--- the source of its second input: there is none if no file is named, else the file at that path
+-- the source of a command's second input: Nothing if no file is named, otherwise the file at that path
 abbrev pub IsSecondSource : {S F : Type 0} → (List ℕ → Option F → Type 0) → Option (String Global) → Source S F → Type 0
 IsSecondSource opens None source = source ≡ Nothing
 IsSecondSource opens (Some path) source = IsOpened opens (string_bytes path) source
 
--- what a command says of its inputs, by what was read of them, and with which status. A task reads nothing of the second
+-- the text and the status of a command that is not refused, by what was read of its inputs. A task reads nothing of the
+-- second input
 abbrev pub SaysCommand : Command → Bool → (first second : Change) → Status → List ℕ → Type 0
 SaysCommand (Single task at file) hex first second status text =
     (second.new ≡ second.old) × SaysTask task hex at first status text
@@ -51,8 +52,8 @@ SaysCommand (Hobs file image) hex first second status text =
     SaysHobs (option_map (λ i. i.base) image) hex first second status text
 SaysCommand (Compare a b) hex first second status text = SaysComparison hex a.at b.at first second status text
 
--- why a command is refused, by what was read of its inputs: for the fault of an input, of two volumes with its side, or
--- for that of a hand-off list. A task reads nothing of the second
+-- why a command is refused, by what was read of its inputs: a fault of an input, of one of two volumes with its side,
+-- or of a hand-off list. A task reads nothing of the second input
 abbrev pub StopsCommand : Command → Bool → (first second : Change) → Refusal → Type 0
 StopsCommand (Single task at file) hex first second (Input fault) =
     (second.new ≡ second.old) × StopsTask task hex at first fault
@@ -62,24 +63,24 @@ StopsCommand (Hobs file image) hex first second refusal =
 StopsCommand (Compare a b) hex first second (OneOfTwo side fault) = SideStops side hex a.at b.at first second fault
 StopsCommand (Compare a b) hex first second refusal = ⊥
 
--- the text of a run and its status. With no refusal the command says them; with one, the command is refused for it, the
--- text is its line, and the status is Refused
+-- the text and the status of a run. Without a refusal they are those of the command. With a refusal the command is
+-- refused for that reason, the text is the line of the refusal, and the status is Refused
 abbrev pub HasText : Command → Bool → (first second : Change) → Option Refusal → Status → List ℕ → Type 0
 HasText command hex first second None status text = SaysCommand command hex first second status text
 HasText command hex first second (Some refusal) status text =
     StopsCommand command hex first second refusal × (status ≡ Refused) × (text ≡ refusal_line refusal)
 
--- a run of a plan, and how it ended: its text was written, or a write failed in it, or the flush after it
+-- a run of a plan, and how it ended: its text was written, or a write of the text or the flush after it failed
 abbrev pub Runs : Plan → Ending → Ports → Type 0
 Runs p ended ports =
     (ran : Status) × (text : List ℕ) × HasText p.command p.hex ports.first ports.second ended.refusal ran text
     × Ends ran text ports.output ended.status
 
--- what a source shows before anything is read from it
+-- what the port over a source shows before anything is read: the unread bytes, and no failed call
 abbrev pub fresh : {S F : Type 0} → (S → Option (List ℕ)) → (F → Option (List ℕ)) → Source S F → Shown
 fresh of_input of_file source = seen (unread of_input of_file source) false
 
--- a run of the plan, over the sources that it names: the files that opening their paths gives, and standard input
+-- a run of the plan over the sources that it names: what opening its paths returns, and standard input
 abbrev pub RunsOver : {S F : Type 0} → (S → Option (List ℕ)) → (F → Option (List ℕ)) → (List ℕ → Option F → Type 0)
     → (S → Type 0) → Plan → Ending → Change → Type 0
 RunsOver {S} {F} of_input of_file opens is_standard p ended output =

@@ -1,4 +1,4 @@
--- What a run reads, and how it reports what stopped it.
+-- What a run reads, and what stops the reading.
 use Rattle.std.specs.Prelude.{◌≡◌, ◌≤◌, ◌⊎◌, ℕ, Bool, true, false, List, length, take, drop, Option, None, Some}
 use Rattle.fv_base.specs.Words.{ReadsWhole, ReadStops}
 use Rattle.fv_base.specs.declared.fault.Fault.{Fault}
@@ -8,12 +8,12 @@ use Rattle.fv_head.specs.declared.extent.Extent.{Extent}
 use Rattle.fv_tree.specs.Words.{Accepted, IsFirstOfVolume, Meaning}
 use Rattle.fv_text.specs.Words.{SpellsWhole, TextStops, Shown}
 
--- an input was read to its end: as bytes, or as hexadecimal text that spells them
+-- the input was read to its end: as bytes, or as hexadecimal text that spells them
 abbrev pub Gives : Bool → Shown → Shown → List ℕ → Type 0
 Gives false old new input = ReadsWhole old.bytes new.bytes input
 Gives true old new input = SpellsWhole old.bytes new.bytes input
 
--- the volume at byte n of an input: as many bytes from there on as its header says, or all bytes from there on if no
+-- the volume at byte n of an input: as many bytes from there on as its header says; or all bytes from there on, if no
 -- volume begins there (PI specification, volume 3, section 3.2.1)
 abbrev pub At : ℕ → List ℕ → List ℕ → Type 0
 At n input volume =
@@ -25,21 +25,22 @@ abbrev pub TakenAt : Option ℕ → List ℕ → List ℕ → Type 0
 TakenAt None input taken = taken ≡ input
 TakenAt (Some n) input taken = At n input taken
 
--- an input was read to its end, and this is what is taken of it
+-- an input was read to its end, and these bytes are what is taken of it: all of it, or the volume at byte `at`
 abbrev pub GivesAt : Bool → Option ℕ → Shown → Shown → List ℕ → Type 0
 GivesAt hex at old new taken = (input : List ℕ) × Gives hex old new input × TakenAt at input taken
 
--- the reading of an input stopped; if the reader is to blame, one of its calls has failed
+-- reading an input stopped with this fault, or its text spells no bytes; if the fault is a failure of the reader, one
+-- of the reader's calls has failed
 abbrev pub GivingStops : Bool → Shown → Shown → Fault → Type 0
 GivingStops false old new fault =
     ReadStops old.bytes new.bytes fault × (old.erred ≡ false → fault.kind ≡ kinds.ReadFault → new.erred ≡ true)
 GivingStops true old new fault = TextStops old.bytes new.bytes new.erred fault
 
--- an input begins with a volume with this meaning
+-- the input begins with a volume with this meaning
 abbrev pub BeginsWith : List ℕ → Meaning → Type 0
 BeginsWith input m = (n : ℕ) × (n ≤ length input) × Accepted (take n input) m
 
--- an input begins with no volume, and this is the first fault
+-- the input does not begin with a volume, and this is its first fault
 pub record BeginsNone (input : List ℕ) (fault : Fault) : Type 0 where
   pub none : (m : Meaning) → BeginsWith input m → ⊥
   pub first : IsFirstOfVolume input fault

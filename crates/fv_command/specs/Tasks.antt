@@ -1,4 +1,4 @@
--- What the tasks over one input say of it, and what stops them.
+-- The text and the status of each task over one input, and what stops a task.
 use Rattle.std.specs.Prelude.{◌≡◌, ◌↔◌, ℕ, Bool, true, List, ◌++◌, drop, Option, Some, ◌⊎◌, false, codes}
 use Rattle.fv_base.specs.Words.{OrMemory, out_of_memory}
 use Rattle.fv_base.specs.declared.flash.Polarity.{Polarity}
@@ -26,16 +26,17 @@ use Rattle.fv_plan.specs.declared.plan.Task.{Task}
 use Rattle.fv_plan.specs.declared.plan.Task.TheVariants.{Normalise, NormaliseAll, List as Listing, ListSums, Extract}
 use Rattle.fv_plan.specs.declared.plan.Task.TheVariants.{Check, CheckAll, Cells, Scan}
 
--- a volume with this meaning has these cells, which tile it from its first file's offset on, and its erased bytes are
--- of this polarity
+-- a volume with this meaning has these cells and this erase polarity; the cells tile it from the offset of its first
+-- file on
 pub record AreCells (m : Meaning) (b : List ℕ) (polarity : Polarity) (cells : List CellForm) : Type 0 where
   pub extent : Extent
   pub front : BeginsVolume (head_of m) extent b
   pub polarity_is : polarity ≡ extent.polarity
   pub tiles : Tiles extent.file_system polarity extent.first cells (drop extent.first b)
 
--- the input is a volume. The text has a line for each pad that holds bytes which are not erased, and for each
--- dependency expression that is rejected. Its last line says whether the input is the canonical image of its meaning
+-- the input is a volume, and the text is that of `check`: a line for each pad whose data bytes are not all erased, one
+-- for each rejected dependency expression, and a last line. The last line says whether the input is the canonical image
+-- of its meaning
 pub record CheckText (input : List ℕ) (same : Bool) (text : List ℕ) : Type 0 where
   pub meaning : Meaning
   pub accepted : Accepted input meaning
@@ -63,7 +64,7 @@ LeafDigest b digest = digest ≡ Some (sha256 b)
 abbrev pub SumsText : Meaning → List ℕ → Type 0
 SumsText m text = VolumeLines VolumeDigest FileDigest LeafDigest 0 m text
 
--- what is written of a part, and with which status: its bytes, and Done; or `not found` or `not sectioned`, and
+-- the text and the status of an extraction: the bytes of the part, and Done; or `not found` or `not sectioned`, and
 -- Different
 abbrev pub PartText : Bool → Extraction → Status → List ℕ → Type 0
 PartText hex (Made bytes) Done text = ShowsBytes hex bytes text
@@ -72,11 +73,15 @@ PartText hex NotFound Different text = text ≡ codes "not found\n"
 PartText hex NotSectioned Different text = text ≡ codes "not sectioned\n"
 PartText hex x status text = ⊥
 
--- what a task writes of its input, and with which status. `Normalise`: the image of its meaning. `NormaliseAll`: the
--- input, with each volume in it replaced by its image. `Listing` and `ListSums`: the lines of the volume that the input
--- begins with. `Extract`: what the part of that volume comes to. `Check`: the notes and the verdict. `CheckAll`: a line
--- for each volume in the input. `Cells`: the lines of the cells of the volume that the input begins with. `Scan`: the
--- lines of the volumes in the input. With any other status nothing
+-- the text and the status of a task for its input; a task has no text with any other status:
+-- - `Normalise`: the canonical image of the volume that the input is
+-- - `NormaliseAll`: the input, with each volume in it replaced by its canonical image
+-- - `Listing`, `ListSums`: the lines of the volume with which the input begins
+-- - `Extract`: the result of extracting the part from that volume
+-- - `Check`: the notes and the verdict
+-- - `CheckAll`: a line for each volume in the input
+-- - `Cells`: the lines of the cells of the volume with which the input begins
+-- - `Scan`: the lines of the volumes in the input
 abbrev pub Says : Task → Bool → List ℕ → Status → List ℕ → Type 0
 Says Normalise hex input Done text = (image : List ℕ) × NormalisesTo input image × ShowsBytes hex image text
 Says NormaliseAll hex input Done text = (image : List ℕ) × NormalisesAll input image × ShowsBytes hex image text
@@ -92,10 +97,15 @@ Says Cells hex input Done text = CellsText input text
 Says Scan hex input Done text = (offsets : List ℕ) × Found input offsets × ScanText input offsets text
 Says task hex input status text = ⊥
 
--- why a task writes nothing of its input. Memory ran out; or, of `Normalise`, the input is no volume or does not fit;
--- of `NormaliseAll`, a volume in it is so, or it is above the limit; of `Listing`, `ListSums` and `Extract`, it begins
--- with no volume; of `ListSums` and `Extract` also, the volume, or the part, does not fit; of `Check`, it is no volume;
--- of `CheckAll`, it is above the limit; of `Cells`, it begins with no volume whose body cells tile
+-- why a task writes nothing for its input: memory ran out, or one of these reasons:
+-- - `Normalise`: the input is not a volume, or does not fit
+-- - `NormaliseAll`: this is so for a volume in the input, or the input is longer than the limit
+-- - `Listing`: the input does not begin with a volume
+-- - `ListSums`: the input does not begin with a volume, or the volume does not fit
+-- - `Extract`: the input does not begin with a volume, or the part does not fit
+-- - `Check`: the input is not a volume
+-- - `CheckAll`: the input is longer than the limit
+-- - `Cells`: the input does not begin with a volume whose body is tiled by cells
 abbrev pub Denies : Task → List ℕ → Fault → Type 0
 Denies Normalise input fault = OrMemory (Refuses input) fault
 Denies NormaliseAll input fault = OrMemory (RefusesAll input) fault
@@ -110,14 +120,14 @@ Denies CheckAll input fault = OrMemory (IsAboveLimit input) fault
 Denies Cells input fault = OrMemory (NotTiled input) fault
 Denies Scan input fault = fault ≡ out_of_memory
 
--- the input stops the task: while it is read; or it was read to its end, and what is taken of it is rejected, or memory
--- ran out (`Denies`)
+-- the input stops the task: reading it stopped with this fault; or it was read to its end, and what is taken of it is
+-- rejected, or memory ran out (`Denies`)
 abbrev pub StopsTask : Task → Bool → Option ℕ → Change → Fault → Type 0
 StopsTask task hex at input fault =
     GivingStops hex input.old input.new fault
     ⊎ ((bytes : List ℕ) × GivesAt hex at input.old input.new bytes × Denies task bytes fault)
 
--- the input was read to its end, and the task says this text of what is taken of it, with this status (`Says`)
+-- the input was read to its end, and the task has this text and this status for what is taken of it (`Says`)
 abbrev pub SaysTask : Task → Bool → Option ℕ → Change → Status → List ℕ → Type 0
 SaysTask task hex at input status text =
     (bytes : List ℕ) × GivesAt hex at input.old input.new bytes × Says task hex bytes status text

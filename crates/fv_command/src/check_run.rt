@@ -1,4 +1,4 @@
-//! Whether a volume is its own canonical image, and what in it deserves a note.
+//! The command `check`: is a volume its own canonical image, and what in it deserves a note?
 
 ghost use Rattle.std.specs.Prelude.{◌≡◌, ◌⊎◌, ℕ, Bool, List, option_copied, IfErr, IfOk, OnErr};
 ghost use Rattle.fv_base.specs.Words.{out_of_memory};
@@ -17,8 +17,8 @@ use fv_plan::Task;
 use fv_tree::VolumeView;
 use std::alloc::Global;
 
-// Puts the lines of a check of the volume. If `tiled` is None, no pad is noted: the volume is its
-// own canonical image.
+// Puts the lines of `check` for a volume. If `tiled` is None, there are no notes on pads: the
+// volume is its own canonical image.
 fn put_lines<S: Sink>(
     out: &mut S,
     tiled: Option<&(Cells<'_>, Polarity)>,
@@ -33,7 +33,7 @@ fn put_lines<S: Sink>(
     put_verdict(out, is_same);
 }
 
-// Puts the lines of a check of the volume that the input is. Returns whether it is its own
+// Puts the lines of `check` for the input, which is a volume. Returns whether it is its own
 // canonical image.
 fn put_volume_check<S: Sink>(
     alloc: Global,
@@ -52,13 +52,13 @@ fn put_volume_check<S: Sink>(
     Ok(is_same)
 }
 
-/// Puts the lines of a check: one for each pad of the input's volume that holds bytes which are not
-/// erased, one for each dependency expression of its files that is rejected, and last whether the
-/// input is its own canonical image. The status is Done if it is, else Different.
+/// Puts the lines of `check`: one for each pad of the input's volume whose data bytes are not all
+/// erased, one for each rejected dependency expression in its files, and last whether the input is
+/// its own canonical image. Returns Done if it is, otherwise Different.
 ///
 /// # Errors
 ///
-/// Those of `whole_volume`; OutOfMemory. Nothing was put then.
+/// As for `whole_volume`. OutOfMemory. Nothing has been put in that case.
 pub fn put_check<S: Sink>(alloc: Global, input: &[u8], out: &mut S) -> Result<Status, Fault>
     ensures { (hex : Bool) → Performs S.takes Task.Check hex input.now out.old out.new result }
 {

@@ -1,4 +1,4 @@
-//! Two volumes, compared.
+//! The command `compare`.
 
 ghost use Rattle.std.specs.Prelude.{◌≡◌, ℕ, List, IfErr, IfOk, Option};
 ghost use Rattle.fv_compare.specs.Words.{VolumeStops};
@@ -17,7 +17,7 @@ use fv_tree::VolumeView;
 use std::alloc::Global;
 use std::io::Read;
 
-// The bytes of the input of a side.
+// Reads the input of a side. A fault is returned with the side.
 fn read_side<R: Read>(
     alloc: Global,
     hex: bool,
@@ -34,7 +34,7 @@ fn read_side<R: Read>(
     }
 }
 
-// The volume that the bytes of the input of a side are.
+// Returns the volume that the bytes of a side are. A fault is returned with the side.
 fn accept_side(alloc: Global, side: Side, bytes: &[u8]) -> Result<VolumeView<'_>, (Side, Fault)>
     ensures ok { IfOk result (λ view. Accepted bytes.now view) }
     ensures err { IfErr result (λ e. (e.0 ≡ side) × VolumeStops bytes.now e.1) }
@@ -45,7 +45,7 @@ fn accept_side(alloc: Global, side: Side, bytes: &[u8]) -> Result<VolumeView<'_>
     }
 }
 
-// The status of a comparison of two volumes that are the same, or not.
+// Returns the status of a comparison: Done if the volumes are the same, otherwise Different.
 fn verdict(is_same: bool) -> Status
     ensures { result ≡ verdict_of is_same }
 {
@@ -56,9 +56,9 @@ fn verdict(is_same: bool) -> Status
     }
 }
 
-// Puts whether a volume, the first, and the one that the reader gives have the same meaning and, if
-// not, where they first differ. A fault is returned with the side that stopped the run; nothing was
-// put then.
+// Compares the first volume with the volume that the reader gives: puts whether they have the same
+// meaning and, if not, where they first differ. A fault is returned with the side that stopped the
+// run. Nothing has been put in that case.
 fn compare_with<Second: Read, S: Sink>(
     alloc: Global,
     hex: bool,
@@ -67,7 +67,7 @@ fn compare_with<Second: Read, S: Sink>(
     reader: &mut Port<Second>,
     out: &mut S,
 ) -> Result<Status, (Side, Fault)>
-    // Whatever the input is that gives the first volume.
+    // This holds for every input that gives the first volume.
     ensures { (place : Option ℕ) (input : Change) → GivesVolume hex place input volume.now
         → Compares S.takes hex place at input (change Second.remaining reader.old reader.new) out.old out.new result }
 {
@@ -80,13 +80,13 @@ fn compare_with<Second: Read, S: Sink>(
 }
 
 /// Puts whether two volumes have the same meaning and, if not, where they first differ. If `at` is
-/// a number, the first is the volume at this byte of its input. `other_at` says the same of the
-/// second. The second input is read only after a first that is a volume.
+/// a number, the first volume is the one at this byte of its input; `other_at` does the same for
+/// the second. The second input is read only if the first is a volume.
 ///
 /// # Errors
 ///
-/// Those of the reading, of `whole_volume` and of `put_comparison`, with the side that stopped the
-/// run. Nothing was put then.
+/// The faults of reading, of `whole_volume` and of `put_comparison`, with the side that stopped the
+/// run. Nothing has been put in that case.
 pub fn put_compared<First: Read, Second: Read, S: Sink>(
     alloc: Global,
     hex: bool,

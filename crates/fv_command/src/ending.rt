@@ -6,14 +6,14 @@ use fv_compare::Side;
 use fv_hob::HobFault;
 use std::fmt;
 
-/// Why a run was refused. `Display` writes what the fault means, in a sentence.
+/// Why a run was refused. `Display` writes the meaning of the fault, as a sentence.
 #[derive(Clone, Copy, Debug, PartialEq, Eq)]
 pub enum Refusal {
     /// An input was rejected, or memory ran out.
     Input(Fault),
     /// One of two inputs was rejected, or memory ran out.
     OneOfTwo(Side, Fault),
-    /// A hand-off list was rejected, or memory ran out while it was read.
+    /// A hand-off list was rejected, or memory ran out while its blocks were read.
     Hobs(HobFault),
 }
 
@@ -32,7 +32,7 @@ impl fmt::Display for Refusal {
 pub struct Ending {
     /// How the run ended.
     pub status: Status,
-    /// Why the run was refused: the fault whose line it wrote, or tried to write. None if it was
-    /// not refused, or only because a write of its result failed.
+    /// Why the run was refused: the fault whose line it wrote, or tried to write. None if the run
+    /// was not refused, or only because a write of its result failed.
     pub refusal: Option<Refusal>,
 }

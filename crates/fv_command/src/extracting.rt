@@ -1,4 +1,4 @@
-//! The data of a file of a volume, or the body of one of its sections.
+//! Extracting the data of a file, or the body of one of its sections.
 
 ghost use Rattle.std.specs.Prelude.{◌≡◌, ◌⊎◌, IfOk, IfErr};
 ghost use Rattle.fv_base.specs.Words.{out_of_memory};
@@ -14,17 +14,17 @@ use std::alloc::Global;
 /// The result of an extraction.
 #[derive(Drop)]
 pub enum Extraction<'a> {
-    /// These bytes, as they are in the canonical image of the volume.
+    /// The bytes of the part, as they are in the canonical image of the volume.
     Made(ByteList),
-    /// The body of a frame of a security core, as it is stored.
+    /// The body of a frame in the data of a security core, as it is stored.
     Stored(&'a [u8]),
-    /// The volume has no file with the name, or the file has no section of the type and instance.
+    /// The volume has no file with this name, or the file has no section of this type and instance.
     NotFound,
-    /// The file holds no sections.
+    /// A section is requested, but the data of the file are not sections.
     NotSectioned,
 }
 
-// The part of the file: its data, or the body of one of its sections.
+// Returns the part of the file: its data, or the body of one of its sections.
 fn file_part<'a>(alloc: Global, file: &FileView<'a>, part: &Part) -> Result<Extraction<'a>, Fault>
     ensures ok { IfOk result (IsFilePart file.now part.now.section part.now.instance) }
     ensures err { IfErr result (λ f. (f ≡ out_of_memory)
@@ -41,11 +41,11 @@ fn file_part<'a>(alloc: Global, file: &FileView<'a>, part: &Part) -> Result<Extr
     }
 }
 
-/// The part of the volume.
+/// Returns the part of the volume.
 ///
 /// # Errors
 ///
-/// The fault of the first volume inside the part that does not fit. OutOfMemory.
+/// The fault of the first volume in the part that does not fit. OutOfMemory.
 pub fn extract<'a>(
     alloc: Global,
     volume: &VolumeView<'a>,

@@ -1,5 +1,4 @@
-//! The line that a run ends with: that of a wrong command line, or of the fault that stopped the
-//! run.
+//! The line of a run without a result: the arguments are wrong, or a fault stopped the run.
 
 ghost use Rattle.std.specs.Prelude.{◌≡◌, ◌≢◌, ◌++◌, true};
 ghost use Rattle.fv_base.specs.Words.{is_flushed};
@@ -27,7 +26,7 @@ pub(crate) fn put_fault<S: Sink>(out: &mut S, words: &[u8], number: u8, offset: 
     out.put(b"\n");
 }
 
-// Puts the line of the fault of one of two inputs, with the side before it.
+// Puts the line of a fault of one of two inputs, which begins with the name of the side.
 fn put_side_fault<S: Sink>(out: &mut S, side: Side, fault: Fault)
     ensures { S.takes out.old (side_fault_line side fault) out.new }
 {
@@ -40,7 +39,8 @@ fn put_side_fault<S: Sink>(out: &mut S, side: Side, fault: Fault)
 }
 
 /// Puts the line of a refusal: `fault N at M`, with the number of the fault and its offset in
-/// bytes. Before it is `hob` of a hand-off list, and the side of one of two inputs.
+/// bytes. The word `hob` precedes the fault of a hand-off list, and `first` or `second` that of one
+/// of two inputs.
 pub fn put_refusal<S: Sink>(out: &mut S, refusal: Refusal)
     ensures { S.takes out.old (refusal_line refusal) out.new }
 {
@@ -69,21 +69,22 @@ fn write_refusal<W: Write>(writer: &mut Port<W>, refusal: Refusal) -> bool
     is_whole(&out)
 }
 
-/// Writes a line, asks the writer to flush, and returns the status; or Refused if one of them fails.
+/// Writes a line, flushes the writer, and returns the status, or Refused if a write or the flush
+/// fails.
 pub fn say<W: Write>(writer: &mut Port<W>, line: &str, status: Status) -> Status
-    // The line was written, and this status is returned; or a write failed in it, or the flush
-    // after it, and the status is Refused.
+    // Either the line was written, and this status is returned; or a write of the line or the flush
+    // after it failed, and Refused is returned.
     ensures ends { Ends status line.now (change W.contents writer.old writer.new) result }
 
-    // The last call of the writer was a flush, unless the status is Refused.
+    // Unless the status is Refused, the last call to the writer was a flush.
     ensures flushed { result ≢ Status.Refused → is_flushed writer.new ≡ true }
 {
     let is_written = write_line(writer, line.as_bytes());
     finish(writer, is_written, status)
 }
 
-/// Writes the line of a refusal, `fault N at M` with its number and its offset in bytes, asks the
-/// writer to flush, and returns that the run was refused for it.
+/// Writes the line of a refusal (`fault N at M`, with the fault's number and its offset in bytes),
+/// flushes the writer, and returns that the run was refused, and why.
 pub fn refuse<W: Write>(writer: &mut Port<W>, refusal: Refusal) -> Ending
     ensures ends { Ends Status.Refused (refusal_line refusal) (change W.contents writer.old writer.new) result.status }
     ensures why { result.refusal ≡ Some refusal }

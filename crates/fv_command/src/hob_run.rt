@@ -1,4 +1,4 @@
-//! A run over a hand-off list, and the image in which its volumes are looked for.
+//! The command `hobs`: the blocks of a hand-off list, whose volumes are looked up in an image.
 
 ghost use Rattle.std.specs.Prelude.{◌≡◌, ℕ, List, IfOk, IfErr};
 ghost use Rattle.fv_command.specs.PairRuns.{GivesImage, HobImageStops, HobInputStops, SaysHobs, StopsHobs};
@@ -16,8 +16,8 @@ use fv_lines::{MappedImage, put_hobs};
 use std::alloc::Global;
 use std::io::Read;
 
-// The bytes of the image that the reader gives, if there is a base. Without a base nothing is read,
-// and there are no bytes.
+// Reads the image that the reader gives, if there is a base. Without a base nothing is read, and
+// the result is empty.
 fn read_image<R: Read>(
     alloc: Global,
     hex: bool,
@@ -33,7 +33,7 @@ fn read_image<R: Read>(
     }
 }
 
-// The bytes as an image, if there is a base.
+// Returns the bytes as an image at the address `base`, or None if there is no base.
 fn image_of(bytes: &[u8], base: Option<u64>) -> Option<MappedImage<'_>>
     ensures { held_image result ≡ image_form base bytes.now }
 {
@@ -43,8 +43,8 @@ fn image_of(bytes: &[u8], base: Option<u64>) -> Option<MappedImage<'_>>
     }
 }
 
-// The bytes of the hand-off list that the first reader gives and, with a base, those of the image
-// that the second gives.
+// Reads the hand-off list that the first reader gives and, if there is a base, the image that the
+// second reader gives.
 fn read_inputs<First: Read, Second: Read>(
     alloc: Global,
     hex: bool,
@@ -62,12 +62,12 @@ fn read_inputs<First: Read, Second: Read>(
     Ok((list, image))
 }
 
-/// Puts the blocks of the hand-off list that the first reader gives. With a base the second reader
-/// gives an image whose first byte has that address.
+/// Puts the lines of `hobs` for the hand-off list that the first reader gives. If there is a base,
+/// the second reader gives an image whose first byte has that address.
 ///
 /// # Errors
 ///
-/// Those of the reading and of `read_hobs`. Nothing was put then.
+/// The faults of reading, and those of `read_hobs`. Nothing has been put in that case.
 pub fn put_hob_list<First: Read, Second: Read, S: Sink>(
     alloc: Global,
     hex: bool,

@@ -1,4 +1,5 @@
-//! Whether each volume of an image is its own canonical image, or with which fault it is rejected.
+//! The command `check --all`: is each volume of an image its own canonical image, or with which
+//! fault is it rejected?
 
 ghost use Rattle.std.specs.Prelude.{◌≡◌, ◌++◌, Bool, codes};
 ghost use Rattle.std.specs.List.{flat_map, list_any};
@@ -13,7 +14,7 @@ use fv_lines::{put_verdict, put_volume_place};
 use fv_plan::Task;
 use std::alloc::Global;
 
-// Puts the outcome of a volume, and ends its line.
+// Puts the outcome of a volume's check, which ends the volume's line.
 fn put_outcome<S: Sink>(out: &mut S, outcome: VolumeOutcome)
     ensures { S.takes out.old (outcome_line outcome) out.new }
 {
@@ -38,7 +39,7 @@ fn put_check<S: Sink>(out: &mut S, check: &VolumeCheck)
     put_outcome(out, check.outcome);
 }
 
-// Puts the lines of some volumes.
+// Puts the lines of some volumes, in order.
 fn put_checks<S: Sink>(out: &mut S, checks: &[VolumeCheck])
     ensures { S.takes out.old (flat_map checked_line checks.now) out.new }
 {
@@ -47,35 +48,35 @@ fn put_checks<S: Sink>(out: &mut S, checks: &[VolumeCheck])
     }
 }
 
-// Whether the volume is rejected.
+// Returns whether the volume is rejected.
 fn is_rejected(check: &VolumeCheck) -> bool
     ensures { result ≡ is_rejected check.now.outcome }
 {
     matches!(check.outcome, VolumeOutcome::Rejected(_))
 }
 
-// Whether the volume is not its own canonical image.
+// Returns whether the volume is accepted but is not its own canonical image.
 fn is_another(check: &VolumeCheck) -> bool
     ensures { result ≡ is_another check.now.outcome }
 {
     matches!(check.outcome, VolumeOutcome::NotCanonical)
 }
 
-// Whether a volume is rejected.
+// Returns whether any of the volumes is rejected.
 fn has_rejected(checks: &[VolumeCheck]) -> bool
     ensures { result ≡ list_any (λ c. is_rejected c.outcome) checks.now }
 {
     checks.iter().any(is_rejected)
 }
 
-// Whether a volume is not its own canonical image.
+// Returns whether any of the volumes is accepted but is not its own canonical image.
 fn has_another(checks: &[VolumeCheck]) -> bool
     ensures { result ≡ list_any (λ c. is_another c.outcome) checks.now }
 {
     checks.iter().any(is_another)
 }
 
-// The status of some checks, by the worst of them.
+// Returns the status of some checks: the worst check determines it.
 fn status_of(checks: &[VolumeCheck]) -> Status
     ensures { result ≡ checks_status checks.now }
 {
@@ -88,13 +89,14 @@ fn status_of(checks: &[VolumeCheck]) -> Status
     }
 }
 
-/// Puts a line for each volume of the image, in order: where it is, and whether it is its own
-/// canonical image, or the fault with which it is rejected, at its offset in the image. The status
-/// is Faulty if one is rejected, else Different if one is not its own image, else Done.
+/// Puts a line for each volume of the image, in order: its place, and whether it is its own
+/// canonical image or the fault with which it is rejected. The offset of that fault counts from the
+/// first byte of the image. Returns Faulty if a volume is rejected, otherwise Different if a volume
+/// is not its own canonical image, otherwise Done.
 ///
 /// # Errors
 ///
-/// Those of `check_image`. Nothing was put then.
+/// As for `check_image`. Nothing has been put in that case.
 pub fn put_image_check<S: Sink>(alloc: Global, input: &[u8], out: &mut S) -> Result<Status, Fault>
     ensures { (hex : Bool) → Performs S.takes Task.CheckAll hex input.now out.old out.new result }
 {

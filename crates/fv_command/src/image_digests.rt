@@ -1,5 +1,5 @@
-//! The SHA-256 of the volumes in a volume and of their files, as they are in a canonical image, and
-//! of the bodies of leaf sections.
+//! The digests of `list --sums`: the SHA-256 of each volume's canonical image, of each file's data
+//! as they are in that image, and of each leaf section's body.
 
 ghost use Rattle.std.specs.Prelude.{◌≡◌};
 ghost use Rattle.fv_command.specs.Tasks.{FileDigest, LeafDigest, VolumeDigest};
@@ -11,16 +11,17 @@ use fv_lines::Digests;
 use fv_sinks::DigestSink;
 use fv_tree::{FileView, VolumeView};
 
-/// The digests of the volumes that a walk comes to, and of the files in them. They are those of the
-/// canonical image and of its data, which are put again for each.
+/// The digests of the volumes that a walk visits, and of the files in them. Each digest is computed
+/// when it is needed: the canonical image of the volume, or the file's data as they are in it, are
+/// put into a digest sink.
 #[derive(Clone, Copy)]
 pub struct ImageDigests<'s> {
-    /// The starts of a layout that are left: those of the volume that comes next are first.
+    /// The starts of a layout that remain. Those of the next volume come first.
     starts: &'s [u64],
 }
 
 impl<'s> ImageDigests<'s> {
-    /// The digests of what these are the starts of.
+    /// Returns the digests of the volumes to which these starts belong.
     pub fn new(starts: &'s [u64]) -> ImageDigests<'s>
         ensures { result.starts.now ≡ starts.entry.now }
     {

@@ -1,5 +1,5 @@
-//! The images that a task puts: that of a volume, and a flash image with its volumes in canonical
-//! form.
+//! The images that a task puts: the canonical image of a volume, and a flash image in which each
+//! volume is replaced by its canonical image.
 
 ghost use Rattle.std.specs.Prelude.{IfOk, IfErr};
 ghost use Rattle.fv_canon.specs.Words.{NormalisesAll, IsImage};
@@ -14,7 +14,7 @@ use fv_tree::VolumeView;
 use std::alloc::Global;
 use std::marker::Model;
 
-/// A volume that is laid out. Contracts see its meaning.
+/// A volume with its layout. Contracts see the meaning of the volume.
 #[derive(Drop)]
 pub struct LaidVolume<'a> {
     volume: VolumeView<'a>,
@@ -51,11 +51,11 @@ impl<'a> Image for LaidImage<'a> {
     }
 }
 
-/// The volume that the input is, laid out.
+/// Reads the volume that the input is, and lays it out.
 ///
 /// # Errors
 ///
-/// Those of `fv_canon::normalise`.
+/// As for `fv_canon::normalise`.
 pub fn lay_out_volume(alloc: Global, input: &[u8]) -> Result<LaidVolume<'_>, Fault>
     ensures ok { IfOk result (λ laid. Accepted input.now laid) }
     ensures err { IfErr result (Denies Task.Normalise input.now) }

@@ -1,4 +1,4 @@
-//! The bytes of an input.
+//! Reading an input, and selecting a volume in it.
 
 ghost use Rattle.std.specs.Prelude.{IfOk, IfErr};
 ghost use Rattle.fv_command.specs.RunInputs.{Gives, GivingStops, TakenAt};
@@ -14,7 +14,7 @@ use std::io::Read;
 ///
 /// # Errors
 ///
-/// ReadFault at the number of bytes read so far, if the reader fails; Length at the limit, if the
+/// ReadFault at the number of bytes read so far, if the reader fails. Length at the limit, if the
 /// input is longer. For text also ReadFault at 0, if it is not an even number of digits.
 /// OutOfMemory.
 pub fn read_bytes<R: Read>(alloc: Global, hex: bool, reader: &mut Port<R>) -> Result<Vec<u8>, Fault>
@@ -30,9 +30,9 @@ pub fn read_bytes<R: Read>(alloc: Global, hex: bool, reader: &mut Port<R>) -> Re
     }
 }
 
-/// The volume at byte `at` of an input: as many bytes from there on as its header says, or all
-/// bytes from there on if no volume begins there. Past the end of the input there are none. If `at`
-/// is None, the whole input. (PI specification, volume 3, section 3.2.1.)
+/// Returns the volume at byte `at` of an input: as many bytes from there on as its header says. If
+/// no volume begins there, returns all bytes from there on (none, if `at` is past the end of the
+/// input). If `at` is None, returns the whole input. (PI specification, volume 3, section 3.2.1.)
 pub fn taken_at(input: &[u8], at: Option<u64>) -> &[u8]
     ensures { TakenAt at input.now result.now }
 {

@@ -1,9 +1,9 @@
 //! The commands of the program, over readers and a writer.
 //!
-//! A module `.._run` makes a command: it reads or takes the inputs, and puts its text into the sink
-//! of the run. Most lines are those of fv_lines; `fault_text` has the lines of faults. A reader or
-//! a writer is seen by what it has left or holds, if that is known, and by whether one of its calls
-//! has failed.
+//! A `.._run` module runs a command: it reads its inputs, or is given them, and puts its text into
+//! the sink of the run. Most lines are those of fv_lines; the lines of faults are in `fault_text`.
+//! Contracts see a reader by the bytes that it has left and a writer by the bytes that it holds, if
+//! these are known, and both by whether one of their calls has failed.
 #![tactic(auto)]
 
 mod check_run;

@@ -1,4 +1,4 @@
-//! What opens the inputs of a run, and a run over the inputs that its plan names.
+//! Opening the inputs of a run, and running a plan over the inputs that it names.
 
 ghost use Rattle.std.specs.Prelude.{◌≡◌, ◌≢◌, ℕ, List, Option, true, false};
 ghost use Rattle.fv_base.specs.Words.{has_erred, inner_of, is_flushed};
@@ -15,35 +15,35 @@ use fv_plan::Plan;
 use std::alloc::Global;
 use std::io::{Read, Write};
 
-/// What opens the inputs of a run: files by their paths, and standard input. The program opens
-/// those of its process; a test may open others.
+/// Opens the inputs of a run: files by their paths, and standard input. The program opens those of
+/// its process; a test may open others.
 pub trait Opener {
-    /// A file.
+    /// An opened file.
     type File: Read + Drop;
 
     /// Standard input.
     type Standard: Read + Drop;
 
-    /// Opening a path gives this file, or None.
+    /// Opening this path gives this file, or None.
     ghost opens: { Self → List ℕ → Option Self.File → Type 0 };
 
     /// The reader is standard input.
     ghost is_standard: { Self → Self.Standard → Type 0 };
 
-    /// The file at a path; None if it cannot be opened.
+    /// Opens the file at a path. Returns None if it cannot be opened.
     fn file_at(&self, path: &str) -> Option<Self::File>
         ensures { opens self.now path.now result };
 
-    /// Standard input.
+    /// Returns standard input.
     fn standard_input(&self) -> Self::Standard
         ensures { is_standard self.now result };
 
-    /// How many bytes a file is thought to have; 0 if that is not known. A file may have more or
-    /// fewer: nothing but speed depends on it.
+    /// Returns how many bytes a file is expected to have, or 0 if that is not known. The file may
+    /// have more or fewer bytes: nothing but speed depends on the hint.
     fn len_hint(&self, file: &Self::File) -> usize;
 }
 
-// The file at a path; Missing if it cannot be opened.
+// Opens the file at a path. Returns Missing if it cannot be opened.
 fn opened<O: Opener>(opener: &O, path: &str) -> Source<O::Standard, O::File>
     ensures { IsOpened (O.opens opener.now) path.now result }
 {
@@ -53,8 +53,8 @@ fn opened<O: Opener>(opener: &O, path: &str) -> Source<O::Standard, O::File>
     }
 }
 
-// The source of the first input of a plan: the file that it names, or standard input if it names
-// none.
+// Returns the source of a plan's first input: the file that the plan names, or standard input if it
+// names none.
 fn first_source<O: Opener>(opener: &O, plan: &Plan) -> Source<O::Standard, O::File>
     ensures { IsFirstSource (O.opens opener.now) (O.is_standard opener.now) (first_file plan.now.command) result }
 {
@@ -64,7 +64,8 @@ fn first_source<O: Opener>(opener: &O, plan: &Plan) -> Source<O::Standard, O::Fi
     }
 }
 
-// The source of the second input of a plan: the file that it names, or Nothing if it names none.
+// Returns the source of a plan's second input: the file that the plan names, or Nothing if it names
+// none.
 fn second_source<O: Opener>(opener: &O, plan: &Plan) -> Source<O::Standard, O::File>
     ensures { IsSecondSource (O.opens opener.now) (second_file plan.now.command) result }
 {
@@ -74,7 +75,7 @@ fn second_source<O: Opener>(opener: &O, plan: &Plan) -> Source<O::Standard, O::F
     }
 }
 
-// A port over a source. It has room for what a file is thought to have.
+// Returns a port over a source, with room for as many bytes as a file is expected to have.
 fn port_over<O: Opener>(
     opener: &O,
     source: Source<O::Standard, O::File>,
@@ -97,12 +98,12 @@ pub fn run_over<O: Opener, W: Write>(
     plan: &Plan,
     writer: &mut Port<W>,
 ) -> Ending
-    // The first input is the file that the plan names, or standard input, and the second is its
-    // file, if it names one.
+    // The first input is the file that the plan names for it, or standard input. The second input
+    // is the file that the plan names for it, if it names one.
     ensures runs { RunsOver O.Standard.remaining O.File.remaining (O.opens opener.now) (O.is_standard opener.now)
         plan.now result (change W.contents writer.old writer.new) }
 
-    // The last call of the writer was a flush, unless the status is Refused.
+    // Unless the status is Refused, the last call to the writer was a flush.
     ensures flushed { result.status ≢ Status.Refused → is_flushed writer.new ≡ true }
 {
     let first = first_source(opener, plan);

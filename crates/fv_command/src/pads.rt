@@ -1,4 +1,4 @@
-//! The pads of a volume, and the lines for those that hold bytes which are not erased.
+//! The pads of a volume, and the notes of `check` on them.
 
 ghost use Rattle.std.specs.Prelude.{◌≡◌, option_copied, IfOk, IfErr};
 ghost use Rattle.fv_base.specs.Words.{out_of_memory};
@@ -12,7 +12,7 @@ use fv_lines::put_pad_notes;
 use fv_tree::volume_cells;
 use std::alloc::Global;
 
-// The cells of the volume that the input is, and the value of its erased bits.
+// Returns the cells of the volume that the input is, and its erase polarity.
 fn outer_cells(alloc: Global, input: &[u8]) -> Result<(Cells<'_>, Polarity), Fault>
     requires { (m : Meaning) × Accepted input.now m }
     ensures ok { IfOk result (λ r. (m : Meaning) → Accepted input.now m → AreCells m input.now r.1 r.0) }
@@ -22,9 +22,10 @@ fn outer_cells(alloc: Global, input: &[u8]) -> Result<(Cells<'_>, Polarity), Fau
     Ok((list, extent.polarity))
 }
 
-/// The cells of the volume that the input is, and the value of its erased bits; None if the volume
-/// is its own canonical image. In an image, no pad from the first file's offset on holds a byte
-/// that is not erased. So none is noted, and the volume need not be tiled for its pads.
+/// Returns the cells of the volume that the input is, and its erase polarity, or None if the volume
+/// is its own canonical image. In a canonical image, pads from the offset of the first file on
+/// contain only erased data bytes. So there is nothing to note, and the cells do not have to be
+/// read.
 ///
 /// # Errors
 ///
@@ -45,7 +46,7 @@ pub fn noted_cells(
     Ok(Some(tiled))
 }
 
-/// Puts what is noted of the pads among the cells, if the volume was tiled for them.
+/// Puts the notes on the pads among the cells, if the cells were read.
 pub fn put_pads<S: Sink>(out: &mut S, tiled: Option<&(Cells<'_>, Polarity)>)
     ensures { S.takes out.old (noted_pads (option_copied tiled.entry)) out.new }
 {

@@ -1,4 +1,4 @@
-//! The commands, run over readers and a writer.
+//! Running a plan over readers and a writer.
 
 ghost use Rattle.std.specs.Prelude.{◌≡◌, ◌≢◌, ℕ, Bool, List, option_map, true};
 ghost use Rattle.fv_base.specs.Words.{is_flushed};
@@ -19,7 +19,7 @@ use fv_text::GatheringSink;
 use std::alloc::Global;
 use std::io::{Read, Write};
 
-// The address of an image, if there is one.
+// Returns the address of an image, if there is one.
 fn base_of(image: &Option<ImageFile>) -> Option<u64>
     ensures { result ≡ option_map (λ i. i.base) image.now }
 {
@@ -29,7 +29,8 @@ fn base_of(image: &Option<ImageFile>) -> Option<u64>
     }
 }
 
-// Puts what the command of a plan says of its inputs. If it is refused, nothing was put.
+// Puts the text of the plan's command for its inputs. If the command is refused, nothing has been
+// put.
 fn put_command<First: Read, Second: Read, S: Sink>(
     alloc: Global,
     plan: &Plan,
@@ -58,10 +59,10 @@ fn put_command<First: Read, Second: Read, S: Sink>(
     }
 }
 
-// Puts the line of the refusal that stopped a command, if one did. Returns how its run ends if all
-// of the text is written.
+// Puts the line of the refusal that stopped a command, if one did. Returns how the run ends if all
+// of its text is written.
 fn ending_of<S: Sink>(outcome: Result<Status, Refusal>, out: &mut S) -> Ending
-    // Whatever the command is, and the sink before it.
+    // This holds for every command, and for every state of the sink before it.
     ensures { (command : Command) (hex : Bool) (first second : Change) (before : S)
         → PutsCommand S.takes command hex first second before out.old outcome
         → (text : List ℕ) × HasText command hex first second result.refusal result.status text × S.takes before text out.new }
@@ -81,8 +82,8 @@ fn ending_of<S: Sink>(outcome: Result<Status, Refusal>, out: &mut S) -> Ending
     }
 }
 
-// Puts the text of a run of a plan into the sink below, which is returned: small pieces of it are
-// gathered.
+// Puts the text of a run of a plan into the sink `below`, and returns that sink. Small pieces of
+// the text are gathered first.
 fn gather_plan<First: Read, Second: Read, S: Sink>(
     below: S,
     alloc: Global,
@@ -103,11 +104,11 @@ fn gather_plan<First: Read, Second: Read, S: Sink>(
 /// Runs a plan, and writes its result or the line of a fault. A command with one input reads
 /// nothing from the second reader.
 ///
-/// The status is Done, Different or Faulty if the whole result was written. Different is for two
-/// volumes that differ, for a part that does not exist, and for a volume that is not its own image.
-/// Faulty is for an image in which a volume is rejected. Else it is Refused: an input was rejected,
-/// memory ran out, or a write failed. A refusal is returned exactly if an input was rejected or
-/// memory ran out.
+/// If the whole result was written, the status is Done, Different or Faulty. Different means that
+/// two volumes differ, that a part does not exist, or that a volume is not its own canonical image.
+/// Faulty means that a volume of a checked image is rejected. Otherwise the status is Refused: an
+/// input was rejected, memory ran out, or a write failed. A refusal is returned exactly if an input
+/// was rejected or memory ran out.
 pub fn run_plan<First: Read, Second: Read, W: Write>(
     alloc: Global,
     plan: &Plan,
@@ -115,16 +116,17 @@ pub fn run_plan<First: Read, Second: Read, W: Write>(
     second: &mut Port<Second>,
     writer: &mut Port<W>,
 ) -> Ending
-    // The run has a text with a status: what the command says of its inputs, or, if it is refused,
-    // the line of the refusal. All of the text was written, and the run ends with its status; or a
-    // write failed in it, or the flush after it, and the run ends with Refused.
+    // A run has a text and a status: those of the command for its inputs or, if it is refused, the
+    // line of the refusal and Refused. Either all of the text was written, and the run ends with
+    // this status; or a write of the text or the flush after it failed, and the run ends with
+    // Refused.
     ensures runs { Runs plan.now result (record {
       first = change First.remaining first.old first.new;
       second = change Second.remaining second.old second.new;
       output = change W.contents writer.old writer.new;
     }) }
 
-    // The last call of the writer was a flush, unless the status is Refused.
+    // Unless the status is Refused, the last call to the writer was a flush.
     ensures flushed { result.status ≢ Status.Refused → is_flushed writer.new ≡ true }
 {
     let mut ending = Ending {

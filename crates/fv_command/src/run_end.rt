@@ -10,7 +10,7 @@ use crate::status::Status;
 use fv_base::{Port, WriteSink};
 use std::io::Write;
 
-/// Whether all was written that a sink took.
+/// Returns whether everything that a sink took was written.
 pub fn is_whole<W: Write>(out: &WriteSink<'_, W>) -> bool
     ensures { result ≡ is_writing out.now }
 {
@@ -20,10 +20,10 @@ pub fn is_whole<W: Write>(out: &WriteSink<'_, W>) -> bool
     }
 }
 
-/// Ends a run: if all of its text was written, asks the writer to flush. Returns how the run ended:
-/// with its own status, or with Refused if a write or the flush failed.
+/// Ends a run: flushes the writer, if all of the text was written. Returns the status, or Refused
+/// if a write or the flush failed.
 pub fn finish<W: Write>(writer: &mut Port<W>, is_written: bool, status: Status) -> Status
-    // Whatever the text is, and what the writer held before it.
+    // This holds for every text, and for whatever the writer held before it.
     ensures ends { (text : List ℕ) (before : Shown) → Written is_written text before (shown W.contents writer.old)
         → Ends status text (record { old = before; new = shown W.contents writer.new }) result }
     ensures flushed { result ≢ Status.Refused → is_flushed writer.new ≡ true }

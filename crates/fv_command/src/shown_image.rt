@@ -6,9 +6,9 @@ ghost use Rattle.fv_text.specs.Words.{IsHexText, ShowsBytes};
 use fv_base::Sink;
 use fv_text::{HexSink, LentSink};
 
-/// An image that is not kept in memory, and that is put into a sink.
+/// An image that is not kept in memory, but can be put into a sink.
 pub trait Image {
-    /// The bytes are those of the image.
+    /// These bytes are the image.
     ghost is: { Self → List ℕ → Type 0 };
 
     /// Puts the image.
@@ -16,7 +16,7 @@ pub trait Image {
         ensures { (bytes : List ℕ) × is self.now bytes × S.takes out.old bytes out.new };
 }
 
-// Puts the image as lines of digits, and returns the sink.
+// Puts the image into the sink `below`, as lines of digits, and returns that sink.
 fn put_digits<S: Sink, I: Image>(below: S, image: &I) -> S
     ensures { (bytes : List ℕ) × (text : List ℕ) × I.is image.now bytes × IsHexText bytes text
         × S.takes below text result }
@@ -26,7 +26,7 @@ fn put_digits<S: Sink, I: Image>(below: S, image: &I) -> S
     lines.finish()
 }
 
-/// Puts the image: as lines of digits if `hex`, otherwise as it is.
+/// Puts the image: as lines of digits if `hex` is true, otherwise as it is.
 pub fn put_shown_image<S: Sink, I: Image>(out: &mut S, hex: bool, image: &I)
     ensures { (bytes : List ℕ) × (text : List ℕ) × I.is image.now bytes × ShowsBytes hex bytes text
         × S.takes out.old text out.new }

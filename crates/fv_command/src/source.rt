@@ -16,7 +16,7 @@ pub enum Source<S: Read, F: Read> {
     Standard(S),
     /// A file.
     File(F),
-    /// A file that could not be opened: each read fails.
+    /// A file that could not be opened: every read fails.
     Missing,
     /// There is no such input: it has no bytes.
     Nothing,
@@ -26,17 +26,17 @@ impl<S: Read, F: Read> Read for Source<S, F> {
     ghost remaining = { unread S.remaining F.remaining };
 
     fn read(&mut self, buf: &mut [u8]) -> io::Result<usize>
-        // A read gives bytes that the reader or the file gives, or an error. No clause says that it
-        // fails only if that reader or file does.
+        // A read gives bytes of the reader or the file inside, or an error. No clause says that a
+        // read fails only if that reader or file does.
         ensures bound { ReadsAtMost result buf.new }
         ensures bytes { ReadConsumes (unread S.remaining F.remaining self.old) (unread S.remaining F.remaining self.new)
             result buf.new }
 
-        // Each read of a file that could not be opened fails, and is not repeated.
+        // Every read of a file that could not be opened fails with NotFound, so it is not repeated.
         ensures missing { self.old ≡ Source.Missing → (self.new ≡ Source.Missing)
             × IsErrAnd result (λ e. error_kind e ≡ ErrorKind.NotFound) }
 
-        // An input that does not exist is at its end.
+        // A read of an input that does not exist finds its end.
         ensures nothing { self.old ≡ Source.Nothing → (self.new ≡ Source.Nothing) × (result ≡ Ok 0) }
     {
         match self {

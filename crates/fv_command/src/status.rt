@@ -6,11 +6,11 @@ ghost use Rattle.fv_command.specs.Endings.{exit_code};
 /// How a run ended.
 #[derive(Clone, Copy, Debug, PartialEq, Eq)]
 pub enum Status {
-    /// Everything that was asked for was written.
+    /// Everything that was requested was written.
     Done,
-    /// Two inputs, or a volume and its image, differ; or there is no such part.
+    /// Two inputs differ, a volume differs from its canonical image, or a part does not exist.
     Different,
-    /// A volume of an image was rejected, and everything that was asked for was written.
+    /// A volume of an image was rejected, and everything that was requested was written.
     Faulty,
     /// An input was rejected, memory ran out, or a write failed.
     Refused,
@@ -19,7 +19,7 @@ pub enum Status {
 }
 
 impl Status {
-    /// The exit status of the process: 0 for Done, 1 for Different, 2 for Faulty and
+    /// Returns the exit status of the process: 0 for Done, 1 for Different, 2 for Faulty and
     /// Refused, 3 for WrongWords.
     pub fn code(self) -> u8
         ensures { result ≡ exit_code self }

@@ -1,4 +1,4 @@
-//! The tasks over one input.
+//! The tasks: commands over one input.
 
 ghost use Rattle.std.specs.Prelude.{◌≡◌, ◌⊎◌, ℕ, Bool, List, IfOk, IfErr};
 ghost use Rattle.fv_base.specs.Words.{OrMemory, out_of_memory};
@@ -26,7 +26,7 @@ use fv_tree::{VolumeView, read_volume};
 use std::alloc::Global;
 use std::io::Read;
 
-// The volume at the start of the input.
+// Reads the volume at the start of the input.
 fn volume_at_start(alloc: Global, input: &[u8]) -> Result<VolumeView<'_>, Fault>
     ensures ok { IfOk result (λ view. BeginsWith input.now view) }
     ensures err { IfErr result (OrMemory (BeginsNone input.now)) }
@@ -35,7 +35,8 @@ fn volume_at_start(alloc: Global, input: &[u8]) -> Result<VolumeView<'_>, Fault>
     Ok(volume)
 }
 
-// Puts the result of an extraction: the bytes, or that there is no such part.
+// Puts the result of an extraction: the bytes of the part, or a line which says that the part does
+// not exist. Returns the status.
 fn put_part<S: Sink>(out: &mut S, hex: bool, extraction: &Extraction<'_>) -> Status
     ensures { (text : List ℕ) × PartText hex extraction.now result text × S.takes out.old text out.new }
 {
@@ -59,7 +60,7 @@ fn put_part<S: Sink>(out: &mut S, hex: bool, extraction: &Extraction<'_>) -> Sta
     }
 }
 
-// A part of the volume at the start of the input.
+// Extracts a part of the volume at the start of the input.
 fn part_at_start<'a>(alloc: Global, input: &'a [u8], part: &Part) -> Result<Extraction<'a>, Fault>
     ensures ok { IfOk result (λ x. (m : Meaning) × BeginsWith input.now m
         × IsPart (file_named part.now.name (files_of m)) part.now x) }
@@ -69,7 +70,7 @@ fn part_at_start<'a>(alloc: Global, input: &'a [u8], part: &Part) -> Result<Extr
     extract(alloc, &volume, part)
 }
 
-// Puts a part of the volume at the start of the input.
+// Extracts a part of the volume at the start of the input, and puts it.
 fn extract_part<S: Sink>(
     alloc: Global,
     hex: bool,
@@ -83,7 +84,7 @@ fn extract_part<S: Sink>(
     Ok(put_part(out, hex, &extraction))
 }
 
-// Puts the lines of the volume at the start of the input.
+// Puts the lines of `list` for the volume at the start of the input.
 fn list<S: Sink>(alloc: Global, input: &[u8], out: &mut S) -> Result<Status, Fault>
     ensures { (hex : Bool) → Performs S.takes Task.List hex input.now out.old out.new result }
 {
@@ -92,8 +93,8 @@ fn list<S: Sink>(alloc: Global, input: &[u8], out: &mut S) -> Result<Status, Fau
     Ok(Status::Done)
 }
 
-// Puts the lines of the volume at the start of the input, with sums. Nothing is put before the volume
-// is laid out, and after that nothing fails.
+// Puts the lines of `list --sums` for the volume at the start of the input. Nothing is put before
+// the volume is laid out, and nothing fails after that.
 fn list_sums<S: Sink>(alloc: Global, input: &[u8], out: &mut S) -> Result<Status, Fault>
     ensures { (hex : Bool) → Performs S.takes Task.ListSums hex input.now out.old out.new result }
 {
@@ -103,7 +104,7 @@ fn list_sums<S: Sink>(alloc: Global, input: &[u8], out: &mut S) -> Result<Status
     Ok(Status::Done)
 }
 
-// Puts where the cells of the volume at the start of the input lie.
+// Puts the lines of `cells` for the volume at the start of the input.
 fn cells<S: Sink>(alloc: Global, input: &[u8], out: &mut S) -> Result<Status, Fault>
     ensures { (hex : Bool) → Performs S.takes Task.Cells hex input.now out.old out.new result }
 {
@@ -111,7 +112,7 @@ fn cells<S: Sink>(alloc: Global, input: &[u8], out: &mut S) -> Result<Status, Fa
     Ok(Status::Done)
 }
 
-// Puts where volumes begin in the input.
+// Puts the lines of `scan`: where volumes begin in the input.
 fn scan<S: Sink>(alloc: Global, input: &[u8], out: &mut S) -> Result<Status, Fault>
     ensures { (hex : Bool) → Performs S.takes Task.Scan hex input.now out.old out.new result }
 {
@@ -120,8 +121,8 @@ fn scan<S: Sink>(alloc: Global, input: &[u8], out: &mut S) -> Result<Status, Fau
     Ok(Status::Done)
 }
 
-// Puts the result of the task for the input. If it is rejected, or if memory runs out, nothing was
-// put.
+// Puts the result of the task for the input. If the input is rejected, or if memory runs out,
+// nothing has been put.
 fn perform<S: Sink>(
     alloc: Global,
     task: &Task,
@@ -150,12 +151,12 @@ fn perform<S: Sink>(
     }
 }
 
-/// Reads an input to its end, and puts the result of the task for it. If `at` is a number, the
-/// volume at this byte of the input is taken for the input.
+/// Reads an input to its end, and puts the result of the task for it. If `at` is a number, the task
+/// works on the volume at this byte of the input.
 ///
 /// # Errors
 ///
-/// Those of the reading and of the task. Nothing was put then.
+/// The faults of reading, and those of the task. Nothing has been put in that case.
 pub fn put_task<R: Read, S: Sink>(
     alloc: Global,
     task: &Task,

@@ -11,11 +11,11 @@ use Rattle.fv_compare.specs.declared.side.Side.TheVariants as sides
 
 -- ---- two volumes
 
--- the result says whether the two have the same meaning, and the line of where they first differ was written
+-- the result says whether the two have the same meaning, and the line of their comparison was written
 abbrev pub Compares : Meaning → Meaning → Option (List ℕ) → Option (List ℕ) → Bool → Type 0
 Compares m k held holds same = ((same ≡ true) ↔ (m ≡ k)) × Appends held holds (compare_line (difference m k))
 
--- memory ran out before anything was written, which can happen only if the two differ; or the writer stopped in the
+-- memory ran out before anything was written, which can happen only if the two differ; or the writer stopped within the
 -- line
 abbrev pub ComparisonStops : Side → Meaning → Meaning → Option (List ℕ) → Option (List ℕ) → Fault → Type 0
 ComparisonStops sides.First m k held holds fault = Keeps held holds × (fault ≡ out_of_memory) × (m ≢ k)
@@ -24,15 +24,15 @@ ComparisonStops sides.Output m k held holds fault = WriteStops held holds (compa
 
 -- ---- two inputs
 
--- an input was read to its end, and is a volume with this meaning
+-- the input was read to its end, and is a volume with this meaning
 abbrev pub ReadsVolume : Option (List ℕ) → Option (List ℕ) → Meaning → Type 0
 ReadsVolume unread left m = (input : List ℕ) × ReadsWhole unread left input × Accepted input m
 
--- an input that was read to its end is no volume, or it begins with the header of one and memory ran out
+-- an input that was read to its end is not a volume, or it begins with a volume header and memory ran out
 abbrev pub VolumeStops : List ℕ → Fault → Type 0
 VolumeStops input fault = MemoryRanOut input fault ⊎ NotRead input fault
 
--- an input stopped the run: while it was read, or after its end
+-- an input stopped the run: while it was read, or after it had been read to its end
 abbrev pub InputSideStops : Option (List ℕ) → Option (List ℕ) → Fault → Type 0
 InputSideStops unread left fault =
     ReadStops unread left fault ⊎ ((input : List ℕ) × ReadsWhole unread left input × VolumeStops input fault)
@@ -43,8 +43,8 @@ RunCompares unread left unread' left' held holds same =
     (m : Meaning) × (k : Meaning) × ReadsVolume unread left m × ReadsVolume unread' left' k
     × Compares m k held holds same
 
--- the side says what stopped the run. The second input is read only after a first that is a volume. Nothing is written
--- before both are read; then the line is written, and the writer may stop in it
+-- the side says what stopped the run. The second input is read only if the first is a volume. Nothing is written before
+-- both are read; then the line is written, and the writer may stop within it
 abbrev pub SideStopsRun : Side → (unread left unread' left' held holds : Option (List ℕ)) → Fault → Type 0
 SideStopsRun sides.First unread left unread' left' held holds fault =
     Keeps held holds

@@ -7,12 +7,12 @@ use Rattle.fv_compare.specs.declared.difference.Step.TheVariants as steps
 use Rattle.fv_compare.specs.declared.difference.Word.{Word}
 use Rattle.fv_compare.specs.declared.difference.Word.TheVariants as words
 
--- a step, followed by a space
+-- the text of a step, followed by a space
 abbrev pub step_text : Step → List ℕ
 step_text (steps.File number) = codes "file " ++ (decimal number ++ codes " ")
 step_text (steps.Section number) = codes "section " ++ (decimal number ++ codes " ")
 
--- the steps from the outer volume down
+-- the text of the steps, from the outer volume down
 abbrev pub path_text : List Step → List ℕ
 path_text [] = []
 path_text (s ∷ ss) = step_text s ++ path_text ss
@@ -37,7 +37,7 @@ difference_word words.Form = codes "form"
 difference_word words.Shape = codes "shape"
 difference_word words.Body = codes "body"
 
--- the line for where two volumes first differ, or for two volumes with the same meaning
+-- the line for two volumes: where they first differ, or `same` if they have the same meaning
 abbrev pub compare_line : Differs → List ℕ
 compare_line None = codes "same" ++ line_feed
 compare_line (Some d) = codes "different at " ++ (path_text d.0 ++ (difference_word d.1 ++ line_feed))

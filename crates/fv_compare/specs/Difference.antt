@@ -16,7 +16,7 @@ use Rattle.fv_compare.specs.declared.difference.Step.TheVariants as steps
 use Rattle.fv_compare.specs.declared.difference.Word.{Word}
 use Rattle.fv_compare.specs.declared.difference.Word.TheVariants as words
 
--- the file system is FFS3
+-- whether the file system is FFS3
 abbrev pub is_ffs3 : FileSystem → Bool
 is_ffs3 Ffs2 = false
 is_ffs3 Ffs3 = true
@@ -44,25 +44,25 @@ ext_eq = option_eq (λ (x : Extension) (y : Extension).
 
 -- ---- a path and a kind of difference
 
--- the steps down to where two meanings differ, and the kind of difference; or None if they are equal
+-- the steps that lead to the first difference of two meanings, and its kind; or None if the meanings are equal
 abbrev pub Differs : Type 0
 Differs = Option (List Step × Word)
 
--- two meanings differ, and steps lead down to where
+-- whether two meanings differ and at least one step leads to the difference
 abbrev pub has_steps : Differs → Bool
 has_steps (Some (s ∷ ss, word)) = true
 has_steps _ = false
 
--- a difference of this kind, here
+-- a difference of this kind, without steps
 abbrev pub differ_in : Word → Differs
 differ_in word = Some ([], word)
 
--- a difference of this kind here, unless the test is true
+-- a difference of this kind, without steps, unless the test is true
 abbrev pub unless_one : Bool → Word → Differs
 unless_one true word = None
 unless_one false word = differ_in word
 
--- the same difference, seen from one level further out
+-- the same difference, with this step put first, as seen from one level further out
 abbrev pub under : Step → Differs → Differs
 under s None = None
 under s (Some d) = Some (s ∷ d.0, d.1)
@@ -82,12 +82,12 @@ head_differs h g =
     (unless_one (ext_eq h.ext g.ext) words.ExtendedHeader))))))
 
 abbrev mutual
-  -- where two volumes first differ: in their headers, then in the files that both have, in order, then in how many they
-  -- have
+  -- where two volumes first differ: in their headers, then in the files that both have, in order, then in the number of
+  -- files
   pub difference : Meaning → Meaning → Differs
   difference (Volume h fs) (Volume g gs) = option_or (head_differs h g) (files_differ 0 fs gs)
 
-  -- compares lists of files; i is the number of the first file
+  -- compares two lists of files; i is the number of their first files
   pub files_differ : ℕ → FileMeanings → FileMeanings → Differs
   files_differ i NoFiles NoFiles = None
   files_differ i NoFiles (MoreFiles g gs) = differ_in words.FileCount
@@ -95,15 +95,15 @@ abbrev mutual
   files_differ i (MoreFiles f fs) (MoreFiles g gs) =
       option_or (under (steps.File i) (file_differs f g)) (files_differ (i + 1) fs gs)
 
-  -- compares the names of two files, their types, their attributes, and then their content
+  -- compares two files: their names, their types, their attributes, and then their contents
   pub file_differs : FileMeaning → FileMeaning → Differs
   file_differs (File n k a c) (File m l b d) =
       option_or (unless_one (bytes_eq (bytes_of n) (bytes_of m)) words.Name)
       (option_or (unless_one (k == l) words.Type)
       (option_or (unless_one (a == b) words.Attributes) (content_differs c d)))
 
-  -- compares bytes; or the sections that both have, in order, how many they have, and how many bytes follow the last.
-  -- Bytes and sections differ too: no two accepted files of one type do so
+  -- compares bytes; or sections: those that both have, in order, then their number, then the number of bytes after the
+  -- last. Bytes also differ from sections, but two accepted files of one type never differ in this way
   pub content_differs : ContentMeaning → ContentMeaning → Differs
   content_differs (Plain b) (Plain c) = unless_one (bytes_eq b c) words.Data
   content_differs (Plain b) (Sectioned ss t) = differ_in words.Data
@@ -111,7 +111,7 @@ abbrev mutual
   content_differs (Sectioned ss t) (Sectioned rs u) =
       option_or (sections_differ 0 ss rs) (unless_one (t == u) words.Tail)
 
-  -- compares lists of sections; i is the number of the first section
+  -- compares two lists of sections; i is the number of their first sections
   pub sections_differ : ℕ → SectionMeanings → SectionMeanings → Differs
   sections_differ i NoSections NoSections = None
   sections_differ i NoSections (MoreSections r rs) = differ_in words.SectionCount
@@ -119,12 +119,12 @@ abbrev mutual
   sections_differ i (MoreSections s ss) (MoreSections r rs) =
       option_or (under (steps.Section i) (section_differs s r)) (sections_differ (i + 1) ss rs)
 
-  -- compares the types of two sections, the forms of their headers, and then their bodies
+  -- compares two sections: their types, the forms of their headers, and then their bodies
   pub section_differs : SectionMeaning → SectionMeaning → Differs
   section_differs (Section k e b) (Section l f c) =
       option_or (unless_one (k == l) words.Type) (option_or (unless_one (beq e f) words.Form) (body_differs b c))
 
-  -- compares what the bodies are, bytes, a group or a volume, and then the bytes, the sections or the volumes
+  -- compares two bodies: whether they are bytes, a group or a volume, and then the bytes, the sections or the volumes
   pub body_differs : BodyMeaning → BodyMeaning → Differs
   body_differs (Leaf b) (Leaf c) = unless_one (bytes_eq b c) words.Body
   body_differs (Leaf b) (Group rs u) = differ_in words.Shape

@@ -1,4 +1,4 @@
-//! From two inputs to the line that says where their volumes first differ.
+//! Comparing two volumes, or two inputs, with a line that shows where they first differ.
 
 ghost use Rattle.std.specs.Prelude.{◌≡◌, ◌≢◌, ◌↔◌, ◌≤◌, length, true, false};
 ghost use Rattle.std.specs.Prelude.{IfOk, IfErr, OnOk, OnErr};
@@ -16,14 +16,14 @@ use fv_tree::{VolumeView, whole_volume};
 use std::alloc::Global;
 use std::io::{Read, Write};
 
-/// Puts whether two volumes have the same meaning and, if not, where they first differ: a line
-/// `same`, or `different at` with the steps down to there, each `file` or `section` with its number,
-/// and the kind of the difference. Returns true if they have the same meaning. (PI specification,
-/// volume 3, section 3.2.)
+/// Puts a line that says whether two volumes have the same meaning and, if not, where they first
+/// differ. The line is `same`, or `different at` followed by the steps that lead to the difference,
+/// each `file` or `section` with its number, and by the kind of the difference. Returns true if the
+/// volumes have the same meaning. (PI specification, volume 3, section 3.2.)
 ///
 /// # Errors
 ///
-/// OutOfMemory, only if they differ. Nothing was put then.
+/// OutOfMemory, only if the volumes differ. In that case nothing was put into the sink.
 pub fn put_comparison<S: Sink>(
     alloc: Global,
     first: &VolumeView<'_>,
@@ -34,51 +34,51 @@ pub fn put_comparison<S: Sink>(
     ensures line { OnOk result (S.takes out.old (compare_line (difference first.now second.now)) out.new) }
     ensures err { IfErr result (λ f. (f ≡ out_of_memory) × (first.now ≢ second.now)) }
 
-    // After an error the sink is as it was.
+    // After an error the sink is as it was before the call.
     ensures untouched { OnErr result (out.new ≡ out.old) }
 
     // The line has at most 553 bytes.
     ensures short { OnOk result (length (compare_line (difference first.now second.now)) ≤ 553) }
 {
-    // In a volume that was read, groups and volumes nest so little that a difference has at most 18
-    // steps.
+    // In a volume that was read, groups and volumes nest only so deep that a difference has at most
+    // 18 steps.
     first.known();
     let found = first_difference(alloc, first, second)?;
     put_line(out, found.as_ref());
     Ok(found.is_none())
 }
 
-/// Writes whether two volumes have the same meaning and, if not, where they first differ: a line
-/// `same`, or `different at` with the steps down to there, each `file` or `section` with its
-/// number, and the kind of the difference. Returns true if they have the same meaning. (PI
-/// specification, volume 3, section 3.2.)
+/// Writes a line that says whether two volumes have the same meaning and, if not, where they first
+/// differ. The line is `same`, or `different at` followed by the steps that lead to the difference,
+/// each `file` or `section` with its number, and by the kind of the difference. Returns true if the
+/// volumes have the same meaning. (PI specification, volume 3, section 3.2.)
 ///
 /// # Errors
 ///
-/// OutOfMemory, with the first side; nothing was written then. WriteFault at the number of bytes
-/// written, with the output; exactly that many bytes of the line were written then.
+/// OutOfMemory, with the side First: nothing was written. WriteFault at the number of bytes
+/// written, with the side Output: exactly that many bytes of the line were written.
 pub fn write_comparison<W: Write>(
     alloc: Global,
     first: &VolumeView<'_>,
     second: &VolumeView<'_>,
     writer: &mut Port<W>,
 ) -> Result<bool, (Side, Fault)>
-    // The result says whether they have the same meaning, and the line was written.
+    // The result says whether the volumes have the same meaning, and the line was written.
     ensures ok { IfOk result (Compares first.now second.now
         (W.contents (inner_of writer.old)) (W.contents (inner_of writer.new))) }
 
-    // The side is the first with OutOfMemory, after which nothing was written; or the output with
-    // WriteFault. It is never the second.
+    // With OutOfMemory the side is First, and nothing was written. With WriteFault the side is
+    // Output. The side is never Second.
     ensures err { IfErr result (λ e. ComparisonStops e.0 first.now second.now
         (W.contents (inner_of writer.old)) (W.contents (inner_of writer.new)) e.1) }
 
-    // After Ok the port has erred only if it had before.
+    // After Ok the port has erred exactly if it had erred before the call.
     ensures writer_fine { OnOk result (has_erred writer.new ≡ has_erred writer.old) }
 
-    // After any error other than WriteFault the port is as it was.
+    // After any error other than WriteFault the port is as it was before the call.
     ensures untouched { IfErr result (λ e. e.1.kind ≢ FaultKind.WriteFault → writer.new ≡ writer.old) }
 
-    // WriteFault has the side of the output, and is returned only if the port has erred.
+    // WriteFault comes with the side Output, and is returned only if the port has erred.
     ensures writer_erred { IfErr result (λ e. e.1.kind ≡ FaultKind.WriteFault
         → (e.0 ≡ Side.Output) × (has_erred writer.new ≡ true)) }
 {
@@ -112,7 +112,7 @@ fn read_side<R: Read>(
     }
 }
 
-// The volume of the whole input of a side.
+// Returns the volume that is the whole input of a side.
 fn accept_side(alloc: Global, side: Side, input: &[u8]) -> Result<VolumeView<'_>, (Side, Fault)>
     ensures ok { IfOk result (λ view. Accepted input.now view) }
     ensures err { IfErr result (λ e. (e.0 ≡ side) × VolumeStops input.now e.1) }
@@ -124,37 +124,37 @@ fn accept_side(alloc: Global, side: Side, input: &[u8]) -> Result<VolumeView<'_>
     }
 }
 
-/// Reads two inputs to their ends, the second only after a first that is a volume, and writes the
-/// line of `write_comparison`. Returns true if they have the same meaning. The inputs and their
-/// views are kept in memory. (PI specification, volume 3, section 3.2.)
+/// Reads two inputs to their ends and writes the line of `write_comparison` for their volumes.
+/// Reads the second input only if the first is a volume. Returns true if the volumes have the same
+/// meaning. Keeps the inputs and their views in memory. (PI specification, volume 3, section 3.2.)
 ///
 /// # Errors
 ///
-/// The side that stopped the run, with the fault. For an input: ReadFault at the number of bytes
-/// read so far, Length at the limit if more bytes come, and the faults of `whole_volume`. If memory
-/// runs out while the two are compared, the side is the first. In all these cases nothing was
-/// written. And the faults of `write_comparison`.
+/// The side that stopped the run, with the fault. For an input, the fault is ReadFault at the
+/// number of bytes read so far, Length at the limit if more bytes come, or a fault of
+/// `whole_volume`. If memory runs out during the comparison, the side is First. In all these cases
+/// nothing was written. The errors of `write_comparison` are returned too.
 pub fn run_compare<R: Read, Q: Read, W: Write>(
     alloc: Global,
     first: &mut Port<R>,
     second: &mut Port<Q>,
     writer: &mut Port<W>,
 ) -> Result<bool, (Side, Fault)>
-    // Both inputs were read to their ends, and are volumes. The result says whether they have the
-    // same meaning, and the line was written.
+    // Both inputs were read to their ends, and both are volumes. The result says whether they have
+    // the same meaning, and the line was written.
     ensures ok { IfOk result (RunCompares (R.remaining (inner_of first.old)) (R.remaining (inner_of first.new))
         (Q.remaining (inner_of second.old)) (Q.remaining (inner_of second.new))
         (W.contents (inner_of writer.old)) (W.contents (inner_of writer.new))) }
 
-    // The side and the fault say what stopped the run. Nothing is read of the second input unless
-    // the first is a volume, and nothing is written unless both are.
+    // The side and the fault say what stopped the run. The second input is read only if the first
+    // is a volume, and nothing is written unless both are.
     ensures err { IfErr result (λ e. SideStopsRun e.0
         (R.remaining (inner_of first.old)) (R.remaining (inner_of first.new))
         (Q.remaining (inner_of second.old)) (Q.remaining (inner_of second.new))
         (W.contents (inner_of writer.old)) (W.contents (inner_of writer.new)) e.1) }
 
-    // A fault of a reader or of the writer has its own side, and is returned only if its port has
-    // erred.
+    // A fault of a reader or of the writer comes with the side of that port, and is returned only
+    // if the port has erred.
     ensures first_erred { has_erred first.old ≡ false
         → IfErr result (λ e. e.0 ≡ Side.First → e.1.kind ≡ FaultKind.ReadFault → has_erred first.new ≡ true) }
     ensures second_erred { has_erred second.old ≡ false

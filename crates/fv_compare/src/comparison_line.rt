@@ -1,4 +1,4 @@
-//! The line of a comparison, put into a sink.
+//! Putting the line of a comparison into a sink.
 
 ghost use Rattle.std.specs.Prelude.{◌≤◌, ◌+◌, ◌*◌, ◌≡◌, length, option_copied, Some, IfSome};
 ghost use Rattle.fv_compare.specs.ComparisonLines.{compare_line, path_text, step_text, difference_word};
@@ -7,7 +7,7 @@ use crate::difference::{Difference, Step, Word};
 use fv_base::Sink;
 use fv_text::put_decimal;
 
-// Puts a step: whether it goes to a file or to a section, its number, and a space.
+// Puts a step: `file` or `section`, its number, and a space.
 fn put_step<S: Sink>(out: &mut S, step: Step)
     ensures text { S.takes out.old (step_text step) out.new }
     ensures short { length (step_text step) ≤ 29 }
@@ -36,7 +36,7 @@ fn put_path<S: Sink>(out: &mut S, steps: &[Step])
     }
 }
 
-// The text of a kind of difference.
+// Returns the text of a kind of difference.
 fn difference_word(word: Word) -> &'static str
     ensures text { result.now ≡ difference_word word }
     ensures short { length result.now ≤ 17 }
@@ -62,7 +62,7 @@ fn difference_word(word: Word) -> &'static str
     }
 }
 
-// Puts the line for where two volumes first differ.
+// Puts the line that shows where two volumes first differ.
 fn put_difference<S: Sink>(out: &mut S, difference: &Difference)
     ensures line { S.takes out.old (compare_line (Some difference.now)) out.new }
     ensures short { length (compare_line (Some difference.now)) ≤ 31 + 29 * length difference.now.0 }
@@ -73,7 +73,7 @@ fn put_difference<S: Sink>(out: &mut S, difference: &Difference)
     out.put(b"\n");
 }
 
-// Puts the line for two volumes: where they differ, or that they have the same meaning.
+// Puts the line for two volumes: where they first differ, or that they have the same meaning.
 pub(crate) fn put_line<S: Sink>(out: &mut S, found: Option<&Difference>)
     requires few { IfSome (option_copied found) (λ d. length d.0 ≤ 18) }
     ensures line { S.takes out.old (compare_line (option_copied found.entry)) out.new }

@@ -25,7 +25,7 @@ pub enum Step {
     Section(u64),
 }
 
-/// The kind of a difference between two volumes, at the place that the steps lead to. (PI
+/// The kind of the difference between two volumes at the place to which the steps lead. (PI
 /// specification, volume 3, section 3.2.)
 #[derive(Clone, Copy, Debug, PartialEq, Eq)]
 pub enum Word {
@@ -41,10 +41,10 @@ pub enum Word {
     Reserved,
     /// The block maps of the volumes (section 3.2.1).
     BlockMap,
-    /// The extended headers of the volumes: their names, their entries, or what follows those
-    /// (section 3.2.1.2).
+    /// The extended headers of the volumes: their names, their entries, or the bytes after the
+    /// entries (section 3.2.1.2).
     ExtendedHeader,
-    /// The number of files; the files that both volumes have are the same.
+    /// The numbers of files. The files that both volumes have are the same.
     FileCount,
     /// The names of the files (section 3.2.3).
     Name,
@@ -52,17 +52,17 @@ pub enum Word {
     Type,
     /// The attributes of the files (section 3.2.3).
     Attributes,
-    /// The data of the files, if they are not sections.
+    /// The data of the files, unless both hold sections.
     Data,
-    /// The number of sections; the sections that both streams have are the same.
+    /// The numbers of sections. The sections that both streams have are the same.
     SectionCount,
-    /// The number of bytes after the last section.
+    /// The numbers of bytes after the last section.
     Tail,
     /// The forms of the sections' headers: one is extended, the other is not (section 3.2.4).
     Form,
-    /// Whether the sections hold bytes, sections or a volume (section 3.2.5).
+    /// What the sections hold: bytes, sections or a volume (section 3.2.5).
     Shape,
-    /// The bytes of the sections, if these hold neither sections nor a volume.
+    /// The bytes of the sections, if both are leaves.
     Body,
 }
 
@@ -85,14 +85,14 @@ impl Model for Difference {
 }
 
 impl Difference {
-    /// The steps from the outer volumes down to the values that differ.
+    /// Returns the steps from the outer volumes down to the values that differ.
     pub fn steps(&self) -> &[Step]
         ensures { result.now ≡ self.now.0 }
     {
         self.steps.as_slice()
     }
 
-    /// The kind of the difference.
+    /// Returns the kind of the difference.
     pub fn word(&self) -> Word
         ensures { result ≡ self.now.1 }
     {
@@ -100,7 +100,7 @@ impl Difference {
     }
 }
 
-// A difference of this kind, with no step.
+// Returns a difference of this kind, without steps.
 fn differ_in(alloc: Global, word: Word) -> Difference
     ensures { outermost_first (Some result) ≡ differ_in word }
 {
@@ -110,8 +110,8 @@ fn differ_in(alloc: Global, word: Word) -> Difference
     }
 }
 
-// The difference, seen from one level further out. While it is found, its steps are kept from the
-// innermost out.
+// Returns the difference as seen from one level further out. During the search, the steps are kept
+// from the innermost out.
 fn under(step: Step, found: Difference) -> Result<Difference, Fault>
     ensures ok { IfOk result (λ d. outermost_first (Some d) ≡ under step (outermost_first (Some found))) }
     ensures err { IfErr result (λ f. f ≡ out_of_memory) }
@@ -121,10 +121,10 @@ fn under(step: Step, found: Difference) -> Result<Difference, Fault>
     Ok(found)
 }
 
-// What a walk returns that looks for a difference.
+// What a search for a difference returns.
 type Found = Result<Option<Difference>, Fault>;
 
-// Returns a difference of this kind, with no step, unless this holds.
+// Returns a difference of this kind, without steps, unless the condition holds.
 macro_rules! return_unless {
     ($alloc:expr, $holds:expr, $word:expr) => {
         if !$holds {
@@ -133,7 +133,7 @@ macro_rules! return_unless {
     };
 }
 
-// Where two streams first differ, with the steps from the innermost out.
+// Returns where two streams first differ, with the steps from the innermost out.
 #[cycle(differ)]
 fn stream_difference(
     alloc: Global,
@@ -155,7 +155,7 @@ fn stream_difference(
     Ok(None)
 }
 
-// The same for two sections.
+// Does the same for two sections.
 #[cycle(differ)]
 fn section_difference(alloc: Global, section: &SectionView, other: &SectionView) -> Found
     ensures { ReturnsDifference result (section_differs section.now other.now) }
@@ -165,7 +165,7 @@ fn section_difference(alloc: Global, section: &SectionView, other: &SectionView)
     body_difference(alloc, section.body(), other.body())
 }
 
-// The same for the bodies of two sections.
+// Does the same for the bodies of two sections.
 #[cycle(differ)]
 fn body_difference(alloc: Global, body: Body, other: Body) -> Found
     ensures { ReturnsDifference result (body_differs (body_view body.entry) (body_view other.entry)) }
@@ -190,7 +190,7 @@ fn body_difference(alloc: Global, body: Body, other: Body) -> Found
     }
 }
 
-// The same for the contents of two files.
+// Does the same for the contents of two files.
 #[cycle(differ)]
 fn content_difference(alloc: Global, content: &Content, other: &Content) -> Found
     ensures { ReturnsDifference result (content_differs (content_view content.now) (content_view other.now)) }
@@ -211,7 +211,7 @@ fn content_difference(alloc: Global, content: &Content, other: &Content) -> Foun
     }
 }
 
-// The same for two files.
+// Does the same for two files.
 #[cycle(differ)]
 fn file_difference(alloc: Global, file: &FileView, other: &FileView) -> Found
     ensures { ReturnsDifference result (file_differs file.now other.now) }
@@ -226,7 +226,7 @@ fn file_difference(alloc: Global, file: &FileView, other: &FileView) -> Found
     content_difference(alloc, file.content(), other.content())
 }
 
-// The same for the files of two volumes.
+// Does the same for the files of two volumes.
 #[cycle(differ)]
 fn files_difference(alloc: Global, files: &[FileView], others: &[FileView]) -> Found
     ensures { ReturnsDifference result (files_differ 0 (files_from files.now) (files_from others.now)) }
@@ -240,7 +240,7 @@ fn files_difference(alloc: Global, files: &[FileView], others: &[FileView]) -> F
     Ok(None)
 }
 
-// The same for two volumes.
+// Does the same for two volumes.
 #[cycle(differ)]
 fn volume_difference(alloc: Global, volume: &VolumeView, other: &VolumeView) -> Found
     ensures { ReturnsDifference result (difference volume.now other.now) }
@@ -251,18 +251,20 @@ fn volume_difference(alloc: Global, volume: &VolumeView, other: &VolumeView) -> 
     files_difference(alloc, volume.files(), other.files())
 }
 
-/// Where the meanings of two volumes first differ, or None if the two have the same meaning.
+/// Returns where the meanings of two volumes first differ, or None if the volumes have the same
+/// meaning.
 ///
-/// Their headers are compared first, field by field. Then the files that both have are compared in
-/// order, and then the numbers of files. For a file, the name, the type and the attributes are
-/// compared, and then the data; or, if the data are sections, the sections that both have in order,
-/// the numbers of sections, and the numbers of bytes after the last. For a section, the type, the
-/// form of its header, and whether it holds bytes, sections or a volume are compared, and then what
-/// it holds. The work is linear in the two volumes. (PI specification, volume 3, section 3.2.)
+/// The headers are compared first, field by field, then the files that both volumes have, in order,
+/// and then the numbers of files. In a file, the name, the type and the attributes are compared,
+/// and then the data. If the data are sections, the sections that both files have are compared in
+/// order, then the numbers of sections, and then the numbers of bytes after the last section. In a
+/// section, the type and the form of the header are compared, then whether it holds bytes, sections
+/// or a volume, and then what it holds. The work is linear in the size of the two volumes. (PI
+/// specification, volume 3, section 3.2.)
 ///
 /// # Errors
 ///
-/// OutOfMemory at 0, only if they differ at a place to which steps lead.
+/// OutOfMemory at 0, only if at least one step leads to the first difference.
 pub fn first_difference(
     alloc: Global,
     a: &VolumeView,
@@ -270,13 +272,13 @@ pub fn first_difference(
 ) -> Result<Option<Difference>, Fault>
     ensures first { IfOk result (λ o. o ≡ difference a.now b.now) }
 
-    // None says that the two have the same meaning.
+    // None means that the volumes have the same meaning.
     ensures same { IfOk result (λ o. IfNone o (a.now ≡ b.now)) }
 
-    // A difference says that they have not.
+    // A difference means that they do not.
     ensures differ { IfOk result (λ o. IfSome o (λ _. a.now ≢ b.now)) }
 
-    // Memory runs out only if they differ at a place to which steps lead.
+    // Memory runs out only if at least one step leads to the first difference.
     ensures memory { IfErr result (λ _. (a.now ≢ b.now) × (has_steps (difference a.now b.now) ≡ true)) }
 
     // The only error is OutOfMemory.

@@ -7,14 +7,14 @@ ghost use Rattle.fv_compare.specs.inner.FoundDifferences.{in_word};
 use crate::difference::Word;
 use fv_head::{ExtEntry, ExtHeader, VolumeHead};
 
-// Whether two block maps are equal.
+// Returns whether two block maps are equal.
 fn same_blocks(a: &[(u32, u32)], b: &[(u32, u32)]) -> bool
     ensures { result ≡ blocks_eq a.now b.now }
 {
     a == b
 }
 
-// Whether the entries of two extended headers are equal.
+// Returns whether the entries of two extended headers are equal.
 fn same_entries(a: &[ExtEntry<'_>], b: &[ExtEntry<'_>]) -> bool
     ensures { result ≡ entries_eq a.now b.now }
 {
@@ -29,7 +29,7 @@ fn same_entries(a: &[ExtEntry<'_>], b: &[ExtEntry<'_>]) -> bool
     true
 }
 
-// Whether two extended headers are equal.
+// Returns whether two extended headers are equal.
 fn same_ext(a: Option<&ExtHeader<'_>>, b: Option<&ExtHeader<'_>>) -> bool
     ensures { result ≡ ext_eq (option_copied a.entry) (option_copied b.entry) }
 {
@@ -42,7 +42,7 @@ fn same_ext(a: Option<&ExtHeader<'_>>, b: Option<&ExtHeader<'_>>) -> bool
     }
 }
 
-// The kind of the first difference between two headers.
+// Returns the kind of the first difference between two headers, or None if they are equal.
 pub(crate) fn head_word(head: &VolumeHead<'_>, other: &VolumeHead<'_>) -> Option<Word>
     ensures { in_word result ≡ head_differs head.now other.now }
 {

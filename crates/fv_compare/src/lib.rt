@@ -1,5 +1,5 @@
-//! Where two firmware volumes first differ: in memory, as a line, and by a run over two inputs. All
-//! its calls take memory, except those of `Difference`.
+//! Where two firmware volumes first differ: as a value, as a line, and by a run that reads two
+//! inputs. All calls take memory, except those of `Difference`.
 #![tactic(auto)]
 
 mod compare;

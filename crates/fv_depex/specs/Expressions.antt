@@ -27,13 +27,13 @@ postfix (negated t) = postfix t ++ (ops.Not ∷ [])
 postfix (both t u) = postfix t ++ (postfix u ++ (ops.And ∷ []))
 postfix (either t u) = postfix t ++ (postfix u ++ (ops.Or ∷ []))
 
--- the ops are those of a tree and then END; before them may be SOR, except in PEI, which has no SOR
+-- the ops are those of the tree t, followed by END; if the phase is DXE, SOR may precede them
 pub record IsTree (phase : Phase) (all : List Op) (t : Expression) : Type 0 where
   pub sor : List Op
   pub joined : all ≡ sor ++ (postfix t ++ (ops.End ∷ []))
   pub sor_is : (sor ≡ []) ⊎ ((sor ≡ ops.Sor ∷ []) × (phase ≡ Dxe))
 
--- the ops are BEFORE or AFTER with a GUID, and then END; PEI has neither
+-- the ops are BEFORE or AFTER with a GUID, followed by END, and the phase is DXE
 pub record IsOrder (phase : Phase) (all : List Op) : Type 0 where
   pub guid : Guid
   pub joined : (all ≡ ops.Before guid ∷ ops.End ∷ []) ⊎ (all ≡ ops.After guid ∷ ops.End ∷ [])
@@ -53,42 +53,43 @@ op_code ops.False = 0x07
 op_code ops.End = 0x08
 op_code ops.Sor = 0x09
 
--- the GUID that an op carries, by its bytes
+-- the bytes of the GUID that an op carries, if it carries one
 abbrev pub op_operand : Op → List ℕ
 op_operand (ops.Before g) = bytes_of g
 op_operand (ops.After g) = bytes_of g
 op_operand (ops.Push g) = bytes_of g
 op_operand _ = []
 
--- the bytes of ops: for each its code, and its GUID if it carries one
+-- the bytes of some ops: the code of each op, followed by its GUID if it carries one
 abbrev pub ops_bytes : List Op → List ℕ
 ops_bytes [] = []
 ops_bytes (o ∷ os) = op_code o ∷ (op_operand o ++ ops_bytes os)
 
--- a code that carries a GUID
+-- whether an op with this code carries a GUID
 abbrev pub carries : ℕ → Bool
 carries code = nat_le code 2
 
--- the length of an op's operand: a GUID has 16 bytes
+-- the length of an op's operand in bytes: 16 if the op carries a GUID, otherwise 0
 abbrev pub operand_len : Bool → ℕ
 operand_len true = 16
 operand_len false = 0
 
--- the operand of an op is as long as its code requires
+-- the operand of the op o has the length that the op's code requires
 abbrev pub IsSized : Op → Type 0
 IsSized o = length (op_operand o) ≡ operand_len (carries (op_code o))
 
--- b is the ops and then the rest, and the ops are a complete expression of the phase
+-- the bytes b spell these ops and this rest: b is the bytes of the ops followed by rest, and the ops are a complete
+-- expression of the phase, each with an operand of the right length
 pub record Spells (phase : Phase) (all : List Op) (rest b : List ℕ) : Type 0 where
   pub joined : b ≡ ops_bytes all ++ rest
   pub whole : ((t : Expression) × IsTree phase all t) ⊎ IsOrder phase all
   pub sized : AllByRecursion IsSized all
 
--- whether a GUID is among those installed
+-- whether the GUID g is among the installed ones
 abbrev pub is_among : Guid → List Guid → Bool
 is_among g set = list_any (λ h. bytes_eq (bytes_of h) (bytes_of g)) set
 
--- the truth value of a tree when these GUIDs are installed
+-- the truth value of a tree when exactly these GUIDs are installed
 abbrev pub truth : List Guid → Expression → Bool
 truth set always = true
 truth set never = false
@@ -97,12 +98,12 @@ truth set (negated t) = not (truth set t)
 truth set (both t u) = truth set t && truth set u
 truth set (either t u) = truth set t || truth set u
 
--- a dependency expression: a phase, the ops up to END, and the bytes after it
+-- a dependency expression: its phase, its ops up to END, and the bytes after END
 pub record DepexForm : Type 0 where
   pub phase : Phase
   pub ops : List Op
   pub rest : List ℕ
 
--- some bytes spell this expression: true of every `Depex`
+-- some bytes spell this expression, which is true of every `Depex`
 abbrev pub IsReadDepex : DepexForm → Type 0
 IsReadDepex d = (b : List ℕ) × Spells d.phase d.ops d.rest b

@@ -1,4 +1,4 @@
--- The checks of an op in a fixed order, and the first fault of an expression.
+-- The checks of an op in order, and the first fault of an expression.
 use Rattle.std.specs.Prelude.{◌≡◌, ◌≢◌, ℕ, ◌+◌, ◌-◌, ◌==◌, nat_le, ◌&&◌, ◌||◌, not, Bool, true, if◌then◌else◌, List, []}
 use Rattle.std.specs.Prelude.{◌∷◌, ◌++◌, length, slice_index}
 use Rattle.fv_base.specs.Words.{Check, IsFirstFault}
@@ -13,35 +13,38 @@ use Rattle.fv_depex.specs.declared.op_stage.Stage.{Stage}
 use Rattle.fv_depex.specs.declared.op_stage.Stage.TheVariants as stages
 use Rattle.fv_depex.specs.Expressions.{carries, op_code, op_operand, ops_bytes, IsSized}
 
--- a code that the phase has: 02 to 08 in PEI, 00 to 09 in DXE
+-- whether the phase has this op code: 02 to 08 in PEI, 00 to 09 in DXE
 abbrev pub has_code : Phase → ℕ → Bool
 has_code Pei code = nat_le 2 code && nat_le code 8
 has_code Dxe code = nat_le code 9
 
--- BEFORE, AFTER and SOR may only be first, and only END may follow BEFORE or AFTER
+-- whether an op with this code is allowed at this stage: BEFORE, AFTER and SOR only as the first op, and only END after
+-- BEFORE or AFTER
 abbrev pub in_place : Stage → ℕ → Bool
 in_place stages.Start code = true
 in_place stages.Ordered code = code == 8
 in_place (stages.Values n) code = nat_le 2 code && nat_le code 8
 
--- n values are enough for the code: AND and OR take two, NOT takes one, and END needs exactly one
+-- whether a stack of n values is right for an op with this code: AND and OR need at least two, NOT needs at least one,
+-- and END exactly one
 abbrev pub has_values : ℕ → ℕ → Bool
 has_values n code =
     if (code == 3) || (code == 4) then nat_le 2 n
     else (if code == 5 then nat_le 1 n
     else (if code == 8 then n == 1 else true))
 
--- the stack holds what the code takes; after BEFORE or AFTER the stack is empty, and END takes nothing
+-- whether the stack holds the values that an op with this code takes; after BEFORE or AFTER the stack is empty, and END
+-- takes nothing
 abbrev pub holds_values : Stage → ℕ → Bool
 holds_values stages.Start code = has_values 0 code
 holds_values stages.Ordered code = (code == 8) || has_values 0 code
 holds_values (stages.Values n) code = has_values n code
 
--- r has the GUID that its code carries, or the code carries none
+-- whether r holds the GUID of the op at its start, if that op carries one
 abbrev pub has_operand : List ℕ → Bool
 has_operand r = not (carries (slice_index r 0)) || nat_le 17 (length r)
 
--- a check of an op, by the kind of its fault
+-- a check of an op: whether it holds, and the kind of its fault
 abbrev pub op_check : Bool → DepexFaultKind → Check DepexFaultKind
 op_check holds kind = record { holds = holds; fault = kind }
 
@@ -55,7 +58,7 @@ op_checks phase stage r =
     ∷ op_check (holds_values stage (slice_index r 0)) kinds.Stack
     ∷ []
 
--- how many values are on the stack after an op, if there were n before it
+-- the number of values on the stack after an op, if there were n before it
 abbrev pub values_after : ℕ → Op → ℕ
 values_after n (ops.Push g) = n + 1
 values_after n ops.True = n + 1
@@ -64,41 +67,42 @@ values_after n ops.And = n - 1
 values_after n ops.Or = n - 1
 values_after n _ = n
 
--- how many values are on the stack at a stage
+-- the number of values on the stack at a stage
 abbrev pub values_of : Stage → ℕ
 values_of (stages.Values n) = n
 values_of _ = 0
 
--- the stage after an op: BEFORE or AFTER was read, or how many values are on the stack
+-- the stage after an op: BEFORE or AFTER has been read, or the stack holds a number of values
 abbrev pub stage_after : Stage → Op → Stage
 stage_after stage (ops.Before g) = stages.Ordered
 stage_after stage (ops.After g) = stages.Ordered
 stage_after stage o = stages.Values (values_after (values_of stage) o)
 
--- an op that is allowed at this stage
+-- the phase allows the op o at this stage
 pub record OpFits (phase : Phase) (stage : Stage) (o : Op) : Type 0 where
   pub known : has_code phase (op_code o) ≡ true
   pub placed : in_place stage (op_code o) ≡ true
   pub valued : holds_values stage (op_code o) ≡ true
   pub sized : IsSized o
 
--- r begins with an op that is allowed at this stage
+-- r begins with the op o, which is allowed at this stage
 pub record BeginsOp (phase : Phase) (stage : Stage) (o : Op) (r : List ℕ) : Type 0 where
   pub fits : OpFits phase stage o
   pub behind : List ℕ
   pub joined : r ≡ op_code o ∷ (op_operand o ++ behind)
 
--- b begins with an op that may be the first
+-- b begins with an op that is allowed as the first op
 abbrev pub BeginsFirstOp : Phase → List ℕ → Type 0
 BeginsFirstOp phase b = (o : Op) × BeginsOp phase stages.Start o b
 
--- a sequence of ops, none of them END, each allowed at the stage that the one before it leads to; `final` is the stage
--- after the last
+-- ops of which none is END, each allowed at the stage to which the previous op leads; `final` is the stage after the
+-- last op
 abbrev pub OpPath : Phase → Stage → List Op → Stage → Type 0
 OpPath phase stage [] final = stage ≡ final
 OpPath phase stage (o ∷ os) final = OpFits phase stage o × (o ≢ ops.End) × OpPath phase (stage_after stage o) os final
 
--- some allowed ops are read up to the fault's offset, and the fault is that of the first check there that does not hold
+-- b begins with allowed ops, none of them END, up to the fault's offset; the fault is that of the first check that
+-- fails for the op there
 pub record IsFirstOpFault (phase : Phase) (b : List ℕ) (fault : DepexFault) : Type 0 where
   pub before : List Op
   pub stage : Stage
@@ -108,7 +112,7 @@ pub record IsFirstOpFault (phase : Phase) (b : List ℕ) (fault : DepexFault) : 
   pub place : fault.offset ≡ length (ops_bytes before)
   pub kind_is : IsFirstFault (op_checks phase stage r) fault.kind
 
--- the fault of every call when memory runs out: OutOfMemory at 0
+-- the fault that every call returns when memory runs out: OutOfMemory at offset 0
 abbrev pub depex_out_of_memory : DepexFault
 depex_out_of_memory = record { kind = kinds.OutOfMemory; offset = 0 }
 

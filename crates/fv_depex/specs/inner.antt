@@ -1,2 +1,2 @@
--- Definitions that serve only private clauses: there is nothing to believe here.
+-- Definitions that only private clauses use. A reviewer need not read them.
 pub mod Ops

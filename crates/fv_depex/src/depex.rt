@@ -1,4 +1,4 @@
-//! A dependency expression.
+//! Dependency expressions.
 
 ghost use Rattle.std.specs.Prelude.{◌≡◌};
 ghost use Rattle.fv_depex.specs.Expressions.{IsReadDepex};
@@ -7,8 +7,8 @@ use crate::op::{Op, Phase};
 use fv_base::ByteList;
 use std::marker::Model;
 
-/// A dependency expression; only `read_depex` makes one. It has the ops, the last of which is END,
-/// and the bytes after END. (PI specification, volume 1, section 3.4, and volume 2, section 10.7.)
+/// A dependency expression: its ops, the last of which is END, and the bytes after END. Only
+/// `read_depex` makes one. (PI specification, volume 1, section 3.4, and volume 2, section 10.7.)
 #[derive(Drop)]
 pub struct Depex {
     phase: Phase,
@@ -27,7 +27,7 @@ impl Model for Depex {
 }
 
 impl Depex {
-    // The expression with these ops and this rest.
+    // Makes the expression with these ops and this rest.
     pub(crate) fn from_parts(phase: Phase, ops: Vec<Op>, rest: ByteList) -> Depex
         requires { IsReadDepex (record { phase = phase; ops = ops.items; rest = rest }) }
         ensures { result ≡ record { phase = phase; ops = ops.items; rest = rest } }
@@ -35,27 +35,28 @@ impl Depex {
         Depex { phase, ops, rest }
     }
 
-    /// The phase that it was read for.
+    /// Returns the phase for which the expression was read.
     pub fn phase(&self) -> Phase
         ensures phase { result ≡ self.now.phase }
 
-        // Some bytes spell the expression.
+        // Some bytes spell this expression.
         ensures read { IsReadDepex self.now }
     {
         self.phase
     }
 
-    /// The ops in the order of their bytes (postfix: operands first), END last.
+    /// Returns the ops in the order of their bytes: in postfix notation, operands first, with END
+    /// last.
     pub fn ops(&self) -> &[Op]
         ensures ops { result.now ≡ self.now.ops }
 
-        // Some bytes spell the expression.
+        // Some bytes spell this expression.
         ensures read { IsReadDepex self.now }
     {
         self.ops.as_slice()
     }
 
-    /// The bytes after END, kept as found.
+    /// Returns the bytes after END, as they were read.
     pub fn rest(&self) -> &[u8]
         ensures { result.now ≡ self.now.rest }
     {

@@ -1,4 +1,4 @@
-//! Why an expression was rejected.
+//! The reasons for which an expression is rejected.
 
 ghost use Rattle.std.specs.Prelude.{◌≡◌};
 ghost use Rattle.fv_depex.specs.OpChecks.{depex_fault_number, depex_out_of_memory};
@@ -6,36 +6,37 @@ ghost use Rattle.fv_depex.specs.OpChecks.{depex_fault_number, depex_out_of_memor
 use std::alloc::{AllocError, AllocFailed};
 use thiserror::Error;
 
-/// Why an expression was rejected. Each variant also says at which offset, in bytes from the first
-/// byte that was passed to the call. (PI specification, volume 1, section 3.4, and volume 2,
-/// section 10.7.)
+/// The reason why an expression was rejected. The description of each variant includes the offset
+/// of the fault, in bytes from the first byte that was passed to the call. (PI specification,
+/// volume 1, section 3.4, and volume 2, section 10.7.)
 #[derive(Clone, Copy, Debug, PartialEq, Eq, Error)]
 pub enum DepexFaultKind {
-    /// Fewer than 16 bytes are left for the GUID of BEFORE, AFTER or PUSH. At the op's code.
+    /// Fewer than 16 bytes are left for the GUID of BEFORE, AFTER or PUSH. The offset is that of
+    /// the op's code.
     #[error("the GUID of an op is cut")]
     Short,
-    /// An op code that the phase does not have: PEI has 0x02 to 0x08, DXE 0x00 to 0x09. At that
-    /// code.
+    /// The phase does not have this op code: PEI has 0x02 to 0x08, DXE 0x00 to 0x09. The offset is
+    /// that of the code.
     #[error("the code of an op is not known")]
     Opcode,
     /// The stack holds fewer than two values at AND or OR, none at NOT, or not exactly one at END
-    /// (after BEFORE or AFTER, END takes none). At the op's code.
+    /// (after BEFORE or AFTER, END takes none). The offset is that of the op's code.
     #[error("the stack does not hold what an op takes")]
     Stack,
-    /// The bytes end before END. At their end.
+    /// The bytes end before END. The offset is that of their end.
     #[error("the expression has no end")]
     NoEnd,
-    /// BEFORE, AFTER or SOR that is not first, or an op other than END after BEFORE or AFTER. At
-    /// the op's code.
+    /// BEFORE, AFTER or SOR is not the first op, or an op other than END follows BEFORE or AFTER.
+    /// The offset is that of the op's code.
     #[error("an op stands where it may not")]
     Position,
-    /// Memory ran out. At 0.
+    /// Memory ran out. The offset is 0.
     #[error("out of memory")]
     OutOfMemory,
 }
 
 impl DepexFaultKind {
-    /// The number of the kind: 1 to 6, in the order above.
+    /// Returns the number of this kind of fault: 1 to 6, in the order of the variants.
     pub fn number(self) -> u8
         ensures { result ≡ depex_fault_number self }
     {
@@ -56,13 +57,13 @@ impl DepexFaultKind {
 pub struct DepexFault {
     /// The kind of the fault.
     pub kind: DepexFaultKind,
-    /// The offset in bytes from the first byte that was passed to the call: that of the op's code,
-    /// or where one is missing, or 0 for OutOfMemory.
+    /// The offset of the fault, in bytes from the first byte that was passed to the call: that of
+    /// the op's code, or of the end of the bytes if an op is missing, or 0 for OutOfMemory.
     pub offset: u64,
 }
 
 impl DepexFault {
-    /// The number of the fault's kind, 1 to 6.
+    /// Returns the number of the fault's kind, 1 to 6.
     pub fn number(self) -> u8
         ensures { result ≡ depex_fault_number self.kind }
     {
@@ -70,13 +71,13 @@ impl DepexFault {
     }
 }
 
-/// The fault of every call when memory runs out.
+/// The fault that every call returns when memory runs out.
 const WANT_OF_MEMORY: DepexFault = DepexFault {
     kind: DepexFaultKind::OutOfMemory,
     offset: 0,
 };
 
-/// OutOfMemory at 0.
+/// Converts to OutOfMemory at offset 0.
 impl From<AllocError> for DepexFault {
     ghost from_gives = { λ _ f. f ≡ depex_out_of_memory };
 
@@ -85,7 +86,7 @@ impl From<AllocError> for DepexFault {
     }
 }
 
-/// OutOfMemory at 0.
+/// Converts to OutOfMemory at offset 0.
 impl<T: Drop> From<AllocFailed<T>> for DepexFault {
     ghost from_gives = { λ _ f. f ≡ depex_out_of_memory };
 

@@ -1,5 +1,5 @@
-//! Dependency expressions, the bodies of depex sections: read, written and evaluated. (PI
-//! specification, volume 1, section 3.4, and volume 2, section 10.7.)
+//! Dependency expressions, which are the bodies of depex sections: reading, writing and evaluating
+//! them. (PI specification, volume 1, section 3.4, and volume 2, section 10.7.)
 #![tactic(auto)]
 
 mod depex;

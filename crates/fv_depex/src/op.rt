@@ -2,27 +2,27 @@
 
 use fv_base::Guid;
 
-/// The phase that evaluates an expression. Those of the MM phase are read as DXE ones. (PI
+/// The phase that evaluates an expression. Expressions of the MM phase are read as DXE ones. (PI
 /// specification, volume 1, section 3.4, and volume 2, section 10.7.)
 #[derive(Clone, Copy, Debug, PartialEq, Eq)]
 pub enum Phase {
-    /// PEI (volume 1), which has no BEFORE, AFTER and SOR: op codes 0x02 to 0x08.
+    /// PEI (volume 1): op codes 0x02 to 0x08, without BEFORE, AFTER and SOR.
     Pei,
     /// DXE (volume 2): op codes 0x00 to 0x09.
     Dxe,
 }
 
-/// An op of a dependency expression: one step on a stack of truth values. (PI specification, volume
-/// 1, section 3.4, and volume 2, section 10.7.)
+/// An op of a dependency expression, which is one step of its evaluation on a stack of truth
+/// values. (PI specification, volume 1, section 3.4, and volume 2, section 10.7.)
 #[derive(Clone, Copy, Debug, PartialEq, Eq)]
 pub enum Op {
-    /// EFI_DEP_BEFORE, 0x00: right before the driver whose file has this name. It is the first op,
-    /// and END follows it. DXE only.
+    /// EFI_DEP_BEFORE, 0x00: the driver is dispatched right before the one whose file has this
+    /// name. It must be the first op, and END must follow it. DXE only.
     Before(Guid),
-    /// EFI_DEP_AFTER, 0x01: right after the driver whose file has this name. It is the first op,
-    /// and END follows it. DXE only.
+    /// EFI_DEP_AFTER, 0x01: the driver is dispatched right after the one whose file has this name.
+    /// It must be the first op, and END must follow it. DXE only.
     After(Guid),
-    /// EFI_DEP_PUSH, 0x02: pushes whether the protocol with this GUID, in PEI the PPI, is
+    /// EFI_DEP_PUSH, 0x02: pushes whether the protocol (in PEI, the PPI) with this GUID is
     /// installed.
     Push(Guid),
     /// EFI_DEP_AND, 0x03: pops two values, and pushes whether both are true.
@@ -35,9 +35,9 @@ pub enum Op {
     True,
     /// EFI_DEP_FALSE, 0x07: pushes false.
     False,
-    /// EFI_DEP_END, 0x08: the end. The one value on the stack is that of the expression.
+    /// EFI_DEP_END, 0x08: ends the expression, whose value is the only value on the stack.
     End,
-    /// EFI_DEP_SOR, 0x09: schedule on request, which does not change the value. It is the first op,
-    /// and an expression follows it. DXE only.
+    /// EFI_DEP_SOR, 0x09: schedule on request, which does not change the value. It must be the
+    /// first op, and an expression must follow it. DXE only.
     Sor,
 }

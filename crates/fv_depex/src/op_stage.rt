@@ -1,22 +1,22 @@
-//! How far the reading of an expression has come.
+//! The stage that the reading of an expression has reached.
 
 ghost use Rattle.std.specs.Prelude.{◌≡◌, ◌<◌, ◌^◌};
 ghost use Rattle.fv_depex.specs.OpChecks.{values_after, values_of, stage_after};
 
 use crate::op::Op;
 
-/// What the ops so far have left.
+/// The state of an expression after the ops that have been read so far.
 #[derive(Clone, Copy, Debug, PartialEq, Eq)]
 pub enum Stage {
-    /// There were none.
+    /// No op has been read.
     Start,
-    /// BEFORE or AFTER, which END has to follow.
+    /// BEFORE or AFTER has been read, and END must follow.
     Ordered,
-    /// This many values on the stack.
+    /// The stack holds this many values.
     Values(u64),
 }
 
-// How many values are on the stack at a stage.
+// Returns the number of values on the stack at a stage.
 fn values_of(stage: Stage) -> u64
     ensures { result ≡ values_of stage }
 {
@@ -26,7 +26,7 @@ fn values_of(stage: Stage) -> u64
     }
 }
 
-// How many values are on the stack after an op, if there were `count` before it.
+// Returns the number of values on the stack after an op, if there were `count` before it.
 fn values_after(count: u64, op: &Op) -> u64
     requires { count < 2 ^ 63 }
     ensures { result ≡ values_after count op.now }
@@ -38,7 +38,7 @@ fn values_after(count: u64, op: &Op) -> u64
     }
 }
 
-/// The stage after an op.
+/// Returns the stage after an op.
 pub fn stage_after(stage: Stage, op: &Op) -> Stage
     requires { values_of stage < 2 ^ 63 }
     ensures { result ≡ stage_after stage op.now }

@@ -1,5 +1,5 @@
-//! The codes of ops (PI specification, volume 2, section 10.7): an op's first byte. Both reading
-//! and writing use them.
+//! The op codes (PI specification, volume 2, section 10.7): the first byte of each op. Both the
+//! reader and the writer use them.
 
 ghost use Rattle.std.specs.Prelude.{◌≡◌};
 ghost use Rattle.fv_depex.specs.Expressions.{op_code};
@@ -12,7 +12,7 @@ pub const BEFORE: u8 = 0x00;
 /// EFI_DEP_AFTER, followed by a GUID.
 pub const AFTER: u8 = 0x01;
 
-/// EFI_DEP_PUSH, followed by a GUID: the highest code that carries one, and PEI's lowest code.
+/// EFI_DEP_PUSH, followed by a GUID: the highest code with a GUID, and PEI's lowest code.
 pub const PUSH: u8 = 0x02;
 
 /// EFI_DEP_AND.
@@ -37,7 +37,8 @@ pub const END: u8 = 0x08;
 pub const SOR: u8 = 0x09;
 
 impl Op {
-    /// The op code, 0x00 (EFI_DEP_BEFORE) to 0x09 (EFI_DEP_SOR): the first byte of the op.
+    /// Returns the op code, which is the first byte of the op: 0x00 (EFI_DEP_BEFORE) to 0x09
+    /// (EFI_DEP_SOR).
     pub fn code(&self) -> u8
         ensures { result ≡ op_code self.now }
     {

@@ -1,4 +1,4 @@
-//! Expressions, read.
+//! Reading dependency expressions.
 
 ghost use Rattle.std.specs.Prelude.{◌≡◌, ◌≢◌, ◌≤◌, ◌+◌, ℕ, List, length, drop, true, None, Some, OnOk, IfOk, IfErr, IfSome};
 ghost use Rattle.fv_base.specs.Words.{IsFirstFault};
@@ -18,13 +18,13 @@ use fv_base::field::bytes_from;
 use fv_base::{ByteList, guid_at};
 use std::alloc::Global;
 
-/// The offset of the GUID of an op: right after its code.
+/// The offset of an op's GUID in the op: right after its code.
 const OPERAND: usize = 1;
 
-/// The length of an op that carries a GUID: its code, and the 16 bytes of the GUID.
+/// The length of an op with a GUID: 1 byte for its code, and 16 for the GUID.
 const WITH_GUID: usize = 17;
 
-// Whether the phase has this op code.
+// Returns whether the phase has this op code.
 fn has_code(phase: Phase, code: u8) -> bool
     ensures { result ≡ has_code phase code }
 {
@@ -34,8 +34,8 @@ fn has_code(phase: Phase, code: u8) -> bool
     }
 }
 
-// Whether an op with this code is allowed here: BEFORE, AFTER and SOR only as the first, and only
-// END after BEFORE or AFTER.
+// Returns whether an op with this code is allowed at this stage: BEFORE, AFTER and SOR only as the
+// first op, and only END after BEFORE or AFTER.
 fn in_place(stage: Stage, code: u8) -> bool
     ensures { result ≡ in_place stage code }
 {
@@ -46,7 +46,8 @@ fn in_place(stage: Stage, code: u8) -> bool
     }
 }
 
-// Whether `count` values are enough for an op with this code.
+// Returns whether a stack of `count` values is right for an op with this code: AND and OR need at
+// least two, NOT needs at least one, and END exactly one.
 fn has_values(count: u64, code: u8) -> bool
     ensures { result ≡ has_values count code }
 {
@@ -61,8 +62,8 @@ fn has_values(count: u64, code: u8) -> bool
     }
 }
 
-// Whether the stack holds the values that an op with this code takes. After BEFORE or AFTER, END
-// takes none.
+// Returns whether the stack holds the values that an op with this code takes. After BEFORE or
+// AFTER, END takes none.
 fn holds_values(stage: Stage, code: u8) -> bool
     ensures { result ≡ holds_values stage code }
 {
@@ -73,14 +74,14 @@ fn holds_values(stage: Stage, code: u8) -> bool
     }
 }
 
-// Whether an op with this code carries a GUID.
+// Returns whether an op with this code carries a GUID.
 fn carries(code: u8) -> bool
     ensures { result ≡ carries code }
 {
     code <= opcode::PUSH
 }
 
-// Whether the GUID of the op at the front is there, if the op carries one.
+// Returns whether the op at the start of `rest` has its GUID, if it carries one.
 fn has_operand(rest: &[u8]) -> bool
     requires { 1 ≤ length rest.now }
     ensures { result ≡ has_operand rest.now }
@@ -88,7 +89,7 @@ fn has_operand(rest: &[u8]) -> bool
     !carries(rest[0]) || rest.len() >= WITH_GUID
 }
 
-// Ok, or the kind of the first check that does not hold.
+// Returns Ok, or the kind of fault of the first check that fails for the op at the start of `rest`.
 fn check_op(rest: &[u8], phase: Phase, stage: Stage) -> Result<(), DepexFaultKind>
     ensures ok { OnOk result (first_fault (op_checks phase stage rest.now) ≡ None) }
     ensures err { IfErr result (λ kind. first_fault (op_checks phase stage rest.now) ≡ Some kind) }
@@ -112,7 +113,7 @@ fn check_op(rest: &[u8], phase: Phase, stage: Stage) -> Result<(), DepexFaultKin
     Ok(())
 }
 
-// The op at the front.
+// Returns the op at the start of `rest`.
 fn op_in(rest: &[u8]) -> Op
     requires some { 1 ≤ length rest.now }
     requires operand { has_operand rest.now ≡ true }
@@ -132,14 +133,14 @@ fn op_in(rest: &[u8]) -> Op
     }
 }
 
-// The number of bytes of an op.
+// Returns the number of bytes of an op.
 fn op_len(op: &Op) -> usize
     ensures { result ≡ 1 + operand_len (carries (op_code op.now)) }
 {
     if carries(op.code()) { WITH_GUID } else { 1 }
 }
 
-// The op at an offset, or the first fault there.
+// Returns the op at the offset `at`, or the first fault there.
 fn op_at(bytes: &[u8], at: usize, phase: Phase, stage: Stage) -> Result<Op, DepexFault>
     requires { at ≤ length bytes.now }
     ensures found { IfOk result (λ o. BeginsOp phase stage o (drop at bytes.now)) }
@@ -156,7 +157,7 @@ fn op_at(bytes: &[u8], at: usize, phase: Phase, stage: Stage) -> Result<Op, Depe
     }
 }
 
-// The ops up to END, and the number of their bytes.
+// Returns the ops up to END, and the number of their bytes.
 fn read_ops(alloc: Global, bytes: &[u8], phase: Phase) -> Result<(Vec<Op>, usize), DepexFault>
     ensures found { IfOk result
         (λ p. (p.1 ≤ length bytes.now) × Spells phase p.0.items (drop p.1 bytes.now) bytes.now) }
@@ -178,31 +179,32 @@ fn read_ops(alloc: Global, bytes: &[u8], phase: Phase) -> Result<(Vec<Op>, usize
 }
 
 /// Reads the body of a dependency section (EFI_SECTION_PEI_DEPEX, EFI_SECTION_DXE_DEPEX or
-/// EFI_SECTION_MM_DEPEX) as the phase does: the ops up to END, which must be a complete expression,
-/// and the bytes after END. (PI specification, volume 1, section 3.4, and volume 2, section 10.7.)
+/// EFI_SECTION_MM_DEPEX) by the rules of the phase: the ops up to END, which must be a complete
+/// expression, and the bytes after END. (PI specification, volume 1, section 3.4, and volume 2,
+/// section 10.7.)
 ///
 /// # Errors
 ///
-/// At the first op that has a fault, in this order: NoEnd if no bytes are left, Opcode, Position,
-/// Short, Stack. The offset is that of the op's code, in bytes from the first of `bytes`.
-/// OutOfMemory at 0.
+/// The first op with a fault determines the error. Its checks come in this order: NoEnd if no bytes
+/// are left, Opcode, Position, Short, Stack. The offset is that of the op's code, or of the end of
+/// the bytes for NoEnd, in bytes from the first byte of `bytes`. OutOfMemory is at offset 0.
 pub fn read_depex(alloc: Global, bytes: &[u8], phase: Phase) -> Result<Depex, DepexFault>
-    // These ops and this rest spell the bytes.
+    // The bytes spell the ops and the rest of the result.
     ensures found { IfOk result (λ d. (d.phase ≡ phase) × Spells phase d.ops d.rest bytes.now) }
 
-    // No others do.
+    // They spell no other ops and rest.
     ensures only { IfOk result
         (λ d. (ops : List Op) (rest : List ℕ) → Spells phase ops rest bytes.now → (ops ≡ d.ops) × (rest ≡ d.rest)) }
 
-    // If an error other than OutOfMemory is returned, none do.
+    // If an error other than OutOfMemory is returned, the bytes do not spell any ops and rest.
     ensures none { IfErr result
         (λ f. f ≢ depex_out_of_memory → (ops : List Op) (rest : List ℕ) → Spells phase ops rest bytes.now → ⊥) }
 
-    // An error other than OutOfMemory names the first check that does not hold, at the first op
-    // that has one.
+    // An error other than OutOfMemory comes from the first op that fails a check, and names the
+    // first check that this op fails.
     ensures first { IfErr result (λ f. f ≢ depex_out_of_memory → IsFirstOpFault phase bytes.now f) }
 
-    // Memory runs out only if the bytes begin with an op that may be the first.
+    // Memory runs out only if the bytes begin with an op that is allowed as the first op.
     ensures memory { IfErr result (λ f. f ≡ depex_out_of_memory → BeginsFirstOp phase bytes.now) }
 {
     let (ops, at) = read_ops(alloc, bytes, phase)?;
@@ -210,14 +212,15 @@ pub fn read_depex(alloc: Global, bytes: &[u8], phase: Phase) -> Result<Depex, De
     Ok(Depex::from_parts(phase, ops, rest))
 }
 
-/// The fault with which `read_depex` rejects the body of a dependency section, or None if the bytes
-/// begin with a complete expression. It takes no memory. (PI specification, volume 1, section 3.4,
-/// and volume 2, section 10.7.)
+/// Returns the fault with which `read_depex` rejects the body of a dependency section, or None if
+/// the bytes begin with a complete expression. Allocates no memory. (PI specification, volume 1,
+/// section 3.4, and volume 2, section 10.7.)
 pub fn depex_fault(bytes: &[u8], phase: Phase) -> Option<DepexFault>
-    // Without a fault, the bytes spell an expression and a rest.
+    // If None is returned, the bytes spell some ops and a rest.
     ensures none { result ≡ None → (ops : List Op) × (rest : List ℕ) × Spells phase ops rest bytes.now }
 
-    // A fault is the first check that does not hold, at the first op that has one.
+    // A fault comes from the first op that fails a check, and names the first check that this op
+    // fails.
     ensures first { IfSome result (IsFirstOpFault phase bytes.now) }
 {
     let mut at = 0;

@@ -1,4 +1,4 @@
-//! Expressions, evaluated.
+//! Evaluating dependency expressions.
 
 ghost use Rattle.std.specs.Prelude.{◌≡◌, if◌then◌else◌, true, None, Some, [], ◌∷◌, ◌<◌, length, reverse};
 ghost use Rattle.std.specs.Prelude.{IfSome, IfNone, IfOk, IfErr};
@@ -12,14 +12,14 @@ use crate::op::Op;
 use fv_base::Guid;
 use std::alloc::{AllocError, Global};
 
-// Whether a GUID is among those installed.
+// Returns whether a GUID is among the installed ones.
 fn is_among(guid: &Guid, installed: &[Guid]) -> bool
     ensures { result ≡ is_among guid.now installed.now }
 {
     installed.iter().any(|other| other == guid)
 }
 
-// The two values on top of a stack, the lower one first.
+// Pops the two values on top of a stack, and returns the lower one first.
 fn pop_two(stack: &mut Vec<bool>) -> Option<(bool, bool)>
     ensures found { IfSome result (λ p. reverse stack.old.items ≡ p.1 ∷ p.0 ∷ reverse stack.new.items) }
     ensures none { IfNone result (length stack.old.items < 2) }
@@ -29,14 +29,14 @@ fn pop_two(stack: &mut Vec<bool>) -> Option<(bool, bool)>
     Some((first, second))
 }
 
-// The value on top of a stack, if there is one.
+// Pops the value on top of a stack, if there is one.
 fn top(stack: &mut Vec<bool>) -> Option<bool>
     ensures { result ≡ top (reverse stack.old.items) }
 {
     stack.pop()
 }
 
-// Pushes a value.
+// Pushes a value, and returns true.
 fn push(stack: &mut Vec<bool>, value: bool) -> Result<bool, AllocError>
     ensures done { IfOk result (λ done. done ≡ true) }
     ensures pushed { IfOk result (λ _. reverse stack.new.items ≡ value ∷ reverse stack.old.items) }
@@ -45,8 +45,8 @@ fn push(stack: &mut Vec<bool>, value: bool) -> Result<bool, AllocError>
     Ok(true)
 }
 
-// Evaluates one op on the stack; false if the stack did not hold what the op takes, or if the op
-// has no truth value.
+// Evaluates one op on the stack. Returns false if the stack does not hold the values that the op
+// takes, or if the op has no truth value.
 fn evaluate_op(stack: &mut Vec<bool>, op: &Op, installed: &[Guid]) -> Result<bool, AllocError>
     ensures { IfOk result (λ done. evaluate_op installed.now (reverse stack.old.items) op.now
         ≡ (if done then Some (reverse stack.new.items) else None)) }
@@ -72,7 +72,8 @@ fn evaluate_op(stack: &mut Vec<bool>, op: &Op, installed: &[Guid]) -> Result<boo
     }
 }
 
-// The value that the ops leave on top, if they leave one.
+// Returns the value that the ops leave on top of the stack, or None if an op cannot be evaluated or
+// no value is left.
 fn evaluate_ops(alloc: Global, ops: &[Op], installed: &[Guid]) -> Result<Option<bool>, DepexFault>
     ensures value { IfOk result (λ v. v ≡ evaluate_ops installed.now ops.now []) }
     ensures err { IfErr result (λ f. f ≡ depex_out_of_memory) }
@@ -86,10 +87,11 @@ fn evaluate_ops(alloc: Global, ops: &[Op], installed: &[Guid]) -> Result<Option<
     Ok(top(&mut stack))
 }
 
-/// The truth value of an expression when the protocols (in PEI the PPIs) with these GUIDs are
-/// installed, or None for BEFORE and AFTER, which have none. SOR does not change it. Each PUSH
-/// searches the installed GUIDs, so the time grows with the number of ops times their number. (PI
-/// specification, volume 1, section 3.4, and volume 2, section 10.7.)
+/// Returns the truth value of an expression when exactly the protocols (in PEI, the PPIs) with
+/// these GUIDs are installed, or None for BEFORE and AFTER, which have no truth value. SOR does not
+/// change the value. Each PUSH searches the installed GUIDs, so the time grows with the number of
+/// ops times the number of GUIDs. (PI specification, volume 1, section 3.4, and volume 2, section
+/// 10.7.)
 ///
 /// # Errors
 ///
@@ -99,14 +101,14 @@ pub fn evaluate(
     depex: &Depex,
     installed: &[Guid],
 ) -> Result<Option<bool>, DepexFault>
-    // It is the truth value of the tree whose ops these are.
+    // If the ops are those of a tree, the result is the truth value of the tree.
     ensures truth { IfOk result
         (λ v. (t : Expression) → IsTree depex.now.phase depex.now.ops t → v ≡ Some (truth installed.now t)) }
 
-    // BEFORE and AFTER have no truth value.
+    // For BEFORE and AFTER, the result is None.
     ensures order { IfOk result (λ v. IsOrder depex.now.phase depex.now.ops → v ≡ None) }
 
-    // They are the ops of at most one tree.
+    // The ops are those of at most one tree.
     ensures tree { (t u : Expression) → IsTree depex.now.phase depex.now.ops t → IsTree depex.now.phase depex.now.ops u
         → t ≡ u }
 

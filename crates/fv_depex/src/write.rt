@@ -1,4 +1,4 @@
-//! Expressions, written.
+//! Writing dependency expressions.
 
 ghost use Rattle.std.specs.Prelude.{◌≡◌, ◌∷◌, ◌++◌, OnOk, IfOk, IfErr};
 ghost use Rattle.fv_depex.specs.OpChecks.{depex_out_of_memory};
@@ -21,7 +21,7 @@ fn push_op(bytes: &mut Vec<u8>, op: &Op) -> Result<(), AllocError>
     Ok(())
 }
 
-// The bytes of ops, and others after them.
+// Returns the bytes of some ops, followed by the rest.
 fn spelled(alloc: Global, ops: &[Op], rest: &[u8]) -> Result<Vec<u8>, AllocError>
     ensures { IfOk result (λ v. v.items ≡ ops_bytes ops.now ++ rest.now) }
 {
@@ -33,18 +33,18 @@ fn spelled(alloc: Global, ops: &[Op], rest: &[u8]) -> Result<Vec<u8>, AllocError
     Ok(bytes)
 }
 
-/// The bytes of an expression: for each op its code, and its GUID if it carries one, and then the
-/// rest after END. They are the bytes that it was read from. (PI specification, volume 1, section
-/// 3.4, and volume 2, section 10.7.)
+/// Returns the bytes of an expression: each op's code, with the GUID of an op that carries one, and
+/// then the bytes after END. They are the bytes from which the expression was read. (PI
+/// specification, volume 1, section 3.4, and volume 2, section 10.7.)
 ///
 /// # Errors
 ///
 /// OutOfMemory.
 pub fn depex_bytes(alloc: Global, depex: &Depex) -> Result<ByteList, DepexFault>
-    // The expression spells them.
+    // The returned bytes spell the expression.
     ensures spells { IfOk result (λ b. Spells depex.now.phase depex.now.ops depex.now.rest b) }
 
-    // They are these bytes.
+    // They are the bytes of its ops, followed by its rest.
     ensures bytes { IfOk result (λ b. b ≡ ops_bytes depex.now.ops ++ depex.now.rest) }
 
     // The only error is OutOfMemory.

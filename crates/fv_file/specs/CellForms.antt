@@ -1,12 +1,12 @@
--- What the cells that the calls return mean, and how many bytes cells have (PI specification, volume 3, sections 3.2.2
--- and 3.2.3).
+-- The cells that the calls return, as contracts see them, and the lengths of cells (PI specification, volume 3,
+-- sections 3.2.2 and 3.2.3).
 use Rattle.fv_file.specs.Cells.{CellForm, Valid, Pad, Dead, Stub, Free, offset_of}
 use Rattle.fv_file.specs.declared.cell.Cell.{Cell}
 use Rattle.fv_file.specs.declared.cell.Cell.TheVariants as cells
 use Rattle.std.specs.Prelude.{◌≡◌, ℕ, ◌+◌, ◌≤◌, List, [], ◌∷◌, length}
 use Rattle.fv_base.specs.Words.{up_to_8}
 
--- a cell, with its data as a list
+-- the `CellForm` of a `Cell`: the same cell, with its data as a list of bytes
 abbrev pub cell_form : Cell → CellForm
 cell_form (cells.Valid at head payload) = Valid at head payload.now
 cell_form (cells.Pad at head payload) = Pad at head payload.now
@@ -14,7 +14,7 @@ cell_form (cells.Dead at len state) = Dead at len state
 cell_form (cells.Stub at len) = Stub at len
 cell_form (cells.Free at len) = Free at len
 
--- how many bytes a cell has, its filler included
+-- the length of a cell in bytes, including its filler
 abbrev pub cell_len : CellForm → ℕ
 cell_len (Valid at head payload) = up_to_8 head.size
 cell_len (Pad at head payload) = up_to_8 head.size
@@ -22,13 +22,14 @@ cell_len (Dead at len state) = len
 cell_len (Stub at len) = len
 cell_len (Free at len) = len
 
--- the header and the data of a file or pad have together the bytes that its size says
+-- in a file or pad, the lengths of the header and of the data add up to the size
 abbrev pub IsMadeUp : CellForm → Type 0
 IsMadeUp (Valid at head payload) = head.header_len + length payload ≡ head.size
 IsMadeUp (Pad at head payload) = head.header_len + length payload ≡ head.size
 IsMadeUp _ = Unit {0}
 
--- each cell ends within `end` bytes from the volume's start
+-- each cell ends at most `end` bytes after the volume's start, and in each file or pad the lengths of the header and of
+-- the data add up to the size
 abbrev pub CellsWithin : ℕ → List CellForm → Type 0
 CellsWithin end [] = Unit {0}
 CellsWithin end (c ∷ cs) = (offset_of c + cell_len c ≤ end) × IsMadeUp c × CellsWithin end cs

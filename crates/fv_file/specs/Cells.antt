@@ -10,8 +10,8 @@ use Rattle.fv_file.specs.declared.head.FileHead.{FileHead}
 use Rattle.fv_file.specs.declared.state.FileState.{FileState}
 use Rattle.fv_file.specs.declared.state.FileState.TheVariants as states
 
--- a cell: its offset, in bytes from the volume's start, and either the header and data of a file or pad, or its length,
--- of a file that is not valid with its state
+-- a cell: its offset, in bytes from the volume's start, and then the header and the data of a valid file or pad, or the
+-- length of any other cell, and for a dead cell also its state
 pub data CellForm : Type 0 where
   Valid : ℕ → FileHead → List ℕ → CellForm
   Pad : ℕ → FileHead → List ℕ → CellForm
@@ -19,7 +19,7 @@ pub data CellForm : Type 0 where
   Stub : ℕ → ℕ → CellForm
   Free : ℕ → ℕ → CellForm
 
--- where a cell begins
+-- the offset at which a cell begins
 abbrev pub offset_of : CellForm → ℕ
 offset_of (Valid at head payload) = at
 offset_of (Pad at head payload) = at
@@ -27,12 +27,12 @@ offset_of (Dead at len state) = at
 offset_of (Stub at len) = at
 offset_of (Free at len) = at
 
--- a free cell
+-- the cell is free
 abbrev pub is_free : CellForm → Bool
 is_free (Free at len) = true
 is_free _ = false
 
--- a file, and then any bytes to the next multiple of 8
+-- the bytes are a file and then its filler, which is up to 7 bytes of any value and makes the length a multiple of 8
 pub record IsFilled (system : FileSystem) (polarity : Polarity) (head : FileHead) (payload b : List ℕ) : Type 0 where
   pub file : List ℕ
   pub filler : List ℕ
@@ -41,8 +41,8 @@ pub record IsFilled (system : FileSystem) (polarity : Polarity) (head : FileHead
   pub short : length filler < 8
   pub multiple : length b % 8 ≡ 0
 
--- the bytes are this cell: a valid file, a pad, a file that was deleted or whose data were never finished, a header
--- that was never finished, or erased bytes
+-- the bytes are this cell: a valid file, a pad, a dead file (deleted, or only its header is valid), a stub (a header
+-- under construction or an invalid header), or free space (erased bytes)
 abbrev pub IsCell : FileSystem → Polarity → CellForm → List ℕ → Type 0
 IsCell system polarity (Valid at head payload) b =
     IsFilled system polarity head payload b × (is_alive head.state ≡ true) × IsSound head payload
@@ -56,7 +56,8 @@ IsCell system polarity (Stub at len) b =
     × (length b ≡ file_header_len (is_large (attributes_at b))) × (len ≡ length b)
 IsCell system polarity (Free at len) b = (0 < len) × AllAre (erased_byte polarity) b × (len ≡ length b)
 
--- the bytes are these cells, joined, the first of them at the offset `at`; only the last may be a free cell
+-- the bytes are these cells, one after the other, the first of them at the offset `at`; only the last may be a free
+-- cell
 abbrev pub Tiles : FileSystem → Polarity → ℕ → List CellForm → List ℕ → Type 0
 Tiles system polarity at [] b = b ≡ []
 Tiles system polarity at (c ∷ cs) b =

@@ -6,19 +6,19 @@ use Rattle.fv_file.specs.declared.attributes.FileAttributes.{FileAttributes}
 abbrev pub attribute_bits : FileAttributes → ℕ
 attribute_bits a = a.0
 
--- the attributes of these bits
+-- the attributes with these bits
 abbrev pub attributes_by : ℕ → FileAttributes
 attributes_by bits = record { 0 = bits }
 
--- bit 0x01, FFS_ATTRIB_LARGE_FILE: the header has 32 bytes, and the size follows its first 24
+-- bit 0x01, FFS_ATTRIB_LARGE_FILE, is set: the header has 32 bytes, and the size follows its first 24 bytes
 abbrev pub is_large : ℕ → Bool
 is_large attributes = attributes % 2 == 1
 
--- bit 0x04, FFS_ATTRIB_FIXED: the file may not be moved
+-- bit 0x04, FFS_ATTRIB_FIXED, is set: the file may not be moved
 abbrev pub is_fixed : ℕ → Bool
 is_fixed attributes = attributes / 4 % 2 == 1
 
--- bit 0x40, FFS_ATTRIB_CHECKSUM: the file sum is over the data
+-- bit 0x40, FFS_ATTRIB_CHECKSUM, is set: the file checksum covers the data
 abbrev pub is_summed : ℕ → Bool
 is_summed attributes = attributes / 64 % 2 == 1
 

@@ -1,4 +1,4 @@
--- The checks of a file and of a cell in a fixed order, and the fault of a body: the first, or any.
+-- The checks of a file and of a cell in order, and the faults of a body: the first, or any.
 use Rattle.std.specs.List.{AllByRecursion}
 use Rattle.std.specs.Prelude.{ℕ, ◌≡◌, ◌+◌, ◌-◌, ◌<◌, ◌==◌, nat_le, ◌&&◌, ◌||◌, not, Bool, true, false, if◌then◌else◌}
 use Rattle.std.specs.Prelude.{Option, Some, None, List, [], ◌∷◌, length, take, drop}
@@ -16,17 +16,17 @@ use Rattle.fv_file.specs.States.{bits_of, state_of, is_alive}
 use Rattle.fv_file.specs.declared.state.FileState.{FileState}
 use Rattle.fv_file.specs.declared.state.FileState.TheVariants as states
 
--- how many bytes at the front have the value e
+-- how many bytes at the start have the value e, up to the first byte with another value
 abbrev pub leading_count : ℕ → List ℕ → ℕ
 leading_count e [] = 0
 leading_count e (x ∷ xs) = if x == e then 1 + leading_count e xs else 0
 
--- only FFS3 has large headers
+-- the file system allows large headers, as only FFS3 does
 abbrev pub allows_large : FileSystem → Bool
 allows_large Ffs2 = false
 allows_large Ffs3 = true
 
--- what the header at the start of r says: the length of the header, the size of the file, and the data
+-- what the header at the start of r says: the length of the header, the size of the file, and the file's data
 abbrev pub file_header_len_at : List ℕ → ℕ
 file_header_len_at r = file_header_len (is_large (attributes_at r))
 
@@ -36,29 +36,30 @@ file_size_at r = file_size_in (is_large (attributes_at r)) r
 abbrev pub payload_at : List ℕ → List ℕ
 payload_at r = take (file_size_at r - file_header_len_at r) (drop (file_header_len_at r) r)
 
--- the header is short, or the file system allows large ones
+-- the header is short, or the file system allows large headers
 abbrev pub may_be_large : FileSystem → List ℕ → Bool
 may_be_large system r = not (is_large (attributes_at r)) || allows_large system
 
--- the header, with file sum and State as zero, sums to zero
+-- the header, with the file checksum and State taken as zero, sums to zero
 abbrev pub has_header_sum : List ℕ → Bool
 has_header_sum r = header_sum_of (take (file_header_len_at r) r) == 0
 
--- the size is neither below the header's length nor past the end, and Size of a large header is zero
+-- the size is at least the header's length and at most the number of bytes, and Size of a large header is zero
 abbrev pub has_file_size : List ℕ → Bool
 has_file_size r =
     nat_le (file_header_len_at r) (file_size_at r)
     && (nat_le (file_size_at r) (length r) && (not (is_large (attributes_at r)) || (le_at 20 3 r == 0)))
 
--- a file whose data are not checked: a pad, or a file that is not valid
+-- the data of the file are not checked: it is a pad, or it is not valid
 abbrev pub skips_data : Bool → List ℕ → Bool
 skips_data alive r = not alive || (file_type_at r == pad_kind)
 
--- the file sum is right
+-- the file checksum is right
 abbrev pub has_file_sum : List ℕ → Bool
 has_file_sum r = file_sum_right (attributes_at r) (file_sum_at r) (payload_at r)
 
--- the checks of a file at p, valid (`alive`) or not; r are the bytes from p on
+-- the checks of a file at the offset p, in order, each with its fault; `alive` says whether the file is valid, and r is
+-- the bytes from p on
 abbrev pub file_checks : FileSystem → Bool → ℕ → List ℕ → List (Check Fault)
 file_checks system alive p r =
     check (may_be_large system r) kinds.LargeFile (p + 19)
@@ -69,11 +70,11 @@ file_checks system alive p r =
     ∷ check (skips_data alive r || has_file_sum r) kinds.FileSum (p + 17)
     ∷ []
 
--- the checks of a header that was never finished
+-- the checks of a stub, which is a header under construction or an invalid header
 abbrev pub stub_checks : ℕ → List ℕ → List (Check Fault)
 stub_checks p r = check (nat_le (file_header_len_at r) (length r)) kinds.FileSize (p + 20) ∷ []
 
--- the checks of a cell by its state; a free state was rejected before
+-- the checks of a cell according to its state; the state Free was rejected by an earlier check
 abbrev pub state_checks : Option FileState → FileSystem → ℕ → List ℕ → List (Check Fault)
 state_checks None system p r = check false kinds.FileState (p + 23) ∷ []
 state_checks (Some states.Free) system p r = []
@@ -81,19 +82,20 @@ state_checks (Some states.Construction) system p r = stub_checks p r
 state_checks (Some states.HeaderInvalid) system p r = stub_checks p r
 state_checks (Some state) system p r = file_checks system (is_alive state) p r
 
--- the checks of a cell at p; r are the bytes from p on, and not all of them are erased
+-- the checks of a cell at the offset p, in order, each with its fault; r is the bytes from p on, and not all of them
+-- are erased
 abbrev pub cell_checks : FileSystem → Polarity → ℕ → List ℕ → List (Check Fault)
 cell_checks system polarity p r =
     check (nat_le 24 (length r) && not (bits_of polarity (state_at r) == 0)) kinds.FreeSpace
     (p + leading_count (erased_byte polarity) r)
     ∷ state_checks (state_of polarity (state_at r)) system p r
 
--- whether there is a state, and it is that of a valid file
+-- there is a state, and it is that of a valid file
 abbrev pub is_standing : Option FileState → Bool
 is_standing None = false
 is_standing (Some state) = is_alive state
 
--- the checks of bytes that must begin with a valid file or with a pad, in their order, each with its fault
+-- the checks of bytes that must begin with a valid file or a pad, in order, each with its fault
 abbrev pub verify_checks : FileSystem → Polarity → List ℕ → List (Check Fault)
 verify_checks system polarity b =
     check (nat_le 24 (length b)) kinds.FileSize 20
@@ -104,8 +106,8 @@ verify_checks system polarity b =
 abbrev pub NoneFree : List CellForm → Type 0
 NoneFree cs = AllByRecursion (λ c. is_free c ≡ false) cs
 
--- some cells, none of them free, tile the body up to the place `at`, and the bytes from there on are not all erased; a
--- check of a cell fails there. `first` is where the body begins in its volume
+-- some cells, none of them free, tile the body up to `at`, the bytes from there on are not all erased, and a check of
+-- the cell there fails with this fault. `first` is the offset of the body in its volume
 pub record CellFault (which : Which) (system : FileSystem) (polarity : Polarity) (first : ℕ) (body : List ℕ)
     (fault : Fault) : Type 0 where
   pub cells : List CellForm
@@ -116,6 +118,7 @@ pub record CellFault (which : Which) (system : FileSystem) (polarity : Polarity)
   pub not_erased : AllAre (erased_byte polarity) (drop at body) → ⊥
   pub fails : Fails which (cell_checks system polarity (first + at) (drop at body)) fault
 
--- the first fault of a body: that of the first check there that does not hold
+-- the fault is the first of the body: cells that are not free tile it up to some place, and this is the fault of the
+-- first check there that does not hold
 abbrev pub IsFirstCellFault : FileSystem → Polarity → ℕ → List ℕ → Fault → Type 0
 IsFirstCellFault = CellFault First

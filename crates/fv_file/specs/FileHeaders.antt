@@ -10,41 +10,41 @@ use Rattle.fv_file.specs.States.{StateOf}
 use Rattle.fv_file.specs.declared.head.FileHead.{FileHead}
 use Rattle.fv_file.specs.declared.state.FileState.{FileState}
 
--- the type of a pad file, F0 (EFI_FV_FILETYPE_FFS_PAD)
+-- the type of a pad file, 0xF0 (EFI_FV_FILETYPE_FFS_PAD)
 abbrev pub pad_kind : ℕ
 pad_kind = 0xf0
 
--- the length of a short and of a large header
+-- the length of a header in bytes: 24 for a short one, 32 for a large one
 abbrev pub file_header_len : Bool → ℕ
 file_header_len false = 24
 file_header_len true = 32
 
--- the header sum in the header at the start of b (IntegrityCheck.Checksum.Header)
+-- the header checksum in the header at the start of b (IntegrityCheck.Checksum.Header)
 abbrev pub header_sum_at : List ℕ → ℕ
 header_sum_at b = slice_index b 16
 
--- the file sum in it (IntegrityCheck.Checksum.File)
+-- the file checksum in the header at the start of b (IntegrityCheck.Checksum.File)
 abbrev pub file_sum_at : List ℕ → ℕ
 file_sum_at b = slice_index b 17
 
--- the type of the file in it (Type)
+-- the type of the file in the header at the start of b (Type)
 abbrev pub file_type_at : List ℕ → ℕ
 file_type_at b = slice_index b 18
 
--- the attribute bits in it (Attributes)
+-- the attribute bits in the header at the start of b (Attributes)
 abbrev pub attributes_at : List ℕ → ℕ
 attributes_at b = slice_index b 19
 
--- the State byte in it (State)
+-- the State byte in the header at the start of b (State)
 abbrev pub state_at : List ℕ → ℕ
 state_at b = slice_index b 23
 
--- the size in a short header (Size), and in a large one (ExtendedSize)
+-- the size of the file, including its header: Size of a short header, ExtendedSize of a large one
 abbrev pub file_size_in : Bool → List ℕ → ℕ
 file_size_in false b = le_at 20 3 b
 file_size_in true b = le_at 24 8 b
 
--- the fields of the header at the start of b, by their offsets
+-- the fields of the header at the start of b, with this state
 abbrev pub head_in : FileState → List ℕ → FileHead
 head_in state b = record {
   name = guid_of (take 16 b);
@@ -57,21 +57,23 @@ head_in state b = record {
   state = state;
 }
 
--- the sum of a header, with the file sum at 17 (IntegrityCheck.Checksum.File) and State at 23 taken as zero
+-- the sum of a header's bytes modulo 256, with the file checksum at 17 (IntegrityCheck.Checksum.File) and State at 23
+-- taken as zero
 abbrev pub header_sum_of : List ℕ → ℕ
 header_sum_of h = (sum (take 17 h) + sum (field 18 5 h) + sum (drop 24 h)) % 256
 
--- 0xAA, the file sum of a file whose data are not summed (FFS_FIXED_CHECKSUM)
+-- 0xAA, the file checksum of a file without the checksum attribute (FFS_FIXED_CHECKSUM)
 abbrev pub fixed_checksum : ℕ
 fixed_checksum = 0xaa
 
--- with the checksum attribute, the data and the file sum sum to zero; else the file sum is the fixed one
+-- the file checksum is right: with the checksum attribute, the data and the file checksum sum to zero modulo 256;
+-- otherwise the file checksum is 0xAA
 abbrev pub file_sum_right : ℕ → ℕ → List ℕ → Bool
 file_sum_right attributes file_sum payload =
     if is_summed attributes then (sum payload + file_sum) % 256 == 0 else file_sum == fixed_checksum
 
--- the bytes h are the header with these fields: State shows the state, and the sum is zero; a large one is allowed in
--- FFS3 only, and its Size is zero
+-- the bytes h are the header with these fields: State shows the state, and the header checksum is right. A large header
+-- is allowed only in FFS3, and its Size is zero
 pub record IsFileHeader (system : FileSystem) (polarity : Polarity) (head : FileHead) (h : List ℕ) : Type 0 where
   pub whole : length h ≡ file_header_len (is_large (attributes_at h))
   pub fields : head ≡ head_in head.state h
@@ -79,14 +81,15 @@ pub record IsFileHeader (system : FileSystem) (polarity : Polarity) (head : File
   pub large : is_large (attributes_at h) ≡ true → (system ≡ Ffs3) × (le_at 20 3 h ≡ 0)
   pub sum : header_sum_of h ≡ 0
 
--- the bytes are a header and its data
+-- the bytes are a file: a header with these fields and then the data, and the size in the header is the number of these
+-- bytes
 pub record IsFile (system : FileSystem) (polarity : Polarity) (head : FileHead) (payload b : List ℕ) : Type 0 where
   pub header : List ℕ
   pub text : b ≡ header ++ payload
   pub is_header : IsFileHeader system polarity head header
   pub size : head.size ≡ length b
 
--- no pad, not fixed, and the file sum is right
+-- the file is sound: it is not a pad and not fixed, and its file checksum is right
 pub record IsSound (head : FileHead) (payload : List ℕ) : Type 0 where
   pub kind : head.kind ≢ pad_kind
   pub moves : is_fixed (attribute_bits head.attributes) ≡ false

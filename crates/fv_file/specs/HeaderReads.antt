@@ -1,5 +1,5 @@
--- File headers that are read where they begin some bytes, and those that were written, read again (PI specification,
--- volume 3, section 3.2.3.1).
+-- File headers at the start of some bytes, and written headers that are read back (PI specification, volume 3, section
+-- 3.2.3.1).
 use Rattle.std.specs.Prelude.{◌≡◌, ℕ, ◌+◌, ◌%◌, ◌⊎◌, Bool, true, false, List, ◌++◌, length, ◌<◌}
 use Rattle.fv_base.specs.Words.{guid_of, bytes_of, IsBytes}
 use Rattle.fv_base.specs.declared.flash.FileSystem.{FileSystem}
@@ -16,7 +16,8 @@ use Rattle.fv_file.specs.declared.attributes.FileAttributes.{FileAttributes}
 use Rattle.fv_file.specs.declared.head.FileHead.{FileHead}
 use Rattle.fv_file.specs.declared.state.FileState.TheVariants as states
 
--- the bytes begin with a file of this header that is valid and sound, or with a pad; any bytes may follow
+-- the bytes begin with a file that has this header: its state is that of a valid file, and it is a pad or sound
+-- (`IsSound`). Any bytes may follow
 pub record BeginsFile (system : FileSystem) (polarity : Polarity) (head : FileHead) (b : List ℕ) : Type 0 where
   pub file : List ℕ
   pub payload : List ℕ
@@ -26,15 +27,16 @@ pub record BeginsFile (system : FileSystem) (polarity : Polarity) (head : FileHe
   pub alive : is_alive head.state ≡ true
   pub content : (head.kind ≡ pad_kind) ⊎ IsSound head payload
 
--- the bytes h are the header with these fields and the State byte of a new file, in each file system that has such
--- headers
+-- the bytes h are the header with these fields and the State byte of a new file, in each file system that allows such a
+-- header
 pub record IsNewHeader (polarity : Polarity) (head : FileHead) (h : List ℕ) : Type 0 where
   pub header : (system : FileSystem) → (is_large (attribute_bits head.attributes) ≡ true → system ≡ Ffs3)
       → IsFileHeader system polarity head h
   pub state : state_at h ≡ state_byte polarity
   pub bytes : IsBytes h
 
--- the header, then the data and fewer than 8 bytes to the next multiple of 8, is the cell of a valid file
+-- h, then data of the right length that make the file sound, and then filler up to the next multiple of 8 are the cell
+-- of a valid file, in each file system that allows such a header
 abbrev pub IsHeadOfFile : Polarity → FileHead → List ℕ → Type 0
 IsHeadOfFile polarity head h =
     (system : FileSystem) (at : ℕ) (payload filler : List ℕ)
@@ -43,13 +45,15 @@ IsHeadOfFile polarity head h =
     → (head.size + length filler) % 8 ≡ 0
     → IsCell system polarity (Valid at head payload) (h ++ (payload ++ filler))
 
--- the header, then as many bytes as it says and fewer than 8 to the next multiple of 8, is the cell of a pad
+-- h, then as many bytes as its size requires, and then filler up to the next multiple of 8 are the cell of a pad, in
+-- each file system
 abbrev pub IsHeadOfPad : Polarity → FileHead → List ℕ → Type 0
 IsHeadOfPad polarity head h =
     (system : FileSystem) (at : ℕ) (payload filler : List ℕ) → head.size ≡ length h + length payload → length filler < 8
     → (head.size + length filler) % 8 ≡ 0 → IsCell system polarity (Pad at head payload) (h ++ (payload ++ filler))
 
--- the fields of a file with valid data, and of a pad; the header sum is passed in
+-- the fields of the header of a new file with valid data (`fields_of`, `file_fields`), and of a new pad (`pad_fields`);
+-- the header checksum is an argument
 abbrev pub fields_of : List ℕ → ℕ → ℕ → ℕ → Bool → ℕ → ℕ → FileHead
 fields_of name kind attributes size large header_sum file_sum = record {
   name = guid_of name;

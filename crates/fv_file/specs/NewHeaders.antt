@@ -8,15 +8,15 @@ use Rattle.fv_file.specs.FileAttributes.{attribute_bits, is_summed}
 use Rattle.fv_file.specs.FileHeaders.{file_header_len, fixed_checksum, pad_kind}
 use Rattle.fv_file.specs.declared.attributes.FileAttributes.{FileAttributes}
 
--- a file with this much data has a large header: with a short one its size would be more than 0xFFFFFF
+-- a file with this much data needs a large header: with a short one its size would be more than 0xFFFFFF
 abbrev pub needs_large : ℕ → Bool
 needs_large data_len = nat_lt 0xffffff (24 + data_len)
 
--- the attribute bits, with 0x01 set for a large header; it is clear in `attributes`
+-- the attribute bits, with 0x01 set for a large header; this bit is clear in `attributes`
 abbrev pub with_large : Bool → ℕ → ℕ
 with_large large attributes = if large then attributes + 1 else attributes
 
--- the State byte of a valid file, in which the bits 0x01, 0x02 and 0x04 were written: 07, or F8 where erased bytes are
+-- the State byte of a new file, in which the bits 0x01, 0x02 and 0x04 were written: 0x07, or 0xF8 if erased bytes are
 -- 0xFF
 abbrev pub state_byte : Polarity → ℕ
 state_byte Ones = 0xf8
@@ -26,27 +26,28 @@ state_byte Zeros = 0x07
 abbrev pub pad_name : List ℕ
 pad_name = replicate 16 0xff
 
--- what must be added to make a number a multiple of 256
+-- what must be added to n to make it a multiple of 256
 abbrev pub complement : ℕ → ℕ
 complement n = (256 - n % 256) % 256
 
--- with the checksum attribute, what must be added to make the sum of the data a multiple of 256; else 0xAA
+-- the file checksum for these data: with the checksum attribute, what must be added to their sum to make it a multiple
+-- of 256; otherwise 0xAA
 abbrev pub file_sum_for : ℕ → List ℕ → ℕ
 file_sum_for attributes payload = if is_summed attributes then complement (sum payload) else fixed_checksum
 
--- a header with these two sums, its bytes in order; in a large header Size is zero, and the size follows State
+-- the bytes of a header with these two checksums, in order; in a large header Size is zero, and the size follows State
 abbrev pub header_with : ℕ → ℕ → List ℕ → ℕ → ℕ → ℕ → Bool → ℕ → List ℕ
 header_with header_sum file_sum name kind attributes size large state =
     name ++ (header_sum ∷ file_sum ∷ kind ∷ attributes ∷ [])
     ++ (if large then le_bytes 3 0 else le_bytes 3 size) ++ (state ∷ []) ++ (if large then le_bytes 8 size else [])
 
--- the header with its right sum, in which file sum and State count as zero
+-- the bytes of a header with the right header checksum, for which the file checksum and State count as zero
 unfoldable pub header_bytes : ℕ → List ℕ → ℕ → ℕ → ℕ → Bool → ℕ → List ℕ
 header_bytes file_sum name kind attributes size large state =
     header_with (complement (sum (header_with 0 0 name kind attributes size large 0))) file_sum name kind
     attributes size large state
 
--- the bytes of the header of a file with valid data, and of a pad's header
+-- the bytes of the header of a new file with valid data (`file_head_of`), and of a new pad (`pad_head_of`)
 abbrev pub file_head_of : Guid → ℕ → FileAttributes → ℕ → ℕ → Polarity → List ℕ
 file_head_of name kind attributes data_len file_sum polarity =
     header_bytes file_sum (bytes_of name) kind (with_large (needs_large data_len) (attribute_bits attributes))

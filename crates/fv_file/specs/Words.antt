@@ -1,4 +1,4 @@
--- The door of this crate: all that its specs define for other crates.
+-- The door of this crate: all definitions of its `specs/` that other crates may import.
 pub use Rattle.fv_file.specs.FileAttributes.{attribute_bits, attributes_by, is_large, is_fixed, is_summed}
 pub use Rattle.fv_file.specs.FileAttributes.{without_large}
 pub use Rattle.fv_file.specs.States.{bits_of, state_in, StateOf, is_alive}

@@ -3,11 +3,11 @@
 use crate::head::FileHead;
 use crate::state::FileState;
 
-/// A part of a volume's body. Offsets are in bytes from the volume's start. (PI specification,
-/// volume 3, sections 3.2.2 and 3.2.3.)
+/// A cell, which is a part of a volume's body. Offsets are in bytes from the volume's start. (PI
+/// specification, volume 3, sections 3.2.2 and 3.2.3.)
 #[derive(Clone, Copy)]
 pub enum Cell<'a> {
-    /// A valid file, marked for update (`EFI_FILE_MARKED_FOR_UPDATE`) or not.
+    /// A valid file, whether it is marked for update (`EFI_FILE_MARKED_FOR_UPDATE`) or not.
     Valid {
         /// The offset of its header.
         offset: u64,
@@ -25,29 +25,29 @@ pub enum Cell<'a> {
         /// Its data, which follow the header.
         payload: &'a [u8],
     },
-    /// A file that was deleted (`EFI_FILE_DELETED`), or whose data were never finished
+    /// A deleted file (`EFI_FILE_DELETED`), or a file with a valid header whose data are not valid
     /// (`EFI_FILE_HEADER_VALID`).
     Dead {
         /// The offset of its header.
         offset: u64,
-        /// The number of its bytes, its filler included.
+        /// Its length in bytes, including its filler.
         len: u64,
-        /// HeaderValid or Deleted.
+        /// Its state, HeaderValid or Deleted.
         state: FileState,
     },
-    /// A header that was never finished: `EFI_FILE_HEADER_CONSTRUCTION` or
-    /// `EFI_FILE_HEADER_INVALID`.
+    /// A header under construction (`EFI_FILE_HEADER_CONSTRUCTION`), or an invalid header
+    /// (`EFI_FILE_HEADER_INVALID`).
     Stub {
         /// Its offset.
         offset: u64,
-        /// The number of its bytes, 24 or 32.
+        /// Its length in bytes, 24 or 32.
         len: u64,
     },
     /// Erased bytes up to the volume's end.
     Free {
-        /// Their offset.
+        /// The offset of the first of them.
         offset: u64,
-        /// Their number, above 0.
+        /// The number of these bytes, at least 1.
         len: u64,
     },
 }

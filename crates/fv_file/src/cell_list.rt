@@ -6,7 +6,8 @@ ghost use Rattle.fv_file.specs.CellForms.{cell_form};
 use crate::cell::Cell;
 use std::marker::Model;
 
-/// The cells of a volume's body, in order. (PI specification, volume 3, sections 3.2.2 and 3.2.3.)
+/// The cells of a volume's body, in order. In contracts, it is the list of these cells, each as a
+/// `CellForm`. (PI specification, volume 3, sections 3.2.2 and 3.2.3.)
 #[derive(Drop)]
 pub struct Cells<'a> {
     list: Vec<Cell<'a>>,
@@ -23,14 +24,14 @@ impl<'a> Model for Cells<'a> {
 }
 
 impl<'a> Cells<'a> {
-    // The list of the cells of a vector. Takes no memory.
+    // Makes a list of the cells in a vector. Takes no memory.
     pub(crate) fn from_vec(list: Vec<Cell<'a>>) -> Cells<'a>
         ensures { result ≡ map cell_form list.entry.items }
     {
         Cells { list }
     }
 
-    /// The cells in order.
+    /// Returns the cells, in order.
     pub fn as_slice(&self) -> &[Cell<'a>]
         ensures { map cell_form result.now ≡ self.now }
     {

@@ -1,4 +1,4 @@
-//! The body of a volume, cut into cells.
+//! Splits the body of a volume into cells.
 
 ghost use Rattle.std.specs.Prelude.{◌≡◌, ◌≢◌, ℕ, ◌+◌, ◌*◌, ◌<◌, ◌≤◌, ◌%◌, ◌^◌, if◌then◌else◌, false, List, ◌++◌, length, drop, Ok, Err, IfOk, IfErr};
 ghost use Rattle.fv_base.specs.Words.{all_are, outer_fault, out_of_memory, erased_byte};
@@ -20,9 +20,9 @@ use fv_base::field::{bytes_from, up_to_8};
 use fv_base::{Fault, FaultKind, FileSystem, Polarity, all_are, check};
 use std::alloc::Global;
 
-// Whether a free cell begins here: all remaining bytes are erased. They are all looked at only if
-// fewer than 24 are left or `State` is erased. If there is no free cell then, `cell_at` rejects the
-// bytes, so a body is looked through at most once.
+// Returns whether a free cell begins here, which means that all remaining bytes are erased. All of
+// them are looked at only if fewer than 24 are left or `State` is erased. If they are not all
+// erased then, `cell_at` rejects them, so a body is looked through at most once.
 fn is_free(rest: &[u8], polarity: Polarity) -> bool
     ensures { result ≡ all_are (erased_byte polarity) rest.now }
 {
@@ -30,7 +30,8 @@ fn is_free(rest: &[u8], polarity: Polarity) -> bool
     (rest.len() < HEADER_LEN || rest[STATE_OFFSET] == erased) && all_are(rest, erased)
 }
 
-// The fault of bytes that are no cell and not all erased.
+// Returns the fault of bytes that do not begin with a cell and are not all erased: FreeSpace at the
+// first byte that is not erased.
 fn stray(rest: &[u8], at: u64, polarity: Polarity) -> Fault
     requires { at + length rest.now < 2 ^ 63 }
     ensures { result ≡ outer_fault FaultKind.FreeSpace (at + leading_count (erased_byte polarity) rest.now) }
@@ -41,7 +42,8 @@ fn stray(rest: &[u8], at: u64, polarity: Polarity) -> Fault
     )
 }
 
-// The cell of a file: one that is not valid, a pad, or a valid file.
+// Returns the cell of a file: a dead cell if the file is not valid, otherwise a pad or a valid
+// file.
 fn file_cell(offset: u64, head: FileHead, payload: &[u8]) -> Cell<'_>
     requires { head.size + 7 < 2 ^ 64 }
     ensures { cell_form result ≡ cell_of (if is_alive head.state then sorts.Valid else sorts.Dead) offset head payload.now }
@@ -67,7 +69,7 @@ fn file_cell(offset: u64, head: FileHead, payload: &[u8]) -> Cell<'_>
     }
 }
 
-// The cell at the offset `at`, which is not a free one, or the first fault there.
+// Returns the cell at the offset `at`, where no free cell begins, or the first fault there.
 fn cell_at<'a>(
     rest: &'a [u8],
     at: u64,
@@ -103,7 +105,7 @@ fn cell_at<'a>(
     }
 }
 
-// The number of bytes of a cell, its filler included.
+// Returns the length of a cell in bytes, including its filler.
 fn span_of(cell: &Cell) -> u64
     requires { cell_len (cell_form cell.now) < 2 ^ 64 }
     ensures { result ≡ cell_len (cell_form cell.now) }
@@ -114,7 +116,8 @@ fn span_of(cell: &Cell) -> u64
     }
 }
 
-// Whether there is a state, and it is that of a header that was never finished.
+// Returns whether there is a state, and it is that of a header under construction or of an invalid
+// header.
 fn is_unfinished(state: Option<FileState>) -> bool
     ensures { result ≡ is_unfinished state }
 {
@@ -124,14 +127,14 @@ fn is_unfinished(state: Option<FileState>) -> bool
     )
 }
 
-// The number of bytes from the header here to the next one, if a cell begins here: as `cell_at`
-// has it, without its checks.
+// Returns the number of bytes from the header here to the next cell. If a cell begins here, this is
+// the length that `cell_at` finds, but nothing is checked.
 fn stride_at(rest: &[u8], polarity: Polarity) -> usize
     requires { 24 ≤ length rest.now }
     ensures least { 24 ≤ result }
     ensures within { result ≤ length rest.now }
 
-    // If a cell that is not free begins here, they are its bytes.
+    // If a cell that is not free begins here, this is its length.
     ensures cell { (system : FileSystem) (c : CellForm) (x behind : List ℕ) → rest.now ≡ x ++ behind → IsCell system polarity c x
         → is_free c ≡ false → result ≡ length x }
 {
@@ -146,13 +149,13 @@ fn stride_at(rest: &[u8], polarity: Polarity) -> usize
     (up_to_8(size) as usize).clamp(header, rest.len())
 }
 
-// How many cells a body has: the list of cells gets its room at once.
+// Returns how many cells a body has, so that room for all of them is allocated at once.
 fn cell_count(body: &[u8], polarity: Polarity) -> usize
-    // If cells tile the body, it is their number.
+    // If cells tile the body, this is their number.
     ensures cells { (system : FileSystem) (first : ℕ) (cs : List CellForm) → Tiles system polarity first cs body.now
         → result ≡ length cs }
 
-    // Otherwise it is at most what headers without data would be.
+    // In any case it is at most the number of 24-byte headers that cover the body.
     ensures most { 24 * result ≤ length body.now + 23 }
 {
     let mut rest = body;
@@ -164,7 +167,7 @@ fn cell_count(body: &[u8], polarity: Polarity) -> usize
     count + usize::from(!rest.is_empty())
 }
 
-// The cells of a body that begins at the offset `first` of its volume.
+// Returns the cells of a body that begins at the offset `first` of its volume.
 fn cells_in(
     alloc: Global,
     body: &[u8],
@@ -197,17 +200,18 @@ fn cells_in(
     Ok(Cells::from_vec(list))
 }
 
-/// The cells of a volume's body, which begins at the offset `first`. There is only one list of
-/// cells that tiles a body. All offsets are in bytes from the volume's start. `first` lies in the
-/// volume; `first` and the volume's length are multiples of 8. A file's payload is the bytes of the
-/// volume after the file's header. (PI specification, volume 3, sections 3.2.2 and 3.2.3.)
+/// Returns the cells of the body of a volume. `volume` is exactly the bytes of the volume. The body
+/// begins at the offset `first`, which is at most the volume's length. Both `first` and that length
+/// are multiples of 8. At most one list of cells tiles a body. All offsets are in bytes from the
+/// volume's start. A file's payload is the bytes of the file after its header, in place in
+/// `volume`. (PI specification, volume 3, sections 3.2.2 and 3.2.3.)
 ///
 /// # Errors
 ///
-/// The fault of the first cell that has one. The faults of a cell come in this order: FreeSpace,
-/// FileState; then FileSize for a stub; for all others LargeFile, FileSize if a large header is cut
-/// short, FileHeaderSum, FileSize; and for a valid file that is no pad also Fixed, FileSum.
-/// OutOfMemory at 0.
+/// The fault of the first cell that has one. A cell is checked in this order: FreeSpace, FileState;
+/// then for a stub FileSize, and for any other cell LargeFile, FileSize if a large header is cut
+/// short, FileHeaderSum, FileSize; and last, for a valid file that is not a pad, Fixed, FileSum.
+/// OutOfMemory at offset 0.
 pub fn cells(
     alloc: Global,
     volume: &[u8],
@@ -219,27 +223,27 @@ pub fn cells(
     requires first_multiple { first % 8 ≡ 0 }
     requires within { first ≤ length volume.now }
 
-    // These cells tile the body.
+    // The returned cells tile the body.
     ensures found { IfOk result (λ cs. Tiles system polarity first cs (drop first volume.now)) }
 
-    // No other cells do.
+    // No other list of cells tiles the body.
     ensures only { IfOk result
         (λ cs. (ds : List CellForm) → Tiles system polarity first ds (drop first volume.now) → ds ≡ cs) }
 
-    // If an error other than OutOfMemory is returned, no cells do.
+    // If the error is not OutOfMemory, no list of cells tiles the body.
     ensures none { IfErr result
         (λ f. f ≢ out_of_memory → (ds : List CellForm) → Tiles system polarity first ds (drop first volume.now) → ⊥) }
 
-    // An error other than OutOfMemory names the first check that does not hold at the first offset
-    // where no cell begins.
+    // An error other than OutOfMemory is the fault of the first check that does not hold at the
+    // first offset where no cell begins.
     ensures first { IfErr result
         (λ f. f ≢ out_of_memory → IsFirstCellFault system polarity first (drop first volume.now) f) }
 
-    // Cells and faults are within the volume.
+    // Each cell lies within the volume. The offset of an error lies within it or at its end.
     ensures lies { IfOk result (CellsWithin (length volume.now)) }
     ensures bound { IfErr result (λ f. f.place.offset ≤ length volume.now) }
 
-    // A body of no bytes is not rejected, not even because memory runs out.
+    // An empty body is never rejected, not even because memory runs out.
     ensures some { IfErr result (λ _. first < length volume.now) }
 {
     let body = bytes_from(volume, first as usize);

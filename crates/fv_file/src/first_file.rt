@@ -1,4 +1,4 @@
-//! Whether bytes begin with a file.
+//! Checks whether bytes begin with a file.
 
 ghost use Rattle.std.specs.Prelude.{◌≡◌, Ok, IfOk, IfErr};
 ghost use Rattle.fv_base.specs.Words.{IsFirstFault};
@@ -12,7 +12,7 @@ use crate::offsets::{HEADER_LEN, SIZE_OFFSET, STATE_OFFSET};
 use crate::state::file_state;
 use fv_base::{Fault, FaultKind, FileSystem, Polarity, check};
 
-// The header, or the first fault.
+// Returns the header of the file that the bytes begin with, or the first fault.
 fn verdict(bytes: &[u8], system: FileSystem, polarity: Polarity) -> Result<FileHead, Fault>
     ensures { result ≡ verify_verdict system polarity bytes.now }
 {
@@ -27,27 +27,28 @@ fn verdict(bytes: &[u8], system: FileSystem, polarity: Polarity) -> Result<FileH
     }
 }
 
-/// The header of the file at the start of the bytes: a valid file, or a pad. What follows the file
-/// is not looked at. Takes no memory. (PI specification, volume 3, section 3.2.3.1.)
+/// Checks the file that the bytes begin with, which is a valid file or a pad, and returns its
+/// header. The bytes after the file are not looked at. Takes no memory. (PI specification, volume
+/// 3, section 3.2.3.1.)
 ///
 /// # Errors
 ///
-/// The first fault, in this order: FileSize if there are fewer than 24 bytes, FileState (bit 0x40
-/// or 0x80 was written, or the file is not valid), LargeFile, FileSize if a large header is cut
-/// short, FileHeaderSum, FileSize, and if the file is no pad Fixed, FileSum. Offsets are in bytes
-/// from the first.
+/// The first fault. The checks are made in this order: FileSize if there are fewer than 24 bytes,
+/// FileState (bit 0x40 or 0x80 was written, or the file is not valid), LargeFile, FileSize if a
+/// large header is cut short, FileHeaderSum, FileSize and, if the file is not a pad, Fixed,
+/// FileSum. Offsets are counted from the first byte.
 pub fn verify_ffs_file(
     bytes: &[u8],
     system: FileSystem,
     polarity: Polarity,
 ) -> Result<FileHead, Fault>
-    // The bytes begin with a file of this header.
+    // The bytes begin with a file that has this header.
     ensures found { IfOk result (λ head. BeginsFile system polarity head bytes.now) }
 
-    // Every file that they begin with is returned.
+    // If the bytes begin with a file, its header is returned.
     ensures only { (head : FileHead) → BeginsFile system polarity head bytes.now → result ≡ Ok head }
 
-    // An error names the first check that does not hold.
+    // An error is the fault of the first check that does not hold.
     ensures first { IfErr result (IsFirstFault (verify_checks system polarity bytes.now)) }
 {
     verdict(bytes, system, polarity)

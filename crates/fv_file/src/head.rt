@@ -1,4 +1,4 @@
-//! The header of a file.
+//! The header of a file, and the checks of a file.
 
 ghost use Rattle.std.specs.Prelude.{◌≡◌, ◌==◌, ◌≤◌, ◌<◌, ◌^◌, ◌&&◌, ◌||◌, not, nat_le, length, IfOk};
 ghost use Rattle.fv_base.specs.Words.{le_at};
@@ -21,34 +21,36 @@ use byteorder::{ByteOrder, LittleEndian};
 use fv_base::field::{bytes_from, field, u64_at};
 use fv_base::{Fault, FaultKind, FileSystem, Guid, check, guid_at, sum8};
 
-/// `IntegrityCheck.Checksum.File` of a file whose data are not summed: `FFS_FIXED_CHECKSUM`. (PI
-/// specification, volume 3, section 3.2.3.1.)
+/// `IntegrityCheck.Checksum.File` of a file without the checksum attribute: `FFS_FIXED_CHECKSUM`.
+/// (PI specification, volume 3, section 3.2.3.1.)
 pub const FIXED_CHECKSUM: u8 = 0xaa;
 
 /// The header of a file, as found. (PI specification, volume 3, section 3.2.3.1,
 /// `EFI_FFS_FILE_HEADER` and `EFI_FFS_FILE_HEADER2`.)
 #[derive(Clone, Copy, Debug, PartialEq, Eq)]
 pub struct FileHead {
-    /// The size of the file in bytes, its header included: `Size`, or `ExtendedSize` of a large
+    /// The size of the file in bytes, including its header: `Size`, or `ExtendedSize` of a large
     /// header.
     pub size: u64,
     /// The length of the header in bytes, 24 or 32.
     pub header_len: u64,
     /// The name, `Name`.
     pub name: Guid,
-    /// The type, `Type`: 0xF0, `EFI_FV_FILETYPE_FFS_PAD`, for a pad.
+    /// The type, `Type`. A pad has the type 0xF0, `EFI_FV_FILETYPE_FFS_PAD`.
     pub kind: u8,
     /// The attribute bits, `Attributes`.
     pub attributes: FileAttributes,
-    /// The byte that makes the header's bytes sum to zero, `IntegrityCheck.Checksum.Header`.
+    /// The header checksum, `IntegrityCheck.Checksum.Header`: the byte that makes the header sum to
+    /// zero modulo 256, with the file checksum and `State` taken as zero.
     pub header_sum: u8,
-    /// The byte that makes the data sum to zero, or 0xAA: `IntegrityCheck.Checksum.File`.
+    /// The file checksum, `IntegrityCheck.Checksum.File`: in a valid file the byte that makes the
+    /// data sum to zero modulo 256, or 0xAA.
     pub file_sum: u8,
-    /// The state of the file, by `State`.
+    /// The state of the file, which `State` shows.
     pub state: FileState,
 }
 
-// The attribute bits in the header at the start of the bytes.
+// Returns the attribute bits of the header that the bytes begin with.
 fn attributes_at(rest: &[u8]) -> FileAttributes
     requires { 24 ≤ length rest.now }
     ensures { attribute_bits result ≡ attributes_at rest.now }
@@ -56,14 +58,14 @@ fn attributes_at(rest: &[u8]) -> FileAttributes
     FileAttributes::from_bits_retain(rest[ATTRIBUTES_OFFSET])
 }
 
-// The length of a header of this form.
+// Returns the length in bytes of a large or a short header.
 pub(crate) fn header_len(large: bool) -> usize
     ensures { result ≡ file_header_len large }
 {
     if large { LARGE_HEADER_LEN } else { HEADER_LEN }
 }
 
-// The length of the header at the start of the bytes.
+// Returns the length of the header that the bytes begin with.
 pub(crate) fn header_len_at(rest: &[u8]) -> usize
     requires { 24 ≤ length rest.now }
     ensures { result ≡ file_header_len_at rest.now }
@@ -71,7 +73,7 @@ pub(crate) fn header_len_at(rest: &[u8]) -> usize
     header_len(attributes_at(rest).is_large())
 }
 
-// `Size` in the header at the start of the bytes.
+// Returns `Size` of the header that the bytes begin with.
 fn short_size(rest: &[u8]) -> u64
     requires { 24 ≤ length rest.now }
     ensures { result ≡ le_at 20 3 rest.now }
@@ -79,7 +81,8 @@ fn short_size(rest: &[u8]) -> u64
     u64::from(LittleEndian::read_u24(field(rest, SIZE_OFFSET, 3)))
 }
 
-// The size of the file, its header included, from the field that its header uses.
+// Returns the size of the file, including its header: `ExtendedSize` of a large header, and
+// otherwise `Size`.
 pub(crate) fn size_at(rest: &[u8]) -> u64
     requires least { 24 ≤ length rest.now }
     requires header { file_header_len_at rest.now ≤ length rest.now }
@@ -92,7 +95,7 @@ pub(crate) fn size_at(rest: &[u8]) -> u64
     }
 }
 
-// The fields of the header at the start of the bytes.
+// Returns the fields of the header that the bytes begin with, with this state.
 fn head_in(rest: &[u8], state: FileState) -> FileHead
     requires least { 24 ≤ length rest.now }
     requires header { file_header_len_at rest.now ≤ length rest.now }
@@ -110,7 +113,7 @@ fn head_in(rest: &[u8], state: FileState) -> FileHead
     }
 }
 
-// Whether the header is short, or the file system has large ones.
+// Returns whether the header is short, or the file system allows large headers.
 fn may_be_large(rest: &[u8], system: FileSystem) -> bool
     requires { 24 ≤ length rest.now }
     ensures { result ≡ may_be_large system rest.now }
@@ -118,7 +121,7 @@ fn may_be_large(rest: &[u8], system: FileSystem) -> bool
     !attributes_at(rest).is_large() || system == FileSystem::Ffs3
 }
 
-// The sum of a header, with the file sum and State taken as zero.
+// Returns the sum of a header's bytes modulo 256, with the file checksum and State taken as zero.
 fn header_sum(header: &[u8]) -> u8
     requires { 24 ≤ length header.now }
     ensures { result ≡ header_sum_of header.now }
@@ -129,7 +132,7 @@ fn header_sum(header: &[u8]) -> u8
         .wrapping_add(sum8(bytes_from(header, HEADER_LEN)))
 }
 
-// Whether the header sums to zero.
+// Returns whether the header sums to zero, so that its header checksum is right.
 fn has_header_sum(rest: &[u8]) -> bool
     requires least { 24 ≤ length rest.now }
     requires header { file_header_len_at rest.now ≤ length rest.now }
@@ -138,8 +141,8 @@ fn has_header_sum(rest: &[u8]) -> bool
     header_sum(&rest[..header_len_at(rest)]) == 0
 }
 
-// Whether the size is neither below the header's length nor past the end, and `Size` of a large
-// header is zero.
+// Returns whether the size is at least the header's length and at most the number of bytes, and
+// `Size` of a large header is zero.
 fn has_file_size(head: &FileHead, rest: &[u8]) -> bool
     requires { 24 ≤ length rest.now }
     ensures { result ≡ (nat_le head.now.header_len head.now.size && (nat_le head.now.size (length rest.now)
@@ -151,7 +154,8 @@ fn has_file_size(head: &FileHead, rest: &[u8]) -> bool
     !head.attributes.is_large() || short_size(rest) == 0
 }
 
-// Whether the file sum is right: with it the data sum to zero, or it is the fixed one.
+// Returns whether the file checksum is right: with the checksum attribute, the data and the file
+// checksum sum to zero modulo 256; otherwise the file checksum is 0xAA.
 fn has_file_sum(head: &FileHead, payload: &[u8]) -> bool
     ensures { result ≡ file_sum_right (attribute_bits head.now.attributes) head.now.file_sum payload.now }
 {
@@ -162,14 +166,14 @@ fn has_file_sum(head: &FileHead, payload: &[u8]) -> bool
     }
 }
 
-// Whether the data are checked: those of a pad, and of a file that is not valid, are not.
+// Returns whether the file's data are checked. They are not if it is a pad or not valid.
 fn checks_data(head: &FileHead) -> bool
     ensures { result ≡ (is_alive head.now.state && not (head.now.kind == pad_kind)) }
 {
     head.state.is_alive() && head.kind != FFS_PAD
 }
 
-// The header of a file at the offset `at`, or the first fault of its checks.
+// Checks the file at the offset `at`. Returns its header, or the first fault.
 pub(crate) fn file_at(
     rest: &[u8],
     at: u64,

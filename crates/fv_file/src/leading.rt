@@ -1,9 +1,10 @@
-//! How many bytes at the front are erased.
+//! Counts how many bytes at the start have one value.
 
 ghost use Rattle.std.specs.Prelude.{◌≡◌, ◌≤◌, length};
 ghost use Rattle.fv_file.specs.FileChecks.{leading_count};
 
-// How many bytes at the front have the value `byte`.
+// Returns how many bytes at the start have the value `byte`, up to the first byte with another
+// value.
 pub(crate) fn leading_count(bytes: &[u8], byte: u8) -> usize
     ensures run { result ≡ leading_count byte bytes.now }
     ensures bound { result ≤ length bytes.now }

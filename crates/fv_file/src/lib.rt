@@ -1,4 +1,5 @@
-//! The files of a firmware volume: states, headers, and the cells that tile a volume's body.
+//! The files of a firmware volume: their states, their headers, and the cells that tile a volume's
+//! body.
 #![tactic(auto)]
 
 mod attributes;

@@ -1,4 +1,4 @@
-//! File and pad headers, written.
+//! Makes the headers of new files and pads.
 
 ghost use Rattle.std.specs.Prelude.{◌≡◌, ℕ, List, ◌≢◌, ◌<◌, ◌≤◌, false, length};
 ghost use Rattle.fv_base.specs.Words.{bytes_of, data_limit, IsBytes};
@@ -21,7 +21,7 @@ use byteorder::{ByteOrder, LittleEndian};
 use fv_base::{Guid, Polarity, sum8};
 use std::marker::Model;
 
-/// `State` of a new file, whose data are valid, if erased bits are zeros: the bits
+/// `State` of a new file with valid data, if erased bits are zeros: the bits
 /// `EFI_FILE_HEADER_CONSTRUCTION`, `EFI_FILE_HEADER_VALID` and `EFI_FILE_DATA_VALID`. (PI
 /// specification, volume 3, section 3.2.3.1, `EFI_FFS_FILE_STATE`.)
 pub const NEW_STATE_ON_ZEROS: u8 = 0x07;
@@ -29,8 +29,9 @@ pub const NEW_STATE_ON_ZEROS: u8 = 0x07;
 /// `State` of a new file if erased bits are ones: the same bits, written as zeros.
 pub const NEW_STATE_ON_ONES: u8 = 0xf8;
 
-/// The bytes of a header, `EFI_FFS_FILE_HEADER` or `EFI_FFS_FILE_HEADER2`: 24, or 32 for a large
-/// one. Contracts see them as a list. (PI specification, volume 3, section 3.2.3.1.)
+/// The bytes of a file's header: 24 bytes, `EFI_FFS_FILE_HEADER`, or 32 for a large header,
+/// `EFI_FFS_FILE_HEADER2`. In contracts, it is the list of these bytes. (PI specification, volume
+/// 3, section 3.2.3.1.)
 #[derive(Drop)]
 pub struct HeadBytes {
     bytes: [u8; LARGE_HEADER_LEN],
@@ -48,7 +49,7 @@ impl Model for HeadBytes {
 }
 
 impl HeadBytes {
-    /// The bytes in order.
+    /// Returns the bytes, in order.
     pub fn as_slice(&self) -> &[u8]
         ensures { result.now ≡ self.now }
     {
@@ -56,22 +57,24 @@ impl HeadBytes {
     }
 }
 
-/// What a new header says. Its header sum follows from this, and `State` from the polarity.
+/// The fields of a new header. They determine its header checksum, and the erase polarity
+/// determines `State`.
 #[derive(Clone, Copy)]
 struct NewHeader {
     /// The name, `Name`.
     name: Guid,
     /// The type, `Type`.
     kind: u8,
-    /// The attribute bits, `Attributes`. Bit 0x01, `FFS_ATTRIB_LARGE_FILE`, says the form.
+    /// The attribute bits, `Attributes`. Bit 0x01, `FFS_ATTRIB_LARGE_FILE`, is set for the large
+    /// form.
     attributes: FileAttributes,
-    /// The size of the file in bytes, its header included.
+    /// The size of the file in bytes, including its header.
     size: u64,
-    /// `IntegrityCheck.Checksum.File`.
+    /// The file checksum, `IntegrityCheck.Checksum.File`.
     file_sum: u8,
 }
 
-// `State` of a new file.
+// Returns `State` of a new file.
 fn state_byte(polarity: Polarity) -> u8
     ensures { result ≡ state_byte polarity }
 {
@@ -81,7 +84,8 @@ fn state_byte(polarity: Polarity) -> u8
     }
 }
 
-// `Size`, `State` and `ExtendedSize`, in order. The size that the form does not use is zero.
+// Returns `Size`, `State` and `ExtendedSize`, in this order. The size field that the form does not
+// use is zero.
 fn size_fields(size: u64, large: bool, state: u8) -> [u8; 12]
     requires { large ≡ false → size < 0x1000000 }
     ensures { result ≡ size_fields size large state }
@@ -96,7 +100,7 @@ fn size_fields(size: u64, large: bool, state: u8) -> [u8; 12]
     bytes
 }
 
-// The 32 bytes of a large header, or those of a short one with zeros after it.
+// Returns the 32 bytes of a large header, or the 24 bytes of a short one with zeros after them.
 fn whole_bytes(
     header: &NewHeader,
     header_sum: u8,
@@ -120,7 +124,7 @@ fn whole_bytes(
     bytes
 }
 
-// The bytes of a header with these two sums and this State.
+// Returns the bytes of a header with these two checksums and this State.
 fn header_of(header: &NewHeader, header_sum: u8, file_sum: u8, state: u8) -> HeadBytes
     requires { HasPlace header.now }
     ensures is { result ≡ header_of header.now header_sum file_sum state }
@@ -133,7 +137,7 @@ fn header_of(header: &NewHeader, header_sum: u8, file_sum: u8, state: u8) -> Hea
     }
 }
 
-// The bytes of a header with its right sum.
+// Returns the bytes of a header with the right header checksum.
 fn new_header_bytes(header: &NewHeader, polarity: Polarity) -> HeadBytes
     requires { HasPlace header.now }
     ensures is { result ≡ new_header_bytes header.now polarity }
@@ -145,7 +149,7 @@ fn new_header_bytes(header: &NewHeader, polarity: Polarity) -> HeadBytes
     header_of(header, header_sum, header.file_sum, state_byte(polarity))
 }
 
-// The attribute bits with the one for the form of the header.
+// Returns the attribute bits, with bit 0x01 set for the large form.
 fn with_form(attributes: FileAttributes, large: bool) -> FileAttributes
     requires { is_large (attribute_bits attributes) ≡ false }
     ensures { attribute_bits result ≡ with_large large (attribute_bits attributes) }
@@ -157,7 +161,7 @@ fn with_form(attributes: FileAttributes, large: bool) -> FileAttributes
     bits
 }
 
-// The header of a file.
+// Returns the fields of the header of a file.
 fn file_header(
     name: Guid,
     kind: u8,
@@ -179,7 +183,7 @@ fn file_header(
     }
 }
 
-// The header of a pad.
+// Returns the fields of the header of a pad.
 fn pad_header(size: u64) -> NewHeader
     ensures { result ≡ pad_header size }
 {
@@ -192,11 +196,12 @@ fn pad_header(size: u64) -> NewHeader
     }
 }
 
-/// The header of a file whose data are valid, in the short form if header and data are at most
-/// 0xFFFFFF bytes, else in the large form. `attributes` has neither bit 0x01, which is set for the
-/// large form, nor bit 0x04. `kind` is not that of a pad. `data_len` is the number of the data's
-/// bytes, at most 268,435,424 (the limit of a volume less a large header). Takes no memory. (PI
-/// specification, volume 3, section 3.2.3.1.)
+/// Returns the header of a file whose data are valid. It has the short form if header and data are
+/// at most 0xFFFFFF bytes, and otherwise the large form. `kind` is not the type of a pad. In
+/// `attributes`, bit 0x04 is clear, and so is bit 0x01, which this call sets for the large form.
+/// `data_len` is the length of the data in bytes, at most 268,435,424 (the limit of a volume minus
+/// a large header). `file_sum` is written as the file checksum. Takes no memory. (PI specification,
+/// volume 3, section 3.2.3.1.)
 pub fn file_head_bytes(
     name: Guid,
     kind: u8,
@@ -210,19 +215,20 @@ pub fn file_head_bytes(
     requires moves { is_fixed (attribute_bits attributes) ≡ false }
     requires most { data_len ≤ data_limit }
 
-    // It is read back as the fields that were passed in.
+    // The result is the header of a new file, with the fields that were passed in.
     ensures read { IsNewHeader polarity
         (file_fields name kind attributes data_len file_sum (header_sum_at result)) result }
 
-    // No other bytes are.
+    // No other bytes are the header of a new file with these fields.
     ensures only { (header_sum : ℕ) (h : List ℕ)
         → IsNewHeader polarity (file_fields name kind attributes data_len file_sum header_sum) h → h ≡ result }
 
-    // With its data and filler it is a valid file.
+    // If `file_sum` is right for the data, the result, the data and the filler are the cell of a
+    // valid file.
     ensures cell { IsHeadOfFile polarity
         (file_fields name kind attributes data_len file_sum (header_sum_at result)) result }
 
-    // It is these bytes.
+    // The result is the bytes that `file_head_of` defines.
     ensures bytes { result ≡ file_head_of name kind attributes data_len file_sum polarity }
 {
     new_header_bytes(
@@ -231,23 +237,23 @@ pub fn file_head_bytes(
     )
 }
 
-/// The header of a pad file of `size` bytes, the header included: 24 to 0xFFFFFF. Its name is 16
-/// bytes 0xFF, its type is 0xF0, its attributes are 0 and its file sum is 0xAA. Takes no memory.
-/// (PI specification, volume 3, section 3.2.3.1.)
+/// Returns the header of a pad file. `size` is the size of the pad in bytes, including this header:
+/// 24 to 0xFFFFFF. The name is 16 bytes 0xFF, the type is 0xF0, the attributes are 0 and the file
+/// checksum is 0xAA. Takes no memory. (PI specification, volume 3, section 3.2.3.1.)
 pub fn pad_head_bytes(size: u64, polarity: Polarity) -> HeadBytes
     requires least { 24 ≤ size }
     requires most { size ≤ 0xffffff }
 
-    // It is read back as the header of a pad of this size.
+    // The result is the header of a new pad of this size.
     ensures read { IsNewHeader polarity (pad_fields size (header_sum_at result)) result }
 
-    // No other bytes are.
+    // No other bytes are the header of a new pad of this size.
     ensures only { (header_sum : ℕ) (h : List ℕ) → IsNewHeader polarity (pad_fields size header_sum) h → h ≡ result }
 
-    // With its data and filler it is a pad.
+    // The result, the pad's other bytes and the filler are the cell of a pad.
     ensures cell { IsHeadOfPad polarity (pad_fields size (header_sum_at result)) result }
 
-    // It is these bytes.
+    // The result is the bytes that `pad_head_of` defines.
     ensures bytes { result ≡ pad_head_of size polarity }
 {
     new_header_bytes(&pad_header(size), polarity)

@@ -5,28 +5,29 @@ ghost use Rattle.fv_file.specs.States.{bits_of, state_in, state_of, is_alive};
 
 use fv_base::Polarity;
 
-/// How far the writing or the removal of a file has come. (PI specification, volume 3, section
-/// 3.2.3.1, `EFI_FFS_FILE_STATE`.)
+/// The state of a file: how far writing or deleting it has come. (PI specification, volume 3,
+/// section 3.2.3.1, `EFI_FFS_FILE_STATE`.)
 #[derive(Clone, Copy, Debug, PartialEq, Eq)]
 pub enum FileState {
-    /// Nothing was written: no bit.
+    /// Nothing was written: no bit is set.
     Free,
-    /// A header is being written, by bit 0x01, `EFI_FILE_HEADER_CONSTRUCTION`.
+    /// A header is being written: bit 0x01, `EFI_FILE_HEADER_CONSTRUCTION`.
     Construction,
-    /// The header is whole, by bit 0x02, `EFI_FILE_HEADER_VALID`; the data are not.
+    /// The header is complete, but the data are not: bit 0x02, `EFI_FILE_HEADER_VALID`.
     HeaderValid,
-    /// The file is whole, by bit 0x04, `EFI_FILE_DATA_VALID`.
+    /// The file is complete: bit 0x04, `EFI_FILE_DATA_VALID`.
     DataValid,
-    /// The file is whole and is to be replaced, by bit 0x08, `EFI_FILE_MARKED_FOR_UPDATE`.
+    /// The file is complete, and is to be replaced: bit 0x08, `EFI_FILE_MARKED_FOR_UPDATE`.
     Marked,
-    /// The file was deleted, by bit 0x10, `EFI_FILE_DELETED`.
+    /// The file was deleted: bit 0x10, `EFI_FILE_DELETED`.
     Deleted,
-    /// The header was never finished, by bit 0x20, `EFI_FILE_HEADER_INVALID`.
+    /// The header was never completed: bit 0x20, `EFI_FILE_HEADER_INVALID`.
     HeaderInvalid,
 }
 
 impl FileState {
-    /// Whether the file is valid: its data are valid, and it is marked for update or not.
+    /// Returns whether a file in this state is valid: its data are valid, and it may be marked for
+    /// update.
     pub fn is_alive(self) -> bool
         ensures { result ≡ is_alive self }
     {
@@ -34,7 +35,7 @@ impl FileState {
     }
 }
 
-// The bits of a State byte that were written since it was erased.
+// Returns the bits of a State byte that were written since it was erased.
 fn bits_of(byte: u8, polarity: Polarity) -> u8
     ensures { result ≡ bits_of polarity byte }
 {
@@ -44,7 +45,8 @@ fn bits_of(byte: u8, polarity: Polarity) -> u8
     }
 }
 
-// The state of the highest bit, if it is one of a state.
+// Returns the state of the highest bit that is set, or Free if none is set. Returns None if the
+// highest bit has no state.
 fn state_in(bits: u8) -> Option<FileState>
     ensures { result ≡ state_in bits }
 {
@@ -60,9 +62,9 @@ fn state_in(bits: u8) -> Option<FileState>
     }
 }
 
-/// The state that `State`, the byte at 23 of a file's header, shows: that of the highest bit that
-/// was written, or None if bit 0x40 or 0x80 was written. Takes no memory. (PI specification, volume
-/// 3, section 3.2.3.1.)
+/// Returns the state that `State`, the byte at offset 23 of a file's header, shows: the state of
+/// the highest bit that was written, or Free if no bit was. Returns None if bit 0x40 or 0x80 was
+/// written. Takes no memory. (PI specification, volume 3, section 3.2.3.1.)
 pub fn file_state(byte: u8, polarity: Polarity) -> Option<FileState>
     ensures { result ≡ state_of polarity byte }
 {

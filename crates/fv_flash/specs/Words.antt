@@ -1,2 +1,2 @@
--- The door of this crate: all that its specs define for other crates.
+-- The definitions of this crate that other crates use. They import them only from here.
 pub use Rattle.fv_flash.specs.FoundVolumes.{VolumeAt, IsPlace, LiesBehind, Apart, IsCovered, Found}

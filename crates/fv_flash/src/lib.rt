@@ -1,4 +1,4 @@
-//! The firmware volumes in some bytes: where they begin. Only `scan` takes memory.
+//! Finding where firmware volumes begin in some bytes. Only `scan` allocates memory.
 #![tactic(auto)]
 
 mod scanner;

@@ -1,4 +1,4 @@
-//! Finding volumes.
+//! Finding firmware volumes.
 
 ghost use Rattle.std.specs.Prelude.{◌≡◌, true, ◌%◌, ◌≤◌, ◌+◌, ℕ, List, length, drop, IfOk, IfErr, IfSome, IfNone};
 ghost use Rattle.fv_base.specs.Words.{out_of_memory};
@@ -12,8 +12,8 @@ use fv_head::{SIGNATURE, verify_fv};
 use std::alloc::Global;
 use std::marker::Model;
 
-/// The offsets at which the volumes in some bytes begin, in rising order, in bytes from the first.
-/// Contracts see the list.
+/// The offsets at which volumes begin in some bytes, in ascending order, in bytes from the first
+/// byte. Contracts see the list of the offsets.
 #[derive(Drop)]
 pub struct Offsets {
     list: Vec<u64>,
@@ -28,7 +28,7 @@ impl Model for Offsets {
 }
 
 impl Offsets {
-    /// The offsets in order.
+    /// Returns the offsets in order.
     pub fn as_slice(&self) -> &[u64]
         ensures { result.now ≡ self.now }
     {
@@ -36,7 +36,8 @@ impl Offsets {
     }
 }
 
-// Whether the bytes from this offset on have the signature where a header has it.
+// Returns whether the bytes from the offset `at` on have the signature at its place in a volume
+// header.
 fn is_signed(bytes: &[u8], at: usize) -> bool
     requires { at + 56 ≤ length bytes.now }
     ensures { result ≡ has_signature (drop at bytes.now) }
@@ -44,7 +45,8 @@ fn is_signed(bytes: &[u8], at: usize) -> bool
     bytes[at + 40..at + 44] == SIGNATURE[..]
 }
 
-// The first offset from this one on, in steps of 8, at which there are 56 bytes with the signature.
+// Returns the first of the offsets `from`, `from` + 8, and so on, at which there are at least 56
+// bytes with the signature.
 fn next_signature(bytes: &[u8], from: usize) -> Option<usize>
     requires multiple { from % 8 ≡ 0 }
     requires within { from ≤ length bytes.now }
@@ -62,7 +64,8 @@ fn next_signature(bytes: &[u8], from: usize) -> Option<usize>
     None
 }
 
-// The first volume from this offset on, in steps of 8: its offset, and the number of its bytes.
+// Returns the offset and the length in bytes of the first volume that begins at one of the offsets
+// `from`, `from` + 8, and so on.
 fn next_volume(bytes: &[u8], from: usize) -> Option<(usize, usize)>
     requires multiple { from % 8 ≡ 0 }
     requires within { from ≤ length bytes.now }
@@ -79,26 +82,26 @@ fn next_volume(bytes: &[u8], from: usize) -> Option<(usize, usize)>
     None
 }
 
-/// The offsets at which the volumes in the bytes begin. They are sought from the first byte on in
-/// steps of 8, and after each volume that is found from its end on. A volume begins where
-/// `verify_fv` of the rest returns Ok. It is called only if the signature is 40 bytes further on,
-/// and it sums at most 2112 bytes there, so the time is linear in the length, whatever the bytes
-/// are. (PI specification, volume 3, section 3.2.1.1.)
+/// Returns the offsets at which volumes begin in the bytes. The search starts at the first byte,
+/// goes on in steps of 8, and continues at the end of each volume that it finds. A volume begins at
+/// an offset if `verify_fv` of the bytes from there on returns Ok. `verify_fv` is called only if
+/// the signature is 40 bytes after the offset, and it sums at most 2112 bytes, so the time is
+/// linear in the number of bytes, whatever they are. (PI specification, volume 3, section 3.2.1.1.)
 ///
 /// # Errors
 ///
-/// OutOfMemory at 0, only if a volume begins in the bytes.
+/// OutOfMemory at offset 0, only if a volume begins in the bytes.
 pub fn scan(alloc: Global, bytes: &[u8]) -> Result<Offsets, Fault>
-    // The volumes begin at these offsets.
+    // The result lists the offsets at which the volumes in the bytes begin.
     ensures found { IfOk result (λ o. Found bytes.now o) }
 
-    // No other list of offsets meets this.
+    // No other list of offsets satisfies `Found`.
     ensures only { IfOk result (λ o. (p : List ℕ) → Found bytes.now p → p ≡ o) }
 
     // The only error is OutOfMemory.
     ensures err { IfErr result (λ f. f ≡ out_of_memory) }
 
-    // Memory runs out only if a volume begins in the bytes.
+    // Memory runs out only if a volume begins in the bytes, at a multiple of 8.
     ensures memory { IfErr result (λ _. (place : ℕ) × IsPlace bytes.now place) }
 {
     let mut list = Vec::new(alloc);

@@ -10,7 +10,7 @@ use Rattle.fv_head.specs.Ext.{Extension, IsExt}
 use Rattle.fv_head.specs.Pairs.{pairs_of, bytes_in}
 use Rattle.fv_head.specs.VolumeAttributes.{polarity_of}
 
--- the signature `_FVH`
+-- the bytes of the signature `_FVH`
 abbrev pub signature_bytes : List ℕ
 signature_bytes = 0x5f ∷ 0x46 ∷ 0x56 ∷ 0x48 ∷ []
 
@@ -21,8 +21,8 @@ system_guid Ffs2 =
 system_guid Ffs3 =
     0x7a ∷ 0xc0 ∷ 0x73 ∷ 0x54 ∷ 0xcb ∷ 0x3d ∷ 0xca ∷ 0x4d ∷ 0xbd ∷ 0x6f ∷ 0x1e ∷ 0x96 ∷ 0x89 ∷ 0xe7 ∷ 0x34 ∷ 0x9a ∷ []
 
--- what a header says of its volume: zero vector, file system, length, attributes, reserved byte, block map, and the
--- extended header, if there is one
+-- the meaning of a volume header: zero vector, file system, length of the volume, attributes, reserved byte, block map
+-- (without the pair of zeros), and the extended header, if there is one
 pub record HeadFields : Type 0 where
   pub zero_vector : List ℕ
   pub file_system : FileSystem
@@ -32,9 +32,9 @@ pub record HeadFields : Type 0 where
   pub blocks : List (ℕ × ℕ)
   pub ext : Option Extension
 
--- the bytes are a header with these fields: ZeroVector, FileSystemGuid, FvLength, Signature, Attributes, HeaderLength,
--- Checksum (by the sum), ExtHeaderOffset (by HasExt), Reserved, Revision and BlockMap. Checksum and ExtHeaderOffset may
--- be any that fit
+-- the bytes are a volume header: ZeroVector, FileSystemGuid, FvLength, Attributes, Reserved and BlockMap have the
+-- values of h, and Signature, HeaderLength, Checksum and Revision are right. Checksum is right if the 16-bit words of
+-- the header sum to 0. ExtHeaderOffset may be any number here: `HasExt` says what is at that offset
 pub record IsHead (h : HeadFields) (b : List ℕ) : Type 0 where
   pub bytes : IsBytes b
   pub zero_vector : field 0 16 b ≡ h.zero_vector
@@ -56,13 +56,13 @@ pub record IsHead (h : HeadFields) (b : List ℕ) : Type 0 where
   pub volume_least : length b ≤ h.length
   pub volume_most : h.length ≤ volume_limit
 
--- the length of a header with these fields
+-- the length in bytes of a header with these fields
 abbrev pub header_len_of : HeadFields → ℕ
 header_len_of h = 56 + 8 * (length h.blocks + 1)
 
--- where the extended header and the first file are: the bytes at ExtHeaderOffset are an extended header with the
--- meaning x, after the volume header and within the volume, and the first file begins at the next multiple of 8. Or
--- there is no extended header, and the first file begins at HeaderLength
+-- the bytes at ExtHeaderOffset are an extended header with the meaning x, after the volume header and within the
+-- volume, and the first file may begin at its end, rounded up to a multiple of 8. Or there is no extended header:
+-- ExtHeaderOffset is 0, and the first file may begin at HeaderLength
 abbrev pub HasExt : Option Extension → Extent → List ℕ → Type 0
 HasExt None e b = (le_at 52 2 b ≡ 0) × (e.first ≡ e.header_len)
 HasExt (Some x) e b =
@@ -71,8 +71,8 @@ HasExt (Some x) e b =
     × (e.header_len ≤ length before) × (length before + length part ≤ e.length) × IsExt x part
     × (e.first ≡ up_to_8 (length before + length part))
 
--- the bytes begin with a volume of this header and this extent: they have at least FvLength bytes, and the extended
--- header where the volume header says, or there is none
+-- the bytes begin with a volume that has this header and this extent: there are at least FvLength bytes, and the
+-- extended header, if there is one, is where the volume header says
 pub record BeginsVolume (h : HeadFields) (e : Extent) (b : List ℕ) : Type 0 where
   pub head : IsHead h (take e.header_len b)
   pub long_enough : e.header_len ≤ length b
@@ -82,7 +82,8 @@ pub record BeginsVolume (h : HeadFields) (e : Extent) (b : List ℕ) : Type 0 wh
   pub file_system : e.file_system ≡ h.file_system
   pub polarity : e.polarity ≡ polarity_of h.attributes
 
--- the ExtHeaderOffset of a canonical head: 0, or after the header of a pad file that follows the head
+-- ExtHeaderOffset in the canonical image: 0 if there is no extended header, and otherwise HeaderLength + 24, after the
+-- header of the pad file that follows the volume header
 abbrev pub canonical_offset : HeadFields → Option Extension → ℕ
 canonical_offset h None = 0
 canonical_offset h (Some x) = header_len_of h + 24

@@ -1,4 +1,4 @@
--- The checks of a volume's header, in a fixed order, and bytes that begin with such a header.
+-- The checks of a volume's header in order, and the statement that bytes begin with a volume.
 use Rattle.std.specs.Prelude.{ℕ, ◌+◌, ◌||◌, ◌-◌, ◌%◌, ◌==◌, nat_le, Bool, ◌&&◌, not, is_some, if◌then◌else◌, List, []}
 use Rattle.std.specs.Prelude.{◌∷◌, ◌++◌, length, take, slice_index, Option, None, Some}
 use Rattle.std.specs.Str.{bytes_eq}
@@ -16,7 +16,7 @@ use Rattle.fv_head.specs.declared.extent.Extent.{Extent}
 abbrev pub has_signature : List ℕ → Bool
 has_signature b = bytes_eq (field 40 4 b) signature_bytes
 
--- the file system whose GUID is at 16
+-- the file system whose GUID is at offset 16, if it is that of FFS2 or FFS3
 abbrev pub file_system_at : List ℕ → Option FileSystem
 file_system_at b =
     if bytes_eq (field 16 16 b) (system_guid Ffs2) then Some Ffs2
@@ -29,36 +29,38 @@ header_len_at b = le_at 48 2 b
 abbrev pub volume_len_at : List ℕ → ℕ
 volume_len_at b = le_at 32 8 b
 
--- a header may have n bytes: a multiple of 8 from 64 to `header_limit`
+-- a volume header may have n bytes: n is a multiple of 8 from 64 to `header_limit`
 abbrev pub is_header_len : ℕ → Bool
 is_header_len n = (n % 8 == 0) && nat_le 64 n && nat_le n header_limit
 
--- the 16-bit words of the first n bytes sum to 0
+-- the 16-bit words of the first n bytes sum to 0 modulo 65536
 abbrev pub has_sum : ℕ → List ℕ → Bool
 has_sum n b = sum16_of (take n b) == 0
 
--- both numbers of a pair are zero
+-- both numbers of the pair are zero
 abbrev pub is_zero_pair : ℕ × ℕ → Bool
 is_zero_pair p = (p.0 == 0) && (p.1 == 0)
 
--- the bytes say that they are one volume and no more: only the signature, the file system and FvLength are looked at
+-- the bytes claim to be exactly one volume: there are at least 56, the signature and the GUID of the file system are
+-- right, and FvLength is their number. Nothing else is checked
 abbrev pub is_one_volume : List ℕ → Bool
 is_one_volume b = nat_le 56 (length b) && has_signature b && is_some (file_system_at b) && (volume_len_at b == length b)
 
--- none of the blocks is a pair of zeros, and together they have `total` bytes
+-- no pair is a pair of zeros, and the blocks of all pairs together have `total` bytes
 abbrev pub makes_up : List (ℕ × ℕ) → ℕ → Bool
 makes_up blocks total = list_all (λ p. not (is_zero_pair p)) blocks && (bytes_in blocks == total)
 
--- the block map's pairs except the last
+-- the pairs of the block map of a header of n bytes, except the last pair
 abbrev pub blocks_at : ℕ → List ℕ → List (ℕ × ℕ)
 blocks_at n b = pairs_of (field 56 (n - 64) b)
 
--- the first pair of zeros is at the header's end, and the blocks make up the volume
+-- in a header of n bytes, the first pair of zeros is at the end, and the blocks of the pairs before it together have
+-- FvLength bytes
 abbrev pub has_block_map : ℕ → List ℕ → Bool
 has_block_map n b =
     makes_up (blocks_at n b) (volume_len_at b) && is_zero_pair (le_at (n - 8) 4 b, le_at (n - 4) 4 b)
 
--- a volume with a header of n bytes may have len bytes: a multiple of 8, at least n, at most `volume_limit`
+-- a volume with a header of n bytes may have len bytes: len is a multiple of 8, at least n and at most `volume_limit`
 abbrev pub is_volume_len : ℕ → ℕ → Bool
 is_volume_len n len = (len % 8 == 0) && nat_le n len && nat_le len volume_limit
 
@@ -69,7 +71,8 @@ ext_offset_at b = le_at 52 2 b
 abbrev pub ext_size_at : List ℕ → ℕ
 ext_size_at b = le_at (ext_offset_at b + 16) 4 b
 
--- an extended header is after the header and within the volume, or there is none
+-- there is no extended header, or it has 20 to `ext_limit` bytes and lies after the header of n bytes and within the
+-- volume of len bytes
 abbrev pub has_ext : ℕ → ℕ → List ℕ → Bool
 has_ext n len b =
     (ext_offset_at b == 0)
@@ -77,7 +80,7 @@ has_ext n len b =
     && nat_le (ext_size_at b) ext_limit
     && nat_le (ext_offset_at b + ext_size_at b) len)
 
--- the checks of a header's first 56 bytes, in their order, each with its fault
+-- the checks of the first 56 bytes of a header, in order, each with its fault
 abbrev pub front_checks : List ℕ → List (Check Fault)
 front_checks b =
     check (nat_le 56 (length b)) kinds.Truncated (length b)
@@ -87,7 +90,7 @@ front_checks b =
     ∷ check (is_header_len (header_len_at b)) kinds.HeaderLength 48
     ∷ []
 
--- the checks of the whole header, of FvLength and of the extended header
+-- the checks of the whole header, of FvLength and of the extended header, in order, each with its fault
 abbrev pub whole_checks : List ℕ → List (Check Fault)
 whole_checks b =
     check (nat_le (header_len_at b) (length b)) kinds.Truncated (length b)
@@ -98,10 +101,11 @@ whole_checks b =
     ∷ check (has_ext (header_len_at b) (volume_len_at b) b) kinds.ExtHeader 52
     ∷ []
 
--- the checks of a header, in their order, each with its fault
+-- all checks of a header, in order, each with its fault
 abbrev pub head_checks : List ℕ → List (Check Fault)
 head_checks b = front_checks b ++ whole_checks b
 
--- the bytes begin with the header of a volume: only then does a call that reads them as a volume take memory
+-- the bytes begin with a volume, as far as its header says. Only then does a call that reads them as a volume take
+-- memory
 abbrev pub BeginsWithHeader : List ℕ → Type 0
 BeginsWithHeader b = (h : HeadFields) × (e : Extent) × BeginsVolume h e b

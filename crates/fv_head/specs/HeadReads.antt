@@ -1,5 +1,5 @@
--- What is known of a header that was read, and of the head of the canonical image (PI specification, volume 3, section
--- 3.2.1).
+-- What is known of a header that was read, and of the volume header of the canonical image (PI specification, volume 3,
+-- section 3.2.1).
 use Rattle.std.specs.Prelude.{◌≡◌, ℕ, List, ◌++◌, length, Option, None, Some}
 use Rattle.fv_base.specs.Words.{IsBytes, le_at}
 use Rattle.fv_head.specs.Ext.{Extension, IsExt}
@@ -8,32 +8,33 @@ use Rattle.fv_head.specs.Head.{HeadFields, header_len_of, IsHead, canonical_offs
 use Rattle.fv_head.specs.VolumeAttributes.{polarity_of}
 use Rattle.fv_head.specs.declared.extent.Extent.{Extent}
 
--- some bytes are an extended header with this meaning: true of every `ExtHeader`
+-- there are bytes that form an extended header with this meaning; this is true of every `ExtHeader`
 abbrev pub IsReadExt : Extension → Type 0
 IsReadExt x = (b : List ℕ) × IsBytes b × IsExt x b
 
--- the extended header, if there is one, is that of some bytes
+-- if there is an extended header, there are bytes that form an extended header with this meaning
 abbrev pub IfRead : Option Extension → Type 0
 IfRead None = Unit {0}
 IfRead (Some x) = IsReadExt x
 
--- what follows the canonical head: if there is an extended header, the 24 bytes of a pad file's header, and then the
--- extended header
+-- the bytes may follow the volume header of the canonical image: if there is an extended header, they begin with any 24
+-- bytes (for a pad's header) and then the extended header, with any used size
 abbrev pub CanonicalRest : Option Extension → List ℕ → Type 0
 CanonicalRest None rest = Unit {0}
 CanonicalRest (Some x) rest =
     (pad : List ℕ) × (used : ℕ) × (behind : List ℕ) × (rest ≡ pad ++ (ext_spelled x used ++ behind)) × (length pad ≡ 24)
 
--- these are the fields of some header: true of every `VolumeHead`
+-- there are bytes that form a volume header with these fields; this is true of every `VolumeHead`
 abbrev pub IsReadHead : HeadFields → Type 0
 IsReadHead h = (b : List ℕ) × IsHead h b
 
--- the bytes are the head of the canonical image: a header with these fields whose ExtHeaderOffset is the canonical one
+-- the bytes are the volume header of the canonical image: a header with these fields whose ExtHeaderOffset is
+-- `canonical_offset`
 pub record IsCanonicalHead (h : HeadFields) (b : List ℕ) : Type 0 where
   pub head : IsHead h b
   pub offset : le_at 52 2 b ≡ canonical_offset h h.ext
 
--- the extent of a volume of this head, whose extended header is at its canonical place
+-- the extent of a volume with this header, if its first file may begin at `first`
 abbrev pub extent_of : HeadFields → ℕ → Extent
 extent_of h first = record {
   length = h.length;

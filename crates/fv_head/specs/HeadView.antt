@@ -1,4 +1,4 @@
--- The fields that a kept header shows.
+-- The fields of a volume header that is kept in memory.
 use Rattle.fv_head.specs.declared.head.VolumeHead.TheInside.{Inside}
 use Rattle.fv_head.specs.Head.{HeadFields}
 

@@ -6,8 +6,8 @@ ghost use Rattle.fv_head.specs.VolumeAttributes.{polarity_of};
 use bitflags::{Flag, Flags, bitflag_items};
 use fv_base::Polarity;
 
-/// A volume's attribute bits, all 32 of them as found. (PI specification, volume 3, section
-/// 3.2.1.1, `EFI_FVB_ATTRIBUTES_2`.)
+/// All 32 attribute bits of a volume, as found. (PI specification, volume 3, section 3.2.1.1,
+/// `EFI_FVB_ATTRIBUTES_2`.)
 #[derive(Clone, Copy, PartialEq, Eq, Debug)]
 pub struct FvAttributes(u32);
 
@@ -78,7 +78,8 @@ impl Flags for FvAttributes {
 }
 
 impl FvAttributes {
-    /// The value of erased bits, by bit 0x800, `EFI_FVB2_ERASE_POLARITY`.
+    /// Returns the erase polarity: ones if bit 0x800, `EFI_FVB2_ERASE_POLARITY`, is set, and
+    /// otherwise zeros.
     pub fn polarity(self) -> Polarity
         ensures { result ≡ polarity_of self.0 }
     {

@@ -7,9 +7,10 @@ use crate::offsets::{BLOCK_ENTRY_LEN, BLOCK_LENGTH_OFFSET, NUM_BLOCKS_OFFSET};
 use fv_base::field::u32_at;
 use std::marker::Model;
 
-/// The blocks of a volume. Each entry has a number of blocks, `NumBlocks`, and the bytes of each,
-/// `Length`. Contracts see the list of the entries, without the pair of zeros that ends it. (PI
-/// specification, volume 3, section 3.2.1.1, `EFI_FV_BLOCK_MAP_ENTRY`.)
+/// The block map of a volume. Each entry is a pair: a number of blocks, `NumBlocks`, and the size
+/// of each block in bytes, `Length`. In contracts, a block map is the list of its entries, without
+/// the pair of zeros that ends it. (PI specification, volume 3, section 3.2.1.1,
+/// `EFI_FV_BLOCK_MAP_ENTRY`.)
 #[derive(Drop)]
 pub struct BlockMap {
     blocks: Vec<(u32, u32)>,
@@ -22,14 +23,14 @@ impl Model for BlockMap {
 }
 
 impl BlockMap {
-    /// The block map with the entries of a vector. Takes no memory.
+    /// Makes a block map of the entries in a vector. Takes no memory.
     pub fn from_vec(blocks: Vec<(u32, u32)>) -> BlockMap
         ensures { result ≡ blocks.items }
     {
         BlockMap { blocks }
     }
 
-    /// The entries in order.
+    /// Returns the entries, in order.
     pub fn as_slice(&self) -> &[(u32, u32)]
         ensures { result.now ≡ self.now }
     {
@@ -37,7 +38,8 @@ impl BlockMap {
     }
 }
 
-// The first pair that the bytes spell, and the bytes after it; None if fewer than 8 are left.
+// Returns the pair that the bytes begin with, and the bytes after it, or None if there are fewer
+// than 8 bytes.
 pub(crate) fn first_pair(bytes: &[u8]) -> Option<((u32, u32), &[u8])>
     ensures some { IfSome result
         (λ e. (pairs_of bytes.now ≡ e.0 ∷ pairs_of e.1.now) × (length bytes.now ≡ 8 + length e.1.now)) }

@@ -1,4 +1,4 @@
-//! The extended header of a volume, as kept in memory.
+//! The extended header of a volume: how it is kept in memory, and how it is read.
 
 ghost use Rattle.std.specs.Prelude.{◌≡◌, ◌≤◌, ℕ, List, drop, length, IfOk, IfErr, IfSome, IfNone};
 ghost use Rattle.fv_base.specs.Words.{out_of_memory, ext_limit, le_at};
@@ -17,11 +17,11 @@ use std::marker::Model;
 /// The type of an entry that holds the used size: `EFI_FV_EXT_TYPE_USED_SIZE_TYPE`.
 const USED_SIZE: u16 = 3;
 
-/// What is kept of a used size.
+/// The payload that is kept in place of the value of a used size.
 const ZERO_USED_SIZE: [u8; 4] = [0; 4];
 
-/// An entry of an extended header. Contracts see its type and its payload. (PI specification,
-/// volume 3, section 3.2.1.2, `EFI_FIRMWARE_VOLUME_EXT_ENTRY`.)
+/// An entry of an extended header. In contracts, it is the pair of its type and its payload. (PI
+/// specification, volume 3, section 3.2.1.2, `EFI_FIRMWARE_VOLUME_EXT_ENTRY`.)
 #[derive(Drop)]
 pub struct ExtEntry<'a> {
     kind: u16,
@@ -35,16 +35,17 @@ impl<'a> Model for ExtEntry<'a> {
 }
 
 impl<'a> ExtEntry<'a> {
-    /// The type, `ExtEntryType`: 1 for OEM types (`EFI_FV_EXT_TYPE_OEM_TYPE`), 2 for a GUID entry
-    /// (`EFI_FV_EXT_TYPE_GUID_TYPE`), 3 for the used size (`EFI_FV_EXT_TYPE_USED_SIZE_TYPE`).
+    /// Returns the entry's type, `ExtEntryType`: 1 for OEM types (`EFI_FV_EXT_TYPE_OEM_TYPE`), 2
+    /// for a GUID entry (`EFI_FV_EXT_TYPE_GUID_TYPE`), 3 for the used size
+    /// (`EFI_FV_EXT_TYPE_USED_SIZE_TYPE`).
     pub fn kind(&self) -> u16
         ensures { result ≡ self.now.0 }
     {
         self.kind
     }
 
-    /// The bytes after the entry's header. The value of a used size (an entry of type 3 with 4
-    /// bytes) is no part of the meaning: it is four zero bytes here.
+    /// Returns the bytes after the entry's header. For a used size (an entry of type 3 with 4 bytes
+    /// of payload) they are four zero bytes, because its value is not part of the meaning.
     pub fn payload(&self) -> &'a [u8]
         ensures { result.now ≡ self.now.1 }
     {
@@ -52,9 +53,9 @@ impl<'a> ExtEntry<'a> {
     }
 }
 
-/// The extended header of a volume; only reading makes one. Contracts see its fields, and know that
-/// they are those of some bytes. (PI specification, volume 3, section 3.2.1.2,
-/// `EFI_FIRMWARE_VOLUME_EXT_HEADER`.)
+/// The extended header of a volume. The only way to get one is to read it. In contracts, it is an
+/// `Extension` for which `IsReadExt` holds: there are bytes that form an extended header with this
+/// meaning. (PI specification, volume 3, section 3.2.1.2, `EFI_FIRMWARE_VOLUME_EXT_HEADER`.)
 #[derive(Drop)]
 pub struct ExtHeader<'a> {
     name: Guid,
@@ -74,24 +75,24 @@ impl<'a> Model for ExtHeader<'a> {
 }
 
 impl<'a> ExtHeader<'a> {
-    /// The name of the volume, `FvName`.
+    /// Returns the name of the volume, `FvName`.
     pub fn name(&self) -> Guid
         ensures name { result ≡ self.now.name }
 
-        // The fields are those of some bytes.
+        // There are bytes that form an extended header with this meaning.
         ensures read { IsReadExt self.now }
     {
         self.name
     }
 
-    /// The entries in order.
+    /// Returns the entries, in order.
     pub fn entries(&self) -> &[ExtEntry<'a>]
         ensures { result.now ≡ self.now.entries }
     {
         self.entries.as_slice()
     }
 
-    /// The bytes after the entries, which begin no entry.
+    /// Returns the bytes after the last entry, which do not begin with an entry.
     pub fn tail(&self) -> &'a [u8]
         ensures { result.now ≡ self.now.tail }
     {
@@ -99,7 +100,8 @@ impl<'a> ExtHeader<'a> {
     }
 }
 
-// The size of the entry at the start of the bytes, if they begin one.
+// Returns the size of the entry that the bytes begin with, or None if they do not begin with an
+// entry.
 fn entry_len(bytes: &[u8]) -> Option<usize>
     ensures some { IfSome result (λ n. (n ≡ le_at 0 2 bytes.now) × (4 ≤ n) × (n ≤ length bytes.now)) }
     ensures none { IfNone result (BeginNoEntry bytes.now) }
@@ -114,14 +116,14 @@ fn entry_len(bytes: &[u8]) -> Option<usize>
     Some(size)
 }
 
-// Whether an entry holds the used size.
+// Returns whether an entry with this type and this payload holds the used size.
 pub(crate) fn is_used_size(kind: u16, payload: &[u8]) -> bool
     ensures { result ≡ is_used_size kind payload.now }
 {
     kind == USED_SIZE && payload.len() == 4
 }
 
-// The entry of these bytes, whose first two are its size.
+// Returns the entry that these bytes are: a header of 4 bytes, and then the payload.
 fn entry_of(entry: &[u8]) -> ExtEntry<'_>
     requires { 4 ≤ length entry.now }
     ensures kind { result.0 ≡ le_at 2 2 entry.now }
@@ -137,7 +139,8 @@ fn entry_of(entry: &[u8]) -> ExtEntry<'_>
     ExtEntry { kind, payload }
 }
 
-// The entries at the start of the bytes, and the tail after them.
+// Reads the entries that the bytes begin with. Returns them and the tail, which is the bytes after
+// them.
 fn entries_of(alloc: Global, bytes: &[u8]) -> Result<(Vec<ExtEntry<'_>>, &[u8]), Fault>
     ensures ok { IfOk result (λ r. SplitsEntries r.0.items r.1.now bytes.now) }
     ensures err { IfErr result (λ f. f ≡ out_of_memory) }
@@ -152,7 +155,7 @@ fn entries_of(alloc: Global, bytes: &[u8]) -> Result<(Vec<ExtEntry<'_>>, &[u8]),
     Ok((entries, rest))
 }
 
-// The extended header that the bytes are.
+// Reads the extended header that these bytes are.
 pub(crate) fn ext_of(alloc: Global, bytes: &[u8]) -> Result<ExtHeader<'_>, Fault>
     requires least { 20 ≤ length bytes.now }
     requires most { length bytes.now ≤ ext_limit }

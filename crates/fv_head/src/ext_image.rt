@@ -1,4 +1,4 @@
-//! An extended header, spelled with a used size.
+//! The bytes of an extended header, with a given used size.
 
 ghost use Rattle.std.specs.Prelude.{◌≡◌, ◌+◌, ◌≤◌, length, IfOk, IfErr};
 ghost use Rattle.fv_base.specs.Words.{out_of_memory, ext_limit};
@@ -11,7 +11,7 @@ use crate::head_image::{put_u16, put_u32};
 use fv_base::{ByteList, Fault, ListSink, Sink};
 use std::alloc::Global;
 
-// The number of bytes of the entries.
+// Returns the length of the entries in bytes, including their headers.
 fn len_of_entries(entries: &[ExtEntry<'_>]) -> u32
     requires { entries_len entries.now ≤ ext_limit }
     ensures { result ≡ entries_len entries.now }
@@ -23,20 +23,20 @@ fn len_of_entries(entries: &[ExtEntry<'_>]) -> u32
     len
 }
 
-/// The number of bytes of an extended header, `ExtHeaderSize`: 20, the bytes of its entries and
-/// those of its tail. Takes no memory. (PI specification, volume 3, section 3.2.1.2.)
+/// Returns the length of an extended header in bytes, `ExtHeaderSize`: 20, plus the lengths of its
+/// entries and of its tail. Takes no memory. (PI specification, volume 3, section 3.2.1.2.)
 pub fn len_of_ext(ext: &ExtHeader<'_>) -> u32
     ensures len { result ≡ ext_len ext.now }
     ensures most { ext_len ext.now ≤ ext_limit }
 
-    // The fields are those of some bytes.
+    // There are bytes that form an extended header with the meaning of `ext`.
     ensures read { IsReadExt ext.now }
 {
     let _name = ext.name();
     20 + len_of_entries(ext.entries()) + ext.tail().len() as u32
 }
 
-// Puts the payload of an entry; a used size has the value `used`.
+// Puts the payload of an entry into a sink. If it is a used size, its value is `used`.
 fn put_payload<S: Sink>(out: &mut S, entry: &ExtEntry<'_>, used: u32)
     ensures { S.takes out.old (payload_with used entry.now) out.new }
 {
@@ -48,7 +48,7 @@ fn put_payload<S: Sink>(out: &mut S, entry: &ExtEntry<'_>, used: u32)
     }
 }
 
-// Puts an entry; a used size has the value `used`.
+// Puts an entry into a sink. If it holds the used size, the value is `used`.
 fn put_entry<S: Sink>(out: &mut S, entry: &ExtEntry<'_>, used: u32)
     requires { 4 + length entry.now.1 ≤ ext_limit }
     ensures { S.takes out.old (entry_bytes used entry.now) out.new }
@@ -58,7 +58,7 @@ fn put_entry<S: Sink>(out: &mut S, entry: &ExtEntry<'_>, used: u32)
     put_payload(out, entry, used);
 }
 
-// Puts entries, one after another.
+// Puts the entries into a sink, one after the other. The value of each used size is `used`.
 fn put_entries<S: Sink>(out: &mut S, entries: &[ExtEntry<'_>], used: u32)
     requires { entries_len entries.now ≤ ext_limit }
     ensures { S.takes out.old (entries_bytes used entries.now) out.new }
@@ -68,9 +68,10 @@ fn put_entries<S: Sink>(out: &mut S, entries: &[ExtEntry<'_>], used: u32)
     }
 }
 
-/// Puts an extended header: `FvName`, `ExtHeaderSize`, its entries and its tail. Each used size
-/// (the payload of an entry `EFI_FV_EXT_TYPE_USED_SIZE_TYPE`) has the value `used`, in bytes. Takes
-/// no memory. (PI specification, volume 3, section 3.2.1.2.)
+/// Puts an extended header into the sink `out`: `FvName`, `ExtHeaderSize`, the entries and the
+/// tail. The value of each used size (the 4-byte payload of an entry of type
+/// `EFI_FV_EXT_TYPE_USED_SIZE_TYPE`) is `used`, in bytes. Takes no memory. (PI specification,
+/// volume 3, section 3.2.1.2.)
 pub fn put_ext<S: Sink>(out: &mut S, ext: &ExtHeader<'_>, used: u32)
     ensures bytes { S.takes out.old (ext_spelled ext.now used) out.new }
     ensures len { length (ext_spelled ext.now used) ≡ ext_len ext.now }
@@ -83,16 +84,16 @@ pub fn put_ext<S: Sink>(out: &mut S, ext: &ExtHeader<'_>, used: u32)
     out.put(ext.tail());
 }
 
-/// The bytes of an extended header whose used sizes have the value `used`, as `put_ext` puts them.
-/// (PI specification, volume 3, section 3.2.1.2.)
+/// Returns the bytes of an extended header, as `put_ext` puts them. The value of each used size is
+/// `used`. (PI specification, volume 3, section 3.2.1.2.)
 ///
 /// # Errors
 ///
-/// OutOfMemory at 0.
+/// OutOfMemory at offset 0.
 pub fn ext_bytes(alloc: Global, ext: &ExtHeader<'_>, used: u32) -> Result<ByteList, Fault>
     ensures bytes { IfOk result (λ bytes. bytes ≡ ext_spelled ext.now used) }
 
-    // Read back, they have the same meaning.
+    // The bytes are an extended header with the same meaning.
     ensures again { IfOk result (λ bytes. IsExt ext.now bytes) }
 
     // The only error is OutOfMemory.

@@ -2,18 +2,18 @@
 
 use fv_base::{FileSystem, Polarity};
 
-/// The extent of a volume, and what its header says of the rest. (PI specification, volume 3,
-/// section 3.2.1.1.)
+/// The extent of a volume, and what its header says about the body: where it begins, its file
+/// system and its erase polarity. (PI specification, volume 3, section 3.2.1.1.)
 #[derive(Clone, Copy, Debug, PartialEq, Eq)]
 pub struct Extent {
     /// The length of the volume in bytes, `FvLength`.
     pub length: u64,
     /// The length of its header in bytes, `HeaderLength`.
     pub header_len: u64,
-    /// Where its first file may begin, in bytes from the volume's start.
+    /// The offset at which its first file may begin, in bytes from the volume's start.
     pub first: u64,
     /// Its file system.
     pub file_system: FileSystem,
-    /// The value of its erased bits, by `EFI_FVB2_ERASE_POLARITY`.
+    /// Its erase polarity, by `EFI_FVB2_ERASE_POLARITY`.
     pub polarity: Polarity,
 }

@@ -1,4 +1,4 @@
-//! The header of a volume, as kept in memory.
+//! The header of a volume: how it is kept in memory, and how it is read.
 
 ghost use Rattle.std.specs.Prelude.{◌≡◌, ◌⊎◌, ◌%◌, ◌≤◌, length, IfOk, IfErr, option_copied};
 ghost use Rattle.fv_base.specs.Words.{OrMemory, IsFirstFault, out_of_memory, header_limit};
@@ -23,8 +23,9 @@ use fv_base::{Fault, FileSystem};
 use std::alloc::Global;
 use std::marker::Model;
 
-/// A volume's header; only reading makes one. Contracts see its fields, and know that they are
-/// those of a header. (PI specification, volume 3, section 3.2.1.1, `EFI_FIRMWARE_VOLUME_HEADER`.)
+/// The header of a volume. The only way to get one is to read it. In contracts, it is a
+/// `HeadFields` for which `IsReadHead` holds: there are bytes that form a volume header with these
+/// fields. (PI specification, volume 3, section 3.2.1.1, `EFI_FIRMWARE_VOLUME_HEADER`.)
 #[derive(Drop)]
 pub struct VolumeHead<'a> {
     zero_vector: [u8; 16],
@@ -50,60 +51,60 @@ impl<'a> Model for VolumeHead<'a> {
 }
 
 impl<'a> VolumeHead<'a> {
-    /// `ZeroVector`, the 16 bytes at the volume's start, as found.
+    /// Returns `ZeroVector`, the 16 bytes at the volume's start, as found.
     pub fn zero_vector(&self) -> &[u8; 16]
         ensures { result.now ≡ self.now.zero_vector }
     {
         &self.zero_vector
     }
 
-    /// The file system, by `FileSystemGuid`.
+    /// Returns the file system that `FileSystemGuid` names.
     pub fn file_system(&self) -> FileSystem
         ensures { result ≡ self.now.file_system }
     {
         self.file_system
     }
 
-    /// The length of the volume in bytes, `FvLength`.
+    /// Returns the length of the volume in bytes, `FvLength`.
     pub fn length(&self) -> u64
         ensures { result ≡ self.now.length }
     {
         self.length
     }
 
-    /// The attribute bits, `Attributes`.
+    /// Returns the attribute bits, `Attributes`.
     pub fn attributes(&self) -> FvAttributes
         ensures { result.0 ≡ self.now.attributes }
     {
         self.attributes
     }
 
-    /// The reserved byte, `Reserved`, as found.
+    /// Returns the reserved byte, `Reserved`, as found.
     pub fn reserved(&self) -> u8
         ensures { result ≡ self.now.reserved }
     {
         self.reserved
     }
 
-    /// The block map, `BlockMap`.
+    /// Returns the block map, `BlockMap`.
     pub fn blocks(&self) -> &BlockMap
         ensures { result.now ≡ self.now.blocks }
     {
         &self.blocks
     }
 
-    /// The length of the header in bytes, `HeaderLength`.
+    /// Returns the length of the header in bytes, `HeaderLength`.
     pub fn header_len(&self) -> u16
         ensures length { result ≡ header_len_of self.now }
         ensures most { header_len_of self.now ≤ header_limit }
 
-        // The fields are those of a header.
+        // There are bytes that form a volume header with these fields.
         ensures read { IsReadHead self.now }
     {
         8 * (self.blocks.as_slice().len() as u16 + 1) + 56
     }
 
-    /// The extended header, at `ExtHeaderOffset`, if there is one.
+    /// Returns the extended header, which was read at `ExtHeaderOffset`, if there is one.
     pub fn ext(&self) -> Option<&ExtHeader<'a>>
         ensures { option_copied result ≡ self.now.ext }
     {
@@ -111,7 +112,7 @@ impl<'a> VolumeHead<'a> {
     }
 }
 
-// The blocks that bytes spell.
+// Reads a block map from the bytes of its entries, without the pair of zeros that ends it.
 fn blocks_of(alloc: Global, bytes: &[u8]) -> Result<BlockMap, Fault>
     requires { length bytes.now % 8 ≡ 0 }
     ensures ok { IfOk result (λ m. m ≡ pairs_of bytes.now) }
@@ -126,7 +127,7 @@ fn blocks_of(alloc: Global, bytes: &[u8]) -> Result<BlockMap, Fault>
     Ok(BlockMap::from_vec(blocks))
 }
 
-// The extended header of the volume at the start of the bytes, if it has one.
+// Reads the extended header, if there is one, of the volume that the bytes begin with.
 fn ext_at<'a>(
     alloc: Global,
     bytes: &'a [u8],
@@ -142,7 +143,7 @@ fn ext_at<'a>(
     Ok(Some(ext_of(alloc, ext_bytes_at(bytes))?))
 }
 
-// The fields of the header at the start of the bytes.
+// Reads the header of the volume that the bytes begin with. The header was checked before.
 fn head_of<'a>(alloc: Global, bytes: &'a [u8], extent: &Extent) -> Result<VolumeHead<'a>, Fault>
     requires front { (h : HeadFields) × BeginsVolume h extent.now bytes.now }
     ensures ok { IfOk result (λ h. BeginsVolume h extent.now bytes.now) }
@@ -166,25 +167,26 @@ fn head_of<'a>(alloc: Global, bytes: &'a [u8], extent: &Extent) -> Result<Volume
     })
 }
 
-/// The header of the volume at the start of the bytes, and its extent. (PI specification, volume 3,
-/// section 3.2.1.1.)
+/// Checks and reads the header of the volume that the bytes begin with. Returns the header and the
+/// volume's extent. (PI specification, volume 3, section 3.2.1.1.)
 ///
 /// # Errors
 ///
-/// The first fault of the header, as for `verify_fv`; or OutOfMemory (at 0), which is returned only
-/// if the bytes begin with a volume.
+/// The first fault of the header, as for `verify_fv`. OutOfMemory at offset 0, but only if the
+/// bytes begin with a volume.
 pub fn read_head(alloc: Global, bytes: &[u8]) -> Result<(VolumeHead<'_>, Extent), Fault>
-    // The bytes begin with this volume.
+    // The bytes begin with a volume that has this header and this extent.
     ensures found { IfOk result (λ r. BeginsVolume r.0 r.1 bytes.now) }
 
-    // Every volume that they begin with is returned, unless memory runs out.
+    // If the bytes begin with a volume, its header and its extent are returned, unless memory runs
+    // out.
     ensures only { (h : HeadFields) (e : Extent) → BeginsVolume h e bytes.now
         → (result ≡ Ok (h, e)) ⊎ (result ≡ Err out_of_memory) }
 
-    // An error names the first check that does not hold.
+    // An error other than OutOfMemory is the fault of the first check that does not hold.
     ensures first { IfErr result (OrMemory (IsFirstFault (head_checks bytes.now))) }
 
-    // Memory runs out only if they begin with a volume.
+    // OutOfMemory is returned only if the bytes begin with a volume.
     ensures memory { IfErr result (λ f. f ≡ out_of_memory → BeginsWithHeader bytes.now) }
 
     // The offset of an error is within the bytes or at their end.

@@ -1,4 +1,4 @@
-//! A header, spelled as in the canonical image.
+//! The volume header of the canonical image: its fields, its checksum and its bytes.
 
 ghost use Rattle.std.specs.Prelude.{◌≡◌, ◌+◌, ◌-◌, ◌%◌, ◌≤◌, ◌<◌, ◌++◌, List, [], ◌∷◌, ℕ, length, IfOk, IfErr};
 ghost use Rattle.fv_base.specs.Words.{out_of_memory, header_limit, ext_limit, le_bytes, up_to_8};
@@ -19,14 +19,15 @@ use fv_base::field::up_to_8;
 use fv_base::{ByteList, Fault, ListSink, Sink};
 use std::alloc::Global;
 
-/// The sum of the 16-bit words of the bytes that are put, modulo 65536.
+/// A sink that sums the 16-bit words of the bytes that are put, modulo 65536.
 #[derive(Drop)]
 struct WordSink {
     total: u16,
     high: bool,
 }
 
-// What a byte adds to a sum of 16-bit words, as the low or the high byte of a word.
+// Returns what a byte adds to a sum of 16-bit words: as the high byte of a word if `high` is true,
+// and otherwise as the low byte.
 fn word_weight(byte: u8, high: bool) -> u16
     ensures { result ≡ word_weight high (byte ∷ []) }
 {
@@ -84,7 +85,8 @@ fn put_pairs<S: Sink>(out: &mut S, pairs: &[(u32, u32)])
     }
 }
 
-// `ExtHeaderOffset` of the canonical head: the offset of the extended header, or 0 without one.
+// Returns `ExtHeaderOffset` of the canonical header: the offset of the extended header, or 0 if
+// there is none.
 fn canonical_offset(head: &VolumeHead<'_>) -> u16
     ensures offset { result ≡ canonical_offset head.now head.now.ext }
     ensures read { IfRead head.now.ext }
@@ -98,10 +100,11 @@ fn canonical_offset(head: &VolumeHead<'_>) -> u16
     }
 }
 
-/// Where the first file of the canonical image may begin, in bytes from the volume's start: after
-/// the header or, if there is an extended header, at the next multiple of 8 after the pad file that
-/// follows the header. (That pad file is 24 bytes and the extended header.) Takes no memory. (PI
-/// specification, volume 3, sections 3.2.1.1 and 3.2.1.2.)
+/// Returns the first edge: the offset at which the first file of the canonical image may begin, in
+/// bytes from the volume's start. Without an extended header, this is the end of the volume header.
+/// With one, it is the end of the pad file that holds the extended header, rounded up to a multiple
+/// of 8. (That pad file follows the volume header. It consists of its own header, 24 bytes, and the
+/// extended header.) Takes no memory. (PI specification, volume 3, sections 3.2.1.1 and 3.2.1.2.)
 pub fn first_edge(head: &VolumeHead<'_>) -> u64
     ensures edge { result ≡ first_edge head.now head.now.ext }
     ensures most { result ≤ up_to_8 (header_limit + 24 + ext_limit) }
@@ -113,7 +116,7 @@ pub fn first_edge(head: &VolumeHead<'_>) -> u64
     }
 }
 
-// Puts a header with this checksum.
+// Puts the canonical header, but with this checksum, into a sink.
 fn put_spelled<S: Sink>(out: &mut S, head: &VolumeHead<'_>, checksum: u16)
     ensures bytes { S.takes out.old (head_spelled head.now checksum (canonical_offset head.now head.now.ext)) out.new }
     ensures read { IsReadHead head.now }
@@ -132,7 +135,7 @@ fn put_spelled<S: Sink>(out: &mut S, head: &VolumeHead<'_>, checksum: u16)
     put_u64(out, 0);
 }
 
-// What must be added to a sum of 16-bit words to make it 0.
+// Returns what must be added to a sum of 16-bit words to make it 0 modulo 65536.
 fn complement(sum: u16) -> u16
     ensures value { result ≡ (65536 - sum) % 65536 }
     ensures small { sum < 65536 }
@@ -140,7 +143,8 @@ fn complement(sum: u16) -> u16
     0u16.wrapping_sub(sum)
 }
 
-// `Checksum`, which makes the 16-bit words of the header sum to 0.
+// Returns `Checksum` of the canonical header: the number that makes the header's 16-bit words sum
+// to 0.
 fn checksum_of(head: &VolumeHead<'_>) -> u16
     ensures { result ≡ checksum_of head.now (canonical_offset head.now head.now.ext) }
 {
@@ -152,9 +156,10 @@ fn checksum_of(head: &VolumeHead<'_>) -> u16
     complement(sum.total)
 }
 
-/// Puts the head of the canonical image: the fields of the header, with the right checksum.
-/// ExtHeaderOffset is HeaderLength + 24 if there is an extended header, else 0. Takes no memory.
-/// (PI specification, volume 3, section 3.2.1.1, `EFI_FIRMWARE_VOLUME_HEADER`.)
+/// Puts the volume header of the canonical image into the sink `out`: the fields of `head`, with
+/// the right checksum. `ExtHeaderOffset` is `HeaderLength` + 24 if there is an extended header, and
+/// otherwise 0. Takes no memory. (PI specification, volume 3, section 3.2.1.1,
+/// `EFI_FIRMWARE_VOLUME_HEADER`.)
 pub fn put_head<S: Sink>(out: &mut S, head: &VolumeHead<'_>)
     ensures bytes { S.takes out.old (canonical_head head.now) out.new }
     ensures read { IsReadHead head.now }
@@ -163,22 +168,23 @@ pub fn put_head<S: Sink>(out: &mut S, head: &VolumeHead<'_>)
     put_spelled(out, head, checksum_of(head));
 }
 
-/// The head of the canonical image, as `put_head` puts it: HeaderLength bytes. (PI specification,
-/// volume 3, section 3.2.1.1.)
+/// Returns the volume header of the canonical image, `HeaderLength` bytes, as `put_head` puts it.
+/// (PI specification, volume 3, section 3.2.1.1.)
 ///
 /// # Errors
 ///
-/// OutOfMemory at 0.
+/// OutOfMemory at offset 0.
 pub fn head_bytes(alloc: Global, head: &VolumeHead<'_>) -> Result<ByteList, Fault>
-    // They are the head of the canonical image, and nothing else is.
+    // These bytes are the volume header of the canonical image, and no other bytes are.
     ensures head { IfOk result (λ bytes. IsCanonicalHead head.now bytes) }
     ensures only { (other : List ℕ) → IsCanonicalHead head.now other → IfOk result (λ bytes. bytes ≡ other) }
 
-    // They are these bytes.
+    // They are the bytes that `canonical_head` defines.
     ensures bytes { IfOk result (λ found. found ≡ canonical_head head.now) }
 
-    // Read back, with its extended header in a pad file after it and the rest of a volume, it gives
-    // the same head.
+    // They are read back as the same header if the rest of a volume follows them, at least up to
+    // FvLength. If there is an extended header, the rest must begin with 24 bytes (the header of a
+    // pad file) and the extended header, which must end within FvLength.
     ensures again { IfOk result (λ bytes. (rest : List ℕ) → CanonicalRest head.now.ext rest
         → canonical_end head.now head.now.ext ≤ head.now.length
         → head.now.length ≤ length (bytes ++ rest)

@@ -1,4 +1,4 @@
-//! Whether bytes begin with a volume, and which.
+//! The checks of a volume's header, and the extent of a volume whose header passes them.
 
 ghost use Rattle.std.specs.Prelude.{◌≡◌, ◌==◌, ◌%◌, ◌≤◌, length, IfOk, IfErr, OnOk, None, Some, true};
 ghost use Rattle.fv_base.specs.Words.{IsFirstFault, bytes_of, sum16_of};
@@ -25,10 +25,11 @@ use fv_base::field::{field, u32_at, up_to_8};
 use fv_base::limits::{EXT_LIMIT, HEADER_LIMIT, VOLUME_LIMIT};
 use fv_base::{Fault, FaultKind, FileSystem, Guid, check, guid_at, sum16};
 
-/// `Signature`, `_FVH`: `EFI_FVH_SIGNATURE`. (PI specification, volume 3, section 3.2.1.1.)
+/// The value of `Signature`, `_FVH`: `EFI_FVH_SIGNATURE`. (PI specification, volume 3, section
+/// 3.2.1.1.)
 pub const SIGNATURE: [u8; 4] = [0x5f, 0x46, 0x56, 0x48];
 
-/// `Revision`: `EFI_FVH_REVISION`.
+/// The value of `Revision`: `EFI_FVH_REVISION`.
 pub(crate) const REVISION: u8 = 2;
 
 /// `EFI_FIRMWARE_FILE_SYSTEM2_GUID`, 8c8ce578-8a3d-4f1c-9935-896185c32dd3.
@@ -41,7 +42,7 @@ const FFS3: [u8; 16] = [
     0x7a, 0xc0, 0x73, 0x54, 0xcb, 0x3d, 0xca, 0x4d, 0xbd, 0x6f, 0x1e, 0x96, 0x89, 0xe7, 0x34, 0x9a,
 ];
 
-// The GUID of a file system, as in `FileSystemGuid`.
+// Returns the GUID of a file system, as it is in `FileSystemGuid`.
 pub(crate) fn system_guid(file_system: FileSystem) -> Guid
     ensures { bytes_of result ≡ system_guid file_system }
 {
@@ -51,7 +52,7 @@ pub(crate) fn system_guid(file_system: FileSystem) -> Guid
     }
 }
 
-// Whether `Signature` is `_FVH`.
+// Returns whether `Signature` is `_FVH`.
 fn has_signature(bytes: &[u8]) -> bool
     requires { 56 ≤ length bytes.now }
     ensures { result ≡ has_signature bytes.now }
@@ -59,7 +60,8 @@ fn has_signature(bytes: &[u8]) -> bool
     bytes[SIGNATURE_OFFSET..SIGNATURE_OFFSET + 4] == SIGNATURE[..]
 }
 
-// The file system whose GUID is in `FileSystemGuid`, if it is one of the two.
+// Returns the file system whose GUID is in `FileSystemGuid`, or None if that is neither FFS2 nor
+// FFS3.
 fn file_system_at(bytes: &[u8]) -> Option<FileSystem>
     requires { 56 ≤ length bytes.now }
     ensures { result ≡ file_system_at bytes.now }
@@ -74,10 +76,10 @@ fn file_system_at(bytes: &[u8]) -> Option<FileSystem>
     }
 }
 
-/// Whether the bytes say that they are one volume and no more: at least 56 bytes, with the
-/// `Signature` `_FVH` at 40, the GUID of a file system, `FileSystemGuid`, at 16, and an `FvLength`
-/// that is their number. No other check of the header is made. Takes no memory. (PI specification,
-/// volume 3, section 3.2.1.1.)
+/// Returns whether the bytes claim to be exactly one volume: there are at least 56 bytes, the
+/// `Signature` at 40 is `_FVH`, the `FileSystemGuid` at 16 is the GUID of FFS2 or FFS3, and
+/// `FvLength` is the number of bytes. No other check of the header is made. Takes no memory. (PI
+/// specification, volume 3, section 3.2.1.1.)
 pub fn is_one_volume(bytes: &[u8]) -> bool
     ensures { result ≡ is_one_volume bytes.now }
 {
@@ -87,22 +89,22 @@ pub fn is_one_volume(bytes: &[u8]) -> bool
         && volume_len_at(bytes) == bytes.len() as u64
 }
 
-// Whether `HeaderLength` may have this value: a multiple of 8, from 64 to the limit.
+// Returns whether `HeaderLength` may have this value: a multiple of 8 from 64 to the limit.
 fn is_header_len(len: usize) -> bool
     ensures { result ≡ is_header_len len }
 {
     len % 8 == 0 && HEADER_LEAST <= len && len <= HEADER_LIMIT
 }
 
-// Whether `FvLength` may have this value if the header has `header_len` bytes: a multiple of 8, at
-// least the header's length and up to the limit.
+// Returns whether `FvLength` may have the value `len`: a multiple of 8, at least the header's
+// length `header_len`, and at most the limit.
 fn is_volume_len(header_len: usize, len: u64) -> bool
     ensures { result ≡ is_volume_len header_len len }
 {
     len % 8 == 0 && header_len as u64 <= len && len <= VOLUME_LIMIT
 }
 
-// Whether the 16-bit words of a header sum to 0.
+// Returns whether the 16-bit words of a header sum to 0 modulo 65536.
 fn has_sum(bytes: &[u8]) -> bool
     requires { length bytes.now % 2 ≡ 0 }
     ensures { result ≡ (sum16_of bytes.now == 0) }
@@ -110,15 +112,15 @@ fn has_sum(bytes: &[u8]) -> bool
     sum16(bytes) == 0
 }
 
-// Whether both numbers of a pair are zero, as of the pair that ends a block map.
+// Returns whether both numbers of a pair are zero, as in the pair that ends a block map.
 fn is_zero_pair(count: u32, size: u32) -> bool
     ensures { result ≡ is_zero_pair (count, size) }
 {
     count == 0 && size == 0
 }
 
-// Whether none of the blocks is a pair of zeros, and together they have `total` bytes. The loop
-// counts down what is left of `total`, so that no sum can wrap.
+// Returns whether no pair is a pair of zeros, and the blocks of all pairs together have `total`
+// bytes. The loop counts down from `total`, so no sum can wrap.
 fn makes_up(blocks: &[u8], total: u64) -> bool
     requires { length blocks.now % 8 ≡ 0 }
     ensures { result ≡ makes_up (pairs_of blocks.now) total }
@@ -139,8 +141,8 @@ fn makes_up(blocks: &[u8], total: u64) -> bool
     left == 0
 }
 
-// Whether the first pair of zeros is at the header's end, and the blocks before it make up
-// `FvLength`.
+// Returns whether the first pair of zeros is at the end of the header, and the blocks of the pairs
+// before it together have `FvLength` bytes.
 fn has_block_map(bytes: &[u8], header_len: usize) -> bool
     requires least { 64 ≤ header_len }
     requires multiple { header_len % 8 ≡ 0 }
@@ -154,7 +156,8 @@ fn has_block_map(bytes: &[u8], header_len: usize) -> bool
         && u32_at(bytes, last + BLOCK_LENGTH_OFFSET) == 0
 }
 
-// Whether an extended header is after the header and within the volume, or there is none.
+// Returns whether there is no extended header, or it has 20 to `EXT_LIMIT` bytes and lies after the
+// volume header and within the volume.
 fn has_ext(bytes: &[u8], header_len: usize, volume_len: u64) -> bool
     requires least { 56 ≤ length bytes.now }
     requires within { volume_len ≤ length bytes.now }
@@ -174,7 +177,7 @@ fn has_ext(bytes: &[u8], header_len: usize, volume_len: u64) -> bool
         && start as u64 + u64::from(size) <= volume_len
 }
 
-// Where the first file may begin.
+// Returns the offset at which the first file may begin.
 fn first_at(bytes: &[u8]) -> u64
     requires least { 56 ≤ length bytes.now }
     requires ext { ExtHeaderWithin bytes.now }
@@ -188,7 +191,7 @@ fn first_at(bytes: &[u8]) -> u64
     up_to_8(u64::from(offset) + u64::from(size))
 }
 
-// The extent that a header without a fault gives.
+// Returns the extent of a volume with this file system, whose header has no fault.
 fn extent_at(bytes: &[u8], file_system: FileSystem) -> Extent
     requires least { 56 ≤ length bytes.now }
     requires ext { ExtHeaderWithin bytes.now }
@@ -203,7 +206,7 @@ fn extent_at(bytes: &[u8], file_system: FileSystem) -> Extent
     }
 }
 
-// The file system, or the first fault of the header's first 56 bytes.
+// Checks the first 56 bytes of the header. Returns the file system, or the first fault.
 fn front_verdict(bytes: &[u8]) -> Result<FileSystem, Fault>
     ensures ok { IfOk result
         (λ s. (first_fault (front_checks bytes.now) ≡ None) × (file_system_at bytes.now ≡ Some s)) }
@@ -236,7 +239,8 @@ fn front_verdict(bytes: &[u8]) -> Result<FileSystem, Fault>
     Ok(file_system)
 }
 
-// Ok, or the first fault of the whole header, of FvLength or of the extended header.
+// Makes the remaining checks, which are those of the whole header, of FvLength and of the extended
+// header. Returns the first fault, if there is one.
 fn whole_verdict(bytes: &[u8]) -> Result<(), Fault>
     requires long { 56 ≤ length bytes.now }
     requires header_len { is_header_len (header_len_at bytes.now) ≡ true }
@@ -267,7 +271,7 @@ fn whole_verdict(bytes: &[u8]) -> Result<(), Fault>
     )
 }
 
-// The extent, or the first fault.
+// Makes all checks of a header. Returns the volume's extent, or the first fault.
 fn verdict(bytes: &[u8]) -> Result<Extent, Fault>
     ensures { result ≡ head_verdict bytes.now }
 {
@@ -276,24 +280,24 @@ fn verdict(bytes: &[u8]) -> Result<Extent, Fault>
     Ok(extent_at(bytes, file_system))
 }
 
-/// The extent of the volume at the start of the bytes: `FvLength`, `HeaderLength`, where the first
-/// file may begin, the file system and the polarity. Takes no memory. (PI specification, volume 3,
-/// section 3.2.1.1.)
+/// Checks the header of the volume that the bytes begin with. Returns the volume's extent:
+/// `FvLength`, `HeaderLength`, where the first file may begin, the file system and the erase
+/// polarity. Takes no memory. (PI specification, volume 3, section 3.2.1.1.)
 ///
 /// # Errors
 ///
-/// The first fault of the header, in this order: Truncated if there are fewer than 56 bytes,
-/// Signature, FileSystem, Revision, HeaderLength, Truncated if there are fewer than HeaderLength
-/// bytes, HeaderSum, BlockMap, Length, Truncated if there are fewer than FvLength bytes, ExtHeader.
-/// Offsets are in bytes from the first.
+/// The first fault of the header. The checks are made in this order: Truncated if there are fewer
+/// than 56 bytes, Signature, FileSystem, Revision, HeaderLength, Truncated if there are fewer than
+/// HeaderLength bytes, HeaderSum, BlockMap, Length, Truncated if there are fewer than FvLength
+/// bytes, ExtHeader. Offsets are counted from the first byte.
 pub fn verify_fv(bytes: &[u8]) -> Result<Extent, Fault>
-    // The bytes begin with a volume of this extent.
+    // The bytes begin with a volume that has this extent.
     ensures found { IfOk result (λ e. (h : HeadFields) × BeginsVolume h e bytes.now) }
 
-    // Every volume that they begin with is returned.
+    // If the bytes begin with a volume, its extent is returned.
     ensures only { (h : HeadFields) (e : Extent) → BeginsVolume h e bytes.now → result ≡ Ok e }
 
-    // An error names the first check that does not hold.
+    // An error is the fault of the first check that does not hold.
     ensures first { IfErr result (IsFirstFault (head_checks bytes.now)) }
 
     // The offset of an error is within the bytes or at their end.

@@ -1,4 +1,4 @@
-//! The header at the start of a firmware volume: checked, read and written.
+//! Checks, reads and writes the header of a firmware volume, including its extended header.
 #![tactic(auto)]
 
 mod attributes;

@@ -1,6 +1,7 @@
-//! The offsets of the fields of a volume's headers, in bytes from a header's first, and the fields
-//! that are read in several places. (PI specification, volume 3, section 3.2.1.1,
-//! `EFI_FIRMWARE_VOLUME_HEADER`, and section 3.2.1.2, `EFI_FIRMWARE_VOLUME_EXT_HEADER`.)
+//! The offsets of the fields of a volume's headers, in bytes from the first byte of the header or
+//! entry, and functions for the fields that are read in several places. (PI specification, volume
+//! 3, section 3.2.1.1, `EFI_FIRMWARE_VOLUME_HEADER`, and section 3.2.1.2,
+//! `EFI_FIRMWARE_VOLUME_EXT_HEADER`.)
 
 ghost use Rattle.std.specs.Prelude.{◌≡◌, ◌+◌, ◌≤◌, length};
 ghost use Rattle.fv_base.specs.Words.{field};
@@ -56,7 +57,7 @@ pub(crate) const FV_NAME_OFFSET: usize = 0;
 /// `ExtHeaderSize` of an extended header, 4 bytes.
 pub(crate) const EXT_HEADER_SIZE_OFFSET: usize = 16;
 
-/// The length of an extended header without entries; its entries follow.
+/// The length of an extended header without entries. Its entries follow these bytes.
 pub(crate) const EXT_HEADER_LEN: usize = 20;
 
 /// `ExtEntrySize` of an entry of an extended header, 2 bytes. (`EFI_FIRMWARE_VOLUME_EXT_ENTRY`.)
@@ -65,10 +66,10 @@ pub(crate) const EXT_ENTRY_SIZE_OFFSET: usize = 0;
 /// `ExtEntryType` of an entry, 2 bytes.
 pub(crate) const EXT_ENTRY_TYPE_OFFSET: usize = 2;
 
-/// The length of an entry's header; its payload follows.
+/// The length of an entry's header. Its payload follows the header.
 pub(crate) const EXT_ENTRY_HEADER_LEN: usize = 4;
 
-// `HeaderLength`.
+// Returns `HeaderLength`.
 pub(crate) fn header_len_at(bytes: &[u8]) -> usize
     requires { 56 ≤ length bytes.now }
     ensures { result ≡ header_len_at bytes.now }
@@ -76,7 +77,7 @@ pub(crate) fn header_len_at(bytes: &[u8]) -> usize
     usize::from(u16_at(bytes, HEADER_LENGTH_OFFSET))
 }
 
-// `FvLength`.
+// Returns `FvLength`.
 pub(crate) fn volume_len_at(bytes: &[u8]) -> u64
     requires { 56 ≤ length bytes.now }
     ensures { result ≡ volume_len_at bytes.now }
@@ -84,7 +85,7 @@ pub(crate) fn volume_len_at(bytes: &[u8]) -> u64
     u64_at(bytes, FV_LENGTH_OFFSET)
 }
 
-// `ExtHeaderOffset`, which is 0 if there is no extended header.
+// Returns `ExtHeaderOffset`, which is 0 if there is no extended header.
 pub(crate) fn ext_offset_at(bytes: &[u8]) -> u16
     requires { 56 ≤ length bytes.now }
     ensures { result ≡ ext_offset_at bytes.now }
@@ -92,7 +93,7 @@ pub(crate) fn ext_offset_at(bytes: &[u8]) -> u16
     u16_at(bytes, EXT_HEADER_OFFSET_OFFSET)
 }
 
-// `ExtHeaderSize` of the extended header at `ExtHeaderOffset`.
+// Returns `ExtHeaderSize` of the extended header at `ExtHeaderOffset`.
 pub(crate) fn ext_size_at(bytes: &[u8]) -> u32
     requires least { 56 ≤ length bytes.now }
     requires within { ext_offset_at bytes.now + 20 ≤ length bytes.now }
@@ -104,7 +105,7 @@ pub(crate) fn ext_size_at(bytes: &[u8]) -> u32
     )
 }
 
-// The extended header at `ExtHeaderOffset`: `ExtHeaderSize` bytes.
+// Returns the extended header at `ExtHeaderOffset`: `ExtHeaderSize` bytes.
 pub(crate) fn ext_bytes_at(bytes: &[u8]) -> &[u8]
     requires least { 56 ≤ length bytes.now }
     requires header { ext_offset_at bytes.now + 20 ≤ length bytes.now }

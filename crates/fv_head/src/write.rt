@@ -1,4 +1,4 @@
-//! Headers, written to a port.
+//! Writes a volume header or an extended header to a port.
 
 ghost use Rattle.std.specs.Prelude.{◌≡◌, ℕ, List, IfErr, OnErr, OnOk, true};
 ghost use Rattle.std.specs.Io.KnownBytes.{Appends};
@@ -13,13 +13,13 @@ use crate::head_image::put_head;
 use fv_base::{Fault, Port, WriteSink};
 use std::io::Write;
 
-/// Writes the head of the canonical image, as `head_bytes` returns it. Takes no memory. (PI
-/// specification, volume 3, section 3.2.1.1.)
+/// Writes the volume header of the canonical image to a port, as `head_bytes` returns it. Takes no
+/// memory. (PI specification, volume 3, section 3.2.1.1.)
 ///
 /// # Errors
 ///
-/// WriteFault at the number of bytes written in this call, if a write fails or takes no byte.
-/// Exactly that many bytes of the head were written then.
+/// WriteFault if a write fails or takes no byte. Its offset is the number of bytes written in this
+/// call, and exactly that many bytes of the header were written.
 pub fn write_head<W: Write>(head: &VolumeHead<'_>, writer: &mut Port<W>) -> Result<(), Fault>
     ensures ok { OnOk result ((bytes : List ℕ) × IsCanonicalHead head.now bytes
         × Appends (W.contents (inner_of writer.old)) (W.contents (inner_of writer.new)) bytes) }
@@ -33,8 +33,8 @@ pub fn write_head<W: Write>(head: &VolumeHead<'_>, writer: &mut Port<W>) -> Resu
     out.outcome()
 }
 
-/// Writes an extended header whose used sizes have the value `used`, as `ext_bytes` returns it.
-/// Takes no memory. (PI specification, volume 3, section 3.2.1.2.)
+/// Writes an extended header to a port, as `ext_bytes` returns it: the value of each used size is
+/// `used`. Takes no memory. (PI specification, volume 3, section 3.2.1.2.)
 ///
 /// # Errors
 ///

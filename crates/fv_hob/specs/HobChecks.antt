@@ -1,4 +1,4 @@
--- The checks of a block in a fixed order, and the first fault of a list.
+-- The checks of a block in order, and the first fault of a list.
 use Rattle.std.specs.Prelude.{◌≡◌, ℕ, ◌%◌, ◌==◌, nat_le, ◌&&◌, ◌||◌, not, Bool, true, List, [], ◌∷◌, ◌++◌, length}
 use Rattle.std.specs.List.{AllByRecursion}
 use Rattle.fv_base.specs.Words.{Check, IsFirstFault}
@@ -8,15 +8,15 @@ use Rattle.fv_hob.specs.declared.fault.HobFault.{HobFault}
 use Rattle.fv_hob.specs.declared.fault.HobFaultKind.{HobFaultKind}
 use Rattle.fv_hob.specs.declared.fault.HobFaultKind.TheVariants as kinds
 
--- a length that includes the header, and is a multiple of 8
+-- whether n is a length that a block may have: at least that of the header, which it includes, and a multiple of 8
 abbrev pub is_hob_len : ℕ → Bool
 is_hob_len n = nat_le 8 n && (n % 8 == 0)
 
--- a check of a block, by the kind of its fault
+-- a check of a block: whether it holds, and the kind of its fault
 abbrev pub hob_check : Bool → HobFaultKind → Check HobFaultKind
 hob_check holds kind = record { holds = holds; fault = kind }
 
--- the checks of the block at the start of r, in order; `first` says whether it is the first of the list
+-- the checks of the block at the start of r, in order; `first` is true for the first block of the list
 abbrev pub hob_checks : Bool → List ℕ → List (Check HobFaultKind)
 hob_checks first r =
     hob_check (nat_le 1 (length r)) kinds.NoEnd
@@ -27,7 +27,7 @@ hob_checks first r =
     ∷ hob_check (has_shape (hob_type_at r) (hob_len_at r)) kinds.Shape
     ∷ []
 
--- r begins with the block c, which is allowed there: a first block is a hand-off information table
+-- r begins with the block c, and if c is the first block of the list, it is a hand-off information table
 pub record BeginsBlock (first : Bool) (c r : List ℕ) : Type 0 where
   pub behind : List ℕ
   pub joined : r ≡ c ++ behind
@@ -38,8 +38,8 @@ pub record BeginsBlock (first : Bool) (c r : List ℕ) : Type 0 where
 abbrev pub BeginsTable : List ℕ → Type 0
 BeginsTable r = (c : List ℕ) × BeginsBlock true c r
 
--- some blocks, none of them an end block, are read up to the fault's offset, and the fault is that of the first check
--- there that does not hold
+-- b begins with blocks of a list, none of them an end block, up to the fault's offset; the fault is that of the first
+-- check that fails for the block there
 pub record IsFirstHobFault (b : List ℕ) (fault : HobFault) : Type 0 where
   pub before : List HobForm
   pub c : List ℕ
@@ -51,7 +51,7 @@ pub record IsFirstHobFault (b : List ℕ) (fault : HobFault) : Type 0 where
   pub place : fault.offset ≡ length c
   pub kind_is : IsFirstFault (hob_checks (length before == 0) r) fault.kind
 
--- the fault of every call when memory runs out: OutOfMemory at 0
+-- the fault that every call returns when memory runs out: OutOfMemory at offset 0
 abbrev pub hob_out_of_memory : HobFault
 hob_out_of_memory = record { kind = kinds.OutOfMemory; offset = 0 }
 

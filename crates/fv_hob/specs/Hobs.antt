@@ -1,4 +1,4 @@
--- Hand-off blocks, and the bytes that spell them (PI specification, volume 3, section 5).
+-- Hand-off blocks, and their bytes (PI specification, volume 3, section 5).
 use Rattle.std.specs.Prelude.{◌≡◌, ◌≤◌, ℕ, ◌+◌, ◌-◌, ◌%◌, ◌==◌, nat_le, if◌then◌else◌, Bool, true, List, length, drop}
 use Rattle.std.specs.Prelude.{slice_index, [], ◌∷◌, map, replicate}
 use Rattle.fv_base.specs.Words.{guid_of, bytes_of, IsBytes, field, le_at, le_bytes}
@@ -10,12 +10,12 @@ use Rattle.fv_hob.specs.declared.hob.HobKind.{HobKind}
 use Rattle.fv_hob.specs.declared.hob.HobKind.TheVariants as kinds
 use Rattle.std.specs.List.{concat}
 
--- a block: its reserved 32-bit field, and its content by its type
+-- a block: its reserved 32-bit field, and its content, whose form depends on its type
 pub record HobForm : Type 0 where
   pub reserved : ℕ
   pub kind : HobKind
 
--- the type of a block, by what it holds. EFI_HOB_TYPE_HANDOFF is 0x0001, _MEMORY_ALLOCATION 0x0002,
+-- the HobType of a block with this content. EFI_HOB_TYPE_HANDOFF is 0x0001, _MEMORY_ALLOCATION 0x0002,
 -- _RESOURCE_DESCRIPTOR 0x0003, _GUID_EXTENSION 0x0004, _FV 0x0005, _CPU 0x0006, _MEMORY_POOL 0x0007, _FV2 0x0009,
 -- _UEFI_CAPSULE 0x000B, _UNUSED 0xFFFE, and _END_OF_HOB_LIST 0xFFFF
 abbrev pub hob_type : HobKind → ℕ
@@ -32,7 +32,7 @@ hob_type (kinds.Unused len) = 0xfffe
 hob_type kinds.End = 0xffff
 hob_type (kinds.Other code payload) = code
 
--- how many bytes a block has, its header of 8 bytes included
+-- the length in bytes of a block with this content, including its header of 8 bytes
 abbrev pub hob_len : HobKind → ℕ
 hob_len (kinds.Handoff said) = 56
 hob_len (kinds.MemoryAllocation said) = 48 + length said.rest
@@ -47,7 +47,7 @@ hob_len (kinds.Unused len) = 8 + len
 hob_len kinds.End = 8
 hob_len (kinds.Other code payload) = 8 + length payload
 
--- the lengths that a block of a type may have
+-- whether a block of the type `code` may have a length of n bytes
 abbrev pub has_shape : ℕ → ℕ → Bool
 has_shape code n =
     if code == 0x0001 then n == 56
@@ -61,7 +61,7 @@ has_shape code n =
     else (if code == 0x000b then n == 24
     else (if code == 0xffff then n == 8 else true)))))))))
 
--- the GUID at an offset
+-- the GUID at the offset `at` of b
 abbrev pub guid_in : ℕ → List ℕ → Guid
 guid_in at b = guid_of (field at 16 b)
 
@@ -98,7 +98,7 @@ resource_in b = record {
   length = le_at 40 8 b;
 }
 
--- the content of a block of this type: its fields at their offsets
+-- the content of a block b of this type: its fields at their offsets
 abbrev pub kind_by : ℕ → List ℕ → HobKind
 kind_by code b =
     if code == 0x0001 then kinds.Handoff (handoff_in b)
@@ -117,15 +117,16 @@ kind_by code b =
 abbrev pub hob_type_at : List ℕ → ℕ
 hob_type_at b = le_at 0 2 b
 
--- HobLength, the length of that block in bytes
+-- HobLength, the length in bytes of the block at the start of b
 abbrev pub hob_len_at : List ℕ → ℕ
 hob_len_at b = le_at 2 2 b
 
--- the content of the block b, with its reserved field, which is at 4
+-- the block b as its reserved field, at offset 4, and its content
 abbrev pub hob_in : List ℕ → HobForm
 hob_in b = record { reserved = le_at 4 4 b; kind = kind_by (hob_type_at b) b }
 
--- b is one block: its length is a multiple of 8, at least 8, and one that its type may have
+-- b is one block: its HobLength is the number of its bytes, which is a multiple of 8, at least 8, and allowed for its
+-- type
 pub record IsBlock (b : List ℕ) : Type 0 where
   pub bytes : IsBytes b
   pub sized : hob_len_at b ≡ length b
@@ -133,16 +134,16 @@ pub record IsBlock (b : List ℕ) : Type 0 where
   pub least : 8 ≤ length b
   pub shaped : has_shape (hob_type_at b) (length b) ≡ true
 
--- b is a block with this content
+-- b is the block h: its bytes have the reserved field and the content of h
 pub record IsHob (h : HobForm) (b : List ℕ) : Type 0 where
   pub block : IsBlock b
   pub said : h ≡ hob_in b
 
--- some bytes are a block with this content: true of every `Hob`
+-- some bytes are this block, which is true of every `Hob`
 abbrev pub IsReadHob : HobForm → Type 0
 IsReadHob h = (b : List ℕ) × IsHob h b
 
--- the fields after a block's header, in order; the body of an unused block is zeros
+-- the bytes of the fields after a block's header, in order; the body of an unused block is zeros
 abbrev pub hob_fields : HobKind → List (List ℕ)
 hob_fields (kinds.Handoff said) =
     le_bytes 4 said.version ∷ le_bytes 4 said.boot_mode ∷ le_bytes 8 said.memory_top ∷ le_bytes 8 said.memory_bottom
@@ -164,11 +165,11 @@ hob_fields (kinds.Unused len) = replicate len 0 ∷ []
 hob_fields kinds.End = []
 hob_fields (kinds.Other code payload) = payload ∷ []
 
--- a block: its type, its length, its reserved field and its body
+-- the bytes of a block: its type, its length, its reserved field and its body
 abbrev pub hob_spelled : HobForm → List ℕ
 hob_spelled h =
     concat (le_bytes 2 (hob_type h.kind) ∷ le_bytes 2 (hob_len h.kind) ∷ le_bytes 4 h.reserved ∷ hob_fields h.kind)
 
--- the blocks, one after another
+-- the bytes of the blocks, one block after another
 abbrev pub list_spelled : List HobForm → List ℕ
 list_spelled hs = concat (map hob_spelled hs)

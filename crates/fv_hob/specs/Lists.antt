@@ -1,4 +1,4 @@
--- Lists of hand-off blocks (PI specification, volume 3, section 5), and the volumes that they name.
+-- Lists of hand-off blocks (PI specification, volume 3, section 5), and the volumes that they describe.
 use Rattle.std.specs.Prelude.{◌≡◌, ◌≢◌, ℕ, ⊤, List, [], ◌∷◌, ◌++◌, Option, None, Some}
 use Rattle.std.specs.List.{AllByRecursion, filter_map}
 use Rattle.fv_hob.specs.Hobs.{HobForm, IsHob, hob_type}
@@ -6,24 +6,25 @@ use Rattle.fv_hob.specs.declared.hob.HobKind.{HobKind}
 use Rattle.fv_hob.specs.declared.hob.HobKind.TheVariants as kinds
 use Rattle.fv_hob.specs.declared.span.Span.{Span}
 
--- b is these blocks, one after another
+-- b is the bytes of these blocks, one block after another
 abbrev pub JoinsHobs : List HobForm → List ℕ → Type 0
 JoinsHobs [] b = b ≡ []
 JoinsHobs (h ∷ hs) b = (c : List ℕ) × (rest : List ℕ) × (b ≡ c ++ rest) × IsHob h c × JoinsHobs hs rest
 
--- an end block (EFI_HOB_TYPE_END_OF_HOB_LIST), and any other
+-- h is an end block (EFI_HOB_TYPE_END_OF_HOB_LIST)
 abbrev pub IsEndHob : HobForm → Type 0
 IsEndHob h = hob_type h.kind ≡ 0xffff
 
+-- h is not an end block (EFI_HOB_TYPE_END_OF_HOB_LIST)
 abbrev pub IsNoEndHob : HobForm → Type 0
 IsNoEndHob h = hob_type h.kind ≢ 0xffff
 
--- there are no blocks, or the first is a hand-off information table (PHIT)
+-- there are no blocks, or the first block is a hand-off information table (PHIT)
 abbrev pub BeginWithTable : List HobForm → Type 0
 BeginWithTable [] = ⊤
 BeginWithTable (h ∷ hs) = hob_type h.kind ≡ 0x0001
 
--- b is the list: its blocks joined, the first a PHIT, the last an end block, and no other end block
+-- b is the bytes of the list's blocks; the first block is a PHIT, and the last block is the only end block
 pub record IsHobList (all : List HobForm) (b : List ℕ) : Type 0 where
   pub front : List HobForm
   pub last : HobForm
@@ -33,11 +34,11 @@ pub record IsHobList (all : List HobForm) (b : List ℕ) : Type 0 where
   pub others : AllByRecursion IsNoEndHob front
   pub last_is : IsEndHob last
 
--- a block that is not unused (EFI_HOB_TYPE_UNUSED)
+-- h is not an unused block (EFI_HOB_TYPE_UNUSED)
 abbrev pub IsUsedHob : HobForm → Type 0
 IsUsedHob h = hob_type h.kind ≢ 0xfffe
 
--- some bytes are this list: true of every `HobList`
+-- some bytes are this list, which is true of every `HobList`
 abbrev pub IsReadList : List HobForm → Type 0
 IsReadList all = (b : List ℕ) × IsHobList all b
 

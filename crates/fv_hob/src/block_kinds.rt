@@ -1,4 +1,4 @@
-//! One block, read by its type. (PI specification, volume 3, section 5.)
+//! Reading one block by its type. (PI specification, volume 3, section 5.)
 
 ghost use Rattle.std.specs.Prelude.{◌≡◌, ◌≤◌, ◌+◌, length, IfOk};
 ghost use Rattle.fv_base.specs.Words.{le_at};
@@ -12,7 +12,7 @@ use fv_base::field::{bytes_from, field, u16_at, u32_at, u64_at};
 use fv_base::{ByteList, guid_at};
 use std::alloc::{AllocError, Global};
 
-/// Whether a block of this HobType may have this HobLength.
+/// Returns whether a block of this HobType may have this HobLength.
 pub fn has_shape(code: u16, len: usize) -> bool
     ensures { result ≡ has_shape code len }
 {
@@ -29,7 +29,7 @@ pub fn has_shape(code: u16, len: usize) -> bool
     }
 }
 
-// The hand-off information table.
+// Reads the fields of a hand-off information table.
 fn handoff_in(block: &[u8]) -> Handoff
     requires { length block.now ≡ 56 }
     ensures { result ≡ handoff_in block.now }
@@ -45,7 +45,7 @@ fn handoff_in(block: &[u8]) -> Handoff
     }
 }
 
-// The base that is at this offset, and the length after it.
+// Reads the base at the offset `at`, and the length after it.
 fn span_at(block: &[u8], at: usize) -> (u64, u64)
     requires { at + 16 ≤ length block.now }
     ensures { (result.0 ≡ le_at at 8 block.now) × (result.1 ≡ le_at (at + 8) 8 block.now) }
@@ -53,7 +53,7 @@ fn span_at(block: &[u8], at: usize) -> (u64, u64)
     (u64_at(block, at), u64_at(block, at + 8))
 }
 
-// A memory allocation.
+// Reads the fields of a memory allocation.
 fn allocation_in(alloc: Global, block: &[u8]) -> Result<MemoryAllocation, AllocError>
     requires { 48 ≤ length block.now }
     ensures { IfOk result (λ said. said ≡ allocation_in block.now) }
@@ -71,7 +71,7 @@ fn allocation_in(alloc: Global, block: &[u8]) -> Result<MemoryAllocation, AllocE
     })
 }
 
-// A resource.
+// Reads the fields of a resource.
 fn resource_in(block: &[u8]) -> Resource
     requires { length block.now ≡ 48 }
     ensures { result ≡ resource_in block.now }
@@ -86,7 +86,7 @@ fn resource_in(block: &[u8]) -> Resource
     }
 }
 
-// The processor.
+// Reads the fields of the processor block.
 fn cpu_in(block: &[u8]) -> HobKind
     requires { length block.now ≡ 16 }
     ensures { result ≡ kind_by 0x0006 block.now }
@@ -100,7 +100,7 @@ fn cpu_in(block: &[u8]) -> HobKind
     }
 }
 
-// A volume that was found in a file of another volume.
+// Reads the fields of a volume that was found in a file of another volume.
 fn volume2_in(block: &[u8]) -> HobKind
     requires { length block.now ≡ 56 }
     ensures { result ≡ kind_by 0x0009 block.now }
@@ -114,7 +114,7 @@ fn volume2_in(block: &[u8]) -> HobKind
     }
 }
 
-// The content of a block after its header.
+// Reads the content of a block: what follows its header.
 fn kind_in(alloc: Global, block: &[u8]) -> Result<HobKind, AllocError>
     requires { IsBlock block.now }
     ensures { IfOk result (λ kind. kind ≡ kind_by (hob_type_at block.now) block.now) }
@@ -150,7 +150,7 @@ fn kind_in(alloc: Global, block: &[u8]) -> Result<HobKind, AllocError>
     })
 }
 
-/// The block with these bytes.
+/// Reads the block with these bytes.
 pub fn hob_in(alloc: Global, block: &[u8]) -> Result<Hob, AllocError>
     requires { IsBlock block.now }
     ensures { IfOk result (λ h. IsHob h block.now) }

@@ -1,4 +1,4 @@
-//! Why a hand-off list was rejected.
+//! The reasons for which a hand-off list is rejected.
 
 ghost use Rattle.std.specs.Prelude.{◌≡◌};
 ghost use Rattle.fv_hob.specs.HobChecks.{hob_fault_number, hob_out_of_memory};
@@ -6,33 +6,34 @@ ghost use Rattle.fv_hob.specs.HobChecks.{hob_fault_number, hob_out_of_memory};
 use std::alloc::{AllocError, AllocFailed};
 use thiserror::Error;
 
-/// Why a hand-off list was rejected. Each variant also says at which offset, in bytes from the
-/// first byte of the list. (PI specification, volume 3, section 5.)
+/// The reason why a hand-off list was rejected. The description of each variant includes the offset
+/// of the fault, in bytes from the first byte of the list. (PI specification, volume 3, section 5.)
 #[derive(Clone, Copy, Debug, PartialEq, Eq, Error)]
 pub enum HobFaultKind {
-    /// Fewer than the 8 bytes of a header are left, or fewer than HobLength says. At the block's
-    /// header.
+    /// Fewer than 8 bytes are left for a block's header, or fewer than HobLength for the block. The
+    /// offset is that of the block's header.
     #[error("a block is cut")]
     Short,
-    /// HobLength is not a multiple of 8, or is below 8. At the block's header.
+    /// HobLength is not a multiple of 8, or is below 8. The offset is that of the block's header.
     #[error("the length of a block is no multiple of 8 from 8 on")]
     Length,
-    /// The first block is not a hand-off information table (PHIT). At 0.
+    /// The first block is not a hand-off information table (PHIT). The offset is 0.
     #[error("the first block is no hand-off information table")]
     First,
-    /// HobLength is not one that the block's HobType may have. At the block's header.
+    /// The block's HobType does not allow its HobLength. The offset is that of the block's header.
     #[error("the length of a block is not that of its type")]
     Shape,
-    /// The bytes end before an end block (EFI_HOB_TYPE_END_OF_HOB_LIST). At their end.
+    /// The bytes end before an end block (EFI_HOB_TYPE_END_OF_HOB_LIST). The offset is that of
+    /// their end.
     #[error("the list has no end block")]
     NoEnd,
-    /// Memory ran out. At 0.
+    /// Memory ran out. The offset is 0.
     #[error("out of memory")]
     OutOfMemory,
 }
 
 impl HobFaultKind {
-    /// The number of the kind: 1 to 6, in the order above.
+    /// Returns the number of this kind of fault: 1 to 6, in the order of the variants.
     pub fn number(self) -> u8
         ensures { result ≡ hob_fault_number self }
     {
@@ -53,13 +54,13 @@ impl HobFaultKind {
 pub struct HobFault {
     /// The kind of the fault.
     pub kind: HobFaultKind,
-    /// The offset in bytes from the first byte of the list: that of the block's header, or where
-    /// one is missing, or 0 for OutOfMemory.
+    /// The offset of the fault, in bytes from the first byte of the list: that of the block's
+    /// header, or of the end of the bytes if a block is missing, or 0 for OutOfMemory.
     pub offset: u64,
 }
 
 impl HobFault {
-    /// The number of the fault's kind, 1 to 6.
+    /// Returns the number of the fault's kind, 1 to 6.
     pub fn number(self) -> u8
         ensures { result ≡ hob_fault_number self.kind }
     {
@@ -67,13 +68,13 @@ impl HobFault {
     }
 }
 
-/// The fault of every call when memory runs out.
+/// The fault that every call returns when memory runs out.
 const WANT_OF_MEMORY: HobFault = HobFault {
     kind: HobFaultKind::OutOfMemory,
     offset: 0,
 };
 
-/// OutOfMemory at 0.
+/// Converts to OutOfMemory at offset 0.
 impl From<AllocError> for HobFault {
     ghost from_gives = { λ _ f. f ≡ hob_out_of_memory };
 
@@ -82,7 +83,7 @@ impl From<AllocError> for HobFault {
     }
 }
 
-/// OutOfMemory at 0.
+/// Converts to OutOfMemory at offset 0.
 impl<T: Drop> From<AllocFailed<T>> for HobFault {
     ghost from_gives = { λ _ f. f ≡ hob_out_of_memory };
 

@@ -16,13 +16,14 @@ pub struct Handoff {
     pub version: u32,
     /// BootMode.
     pub boot_mode: u32,
-    /// EfiMemoryTop: the end of the memory that was found.
+    /// EfiMemoryTop: the highest address of the memory that was allocated for the HOB producer
+    /// phase.
     pub memory_top: u64,
-    /// EfiMemoryBottom: its beginning.
+    /// EfiMemoryBottom: the lowest address of that memory.
     pub memory_bottom: u64,
-    /// EfiFreeMemoryTop: the end of the free memory.
+    /// EfiFreeMemoryTop: the highest address of the free memory.
     pub free_memory_top: u64,
-    /// EfiFreeMemoryBottom: its beginning.
+    /// EfiFreeMemoryBottom: the lowest address of the free memory.
     pub free_memory_bottom: u64,
     /// EfiEndOfHobList: the address of the end block.
     pub end_of_list: u64,
@@ -32,7 +33,7 @@ pub struct Handoff {
 /// section 5.4.)
 #[derive(Drop)]
 pub struct MemoryAllocation {
-    /// Name: what it is for.
+    /// Name: the purpose of the allocation.
     pub name: Guid,
     /// MemoryBaseAddress.
     pub base: u64,
@@ -40,9 +41,9 @@ pub struct MemoryAllocation {
     pub length: u64,
     /// MemoryType.
     pub memory_type: u32,
-    /// Reserved, kept as found.
+    /// Reserved, as it was read.
     pub reserved: [u8; 4],
-    /// The bytes of the block from 48 on, kept as found.
+    /// The bytes of the block from offset 48 on, as they were read.
     pub rest: ByteList,
 }
 
@@ -62,8 +63,9 @@ pub struct Resource {
     pub length: u64,
 }
 
-/// The content of a block, by its type. Each variant says its HobType, and the length in bytes that
-/// it must have, with its header of 8 bytes included. (PI specification, volume 3, section 5.)
+/// The content of a block, by its type. The description of each variant includes its HobType and
+/// the length that the block must have, in bytes, including its header of 8 bytes. (PI
+/// specification, volume 3, section 5.)
 #[derive(Drop)]
 pub enum HobKind {
     /// EFI_HOB_TYPE_HANDOFF, 0x0001: the hand-off information table (PHIT), 56 bytes.
@@ -76,7 +78,7 @@ pub enum HobKind {
     GuidExtension {
         /// Name.
         name: Guid,
-        /// The data: the bytes of the block from 24 on, kept as found.
+        /// The data: the bytes of the block from offset 24 on, as they were read.
         payload: ByteList,
     },
     /// EFI_HOB_TYPE_FV, 0x0005: a firmware volume, 24 bytes.
@@ -92,20 +94,21 @@ pub enum HobKind {
         memory_bits: u8,
         /// SizeOfIoSpace: the number of bits of an I/O address.
         io_bits: u8,
-        /// Reserved, kept as found.
+        /// Reserved, as it was read.
         reserved: [u8; 6],
     },
     /// EFI_HOB_TYPE_MEMORY_POOL, 0x0007: a pool of memory, 8 bytes.
     MemoryPool,
-    /// EFI_HOB_TYPE_FV2, 0x0009: a firmware volume that was found in a file of another, 56 bytes.
+    /// EFI_HOB_TYPE_FV2, 0x0009: a firmware volume that was found in a file of another volume, 56
+    /// bytes.
     FirmwareVolume2 {
         /// BaseAddress.
         base: u64,
         /// Length.
         length: u64,
-        /// FvName: the other volume.
+        /// FvName: the name of that other volume.
         volume_name: Guid,
-        /// FileName: the file in it.
+        /// FileName: the name of the file in it.
         file_name: Guid,
     },
     /// EFI_HOB_TYPE_UEFI_CAPSULE, 0x000B: a capsule, 24 bytes.
@@ -118,7 +121,7 @@ pub enum HobKind {
     /// EFI_HOB_TYPE_UNUSED, 0xFFFE: an unused block, at least 8 bytes. Its body is not read, and is
     /// written as zeros.
     Unused {
-        /// The number of bytes after its header.
+        /// The number of bytes after the block's header.
         body_len: u16,
     },
     /// EFI_HOB_TYPE_END_OF_HOB_LIST, 0xFFFF: the end of the list, 8 bytes.
@@ -127,12 +130,12 @@ pub enum HobKind {
     Other {
         /// HobType.
         code: u16,
-        /// The bytes of the block from 8 on, kept as found.
+        /// The bytes of the block from offset 8 on, as they were read.
         payload: ByteList,
     },
 }
 
-/// A hand-off block; only `read_hobs` makes one. (PI specification, volume 3, section 5.)
+/// A hand-off block. Only `read_hobs` makes one. (PI specification, volume 3, section 5.)
 #[derive(Drop)]
 pub struct Hob {
     reserved: u32,
@@ -149,7 +152,7 @@ impl Model for Hob {
     ghost invariant = { λ h. IsReadHob (record { reserved = h.reserved; kind = h.kind }) };
 }
 
-// The length of a block with this content.
+// Returns the length in bytes of a block with this content, including its header.
 fn len_of(kind: &HobKind) -> usize
     ensures { result ≡ hob_len kind.now }
 {
@@ -168,7 +171,7 @@ fn len_of(kind: &HobKind) -> usize
 }
 
 impl Hob {
-    // The block with these parts.
+    // Makes the block with this reserved field and this content.
     pub(crate) fn from_parts(reserved: u32, kind: HobKind) -> Hob
         requires { IsReadHob (record { reserved = reserved; kind = kind }) }
         ensures { result ≡ record { reserved = reserved; kind = kind } }
@@ -176,14 +179,14 @@ impl Hob {
         Hob { reserved, kind }
     }
 
-    /// Reserved of the header (EFI_HOB_GENERIC_HEADER, section 5.2), kept as found.
+    /// Returns the header's Reserved (EFI_HOB_GENERIC_HEADER, section 5.2), as it was read.
     pub fn reserved(&self) -> u32
         ensures { result ≡ self.now.reserved }
     {
         self.reserved
     }
 
-    /// The content of the block, by its type.
+    /// Returns the content of the block, by its type.
     pub fn kind(&self) -> &HobKind
         ensures kind { result.now ≡ self.now.kind }
 
@@ -193,7 +196,7 @@ impl Hob {
         &self.kind
     }
 
-    /// HobType of the header, 0x0001 (EFI_HOB_TYPE_HANDOFF) to 0xFFFF
+    /// Returns the header's HobType, for example 0x0001 (EFI_HOB_TYPE_HANDOFF) or 0xFFFF
     /// (EFI_HOB_TYPE_END_OF_HOB_LIST).
     pub fn code(&self) -> u16
         ensures { result ≡ hob_type self.now.kind }
@@ -214,7 +217,8 @@ impl Hob {
         }
     }
 
-    /// HobLength of the header: the length of the block in bytes, its header of 8 bytes included.
+    /// Returns the header's HobLength: the length of the block in bytes, including its header of 8
+    /// bytes.
     pub fn length(&self) -> u16
         ensures { result ≡ hob_len self.now.kind }
     {

@@ -1,4 +1,4 @@
-//! A hand-off block list.
+//! Hand-off block lists.
 
 ghost use Rattle.std.specs.Prelude.{◌≡◌};
 ghost use Rattle.fv_hob.specs.Lists.{IsReadList};
@@ -6,9 +6,9 @@ ghost use Rattle.fv_hob.specs.Lists.{IsReadList};
 use crate::hob::Hob;
 use std::marker::Model;
 
-/// A hand-off block list; only `read_hobs` makes one. Its first block is a hand-off information
-/// table (PHIT), and its last is the only end block. Contracts see the list of its blocks. (PI
-/// specification, volume 3, section 5.)
+/// A hand-off block list. Only `read_hobs` makes one. Its first block is a hand-off information
+/// table (PHIT), and its last block is the only end block. Contracts see it as the list of its
+/// blocks. (PI specification, volume 3, section 5.)
 #[derive(Drop)]
 pub struct HobList {
     list: Vec<Hob>,
@@ -27,7 +27,7 @@ impl Model for HobList {
 }
 
 impl HobList {
-    // The list of these blocks.
+    // Makes the list of these blocks.
     pub(crate) fn from_vec(list: Vec<Hob>) -> HobList
         requires { IsReadList list.items }
         ensures { result ≡ list.items }
@@ -35,7 +35,7 @@ impl HobList {
         HobList { list }
     }
 
-    /// The blocks in the order of their bytes, the end block last.
+    /// Returns the blocks in the order of their bytes, with the end block last.
     pub fn as_slice(&self) -> &[Hob]
         ensures blocks { result.now ≡ self.now }
 

@@ -1,5 +1,5 @@
-//! The types of hand-off blocks, HobType (PI specification, volume 3, section 5). Both reading and
-//! writing use them.
+//! The types of hand-off blocks, HobType (PI specification, volume 3, section 5). Both the reader
+//! and the writer use them.
 
 /// EFI_HOB_TYPE_HANDOFF, the hand-off information table (PHIT).
 pub const HANDOFF: u16 = 0x0001;

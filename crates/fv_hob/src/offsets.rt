@@ -1,7 +1,7 @@
-//! The offsets of the fields of hand-off blocks, in bytes from the first byte of a block, and the
-//! length of each block in bytes, its header included. (PI specification, volume 3, section 5.)
+//! The offsets of the fields of hand-off blocks, in bytes from the first byte of the block, and the
+//! length of each block in bytes, including its header. (PI specification, volume 3, section 5.)
 
-/// The header of every block, EFI_HOB_GENERIC_HEADER (section 5.2).
+/// The header at the start of every block, EFI_HOB_GENERIC_HEADER (section 5.2).
 pub mod header {
     /// HobType, u16.
     pub const HOB_TYPE: usize = 0;
@@ -48,7 +48,7 @@ pub mod allocation {
     /// AllocDescriptor.Name, a GUID.
     pub const NAME: usize = 8;
 
-    /// AllocDescriptor.MemoryBaseAddress, u64, and then MemoryLength, u64.
+    /// AllocDescriptor.MemoryBaseAddress, u64, followed by MemoryLength, u64.
     pub const BASE: usize = 24;
 
     /// AllocDescriptor.MemoryType, u32.
@@ -57,7 +57,7 @@ pub mod allocation {
     /// AllocDescriptor.Reserved, 4 bytes.
     pub const RESERVED: usize = 44;
 
-    /// The least length; the bytes from there on are kept.
+    /// The least length of the block. The bytes from this offset on are kept.
     pub const LEAST: usize = 48;
 }
 
@@ -72,7 +72,7 @@ pub mod resource {
     /// ResourceAttribute, u32.
     pub const ATTRIBUTE: usize = 28;
 
-    /// PhysicalStart, u64, and then ResourceLength, u64.
+    /// PhysicalStart, u64, followed by ResourceLength, u64.
     pub const START: usize = 32;
 
     /// The block's length.
@@ -84,21 +84,21 @@ pub mod extension {
     /// Name, a GUID.
     pub const NAME: usize = 8;
 
-    /// The least length; the data begin there.
+    /// The least length of the block, and the offset of the data.
     pub const LEAST: usize = 24;
 }
 
 /// EFI_HOB_FIRMWARE_VOLUME (section 5.7), EFI_HOB_UEFI_CAPSULE (section 5.10), and the first fields
 /// of EFI_HOB_FIRMWARE_VOLUME2 (section 5.7).
 pub mod span {
-    /// BaseAddress, u64, and then Length, u64.
+    /// BaseAddress, u64, followed by Length, u64.
     pub const BASE: usize = 8;
 
-    /// The length of the blocks FV and UEFI capsule.
+    /// The length of an FV block and of a UEFI capsule block.
     pub const LEN: usize = 24;
 }
 
-/// EFI_HOB_FIRMWARE_VOLUME2 (section 5.7): the fields after its base and its length.
+/// EFI_HOB_FIRMWARE_VOLUME2 (section 5.7): the fields after the base and the length.
 pub mod volume2 {
     /// FvName, a GUID.
     pub const VOLUME_NAME: usize = 24;

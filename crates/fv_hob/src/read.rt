@@ -1,4 +1,4 @@
-//! Hand-off lists, read.
+//! Reading hand-off lists.
 
 ghost use Rattle.std.specs.Prelude.{◌≡◌, ◌≢◌, ◌≤◌, ℕ, List, drop, length, take, None, Some, IfOk, IfErr};
 ghost use Rattle.fv_base.specs.inner.Verdicts.{first_fault};
@@ -17,14 +17,16 @@ use crate::offsets::header;
 use fv_base::field::{bytes_from, u16_at};
 use std::alloc::Global;
 
-// Whether a block may have this length: one that includes the header, and is a multiple of 8.
+// Returns whether a block may have this length: it is at least that of the header, which it
+// includes, and a multiple of 8.
 fn is_hob_len(len: usize) -> bool
     ensures { result ≡ is_hob_len len }
 {
     len >= header::LEN && len % 8 == 0
 }
 
-// The length of the block at the front, or the kind of the first check that does not hold.
+// Returns the length of the block at the start of `rest`, or the kind of fault of the first check
+// that fails.
 fn check_block(rest: &[u8], first: bool) -> Result<usize, HobFaultKind>
     ensures ok { IfOk result (λ len. (first_fault (hob_checks first rest.now) ≡ None) × (len ≡ hob_len_at rest.now)) }
     ensures err { IfErr result (λ kind. first_fault (hob_checks first rest.now) ≡ Some kind) }
@@ -52,7 +54,7 @@ fn check_block(rest: &[u8], first: bool) -> Result<usize, HobFaultKind>
     Ok(len)
 }
 
-// The block at an offset, or the first fault there.
+// Returns the block at the offset `at`, or the first fault there.
 fn block_at(bytes: &[u8], at: usize, first: bool) -> Result<&[u8], HobFault>
     requires { at ≤ length bytes.now }
     ensures found { IfOk result (λ block. BeginsBlock first block.now (drop at bytes.now)) }
@@ -69,7 +71,7 @@ fn block_at(bytes: &[u8], at: usize, first: bool) -> Result<&[u8], HobFault>
     }
 }
 
-// The blocks up to the end block, and the number of their bytes.
+// Returns the blocks up to the end block, and the number of their bytes.
 fn read_blocks(alloc: Global, bytes: &[u8]) -> Result<(Vec<Hob>, usize), HobFault>
     ensures found { IfOk result (λ p. (p.1 ≤ length bytes.now) × IsHobList p.0.items (take p.1 bytes.now)) }
     ensures first { IfErr result (λ f. f ≢ hob_out_of_memory → IsFirstHobFault bytes.now f) }
@@ -90,30 +92,31 @@ fn read_blocks(alloc: Global, bytes: &[u8]) -> Result<(Vec<Hob>, usize), HobFaul
 }
 
 /// Reads the hand-off block list at the start of the bytes, up to its first end block
-/// (EFI_HOB_TYPE_END_OF_HOB_LIST). Returns the list and the number of its bytes, the end block
-/// included. Bytes after it are not read. Any bytes may be passed in. (PI specification, volume 3,
-/// section 5.)
+/// (EFI_HOB_TYPE_END_OF_HOB_LIST). Returns the list and its length in bytes, including the end
+/// block. The bytes after the end block are not read. The input may be any bytes. (PI
+/// specification, volume 3, section 5.)
 ///
 /// # Errors
 ///
-/// At the first block that has a fault, in this order: NoEnd if no bytes are left, Short if fewer
-/// than 8 are left, Length (HobLength), Short if fewer than HobLength are left, First (HobType of
-/// the first block), Shape (HobLength by HobType). The offset is that of the block's header, in
-/// bytes from the first of `bytes`. OutOfMemory at 0.
+/// The first block with a fault determines the error. Its checks come in this order: NoEnd if no
+/// bytes are left, Short if fewer than 8 are left, Length (HobLength), Short if fewer than
+/// HobLength are left, First (HobType of the first block), Shape (HobLength for this HobType). The
+/// offset is that of the block's header, or of the end of the bytes for NoEnd, in bytes from the
+/// first byte of `bytes`. OutOfMemory is at offset 0.
 pub fn read_hobs(alloc: Global, bytes: &[u8]) -> Result<(HobList, u64), HobFault>
-    // The bytes begin with this list, which has this many bytes.
+    // The bytes begin with the returned list, and the returned number is its length in bytes.
     ensures found { IfOk result (λ p. (p.1 ≤ length bytes.now) × IsHobList p.0 (take p.1 bytes.now)) }
 
     // They begin with no other list.
     ensures only { IfOk result (λ p. (all : List HobForm) (n : ℕ) → n ≤ length bytes.now
         → IsHobList all (take n bytes.now) → (all ≡ p.0) × (n ≡ p.1)) }
 
-    // If an error other than OutOfMemory is returned, they begin with no list.
+    // If an error other than OutOfMemory is returned, the bytes do not begin with a list.
     ensures none { IfErr result
         (λ f. f ≢ hob_out_of_memory → (all : List HobForm) (n : ℕ) → IsHobList all (take n bytes.now) → ⊥) }
 
-    // An error other than OutOfMemory names the first check that does not hold, at the first block
-    // that has one.
+    // An error other than OutOfMemory comes from the first block that fails a check, and names the
+    // first check that this block fails.
     ensures first { IfErr result (λ f. f ≢ hob_out_of_memory → IsFirstHobFault bytes.now f) }
 
     // Memory runs out only if the bytes begin with a hand-off information table.

@@ -10,17 +10,17 @@ use crate::hob_list::HobList;
 use std::alloc::Global;
 use std::marker::Model;
 
-/// Where a firmware volume is in memory. (PI specification, volume 3, section 5.7.)
+/// The place of a firmware volume in memory. (PI specification, volume 3, section 5.7.)
 #[derive(Clone, Copy, Debug, PartialEq, Eq)]
 pub struct Span {
-    /// BaseAddress: the address of its first byte.
+    /// BaseAddress: the address of the volume's first byte.
     pub base: u64,
     /// Length, in bytes.
     pub length: u64,
 }
 
-/// Where firmware volumes are in memory; only `volume_hobs` makes such a list. Contracts see the
-/// list of their spans.
+/// The places of firmware volumes in memory. Only `volume_hobs` makes such a list. Contracts see it
+/// as the list of its spans.
 #[derive(Drop)]
 pub struct Spans {
     list: Vec<Span>,
@@ -36,7 +36,7 @@ impl Model for Spans {
 }
 
 impl Spans {
-    /// The spans in the order of the blocks that describe them.
+    /// Returns the spans in the order of the blocks that describe them.
     pub fn as_slice(&self) -> &[Span]
         ensures { result.now ≡ self.now }
     {
@@ -45,9 +45,9 @@ impl Spans {
 }
 
 impl Hob {
-    /// Where the volume that the block describes is in memory: for EFI_HOB_TYPE_FV (0x0005) and
-    /// EFI_HOB_TYPE_FV2 (0x0009); None for every other type. (PI specification, volume 3, section
-    /// 5.7.)
+    /// Returns the place in memory of the volume that the block describes, if its type is
+    /// EFI_HOB_TYPE_FV (0x0005) or EFI_HOB_TYPE_FV2 (0x0009), or None for every other type. (PI
+    /// specification, volume 3, section 5.7.)
     pub fn span(&self) -> Option<Span>
         ensures { result ≡ span_of self.now.kind }
     {
@@ -62,15 +62,15 @@ impl Hob {
     }
 }
 
-/// Where the volumes of the FV and FV2 blocks (EFI_HOB_TYPE_FV, EFI_HOB_TYPE_FV2) are in memory, in
-/// the order of the blocks. A volume that two blocks describe is in the list twice. (PI
-/// specification, volume 3, section 5.7.)
+/// Returns the places in memory of the volumes that the FV and FV2 blocks (EFI_HOB_TYPE_FV,
+/// EFI_HOB_TYPE_FV2) describe, in the order of the blocks. A volume that two blocks describe is in
+/// the list twice. (PI specification, volume 3, section 5.7.)
 ///
 /// # Errors
 ///
 /// OutOfMemory.
 pub fn volume_hobs(alloc: Global, hobs: &HobList) -> Result<Spans, HobFault>
-    // They are the base and the length of each volume, in order.
+    // The result has the base and the length of each volume that the blocks describe, in order.
     ensures spans { IfOk result (λ s. s ≡ spans_of hobs.now) }
 
     // The only error is OutOfMemory.

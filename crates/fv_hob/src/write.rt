@@ -1,4 +1,4 @@
-//! Hand-off lists, written.
+//! Writing hand-off lists.
 
 ghost use Rattle.std.specs.Prelude.{◌≡◌, ℕ, List, [], ◌∷◌, ◌++◌, replicate, OnOk, IfOk, IfErr};
 ghost use Rattle.std.specs.List.{AllByRecursion, concat};
@@ -64,7 +64,7 @@ fn push_zeros(bytes: &mut Vec<u8>, count: u16) -> Result<(), AllocError>
     bytes.resize(len + usize::from(count), 0)
 }
 
-// Appends a base and a length.
+// Appends the base and the length of a span.
 fn push_span(bytes: &mut Vec<u8>, base: u64, length: u64) -> Result<(), AllocError>
     ensures { OnOk result
         (bytes.new.items ≡ bytes.old.items ++ concat (hob_fields (kinds.FirmwareVolume base length))) }
@@ -107,7 +107,7 @@ fn push_resource(bytes: &mut Vec<u8>, said: &Resource) -> Result<(), AllocError>
     push_span(bytes, said.start, said.length)
 }
 
-// Appends bytes, and then others.
+// Appends the bytes of `one`, followed by those of `other`.
 fn push_pair(bytes: &mut Vec<u8>, one: &[u8], other: &[u8]) -> Result<(), AllocError>
     ensures { OnOk result (bytes.new.items ≡ bytes.old.items ++ concat (one.now ∷ other.now ∷ [])) }
 {
@@ -115,7 +115,8 @@ fn push_pair(bytes: &mut Vec<u8>, one: &[u8], other: &[u8]) -> Result<(), AllocE
     push_bytes(bytes, other)
 }
 
-// Appends the body of a volume with its name, and the name of the file that it is in.
+// Appends the body of an FV2 block: a volume's base and length, the name of the volume in which it
+// was found, and the name of the file.
 fn push_volume2(
     bytes: &mut Vec<u8>,
     base: u64,
@@ -170,7 +171,7 @@ fn push_hob(bytes: &mut Vec<u8>, hob: &Hob) -> Result<(), AllocError>
     push_body(bytes, hob.kind())
 }
 
-// The bytes of blocks, one after another.
+// Returns the bytes of some blocks, one block after another.
 fn list_spelled(alloc: Global, hobs: &[Hob]) -> Result<Vec<u8>, AllocError>
     ensures { IfOk result (λ v. v.items ≡ list_spelled hobs.now) }
 {
@@ -181,20 +182,20 @@ fn list_spelled(alloc: Global, hobs: &[Hob]) -> Result<Vec<u8>, AllocError>
     Ok(bytes)
 }
 
-/// The bytes of a list: those that it was read from, except that the body of an unused block
-/// (EFI_HOB_TYPE_UNUSED) is zeros. (PI specification, volume 3, section 5.)
+/// Returns the bytes of a list. They are the bytes from which the list was read, except that the
+/// body of an unused block (EFI_HOB_TYPE_UNUSED) is zeros. (PI specification, volume 3, section 5.)
 ///
 /// # Errors
 ///
 /// OutOfMemory.
 pub fn hob_bytes(alloc: Global, hobs: &HobList) -> Result<ByteList, HobFault>
-    // They are the list.
+    // The returned bytes are this list.
     ensures list { IfOk result (λ b. IsHobList hobs.now b) }
 
-    // If no block is unused, they are those that it was read from.
+    // If no block is unused, they are the bytes from which the list was read.
     ensures kept { IfOk result (λ b. (c : List ℕ) → IsHobList hobs.now c → AllByRecursion IsUsedHob hobs.now → b ≡ c) }
 
-    // They are these bytes.
+    // They are the bytes of the blocks, one block after another, as `list_spelled` defines them.
     ensures bytes { IfOk result (λ b. b ≡ list_spelled hobs.now) }
 
     // The only error is OutOfMemory.

@@ -1,4 +1,4 @@
--- The text of `cells`: where each cell of a volume lies, and how many bytes the cells have.
+-- The text of `cells`: where each cell of a volume lies, and the sums of the cells' lengths.
 use Rattle.std.specs.Prelude.{◌≡◌, ℕ, ◌+◌, ◌-◌, List, ◌++◌, length, codes, decimal}
 use Rattle.std.specs.List.{flat_map, sum_by}
 use Rattle.fv_base.specs.Words.{bytes_of, guid_text, up_to_8}
@@ -13,14 +13,15 @@ use Rattle.fv_lines.specs.declared.cell_text.LengthSums.{LengthSums}
 
 -- ---- lines
 
--- where a part of this name lies: n bytes at an offset
+-- where a part lies: its name, the offset at which it begins, and its length of n bytes
 abbrev pub span_text : List ℕ → ℕ → ℕ → List ℕ
 span_text name at n = name ++ (codes " at " ++ (decimal at ++ (codes " length " ++ decimal n)))
 
 abbrev pub span_line : List ℕ → ℕ → ℕ → List ℕ
 span_line name at n = span_text name at n ++ line_feed
 
--- the line of a file: its bytes with the filler; its name, type and attributes, as they are stored; and its data
+-- the line of a valid file: where it lies, with its filler; its name, type and attributes, as they are stored; and
+-- where its data lie
 abbrev pub file_line : ℕ → FileHead → List ℕ → List ℕ
 file_line at head payload =
     span_text (codes "file") at (up_to_8 head.size) ++ (codes " " ++ (guid_text (bytes_of head.name)
@@ -28,12 +29,12 @@ file_line at head payload =
     ++ (codes " attributes " ++ (two_digits (attribute_bits head.attributes)
     ++ (span_text (codes " data") (at + head.header_len) (length payload) ++ line_feed)))))))
 
--- what a file that is not valid is called, by its state: it was deleted, or its data were never finished
+-- the word for a file that is not valid, by its state: it was deleted, or its data were never finished
 abbrev pub dead_name : FileState → List ℕ
 dead_name states.Deleted = codes "deleted"
 dead_name _ = codes "unfinished"
 
--- the line of a cell of a volume
+-- the line of a cell
 abbrev pub cell_line : CellForm → List ℕ
 cell_line (Valid at head payload) = file_line at head payload
 cell_line (Pad at head payload) = span_line (codes "pad") at (up_to_8 head.size)
@@ -43,8 +44,8 @@ cell_line (Free at n) = span_line (codes "free") at n
 
 -- ---- sums
 
--- how many bytes of a cell are those of a file, of a pad, of a cell that is neither valid nor free, of the filler of a
--- file or a pad, and of free space
+-- how many bytes of a cell belong to a valid file, to a pad, to a dead cell or a stub, to the filler after a file or a
+-- pad, and to free space: one function for each
 abbrev pub file_length : CellForm → ℕ
 file_length (Valid at head payload) = head.size
 file_length _ = 0
@@ -67,7 +68,7 @@ abbrev pub free_length : CellForm → ℕ
 free_length (Free at n) = n
 free_length _ = 0
 
--- those of all cells
+-- the sums of these lengths over all cells
 abbrev pub sums_of : List CellForm → LengthSums
 sums_of cells = record {
   files = sum_by file_length cells;
@@ -77,7 +78,7 @@ sums_of cells = record {
   free = sum_by free_length cells;
 }
 
--- the last line
+-- the last line, which shows the sums
 abbrev pub sums_line : LengthSums → List ℕ
 sums_line sums =
     codes "sums files " ++ (decimal sums.files ++ (codes " pads " ++ (decimal sums.pads
@@ -86,12 +87,13 @@ sums_line sums =
 
 -- ---- the text
 
--- a line for the header, which has `first` bytes up to the first cell; one for each cell, in order; and the sums
+-- the lines of `cells`: a line for the header, which ends where the first cell begins, at `first`; a line for each
+-- cell, in order; and the sums
 abbrev pub cell_lines : ℕ → List CellForm → List ℕ
 cell_lines first cells =
     span_line (codes "header") 0 first ++ (flat_map cell_line cells ++ sums_line (sums_of cells))
 
--- the text of `cells` for an input
+-- the text is that of `cells` for the volume at the start of the input
 abbrev pub CellsText : List ℕ → List ℕ → Type 0
 CellsText input text = (e : Extent) × (cells : List CellForm) × BeginsTiled e cells input
     × (text ≡ cell_lines e.first cells)

@@ -1,4 +1,4 @@
--- The text of a hand-off list, and what an image holds where a volume should be.
+-- The text of `hobs`, and what an image holds where a volume should be.
 use Rattle.std.specs.Prelude.{◌≡◌, ◌≤◌, ℕ, ◌+◌, ◌-◌, List, length, take, drop, [], ◌∷◌, ◌++◌, Option, None, Some, codes}
 use Rattle.std.specs.Prelude.{decimal}
 use Rattle.fv_head.specs.Words.{HeadFields, BeginsVolume}
@@ -10,7 +10,7 @@ use Rattle.fv_lines.specs.declared.hob_text.Standing.TheVariants.{Outside, Volum
 use Rattle.fv_text.specs.Words.{four_digits, line_feed}
 use Rattle.fv_lines.specs.declared.hob_text.MappedImage.{MappedImage}
 
--- the span is in an image of n bytes, the first of which has the address `base`
+-- the span is within an image of n bytes whose first byte has the address `base`
 abbrev pub IsMapped : ℕ → ℕ → Span → Type 0
 IsMapped base n s = (base ≤ s.base) × (s.base + s.length ≤ base + n)
 
@@ -18,53 +18,55 @@ IsMapped base n s = (base ≤ s.base) × (s.base + s.length ≤ base + n)
 abbrev pub bytes_in_span : List ℕ → ℕ → Span → List ℕ
 bytes_in_span image base s = take s.length (drop (s.base - base) image)
 
--- the bytes are a volume, and all of them belong to it
+-- the bytes begin with the header of a volume whose length is the number of these bytes; the body of the volume is not
+-- checked
 abbrev pub IsWholeVolume : List ℕ → Type 0
 IsWholeVolume b = (h : HeadFields) × (e : Extent) × BeginsVolume h e b × (e.length ≡ length b)
 
--- the span is not within the image; or it is, and its bytes are a whole volume, or they are not
+-- what the image holds in the span: Outside, if the span is not within the image; otherwise Volume, if a volume fills
+-- the span, or Absent, if none does
 abbrev pub IsStanding : List ℕ → ℕ → Span → Standing → Type 0
 IsStanding image base s Outside = IsMapped base (length image) s → ⊥
 IsStanding image base s Volume = IsMapped base (length image) s × IsWholeVolume (bytes_in_span image base s)
 IsStanding image base s Absent = IsMapped base (length image) s × (IsWholeVolume (bytes_in_span image base s) → ⊥)
 
--- the bytes of an image, and the address of the first byte
+-- an image: its bytes, and the address of the first byte
 pub record MappedForm : Type 0 where
   pub bytes : List ℕ
   pub base : ℕ
 
--- the bytes and the address of an image in memory
+-- the bytes and the address of an image that the code holds in memory
 abbrev pub held_image : Option MappedImage → Option MappedForm
 held_image None = None
 held_image (Some i) = Some (record { bytes = i.bytes.now; base = i.base })
 
--- the image with these bytes, if there is a base
+-- the image with these bytes at the address `base`, or None if there is no base
 abbrev pub image_form : Option ℕ → List ℕ → Option MappedForm
 image_form None bytes = None
 image_form (Some base) bytes = Some (record { bytes = bytes; base = base })
 
--- the line of a block of this type and length, with a text after it
+-- the line of a block of this type and length, which ends with the text `word`
 abbrev pub hob_line : ℕ → ℕ → List ℕ → List ℕ
 hob_line code n word = codes "hob " ++ (four_digits code ++ (codes " length " ++ (decimal n ++ (word ++ line_feed))))
 
--- the line of how many bytes a list has
+-- the last line, which shows how many bytes the list has
 abbrev pub consumed_line : ℕ → List ℕ
 consumed_line n = codes "consumed " ++ (decimal n ++ line_feed)
 
--- what is said of a volume, after a space: `outside`, `volume` or `absent`
+-- the word for what an image holds in a span, with a space before it: `outside`, `volume` or `absent`
 abbrev pub standing_word : Standing → List ℕ
 standing_word Outside = codes " outside"
 standing_word Volume = codes " volume"
 standing_word Absent = codes " absent"
 
--- the text for the volume that should be in a span; it is empty if there is no image or no span
+-- the word for the volume that should be in a span; it is empty if there is no image or no span
 abbrev pub IsSpanWord : Option MappedForm → Option Span → List ℕ → Type 0
 IsSpanWord None span word = word ≡ []
 IsSpanWord (Some image) None word = word ≡ []
 IsSpanWord (Some image) (Some span) word =
     (s : Standing) × IsStanding image.bytes image.base span s × (word ≡ standing_word s)
 
--- the text for the volume that a block describes
+-- the word for the volume that a block describes
 abbrev pub IsWord : Option MappedForm → HobForm → List ℕ → Type 0
 IsWord image h word = IsSpanWord image (span_of h.kind) word
 
@@ -74,7 +76,7 @@ HobLines image [] text = text ≡ []
 HobLines image (h ∷ hs) text = (word : List ℕ) × (rest : List ℕ) × IsWord image h word
     × (text ≡ hob_line (hob_type h.kind) (hob_len h.kind) word ++ rest) × HobLines image hs rest
 
--- the text of `hobs`: a line for each block, in order, and the line of how many bytes the list has
+-- the text of `hobs`: a line for each block, in order, and a last line that shows how many bytes the list has
 abbrev pub HobsText : Option MappedForm → List HobForm → ℕ → List ℕ → Type 0
 HobsText image hobs consumed text =
     (lines : List ℕ) × HobLines image hobs lines × (text ≡ lines ++ consumed_line consumed)

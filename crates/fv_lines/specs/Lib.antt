@@ -1,4 +1,4 @@
--- The definitions in the order in which they can be read.
+-- The files of definitions, in the order in which they can be read.
 pub mod ScanLines
 pub mod HobLines
 pub mod CellTexts

@@ -1,4 +1,4 @@
-//! Where the cells of a volume lie.
+//! The command `cells`: where the cells of a volume lie.
 
 ghost use Rattle.std.specs.Prelude.{◌≡◌, ◌⊎◌, ℕ, List, IfErr, OnErr, OnOk};
 ghost use Rattle.fv_base.specs.Words.{OrMemory, out_of_memory};
@@ -10,20 +10,21 @@ use fv_base::{Fault, Sink};
 use fv_tree::volume_cells;
 use std::alloc::Global;
 
-/// Puts where the cells of the volume at the start of the input lie: a line for its header, one for
-/// each cell, and one with the sums of their bytes. Nothing is put before all cells have been read.
+/// Puts where each part of the volume at the start of the input lies: a line for its header, one
+/// for each cell, and a last line with the sums of their lengths. Nothing is put before all cells
+/// have been read.
 ///
 /// # Errors
 ///
-/// Those of `fv_tree::volume_cells`. Nothing was put then.
+/// As for `fv_tree::volume_cells`. Nothing has been put in that case.
 pub fn put_cells<S: Sink>(alloc: Global, input: &[u8], out: &mut S) -> Result<(), Fault>
-    // The sink has taken the text of `cells`.
+    // The sink has taken the text of `cells` for this input.
     ensures ok { OnOk result ((text : List ℕ) × CellsText input.now text × S.takes out.old text out.new) }
 
-    // Any error other than OutOfMemory is the first fault of the header or of a cell.
+    // Any error except OutOfMemory is the first fault of the header or of a cell.
     ensures err { IfErr result (OrMemory (NotTiled input.now)) }
 
-    // After an error the sink is as it was.
+    // After an error the sink is unchanged.
     ensures untouched { OnErr result (out.new ≡ out.old) }
 {
     let (extent, list) = volume_cells(alloc, input)?;

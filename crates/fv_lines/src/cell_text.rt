@@ -1,4 +1,4 @@
-//! The cells of a volume, one line each, and how many bytes they have.
+//! The lines of `cells`: one for each cell of a volume, and one with the sums of their lengths.
 
 ghost use Rattle.std.specs.Prelude.{◌≡◌, ◌≤◌, ◌+◌, ◌-◌, ◌<◌, ◌^◌, length, map};
 ghost use Rattle.std.specs.List.{flat_map, sum_by};
@@ -13,22 +13,22 @@ use fv_base::field::up_to_8;
 use fv_file::{Cell, FileHead, FileState};
 use fv_text::{put_decimal, put_two_digits};
 
-/// How many bytes the cells of a volume have.
+/// The number of bytes in the cells of a volume, by kind.
 #[derive(Clone, Copy)]
 pub struct LengthSums {
-    /// Those of valid files, without their fillers.
+    /// Bytes of valid files, without their fillers.
     pub files: u64,
-    /// Those of pads, without their fillers.
+    /// Bytes of pads, without their fillers.
     pub pads: u64,
-    /// Those of files that were deleted or never finished, with their fillers.
+    /// Bytes of files that were deleted or never finished, with their fillers.
     pub deleted: u64,
-    /// Those of the fillers of files and pads.
+    /// Bytes of the fillers after files and pads.
     pub filler: u64,
-    /// Those of the free space at the end.
+    /// Bytes of the free space at the end.
     pub free: u64,
 }
 
-// Puts where a part lies.
+// Puts the name of a part and where it lies: its offset and its length in bytes.
 fn put_span<S: Sink>(out: &mut S, name: &[u8], offset: u64, length: u64)
     ensures { S.takes out.old (span_text name.now offset length) out.new }
 {
@@ -39,7 +39,7 @@ fn put_span<S: Sink>(out: &mut S, name: &[u8], offset: u64, length: u64)
     put_decimal(out, length);
 }
 
-// Puts the line of a part of which nothing else is shown.
+// Puts a line with only the name of a part and where it lies.
 fn put_span_line<S: Sink>(out: &mut S, name: &[u8], offset: u64, length: u64)
     ensures { S.takes out.old (span_line name.now offset length) out.new }
 {
@@ -47,7 +47,7 @@ fn put_span_line<S: Sink>(out: &mut S, name: &[u8], offset: u64, length: u64)
     out.put(b"\n");
 }
 
-// Puts the line of a file.
+// Puts the line of a valid file. The length of the file in this line includes its filler.
 fn put_file<S: Sink>(out: &mut S, offset: u64, head: &FileHead, payload: &[u8])
     requires within { offset + up_to_8 head.now.size < 2 ^ 63 }
     requires header { head.now.header_len ≤ head.now.size }
@@ -69,7 +69,7 @@ fn put_file<S: Sink>(out: &mut S, offset: u64, head: &FileHead, payload: &[u8])
     out.put(b"\n");
 }
 
-// What a file that is not valid is called, by its state.
+// Returns the word for a file that is not valid, by its state.
 fn dead_name(state: FileState) -> &'static [u8]
     ensures { result.now ≡ dead_name state }
 {
@@ -97,7 +97,7 @@ fn put_cell<S: Sink>(out: &mut S, cell: &Cell<'_>)
     }
 }
 
-// Puts the lines of some cells, in order.
+// Puts the lines of the cells, in order.
 fn put_list<S: Sink>(out: &mut S, list: &[Cell<'_>])
     requires { FitTogether (map cell_form list.now) }
     ensures { S.takes out.old (flat_map cell_line (map cell_form list.now)) out.new }
@@ -107,7 +107,8 @@ fn put_list<S: Sink>(out: &mut S, list: &[Cell<'_>])
     }
 }
 
-// The number of bytes after a file or a pad of this size up to the next multiple of 8.
+// Returns the number of filler bytes after a file or pad of this size: up to the next multiple of
+// 8.
 fn filler_of(size: u64) -> u64
     requires { size + 7 < 2 ^ 64 }
     ensures { result ≡ up_to_8 size - size }
@@ -115,7 +116,7 @@ fn filler_of(size: u64) -> u64
     up_to_8(size) - size
 }
 
-// The sums with those of one cell more.
+// Returns the sums after one more cell has been added.
 fn with_cell(sums: LengthSums, cell: &Cell<'_>) -> LengthSums
     requires { counted sums + cell_len (cell_form cell.now) < 2 ^ 63 }
     ensures { result ≡ sums_with sums (cell_form cell.now) }
@@ -136,7 +137,7 @@ fn with_cell(sums: LengthSums, cell: &Cell<'_>) -> LengthSums
     more
 }
 
-// How many bytes the cells have.
+// Returns the sums over all cells.
 fn sums_of(list: &[Cell<'_>]) -> LengthSums
     requires { sum_by cell_len (map cell_form list.now) < 2 ^ 63 }
     ensures { result ≡ sums_of (map cell_form list.now) }
@@ -154,7 +155,7 @@ fn sums_of(list: &[Cell<'_>]) -> LengthSums
     sums
 }
 
-// Puts the line of the sums.
+// Puts the last line, which shows the sums.
 fn put_sums<S: Sink>(out: &mut S, sums: LengthSums)
     ensures { S.takes out.old (sums_line sums) out.new }
 {
@@ -171,8 +172,8 @@ fn put_sums<S: Sink>(out: &mut S, sums: LengthSums)
     out.put(b"\n");
 }
 
-/// Puts a line for the header of a volume, which ends at the offset `first`, a line for each of its
-/// cells, and a line with the sums of their bytes. The cells fit into a volume.
+/// Puts a line for the header of a volume, which ends at the offset `first`, a line for each cell,
+/// and a line with the sums of their lengths. The cells must fit into a volume.
 pub fn put_lines<S: Sink>(out: &mut S, first: u64, list: &[Cell<'_>])
     requires { FitTogether (map cell_form list.now) }
     ensures { S.takes out.old (cell_lines first (map cell_form list.now)) out.new }

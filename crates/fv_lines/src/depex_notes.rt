@@ -1,4 +1,4 @@
-//! What is noted of the dependency expressions in a volume, a line for each.
+//! The notes of `check` on dependency expressions: one line for each rejected expression.
 
 ghost use Rattle.std.specs.Prelude.{◌≡◌, List, Some};
 ghost use Rattle.fv_tree.specs.Words.{files_of};
@@ -13,18 +13,19 @@ use fv_section::section_type::{DXE_DEPEX, MM_DEPEX, PEI_DEPEX};
 use fv_text::put_decimal;
 use fv_tree::{FileView, SectionView, SectionWalk, VolumeView};
 
-/// What is noted of a dependency expression that is rejected.
+/// The note on a rejected dependency expression.
 #[derive(Clone, Copy, Debug, PartialEq, Eq)]
 pub struct DepexNote {
-    /// The name of the file that holds it.
+    /// The name of the file that contains the expression.
     pub name: Guid,
-    /// The number of its first fault.
+    /// The number of the expression's first fault.
     pub number: u8,
-    /// The offset of that fault, in bytes from the expression's start.
+    /// The offset of that fault, in bytes from the start of the expression.
     pub offset: u64,
 }
 
-// The phase that reads a section of this type, if it is one of a dependency expression.
+// Returns the phase that reads a section of this type, or None if the section is not a dependency
+// expression.
 fn phase_of(kind: u8) -> Option<Phase>
     ensures { result ≡ phase_of kind }
 {
@@ -37,7 +38,7 @@ fn phase_of(kind: u8) -> Option<Phase>
     None
 }
 
-// Puts the line of a dependency expression that is rejected.
+// Puts the line of a note.
 fn put_note<S: Sink>(out: &mut S, note: &DepexNote)
     ensures { S.takes out.old (depex_line note.now) out.new }
 {
@@ -50,7 +51,7 @@ fn put_note<S: Sink>(out: &mut S, note: &DepexNote)
     out.put(b"\n");
 }
 
-// Puts the note of an expression, if it is rejected.
+// Puts the note on an expression, if it is rejected.
 fn put_depex<S: Sink>(out: &mut S, name: Guid, bytes: &[u8], phase: Phase)
     ensures { PutsNotes S.takes (read_by name bytes.now (Some phase)) out.old out.new }
 {
@@ -66,8 +67,8 @@ fn put_depex<S: Sink>(out: &mut S, name: Guid, bytes: &[u8], phase: Phase)
     put_note(out, &note);
 }
 
-// Puts the note of the expression that a leaf of this type is, if its type is that of an
-// expression.
+// Puts the note on the body of a leaf, if the section type is that of a dependency expression and
+// the expression is rejected.
 fn put_leaf<S: Sink>(out: &mut S, name: Guid, kind: u8, bytes: &[u8])
     ensures { PutsNotes S.takes (read_by name bytes.now (phase_of kind)) out.old out.new }
 {
@@ -76,7 +77,7 @@ fn put_leaf<S: Sink>(out: &mut S, name: Guid, kind: u8, bytes: &[u8])
     }
 }
 
-// Puts the note of the expression that a section is, if it is one.
+// Puts the note on a section, if it is a dependency expression that is rejected.
 fn put_section<S: Sink>(out: &mut S, name: Guid, section: &SectionView<'_>)
     ensures { PutsNotes S.takes (section_depex name section.now) out.old out.new }
 {
@@ -85,7 +86,7 @@ fn put_section<S: Sink>(out: &mut S, name: Guid, section: &SectionView<'_>)
     }
 }
 
-// Puts the notes of the expressions of a file.
+// Puts the notes on the expressions of a file.
 fn put_file<S: Sink>(out: &mut S, file: &FileView<'_>)
     ensures { PutsNotes S.takes (file_depexes file.now) out.old out.new }
 {
@@ -95,9 +96,9 @@ fn put_file<S: Sink>(out: &mut S, file: &FileView<'_>)
     }
 }
 
-/// Puts a line for each dependency expression in the files of a volume that is rejected, in
-/// preorder. It takes no memory. (PI specification, volume 1, section 3.4, and volume 2, section
-/// 10.7.)
+/// Puts a line for each rejected dependency expression in the files of a volume. The sections of a
+/// file are taken in preorder: groups are searched, nested volumes are not. Allocates no memory.
+/// (PI specification, volume 1, section 3.4, and volume 2, section 10.7.)
 pub fn put_depex_notes<S: Sink>(out: &mut S, volume: &VolumeView<'_>)
     ensures { (notes : List DepexNote) × AreNotes (depexes_in (files_of volume.now)) notes
         × S.takes out.old (depex_lines notes) out.new }

@@ -1,4 +1,4 @@
-//! What a line of a list shows of a digest.
+//! The digest at the end of a line of `list`.
 
 ghost use Rattle.std.specs.Prelude.{◌++◌, codes};
 ghost use Rattle.hex.specs.Hex.{encode_lower};
@@ -6,7 +6,7 @@ ghost use Rattle.fv_lines.specs.ListTexts.{digest_text};
 
 use fv_base::Sink;
 
-// Puts a digest in lower-case hexadecimal digits, as it is at the end of a line.
+// Puts a digest as it appears at the end of a line: in lower-case hexadecimal digits.
 fn put_sum<S: Sink>(out: &mut S, sum: &[u8; 32])
     ensures { S.takes out.old (codes " sha256 " ++ encode_lower sum.now) out.new }
 {
@@ -18,7 +18,8 @@ fn put_sum<S: Sink>(out: &mut S, sum: &[u8; 32])
     out.put(&text);
 }
 
-/// Puts what the line of a volume or of a file shows of its digest: nothing, if there is none.
+/// Puts the digest at the end of the line of a volume, a file or a section. Puts nothing if there
+/// is none.
 pub fn put_digest<S: Sink>(out: &mut S, digest: Option<[u8; 32]>)
     ensures { S.takes out.old (digest_text digest) out.new }
 {

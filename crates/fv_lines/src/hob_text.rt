@@ -1,4 +1,4 @@
-//! The blocks of a hand-off list, and what an image holds where their volumes should be.
+//! The lines of `hobs`, and what an image holds where a volume should be.
 
 ghost use Rattle.std.specs.Prelude.{◌≡◌, ℕ, List, MatchOption, length};
 ghost use Rattle.fv_lines.specs.HobLines.{HobsText, IsWord, consumed_line, hob_line, standing_word, held_image};
@@ -10,19 +10,19 @@ use fv_head::verify_fv;
 use fv_hob::{Hob, Span};
 use fv_text::{put_decimal, put_four_digits};
 
-/// What an image holds where a volume should be.
+/// What an image holds in a span where a volume should be.
 #[derive(Clone, Copy, Debug, PartialEq, Eq)]
 pub enum Standing {
-    /// The place is not within the image.
+    /// The span is not within the image.
     Outside,
-    /// The volume.
+    /// A volume fills the span: `verify_fv` of its bytes returns the length of the span.
     Volume,
-    /// Something else.
+    /// The span is within the image, but no volume fills it.
     Absent,
 }
 
 impl Standing {
-    /// Its text, after a space.
+    /// Returns the word for it, with a space before it: ` outside`, ` volume` or ` absent`.
     pub fn word(self) -> &'static str
         ensures { result.now ≡ standing_word self }
     {
@@ -37,13 +37,13 @@ impl Standing {
 /// An image, and the address of its first byte.
 #[derive(Clone, Copy)]
 pub struct MappedImage<'a> {
-    /// Its bytes.
+    /// The bytes of the image.
     pub bytes: &'a [u8],
-    /// The address.
+    /// The address of the first byte.
     pub base: u64,
 }
 
-// The bytes of an image in a span, if the span is within the image.
+// Returns the bytes of the image in a span, or None if the span is not within the image.
 fn span_bytes(image: &[u8], base: u64, span: Span) -> Option<&[u8]>
     ensures { MatchOption result (IsMapped base (length image.now) span → ⊥)
         (λ b. IsMapped base (length image.now) span × (b.now ≡ bytes_in_span image.now base span)) }
@@ -56,7 +56,8 @@ fn span_bytes(image: &[u8], base: u64, span: Span) -> Option<&[u8]>
     Some(field(image, start, span.length as usize))
 }
 
-/// What an image holds where a volume should be. Addresses are whole numbers: nothing wraps.
+/// Returns what an image holds in a span where a volume should be. `base` is the address of the
+/// image's first byte. Addresses are compared as whole numbers, and nothing wraps.
 pub fn standing_of(image: &[u8], base: u64, span: Span) -> Standing
     ensures { IsStanding image.now base span result }
 {
@@ -69,7 +70,8 @@ pub fn standing_of(image: &[u8], base: u64, span: Span) -> Standing
     }
 }
 
-// What is said of the volume that a block describes, if it describes one and there is an image.
+// Returns the word for the volume that a block describes, or an empty text if it describes none or
+// there is no image.
 fn word_of(hob: &Hob, image: Option<MappedImage<'_>>) -> &'static str
     ensures { IsWord (held_image image.entry) hob.now result.now }
 {
@@ -79,7 +81,7 @@ fn word_of(hob: &Hob, image: Option<MappedImage<'_>>) -> &'static str
     }
 }
 
-// Puts the line of a block, with a text after it.
+// Puts the line of a block. `word` is put at its end.
 fn put_hob<S: Sink>(out: &mut S, code: u16, length: u16, word: &str)
     ensures { S.takes out.old (hob_line code length word.now) out.new }
 {
@@ -91,7 +93,7 @@ fn put_hob<S: Sink>(out: &mut S, code: u16, length: u16, word: &str)
     out.put(b"\n");
 }
 
-// Puts the line of how many bytes a list has.
+// Puts the last line, which shows how many bytes the list has.
 fn put_consumed<S: Sink>(out: &mut S, consumed: u64)
     ensures { S.takes out.old (consumed_line consumed) out.new }
 {
@@ -100,8 +102,9 @@ fn put_consumed<S: Sink>(out: &mut S, consumed: u64)
     out.put(b"\n");
 }
 
-/// Puts a line for each block of a hand-off list, and how many bytes the list has. With an image, the
-/// line of a block that describes a volume says what the image holds there.
+/// Puts a line for each block of a hand-off list, and a last line that shows how many bytes the
+/// list has. If there is an image, the line of a block that describes a volume also says what the
+/// image holds there.
 pub fn put_hobs<S: Sink>(out: &mut S, hobs: &[Hob], consumed: u64, image: Option<MappedImage<'_>>)
     ensures { (text : List ℕ) × HobsText (held_image image.entry) hobs.now consumed text
         × S.takes out.old text out.new }

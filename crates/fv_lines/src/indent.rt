@@ -1,4 +1,4 @@
-//! How far a line of a list is indented.
+//! The indentation of the lines of `list`.
 
 ghost use Rattle.fv_lines.specs.ListTexts.{spaces};
 ghost use Rattle.fv_lines.specs.inner.LineRuns.{levels};
@@ -8,9 +8,9 @@ use fv_base::Sink;
 /// How far a line is indented.
 #[derive(Drop)]
 pub enum Indent<'a> {
-    /// Not at all.
+    /// The line is not indented.
     Margin,
-    /// Two spaces further than the line of the part that holds this one.
+    /// The line is indented by two spaces more than the line of the containing part.
     Inside(&'a Indent<'a>),
 }
 

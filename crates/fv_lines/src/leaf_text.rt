@@ -1,4 +1,4 @@
-//! What is shown of a section that is bytes: a build number, a text or a GUID.
+//! What `list` shows of a leaf section: a build number, a text or a GUID.
 
 ghost use Rattle.std.specs.Prelude.{◌≡◌, ℕ, List};
 ghost use Rattle.std.specs.List.{flat_map};
@@ -14,7 +14,7 @@ use fv_section::{freeform, ui_text, version};
 use fv_text::{put_decimal, put_four_digits};
 use fv_tree::SectionView;
 
-// Whether a 16-bit unit is shown as it is: a printable ASCII character except the quote and the
+// Returns whether a 16-bit unit is shown as a character: printable ASCII, except the quote and the
 // backslash.
 fn is_plain(unit: u16) -> bool
     ensures { result ≡ is_plain unit }
@@ -22,7 +22,7 @@ fn is_plain(unit: u16) -> bool
     0x20 <= unit && unit <= 0x7e && unit != 0x22 && unit != 0x5c
 }
 
-// Puts a 16-bit unit of a text, as it is or as its number.
+// Puts a 16-bit unit of a text: as a character, or as `\u` and four digits.
 fn put_unit<S: Sink>(out: &mut S, unit: u16)
     ensures { S.takes out.old (unit_text unit) out.new }
 {
@@ -45,7 +45,7 @@ fn put_units<S: Sink>(out: &mut S, units: &[u8])
     }
 }
 
-// Puts the build number of a version section, if the body has the form of one.
+// Puts the build number of a version section, if the body has the format of one.
 fn put_version<S: Sink>(out: &mut S, body: &[u8])
     ensures { (text : List ℕ) × VersionText body.now text × S.takes out.old text out.new }
 {
@@ -58,7 +58,7 @@ fn put_version<S: Sink>(out: &mut S, body: &[u8])
     }
 }
 
-// Puts the text of a user interface section, if the body has the form of one.
+// Puts the text of a user interface section, if the body has the format of one.
 fn put_interface<S: Sink>(out: &mut S, body: &[u8])
     ensures { (text : List ℕ) × InterfaceText body.now text × S.takes out.old text out.new }
 {
@@ -72,7 +72,7 @@ fn put_interface<S: Sink>(out: &mut S, body: &[u8])
     }
 }
 
-// Puts the GUID of a freeform subtype section, if the body has the form of one.
+// Puts the GUID of a freeform subtype section, if the body has the format of one.
 fn put_subtype<S: Sink>(out: &mut S, body: &[u8])
     ensures { (text : List ℕ) × SubtypeText body.now text × S.takes out.old text out.new }
 {
@@ -85,7 +85,7 @@ fn put_subtype<S: Sink>(out: &mut S, body: &[u8])
     }
 }
 
-// Puts what is shown of a leaf of this type.
+// Puts what is shown of the body of a leaf, by its type.
 fn put_leaf<S: Sink>(out: &mut S, kind: u8, body: &[u8])
     ensures { (text : List ℕ) × LeafText kind body.now text × S.takes out.old text out.new }
 {
@@ -97,7 +97,7 @@ fn put_leaf<S: Sink>(out: &mut S, kind: u8, body: &[u8])
     }
 }
 
-/// Puts what is shown of the body of a section: nothing, if it is no leaf.
+/// Puts what is shown of the body of a section: nothing if the section is not a leaf.
 pub fn put_section_body<S: Sink>(out: &mut S, section: &SectionView<'_>)
     ensures { (text : List ℕ) × BodyShown (section_kind_of section.now) (body_of section.now) text
         × S.takes out.old text out.new }

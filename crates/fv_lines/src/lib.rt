@@ -1,7 +1,7 @@
-//! The lines of `scan`, `hobs`, `cells`, `list` and `check`.
+//! The lines of `scan`, `hobs`, `cells`, `list` and `check`, which are put into a sink.
 //!
-//! A module `.._text` has lines, and a module `.._notes` those of what deserves a note. `cell_run`
-//! makes a command of them.
+//! `.._text` modules put the lines of a command, and `.._notes` modules put the notes of `check`.
+//! `cell_run` is the command `cells`: it reads the cells of a volume and puts their lines.
 #![tactic(auto)]
 
 mod cell_run;

@@ -1,4 +1,4 @@
-//! The files and the sections of a volume, one line each.
+//! The lines of `list`: one for each volume, file and section.
 
 ghost use Rattle.std.specs.Prelude.{◌≡◌, ℕ, List, [], Option};
 ghost use Rattle.fv_tree.specs.Words.{content_of, files_from, sections_from, section_kind_of, body_of, body_view};
@@ -18,7 +18,7 @@ use fv_head::VolumeHead;
 use fv_text::{put_decimal, put_two_digits};
 use fv_tree::{Body, Content, FileView, SectionView, VolumeView};
 
-// The text for the form of a section's header, which comes before the length of its body.
+// Returns the words for the form of a section's header. The length of the body follows them.
 fn form_words(is_extended: bool) -> &'static [u8]
     ensures { result.now ≡ form_text is_extended }
 {
@@ -29,7 +29,8 @@ fn form_words(is_extended: bool) -> &'static [u8]
     }
 }
 
-// The digest that the line of a section shows: that of its body, if it is a leaf.
+// Returns the digest in the line of a section: that of its body if the section is a leaf, otherwise
+// None.
 fn section_digest<D: Digests>(section: &SectionView<'_>, digests: &D) -> Option<[u8; 32]>
     ensures { BodyDigest D.of_leaf (body_of section.now) result }
 {
@@ -39,7 +40,7 @@ fn section_digest<D: Digests>(section: &SectionView<'_>, digests: &D) -> Option<
     }
 }
 
-// Puts the line of a section, which has this number in its stream.
+// Puts the line of a section. `number` is its number in its stream.
 fn put_section_line<S: Sink, D: Digests>(
     out: &mut S,
     section: &SectionView<'_>,
@@ -64,7 +65,7 @@ fn put_section_line<S: Sink, D: Digests>(
     out.put(b"\n");
 }
 
-// Puts the line of a file, which has this number in its volume.
+// Puts the line of a file. `number` is its number in its volume.
 fn put_file_line<S: Sink, D: Digests>(
     out: &mut S,
     file: &FileView<'_>,
@@ -91,7 +92,7 @@ fn put_file_line<S: Sink, D: Digests>(
     out.put(b"\n");
 }
 
-// Puts the name of a volume, if its header has one.
+// Puts the name of a volume, if it has an extended header.
 fn put_name<S: Sink>(out: &mut S, head: &VolumeHead<'_>)
     ensures { S.takes out.old (name_text head.now.ext) out.new }
 {
@@ -104,7 +105,7 @@ fn put_name<S: Sink>(out: &mut S, head: &VolumeHead<'_>)
     }
 }
 
-// The text at the start of a volume's line.
+// Returns the words at the start of a volume's line.
 fn system_words(system: FileSystem) -> &'static [u8]
     ensures { result.now ≡ system_text system }
 {
@@ -136,8 +137,8 @@ fn put_volume_line<S: Sink, D: Digests>(
     out.put(b"\n");
 }
 
-// Puts the lines of some sections, and of all that they hold. Each of these walks returns the
-// digests of what comes after.
+// Puts the lines of some sections and of everything in them. This walk, like those below, returns
+// the digests for what comes after.
 #[cycle(lines)]
 fn put_sections<S: Sink, D: Digests>(
     out: &mut S,
@@ -160,7 +161,7 @@ fn put_sections<S: Sink, D: Digests>(
     left
 }
 
-// Puts the lines of what the body of a section holds: nothing, if it is a leaf.
+// Puts the lines of everything in the body of a section: nothing if it is a leaf.
 #[cycle(lines)]
 fn put_body<S: Sink, D: Digests>(
     out: &mut S,
@@ -181,7 +182,7 @@ fn put_body<S: Sink, D: Digests>(
     }
 }
 
-// Puts the lines of the sections of a file, if it holds any.
+// Puts the lines of a file's sections, if its data are sections.
 #[cycle(lines)]
 fn put_content<S: Sink, D: Digests>(
     out: &mut S,
@@ -203,7 +204,7 @@ fn put_content<S: Sink, D: Digests>(
     }
 }
 
-// Puts the lines of some files, and of all that they hold.
+// Puts the lines of some files and of everything in them.
 #[cycle(lines)]
 fn put_files<S: Sink, D: Digests>(
     out: &mut S,
@@ -226,7 +227,7 @@ fn put_files<S: Sink, D: Digests>(
     left
 }
 
-// Puts the lines of a volume, and of all that it holds.
+// Puts the line of a volume and the lines of everything in it.
 #[cycle(lines)]
 fn put_volume<S: Sink, D: Digests>(
     out: &mut S,
@@ -244,10 +245,10 @@ fn put_volume<S: Sink, D: Digests>(
     put_files(out, volume.files(), &further, digests.inside(volume))
 }
 
-/// Puts a line for the volume, for each of its files and for each section in these, and likewise
-/// for what groups and nested volumes hold. The line of a volume and that of a file end with their
-/// digest, if there is one. The digests of the volume, of what is in it and of their files are at
-/// hand. Takes no memory. (PI specification, volume 3, section 3.2.)
+/// Puts a line for the volume, for each of its files and for each section of these files, and
+/// likewise for the contents of groups and nested volumes. The line of a volume, a file or a leaf
+/// section ends with its digest, if there is one. `digests` must cover the volume and the volumes
+/// inside it. Allocates no memory. (PI specification, volume 3, section 3.2.)
 pub fn put_list_with<S: Sink, D: Digests>(volume: &VolumeView<'_>, digests: D, out: &mut S)
     requires { D.covers digests (volumes_in volume.now) }
     ensures { (text : List ℕ) × VolumeLines D.of_volume D.of_file D.of_leaf 0 volume.now text × S.takes out.old text out.new }
@@ -255,7 +256,7 @@ pub fn put_list_with<S: Sink, D: Digests>(volume: &VolumeView<'_>, digests: D, o
     put_volume(out, volume, &Indent::Margin, digests);
 }
 
-/// Puts the lines of `put_list_with` without digests.
+/// Puts the lines of `put_list_with`, without digests.
 pub fn put_list<S: Sink>(volume: &VolumeView<'_>, out: &mut S)
     ensures { (text : List ℕ) × ListText volume.now text × S.takes out.old text out.new }
 {

@@ -1,4 +1,4 @@
-//! The lines for pads that hold bytes which are not erased.
+//! The notes of `check` on pads whose data bytes are not all erased.
 
 ghost use Rattle.std.specs.Prelude.{◌≡◌, map};
 ghost use Rattle.fv_file.specs.Words.{cell_form};
@@ -8,7 +8,7 @@ use fv_base::{Polarity, Sink};
 use fv_file::Cell;
 use fv_text::put_decimal;
 
-// How many of the bytes are not erased.
+// Returns how many of the bytes are not erased.
 fn written_in(bytes: &[u8], polarity: Polarity) -> u64
     ensures { result ≡ written_in polarity bytes.now }
 {
@@ -23,7 +23,7 @@ fn written_in(bytes: &[u8], polarity: Polarity) -> u64
     count
 }
 
-// Puts the line of a pad, unless all of its data bytes are erased.
+// Puts the note on a pad with `count` data bytes that are not erased, unless `count` is 0.
 fn put_pad<S: Sink>(out: &mut S, offset: u64, count: u64)
     ensures { S.takes out.old (pad_line offset count) out.new }
 {
@@ -37,7 +37,7 @@ fn put_pad<S: Sink>(out: &mut S, offset: u64, count: u64)
     out.put(b" bytes\n");
 }
 
-// Puts what is noted of a cell.
+// Puts the note on a cell, if it is a pad whose data bytes are not all erased.
 fn put_cell<S: Sink>(out: &mut S, cell: &Cell<'_>, polarity: Polarity)
     ensures { S.takes out.old (pad_note polarity (cell_form cell.now)) out.new }
 {
@@ -51,8 +51,8 @@ fn put_cell<S: Sink>(out: &mut S, cell: &Cell<'_>, polarity: Polarity)
     }
 }
 
-/// Puts a line for each pad among the cells that holds bytes which are not erased, in order: its
-/// offset in the volume and how many of its data bytes are not erased.
+/// Puts a line, in order, for each cell that is a pad with data bytes which are not erased. The
+/// line shows the offset of the pad in the volume and how many of its data bytes are not erased.
 pub fn put_pad_notes<S: Sink>(out: &mut S, list: &[Cell<'_>], polarity: Polarity)
     ensures { S.takes out.old (pad_notes polarity (map cell_form list.now)) out.new }
 {

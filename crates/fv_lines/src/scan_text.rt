@@ -1,4 +1,4 @@
-//! The volumes that a scan found, and where a volume of an image is.
+//! The lines of `scan`, and the place of a volume in an image.
 
 ghost use Rattle.std.specs.Prelude.{ℕ, List};
 ghost use Rattle.fv_flash.specs.Words.{Found};
@@ -9,8 +9,8 @@ use fv_base::field::bytes_from;
 use fv_head::verify_fv;
 use fv_text::put_decimal;
 
-/// Puts where a volume of an image begins, in bytes from the first of the image, and how many bytes
-/// it has. No line feed follows.
+/// Puts the place of a volume: its offset in bytes from the first byte of the image, and its length
+/// in bytes. No line feed follows.
 pub fn put_volume_place<S: Sink>(out: &mut S, offset: u64, length: u64)
     ensures { S.takes out.old (volume_place offset length) out.new }
 {
@@ -20,7 +20,7 @@ pub fn put_volume_place<S: Sink>(out: &mut S, offset: u64, length: u64)
     put_decimal(out, length);
 }
 
-// Puts the line of a volume that a scan found.
+// Puts the line of a volume that the scan found.
 fn put_found<S: Sink>(out: &mut S, offset: u64, length: u64)
     ensures { S.takes out.old (volume_line offset length) out.new }
 {
@@ -28,8 +28,8 @@ fn put_found<S: Sink>(out: &mut S, offset: u64, length: u64)
     out.put(b"\n");
 }
 
-/// Puts a line for each volume that begins in the input at one of the offsets, which are those of a
-/// scan.
+/// Puts a line for each volume that the scan found in the input. `offsets` must be the result of
+/// that scan: the offsets at which the volumes begin.
 pub fn put_volumes<S: Sink>(out: &mut S, input: &[u8], offsets: &[u64])
     requires { Found input.now offsets.now }
     ensures { (text : List ℕ) × ScanText input.now offsets.now text × S.takes out.old text out.new }

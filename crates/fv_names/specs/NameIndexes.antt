@@ -9,40 +9,40 @@ use Rattle.fv_base.specs.Words.{bytes_of, IsBytes, field}
 use Rattle.fv_base.specs.declared.guid.Guid.{Guid}
 use Rattle.fv_names.specs.declared.name_index.NameIndex.{NameIndex}
 
--- a list of sixteen bytes; and a name made of sixteen bytes
+-- the list consists of sixteen bytes; and the name does
 abbrev pub IsSixteenBytes : List ℕ → Type 0
 IsSixteenBytes bytes = (length bytes ≡ 16) × IsBytes bytes
 
 abbrev pub IsName : Guid → Type 0
 IsName name = IsSixteenBytes (bytes_of name)
 
--- two numbers, and such a pair with the number of a file
+-- the halves of a name as two numbers; and an entry: the halves of a name with the number of a file
 abbrev pub Halves : Type 0
 Halves = ℕ × ℕ
 
 abbrev pub Entry : Type 0
 Entry = Halves × ℕ
 
--- the numbers that the first eight and the last eight of sixteen bytes spell; and the same of a name
+-- the two numbers that the first eight and the last eight of sixteen bytes spell; and the same for the bytes of a name
 abbrev pub halves_in : List ℕ → Halves
 halves_in bytes = (from_le_bytes w64 (field 0 8 bytes), from_le_bytes w64 (field 8 8 bytes))
 
 abbrev pub halves_of : Guid → Halves
 halves_of name = halves_in (bytes_of name)
 
--- these names, each with its number; the first has the number k
+-- the entries of these names in order; the first has the number k
 abbrev pub numbered : ℕ → List Guid → List Entry
 numbered k [] = []
 numbered k (name ∷ names) = (halves_of name, k) ∷ numbered (k + 1) names
 
--- the order of such pairs, and of pairs with a number
+-- the order of halves, by the first and then by the second; and of entries, by their halves and then by their numbers
 abbrev pub halves_cmp : Halves → Halves → Ordering
 halves_cmp a b = ordering_then (nat_cmp a.0 b.0) (nat_cmp a.1 b.1)
 
 abbrev pub entry_cmp : Entry → Entry → Ordering
 entry_cmp a b = ordering_then (halves_cmp a.0 b.0) (nat_cmp a.1 b.1)
 
--- the entries are these names, each with its number, sorted
+-- the entries are those of these names, numbered from 0 and sorted; each name has sixteen bytes
 pub record IsIndex (names : List Guid) (entries : List Entry) : Type 0 where
   pub ordered : IsSorted entry_cmp entries
   pub all : IsPermutation (numbered 0 names) entries
@@ -52,7 +52,7 @@ pub record IsIndex (names : List Guid) (entries : List Entry) : Type 0 where
 abbrev pub entries_of : NameIndex → List Entry
 entries_of index = index.sorted.items
 
--- no two entries side by side have the same name; `e` is what is read past the entries
+-- no two adjacent entries have the same name; `e` is what is read past the last entry
 abbrev pub AllApart : List Entry → Type 0
 AllApart es =
     (e : Entry) (place : ℕ) → 0 < place → place < length es → (get_or es (place - 1) e).0 ≢ (get_or es place e).0

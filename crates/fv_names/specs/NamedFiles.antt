@@ -1,5 +1,5 @@
--- Files by their names and marks: which of them have the same name (PI specification, volume 3, sections 3.2.2 and
--- 3.2.3). The definitions of the same names in VolumeFiles of fv_tree say it of files as they are in their volume.
+-- Files by name and mark: which of them have the same name (PI specification, volume 3, sections 3.2.2 and 3.2.3).
+-- VolumeFiles of fv_tree has definitions with the same names, for files as they are stored in their volume.
 use Rattle.std.specs.Prelude.{◌≡◌, ◌&&◌, not, Bool, false, List, [], ◌∷◌, map}
 use Rattle.std.specs.Bool.{beq}
 use Rattle.std.specs.List.{list_any}
@@ -12,11 +12,11 @@ pub record NamedFile : Type 0 where
   pub name : Guid
   pub marked : Bool
 
--- the names of files, in order
+-- the names of the files, in order
 abbrev pub names_in : List NamedFile → List Guid
 names_in fs = map (λ (f : NamedFile). f.name) fs
 
--- whether the second of two names is the first
+-- whether two names are equal
 abbrev pub is_name : Guid → Guid → Bool
 is_name name other = bytes_eq (bytes_of name) (bytes_of other)
 
@@ -24,7 +24,7 @@ is_name name other = bytes_eq (bytes_of name) (bytes_of other)
 abbrev pub same_name : NamedFile → NamedFile → Bool
 same_name f g = is_name f.name g.name
 
--- whether two files have the same name, and both or neither is marked
+-- whether two files are twins: they have the same name, and both or neither is marked
 abbrev pub is_twin : NamedFile → NamedFile → Bool
 is_twin f g = same_name f g && beq f.marked g.marked
 
@@ -33,6 +33,6 @@ abbrev pub NoTwins : List NamedFile → Type 0
 NoTwins [] = Unit {0}
 NoTwins (f ∷ fs) = (list_any (is_twin f) fs ≡ false) × NoTwins fs
 
--- the file f is marked for update, and g is its update: a file with the same name that is not marked
+-- whether f is marked for update and g is its update: a file with the same name that is not marked
 abbrev pub replaced_by : NamedFile → NamedFile → Bool
 replaced_by f g = same_name f g && (f.marked && not g.marked)

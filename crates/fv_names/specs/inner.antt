@@ -1,2 +1,2 @@
--- Definitions that serve only private clauses: there is nothing to believe here.
+-- Definitions that only private clauses cite: nothing here has to be taken on trust.
 pub mod NameOrders

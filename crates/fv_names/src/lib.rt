@@ -1,5 +1,5 @@
-//! The names of the files of a volume: sorted, with the twins and the superseded files among them,
-//! and looked up. Only `NameIndex::of` takes memory.
+//! An index of the names of a volume's files. It finds the file with a name, files with the same
+//! name and mark (twins), and superseded files. Only `NameIndex::of` takes memory.
 #![tactic(auto)]
 
 mod name_index;

@@ -17,18 +17,18 @@ use crate::named::Named;
 use fv_base::{Fault, Guid};
 use std::alloc::Global;
 
-// A name as two numbers, with the number of its file.
+// A name as two numbers, together with the number of its file.
 type NumberedName = ((u64, u64), u32);
 
-/// The names of some files, sorted, each with the number of its file: the files are numbered from 0
-/// in their order. It says which files have the same name, and which file has a name. (PI
-/// specification, volume 3, section 3.2.3.)
+/// The names of some files in sorted order, each with the number of its file. The files are
+/// numbered from 0 in their own order. The index shows which file has a name, and which files share
+/// a name. (PI specification, volume 3, section 3.2.3.)
 #[derive(Drop)]
 pub struct NameIndex {
     sorted: Vec<NumberedName>,
 }
 
-// Sixteen bytes as two numbers.
+// Returns sixteen bytes as two numbers.
 fn numbers_in(bytes: [u8; 16]) -> (u64, u64)
     ensures is { result ≡ halves_in bytes }
     ensures whole { IsSixteenBytes bytes }
@@ -40,7 +40,7 @@ fn numbers_in(bytes: [u8; 16]) -> (u64, u64)
     (u64::from_le_bytes(front), u64::from_le_bytes(back))
 }
 
-// A name as two numbers, which are quicker to compare than sixteen bytes.
+// Returns a name as two numbers, which compare faster than sixteen bytes.
 fn halves(name: Guid) -> (u64, u64)
     ensures is { result ≡ halves_of name }
     ensures whole { IsName name }
@@ -48,16 +48,16 @@ fn halves(name: Guid) -> (u64, u64)
     numbers_in(name.to_bytes())
 }
 
-// How a key is packed: the number of a file in this many low bits, and the high bits of the first
-// half of its name above them. Keys are quick to sort, and names with the same high bits are rare,
-// so the order of the keys is mostly that of the names.
+// How a key is packed: the low `bits` bits are the number of a file, and the bits above them are
+// the high bits of the first half of the file's name. Keys sort fast. Names rarely agree in these
+// high bits, so the order of the keys is mostly the order of the names.
 #[derive(Clone, Copy)]
 struct Packing {
     bits: u32,
 }
 
 impl Packing {
-    // The packing that has room for the numbers of `count` files.
+    // Returns the packing that has room for the numbers of `count` files.
     fn of(count: usize) -> Packing
         requires { count < 2 ^ 32 }
         ensures room { count ≤ 2 ^ result.bits }
@@ -68,7 +68,7 @@ impl Packing {
         }
     }
 
-    // The key of the file with this number, whose name has this first half.
+    // Returns the key of the file with this number, whose name has this first half.
     fn pack(self, front: u64, number: u64) -> u64
         requires room { number < 2 ^ self.bits }
         requires bits { self.bits < 64 }
@@ -77,7 +77,7 @@ impl Packing {
         front >> self.bits << self.bits | number
     }
 
-    // The number in a key.
+    // Returns the number in a key.
     fn number(self, key: u64) -> u64
         requires { self.bits < 64 }
         ensures { result ≡ key % 2 ^ self.bits }
@@ -86,7 +86,7 @@ impl Packing {
     }
 }
 
-// The keys of some files, sorted.
+// Returns the keys of the files, sorted.
 fn sorted_keys<F: Named>(alloc: Global, files: &[F], packing: Packing) -> Result<Vec<u64>, Fault>
     requires room { length files.now ≤ 2 ^ packing.bits }
     requires bits { packing.bits < 64 }
@@ -105,7 +105,7 @@ fn sorted_keys<F: Named>(alloc: Global, files: &[F], packing: Packing) -> Result
     Ok(keys)
 }
 
-// The entry of the file with this number.
+// Returns the entry of the file with this number.
 fn entry_at<F: Named>(files: &[F], number: u64) -> NumberedName
     requires small { length files.now < 2 ^ 32 }
     requires within { number < length files.now }
@@ -114,7 +114,7 @@ fn entry_at<F: Named>(files: &[F], number: u64) -> NumberedName
     (halves(files[number as usize].name()), number as u32)
 }
 
-// Whether the file with this number is marked for update.
+// Returns whether the file with this number is marked for update.
 fn is_marked_at<F: Named>(files: &[F], number: u32) -> bool
     requires { number < length files.now }
     ensures { (d : NamedFile) → result ≡ mark_at (map F.named files.now) d number }
@@ -122,7 +122,7 @@ fn is_marked_at<F: Named>(files: &[F], number: u32) -> bool
     files[number as usize].is_marked()
 }
 
-// Whether two entries are of files with the same name and the same mark.
+// Returns whether two entries belong to files with the same name and the same mark.
 fn are_twins<F: Named>(files: &[F], one: NumberedName, other: NumberedName) -> bool
     requires one { one.1 < length files.now }
     requires other { other.1 < length files.now }
@@ -133,7 +133,7 @@ fn are_twins<F: Named>(files: &[F], one: NumberedName, other: NumberedName) -> b
 }
 
 impl NameIndex {
-    /// The index of these files, which are fewer than 2 ^ 32.
+    /// Builds the index of these files. There must be fewer than 2 ^ 32 files.
     ///
     /// # Errors
     ///
@@ -141,7 +141,8 @@ impl NameIndex {
     pub fn of<F: Named>(alloc: Global, files: &[F]) -> Result<NameIndex, Fault>
         requires { length files.now < 2 ^ 32 }
 
-        // The entries are the names of the files with their numbers, in the order of the names.
+        // The entries are the files' names, each with the number of its file, sorted by name and
+        // then by number.
         ensures found { IfOk result (λ index. IsIndex (names_in (map F.named files.now)) (entries_of index)) }
 
         // The only error is OutOfMemory.
@@ -158,15 +159,15 @@ impl NameIndex {
         Ok(NameIndex { sorted })
     }
 
-    /// The number of entries, which is that of the files.
+    /// Returns the number of entries, which is the number of files.
     pub fn len(&self) -> usize
         ensures { result ≡ length (entries_of self.now) }
     {
         self.sorted.len()
     }
 
-    /// The number of the file whose name is at this place. Places are counted from 0, in the order
-    /// of the names. The place is that of an entry.
+    /// Returns the number of the file whose name is at this place. Places are counted from 0 in the
+    /// order of the names. There must be an entry at this place.
     pub fn number_at(&self, place: usize) -> u32
         requires { place < length (entries_of self.now) }
         ensures { (e : Entry) → result ≡ (get_or (entries_of self.now) place e).1 }
@@ -174,7 +175,7 @@ impl NameIndex {
         self.sorted[place].1
     }
 
-    /// Whether no two of the files have the same name. The entries are sorted.
+    /// Returns whether no two of the files have the same name. The entries must be sorted.
     pub fn are_distinct(&self) -> bool
         requires { IsSorted entry_cmp (entries_of self.now) }
         ensures distinct { IsTrue result → AllApart (entries_of self.now) }
@@ -188,8 +189,8 @@ impl NameIndex {
         true
     }
 
-    // Whether the entry at a place has a twin among the two before it: with a third entry of its
-    // name there, two of the three are twins.
+    // Returns whether the entry at a place has a twin among the two entries preceding it. Looking
+    // further back is not needed, because two of three files with the same name are twins.
     pub(crate) fn has_twin<F: Named>(&self, files: &[F], place: usize) -> bool
         requires index { IsIndex (names_in (map F.named files.now)) (entries_of self.now) }
         requires first { 0 < place }
@@ -204,9 +205,9 @@ impl NameIndex {
             || are_twins(files, self.sorted[place.saturating_sub(2)], entry)
     }
 
-    /// The number of the first of the files that has an earlier twin: a file with the same name,
-    /// and marked as it is. If none has, the result is the number of files. The index is that of
-    /// these files.
+    /// Returns the number of the first file that has an earlier twin, or the number of files if
+    /// none has. Twins have the same name, and both or neither of them is marked. The index must be
+    /// the index of these files.
     pub fn first_twin<F: Named>(&self, files: &[F]) -> usize
         requires { IsIndex (names_in (map F.named files.now)) (entries_of self.now) }
         ensures most { result ≤ length files.now }
@@ -225,7 +226,7 @@ impl NameIndex {
         first
     }
 
-    // Whether an entry beside the one at a place has the same name.
+    // Returns whether an entry next to the one at a place has the same name.
     pub(crate) fn shares_its_name(&self, place: usize) -> bool
         requires { place < length (entries_of self.now) }
         ensures yes { IsTrue result → (e : Entry) → SharesItsName (entries_of self.now) e place }
@@ -236,9 +237,10 @@ impl NameIndex {
             || (place + 1 < self.sorted.len() && self.sorted[place + 1].0 == name)
     }
 
-    /// Whether one of the files replaces the one whose name is at this place: this one is marked
-    /// for update, and the other has the same name and is not. The index is that of these files,
-    /// and no two of them are twins. The place is that of an entry.
+    /// Returns whether one of the files replaces the file whose name is at this place: that file is
+    /// marked for update, and the other has the same name and is not marked. The index must be the
+    /// index of these files, no two of the files may be twins, and there must be an entry at this
+    /// place.
     pub fn is_replaced<F: Named>(&self, files: &[F], place: usize) -> bool
         requires index { IsIndex (names_in (map F.named files.now)) (entries_of self.now) }
         requires apart { NoTwins (map F.named files.now) }
@@ -247,17 +249,18 @@ impl NameIndex {
             ≡ list_any (replaced_by (get_or (map F.named files.now) (get_or (entries_of self.now) place e).1 d))
             (map F.named files.now) }
     {
-        // No two are twins, so the one that replaces it has an entry beside it.
+        // No two files are twins, so the entry of the replacing file is next to this one.
         self.shares_its_name(place) && is_marked_at(files, self.sorted[place].1)
     }
 
-    /// The number of the first file with this name, or None if no file has it.
+    /// Returns the number of the first file with this name, or None if no file has it.
     pub fn get(&self, name: &Guid) -> Option<u32>
         ensures { (names : List Guid) → IsIndex names (entries_of self.now)
             → unwrap_or result (length names) ≡ position_or_len (is_name name.now) names }
     {
         let key = halves(*name);
-        // Numbers of one name rise: Ok is file 0, and Err where the first of the name would be.
+        // Entries with the same name are ordered by file number. So Ok means that file 0 has this
+        // name, and Err gives the place of the name's first entry, if there is one.
         let Err(place) = self.sorted.binary_search(&(key, 0)) else {
             return Some(0);
         };

@@ -1,4 +1,4 @@
-//! What the index of names reads of a file.
+//! What the index of names reads from a file.
 
 ghost use Rattle.std.specs.Prelude.{◌≡◌};
 ghost use Rattle.fv_names.specs.NamedFiles.{NamedFile};
@@ -8,14 +8,14 @@ use fv_base::Guid;
 /// A file with a name, which may be marked for update. (PI specification, volume 3, section
 /// 3.2.3.1.)
 pub trait Named {
-    /// The name of the file, and whether it is marked.
+    /// The file's name, and whether the file is marked.
     ghost named: { Self → NamedFile };
 
-    /// Its name, `Name`.
+    /// Returns the file's name, `Name`.
     fn name(&self) -> Guid
         ensures { result ≡ (named self.now).name };
 
-    /// Whether it is marked for update (`EFI_FILE_MARKED_FOR_UPDATE`).
+    /// Returns whether the file is marked for update (`EFI_FILE_MARKED_FOR_UPDATE`).
     fn is_marked(&self) -> bool
         ensures { result ≡ (named self.now).marked };
 }

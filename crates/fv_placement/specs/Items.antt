@@ -1,10 +1,10 @@
--- What must be so of a file that is to be placed (PI specification, volume 3, section 3.2.3.1).
+-- The conditions on a file that is to be placed (PI specification, volume 3, section 3.2.3.1).
 use Rattle.std.specs.Prelude.{◌≡◌, ℕ, ◌%◌, ◌≤◌}
 use Rattle.fv_base.specs.Words.{IsAlignment}
 use Rattle.fv_placement.specs.declared.first_placement.LayoutItem.{LayoutItem}
 
--- a file that may be in a volume of `total` bytes: its header has a multiple of 8 bytes and is within it, it is no
--- longer than the volume, and its alignment is one
+-- a file that a volume of `total` bytes can hold: its header lies within it and has a multiple of 8 bytes, it is not
+-- longer than the volume, and its alignment is a power of two of at most 2 ^ 24
 pub record IsLawfulItem (total : ℕ) (f : LayoutItem) : Type 0 where
   pub header : f.header % 8 ≡ 0
   pub holds : f.header ≤ f.size

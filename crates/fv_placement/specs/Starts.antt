@@ -4,32 +4,34 @@ use Rattle.std.specs.Prelude.{◌≡◌, ℕ, ◌+◌, ◌%◌, ◌≤◌, ◌�
 use Rattle.fv_base.specs.Words.{up_to_8}
 use Rattle.fv_placement.specs.declared.first_placement.LayoutItem.{LayoutItem}
 
--- a start that a file may have after the edge e: a multiple of 8, either at the edge or far enough after it for a pad,
--- with the file's data aligned
+-- s is a start that the file f may have after the edge e: a multiple of 8, either e itself or at least 24 bytes after
+-- it for a pad, and with the file's data aligned
 pub record Lawful (e : ℕ) (f : LayoutItem) (s : ℕ) : Type 0 where
   pub eighth : s % 8 ≡ 0
   pub apart : (s ≡ e) ⊎ (e + 24 ≤ s)
   pub aligned : (s + f.header) % f.alignment ≡ 0
 
--- the start of a file: lawful, with the file inside the volume, and at the volume's end if it is the volume top file
+-- s is a start of the file f in a volume of `total` bytes: it is lawful after the edge e, the file ends within the
+-- volume, and the volume top file ends where the volume ends
 pub record StandsInVolume (total e : ℕ) (f : LayoutItem) (s : ℕ) : Type 0 where
   pub lawful : Lawful e f s
   pub within : s + f.size ≤ total
   pub at_end : IsTrue f.top → s + f.size ≡ total
 
--- one start for each file, after the edge of the file before it; that edge is the file's end, rounded up to 8
+-- there is one start for each file, after the preceding edge. This edge is e for the first file, and otherwise the end
+-- of the previous file, rounded up to 8
 abbrev pub StartsFollow : ℕ → ℕ → List LayoutItem → List ℕ → Type 0
 StartsFollow total e [] [] = Unit {0}
 StartsFollow total e [] (s ∷ ss) = ⊥
 StartsFollow total e (f ∷ fs) [] = ⊥
 StartsFollow total e (f ∷ fs) (s ∷ ss) = StandsInVolume total e f s × StartsFollow total (up_to_8 (s + f.size)) fs ss
 
--- the files can be placed at these starts, in a volume of `total` bytes with the first edge `first`
+-- the files can be placed at these starts in a volume of `total` bytes, and the first edge `first` is within the volume
 pub record Placement (total first : ℕ) (fs : List LayoutItem) (starts : List ℕ) : Type 0 where
   pub room : first ≤ total
   pub follow : StartsFollow total first fs starts
 
--- the first placement: each start is the least one among all placements with the same starts before it
+-- the starts are the first placement: each start is the least among all placements with the same earlier starts
 pub record IsFirstPlacement (total first : ℕ) (fs : List LayoutItem) (starts : List ℕ) : Type 0 where
   pub placement : Placement total first fs starts
   pub least : (others : List ℕ) (i : ℕ) → Placement total first fs others → take i others ≡ take i starts

@@ -1,21 +1,22 @@
 //! The first placement of the files of a volume.
 //!
 //! The files are placed in their order. A file begins at a lawful start: a multiple of 8 at which
-//! its data are aligned, and which is the edge before the file, or 24 or more bytes after it, so
-//! that a pad fits between. (The edge is the end of the file before, rounded up to 8.) The file
-//! ends inside the volume, and the volume top file ends where the volume ends. Such starts, one for
-//! each file, are a placement. In the first placement each start is the least among all placements
-//! with the same starts before it.
+//! its data are aligned, and which is either the preceding edge or at least 24 bytes after it, so
+//! that a pad fits in the gap. (The preceding edge is the end of the previous file, rounded up to
+//! 8.) Each file ends within the volume, and the volume top file ends where the volume ends. A list
+//! of such starts, with one start for each file, is a placement. In the first placement each start
+//! is the least among all placements with the same earlier starts.
 //!
-//! In most volumes each file can have the least lawful start after the file before it. If these
-//! least starts are a placement, it is the first: no placement with the same starts before it has a
-//! lesser one. But a least start can be too early. If 8 or 16 bytes are left before the volume top
-//! file, no pad fits there, and a file before it has to begin further on.
+//! In most volumes each file can have the least lawful start after the previous file. If these
+//! least starts are a placement, they are the first placement, because no placement with the same
+//! earlier starts has a lesser start there. But a least start can be too low. If it leaves 8 or 16
+//! bytes in front of the volume top file, no pad fits there, and an earlier file has to begin
+//! further on.
 //!
-//! So if the least starts are no placement, a search goes backwards and then forwards. Backwards it
-//! finds, for each file, the edges after which the files after it can be placed: their reach.
-//! Forwards it places each file at the least lawful start with which it ends at such an edge. The
-//! least starts are found by the same way forwards, as if no file came after each.
+//! So if the least starts are not a placement, a search goes backwards and then forwards. Going
+//! backwards, it finds for each file the edges after which the later files can be placed: their
+//! reach. Going forwards, it places each file at the least lawful start with which the file ends at
+//! such an edge. The least starts are found by the same forward pass, as if no file followed.
 
 ghost use Rattle.std.specs.Prelude.{◌≡◌, ℕ, ◌+◌, ◌%◌, ◌^◌, ◌<◌, ◌≤◌, IfOk, IfErr, IfSome, IfNone, List};
 ghost use Rattle.std.specs.Prelude.{IsTrue, ◌↔◌, All, length, get_or, false};
@@ -33,25 +34,25 @@ use fv_base::Fault;
 use fv_base::field::up_to_8;
 use std::alloc::Global;
 
-/// What the layout knows of a file. (PI specification, volume 3, section 3.2.3.1.)
+/// What the placement of a file depends on. (PI specification, volume 3, section 3.2.3.1.)
 #[derive(Clone, Copy)]
 pub struct LayoutItem {
-    /// The length of its header, in bytes.
+    /// The length of the file's header, in bytes.
     pub header: u64,
-    /// The size of the whole file, in bytes.
+    /// The size of the file with its header, in bytes.
     pub size: u64,
-    /// The alignment of its data, in bytes.
+    /// The alignment of the file's data, in bytes.
     pub alignment: u64,
-    /// Whether it is the volume top file. (Section 3.2.1.3.)
+    /// Whether the file is the volume top file. (Section 3.2.1.3.)
     pub top: bool,
 }
 
-/// The first placement of the files in a volume of `total` bytes with the first edge `first`: the
-/// start of each file, in bytes from the volume's start. None if they cannot be placed in their
-/// order at all. Both `total` and `first` are multiples of 8; `total` is within the limit of a
-/// volume, and `first` is below 2 ^ 32. Each file is at most as long as the volume. Its header is
-/// within it, and has a multiple of 8 bytes. Its alignment is a power of two, at most 2 ^ 24. (PI
-/// specification, volume 3, section 3.2.3.1.)
+/// Returns the first placement of the files in a volume of `total` bytes with the first edge
+/// `first`: the start of each file, in bytes from the volume's start. Returns None if the files
+/// cannot be placed in their order at all. Both `total` and `first` are multiples of 8; `total` is
+/// within the limit of a volume, and `first` is below 2 ^ 32. Each file is at most as long as the
+/// volume. Its header lies within it, and the header's length is a multiple of 8 bytes. Its
+/// alignment is a power of two, at most 2 ^ 24. (PI specification, volume 3, section 3.2.3.1.)
 ///
 /// # Errors
 ///
@@ -66,7 +67,7 @@ pub fn first_starts(
     requires first { (first % 8 ≡ 0) × (first < 2 ^ 32) }
     requires items { All (IsLawfulItem total) items.now }
 
-    // They are the first placement of the files.
+    // The returned starts are the first placement of the files.
     ensures found { IfOk result (λ o. IfSome o (λ starts. IsFirstPlacement total first items.now starts.items)) }
 
     // None is returned only if the files have no placement at all.
@@ -88,8 +89,9 @@ pub fn first_starts(
     place_each(alloc, total, first, items, reaches.as_slice())
 }
 
-// Places each file at its first start, one after another. `reaches` has for each the reach of the
-// files after it, or is empty, to place it as if no file came after. None if one has no start.
+// Places each file in turn at its first usable start. `reaches` holds for each file the reach of
+// the files after it, or is empty: then each file is placed as if no file followed. Returns None if
+// a file has no usable start.
 fn place_each(
     alloc: Global,
     total: u64,
@@ -122,7 +124,8 @@ fn place_each(
     Ok(Some(starts))
 }
 
-// The reach of the files after file `i`, or where it is not known, that of no files.
+// Returns the reach of the files after file `i`. If `reaches` does not hold it, returns the reach
+// of no files.
 fn reach_after(total: u64, reaches: &[Reach], i: usize) -> Reach
     requires total { total % 8 ≡ 0 }
     ensures known { (d : Reach) → i < length reaches.now → result ≡ get_or reaches.now i d }
@@ -135,8 +138,8 @@ fn reach_after(total: u64, reaches: &[Reach], i: usize) -> Reach
     }
 }
 
-// Finds the reach of the files after each one, from the last to the first. False if the files
-// cannot be placed at all.
+// Fills in the reach of the files after each file, from the last file to the first. Returns false
+// if the files cannot be placed at all.
 fn find_reaches(total: u64, items: &[LayoutItem], reaches: &mut [Reach]) -> bool
     requires total { (total ≤ volume_limit) × (total % 8 ≡ 0) }
     requires items { All (IsLawfulItem total) items.now }
@@ -158,7 +161,8 @@ fn find_reaches(total: u64, items: &[LayoutItem], reaches: &mut [Reach]) -> bool
     true
 }
 
-// The reach of a file and those after it, which have the reach `after`.
+// Returns the reach of a file together with the files after it, which have the reach `after`.
+// Returns None if the file has no usable start.
 fn reach_from(total: u64, item: &LayoutItem, after: Reach) -> Option<Reach>
     requires total { (total ≤ volume_limit) × (total % 8 ≡ 0) }
     requires item { IsLawfulItem total item.now }
@@ -176,7 +180,7 @@ fn reach_from(total: u64, item: &LayoutItem, after: Reach) -> Option<Reach>
     })
 }
 
-// Whether the start that is `by` below `greatest` is usable.
+// Returns whether the start `by` bytes below `greatest` is usable.
 fn serves_below(total: u64, item: &LayoutItem, after: Reach, greatest: u64, by: u64) -> bool
     requires total { total ≤ volume_limit }
     requires item { IsLawfulItem total item.now }
@@ -187,8 +191,8 @@ fn serves_below(total: u64, item: &LayoutItem, after: Reach, greatest: u64, by: 
     by <= greatest && serves(total, item, after, greatest - by)
 }
 
-// Whether the only possible start of the volume top file is no multiple of 8, or its data are not
-// aligned there.
+// Returns whether the only possible start of the volume top file is not a multiple of 8, or its
+// data are not aligned there.
 fn is_off(total: u64, item: &LayoutItem) -> bool
     requires total { total ≤ volume_limit }
     requires item { IsLawfulItem total item.now }
@@ -198,10 +202,10 @@ fn is_off(total: u64, item: &LayoutItem) -> bool
     (start + item.header) % item.alignment != 0 || start % 8 != 0
 }
 
-/// Whether there is a volume top file that is off at its only possible start, with which it ends at
-/// the end of the volume of `total` bytes: the start is no multiple of 8, or the data are not
-/// aligned there. `total` is within the limit of a volume, and the files are as for `first_starts`.
-/// Takes no memory. (PI specification, volume 3, section 3.2.1.3.)
+/// Returns whether there is a volume top file that cannot begin at its only possible start, with
+/// which it ends at the end of the volume of `total` bytes: the start is not a multiple of 8, or
+/// the file's data are not aligned there. `total` is within the limit of a volume, and the files
+/// are as for `first_starts`. Takes no memory. (PI specification, volume 3, section 3.2.1.3.)
 pub fn is_top_off(total: u64, items: &[LayoutItem]) -> bool
     requires total { total ≤ volume_limit }
     requires items { All (IsLawfulItem total) items.now }

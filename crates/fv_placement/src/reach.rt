@@ -1,10 +1,11 @@
-//! The reach of some files: the edges after which they can be placed, which are the usable edges.
+//! The reach of some files: the edges after which they can be placed. These are the usable edges.
 //!
-//! A file begins at the edge before it, or 24 or more bytes after that edge, because the least pad
-//! has 24 bytes. If `greatest` is the greatest usable edge, each edge that is 24 or more bytes
-//! below it is usable too: a pad fills the gap. Edges are multiples of 8, so only two are left, 8
-//! and 16 bytes below `greatest`. No pad fits there: each of them is usable only if the first of
-//! the files may begin right there. So one number and two truth values say which edges are usable.
+//! A file begins at the preceding edge, or at least 24 bytes after it, because the smallest pad has
+//! 24 bytes. If `greatest` is the greatest usable edge, every edge at least 24 bytes below it is
+//! usable too, because a pad fills the gap. Edges are multiples of 8, so only the edges 8 and 16
+//! bytes below `greatest` are left. No pad fits there, so each of these two is usable only if the
+//! first of the files may begin right there. So one number and two truth values determine which
+//! edges are usable.
 
 ghost use Rattle.std.specs.Prelude.{◌≡◌, ◌%◌, ◌^◌, ◌<◌, ◌≤◌, ◌↔◌, IsTrue, List, []};
 ghost use Rattle.fv_base.specs.Words.{volume_limit};
@@ -15,20 +16,20 @@ ghost use Rattle.fv_placement.specs.inner.Reaches.{IsBound, IsReach, IsUsable, S
 use crate::first_placement::LayoutItem;
 use fv_base::field::up_to_8;
 
-/// The edges after which some files can be placed: `greatest`, the edges 8 and 16 below it as
-/// `near` and `far` say, and every edge that is 24 or more below it.
+/// The edges after which some files can be placed: `greatest`, the edges 8 and 16 bytes below it if
+/// `near` and `far` say so, and every edge at least 24 bytes below it.
 #[derive(Clone, Copy)]
 pub(crate) struct Reach {
     /// The greatest usable edge, in bytes from the volume's start.
     pub greatest: u64,
-    /// Whether the edge 8 bytes below it is usable.
+    /// Whether the edge 8 bytes below `greatest` is usable.
     pub near: bool,
-    /// Whether the edge 16 bytes below it is usable.
+    /// Whether the edge 16 bytes below `greatest` is usable.
     pub far: bool,
 }
 
-// The reach of no files: every edge up to the volume's end is usable. No files can be placed after
-// any other edge.
+// Returns the reach of no files: every edge up to the volume's end is usable. After any other edge,
+// no files can be placed, however many there are.
 pub(crate) fn reach_of_none(total: u64) -> Reach
     requires total { total % 8 ≡ 0 }
     ensures none { IsReach total [] result }
@@ -41,7 +42,7 @@ pub(crate) fn reach_of_none(total: u64) -> Reach
     }
 }
 
-// Whether files with this reach can be placed after `edge`.
+// Returns whether files with the reach `after` can be placed after `edge`.
 fn is_usable(after: Reach, edge: u64) -> bool
     requires { edge < 2 ^ 62 }
     ensures { IsTrue result ↔ IsUsable after edge }
@@ -52,7 +53,7 @@ fn is_usable(after: Reach, edge: u64) -> bool
         || (after.far && edge + 16 == after.greatest)
 }
 
-// Whether the file may begin at `start`, if the files after it have the reach `after`.
+// Returns whether the file may begin at `start`, if the files after it have the reach `after`.
 pub(crate) fn serves(total: u64, item: &LayoutItem, after: Reach, start: u64) -> bool
     requires total { total ≤ volume_limit }
     requires item { IsLawfulItem total item.now }

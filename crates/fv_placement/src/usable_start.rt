@@ -1,8 +1,8 @@
-//! The first and the greatest usable start of one file, by the reach of the files after it.
+//! The first and the greatest usable start of a file, given the reach of the files after it.
 //!
 //! A start is usable if the file may begin there and ends at a usable edge. The volume top file has
-//! one possible start, with which it ends at the volume's end. The usable starts of any other file
-//! are found from one lawful start to the next, a step of the alignment, which is at least 8.
+//! one possible start, with which it ends at the volume's end. For any other file the search goes
+//! from one lawful start to the next. The step is the alignment of the file, but at least 8.
 
 ghost use Rattle.std.specs.Prelude.{◌≡◌, ℕ, ◌+◌, ◌%◌, ◌^◌, ◌<◌, ◌≤◌, IfSome, IfNone};
 ghost use Rattle.fv_base.specs.Words.{IsAlignment, volume_limit};
@@ -14,7 +14,7 @@ use crate::first_placement::LayoutItem;
 use crate::reach::{Reach, serves};
 use fv_base::field::up_to_8;
 
-// The greatest multiple of the alignment that is at most `x`.
+// Returns the greatest multiple of the alignment that is at most `x`.
 fn round_down(x: u64, alignment: u64) -> u64
     requires { 0 < alignment }
     ensures multiple { result % alignment ≡ 0 }
@@ -25,7 +25,7 @@ fn round_down(x: u64, alignment: u64) -> u64
     x - x % alignment
 }
 
-// The least multiple of the alignment that is at least `x`.
+// Returns the least multiple of the alignment that is at least `x`.
 fn round_up(x: u64, alignment: u64) -> u64
     requires alignment { 0 < alignment }
     requires small { x + alignment < 2 ^ 62 }
@@ -37,7 +37,7 @@ fn round_up(x: u64, alignment: u64) -> u64
     round_down(x + (alignment - 1), alignment)
 }
 
-// The alignment of a start: that of the data, and at least 8.
+// Returns the step between lawful starts: the alignment of the data, but at least 8.
 fn widened(alignment: u64) -> u64
     requires { IsAlignment alignment }
     ensures { Widens result alignment }
@@ -45,10 +45,11 @@ fn widened(alignment: u64) -> u64
     if alignment < 8 { 8 } else { alignment }
 }
 
-// The first usable start after `edge`, if there is one: `edge` itself, or a start with a pad before
-// it. At most two such starts are tried. A start is tried in vain only where the file ends 16 or 8
-// bytes below the greatest usable edge. With a step of 8 `edge` is lawful too, and was usable then.
-// A larger step, at least 16, leads to the greatest usable edge or past it.
+// Returns the first usable start after `edge`, if there is one: `edge` itself, or a start that
+// leaves room for a pad. The loop tries at most two starts. A start fails only if the edge after
+// the file is 8 or 16 bytes below the greatest usable edge. With a step of 8 this does not happen,
+// because then `edge` is lawful as well, is usable, and has already been returned. A larger step is
+// at least 16, so the next start leads to the greatest usable edge or past it.
 pub(crate) fn first_start(total: u64, edge: u64, item: &LayoutItem, after: Reach) -> Option<u64>
     requires total { total ≤ volume_limit }
     requires edge { (edge % 8 ≡ 0) × (edge ≤ total) }
@@ -79,10 +80,11 @@ pub(crate) fn first_start(total: u64, edge: u64, item: &LayoutItem, after: Reach
     None
 }
 
-// The greatest usable start, if there is one. It is one of the two greatest lawful starts. With a
-// step of 8 the greatest leaves exactly the greatest usable edge. With a larger step, at least 16,
-// it may leave an edge 8 or 16 bytes below that; the next then leaves one at least 24 bytes below,
-// which is usable.
+// Returns the greatest usable start, if there is one. For a file other than the volume top file it
+// is one of the two greatest lawful starts with which the file ends at or below the greatest usable
+// edge. With a step of 8 the greater start leads exactly to this edge. With a larger step, which is
+// at least 16, it may lead to an edge 8 or 16 bytes below. The lesser start then leads to an edge
+// at least 24 bytes below, which is usable.
 pub(crate) fn greatest_start(total: u64, item: &LayoutItem, after: Reach) -> Option<u64>
     requires total { (total ≤ volume_limit) × (total % 8 ≡ 0) }
     requires item { IsLawfulItem total item.now }

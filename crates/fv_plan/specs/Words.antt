@@ -1,2 +1,2 @@
--- The door of this crate: all that its specs define for other crates.
+-- The door of this crate: all definitions of its `specs/` that other crates may import.
 pub use Rattle.fv_plan.specs.CommandFiles.{first_file, second_file}

@@ -1,4 +1,4 @@
-//! What a command line asks for: a plan, which names a command, its input files and its options.
+//! A plan: what a command line asks for. It names a command, its input files and its options.
 #![tactic(auto)]
 
 mod plan;

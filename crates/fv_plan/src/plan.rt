@@ -1,4 +1,4 @@
-//! What a run is to do.
+//! Plans of runs.
 
 ghost use Rattle.std.specs.Prelude.{◌≡◌, option_copied};
 ghost use Rattle.fv_plan.specs.CommandFiles.{first_file, second_file};
@@ -10,30 +10,30 @@ use fv_base::Guid;
 pub struct Plan {
     /// Whether inputs, images and parts are hexadecimal text.
     pub hex: bool,
-    /// What is to be done.
+    /// The command.
     pub command: Command,
 }
 
-/// What is to be done, and to which files.
+/// What to do, and with which files.
 #[derive(Debug, Drop)]
 pub enum Command {
-    /// A task over one input.
+    /// A task with one input.
     Single {
-        /// What is done with the input.
+        /// What to do with the input.
         task: Task,
         /// The byte of the input at which the volume begins, or None if the input is the volume.
         at: Option<u64>,
-        /// The file of the input, or standard input.
+        /// The input's file, or None for standard input.
         file: Option<String>,
     },
     /// List the blocks of a hand-off list.
     Hobs {
-        /// The file of the list, or standard input.
+        /// The list's file, or None for standard input.
         file: Option<String>,
-        /// The image in which its volumes are looked for.
+        /// The image in which the list's volumes are looked up, if one is given.
         image: Option<ImageFile>,
     },
-    /// Say whether two volumes have the same meaning.
+    /// Report whether two volumes have the same meaning.
     Compare {
         /// The first volume.
         first: VolumeFile,
@@ -42,61 +42,62 @@ pub enum Command {
     },
 }
 
-/// What is done with one input.
+/// What to do with one input.
 #[derive(Clone, Copy, Debug, PartialEq, Eq)]
 pub enum Task {
     /// Write the canonical image of a volume.
     Normalise,
-    /// Write an image with each volume in it replaced by its canonical image.
+    /// Write an image in which each volume is replaced by its canonical image.
     NormaliseAll,
     /// List the files and the sections of a volume.
     List,
-    /// List them with the SHA-256 of each volume's canonical image, and of each file's data in it.
+    /// List the files and the sections, with the SHA-256 of each volume's canonical image, of each
+    /// file's data in that image, and of each leaf section's body.
     ListSums,
-    /// Write the data of a file of a volume, or the body of one of its sections.
+    /// Write the data of a file of a volume, or the body of one of the file's sections.
     Extract(Part),
-    /// Say whether a volume is its own canonical image, and what in it deserves a note.
+    /// Report whether a volume is its own canonical image, and what in it deserves a note.
     Check,
-    /// Say of each volume of an image whether it is its own canonical image, or its fault.
+    /// Report for each volume of an image whether it is its own canonical image, or its fault.
     CheckAll,
-    /// List the cells of a volume, and where they lie.
+    /// List the cells of a volume, with their places.
     Cells,
-    /// Find the volumes in some bytes.
+    /// Find the volumes in an input.
     Scan,
 }
 
-/// What is to be extracted from a volume.
+/// The part of a volume that is extracted.
 #[derive(Clone, Copy, Debug, PartialEq, Eq)]
 pub struct Part {
     /// The name of the file.
     pub name: Guid,
     /// The type of the section, or None for the data of the file.
     pub section: Option<u8>,
-    /// Which of the sections of this type, counted from 1.
+    /// Which of the sections with this type, counted from 1.
     pub instance: u32,
 }
 
 /// A volume in a file.
 #[derive(Debug, Drop)]
 pub struct VolumeFile {
-    /// The file.
+    /// The path of the file.
     pub path: String,
-    /// The byte of the file at which the volume begins, or None if the file is the volume. Of text,
-    /// decoded bytes are counted.
+    /// The byte of the file at which the volume begins, or None if the file is the volume. If the
+    /// file is hexadecimal text, this counts decoded bytes.
     pub at: Option<u64>,
 }
 
 /// An image in a file.
 #[derive(Debug, Drop)]
 pub struct ImageFile {
-    /// The file.
+    /// The path of the file.
     pub path: String,
-    /// The address of its first byte.
+    /// The address of the image's first byte.
     pub base: u64,
 }
 
 impl Plan {
-    /// The file of the first input, or None for standard input.
+    /// Returns the file of the first input, or None for standard input.
     pub fn first(&self) -> Option<&String>
         ensures { option_copied result ≡ first_file self.now.command }
     {
@@ -106,7 +107,7 @@ impl Plan {
         }
     }
 
-    /// The file of the second input, if there is one.
+    /// Returns the file of the second input, if there is a second input.
     pub fn second(&self) -> Option<&String>
         ensures { option_copied result ≡ second_file self.now.command }
     {

@@ -1,4 +1,4 @@
--- The checks of a section header in a fixed order, and the fault of a stream: the first, or any.
+-- The checks of a section header in order, and the faults of a stream: its first fault, or any fault.
 use Rattle.std.specs.Prelude.{◌≡◌, ℕ, ◌%◌, ◌<◌, ◌==◌, nat_le, ◌&&◌, Bool, true, false, List, [], ◌∷◌, length, take}
 use Rattle.std.specs.Prelude.{drop}
 use Rattle.fv_base.specs.Words.{Check, check, Which, First, Fails, le_at}
@@ -6,33 +6,38 @@ use Rattle.fv_base.specs.declared.fault.Fault.{Fault}
 use Rattle.fv_base.specs.declared.fault.FaultKind.TheVariants as kinds
 use Rattle.fv_section.specs.Frames.{FrameForm, section_header_len, Splits}
 
--- what the header at the start of r says: whether it is extended, its length, and the size of the section
+-- whether the header at the start of r is extended: its Size is 0xFFFFFF
 abbrev pub has_extended_size : List ℕ → Bool
 has_extended_size r = le_at 0 3 r == 0xffffff
 
+-- the length of the header at the start of r
 abbrev pub section_header_len_at : List ℕ → ℕ
 section_header_len_at r = section_header_len (has_extended_size r)
 
+-- the size that a short or an extended header at the start of r states
 abbrev pub section_size_in : Bool → List ℕ → ℕ
 section_size_in false r = le_at 0 3 r
 section_size_in true r = le_at 4 4 r
 
+-- the size of the section at the start of r, including its header: Size, or ExtendedSize if the header is extended
 abbrev pub section_size_at : List ℕ → ℕ
 section_size_at r = section_size_in (has_extended_size r) r
 
--- the header is whole, and the size is neither below its length nor past the end
+-- r holds a complete header, and the size that it states is at least the length of the header and at most the length of
+-- r
 abbrev pub has_section_size : List ℕ → Bool
 has_section_size r = nat_le (section_header_len_at r) (length r)
     && (nat_le (section_header_len_at r) (section_size_at r) && nat_le (section_size_at r) (length r))
 
--- the checks of a section at the offset `at`; r are the bytes from there on
+-- the checks of the section at the offset `at`, in order; r is the bytes from `at` on
 abbrev pub frame_checks : ℕ → List ℕ → List (Check Fault)
 frame_checks at r =
     check (nat_le 4 (length r)) kinds.SectionTail at
     ∷ check (has_section_size r) kinds.SectionSize at
     ∷ []
 
--- frames and fillers are joined up to the offset `at` within the stream, a multiple of 4; a check fails there
+-- b splits into frames up to the offset `at`, a multiple of 4 within b; the fault is that of the first check that fails
+-- there, or of any, as `which` selects
 pub record FrameFault (which : Which) (b : List ℕ) (fault : Fault) : Type 0 where
   pub frames : List FrameForm
   pub tail : ℕ
@@ -42,6 +47,6 @@ pub record FrameFault (which : Which) (b : List ℕ) (fault : Fault) : Type 0 wh
   pub inside : at < length b
   pub fails : Fails which (frame_checks at (drop at b)) fault
 
--- the first fault of a stream: that of the first check there that does not hold
+-- the first fault of a stream: that of the first check that fails where the next frame should begin
 abbrev pub IsFirstFrameFault : List ℕ → Fault → Type 0
 IsFirstFrameFault = FrameFault First

@@ -4,36 +4,36 @@ use Rattle.std.specs.Prelude.{◌≡◌, ◌≢◌, ℕ, ◌+◌, ◌*◌, ◌/�
 use Rattle.std.specs.Prelude.{slice_index}
 use Rattle.fv_base.specs.Words.{le_at}
 
--- a frame: a section as it is found in its stream: the offset of its header, its type, whether its header is extended,
--- and its body
+-- a frame is a section in its stream: the offset of its header, its type, whether its header is extended, and its body
 pub record FrameForm : Type 0 where
   pub offset : ℕ
   pub kind : ℕ
   pub extended : Bool
   pub body : List ℕ
 
--- the length of a short and of an extended header
+-- the length of a section header in bytes: 4 if it is short, 8 if it is extended
 abbrev pub section_header_len : Bool → ℕ
 section_header_len false = 4
 section_header_len true = 8
 
--- how many bytes a frame has, its header included
+-- the length of a frame in bytes, including its header
 abbrev pub frame_len : FrameForm → ℕ
 frame_len f = section_header_len f.extended + length f.body
 
--- a short header has the size in Size, which is then not 0xFFFFFF; an extended one has it in ExtendedSize, and its Size
--- is 0xFFFFFF
+-- the header h states the size n: a short header in Size, and n is not 0xFFFFFF; an extended header in ExtendedSize,
+-- and its Size is 0xFFFFFF
 abbrev pub SaysSize : Bool → ℕ → List ℕ → Type 0
 SaysSize false n h = (le_at 0 3 h ≡ n) × (n ≢ 0xffffff)
 SaysSize true n h = (le_at 0 3 h ≡ 0xffffff) × (le_at 4 4 h ≡ n)
 
--- the bytes h are the header of a section of this form and type, whose body has n bytes; the size includes the header
+-- h is the header of a section of this form and type whose body has n bytes; the size that it states includes the
+-- header
 pub record IsSectionHeader (extended : Bool) (kind n : ℕ) (h : List ℕ) : Type 0 where
   pub whole : length h ≡ section_header_len extended
   pub kind_is : slice_index h 3 ≡ kind
   pub says : SaysSize extended (section_header_len extended + n) h
 
--- b is the frame's header and body, and then rest
+-- b is the header and the body of the frame f, followed by rest
 pub record BeginsFrame (f : FrameForm) (b rest : List ℕ) : Type 0 where
   pub head : List ℕ
   pub is_header : IsSectionHeader f.extended f.kind (length f.body) head
@@ -43,8 +43,8 @@ pub record BeginsFrame (f : FrameForm) (b rest : List ℕ) : Type 0 where
 abbrev pub up_to_4 : ℕ → ℕ
 up_to_4 n = (n + 3) / 4 * 4
 
--- from the offset `at` of the stream on, b is these frames, joined, with filler of any value from each to the next
--- multiple of 4. `tail` bytes follow the last, at most to the next multiple of 4
+-- b is the part of a stream from the offset `at` on: these frames, filler of any value from each to the next multiple
+-- of 4, and `tail` bytes after the last, at most to the next multiple of 4
 abbrev pub SplitsFrom : ℕ → List FrameForm → ℕ → List ℕ → Type 0
 SplitsFrom at [] tail b = (b ≡ []) × (tail ≡ 0)
 SplitsFrom at (f ∷ []) tail b =
@@ -55,6 +55,6 @@ SplitsFrom at (f ∷ g ∷ fs) tail b =
     × (at + frame_len f + length filler ≡ up_to_4 (at + frame_len f))
     × SplitsFrom (up_to_4 (at + frame_len f)) (g ∷ fs) tail rest
 
--- b is a stream of these frames, with `tail` bytes after the last one
+-- b is a stream of these frames, with `tail` bytes after the last frame
 abbrev pub Splits : List FrameForm → ℕ → List ℕ → Type 0
 Splits fs tail b = SplitsFrom 0 fs tail b

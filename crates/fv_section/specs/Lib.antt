@@ -1,4 +1,4 @@
--- The definitions in the order in which they can be read.
+-- The definitions, in reading order.
 pub mod Frames
 pub mod SectionImage
 pub mod FrameChecks

@@ -1,4 +1,4 @@
--- Frames where they are in some bytes, as calls return them, and streams that were written, read again (PI
+-- Frames at their offsets in some bytes, as calls return them, and reading back streams that were written (PI
 -- specification, volume 3, section 3.2.4).
 use Rattle.fv_section.specs.Frames.{FrameForm, section_header_len, frame_len, BeginsFrame, up_to_4, SplitsFrom}
 use Rattle.fv_section.specs.declared.frame.Frame.{Frame}
@@ -8,18 +8,18 @@ use Rattle.std.specs.Prelude.{suc, ◌-◌, take, slice_index}
 use Rattle.fv_section.specs.SectionImage.{stream_of}
 use Rattle.fv_section.specs.FrameChecks.{has_extended_size, section_header_len_at, section_size_at}
 
--- a frame, with its body as a list
+-- the frame that a `Frame` of the code describes, with its body as a list
 abbrev pub frame_form : Frame → FrameForm
 frame_form f = record { offset = f.offset; kind = f.kind; extended = f.extended; body = f.body.now }
 
--- this frame, its header and its body, is in b at the offset `at`
+-- the frame f, with its header and its body, lies in b at the offset `at`
 pub record FrameStandsAt (f : FrameForm) (at : ℕ) (b : List ℕ) : Type 0 where
   pub offset : f.offset ≡ at
   pub inside : at < length b
   pub behind : List ℕ
   pub begins : BeginsFrame f (drop at b) behind
 
--- each frame ends within `end` bytes from the stream's start
+-- every frame ends at most `end` bytes after the stream's start
 abbrev pub FramesWithin : ℕ → List FrameForm → Type 0
 FramesWithin end fs = AllByRecursion (λ f. f.offset + frame_len f ≤ end) fs
 
@@ -28,14 +28,14 @@ abbrev pub FitsForm : Bool → ℕ → Type 0
 FitsForm false n = section_header_len false + n ≤ 0xfffffe
 FitsForm true n = section_header_len true + n ≤ 0xffffffff
 
--- the header h and any body of n bytes after it are a frame
+-- the header h followed by any body of n bytes is a frame of this form and type
 abbrev pub IsHeadOfFrame : Bool → ℕ → ℕ → List ℕ → Type 0
 IsHeadOfFrame extended kind n h =
     (at : ℕ) (body rest : List ℕ) → length body ≡ n
     → BeginsFrame (record { offset = at; kind = kind; extended = extended; body = body }) (h ++ (body ++ rest)) rest
 
--- from the offset `at` on, each frame's offset is the next multiple of 4 after the frame before it, each body fits its
--- header's form, and the tail ends at most at the next multiple of 4
+-- the frames are in place from the offset `at` on: each begins at the first multiple of 4 at or after the end of the
+-- previous one, each body fits the form of its header, and the tail ends at most at the next multiple of 4
 abbrev pub InPlace : ℕ → List FrameForm → ℕ → Type 0
 InPlace at [] tail = tail ≡ 0
 InPlace at (f ∷ []) tail =
@@ -43,12 +43,12 @@ InPlace at (f ∷ []) tail =
 InPlace at (f ∷ g ∷ fs) tail =
     (f.offset ≡ at) × FitsForm f.extended (length f.body) × InPlace (up_to_4 (at + frame_len f)) (g ∷ fs) tail
 
--- frames that are written one after another are read back as the same frames
+-- frames that are in place (`InPlace`) and written one after another (`stream_of`) are read back as the same frames
 abbrev pub StreamsAreRead : Type 0
 StreamsAreRead = (at : ℕ) (fs : List FrameForm) (tail : ℕ) → at % 4 ≡ 0 → InPlace at fs tail
     → SplitsFrom at fs tail (stream_of fs tail)
 
--- the frame at the offset `at`, as its header says; r are the bytes from there on
+-- the frame at the offset `at`, as its header describes it; r is the bytes from `at` on
 abbrev pub frame_in : ℕ → List ℕ → FrameForm
 frame_in at r = record {
   offset = at;
@@ -57,16 +57,16 @@ frame_in at r = record {
   body = take (section_size_at r - section_header_len_at r) (drop (section_header_len_at r) r);
 }
 
--- the offset at which a frame would begin after the frame at the offset `at`
+-- the offset at which the frame after the one at the offset `at` would begin
 abbrev pub offset_after : ℕ → List ℕ → ℕ
 offset_after at b = up_to_4 (at + frame_len (frame_in at (drop at b)))
 
--- n frames of b, one after another, the first at the offset `at`
+-- n successive frames as their headers in b describe them, the first at the offset `at`
 abbrev pub frames_from : ℕ → ℕ → List ℕ → List FrameForm
 frames_from zero at b = []
 frames_from (suc n) at b = frame_in at (drop at b) ∷ frames_from n (offset_after at b) b
 
--- each of these frames is in b, at its offset
+-- each of these n successive frames lies in b at its offset, the first at the offset `at`
 abbrev pub HasFrames : ℕ → ℕ → List ℕ → Type 0
 HasFrames zero at b = Unit {0}
 HasFrames (suc n) at b = FrameStandsAt (frame_in at (drop at b)) at b × HasFrames n (offset_after at b) b

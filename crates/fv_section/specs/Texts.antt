@@ -1,16 +1,17 @@
--- What some leaf sections hold (PI specification, volume 3, sections 3.2.5.14, 3.2.5.15 and 3.2.5.6).
+-- The inner formats of three types of leaf sections (PI specification, volume 3, sections 3.2.5.14, 3.2.5.15 and
+-- 3.2.5.6).
 use Rattle.std.specs.Prelude.{◌≡◌, ◌≢◌, ℕ, ◌%◌, List, [], ◌∷◌, ◌++◌, length}
 use Rattle.std.specs.List.{AllByRecursion}
 use Rattle.fv_base.specs.Words.{bytes_of, words_of, le}
 use Rattle.fv_base.specs.declared.guid.Guid.{Guid}
 
--- b is the 16-bit units of a text, none of them zero, and then one zero unit
+-- b is the 16-bit units of a text, none of which is zero, followed by one zero unit
 pub record IsText (b text : List ℕ) : Type 0 where
   pub joined : b ≡ text ++ (0 ∷ 0 ∷ [])
   pub whole_units : length text % 2 ≡ 0
   pub none_zero : AllByRecursion (λ unit. unit ≢ 0) (words_of text)
 
--- b is a two-byte number, and then a text with its zero unit
+-- b is a two-byte number, followed by a text and its zero unit
 pub record IsVersion (b : List ℕ) (build : ℕ) (text : List ℕ) : Type 0 where
   pub number : List ℕ
   pub units : List ℕ
@@ -19,7 +20,7 @@ pub record IsVersion (b : List ℕ) (build : ℕ) (text : List ℕ) : Type 0 whe
   pub spells : le number ≡ build
   pub is_text : IsText units text
 
--- b is a GUID of 16 bytes and then other bytes
+-- b is the 16 bytes of a GUID, followed by rest
 pub record IsFreeform (b : List ℕ) (guid : Guid) (rest : List ℕ) : Type 0 where
   pub joined : b ≡ bytes_of guid ++ rest
   pub whole : length (bytes_of guid) ≡ 16

@@ -1,4 +1,4 @@
--- The door of this crate: all that its specs define for other crates.
+-- The definitions of this crate that other crates use. They import them only from here.
 pub use Rattle.fv_section.specs.Frames.{FrameForm, section_header_len, frame_len, SaysSize, IsSectionHeader}
 pub use Rattle.fv_section.specs.Frames.{BeginsFrame, up_to_4, SplitsFrom, Splits}
 pub use Rattle.fv_section.specs.SectionImage.{section_head_of, stream_of}

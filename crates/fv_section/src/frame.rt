@@ -1,4 +1,4 @@
-//! A section as it is found in its stream.
+//! Sections in a stream, and the reading of their headers.
 
 ghost use Rattle.std.specs.Prelude.{◌≡◌, ◌<◌, ◌≤◌, length, drop, Ok, Err, IfOk, IfErr, IfSome, IfNone};
 ghost use Rattle.fv_base.specs.Words.{IsFirstFault, le_at};
@@ -15,25 +15,26 @@ use byteorder::{ByteOrder, LittleEndian};
 use fv_base::field::{field, u32_at};
 use fv_base::{Fault, FaultKind, check};
 
-/// `Size` of an extended header, whose size is in `ExtendedSize`.
+/// The value of `Size` in an extended header; the size of the section is then in `ExtendedSize`.
 const EXTENDED: u32 = 0xff_ffff;
 
-/// A section as it is found in its stream. (PI specification, volume 3, section 3.2.4,
-/// `EFI_COMMON_SECTION_HEADER` and `EFI_COMMON_SECTION_HEADER2`.)
+/// A section in its stream. (PI specification, volume 3, section 3.2.4, `EFI_COMMON_SECTION_HEADER`
+/// and `EFI_COMMON_SECTION_HEADER2`.)
 #[derive(Clone, Copy)]
 pub struct Frame<'a> {
-    /// The offset of its header, in bytes from the stream's start.
+    /// The offset of the section's header, in bytes from the stream's start.
     pub offset: u64,
-    /// Its `Type`, for example 0x15 for `EFI_SECTION_USER_INTERFACE`.
+    /// The section's `Type`, for example 0x15 for `EFI_SECTION_USER_INTERFACE`.
     pub kind: u8,
-    /// Whether its header is `EFI_COMMON_SECTION_HEADER2`, of 8 bytes, rather than the header of 4.
+    /// Whether the header is `EFI_COMMON_SECTION_HEADER2`, of 8 bytes, rather than the header of 4.
     pub extended: bool,
-    /// The bytes after its header.
+    /// The bytes after the header.
     pub body: &'a [u8],
 }
 
-/// The length of a section's header in bytes: 4, or 8 if it is extended. (PI specification, volume
-/// 3, section 3.2.4, `EFI_COMMON_SECTION_HEADER` and `EFI_COMMON_SECTION_HEADER2`.)
+/// Returns the length of a section header in bytes: 4, or 8 for an extended header. (PI
+/// specification, volume 3, section 3.2.4, `EFI_COMMON_SECTION_HEADER` and
+/// `EFI_COMMON_SECTION_HEADER2`.)
 pub fn section_header_len(extended: bool) -> u64
     ensures { result ≡ section_header_len extended }
 {
@@ -44,7 +45,7 @@ pub fn section_header_len(extended: bool) -> u64
     }
 }
 
-// `Size` in the header at the start of the bytes.
+// Returns `Size` of the header at the start of `rest`.
 fn short_size(rest: &[u8]) -> u32
     requires least { 4 ≤ length rest.now }
     ensures { result ≡ le_at 0 3 rest.now }
@@ -52,7 +53,7 @@ fn short_size(rest: &[u8]) -> u32
     LittleEndian::read_u24(field(rest, SIZE_OFFSET, 3))
 }
 
-// Whether that header is extended: its `Size` is 0xFFFFFF.
+// Returns whether the header at the start of `rest` is extended: its `Size` is 0xFFFFFF.
 fn has_extended_size(rest: &[u8]) -> bool
     requires least { 4 ≤ length rest.now }
     ensures { result ≡ has_extended_size rest.now }
@@ -60,7 +61,7 @@ fn has_extended_size(rest: &[u8]) -> bool
     short_size(rest) == EXTENDED
 }
 
-// The length of the header.
+// Returns the length of the header at the start of `rest`, in bytes.
 fn head_len(rest: &[u8]) -> usize
     requires least { 4 ≤ length rest.now }
     ensures { result ≡ section_header_len_at rest.now }
@@ -68,7 +69,8 @@ fn head_len(rest: &[u8]) -> usize
     section_header_len(has_extended_size(rest)) as usize
 }
 
-// The size of the section, its header included: `Size` or `ExtendedSize`.
+// Returns the size of the section at the start of `rest`, including its header: `Size` or
+// `ExtendedSize`.
 fn size_of(rest: &[u8]) -> usize
     requires least { 4 ≤ length rest.now }
     requires header { section_header_len_at rest.now ≤ length rest.now }
@@ -81,7 +83,8 @@ fn size_of(rest: &[u8]) -> usize
     }
 }
 
-// Whether the header is whole, and the size is neither below its length nor past the end.
+// Returns whether `rest` holds a complete header, and the size that it states is at least the
+// length of the header and at most the length of `rest`.
 fn has_section_size(rest: &[u8]) -> bool
     requires least { 4 ≤ length rest.now }
     ensures { result ≡ has_section_size rest.now }
@@ -94,7 +97,7 @@ fn has_section_size(rest: &[u8]) -> bool
     header <= size && size <= rest.len()
 }
 
-// The frame at the front.
+// Returns the frame at the start of `rest`. `at` is the offset of `rest` in the stream.
 pub(crate) fn frame_in(rest: &[u8], at: u64) -> Frame<'_>
     requires least { 4 ≤ length rest.now }
     requires header { section_header_len_at rest.now ≤ section_size_at rest.now }
@@ -109,7 +112,7 @@ pub(crate) fn frame_in(rest: &[u8], at: u64) -> Frame<'_>
     }
 }
 
-// The frame at the front, or the first fault.
+// Returns the frame at the start of `rest`, or the first fault there.
 fn front(rest: &[u8], at: u64) -> Result<Frame<'_>, Fault>
     ensures found { IfOk result (λ f. frame_verdict at rest.now ≡ Ok (frame_form f)) }
     ensures refused { IfErr result (λ e. frame_verdict at rest.now ≡ Err e) }
@@ -120,32 +123,33 @@ fn front(rest: &[u8], at: u64) -> Result<Frame<'_>, Fault>
     Ok(frame_in(rest, at))
 }
 
-/// The frame whose header is at the offset `at`, in bytes from the stream's start, or None if `at`
-/// is at or past the stream's end. Frames begin at multiples of 4. Takes no memory. (PI
-/// specification, volume 3, section 3.2.4.)
+/// Returns the frame whose header is at the offset `at`, in bytes from the stream's start, or None
+/// if `at` is at or past the stream's end. The frames of a stream begin at multiples of 4, but `at`
+/// may be any offset. Allocates no memory. (PI specification, volume 3, section 3.2.4.)
 ///
 /// # Errors
 ///
-/// SectionTail at `at` if 1 to 3 bytes are left; SectionSize at `at` if the size is below the
-/// header's length or past the end, or an extended header is cut short.
+/// SectionTail at `at` if only 1 to 3 bytes are left there. SectionSize at `at` if the section's
+/// size is below the length of its header, if the section would end past the stream's end, or if
+/// fewer than 8 bytes are left for an extended header.
 pub fn next_frame(stream: &[u8], at: u64) -> Result<Option<Frame<'_>>, Fault>
-    // This frame is there.
+    // If a frame is returned, the stream has this frame at `at`.
     ensures found { IfOk result (λ o. IfSome o (λ f. FrameStandsAt (frame_form f) at stream.now)) }
 
-    // No other frame is there.
+    // It has no other frame there.
     ensures only { IfOk result
         (λ o. IfSome o (λ f. (g : FrameForm) → FrameStandsAt g at stream.now → g ≡ frame_form f)) }
 
-    // None is returned only at the end or past it.
+    // None is returned only if `at` is at or past the stream's end.
     ensures past { IfOk result (λ o. IfNone o (length stream.now ≤ at)) }
 
-    // If an error is returned, no frame is there.
+    // If an error is returned, the stream has no frame at `at`.
     ensures none { IfErr result (λ _. (g : FrameForm) → FrameStandsAt g at stream.now → ⊥) }
 
-    // An error names the first check that does not hold.
+    // The error names the first check that fails.
     ensures first { IfErr result (IsFirstFault (frame_checks at (drop at stream.now))) }
 
-    // It is at `at`, which is within the stream.
+    // The offset of the error is `at`, which is within the stream.
     ensures place { IfErr result (λ e. (e.place.offset ≡ at) × (at < length stream.now)) }
 {
     if at >= stream.len() as u64 {

@@ -6,8 +6,8 @@ ghost use Rattle.fv_section.specs.StreamReads.{frame_form};
 use crate::frame::Frame;
 use std::marker::Model;
 
-/// The frames of a stream in order, and the number of bytes after the last. Contracts see the list
-/// and the number. (PI specification, volume 3, section 3.2.4.)
+/// The frames of a stream in order, and the number of bytes after the last frame. Contracts see the
+/// list of the frames and that number. (PI specification, volume 3, section 3.2.4.)
 #[derive(Drop)]
 pub struct Frames<'a> {
     list: Vec<Frame<'a>>,
@@ -25,21 +25,22 @@ impl<'a> Model for Frames<'a> {
 }
 
 impl<'a> Frames<'a> {
-    // The frames of a vector, and the number of bytes after the last. Takes no memory.
+    // Makes a `Frames` of the frames in a vector and the number of bytes after the last frame.
+    // Allocates no memory.
     pub(crate) fn from_parts(list: Vec<Frame<'a>>, tail: u8) -> Frames<'a>
         ensures { result ≡ (map frame_form list.entry.items, tail) }
     {
         Frames { list, tail }
     }
 
-    /// The frames in order.
+    /// Returns the frames in order.
     pub fn as_slice(&self) -> &[Frame<'a>]
         ensures { map frame_form result.now ≡ self.now.0 }
     {
         self.list.as_slice()
     }
 
-    /// The number of bytes after the last frame, 0 to 3.
+    /// Returns the number of bytes after the last frame, 0 to 3.
     pub fn tail(&self) -> u8
         ensures { result ≡ self.now.1 }
     {

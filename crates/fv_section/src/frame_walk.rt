@@ -1,4 +1,4 @@
-//! A stream, walked from frame to frame, and split into its frames.
+//! Walking over the frames of a stream, and splitting a stream into its frames.
 
 ghost use Rattle.std.specs.Prelude.{◌≡◌, ◌≢◌, ◌+◌, ◌<◌, ◌≤◌, ◌^◌, ◌∷◌, [], ℕ, List, length, drop};
 ghost use Rattle.std.specs.Prelude.{IfOk, IfErr, IfSome, IfNone};
@@ -14,7 +14,7 @@ use fv_base::Fault;
 use std::alloc::Global;
 use std::marker::Model;
 
-// The offset after a frame.
+// Returns the offset at which a frame ends.
 fn end_of(frame: &Frame) -> u64
     requires { frame.now.offset + frame_len (frame_form frame.now) < 2 ^ 63 }
     ensures { result ≡ frame.now.offset + frame_len (frame_form frame.now) }
@@ -22,7 +22,7 @@ fn end_of(frame: &Frame) -> u64
     frame.offset + section_header_len(frame.extended) + frame.body.len() as u64
 }
 
-// The offset at which the next frame begins, if a frame ends at this offset.
+// Returns the offset at which the next frame begins if a frame ends at the offset `end`.
 fn up_to_4(end: u64) -> u64
     requires { end < 2 ^ 63 }
     ensures { result ≡ up_to_4 end }
@@ -30,7 +30,8 @@ fn up_to_4(end: u64) -> u64
     (end + 3) / 4 * 4
 }
 
-// The number of frames of a stream, and the number of bytes after the last; or its first fault.
+// Returns the number of frames of a stream and the number of bytes after the last frame, or the
+// stream's first fault.
 fn stream_size(stream: &[u8]) -> Result<(u64, u8), Fault>
     ensures found { IfOk result (λ r. (fs : List FrameForm) × Splits fs r.1 stream.now × (length fs ≡ r.0)) }
     ensures first { IfErr result (λ f. IsFirstFrameFault stream.now f) }
@@ -46,7 +47,8 @@ fn stream_size(stream: &[u8]) -> Result<(u64, u8), Fault>
     Ok((count, tail as u8))
 }
 
-// The frame at an offset at which one begins, and the offset at which the next would begin.
+// Returns the frame that begins at the offset `at`, and the offset at which the next frame would
+// begin.
 fn frame_at(stream: &[u8], at: u64) -> (Frame<'_>, u64)
     requires { FrameStandsAt (frame_in at (drop at stream.now)) at stream.now }
     ensures frame { frame_form result.0 ≡ frame_in at (drop at stream.now) }
@@ -57,9 +59,9 @@ fn frame_at(stream: &[u8], at: u64) -> (Frame<'_>, u64)
     (frame, next)
 }
 
-/// The frames of a stream, which are read one after another. Contracts see the list of the frames
-/// that are left, and the number of bytes after the last. (PI specification, volume 3, section
-/// 3.2.4.)
+/// A walk over the frames of a stream, which returns one frame after another. Contracts see it as
+/// the list of the remaining frames and the number of bytes after the last frame. (PI
+/// specification, volume 3, section 3.2.4.)
 #[derive(Drop)]
 pub struct FrameWalk<'a> {
     stream: &'a [u8],
@@ -81,28 +83,28 @@ impl<'a> Model for FrameWalk<'a> {
 }
 
 impl<'a> FrameWalk<'a> {
-    /// A walk over all frames of a stream, each of which is checked here. The offsets of the frames
-    /// count from the stream's start. Takes no memory. (PI specification, volume 3, section 3.2.4.)
+    /// Checks all frames of a stream, and starts a walk over them. The offsets of the frames count
+    /// from the stream's start. Allocates no memory. (PI specification, volume 3, section 3.2.4.)
     ///
     /// # Errors
     ///
-    /// SectionTail or SectionSize, as for `next_frame`, at the first offset where a section would
+    /// SectionTail or SectionSize, as for `next_frame`, at the first offset where a section should
     /// begin and none does.
     pub fn of(stream: &'a [u8]) -> Result<FrameWalk<'a>, Fault>
-        // The stream is these frames and this tail.
+        // The stream splits into the frames and the tail of the walk.
         ensures found { IfOk result (λ w. Splits w.0 w.1 stream.now) }
 
-        // It is no other frames or tail.
+        // It splits in no other way.
         ensures only { IfOk result
             (λ w. (fs : List FrameForm) (tail : ℕ) → Splits fs tail stream.now → (fs ≡ w.0) × (tail ≡ w.1)) }
 
-        // If an error is returned, it is not a stream of frames.
+        // If an error is returned, the bytes do not split into frames and a tail.
         ensures none { IfErr result (λ _. (fs : List FrameForm) (tail : ℕ) → Splits fs tail stream.now → ⊥) }
 
-        // An error names the first check that does not hold, where no frame begins.
+        // The error names the first check that fails where the next frame should begin.
         ensures first { IfErr result (IsFirstFrameFault stream.now) }
 
-        // The fault is within the stream.
+        // The offset of the error is at most the stream's length.
         ensures bound { IfErr result (λ f. f.place.offset ≤ length stream.now) }
     {
         let (left, tail) = stream_size(stream)?;
@@ -114,11 +116,12 @@ impl<'a> FrameWalk<'a> {
         })
     }
 
-    /// The next frame, or None after the last. It was checked when the walk began, so this cannot
-    /// fail. Takes no memory. (PI specification, volume 3, section 3.2.4.)
+    /// Returns the next frame, or None after the last one. It cannot fail, because all frames were
+    /// checked when the walk began. Allocates no memory. (PI specification, volume 3, section
+    /// 3.2.4.)
     pub fn next_frame(&mut self) -> Option<Frame<'a>>
-        // It is the first of the frames that were left, and the others are left now; None is
-        // returned only if none was left. The tail stays as it was.
+        // The returned frame is the first of the remaining frames, and the others still remain.
+        // None is returned only if no frame remained. The tail does not change.
         ensures some { IfSome result (λ f. self.old.0 ≡ frame_form f ∷ self.new.0) }
         ensures none { IfNone result ((self.old.0 ≡ []) × (self.new.0 ≡ [])) }
         ensures tail { self.new.1 ≡ self.old.1 }
@@ -132,14 +135,14 @@ impl<'a> FrameWalk<'a> {
         Some(frame)
     }
 
-    /// The number of frames that are left.
+    /// Returns the number of remaining frames.
     pub fn frames_left(&self) -> usize
         ensures { result ≡ length self.now.0 }
     {
         self.left as usize
     }
 
-    /// The number of bytes after the last frame, 0 to 3.
+    /// Returns the number of bytes after the last frame, 0 to 3.
     pub fn tail(&self) -> u8
         ensures { result ≡ self.now.1 }
     {
@@ -147,7 +150,7 @@ impl<'a> FrameWalk<'a> {
     }
 }
 
-/// An iterator, whose `next` is `next_frame`.
+/// An iterator over the remaining frames. Its `next` is `next_frame`.
 impl<'a> Iterator for FrameWalk<'a> {
     type Item = Frame<'a>;
 
@@ -160,34 +163,36 @@ impl<'a> Iterator for FrameWalk<'a> {
     }
 }
 
-/// The frames of a stream, whose offsets count from the stream's start. A stream splits into frames
-/// in only one way. A stream of no bytes has none. (PI specification, volume 3, section 3.2.4.)
+/// Returns the frames of a stream. Their offsets count from the stream's start. A stream splits
+/// into frames in only one way. An empty stream has no frames. (PI specification, volume 3, section
+/// 3.2.4.)
 ///
 /// # Errors
 ///
-/// SectionTail or SectionSize, as for `next_frame`, at the first offset where a section would begin
-/// and none does. OutOfMemory at 0.
+/// SectionTail or SectionSize, as for `next_frame`, at the first offset where a section should
+/// begin and none does. OutOfMemory at offset 0.
 pub fn frames(alloc: Global, stream: &[u8]) -> Result<Frames<'_>, Fault>
-    // The stream is these frames and this tail.
+    // The stream splits into these frames and this tail.
     ensures found { IfOk result (λ s. Splits s.0 s.1 stream.now) }
 
-    // It is no other frames or tail.
+    // It splits in no other way.
     ensures only { IfOk result
         (λ s. (fs : List FrameForm) (tail : ℕ) → Splits fs tail stream.now → (fs ≡ s.0) × (tail ≡ s.1)) }
 
-    // If an error other than OutOfMemory is returned, it is not a stream of frames.
+    // If an error other than OutOfMemory is returned, the bytes do not split into frames and a
+    // tail.
     ensures none { IfErr result
         (λ f. f ≢ out_of_memory → (fs : List FrameForm) (tail : ℕ) → Splits fs tail stream.now → ⊥) }
 
-    // An error other than OutOfMemory names the first check that does not hold, where no frame
-    // begins.
+    // An error other than OutOfMemory names the first check that fails where the next frame should
+    // begin.
     ensures first { IfErr result (λ f. f ≢ out_of_memory → IsFirstFrameFault stream.now f) }
 
-    // Frames and faults are within the stream.
+    // Every frame lies within the stream. The offset of an error is at most the stream's length.
     ensures lies { IfOk result (λ s. FramesWithin (length stream.now) s.0) }
     ensures bound { IfErr result (λ f. f.place.offset ≤ length stream.now) }
 
-    // A stream of no bytes is not rejected, not even because memory runs out.
+    // An empty stream is never rejected, not even because memory runs out.
     ensures some { IfErr result (λ _. 0 < length stream.now) }
 {
     let mut walk = FrameWalk::of(stream)?;

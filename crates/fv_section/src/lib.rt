@@ -1,4 +1,5 @@
-//! The sections of a file: their frames in a stream, their headers, and what some leaves hold.
+//! The sections of a file: their frames in a stream, their headers, and the inner formats of three
+//! leaf types.
 #![tactic(auto)]
 
 mod frame;

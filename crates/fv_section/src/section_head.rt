@@ -1,4 +1,4 @@
-//! Section headers, written.
+//! Writing section headers.
 
 ghost use Rattle.std.specs.Prelude.{◌≡◌, ◌≤◌, [], ◌∷◌, ◌++◌};
 ghost use Rattle.fv_base.specs.Words.{le_bytes};
@@ -10,8 +10,8 @@ use crate::offsets::{EXTENDED_HEADER_LEN, EXTENDED_SIZE_OFFSET, HEADER_LEN, TYPE
 use byteorder::{ByteOrder, LittleEndian};
 use std::marker::Model;
 
-/// The bytes of a section header: 4, or 8 for an extended one. Contracts see them as a list. (PI
-/// specification, volume 3, section 3.2.4, `EFI_COMMON_SECTION_HEADER` and
+/// The bytes of a section header: 4, or 8 for an extended header. Contracts see the list of these
+/// bytes. (PI specification, volume 3, section 3.2.4, `EFI_COMMON_SECTION_HEADER` and
 /// `EFI_COMMON_SECTION_HEADER2`.)
 #[derive(Drop)]
 pub struct SectionHead {
@@ -30,7 +30,7 @@ impl Model for SectionHead {
 }
 
 impl SectionHead {
-    /// The bytes in order.
+    /// Returns the bytes in order.
     pub fn as_slice(&self) -> &[u8]
         ensures { result.now ≡ self.now }
     {
@@ -38,7 +38,7 @@ impl SectionHead {
     }
 }
 
-// `EFI_COMMON_SECTION_HEADER`.
+// Returns an `EFI_COMMON_SECTION_HEADER` with this type and size.
 fn short_head(kind: u8, size: u32) -> SectionHead
     requires { size ≤ 0xffffff }
     ensures { result ≡ le_bytes 3 size ++ (kind ∷ []) }
@@ -52,7 +52,7 @@ fn short_head(kind: u8, size: u32) -> SectionHead
     }
 }
 
-// `EFI_COMMON_SECTION_HEADER2`.
+// Returns an `EFI_COMMON_SECTION_HEADER2` with this type and size.
 fn extended_head(kind: u8, size: u32) -> SectionHead
     ensures { result ≡ le_bytes 3 0xffffff ++ (kind ∷ le_bytes 4 size) }
 {
@@ -65,20 +65,21 @@ fn extended_head(kind: u8, size: u32) -> SectionHead
     }
 }
 
-/// The header of a section of this `Type` and form whose body has `body_len` bytes: `Size`, or
-/// 0xFFFFFF and `ExtendedSize`. The size, which includes the header, fits in the form: it is at
-/// most 0xFFFFFE for a short header, 0xFFFFFFFF for an extended one. Takes no memory. (PI
+/// Returns the header of a section with this `Type` and a body of `body_len` bytes. A short header
+/// holds the section's size in `Size`; an extended header holds 0xFFFFFF there and the size in
+/// `ExtendedSize`. The size includes the header, and must fit the form: it is at most 0xFFFFFE for
+/// a short header, and at most 0xFFFFFFFF for an extended one. Allocates no memory. (PI
 /// specification, volume 3, section 3.2.4.)
 pub fn section_head_bytes(kind: u8, extended: bool, body_len: u64) -> SectionHead
     requires fits { FitsForm extended body_len }
 
-    // It is read back as what was passed in.
+    // The result is a header of this form and type for a body of `body_len` bytes.
     ensures read { IsSectionHeader extended kind body_len result }
 
-    // With its body it is a frame.
+    // Followed by any body of `body_len` bytes, it makes a frame.
     ensures frame { IsHeadOfFrame extended kind body_len result }
 
-    // It is these bytes.
+    // Its bytes are those of `section_head_of`.
     ensures bytes { result ≡ section_head_of kind extended body_len }
 
     // Frames that are written one after another, with zero bytes between them, are read back as the

@@ -1,5 +1,5 @@
-//! The types of sections, `EFI_SECTION_TYPE`: a section's `Type`. (PI specification, volume 3,
-//! section 3.2.5.)
+//! Section types (`EFI_SECTION_TYPE`), the values of a section header's `Type`. (PI specification,
+//! volume 3, section 3.2.5.)
 
 /// `EFI_SECTION_DISPOSABLE`: a group of sections.
 pub const DISPOSABLE: u8 = 0x03;
@@ -13,7 +13,7 @@ pub const VERSION: u8 = 0x14;
 /// `EFI_SECTION_USER_INTERFACE`: a text. (Section 3.2.5.14.)
 pub const USER_INTERFACE: u8 = 0x15;
 
-/// `EFI_SECTION_FIRMWARE_VOLUME_IMAGE`: what may be a volume.
+/// `EFI_SECTION_FIRMWARE_VOLUME_IMAGE`: a body that may be a firmware volume.
 pub const FIRMWARE_VOLUME_IMAGE: u8 = 0x17;
 
 /// `EFI_SECTION_FREEFORM_SUBTYPE_GUID`: a GUID and data. (Section 3.2.5.6.)

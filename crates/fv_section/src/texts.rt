@@ -1,4 +1,4 @@
-//! What some leaf sections hold.
+//! The inner formats of three types of leaf sections.
 
 ghost use Rattle.std.specs.Prelude.{◌≡◌, ℕ, List, IfSome, IfNone};
 ghost use Rattle.fv_base.specs.Words.{words_of};
@@ -9,7 +9,7 @@ use crate::offsets::{SUBTYPE_DATA_OFFSET, VERSION_STRING_OFFSET};
 use byteorder::{ByteOrder, LittleEndian};
 use fv_base::{Guid, guid_at};
 
-// Whether no 16-bit unit is zero.
+// Returns whether no 16-bit unit is zero.
 fn none_zero(units: &[u8]) -> bool
     ensures { result ≡ none_zero (words_of units.now) }
 {
@@ -23,7 +23,7 @@ fn none_zero(units: &[u8]) -> bool
     true
 }
 
-// Whether the bytes are 16-bit units of which the last, and no other, is zero.
+// Returns whether the bytes are 16-bit units of which only the last one is zero.
 fn is_text(bytes: &[u8]) -> bool
     ensures { result ≡ is_text bytes.now }
 {
@@ -34,10 +34,11 @@ fn is_text(bytes: &[u8]) -> bool
         && none_zero(&bytes[..len - 2])
 }
 
-/// The text, `FileNameString`, of a user interface section's body (`EFI_SECTION_USER_INTERFACE`,
-/// type 0x15): its 16-bit units before the zero unit that ends it, in bytes. None if the body has
-/// an odd number of bytes, or if its last unit is not its only zero unit. Takes no memory. (PI
-/// specification, volume 3, section 3.2.5.14.)
+/// Returns the text (`FileNameString`) of a user interface section's body
+/// (`EFI_SECTION_USER_INTERFACE`, type 0x15): the bytes of its 16-bit units, without the zero unit
+/// that ends them. Returns None if the body is empty or has an odd number of bytes, or if its last
+/// unit is not its only zero unit. Allocates no memory. (PI specification, volume 3, section
+/// 3.2.5.14.)
 pub fn ui_text(body: &[u8]) -> Option<&[u8]>
     ensures found { IfSome result (λ text. IsText body.now text.now) }
     ensures none { IfNone result ((text : List ℕ) → IsText body.now text → ⊥) }
@@ -49,8 +50,9 @@ pub fn ui_text(body: &[u8]) -> Option<&[u8]>
     }
 }
 
-/// `BuildNumber` and the text, `VersionString`, of a version section's body (`EFI_SECTION_VERSION`,
-/// type 0x14). None if the body is not a 2-byte number followed by a text with its zero unit. Takes
+/// Returns the number (`BuildNumber`) and the text (`VersionString`) of a version section's body
+/// (`EFI_SECTION_VERSION`, type 0x14). The text is returned without the zero unit that ends it.
+/// Returns None if the body is not a 2-byte number followed by a text and its zero unit. Allocates
 /// no memory. (PI specification, volume 3, section 3.2.5.15.)
 pub fn version(body: &[u8]) -> Option<(u16, &[u8])>
     ensures found { IfSome result (λ v. IsVersion body.now v.0 v.1.now) }
@@ -64,9 +66,10 @@ pub fn version(body: &[u8]) -> Option<(u16, &[u8])>
     Some((LittleEndian::read_u16(number), text))
 }
 
-/// The GUID, `SubTypeGuid`, of a freeform subtype section's body
-/// (`EFI_SECTION_FREEFORM_SUBTYPE_GUID`, type 0x18), and the bytes after it. None if the body has
-/// fewer than 16 bytes. Takes no memory. (PI specification, volume 3, section 3.2.5.6.)
+/// Returns the GUID (`SubTypeGuid`) at the start of a freeform subtype section's body
+/// (`EFI_SECTION_FREEFORM_SUBTYPE_GUID`, type 0x18), and the bytes after it. Returns None if the
+/// body has fewer than 16 bytes. Allocates no memory. (PI specification, volume 3, section
+/// 3.2.5.6.)
 pub fn freeform(body: &[u8]) -> Option<(Guid, &[u8])>
     ensures found { IfSome result (λ v. IsFreeform body.now v.0 v.1.now) }
     ensures none { IfNone result ((guid : Guid) (rest : List ℕ) → IsFreeform body.now guid rest → ⊥) }

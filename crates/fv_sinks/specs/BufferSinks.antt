@@ -1,4 +1,4 @@
--- A borrowed buffer that is filled from its start.
+-- A sink that fills a borrowed buffer from its start.
 use Rattle.std.specs.Prelude.{◌≡◌, ℕ, List, ◌++◌, length, take, drop}
 use Rattle.std.specs.Borrow.{GName}
 use Rattle.fv_sinks.specs.declared.buffer_sink.BufferSink.{BufferSink}
@@ -7,14 +7,16 @@ use Rattle.fv_sinks.specs.declared.buffer_sink.BufferSink.{BufferSink}
 abbrev pub buffer_name : BufferSink → GName
 buffer_name s = s.buffer.ghost_name
 
--- what the buffer begins with: the bytes that were taken; and what it holds after them
+-- the first part of the buffer: the bytes that were taken
 abbrev pub taken_in : BufferSink → List ℕ
 taken_in s = take s.len s.buffer.now
 
+-- the rest of the buffer, after the bytes that were taken
 abbrev pub rest_in : BufferSink → List ℕ
 rest_in s = drop s.len s.buffer.now
 
--- the bytes come after those that were taken, as many of them as there is room for, and the rest is as it was
+-- the bytes follow those that were taken before, as many of them as there is room for, and what comes after them in the
+-- buffer is as it was
 abbrev pub BufferTakes : {S N : Type 0} (taken rest : S → List ℕ) (name : S → N) → S → List ℕ → S → Type 0
 BufferTakes taken rest name s bytes t =
     (name t ≡ name s) × (taken t ≡ taken s ++ take (length (rest s)) bytes) × (rest t ≡ drop (length bytes) (rest s))

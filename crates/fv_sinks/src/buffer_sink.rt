@@ -1,4 +1,4 @@
-//! A sink that puts what it takes into a borrowed buffer.
+//! A sink that puts bytes into a borrowed buffer.
 
 ghost use Rattle.std.specs.Prelude.{◌≡◌, ◌++◌, [], length, take, drop};
 ghost use Rattle.fv_sinks.specs.BufferSinks.{BufferTakes, buffer_name, rest_in, taken_in};
@@ -6,8 +6,8 @@ ghost use Rattle.fv_sinks.specs.inner.SinkLaws.{buffer_by};
 
 use fv_base::Sink;
 
-// Puts the bytes after the first `at` bytes of the buffer, as many of them as there is room for.
-// Returns how many bytes of the buffer come before the room that is left.
+// Puts the bytes into the buffer from the offset `at` on, as many of them as fit. Returns the
+// offset at which the remaining room begins.
 fn put_after(buffer: &mut [u8], at: usize, bytes: &[u8]) -> usize
     ensures taken { take result buffer.new
         ≡ take at buffer.old ++ take (length (drop at buffer.old)) bytes.now }
@@ -21,17 +21,17 @@ fn put_after(buffer: &mut [u8], at: usize, bytes: &[u8]) -> usize
     at + count
 }
 
-/// A borrowed buffer that is filled from its start. Bytes for which it has no room are dropped, and
-/// what the buffer holds after the bytes taken stays.
+/// Fills a borrowed buffer from its start. Bytes that do not fit are dropped. The other bytes of
+/// the buffer stay as they are.
 #[derive(Drop)]
 pub struct BufferSink<'b> {
     buffer: &'b mut [u8],
-    /// How many bytes were taken.
+    /// The number of bytes that were taken.
     len: usize,
 }
 
 impl<'b> BufferSink<'b> {
-    /// A sink that has put nothing into the buffer.
+    /// Makes a sink that has put nothing into the buffer.
     pub fn new(buffer: &'b mut [u8]) -> BufferSink<'b>
         ensures same_buffer { buffer_name result ≡ buffer.entry.ghost_name }
         ensures none { taken_in result ≡ [] }
@@ -41,8 +41,8 @@ impl<'b> BufferSink<'b> {
     }
 }
 
-/// The buffer begins with the bytes that were taken before, and then these, as many as there is
-/// room for. What follows is as it was.
+/// These bytes follow those that were taken before, as many of them as fit. The rest of the buffer
+/// is unchanged.
 impl<'b> Sink for BufferSink<'b> {
     ghost takes = { BufferTakes (λ s. take s.len s.buffer.now) (λ s. drop s.len s.buffer.now)
         (λ s. s.buffer.ghost_name) };

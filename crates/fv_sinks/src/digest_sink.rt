@@ -1,4 +1,4 @@
-//! A sink that keeps the digest of what it takes, and not the bytes.
+//! A sink that keeps only the digest of the bytes that it takes.
 
 ghost use Rattle.std.specs.Prelude.{◌≡◌, ℕ, List, []};
 ghost use Rattle.sha2.specs.Sha256.{sha256};
@@ -8,14 +8,14 @@ ghost use Rattle.fv_sinks.specs.inner.SinkLaws.{digest_by};
 use fv_base::Sink;
 use sha2::{Digest, Sha256};
 
-/// What takes bytes for their SHA-256.
+/// Computes the SHA-256 of the bytes that it takes.
 #[derive(Drop)]
 pub struct DigestSink {
     hasher: Sha256,
 }
 
 impl DigestSink {
-    /// A sink that has taken no bytes.
+    /// Makes a sink that has taken no bytes.
     pub fn new() -> DigestSink
         ensures { HasTaken result [] }
     {
@@ -24,7 +24,7 @@ impl DigestSink {
         }
     }
 
-    /// The SHA-256 of the bytes that it took.
+    /// Returns the SHA-256 of all the bytes that the sink took.
     pub fn finish(self) -> [u8; 32]
         ensures { (message : List ℕ) → HasTaken self message → result ≡ sha256 message }
     {
@@ -33,7 +33,7 @@ impl DigestSink {
     }
 }
 
-/// It takes all bytes, after those that it had taken.
+/// The sink takes all of the bytes, after those that it took before.
 impl Sink for DigestSink {
     ghost takes = { DigestTakes (λ s. s.hasher) };
 

@@ -1,5 +1,5 @@
-//! Sinks that keep no copy of what they take: one has the SHA-256 of the bytes, and one puts them
-//! into a buffer of the caller.
+//! Sinks that keep no copy of the bytes that they take: one computes the SHA-256 of the bytes, and
+//! the other puts them into a buffer of the caller.
 #![tactic(auto)]
 
 mod buffer_sink;

@@ -1,4 +1,5 @@
--- What hexadecimal text spells, which text is rejected, and digits in pairs, with white space between them.
+-- Which bytes hexadecimal text spells, and which text is rejected. Digits are read in pairs, and white space is
+-- ignored.
 use Rattle.std.specs.Prelude.{◌≡◌, ℕ, ◌+◌, ◌*◌, ◌==◌, ◌||◌, Bool, if◌then◌else◌, List, [], ◌∷◌, Some, ◌<◌, ◌≤◌, ◌⊎◌}
 use Rattle.std.specs.Prelude.{true, Option, length}
 use Rattle.hex.specs.Hex.{hex_digit_value}
@@ -6,7 +7,7 @@ use Rattle.fv_base.specs.Words.{outer_fault, GivesAll, StopsWithin, volume_limit
 use Rattle.fv_base.specs.declared.fault.Fault.{Fault}
 use Rattle.fv_base.specs.declared.fault.FaultKind.TheVariants as kinds
 
--- a tab, a line feed, a carriage return or a space
+-- whether a character is a tab, a line feed, a carriage return or a space
 abbrev pub is_space : ℕ → Bool
 is_space c = (c == 9) || ((c == 10) || ((c == 13) || (c == 32)))
 
@@ -15,7 +16,7 @@ abbrev pub squeezed : List ℕ → List ℕ
 squeezed [] = []
 squeezed (c ∷ cs) = if is_space c then squeezed cs else (c ∷ squeezed cs)
 
--- two digits, in upper or lower case, are a byte: the high one first
+-- two digits, in upper or lower case, spell a byte: the first digit is the high one
 pub record IsPair (h l byte : ℕ) : Type 0 where
   pub high : ℕ
   pub low : ℕ
@@ -23,19 +24,20 @@ pub record IsPair (h l byte : ℕ) : Type 0 where
   pub low_is : hex_digit_value l ≡ Some low
   pub byte_is : byte ≡ high * 16 + low
 
--- two digits for each byte
+-- the digits spell the bytes, two digits for each byte
 abbrev pub DigitsSpell : List ℕ → List ℕ → Type 0
 DigitsSpell [] bytes = bytes ≡ []
 DigitsSpell (h ∷ []) bytes = ⊥
 DigitsSpell (h ∷ l ∷ ds) bytes =
     (byte : ℕ) × (rest : List ℕ) × IsPair h l byte × (bytes ≡ byte ∷ rest) × DigitsSpell ds rest
 
--- the most bytes that a run takes as hexadecimal text: two digits and as much white space for each byte of a volume
+-- the maximum length of the hexadecimal text that a run reads, in bytes: two digits, and as much white space, for each
+-- byte of a volume
 abbrev pub text_limit : ℕ
 text_limit = 1073741824
 
--- hexadecimal text of at most `text_limit` bytes was read to its end; its digits spell the input, which is no longer
--- than a volume
+-- hexadecimal text of at most `text_limit` bytes was read to its end, and its digits spell the input, which is not
+-- longer than a volume may be
 pub record SpellsWhole (old new : Option (List ℕ)) (input : List ℕ) : Type 0 where
   pub text : List ℕ
   pub gives : GivesAll old new text
@@ -43,23 +45,23 @@ pub record SpellsWhole (old new : Option (List ℕ)) (input : List ℕ) : Type 0
   pub spells : DigitsSpell (squeezed text) input
   pub small : length input ≤ volume_limit
 
--- the text is not an even number of digits, white space left out
+-- the text, without its white space, is not an even number of digits
 abbrev pub IsNoText : List ℕ → Type 0
 IsNoText text = (bytes : List ℕ) → DigitsSpell (squeezed text) bytes → ⊥
 
--- text that spells more bytes than a volume has
+-- the text spells more bytes than a volume may have
 abbrev pub IsLongText : List ℕ → Type 0
 IsLongText text = (bytes : List ℕ) × DigitsSpell (squeezed text) bytes × (volume_limit < length bytes)
 
--- why a whole text spells no input: ReadFault at 0, if it is no even number of digits; Length at the limit of a volume,
--- if it spells more bytes
+-- why a complete text is rejected: ReadFault at 0, if it is not an even number of digits; Length at the limit of a
+-- volume, if it spells more bytes than that
 abbrev pub RefusesText : List ℕ → Fault → Type 0
 RefusesText text fault =
     (IsNoText text × (fault ≡ outer_fault kinds.ReadFault 0))
     ⊎ (IsLongText text × (fault ≡ outer_fault kinds.Length volume_limit))
 
--- the reading of hexadecimal text stopped; if the reader is to blame, its port has erred. Or the whole text was read,
--- and spells no input
+-- reading hexadecimal text stopped with this fault, and if it is ReadFault, the port's error flag is set; or the text
+-- was read to its end, and is rejected with this fault
 pub record TextStops (old new : Option (List ℕ)) (erred : Bool) (fault : Fault) : Type 0 where
   pub cause : (StopsWithin text_limit old new fault × (fault.kind ≡ kinds.ReadFault → erred ≡ true))
       ⊎ ((text : List ℕ) × GivesAll old new text × (length text ≤ text_limit) × RefusesText text fault)

@@ -1,10 +1,10 @@
--- The characters of a text, numbers in a fixed count of hexadecimal digits, and the text in which bytes are written: as
--- they are, or as lines of hexadecimal digits.
+-- Line feeds, numbers with a fixed count of hexadecimal digits, and the text in which bytes are written: as they are,
+-- or as lines of hexadecimal digits.
 use Rattle.std.specs.Prelude.{ℕ, ◌/◌, ◌%◌, List, [], ◌∷◌, ◌≡◌, ◌<◌, ◌++◌, Bool, true, false, length}
 use Rattle.hex.specs.Hex.{encode_lower}
 use Rattle.std.specs.List.{AllByRecursion, concat, flat_map}
 
--- a line feed
+-- the characters of a line feed
 abbrev pub line_feed : List ℕ
 line_feed = 10 ∷ []
 
@@ -16,24 +16,25 @@ two_digits n = encode_lower (n ∷ [])
 abbrev pub four_digits : ℕ → List ℕ
 four_digits n = encode_lower (n / 256 ∷ n % 256 ∷ [])
 
--- the lower-case digits of some bytes, and a line feed
+-- a line: the lower-case digits of the bytes, and a line feed
 abbrev pub line_text : List ℕ → List ℕ
 line_text b = encode_lower b ++ line_feed
 
+-- the lines for several lists of bytes, one after the other
 abbrev pub lines_text : List (List ℕ) → List ℕ
 lines_text lines = flat_map line_text lines
 
--- a last line, unless it is empty
+-- the last line, or nothing if it would be empty
 abbrev pub last_text : List ℕ → List ℕ
 last_text [] = []
 last_text (x ∷ b) = line_text (x ∷ b)
 
--- a whole line has 32 bytes
+-- a whole line shows 32 bytes
 abbrev pub IsWholeLine : List ℕ → Type 0
 IsWholeLine b = length b ≡ 32
 
--- the text has a line for every 32 of the bytes, of lower-case digits and a line feed, and one for what is left, if
--- anything is
+-- the text has a line of lower-case digits for every 32 bytes, and one for the remaining bytes if there are any; each
+-- line ends with a line feed
 pub record IsHexText (bytes text : List ℕ) : Type 0 where
   pub lines : List (List ℕ)
   pub last : List ℕ
@@ -42,7 +43,7 @@ pub record IsHexText (bytes text : List ℕ) : Type 0 where
   pub short : length last < 32
   pub text_is : text ≡ lines_text lines ++ last_text last
 
--- the text in which the bytes are written: themselves, or as lines of digits
+-- the text is the bytes themselves (`false`), or lines of their digits (`true`)
 abbrev pub ShowsBytes : Bool → List ℕ → List ℕ → Type 0
 ShowsBytes false bytes text = text ≡ bytes
 ShowsBytes true bytes text = IsHexText bytes text

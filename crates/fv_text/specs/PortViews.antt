@@ -1,40 +1,42 @@
--- What a run reads and writes, seen from outside: what a port shows, and what was written to one.
+-- What a run reads and writes, seen from outside: the state of a port, and what was written to it.
 use Rattle.std.specs.Prelude.{◌≡◌, ◌<◌, ℕ, Bool, true, List, Option, length, take}
 use Rattle.std.specs.Io.KnownBytes.{Appends}
 use Rattle.fv_base.specs.Words.{has_erred, inner_of}
 use Rattle.fv_base.specs.declared.port.Port.{Port}
 
--- what a port shows: what its reader has left, or what its writer holds, if that is known; and whether one of its calls
--- has failed
+-- what can be seen of a port: the bytes that its reader has left or that its writer holds, if they are known; and its
+-- error flag
 pub record Shown : Type 0 where
   pub bytes : Option (List ℕ)
   pub erred : Bool
 
+-- the view of a port with these bytes and this error flag
 abbrev pub seen : Option (List ℕ) → Bool → Shown
 seen bytes erred = record { bytes = bytes; erred = erred }
 
--- what a port shows, by what its reader has left or its writer holds
+-- the view of a port, where `told` gives the bytes that its reader has left or that its writer holds
 abbrev pub shown : {T : Type 0} → (T → Option (List ℕ)) → Port T → Shown
 shown told port = seen (told (inner_of port)) (has_erred port)
 
--- what a port shows before a run and after it
+-- the views of a port before and after a run
 pub record Change : Type 0 where
   pub old : Shown
   pub new : Shown
 
+-- the views of the ports `old` and `new`, as one port before and after a run
 abbrev pub change : {T : Type 0} → (T → Option (List ℕ)) → Port T → Port T → Change
 change told old new = record { old = shown told old; new = shown told new }
 
--- the ports of a run: its two inputs and its output
+-- the ports of a run: two for its inputs, and one for its output
 pub record Ports : Type 0 where
   pub first : Change
   pub second : Change
   pub output : Change
 
--- a text was written, and the port has erred only if it had before
+-- the text was written, and the error flag is as it was
 abbrev pub Writes : Shown → Shown → List ℕ → Type 0
 Writes old new text = Appends old.bytes new.bytes text × (new.erred ≡ old.erred)
 
--- a write failed in a text: the first n bytes of it were written, fewer than all, and nothing else
+-- a write of the text failed: only its first n bytes were written, which are not all of it, and the error flag is set
 abbrev pub StopsIn : Shown → Shown → List ℕ → Type 0
 StopsIn old new text = (n : ℕ) × (n < length text) × Appends old.bytes new.bytes (take n text) × (new.erred ≡ true)

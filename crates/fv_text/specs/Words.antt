@@ -1,4 +1,4 @@
--- The door of this crate: all that its specs define for other crates.
+-- The door of this crate: all definitions of its `specs/` that other crates may import.
 pub use Rattle.fv_text.specs.HexText.{line_feed, two_digits, four_digits, line_text, lines_text, last_text, IsWholeLine}
 pub use Rattle.fv_text.specs.HexText.{IsHexText, ShowsBytes}
 pub use Rattle.fv_text.specs.PortViews.{Shown, seen, shown, Change, change, Ports, Writes, StopsIn}

@@ -1,3 +1,3 @@
--- Definitions that serve only private clauses: there is nothing to believe here.
+-- Definitions that only private clauses cite: nothing here has to be taken on trust.
 pub mod HexDecoding
 pub mod SinkAdapterLaws

@@ -7,24 +7,24 @@ ghost use Rattle.fv_text.specs.inner.SinkAdapterLaws.{gathered_by};
 use crate::placing::place;
 use fv_base::Sink;
 
-/// How many bytes wait at most.
+/// The maximum number of bytes that wait.
 const ROOM: usize = 8192;
 
-/// A sink that gathers pieces of at most 8,192 bytes, and puts them into a sink below as one.
-/// `finish` puts what still waits.
+/// Gathers small pieces, of at most 8,192 bytes each, and puts them into the sink below together.
+/// `finish` puts the bytes that still wait.
 #[derive(Drop)]
 pub struct GatheringSink<S: Sink> {
     /// The sink into which the pieces are put.
     below: S,
-    /// The bytes that wait, and what was there before.
+    /// The waiting bytes, followed by old contents.
     room: [u8; ROOM],
-    /// How many bytes wait.
+    /// The number of bytes that wait.
     filled: usize,
     ghost fits: { filled ≤ 8192 },
 }
 
 impl<S: Sink> GatheringSink<S> {
-    /// A sink in which nothing waits.
+    /// Makes a sink in which no bytes wait.
     pub fn new(below: S) -> GatheringSink<S>
         ensures below { result.below ≡ below }
         ensures filled { result.filled ≡ 0 }
@@ -36,8 +36,8 @@ impl<S: Sink> GatheringSink<S> {
         }
     }
 
-    // Puts what waits. It is not inlined, so that the compiler copies small pieces where they are
-    // put.
+    // Puts the waiting bytes into the sink below. This function is not inlined, so that the
+    // compiler copies small pieces where they are put.
     #[inline(never)]
     fn pass(&mut self)
         ensures takes { GatheringTakes S.takes (λ s. s.below) (λ s. take s.filled s.room) self.old [] self.new }
@@ -47,7 +47,7 @@ impl<S: Sink> GatheringSink<S> {
         self.filled = 0;
     }
 
-    // Puts the gathered bytes into the sink below, unless there is room for `count` more.
+    // Puts the waiting bytes into the sink below, unless there is room for `count` more.
     fn make_room(&mut self, count: usize)
         requires { count ≤ 8192 }
         ensures takes { GatheringTakes S.takes (λ s. s.below) (λ s. take s.filled s.room) self.old [] self.new }
@@ -58,7 +58,7 @@ impl<S: Sink> GatheringSink<S> {
         }
     }
 
-    // Puts what waits, and the bytes after it.
+    // Puts the waiting bytes into the sink below, and then these bytes.
     #[inline(never)]
     fn pass_on(&mut self, bytes: &[u8])
         ensures { GatheringTakes S.takes (λ s. s.below) (λ s. take s.filled s.room) self.old bytes.now self.new }
@@ -67,7 +67,7 @@ impl<S: Sink> GatheringSink<S> {
         self.below.put(bytes);
     }
 
-    // Keeps the bytes, for which there is room.
+    // Adds the bytes to those that wait. There must be room for them.
     fn keep(&mut self, bytes: &[u8])
         requires { self.old.filled + length bytes.now ≤ 8192 }
         ensures { GatheringTakes S.takes (λ s. s.below) (λ s. take s.filled s.room) self.old bytes.now self.new }
@@ -76,7 +76,7 @@ impl<S: Sink> GatheringSink<S> {
         self.filled += bytes.len();
     }
 
-    /// Puts what still waits, and returns the sink below.
+    /// Puts the bytes that still wait into the sink below, and returns that sink.
     pub fn finish(self) -> S
         ensures { S.takes self.below (take self.filled self.room) result }
     {
@@ -91,7 +91,7 @@ impl<S: Sink> GatheringSink<S> {
     }
 }
 
-/// What it has put into the sink below, and what waits, are together what it took.
+/// The bytes put into the sink below, followed by the bytes that wait, are all that this sink took.
 impl<S: Sink> Sink for GatheringSink<S> {
     ghost takes = { GatheringTakes S.takes (λ s. s.below) (λ s. take s.filled s.room) };
 

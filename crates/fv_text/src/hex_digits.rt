@@ -9,7 +9,7 @@ ghost use Rattle.fv_text.specs.HexIn.{DigitsSpell};
 
 use std::alloc::AllocError;
 
-/// Takes the last digit off and returns it, if their number is odd.
+/// Removes the last digit and returns it, if the number of digits is odd.
 pub(crate) fn take_odd(digits: &mut Vec<u8>) -> Option<u8>
     ensures items { digits.old.items ≡ digits.new.items ++ option_to_list result }
     ensures even { vec_len digits.new % 2 ≡ 0 }
@@ -22,8 +22,8 @@ pub(crate) fn take_odd(digits: &mut Vec<u8>) -> Option<u8>
     }
 }
 
-// The value of a digit, in upper or lower case, or 16 if the byte is no digit. It has no branch
-// that random digits would mispredict.
+// Returns the value of a digit, in upper or lower case, or 16 if the byte is not a digit. It has no
+// branch that random digits would mispredict.
 fn digit_value(byte: u8) -> u8
     ensures { result ≡ value_or_16 byte }
 {
@@ -40,7 +40,8 @@ fn digit_value(byte: u8) -> u8
     value
 }
 
-// Replaces each digit by its value, and returns whether all of them are digits.
+// Replaces each digit by its value, and any other byte by 16. Returns whether all of them are
+// digits.
 fn take_values(digits: &mut [u8]) -> bool
     ensures values { digits.new ≡ map value_or_16 digits.old }
     ensures right { result ≡ true → All IsNibble digits.new }
@@ -55,8 +56,8 @@ fn take_values(digits: &mut [u8]) -> bool
     most < 16
 }
 
-// Puts the bytes of pairs of values at a place of the room, up to its end. The high value of a pair
-// is the first.
+// Writes the bytes that pairs of values make into the room, from `start` up to its end. The first
+// value of a pair is the high one.
 fn join_pairs(values: &[u8], room: &mut [u8], start: usize)
     requires even { length values.now % 2 ≡ 0 }
     requires small { All IsNibble values.now }
@@ -70,8 +71,8 @@ fn join_pairs(values: &[u8], room: &mut [u8], start: usize)
     }
 }
 
-/// Appends the bytes of pairs of digits, unless one of the pairs is not of digits: then false is
-/// returned, and nothing is appended. The digits are replaced by their values.
+/// Appends the bytes that pairs of digits spell. If a pair is not two digits, returns false and
+/// appends nothing. The digits are replaced by their values.
 ///
 /// # Errors
 ///

@@ -1,4 +1,4 @@
-//! Bytes, put as lines of hexadecimal digits.
+//! Bytes as lines of hexadecimal digits.
 
 ghost use Rattle.std.specs.Prelude.{◌≡◌, ◌≤◌, ◌<◌, ℕ, List, length, take};
 ghost use Rattle.fv_text.specs.inner.SinkAdapterLaws.{hex_by};
@@ -10,10 +10,10 @@ use crate::placing::place;
 use fv_base::Sink;
 use fv_base::field::bytes_from;
 
-/// The number of bytes of a line.
+/// The number of bytes that a line shows.
 const LINE: usize = 32;
 
-// Puts one line: the digits of the bytes and a line feed.
+// Puts one line into the sink: the digits of the bytes, and a line feed.
 fn put_line<S: Sink>(out: &mut S, bytes: &[u8])
     requires { length bytes.now ≤ 32 }
     ensures { S.takes out.old (line_text bytes.now) out.new }
@@ -27,7 +27,7 @@ fn put_line<S: Sink>(out: &mut S, bytes: &[u8])
     out.put(b"\n");
 }
 
-// Puts the last line, unless it is empty.
+// Puts the last line into the sink, unless it is empty.
 fn put_last<S: Sink>(out: &mut S, bytes: &[u8])
     requires { length bytes.now ≤ 32 }
     ensures { S.takes out.old (last_text bytes.now) out.new }
@@ -37,21 +37,21 @@ fn put_last<S: Sink>(out: &mut S, bytes: &[u8])
     }
 }
 
-/// A sink that turns bytes into lines of 64 lower-case digits, and puts them into a sink below.
-/// `finish` puts the last line if it is a short one.
+/// Turns bytes into lines of 64 lower-case digits, and puts the lines into the sink below. `finish`
+/// puts the last line if it is shorter than the others.
 #[derive(Drop)]
 pub struct HexSink<S: Sink> {
     /// The sink into which the lines are put.
     below: S,
-    /// The bytes of the line that is not yet put.
+    /// The bytes of the line that is not yet complete.
     line: [u8; LINE],
-    /// How many bytes wait.
+    /// The number of bytes that wait.
     filled: usize,
     ghost room: { filled < 32 },
 }
 
 impl<S: Sink> HexSink<S> {
-    /// A sink of lines in which no byte waits.
+    /// Makes a sink of lines in which no bytes wait.
     pub fn new(below: S) -> HexSink<S>
         ensures below { result.below ≡ below }
         ensures filled { result.filled ≡ 0 }
@@ -63,7 +63,8 @@ impl<S: Sink> HexSink<S> {
         }
     }
 
-    // Takes the first of the bytes, at most up to the end of the line. Returns how many.
+    // Takes a first part of the bytes, at most up to the end of the line. Returns the number of
+    // bytes taken.
     fn take_some(&mut self, bytes: &[u8]) -> usize
         requires { 0 < length bytes.now }
         ensures some { 0 < result }
@@ -83,7 +84,8 @@ impl<S: Sink> HexSink<S> {
         count
     }
 
-    /// Puts the last line if it is a short one, and returns the sink below.
+    /// Puts the last line into the sink below if it is shorter than the others, and returns the
+    /// sink below.
     pub fn finish(self) -> S
         ensures { S.takes self.below (last_text (take self.filled self.line)) result }
     {
@@ -98,7 +100,8 @@ impl<S: Sink> HexSink<S> {
     }
 }
 
-/// It puts the lines of all whole parts of 32 bytes of what it has and takes, and keeps the rest.
+/// For every 32 bytes that it has, the sink puts a line into the sink below. The remaining bytes
+/// wait.
 impl<S: Sink> Sink for HexSink<S> {
     ghost takes = { HexTakes S.takes (λ s. s.below) (λ s. take s.filled s.line) };
 
@@ -112,7 +115,7 @@ impl<S: Sink> Sink for HexSink<S> {
     }
 }
 
-// Puts the bytes as lines of digits, and returns the sink.
+// Puts the bytes into the sink as lines of digits, and returns the sink.
 fn put_hex<S: Sink>(below: S, bytes: &[u8]) -> S
     ensures { (text : List ℕ) × IsHexText bytes.now text × S.takes below text result }
 {
@@ -121,7 +124,7 @@ fn put_hex<S: Sink>(below: S, bytes: &[u8]) -> S
     lines.finish()
 }
 
-/// Puts the bytes as they are, or as lines of digits if `hex`.
+/// Puts the bytes into the sink as lines of digits if `hex` is true, otherwise as they are.
 pub fn put_shown<S: Sink>(out: &mut S, hex: bool, bytes: &[u8])
     ensures { (text : List ℕ) × ShowsBytes hex bytes.now text × S.takes out.old text out.new }
 {

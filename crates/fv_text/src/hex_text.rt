@@ -1,4 +1,4 @@
-//! Hexadecimal text as an input: digits in upper or lower case, with white space between them.
+//! Hexadecimal text as an input: digits in upper or lower case, and white space, which is ignored.
 
 ghost use Rattle.std.specs.Prelude.{◌≡◌, ◌≤◌, ◌%◌, [], ℕ, List, false, length, IfOk, IfErr, OnOk, vec_len};
 ghost use Rattle.fv_base.specs.Words.{volume_limit, inner_of, has_erred};
@@ -12,24 +12,24 @@ use fv_base::{Collector, Fault, FaultKind, Port, read_to_end};
 use std::alloc::{AllocError, Global};
 use std::io::Read;
 
-/// What the text so far amounts to. The text is not kept, and no more bytes are kept than a volume
-/// may have.
+/// The state of decoding a text, piece after piece. It keeps neither the text nor more bytes than a
+/// volume may have.
 #[derive(Drop)]
 struct Decoder {
-    /// The digit that waits for the other of its pair, and after it the digits of the current
-    /// piece.
+    /// The digit that waits for the second digit of its pair, and after it the digits of the
+    /// current piece.
     digits: Vec<u8>,
-    /// What the digits before those spell, unless it was dropped.
+    /// The bytes that the earlier digits spell, unless they were dropped.
     bytes: Vec<u8>,
-    /// Whether the text had something that is no digit.
+    /// Whether the text contained something that is not a digit.
     is_wrong: bool,
-    /// Whether there were more bytes than a volume may have. They are dropped, because the text
-    /// will be rejected.
+    /// Whether there were more bytes than a volume may have. Such bytes are dropped, because the
+    /// text will be rejected.
     is_long: bool,
 }
 
 impl Decoder {
-    // A decoder that has taken no text.
+    // Makes a decoder that has taken no text.
     fn new(alloc: Global) -> Decoder
         ensures { Decodes result [] }
     {
@@ -41,8 +41,8 @@ impl Decoder {
         }
     }
 
-    // Decodes the digits, which are pairs, and drops them. The text is wrong if one of the pairs is
-    // no byte.
+    // Decodes the digits, whose number is even, and drops them. The text is wrong if a pair is not
+    // two digits.
     fn decode(&mut self) -> Result<(), AllocError>
         requires right { self.old.is_wrong ≡ false }
         requires even { vec_len self.old.digits % 2 ≡ 0 }
@@ -60,8 +60,9 @@ impl Decoder {
         Ok(())
     }
 
-    // The bytes of the whole text. ReadFault at 0 if the text is not an even number of digits; else
-    // Length at the limit of a volume, if it spells more bytes.
+    // Returns the bytes that the whole text spells. The fault is ReadFault at 0 if the text is not
+    // an even number of digits, otherwise Length at the limit of a volume if the text spells more
+    // bytes.
     fn finish(self) -> Result<Vec<u8>, Fault>
         ensures read { (text : List ℕ) → Decodes self text
             → IfOk result (λ v. DigitsSpell (squeezed text) v.items × (length v.items ≤ volume_limit)) }
@@ -86,7 +87,7 @@ impl Decoder {
 impl Collector for Decoder {
     ghost holds = { Decodes };
 
-    // Once the text is wrong, it stays so.
+    // A text that was found wrong stays wrong.
     fn take(&mut self, piece: &[u8]) -> Result<(), AllocError> {
         if self.is_wrong {
             return Ok(());
@@ -107,12 +108,12 @@ impl Collector for Decoder {
 /// # Errors
 ///
 /// ReadFault at the number of bytes of text read so far, if the reader fails or the reads run out.
-/// Length at 268,435,456, if the text has more than 1,073,741,824 bytes; else ReadFault at 0, if it
-/// is not an even number of digits; else Length at 268,435,456, if it spells more bytes.
-/// OutOfMemory.
+/// Length at 268,435,456, if the text has more than 1,073,741,824 bytes; otherwise ReadFault at 0,
+/// if the text is not an even number of digits; otherwise Length at 268,435,456, if it spells more
+/// bytes than that. OutOfMemory.
 pub fn read_hex<R: Read>(alloc: Global, reader: &mut Port<R>) -> Result<Vec<u8>, Fault>
-    // Text was read to its end, at most 2 ^ 30 bytes. The input is what its digits spell in pairs,
-    // white space left out, and is no longer than a volume.
+    // The text was read to its end, and has at most 2 ^ 30 bytes. The input is what its digits
+    // spell in pairs, without the white space, and is not longer than a volume may be.
     ensures read { IfOk result (λ v. SpellsWhole (R.remaining (inner_of reader.old)) (R.remaining (inner_of reader.new))
         v.items) }
 

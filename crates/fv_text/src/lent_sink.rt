@@ -1,4 +1,4 @@
-//! A sink that is lent.
+//! A sink that is borrowed.
 
 ghost use Rattle.std.specs.Prelude.{◌≡◌};
 ghost use Rattle.fv_text.specs.SinkAdapters.{LentTakes};
@@ -6,15 +6,14 @@ ghost use Rattle.fv_text.specs.inner.SinkAdapterLaws.{lent_by};
 
 use fv_base::Sink;
 
-/// A sink that is lent for a while, as the sink below another. What it takes, the sink that was
-/// lent takes.
+/// Lends a sink to another sink, as the sink below it. The lent sink takes whatever this one takes.
 #[derive(Drop)]
 pub struct LentSink<'a, S: Sink> {
     sink: &'a mut S,
 }
 
 impl<'a, S: Sink> LentSink<'a, S> {
-    /// The sink, lent.
+    /// Lends the sink.
     pub fn new(sink: &'a mut S) -> LentSink<'a, S>
         ensures name { result.sink.ghost_name ≡ sink.entry.ghost_name }
         ensures now { result.sink.now ≡ sink.old }
@@ -23,7 +22,7 @@ impl<'a, S: Sink> LentSink<'a, S> {
     }
 }
 
-/// The sink that is lent takes the bytes.
+/// The lent sink takes the bytes.
 impl<'a, S: Sink> Sink for LentSink<'a, S> {
     ghost takes = { LentTakes S.takes (λ s. s.sink.now) (λ s. s.sink.ghost_name) };
 

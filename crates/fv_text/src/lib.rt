@@ -1,5 +1,5 @@
-//! Numbers as decimal or hexadecimal digits, bytes as lines of hexadecimal digits, and the bytes
-//! that such lines spell. Sinks that turn bytes into such lines, or that gather small pieces.
+//! Numbers in decimal or hexadecimal digits, bytes as lines of hexadecimal digits, and the decoding
+//! of such text. Sinks that turn bytes into such lines, or that gather small pieces.
 #![tactic(auto)]
 
 mod gathering;

@@ -1,4 +1,4 @@
-//! Numbers in decimal and in hexadecimal digits, put into a sink.
+//! Numbers in decimal or hexadecimal digits.
 
 ghost use Rattle.std.specs.Prelude.{◌≤◌, decimal, length};
 ghost use Rattle.fv_text.specs.HexText.{four_digits, two_digits};
@@ -6,7 +6,7 @@ ghost use Rattle.fv_text.specs.HexText.{four_digits, two_digits};
 use fv_base::Sink;
 use itoa::Buffer;
 
-/// Puts a number in decimal digits, at most 20 of them. Takes no memory.
+/// Puts a number into the sink in decimal digits, at most 20 of them. Allocates no memory.
 pub fn put_decimal<S: Sink>(out: &mut S, number: u64)
     ensures text { S.takes out.old (decimal number) out.new }
     ensures short { length (decimal number) ≤ 20 }
@@ -15,7 +15,7 @@ pub fn put_decimal<S: Sink>(out: &mut S, number: u64)
     out.put(buffer.format(number).as_bytes());
 }
 
-/// Puts a byte in two lower-case hexadecimal digits.
+/// Puts a byte into the sink as two lower-case hexadecimal digits.
 pub fn put_two_digits<S: Sink>(out: &mut S, byte: u8)
     ensures { S.takes out.old (two_digits byte) out.new }
 {
@@ -27,7 +27,7 @@ pub fn put_two_digits<S: Sink>(out: &mut S, byte: u8)
     out.put(&text);
 }
 
-/// Puts a number in four lower-case hexadecimal digits.
+/// Puts a number into the sink as four lower-case hexadecimal digits.
 pub fn put_four_digits<S: Sink>(out: &mut S, number: u16)
     ensures { S.takes out.old (four_digits number) out.new }
 {

@@ -1,8 +1,8 @@
-//! Bytes that are copied to a place in a buffer.
+//! Copying bytes into a buffer.
 
 ghost use Rattle.std.specs.Prelude.{◌≡◌, ◌≤◌, ◌+◌, ◌++◌, length, take};
 
-/// Copies the bytes to an offset of the buffer, in bytes.
+/// Copies the bytes into the buffer, to the offset `at` in bytes. They must fit.
 pub(crate) fn place(buffer: &mut [u8], at: usize, bytes: &[u8])
     requires { at + length bytes.now ≤ length buffer.old }
     ensures placed { take (at + length bytes.now) buffer.new ≡ take at buffer.old ++ bytes.now }

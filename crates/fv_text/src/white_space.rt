@@ -1,4 +1,4 @@
-//! White space in hexadecimal text, and the text without it.
+//! Removing white space from hexadecimal text.
 
 ghost use Rattle.fv_text.specs.HexIn.{is_space, squeezed};
 ghost use Rattle.fv_text.specs.inner.HexDecoding.{IsPutKept};
@@ -8,10 +8,10 @@ use crate::placing::place;
 use fv_base::field::bytes_from;
 use std::alloc::AllocError;
 
-/// How many bytes are looked at together.
+/// The number of bytes that are tested together.
 const WINDOW: usize = 16;
 
-// 0 for each byte that is white space, 1 for each other one.
+// 0 for each byte that is white space, 1 for every other byte.
 const KEPT: [u8; 256] = [
     1, 1, 1, 1, 1, 1, 1, 1, 1, 0, 0, 1, 1, 0, 1, 1, 1, 1, 1, 1, 1, 1, 1, 1, 1, 1, 1, 1, 1, 1, 1, 1,
     0, 1, 1, 1, 1, 1, 1, 1, 1, 1, 1, 1, 1, 1, 1, 1, 1, 1, 1, 1, 1, 1, 1, 1, 1, 1, 1, 1, 1, 1, 1, 1,
@@ -23,15 +23,15 @@ const KEPT: [u8; 256] = [
     1, 1, 1, 1, 1, 1, 1, 1, 1, 1, 1, 1, 1, 1, 1, 1, 1, 1, 1, 1, 1, 1, 1, 1, 1, 1, 1, 1, 1, 1, 1, 1,
 ];
 
-// How many bytes of the text without white space the byte is: none if it is a tab, a line feed, a
-// carriage return or a space.
+// Returns the number of bytes that this byte adds to the text without white space: 0 if it is a
+// tab, a line feed, a carriage return or a space, otherwise 1.
 fn kept(byte: u8) -> usize
     ensures { result ≡ (if is_space byte then 0 else 1) }
 {
     usize::from(KEPT[usize::from(byte)])
 }
 
-// Whether all bytes are greater than a space, so that none of them is white space.
+// Returns whether all bytes are greater than a space: then none of them is white space.
 fn is_dense(window: &[u8]) -> bool
     ensures { result ≡ true → squeezed window.now ≡ window.now }
 {
@@ -42,8 +42,8 @@ fn is_dense(window: &[u8]) -> bool
     least > b' '
 }
 
-// Puts the bytes of a text that are no white space at a place of the room, one after the other.
-// Returns the place after them.
+// Writes the bytes of a text that are not white space into the room, from `start` on. Returns the
+// offset after them.
 fn put_kept(text: &[u8], room: &mut [u8], start: usize) -> usize
     requires { start + length text.now ≤ length room.old }
     ensures { IsPutKept text.now start room.old room.new result }
@@ -56,7 +56,8 @@ fn put_kept(text: &[u8], room: &mut [u8], start: usize) -> usize
     end
 }
 
-// The same, for a text that seldom has white space: where a window has none it is copied at once.
+// Does the same as `put_kept`, for a text with little white space: a window without any is copied
+// at once.
 fn put_windows(text: &[u8], room: &mut [u8], start: usize) -> usize
     requires { start + length text.now ≤ length room.old }
     ensures { IsPutKept text.now start room.old room.new result }
@@ -74,7 +75,7 @@ fn put_windows(text: &[u8], room: &mut [u8], start: usize) -> usize
     put_kept(bytes_from(text, text.len() / WINDOW * WINDOW), room, end)
 }
 
-/// Appends the text to the digits, without its white space.
+/// Appends the text, without its white space, to the digits.
 ///
 /// # Errors
 ///

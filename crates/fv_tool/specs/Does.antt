@@ -13,33 +13,33 @@ use Rattle.fv_arguments.specs.Words.{AreRight, Asks}
 use Rattle.fv_arguments.specs.declared.words.WordFault.{WordFault}
 use Rattle.fv_arguments.specs.declared.words.WordFault.TheVariants.{Words, OutOfMemory}
 
--- a rejection of arguments: there is at least one after the program's name, and only arguments that are not right are
--- rejected as wrong
+-- a rejection of arguments: there is at least one argument after the program's name, and arguments that are right are
+-- not rejected as wrong
 abbrev pub MayRefuse : List (List ℕ) → WordFault → Type 0
 MayRefuse words fault = (1 < length words) × (fault ≡ Words → AreRight words → ⊥)
 
--- the arguments are rejected, and that was reported
+-- the arguments are rejected, and the rejection was reported
 abbrev pub TellsWords : List (List ℕ) → Ending → Change → Type 0
 TellsWords words ended output = (fault : WordFault) × MayRefuse words fault × EndsRejected fault ended output
 
--- the arguments are right, and the plan that they ask for was run; or they are rejected. Those that are not right are
--- rejected as wrong or because memory ran out, those that are right only because memory ran out
+-- the arguments are right, and the plan that they ask for was run; or they are rejected. Arguments that are not right
+-- are rejected as wrong or because memory ran out, and arguments that are right only because memory ran out
 abbrev pub DoesAsked : {S F : Type 0} → (S → Option (List ℕ)) → (F → Option (List ℕ)) → (List ℕ → Option F → Type 0)
     → (S → Type 0) → List (List ℕ) → Ending → Change → Type 0
 DoesAsked of_input of_file opens is_standard words ended output =
     ((p : Plan) × Asks words p × RunsOver of_input of_file opens is_standard p ended output) ⊎ TellsWords words ended output
 
--- the fault of arguments that cannot be read: out of memory by an error of that kind, else they are wrong
+-- the fault of arguments that cannot be read: OutOfMemory if the error is of that kind, otherwise Words
 abbrev pub IsFaultOf : ErrorKind → WordFault → Type 0
 IsFaultOf kind fault = (kind ≡ kinds.OutOfMemory → fault ≡ OutOfMemory) × (kind ≢ kinds.OutOfMemory → fault ≡ Words)
 
--- the arguments of a process, or why they could not be had: memory ran out, or they cannot be read
+-- the arguments of a process, or why they are not available: memory ran out, or they cannot be read
 abbrev pub IsGiven : (List (String Global) → Type 0) → (ErrorKind → Type 0) → Result (Vec (String Global) Global) WordFault
     → Type 0
 IsGiven has denies (Ok words) = has words.items
 IsGiven has denies (Err fault) = (fault ≡ OutOfMemory) ⊎ ((kind : ErrorKind) × denies kind × IsFaultOf kind fault)
 
--- a run of arguments, or of what was reported of arguments that could not be had
+-- a run of the program with these arguments, or the report that they are not available
 abbrev pub RunsArguments : {S F : Type 0} → (S → Option (List ℕ)) → (F → Option (List ℕ)) → (List ℕ → Option F → Type 0)
     → (S → Type 0) → Result (Vec (String Global) Global) WordFault → Ending → Change → Type 0
 RunsArguments of_input of_file opens is_standard (Ok words) ended output =
@@ -47,7 +47,7 @@ RunsArguments of_input of_file opens is_standard (Ok words) ended output =
 RunsArguments of_input of_file opens is_standard (Err fault) ended output =
     EndsRejected fault ended output
 
--- a run of a process: of its arguments
+-- a run of a process: a run of the program with the arguments of the process
 abbrev pub RunsProcess : {S F : Type 0} → (S → Option (List ℕ)) → (F → Option (List ℕ)) → (List ℕ → Option F → Type 0)
     → (S → Type 0) → (List (String Global) → Type 0) → (ErrorKind → Type 0) → Ending → Change → Type 0
 RunsProcess of_input of_file opens is_standard has denies ended output =

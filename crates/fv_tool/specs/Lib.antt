@@ -1,3 +1,3 @@
--- The definitions in the order in which they can be read.
+-- The files of definitions, in the order in which they can be read.
 pub mod ArgumentRefusals
 pub mod Does

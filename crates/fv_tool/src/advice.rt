@@ -1,10 +1,10 @@
-//! What the program says to a person at a terminal.
+//! Messages for a person at a terminal.
 
 use fv_base::FaultKind;
 use fv_command::{Ending, Refusal, Status};
 use std::fmt;
 
-/// The forms of the command line, as `docs/PROGRAM.md` has them.
+/// The forms of the command line, as in `docs/PROGRAM.md`.
 pub const SYNOPSIS: &str = "\
     fvtool\n\
     fvtool normalise [--at N | --all] [--hex] [FILE]\n\
@@ -16,21 +16,22 @@ pub const SYNOPSIS: &str = "\
     fvtool compare [--at N] [--other-at N] [--hex] A B\n\
     fvtool hobs [--image IMG --base N] [--hex] [FILE]";
 
-/// What the program says to a person, which `Display` writes. It is no result of the run.
+/// A message for a person, which `Display` writes. It is not part of the result of a run.
 #[derive(Clone, Copy)]
 pub enum Advice {
     /// Standard input is read next.
     ReadsStandardInput,
-    /// The arguments are wrong: the forms of the command line.
+    /// The arguments are wrong. The message shows the forms of the command line.
     Synopsis,
-    /// The run was refused: what the fault means that stopped it.
+    /// The run was refused. The message is the meaning of the fault that stopped it.
     Refused(Refusal),
     /// A write of the result failed.
     NotWritten,
 }
 
 impl Advice {
-    /// What there is to say of how a run ended. None if it was not refused.
+    /// Returns the message about how a run ended, or None if the status is Done, Different or
+    /// Faulty.
     pub fn of(ending: Ending) -> Option<Advice> {
         match ending.status {
             Status::Done => None,

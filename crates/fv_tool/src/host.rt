@@ -1,4 +1,4 @@
-//! What a process is given: its arguments, its files, and its standard streams.
+//! What a process is given: its arguments, its files and its standard streams.
 
 ghost use Rattle.std.specs.Global.{Global};
 ghost use Rattle.std.specs.IoError.{error_kind};
@@ -14,7 +14,7 @@ use std::io::{IsTerminal, Printer, Stderr, Stdin, Write};
 use std::rt::{Env, Files};
 use std::{env, fs, io};
 
-/// A process: its arguments, and its standard output.
+/// A process: its arguments and its standard output.
 pub trait Process {
     /// Standard output.
     type Writer: Write + Drop;
@@ -22,13 +22,13 @@ pub trait Process {
     /// The process has these arguments.
     ghost has_arguments: { Self → List (String Global) → Type 0 };
 
-    /// Its arguments cannot be read, by an error of this kind.
+    /// The arguments of the process cannot be read, with an error of this kind.
     ghost denies_arguments: { Self → ErrorKind → Type 0 };
 
     /// The writer is standard output.
     ghost is_output: { Self → Self.Writer → Type 0 };
 
-    /// The arguments.
+    /// Returns the arguments.
     ///
     /// # Errors
     ///
@@ -37,12 +37,12 @@ pub trait Process {
         ensures ok { IfOk result (λ arguments. has_arguments self.now (into_iter_items arguments)) }
         ensures err { IfErr result (λ error. denies_arguments self.now (error_kind error)) };
 
-    /// Standard output.
+    /// Returns standard output.
     fn standard_output(&self) -> Self::Writer
         ensures { is_output self.now result };
 
-    /// Says this to the person at the terminal, if there is one. It is no result of the run, and if
-    /// it cannot be said, nothing changes.
+    /// Shows the message to the person at the terminal, if there is one. It is not part of the
+    /// result of the run: if it cannot be shown, nothing changes.
     fn advise(&self, advice: Advice);
 }
 
@@ -55,13 +55,13 @@ pub struct Host<'r, R> {
 }
 
 impl<'r, R> Host<'r, R> {
-    /// The process of this runtime, with its standard input and standard error.
+    /// Returns the process of this runtime, with its standard input and standard error.
     pub fn new(rt: &'r R, input: Stdin, errors: Stderr) -> Host<'r, R> {
         Host { rt, input, errors }
     }
 
-    // Writes this to standard error, if that is a terminal. If it cannot be written, nothing
-    // changes.
+    // Writes the message to standard error, if that is a terminal. If the message cannot be
+    // written, nothing changes.
     fn write_to_terminal(&self, advice: Advice) {
         if self.errors.is_terminal() {
             let _ = self.errors.eprintln(advice);
@@ -69,8 +69,8 @@ impl<'r, R> Host<'r, R> {
     }
 }
 
-/// The files and the standard input of the process. No clause says what they are, since the
-/// standard library says nothing of them: each call is one of it.
+/// The files and the standard input of the process. No clause says which they are, because the
+/// standard library states nothing about them. Each method only calls that library.
 impl<'r, R: Files + Input> Opener for Host<'r, R> {
     type File = R::File;
 
@@ -91,7 +91,7 @@ impl<'r, R: Files + Input> Opener for Host<'r, R> {
         self.rt.reader()
     }
 
-    // The length that the system reports of a regular file.
+    // Returns the length that the system reports, if the file is a regular file.
     fn len_hint(&self, file: &R::File) -> usize {
         match file.metadata() {
             Ok(found) if found.is_file() => found.len() as usize,
@@ -100,8 +100,8 @@ impl<'r, R: Files + Input> Opener for Host<'r, R> {
     }
 }
 
-/// The arguments and the standard output of the process. No clause says what they are, since the
-/// standard library says nothing of them: each call is one of it.
+/// The arguments and the standard output of the process. No clause says which they are, because the
+/// standard library states nothing about them. Each method only calls that library.
 impl<'r, R: Env + Print + AllocGlobal> Process for Host<'r, R> {
     type Writer = Printer<'r, R>;
 

@@ -1,8 +1,9 @@
-//! The program `fvtool`: does what a command says with firmware volumes and hand-off lists, and
-//! reports the outcome by its exit status.
+//! The program `fvtool`: runs a command over firmware volumes or hand-off lists, and reports the
+//! outcome by its exit status.
 //!
-//! Only tests show what the standard library says nothing of: that its calls give the arguments of
-//! the process, the file at a path and the standard streams, and set the exit status.
+//! Some facts are only tested, because the standard library states nothing about them: that its
+//! calls give the arguments of the process, the file at a path and the standard streams, and set
+//! the exit status.
 #![tactic(auto)]
 
 ghost use Rattle.fv_text.specs.Words.{Writes, change, seen, shown};
@@ -27,7 +28,7 @@ use std::env::Args;
 use std::io::Write;
 use std::process::ExitCode;
 
-// The arguments in order. Out of memory is never reported as wrong arguments.
+// Returns the arguments in order. Out of memory is never reported as wrong arguments.
 fn collected(alloc: Global, arguments: Args) -> Result<Vec<String>, WordFault>
     ensures ok { IfOk result (λ words. words.items ≡ into_iter_items arguments) }
     ensures err { IfErr result (λ f. f ≡ WordFault.OutOfMemory) }
@@ -41,7 +42,7 @@ fn collected(alloc: Global, arguments: Args) -> Result<Vec<String>, WordFault>
     Ok(words)
 }
 
-// The arguments of a process, all of them in order; or why they cannot be had: memory ran out, or
+// Returns all arguments of a process, in order, or why they are not available: memory ran out, or
 // they cannot be read.
 fn arguments<P: Process>(alloc: Global, process: &P) -> Result<Vec<String>, WordFault>
     ensures { IsGiven (P.has_arguments process.now) (P.denies_arguments process.now) result }
@@ -49,8 +50,8 @@ fn arguments<P: Process>(alloc: Global, process: &P) -> Result<Vec<String>, Word
     collected(alloc, process.arguments()?)
 }
 
-// Reports that the command line is wrong, or that memory ran out while it was read, which is
-// returned as the refusal; of wrong arguments there is none.
+// Reports that the command line is wrong, or that memory ran out while it was read. Out of memory
+// is also returned as the refusal; wrong arguments are not a refusal.
 fn refuse_words<W: Write>(writer: &mut Port<W>, fault: WordFault) -> Ending
     ensures ends { Ends (status_of fault) (line_of fault) (change W.contents writer.old writer.new) result.status }
     ensures why { result.refusal ≡ refusal_of fault }
@@ -68,15 +69,15 @@ fn refuse_words<W: Write>(writer: &mut Port<W>, fault: WordFault) -> Ending
     }
 }
 
-// Does what the command line asks for, or reports why it is rejected.
+// Runs what the command line asks for, or reports why it is rejected.
 fn run_given<O: Opener, W: Write>(
     alloc: Global,
     opener: &O,
     words: Result<Vec<String>, WordFault>,
     writer: &mut Port<W>,
 ) -> Ending
-    // What the arguments ask for is run; arguments that ask for nothing are reported, and so is a
-    // lack of memory, and arguments that could not be read.
+    // Either what the arguments ask for is run, or the program reports why it is not: the arguments
+    // ask for no plan or could not be read, or memory ran out.
     ensures ran { RunsArguments O.Standard.remaining O.File.remaining (O.opens opener.now) (O.is_standard opener.now)
         words result (change W.contents writer.old writer.new) }
 
@@ -84,7 +85,7 @@ fn run_given<O: Opener, W: Write>(
     ensures wrong { result.status ≡ Status.WrongWords
         → Writes (shown W.contents writer.old) (shown W.contents writer.new) (line_of WordFault.Words) }
 
-    // The last call of the writer was a flush, unless the status is Refused.
+    // Unless the status is Refused, the last call to the writer was a flush.
     ensures flushed { result.status ≢ Status.Refused → is_flushed writer.new ≡ true }
 {
     let plan = match words {
@@ -97,9 +98,9 @@ fn run_given<O: Opener, W: Write>(
     }
 }
 
-// Opens the directory `/` three times. So the file descriptors below 3 that are closed are taken,
-// and no file of the run is used as a standard stream: reads and writes of a directory fail, as
-// those of a closed descriptor do.
+// Opens the directory `/` three times. The opened directories occupy those file descriptors below 3
+// that are closed, so no file of the run is used as a standard stream. Reads and writes of a
+// directory fail, as those of a closed descriptor do.
 fn hold_numbers<O: Opener>(opener: &O) -> (Option<O::File>, Option<O::File>, Option<O::File>) {
     (
         opener.file_at("/"),
@@ -108,7 +109,7 @@ fn hold_numbers<O: Opener>(opener: &O) -> (Option<O::File>, Option<O::File>, Opt
     )
 }
 
-// Does what the arguments of a process ask for, and writes to its standard output. Returns how the
+// Runs what the arguments of a process ask for, and writes to its standard output. Returns how the
 // run ended, and the output.
 fn run_process<P: Opener + Process>(alloc: Global, process: &P) -> (Ending, Port<P::Writer>)
     ensures runs { (writer : P.Writer) × P.is_output process.now writer
@@ -125,24 +126,24 @@ fn run_process<P: Opener + Process>(alloc: Global, process: &P) -> (Ending, Port
     (ending, port)
 }
 
-// The exit code of a status.
+// Returns the exit code for a status.
 fn exit_with(status: Status) -> ExitCode
     ensures { exit_status result ≡ exit_code status }
 {
     ExitCode::from(status.code())
 }
 
-// Says to the person at the terminal what there is to say of how the run ended.
+// Shows the message about how the run ended to the person at the terminal, if there is one.
 fn advise<P: Process>(process: &P, ending: Ending) {
     if let Some(advice) = Advice::of(ending) {
         process.advise(advice);
     }
 }
 
-// Does what the arguments of a process ask for, and says at a terminal what a person needs to know
-// of how that ended. Returns the exit code of the status with which the run ended, and the output,
-// whose last call was a flush, unless the status is Refused. It holds of any process: whatever its
-// arguments are, whatever opens its files, and wherever it writes.
+// Runs what the arguments of a process ask for, and shows at a terminal what a person needs to know
+// about how it ended. Returns the exit code for the status with which the run ended, and the
+// output. Unless the status is Refused, the last call to the output was a flush. This holds for any
+// process: whatever its arguments are, whatever opens its files, and wherever it writes.
 fn process<P: Opener + Process>(alloc: Global, process: &P) -> (ExitCode, Port<P::Writer>)
     ensures { (writer : P.Writer) × P.is_output process.now writer
         × (ended : Ending) × (exit_status result.0 ≡ exit_code ended.status)
@@ -158,8 +159,8 @@ fn process<P: Opener + Process>(alloc: Global, process: &P) -> (ExitCode, Port<P
     (exit_with(ending.status), output)
 }
 
-// Does what the arguments ask for, and ends with the exit code of the status. The compiler takes no
-// clause of it: it is one expression.
+// Runs what the arguments ask for, and ends with the exit code for the status. The compiler accepts
+// no clause on `main`, so it is a single expression.
 fn main(rt: HostRuntime) -> ExitCode {
     process(rt.alloc(), &Host::new(&rt, rt.stdin(), rt.stderr())).0
 }

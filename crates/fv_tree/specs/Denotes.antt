@@ -1,5 +1,5 @@
--- Which bytes are a volume with a given meaning (PI specification, volume 3, sections 3.2.1 to 3.2.5). The definition
--- recurs on how deep groups and opened volumes nest.
+-- Which bytes are a volume with a given meaning (PI specification, volume 3, sections 3.2.1 to 3.2.5). The definitions
+-- recur on how deep groups and opened volumes nest.
 use Rattle.std.specs.Prelude.{◌≡◌, ◌≢◌, ℕ, zero, suc, ◌≤◌, ◌==◌, ◌&&◌, ◌||◌, Bool, true, false, nat_le, List, [], ◌∷◌}
 use Rattle.std.specs.Prelude.{length, drop}
 use Rattle.fv_base.specs.Words.{depth_limit, IsBytes, field, le_at}
@@ -12,7 +12,7 @@ use Rattle.fv_tree.specs.Meaning.{Meaning, FileMeaning, File, ContentMeaning, Pl
 use Rattle.fv_tree.specs.Meaning.{Section, BodyMeaning, Leaf, Group, Nested, sections_list, head_of, files_of}
 use Rattle.fv_tree.specs.VolumeFiles.{FileForm, AreCurrent, files_in}
 
--- the type of a section that groups others, 03, and of one that may hold a volume, 17 (section 3.2.5,
+-- the type of a section that groups others, 03; and the type of a section that may hold a volume, 17 (section 3.2.5,
 -- EFI_SECTION_DISPOSABLE and EFI_SECTION_FIRMWARE_VOLUME_IMAGE)
 abbrev pub group_kind : ℕ
 group_kind = 0x03
@@ -20,29 +20,31 @@ group_kind = 0x03
 abbrev pub volume_kind : ℕ
 volume_kind = 0x17
 
--- a body is opened as a volume: it has the signature, a file system, and an FvLength equal to its own length
+-- a body is opened as a volume: it has at least 56 bytes, the signature, the GUID of a file system, and its own length
+-- as FvLength
 pub record Opens (b : List ℕ) : Type 0 where
   pub least : 56 ≤ length b
   pub signature : field 40 4 b ≡ signature_bytes
   pub file_system : (system : FileSystem) × (field 16 16 b ≡ system_guid system)
   pub whole : le_at 32 8 b ≡ length b
 
--- the types of files that hold sections, 02 and 04 to 0F (section 3.2.3, EFI_FV_FILETYPE_FREEFORM and those from
--- EFI_FV_FILETYPE_PEI_CORE on)
+-- whether files of this type hold sections: types 02 and 04 to 0F do (section 3.2.3, EFI_FV_FILETYPE_FREEFORM and those
+-- from EFI_FV_FILETYPE_PEI_CORE on)
 abbrev pub holds_sections : ℕ → Bool
 holds_sections kind = (kind == 0x02) || (nat_le 0x04 kind && nat_le kind 0x0f)
 
--- the two lists have the same length, and R holds of each two items at the same position
+-- the two lists have the same length, and R holds for each pair of items at the same position
 abbrev pub Pairwise : {A B : Type 0} → (A → B → Type 0) → List A → List B → Type 0
 Pairwise R [] [] = Unit {0}
 Pairwise R [] (y ∷ ys) = ⊥
 Pairwise R (x ∷ xs) [] = ⊥
 Pairwise R (x ∷ xs) (y ∷ ys) = R x y × Pairwise R xs ys
 
--- ---- what a thing is, given what the things inside it are: these take relations, and MeansSection closes the
--- recursion
+-- ---- what bytes mean, given what the parts inside them mean: these definitions take relations for the parts, and
+-- MeansSection closes the recursion
 
--- relations: of a frame and a section; of sections and the bytes of a stream; of the bytes of a volume and a meaning
+-- the kinds of relations: of a frame and a section; of sections, a number of bytes after the last, and the bytes of a
+-- stream; of the bytes of a volume and a meaning
 abbrev pub SectionRelation : Type 1
 SectionRelation = FrameForm → SectionMeaning → Type 0
 
@@ -63,14 +65,15 @@ MeansContent is_stream kind payload (Plain b) = (holds_sections kind ≡ false) 
 MeansContent is_stream kind payload (Sectioned sections tail) =
     (holds_sections kind ≡ true) × is_stream (sections_list sections) tail payload
 
--- the file of the volume has this meaning
+-- the stored file has this meaning
 abbrev pub MeansFile : StreamRelation → FileForm → FileMeaning → Type 0
 MeansFile is_stream f (File name kind attributes content) =
     (name ≡ f.head.name) × (kind ≡ f.head.kind) × (attributes ≡ without_large (attribute_bits f.head.attributes))
     × MeansContent is_stream kind f.payload content
 
--- the bytes are a volume with this meaning: they begin with its header, cells tile the rest from the first file's
--- offset on, and the files of these cells are its files
+-- the bytes are a volume with this meaning: there are FvLength of them, they begin with its header, cells tile the rest
+-- from the first file's offset on, and the files that `AreCurrent` selects from these cells have the meanings of its
+-- files
 pub record VolumeOver (is_stream : StreamRelation) (b : List ℕ) (m : Meaning) : Type 0 where
   pub extent : Extent
   pub front : BeginsVolume (head_of m) extent b
@@ -82,7 +85,7 @@ pub record VolumeOver (is_stream : StreamRelation) (b : List ℕ) (m : Meaning) 
   pub meanings : Pairwise (MeansFile is_stream) files (files_of m)
 
 -- the body of the frame has this meaning: the body of a group is a stream, a body that is opened is a volume, and any
--- other is a leaf
+-- other body is a leaf
 abbrev pub MeansBody : StreamRelation → VolumeRelation → FrameForm → BodyMeaning → Type 0
 MeansBody is_stream is_volume f (Leaf b) =
     (f.kind ≢ group_kind) × (f.kind ≡ volume_kind → Opens f.body → ⊥) × (b ≡ f.body)
@@ -90,27 +93,29 @@ MeansBody is_stream is_volume f (Group sections tail) =
     (f.kind ≡ group_kind) × is_stream (sections_list sections) tail f.body
 MeansBody is_stream is_volume f (Nested volume) = (f.kind ≡ volume_kind) × Opens f.body × is_volume f.body volume
 
--- the frame is this section: its type, the form of its header, and its body
+-- the frame is this section: type, form of the header and body agree
 abbrev pub SectionOver : StreamRelation → VolumeRelation → SectionRelation
 SectionOver is_stream is_volume f (Section kind extended body) =
     (kind ≡ f.kind) × (extended ≡ f.extended) × MeansBody is_stream is_volume f body
 
 -- ---- the recursion
 
--- the frame is this section, a leaf if n is 0; groups and opened volumes nest at most n deep
+-- the frame is this section, a leaf if n is 0; groups and opened volumes, the section itself included, nest at most n
+-- deep
 abbrev pub MeansSection : ℕ → SectionRelation
 MeansSection zero = SectionOver (λ _ _ _. ⊥) (λ _ _. ⊥)
 MeansSection (suc n) = SectionOver (StreamOver (MeansSection n)) (VolumeOver (StreamOver (MeansSection n)))
 
--- the bytes are a stream of these sections, with `tail` bytes after the last; groups and volumes nest at most n deep
+-- the bytes are a stream of these sections, with `tail` bytes after the last; groups and opened volumes nest at most n
+-- deep
 abbrev pub Stream : ℕ → StreamRelation
 Stream n = StreamOver (MeansSection n)
 
--- the bytes are a volume with this meaning, in which groups and volumes nest at most n deep
+-- the bytes are a volume with this meaning, in which groups and opened volumes nest at most n deep
 abbrev pub Denotes : ℕ → VolumeRelation
 Denotes n = VolumeOver (Stream n)
 
--- the bytes, each of them below 256, are accepted as a volume with this meaning: groups and volumes nest at most
+-- the bytes, each of them below 256, are accepted as a volume with this meaning: groups and opened volumes nest at most
 -- `depth_limit` deep
 abbrev pub Accepted : VolumeRelation
 Accepted b m = IsBytes b × Denotes depth_limit b m

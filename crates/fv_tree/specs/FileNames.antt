@@ -12,7 +12,7 @@ use Rattle.fv_tree.specs.Meaning.{FileMeaning, file_name_of}
 abbrev pub is_named : Guid → FileMeaning → Bool
 is_named name f = bytes_eq (bytes_of name) (bytes_of (file_name_of f))
 
--- the first file with this name
+-- the first file with this name, if there is one
 abbrev pub file_named : Guid → List FileMeaning → Option FileMeaning
 file_named name fs = find (is_named name) fs
 

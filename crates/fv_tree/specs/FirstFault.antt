@@ -1,5 +1,6 @@
--- The faults of bytes that should begin with a volume, by the same recursion as Denotes: the first one, in the order in
--- which a volume is read; and any fault whose condition holds at its place, whatever else is wrong.
+-- The faults of bytes that should begin with a volume, by the same recursion as Denotes. With First, a fault is the
+-- first one in the order in which a volume is read. With Any, it is any fault whose condition holds at its place,
+-- whatever else is wrong.
 use Rattle.std.specs.Prelude.{◌≡◌, ℕ, zero, suc, ◌+◌, ◌⊎◌, true, List, [], ◌∷◌, ◌++◌, take, drop}
 use Rattle.std.specs.List.{list_any}
 use Rattle.fv_base.specs.Words.{Which, First, Any, Fails, outer_fault, depth_limit}
@@ -16,29 +17,30 @@ use Rattle.fv_tree.specs.VolumeFiles.{FileForm, files_in, is_twin, NoTwins, curr
 
 -- ---- places
 
--- a fault of bytes that begin at this offset and at this depth
+-- the fault f of bytes that begin at this offset and at this depth, as a fault of the bytes around them
 abbrev pub moved_fault : ℕ → ℕ → Fault → Fault
 moved_fault base depth f = record { kind = f.kind; place = record { offset = base + f.place.offset; depth = depth } }
 
--- e is such a fault, of bytes that begin at this place
+-- P holds of a fault, and e is that fault, moved to the place at which its bytes begin
 abbrev pub Moved : Place → (Fault → Type 0) → Fault → Type 0
 Moved at P e = (f : Fault) × P f × (e ≡ moved_fault at.offset at.depth f)
 
--- where a frame's body begins in its stream, and a file's data in their volume
+-- where a frame's body begins in its stream; and where a file's data begin in their volume
 abbrev pub body_place : FrameForm → ℕ
 body_place f = f.offset + section_header_len f.extended
 
 abbrev pub data_place : FileForm → ℕ
 data_place f = f.offset + f.head.header_len
 
--- the same, of a stream and a volume that begin at a place; a body lies one level deeper
+-- the same two places, if the stream or the volume begins at the place `at`; a body is one level deeper than its stream
 abbrev pub body_at : Place → FrameForm → Place
 body_at at f = record { offset = at.offset + body_place f; depth = at.depth + 1 }
 
 abbrev pub data_at : Place → FileForm → Place
 data_at at f = record { offset = at.offset + data_place f; depth = at.depth }
 
--- a predicate on a fault and on bytes that begin at a place; and one on a frame in a stream that begins there
+-- a predicate on a fault and on bytes that begin at a place; and one on a fault and on a frame of a stream that begins
+-- at a place
 abbrev pub Faulty : Type 1
 Faulty = Fault → List ℕ → Place → Type 0
 
@@ -47,57 +49,59 @@ FrameFaulty = Fault → FrameForm → Place → Type 0
 
 -- ---- one level
 
--- a condition that only the first fault must meet
+-- a condition that only a first fault must meet
 abbrev pub IfFirst : Which → Type 0 → Type 0
 IfFirst First P = P
 IfFirst Any P = Unit {0}
 
--- one of the items has a fault; before the first fault, the items are read
+-- one of the items has a fault; if it is to be the first fault, each preceding item was read
 abbrev pub OneOf : {A B : Type 0} → Which → (A → B → Type 0) → (A → Type 0) → List A → Type 0
 OneOf {A} {B} which R fault xs =
     (before : List A) × (x : A) × (after : List A) × (xs ≡ before ++ (x ∷ after))
     × IfFirst which ((read : List B) × Pairwise R before read) × fault x
 
--- the file has a twin among those before it; before the first such file, there are no twins
+-- the file has a twin among the files preceding it; if it is to be the first such file, no two of the preceding files
+-- are twins
 abbrev pub HasTwin : Which → FileForm → List FileForm → Type 0
 HasTwin which f fs =
     (before : List FileForm) × (after : List FileForm) × (fs ≡ before ++ (f ∷ after)) × IfFirst which (NoTwins before)
     × (list_any (is_twin f) before ≡ true)
 
--- f is a volume top file that is not the last of the files, or does not end where the volume does
+-- f is a volume top file that is not the last of the files, or does not end where the volume ends
 abbrev pub TopElsewhere : ℕ → FileForm → List FileForm → Type 0
 TopElsewhere length f fs =
     (before : List FileForm) × (after : List FileForm) × (fs ≡ before ++ (f ∷ after)) × (is_top f ≡ true)
     × (after ≡ [] → end_of f ≡ length → ⊥)
 
--- a fault of the valid files in a volume of this length: the later of two twins; or a volume top file that is not at
--- the end, which is the first fault only if there are no twins
+-- a fault of the valid files in a volume of this length: at the later of two twins; or at a volume top file that is not
+-- at the end, which is the first fault only if there are no twins
 abbrev pub NamesFault : Which → ℕ → List FileForm → Fault → Type 0
 NamesFault which length fs e =
     ((f : FileForm) × HasTwin which f fs × (e ≡ outer_fault kinds.DuplicateName f.offset))
     ⊎ (IfFirst which (NoTwins fs)
     × (f : FileForm) × TopElsewhere length f (current_in fs) × (e ≡ outer_fault kinds.TopFile f.offset))
 
--- a fault of the body of a volume, except of the data of its files: that of a cell; or that of the files of its cells
+-- a fault in the layout of a volume's body: a fault of a cell, or of the files in its cells; the data of the files are
+-- not included
 abbrev pub LayoutFault : Which → Extent → List ℕ → Fault → Type 0
 LayoutFault which x volume e =
     CellFault which x.file_system x.polarity x.first (drop x.first volume) e
     ⊎ ((cells : List CellForm) × Tiles x.file_system x.polarity x.first cells (drop x.first volume)
     × NamesFault which x.length (files_in cells) e)
 
--- a fault of a stream: a check of a section header fails; or the stream splits into frames, and one of them has a fault
+-- a fault of a stream: a check of a section header fails, or the stream splits into frames and one of them has a fault
 abbrev pub StreamFault : Which → ℕ → FrameFaulty → Faulty
 StreamFault which n in_section e b at =
     Moved at (FrameFault which b) e
     ⊎ ((frames : List FrameForm) × (tail : ℕ) × Splits frames tail b
     × OneOf which (MeansSection n) (λ f. in_section e f at) frames)
 
--- a fault of the data of a file that holds sections
+-- a fault in the data of a file that holds sections
 abbrev pub FileFault : Faulty → Fault → FileForm → Place → Type 0
 FileFault in_stream e f at = (holds_sections f.head.kind ≡ true) × in_stream e f.payload (data_at at f)
 
--- a fault of the body of a volume: that of its layout; or that of the data of a file, which is the first fault only if
--- the layout has none
+-- a fault of the body of a volume: a fault of its layout; or a fault in the data of a file, which is the first fault
+-- only if the layout has none
 abbrev pub BodyFault : Which → ℕ → Faulty → Extent → Faulty
 BodyFault which n in_stream x e volume at =
     Moved at (LayoutFault which x volume) e
@@ -105,7 +109,7 @@ BodyFault which n in_stream x e volume at =
     × IfFirst which (NoTwins (files_in cells) × TopAtEnd x.length (current_in (files_in cells)))
     × OneOf which (MeansFile (Stream n)) (λ f. FileFault in_stream e f at) (current_in (files_in cells)))
 
--- a fault of a volume: a check of its header fails; or the bytes begin with a header, and the body has a fault
+-- a fault of a volume: a check of its header fails, or the bytes begin with a volume header and the body has a fault
 abbrev pub VolumeFault : Which → ℕ → Faulty → Faulty
 VolumeFault which n in_stream e b at =
     Moved at (Fails which (head_checks b)) e
@@ -113,8 +117,8 @@ VolumeFault which n in_stream e b at =
 
 -- ---- the recursion
 
--- a fault of a frame that is a group or is opened as a volume, in which groups and volumes nest at most n deep: it is
--- nested too deep; or what it holds has a fault
+-- a fault of a frame that is a group or is opened as a volume, if groups and opened volumes may nest at most n deep:
+-- the frame is nested too deep, or its body has a fault
 abbrev pub InSection : Which → ℕ → FrameFaulty
 InSection which zero e f at =
     ((f.kind ≡ group_kind) ⊎ ((f.kind ≡ volume_kind) × Opens f.body))
@@ -124,17 +128,17 @@ InSection which (suc n) e f at =
     ⊎ ((f.kind ≡ volume_kind) × Opens f.body
     × VolumeFault which n (StreamFault which n (InSection which n)) e f.body (body_at at f))
 
--- a fault of a stream in which groups and volumes nest at most n deep
+-- a fault of a stream in which groups and opened volumes may nest at most n deep
 abbrev pub InStream : Which → ℕ → Faulty
 InStream which n = StreamFault which n (InSection which n)
 
--- a fault of bytes that should begin with such a volume
+-- a fault of bytes that should begin with a volume in which groups and opened volumes may nest at most n deep
 abbrev pub InVolume : Which → ℕ → Faulty
 InVolume which n = VolumeFault which n (InStream which n)
 
 -- ---- the faults of bytes that were passed to a call
 
--- where the bytes begin that were passed in: offset 0, depth 0
+-- the place at which the bytes passed to a call begin: offset 0, depth 0
 abbrev pub outermost : Place
 outermost = record { offset = 0; depth = 0 }
 
@@ -142,6 +146,6 @@ outermost = record { offset = 0; depth = 0 }
 abbrev pub IsFirstOfVolume : List ℕ → Fault → Type 0
 IsFirstOfVolume b e = InVolume First depth_limit e b outermost
 
--- the condition of e holds at e's place in what the bytes begin with, whatever else is wrong with them
+-- the condition of e holds at e's place in bytes that should begin with a volume, whatever else is wrong with them
 abbrev pub FaultStands : List ℕ → Fault → Type 0
 FaultStands b e = InVolume Any depth_limit e b outermost

@@ -1,4 +1,4 @@
--- Why a whole input is no volume: its first fault (PI specification, volume 3, section 3.2).
+-- Why a whole input is not a volume: its first fault (PI specification, volume 3, section 3.2).
 use Rattle.std.specs.Prelude.{◌≡◌, ◌⊎◌, ◌<◌, ℕ, List, length, take}
 use Rattle.fv_base.specs.Words.{outer_fault, out_of_memory}
 use Rattle.fv_base.specs.declared.fault.Fault.{Fault}
@@ -8,13 +8,14 @@ use Rattle.fv_tree.specs.Denotes.{Accepted}
 use Rattle.fv_tree.specs.FirstFault.{FaultStands, IsFirstOfVolume}
 use Rattle.fv_tree.specs.Meaning.{Meaning, length_of}
 
--- more bytes follow the volume that the input begins with, and the fault is Length at that volume's end
+-- more bytes follow the volume at the start of the input, and the fault is Length at that volume's end
 abbrev pub GoesOn : List ℕ → Fault → Type 0
 GoesOn input f =
     (m : Meaning) × Accepted (take (length_of m) input) m × (length_of m < length input)
     × (f ≡ outer_fault kinds.Length (length_of m))
 
--- the first fault of a whole input: that of the volume at its start, or of the bytes that follow it
+-- the first fault of a whole input: the first fault of the volume at its start, or Length because more bytes follow
+-- that volume
 abbrev pub IsFirstOfInput : List ℕ → Fault → Type 0
 IsFirstOfInput input f = IsFirstOfVolume input f ⊎ GoesOn input f
 
@@ -22,11 +23,11 @@ IsFirstOfInput input f = IsFirstOfVolume input f ⊎ GoesOn input f
 abbrev pub FaultStandsInInput : List ℕ → Fault → Type 0
 FaultStandsInInput input f = FaultStands input f ⊎ GoesOn input f
 
--- an input is no volume, and this is its first fault
+-- the input is not a volume, and this is its first fault
 pub record NotRead (input : List ℕ) (f : Fault) : Type 0 where
   pub none : (m : Meaning) → Accepted input m → ⊥
   pub first : IsFirstOfInput input f
 
--- memory ran out, which can happen only if the input begins with the header of a volume
+-- memory ran out, which can happen only if the input begins with a volume header
 abbrev pub MemoryRanOut : List ℕ → Fault → Type 0
 MemoryRanOut input f = (f ≡ out_of_memory) × BeginsWithHeader input

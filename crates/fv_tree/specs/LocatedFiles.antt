@@ -1,5 +1,5 @@
--- The cells of the volume with which bytes begin, and its files as they are stored in it, each with its place (PI
--- specification, volume 3, sections 3.2.2 and 3.2.3).
+-- The cells of the volume at the start of some bytes, and the volume's files as they are stored in it, each with its
+-- place (PI specification, volume 3, sections 3.2.2 and 3.2.3).
 use Rattle.std.specs.Prelude.{◌⊎◌, ℕ, List, take, drop, ◌≡◌, ◌≤◌, ◌+◌, length}
 use Rattle.fv_base.specs.Words.{IsFirstFault, First, field}
 use Rattle.fv_base.specs.declared.fault.Fault.{Fault}
@@ -28,23 +28,23 @@ IsFirstOfCells b f =
     ⊎ ((h : HeadFields) × (e : Extent) × BeginsVolume h e b
     × IsFirstCellFault e.file_system e.polarity e.first (drop e.first (take e.length b)) f)
 
--- the bytes begin with no volume whose body cells tile, and this is the first fault
+-- the bytes do not begin with a volume whose body is tiled by cells, and this is the first fault
 pub record NotTiled (b : List ℕ) (f : Fault) : Type 0 where
   pub none : (e : Extent) (cells : List CellForm) → BeginsTiled e cells b → ⊥
   pub first : IsFirstOfCells b f
 
--- the state of a valid file that is marked so (section 3.2.3.1, EFI_FFS_FILE_STATE)
+-- the state of a valid file with this mark (section 3.2.3.1, EFI_FFS_FILE_STATE)
 abbrev pub state_by : Mark → FileState
 state_by marks.Unmarked = states.DataValid
 state_by marks.Marked = states.Marked
 state_by marks.Replaced = states.Marked
 
--- the length of a header with these attributes, and the file sum of a file with these attributes and data (section
--- 3.2.3.1, FFS_ATTRIB_LARGE_FILE and FFS_ATTRIB_CHECKSUM)
+-- the length of a file header with these attributes (section 3.2.3.1, FFS_ATTRIB_LARGE_FILE)
 abbrev pub header_len_by : ℕ → ℕ
 header_len_by attributes = file_header_len (is_large attributes)
 
--- a file that a call has returned, with what follows from its fields and with its data as a list of bytes
+-- the stored form of a file that a call has returned: its fields, what follows from them, and its data as a list of
+-- bytes
 abbrev pub file_form : LocatedFile → FileForm
 file_form s = record {
   offset = s.offset;
@@ -61,22 +61,23 @@ file_form s = record {
   payload = s.payload.now;
 }
 
--- cells tile the volume from the first file's offset on, and the files of these cells are these, as they are stored
+-- cells tile the volume from the first file's offset on, and these are the files of the volume in these cells, as they
+-- are stored
 pub record StandIn (e : Extent) (volume : List ℕ) (files : List FileForm) : Type 0 where
   pub cells : List CellForm
   pub tiles : Tiles e.file_system e.polarity e.first cells (drop e.first volume)
   pub current : AreCurrent e.length (files_in cells) files
 
--- the bytes begin with a volume, and its files are these, as they are stored
+-- the bytes begin with a volume, and these are its files, as they are stored
 abbrev pub BeginWithFiles : List ℕ → List FileForm → Type 0
 BeginWithFiles b files = (h : HeadFields) × (e : Extent) × BeginsVolume h e b × StandIn e (take e.length b) files
 
--- the data of the file are in the bytes, at their offset
+-- the bytes contain the data of the file, at the data's offset
 abbrev pub HasDataIn : List ℕ → FileForm → Type 0
 HasDataIn b f = (data_place f + length f.payload ≤ length b) × (field (data_place f) (length f.payload) b ≡ f.payload)
 
--- the first fault of bytes that should begin with a volume, if the data of its files are not read: that of the header,
--- or that of the cells and the files
+-- the first fault of bytes that should begin with a volume, if the data of its files are not read: a fault of the
+-- header, or of the cells and the files
 abbrev pub IsFirstOfFiles : List ℕ → Fault → Type 0
 IsFirstOfFiles b f =
     IsFirstFault (head_checks b) f

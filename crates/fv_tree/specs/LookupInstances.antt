@@ -1,4 +1,4 @@
--- Looking for files and sections: the next file, and the n-th file or section of a type; and what a look-up returns.
+-- Looking up files and sections: the next file, the n-th file or section of a type, and the result of a look-up.
 use Rattle.std.specs.Prelude.{ℕ, ◌+◌, ◌==◌, ◌++◌, zero, suc, List, [], ◌∷◌, Option, Some, None, option_map, slice_get}
 use Rattle.std.specs.Prelude.{◌≡◌}
 use Rattle.std.specs.List.{filter}
@@ -10,12 +10,12 @@ use Rattle.fv_tree.specs.declared.lookup.Item.TheVariants as items
 use Rattle.fv_tree.specs.declared.lookup.Lookup.{Lookup}
 use Rattle.fv_tree.specs.declared.lookup.Lookup.TheVariants as answers
 
--- the number of the file after the one with this number, or of the first file
+-- the number of the file after the one with this number, or of the first file if there is no number
 abbrev pub number_after : Option ℕ → ℕ
 number_after None = 0
 number_after (Some last) = last + 1
 
--- the file after the one with this number, or the first file, with its own number
+-- the file after the one with this number, or the first file if there is no number, together with its own number
 abbrev pub file_after : Option ℕ → List FileMeaning → Option (ℕ × FileMeaning)
 file_after after fs = option_map (λ f. (number_after after, f)) (slice_get fs (number_after after))
 
@@ -24,7 +24,7 @@ abbrev pub instance_of : {A : Type 0} → ℕ → List A → Option A
 instance_of zero xs = None
 instance_of (suc k) xs = slice_get xs k
 
--- the file of this type and instance (section 3.2.3, EFI_FV_FILETYPE)
+-- file number `instance` of this type, counted from 1 (section 3.2.3, EFI_FV_FILETYPE)
 abbrev pub file_of_type : ℕ → ℕ → List FileMeaning → Option FileMeaning
 file_of_type kind instance fs = instance_of instance (filter (λ f. file_kind_of f == kind) fs)
 
@@ -46,15 +46,16 @@ abbrev mutual
 abbrev pub of_type : ℕ → List SectionMeaning → List SectionMeaning
 of_type kind ss = filter (λ s. section_kind_of s == kind) ss
 
--- the section of this type and instance, in preorder
+-- section number `instance` of this type, counted from 1 in preorder
 abbrev pub section_of_type : ℕ → ℕ → SectionMeanings → Option SectionMeaning
 section_of_type kind instance ss = instance_of instance (of_type kind (preorder ss))
 
--- the type of a file whose data may be sections, and are kept as bytes (section 3.2.3, EFI_FV_FILETYPE_SECURITY_CORE)
+-- the type of a security core, whose data may be sections but are kept as bytes (section 3.2.3,
+-- EFI_FV_FILETYPE_SECURITY_CORE)
 abbrev pub security_core : ℕ
 security_core = 0x03
 
--- the frame of this type and instance
+-- frame number `instance` of this type, counted from 1
 abbrev pub frame_of_type : ℕ → ℕ → List FrameForm → Option FrameForm
 frame_of_type kind instance fs = instance_of instance (filter (λ f. f.kind == kind) fs)
 
@@ -72,6 +73,6 @@ SeesFrame (answers.Found (items.Frame f)) o = o ≡ Some (frame_form f)
 SeesFrame answers.Absent o = o ≡ None
 SeesFrame answers.NotSectioned o = ⊥
 
--- the result is NotSectioned: the file holds no sections
+-- the result is NotSectioned: the file's data are not sections
 abbrev pub IsNotSectioned : Lookup → Type 0
 IsNotSectioned l = l ≡ answers.NotSectioned

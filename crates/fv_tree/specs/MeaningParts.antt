@@ -1,10 +1,10 @@
--- The parts of a meaning that other calls return.
+-- Further parts of a meaning, as the calls on views return them.
 use Rattle.std.specs.Prelude.{ℕ, List, [], ◌∷◌, Bool, Option, Some, None}
 use Rattle.fv_tree.specs.Meaning.{FileMeanings, NoFiles, MoreFiles, FileMeaning, File, ContentMeaning, Plain}
 use Rattle.fv_tree.specs.Meaning.{Sectioned, SectionMeanings, NoSections, MoreSections, SectionMeaning, Section}
 use Rattle.fv_tree.specs.Meaning.{BodyMeaning, Leaf, Group, Nested}
 
--- lists of files and of sections
+-- the files and the sections of a list, as parts of a meaning
 abbrev pub files_from : List FileMeaning → FileMeanings
 files_from [] = NoFiles
 files_from (f ∷ fs) = MoreFiles f (files_from fs)
@@ -13,7 +13,7 @@ abbrev pub sections_from : List SectionMeaning → SectionMeanings
 sections_from [] = NoSections
 sections_from (s ∷ ss) = MoreSections s (sections_from ss)
 
--- the type of a file, and plain bytes that are its content
+-- the type of a file; and the bytes of a content that is plain
 abbrev pub file_kind_of : FileMeaning → ℕ
 file_kind_of (File name kind attributes content) = kind
 
@@ -37,7 +37,7 @@ leaf_of (Leaf b) = Some b
 leaf_of (Group _ _) = None
 leaf_of (Nested _) = None
 
--- the sections in the data of a file and in a body, without those in their groups
+-- the sections in the data of a file, and those in a body; sections in their groups are not included
 abbrev pub sections_in_data : ContentMeaning → SectionMeanings
 sections_in_data (Plain b) = NoSections
 sections_in_data (Sectioned sections tail) = sections

@@ -1,4 +1,4 @@
--- What is known of a file and of a section that were read.
+-- What is known of a file or a section that was read.
 use Rattle.std.specs.Prelude.{ℕ, ◌≤◌, List, length}
 use Rattle.fv_base.specs.Words.{depth_limit, volume_limit, IsBytes}
 use Rattle.fv_base.specs.declared.flash.FileSystem.{FileSystem}
@@ -9,7 +9,7 @@ use Rattle.fv_tree.specs.Denotes.{MeansFile, MeansSection, Stream}
 use Rattle.fv_tree.specs.Meaning.{FileMeaning, SectionMeaning}
 use Rattle.fv_tree.specs.VolumeFiles.{FileForm}
 
--- some bytes are this valid file, and then filler
+-- some bytes are this valid file and the filler after it
 abbrev pub IsStoredFile : FileForm → Type 0
 IsStoredFile f =
     (system : FileSystem) × (polarity : Polarity) × (b : List ℕ) × IsBytes b × (length b ≤ volume_limit)
@@ -19,7 +19,7 @@ IsStoredFile f =
 abbrev pub IsReadFile : FileMeaning → Type 0
 IsReadFile m = (n : ℕ) × (n ≤ depth_limit) × (f : FileForm) × IsStoredFile f × MeansFile (Stream n) f m
 
--- this frame is in some bytes, at its offset
+-- some bytes contain this frame, at its offset
 abbrev pub IsStoredFrame : FrameForm → Type 0
 IsStoredFrame f = (b : List ℕ) × IsBytes b × (length b ≤ volume_limit) × FrameStandsAt f f.offset b
 

@@ -1,4 +1,4 @@
--- The volumes in a volume, and what is said of each of them (PI specification, volume 3, section 3.2: a section of a
+-- A volume and the volumes nested in it, each with its depth (PI specification, volume 3, section 3.2: a section of a
 -- file may hold a volume).
 use Rattle.std.specs.Prelude.{ℕ, ◌+◌, List, [], ◌∷◌, ◌++◌, map}
 use Rattle.fv_tree.specs.Meaning.{Meaning, Volume, FileMeanings, NoFiles, MoreFiles, FileMeaning, File, ContentMeaning}
@@ -14,8 +14,8 @@ pub record Inside : Type 0 where
 abbrev pub deeper : List Inside → List Inside
 deeper vs = map (λ v. record { depth = v.depth + 1; volume = v.volume }) vs
 
--- a volume, and then those in its files, in preorder. What is in a section is one level deeper: a volume, or a group of
--- sections. A volume that is the body passed to `volumes_in_body` is at depth 0
+-- a volume, followed by the volumes in its files, in preorder. The body of a section is one level deeper than the
+-- section. In `volumes_in_body`, a body that is a volume is at depth 0
 abbrev mutual
   pub volumes_in : Meaning → List Inside
   volumes_in (Volume h files) = record { depth = 0; volume = Volume h files } ∷ volumes_in_files files

@@ -1,4 +1,4 @@
--- Definitions that serve only private clauses: there is nothing to believe here.
+-- Definitions that only private clauses cite: nothing here has to be taken on trust.
 pub mod Codes
 pub mod Falls
 pub mod NameForms

@@ -1,4 +1,4 @@
-//! Faults in bytes that begin at a place.
+//! Faults in bytes that are a part of other bytes.
 
 ghost use Rattle.std.specs.Prelude.{◌≡◌, ◌≢◌, ◌<◌, ◌+◌, ◌^◌};
 ghost use Rattle.fv_base.specs.Words.{out_of_memory};
@@ -6,9 +6,9 @@ ghost use Rattle.fv_tree.specs.FirstFault.{moved_fault};
 
 use fv_base::{Fault, FaultKind, Place};
 
-/// A fault of bytes that begin at this place, as a fault of the bytes that the place is in: its
-/// offset, in bytes, is counted from the start of those, and its depth is that of the place. The
-/// sum of the two offsets is below 2 ^ 64. OutOfMemory stays at 0.
+/// Returns the fault of bytes that begin at this place as a fault of the bytes around them. Its
+/// offset, in bytes, then counts from the start of the bytes around them, and its depth is the
+/// depth of the place. The two offsets must sum to less than 2 ^ 64. OutOfMemory stays at 0.
 pub fn fault_within(fault: Fault, place: Place) -> Fault
     requires { place.offset + fault.place.offset < 2 ^ 64 }
     ensures moved { result ≢ out_of_memory

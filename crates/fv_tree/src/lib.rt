@@ -1,11 +1,11 @@
-//! The meaning of a firmware volume, read as a view of its bytes. The recursions of its definitions
-//! go by how deep groups and opened volumes may still nest. `scan` and `Offsets` are those of
-//! fv_flash. Only `read_volume`, `whole_volume`, `located_files`, `volume_cells` and `scan` take
-//! memory.
+//! The meaning of a firmware volume, read as a view of its bytes. The definitions recur on how many
+//! more levels of groups and opened volumes may nest. `scan` and `Offsets` come from fv_flash. Only
+//! `read_volume`, `whole_volume`, `whole_volume_with_files`, `located_files`, `volume_cells` and
+//! `scan` take memory.
 //!
-//! What `plain` and `leaf` return, and `Content::Plain` and `Body::Leaf` hold, are slices of the
-//! input, which outlive the view: a program that uses one after the view is gone compiles, and one
-//! that uses it after the input is gone does not.
+//! `plain` and `leaf` return slices of the input, and `Content::Plain` and `Body::Leaf` hold them.
+//! These slices outlive the view. So a program that uses one after the view is gone compiles, but a
+//! program that uses one after the input is gone does not.
 #![tactic(auto)]
 
 mod body_cells;

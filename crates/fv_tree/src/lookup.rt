@@ -1,4 +1,4 @@
-//! Looking for files and sections.
+//! Looking up files and sections.
 
 ghost use Rattle.std.specs.Prelude.{◌≡◌, ◌+◌, ℕ, None, IfOk, IfErr, List, option_copied, option_map};
 ghost use Rattle.std.specs.Iterator.{SkipsThenYields};
@@ -16,28 +16,28 @@ use fv_base::{Fault, Guid};
 use fv_file::file_type::SECURITY_CORE;
 use fv_section::{Frame, FrameWalk};
 
-/// What a look-up of a section found. (PI specification, volume 3, section 3.2.4.)
+/// What looking up a section found. (PI specification, volume 3, section 3.2.4.)
 #[derive(Clone, Copy)]
 pub enum Item<'v, 'a> {
-    /// A section of the tree.
+    /// A section of the view.
     Section(&'v SectionView<'a>),
-    /// A frame of the data of a security core, with its offset in them.
+    /// A frame in the data of a security core, with its offset in these data.
     Frame(Frame<'a>),
 }
 
-/// The result of a look-up of a section.
+/// The result of looking up a section.
 #[derive(Clone, Copy)]
 pub enum Lookup<'v, 'a> {
     /// The section or frame that was found.
     Found(Item<'v, 'a>),
-    /// The file holds sections, and none with this type and instance.
+    /// The file holds sections, but none with this type and instance.
     Absent,
-    /// The file holds no sections.
+    /// The file's data are not sections.
     NotSectioned,
 }
 
-/// The first file with this name, or None. It is looked up in the view's index of names. Takes no
-/// memory. (PI specification, volume 3, section 3.2.3.)
+/// Returns the first file with this name, or None if no file has it. Uses the view's index of
+/// names. Takes no memory. (PI specification, volume 3, section 3.2.3.)
 pub fn file_by_name<'v, 'a>(volume: &'v VolumeView<'a>, name: &Guid) -> Option<&'v FileView<'a>>
     ensures { option_copied result ≡ file_named name.now (files_of volume.now) }
 {
@@ -45,9 +45,9 @@ pub fn file_by_name<'v, 'a>(volume: &'v VolumeView<'a>, name: &Guid) -> Option<&
     volume.file(number)
 }
 
-/// The file after the one with this number, with its own number; for None, the first file. Returns
-/// None after the last file. Files are numbered from 0 in order. Takes no memory. (PI
-/// specification, volume 3, section 3.2.3.)
+/// Returns the file after the one with this number, together with its own number. For None, returns
+/// the first file. After the last file, returns None. Files are numbered from 0 in order. Takes no
+/// memory. (PI specification, volume 3, section 3.2.3.)
 pub fn next_file<'v, 'a>(
     volume: &'v VolumeView<'a>,
     after: Option<u32>,
@@ -67,8 +67,8 @@ pub fn next_file<'v, 'a>(
     Some((number, file))
 }
 
-// Item number `instance` of those that come, counted from 1, or None if fewer come. Number 0 is
-// None.
+// Returns item number `instance`, counted from 1, or None if there are fewer items. Instance 0
+// gives None.
 fn numbered<I: Iterator>(mut items: I, instance: u32) -> Option<I::Item>
 where
     I::Item: Drop,
@@ -82,8 +82,9 @@ where
     items.nth((instance - 1) as usize)
 }
 
-/// File number `instance` of this type, counted from 1, or None if there are fewer. Instance 0 is
-/// None. Takes no memory. (PI specification, volume 3, section 3.2.3, EFI_FV_FILETYPE.)
+/// Returns file number `instance` of this type, counted from 1, or None if there are fewer.
+/// Instance 0 gives None. Takes no memory. (PI specification, volume 3, section 3.2.3,
+/// EFI_FV_FILETYPE.)
 pub fn file_by_type<'v, 'a>(
     volume: &'v VolumeView<'a>,
     kind: u8,
@@ -95,7 +96,7 @@ pub fn file_by_type<'v, 'a>(
     numbered(files, instance)
 }
 
-// The result of a look-up among the sections of a file.
+// Looks up a section among the sections of a file.
 fn section_lookup<'v, 'a>(file: &'v FileView<'a>, kind: u8, instance: u32) -> Lookup<'v, 'a>
     ensures { SeesSection result (section_of_type kind instance (sections_in_data (content_of file.now))) }
 {
@@ -106,7 +107,8 @@ fn section_lookup<'v, 'a>(file: &'v FileView<'a>, kind: u8, instance: u32) -> Lo
     }
 }
 
-// The frame of this type and instance, if the bytes are a stream.
+// Returns the frame with this type and instance, if there is one. An error means that the bytes are
+// not a stream.
 fn frame_by_type(bytes: &[u8], kind: u8, instance: u32) -> Result<Option<Frame<'_>>, Fault>
     ensures ok { IfOk result (λ o. (fs : List FrameForm) (t : ℕ) → Splits fs t bytes.now
         → option_map framed.frame_form o ≡ frame_of_type kind instance fs) }
@@ -118,7 +120,7 @@ fn frame_by_type(bytes: &[u8], kind: u8, instance: u32) -> Result<Option<Frame<'
     Ok(numbered(frames, instance))
 }
 
-// The result of a look-up among the frames of bytes that may be a stream.
+// Looks up a frame in bytes that may be a stream.
 fn frame_lookup<'v, 'a>(bytes: &'a [u8], kind: u8, instance: u32) -> Lookup<'v, 'a>
     ensures core { (fs : List FrameForm) (t : ℕ) → Splits fs t bytes.now
         → SeesFrame result (frame_of_type kind instance fs) }
@@ -131,20 +133,22 @@ fn frame_lookup<'v, 'a>(bytes: &'a [u8], kind: u8, instance: u32) -> Lookup<'v, 
     }
 }
 
-/// Section number `instance` of this type, counted from 1 in preorder: a group is followed by the
-/// sections in it, and the sections of a nested volume are not counted. Instance 0 is Absent. For a
-/// security core, the frames of its data are counted instead. If the data of a security core are no
-/// stream, and for any other file whose data are kept as bytes, the result is NotSectioned. Takes
-/// no memory. (PI specification, volume 3, section 3.2.4, EFI_SECTION_TYPE.)
+/// Returns section number `instance` of this type, counted from 1 in preorder: a group is followed
+/// by the sections in it, and the sections of a nested volume are not counted. Instance 0 gives
+/// Absent. In a security core, the frames of its data are counted instead. The result is
+/// NotSectioned if the data of a security core are not a stream, and for every other file whose
+/// data are kept as bytes. Takes no memory. (PI specification, volume 3, section 3.2.4,
+/// EFI_SECTION_TYPE.)
 pub fn section_by_type<'v, 'a>(file: &'v FileView<'a>, kind: u8, instance: u32) -> Lookup<'v, 'a>
     ensures sections { (ss : SectionMeanings) (t : ℕ) → content_of file.now ≡ Sectioned ss t
         → SeesSection result (section_of_type kind instance ss) }
 
-    // The frames of a security core.
+    // In a security core whose data are a stream, the frames are counted.
     ensures core { (b : List ℕ) (fs : List FrameForm) (t : ℕ) → content_of file.now ≡ Plain b
         → file_kind_of file.now ≡ security_core → Splits fs t b → SeesFrame result (frame_of_type kind instance fs) }
 
-    // Other files, and security cores whose data are no stream.
+    // Other files with plain data, and security cores whose data are not a stream, give
+    // NotSectioned.
     ensures plain { (b : List ℕ) → content_of file.now ≡ Plain b
         → (file_kind_of file.now ≡ security_core → (fs : List FrameForm) (t : ℕ) → Splits fs t b → ⊥)
         → IsNotSectioned result }

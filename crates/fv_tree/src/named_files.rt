@@ -1,4 +1,4 @@
-//! What the index of names reads of a file as it is stored.
+//! What the index of names reads from a file as it is stored.
 
 ghost use Rattle.fv_tree.specs.inner.NameForms.{named_file};
 
@@ -6,7 +6,7 @@ use crate::volume_files::LocatedFile;
 use fv_base::Guid;
 use fv_names::Named;
 
-/// The name of the file, and whether it is marked for update.
+/// Gives `NameIndex` the file's name, and whether the file is marked for update.
 impl<'a> Named for LocatedFile<'a> {
     ghost named = { named_file };
 

@@ -26,14 +26,15 @@ use fv_head::read_head;
 use fv_section::{Frame, FrameWalk, section_header_len};
 use std::alloc::Global;
 
-/// Where some bytes begin in those that were passed in, and how many levels may nest in them.
+/// Where some bytes begin in the bytes that were passed to the call, and how many levels may still
+/// nest in them.
 #[derive(Clone, Copy)]
 pub(crate) struct Level {
     place: Place,
     left: u8,
 }
 
-/// The level of bytes that are not within others.
+/// The level of the bytes that were passed to the call.
 pub(crate) const OUTERMOST: Level = Level {
     place: Place {
         offset: 0,
@@ -42,7 +43,7 @@ pub(crate) const OUTERMOST: Level = Level {
     left: DEPTH_LIMIT,
 };
 
-// The level of the body of a frame; or the fault Depth if no level is left.
+// Returns the level of a frame's body, or the fault Depth if no level is left.
 fn deeper(frame: &Frame, at: Level) -> Result<Level, Fault>
     requires place { at.place.offset + frame.now.offset + frame_len (framed.frame_form frame.now) < 2 ^ 63 }
     requires depth { at.place.depth + at.left ≤ depth_limit }
@@ -73,7 +74,7 @@ fn deeper(frame: &Frame, at: Level) -> Result<Level, Fault>
     })
 }
 
-// One section.
+// Reads one section.
 #[cycle(read)]
 fn read_section<'a>(alloc: Global, frame: &Frame<'a>, at: Level) -> Result<SectionView<'a>, Fault>
     requires place { at.place.offset + frame.now.offset + frame_len (framed.frame_form frame.now) < 2 ^ 63 }
@@ -99,7 +100,7 @@ fn read_section<'a>(alloc: Global, frame: &Frame<'a>, at: Level) -> Result<Secti
     }
 }
 
-// The sections of a stream, and the number of bytes after the last.
+// Reads the sections of a stream. Returns them with the number of bytes after the last section.
 #[cycle(read)]
 fn read_stream(alloc: Global, bytes: &[u8], at: Level) -> Result<(Vec<SectionView<'_>>, u8), Fault>
     requires place { at.place.offset + length bytes.now < 2 ^ 63 }
@@ -120,7 +121,7 @@ fn read_stream(alloc: Global, bytes: &[u8], at: Level) -> Result<(Vec<SectionVie
     Ok((sections, walk.tail()))
 }
 
-// The content of a file.
+// Reads the content of a file.
 #[cycle(read)]
 fn read_content<'a>(alloc: Global, file: &LocatedFile<'a>, at: Level) -> Result<Content<'a>, Fault>
     requires place { at.place.offset + data_place (file_form file.now) + length file.now.payload.now < 2 ^ 63 }
@@ -144,7 +145,7 @@ fn read_content<'a>(alloc: Global, file: &LocatedFile<'a>, at: Level) -> Result<
     Ok(Content::Stream { sections, tail })
 }
 
-// One file.
+// Reads one file.
 #[cycle(read)]
 fn read_file<'a>(alloc: Global, file: &LocatedFile<'a>, at: Level) -> Result<FileView<'a>, Fault>
     requires place { at.place.offset + data_place (file_form file.now) + length file.now.payload.now < 2 ^ 63 }
@@ -165,7 +166,7 @@ fn read_file<'a>(alloc: Global, file: &LocatedFile<'a>, at: Level) -> Result<Fil
     ))
 }
 
-// The files, in order.
+// Reads the files, in order.
 #[cycle(read)]
 fn read_files<'a>(
     alloc: Global,
@@ -186,8 +187,8 @@ fn read_files<'a>(
     Ok(views)
 }
 
-// The volume at the start of the bytes, the number of its bytes, and its files as they are stored in
-// it.
+// Reads the volume at the start of the bytes. Returns its view, its length in bytes, and its files
+// as they are stored.
 #[cycle(read)]
 pub(crate) fn read_with_files(
     alloc: Global,
@@ -212,7 +213,7 @@ pub(crate) fn read_with_files(
     Ok((VolumeView::new(head, views, numbers), extent.length, files))
 }
 
-// The volume at the start of the bytes, and the number of its bytes.
+// Reads the volume at the start of the bytes. Returns its view and its length in bytes.
 #[cycle(read)]
 fn read_at(alloc: Global, bytes: &[u8], at: Level) -> Result<(VolumeView<'_>, u64), Fault>
     requires place { at.place.offset + length bytes.now < 2 ^ 63 }
@@ -228,46 +229,49 @@ fn read_at(alloc: Global, bytes: &[u8], at: Level) -> Result<(VolumeView<'_>, u6
     }
 }
 
-/// The meaning of the volume at the start of the bytes, as a view of them, and the number of bytes
-/// that it takes, FvLength. Bytes after it are not read. (PI specification, volume 3, section 3.2.)
+/// Returns the meaning of the volume at the start of the bytes, as a view of them, and the number
+/// of bytes that the volume takes, FvLength. Does not read the bytes after the volume. (PI
+/// specification, volume 3, section 3.2.)
 ///
 /// # Errors
 ///
-/// The first fault, in this order: those of the header, as for `verify_fv`; those of the body, as
+/// The first fault, in this order: faults of the header, as for `verify_fv`; faults of the body, as
 /// for `cells`; DuplicateName at the later of two files with the same name and state; TopFile at a
-/// volume top file that is not at the end. Then come, file by file, those of the sections, as for
-/// `frames`, Depth at a group or an opened volume that is too deep, and those of what it holds.
-/// The offset is in bytes from the first of `bytes`, and the depth is the number of groups and
-/// opened volumes around it. OutOfMemory at 0, only if they begin with the header of a volume.
+/// volume top file that is not at the end. After these come the faults of each file in turn: faults
+/// of its sections, as for `frames`; Depth at a group or an opened volume that is nested too deep;
+/// and faults of what a group or an opened volume holds. The offset is in bytes from the start of
+/// `bytes`, and the depth is the number of groups and opened volumes around the fault. OutOfMemory
+/// at 0, only if the bytes begin with a volume header.
 pub fn read_volume(alloc: Global, bytes: &[u8]) -> Result<(VolumeView<'_>, u64), Fault>
-    // These bytes are a volume with this meaning.
+    // The returned number is FvLength, and this many of the first bytes are a volume with this
+    // meaning.
     ensures found { IfOk result (λ r. Accepted (take r.1 bytes.now) r.0) }
     ensures length { IfOk result (λ r. (r.1 ≡ length_of r.0) × (r.1 ≤ length bytes.now)) }
 
-    // The bytes begin with no other volume.
+    // The bytes do not begin with any other volume.
     ensures only { IfOk result
         (λ r. (n : ℕ) (m : Meaning) → n ≤ length bytes.now → Denotes depth_limit (take n bytes.now) m
         → (m ≡ r.0) × (n ≡ r.1)) }
 
-    // If an error other than OutOfMemory is returned, they begin with none.
+    // If an error other than OutOfMemory is returned, the bytes do not begin with a volume.
     ensures none { IfErr result (λ f. f ≢ out_of_memory → (n : ℕ) (m : Meaning) → n ≤ length bytes.now
         → Denotes depth_limit (take n bytes.now) m → ⊥) }
 
-    // An error other than OutOfMemory is the first fault, and there is no other first fault; its
-    // condition holds in the bytes at its offset.
+    // An error other than OutOfMemory is the first fault, and its condition holds in the bytes at
+    // its offset. If the bytes have a first fault, either that fault or OutOfMemory is returned.
     ensures first { IfErr result (λ f. f ≢ out_of_memory → IsFirstOfVolume bytes.now f) }
     ensures one { (f : Fault) → IsFirstOfVolume bytes.now f
         → IfOk result (λ r. ⊥) × IfErr result (λ g. g ≢ out_of_memory → g ≡ f) }
     ensures stands { IfErr result (λ f. f ≢ out_of_memory → FaultStands bytes.now f) }
 
-    // Where the condition of a fault holds, no volume begins.
+    // If the condition of any fault holds, no volume is returned.
     ensures sound { (f : Fault) → FaultStands bytes.now f → IfOk result (λ r. ⊥) }
 
-    // Its place is within the bytes, or at their end, and no deeper than volumes may nest.
+    // The place of an error is within the bytes or at their end, and at most `depth_limit` deep.
     ensures bound { IfErr result
         (λ f. (f.place.offset ≤ length bytes.now) × (f.place.depth ≤ depth_limit)) }
 
-    // Memory runs out only if they begin with the header of a volume.
+    // Memory runs out only if the bytes begin with a volume header.
     ensures memory { IfErr result (λ f. f ≡ out_of_memory → BeginsWithHeader bytes.now) }
 {
     read_at(alloc, bytes, OUTERMOST)

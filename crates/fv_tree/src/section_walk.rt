@@ -1,4 +1,4 @@
-//! The sections of a file, one after another.
+//! A walk over the sections of a file.
 
 ghost use Rattle.std.specs.Prelude.{◌≡◌, ◌<◌, [], ◌∷◌, ◌++◌, length, IfSome, IfNone};
 ghost use Rattle.std.specs.Iterator.{YieldsFirstRef, item_count};
@@ -9,7 +9,7 @@ ghost use Rattle.fv_tree.specs.MeaningParts.{sections_in_data};
 use crate::view::{FileView, SectionView};
 use std::marker::Model;
 
-// At most ten items.
+// A stack of at most ten items.
 #[derive(Drop)]
 struct Stack<T: Copy> {
     items: [T; 10],
@@ -27,7 +27,7 @@ impl<T: Copy> Model for Stack<T> {
 }
 
 impl<T: Copy> Stack<T> {
-    // One item.
+    // Returns a stack with one item.
     fn of(item: T) -> Stack<T>
         ensures { result ≡ item ∷ [] }
     {
@@ -47,7 +47,7 @@ impl<T: Copy> Stack<T> {
         self.count = count + 1;
     }
 
-    // Removes the last item, and returns it.
+    // Removes and returns the last item.
     fn pop(&mut self) -> Option<T>
         ensures some { IfSome result (λ item. self.old ≡ self.new ++ item ∷ []) }
         ensures none { IfNone result ((self.old ≡ []) × (self.new ≡ [])) }
@@ -61,14 +61,14 @@ impl<T: Copy> Stack<T> {
     }
 }
 
-/// The sections of a file, one after another in preorder: a group is followed by the sections in
-/// it. The sections of a nested volume are not among them. Contracts see the list of the sections
-/// that are left. (PI specification, volume 3, section 3.2.4.)
+/// A walk over the sections of a file in preorder: a group is followed by the sections in it. The
+/// sections of a nested volume are not visited. Contracts see the list of the sections that are
+/// left. (PI specification, volume 3, section 3.2.4.)
 #[derive(Drop)]
 pub struct SectionWalk<'v, 'a> {
-    // The sections that are left at each level: those of the file first, and then those of each
-    // group that the walk is in. Groups nest at most eight deep, and what is in the innermost
-    // sections, which is nothing, is the tenth level.
+    // The sections that are left at each level: first those of the file, then those of each group
+    // that the walk is in. Groups nest at most eight deep. The tenth level is what the innermost
+    // sections contain, which is nothing.
     levels: Stack<&'v [SectionView<'a>]>,
 }
 
@@ -90,8 +90,8 @@ impl<'v, 'a> Model for SectionWalk<'v, 'a> {
 }
 
 impl<'v, 'a> SectionWalk<'v, 'a> {
-    /// A walk over all sections of a file: none if its data are plain bytes. Takes no memory. (PI
-    /// specification, volume 3, section 3.2.4.)
+    /// Starts a walk over all sections of a file. A file whose data are plain bytes has none. Takes
+    /// no memory. (PI specification, volume 3, section 3.2.4.)
     pub fn of(file: &'v FileView<'a>) -> SectionWalk<'v, 'a>
         ensures { result ≡ preorder (sections_in_data (content_of file.now)) }
     {
@@ -102,8 +102,8 @@ impl<'v, 'a> SectionWalk<'v, 'a> {
     }
 }
 
-/// Each item is the first of the sections that were left, and the others are left then. After the
-/// last it is None. Takes no memory.
+/// Returns the first of the sections that are left, and keeps the others. After the last section,
+/// returns None. Takes no memory.
 impl<'v, 'a> Iterator for SectionWalk<'v, 'a> {
     type Item = &'v SectionView<'a>;
 

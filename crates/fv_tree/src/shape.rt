@@ -1,4 +1,4 @@
-//! How the body of a section and the data of a file are read, by their types.
+//! How the body of a section and the data of a file are read, which depends on their types.
 
 ghost use Rattle.std.specs.Prelude.{◌≡◌};
 ghost use Rattle.fv_section.specs.StreamReads as framed;
@@ -10,7 +10,7 @@ use fv_head::is_one_volume;
 use fv_section::Frame;
 use fv_section::section_type::{DISPOSABLE, FIRMWARE_VOLUME_IMAGE};
 
-// Whether a file of this type holds sections.
+// Returns whether a file of this type holds sections.
 pub(crate) fn holds_sections(kind: u8) -> bool
     ensures { result ≡ holds_sections kind }
 {
@@ -19,7 +19,7 @@ pub(crate) fn holds_sections(kind: u8) -> bool
 
 /// How the body of a section is read.
 pub(crate) enum Shape {
-    /// As bytes of no further meaning.
+    /// As plain bytes.
     Leaf,
     /// As sections.
     Group,
@@ -27,8 +27,8 @@ pub(crate) enum Shape {
     Volume,
 }
 
-// How the body of the section in a frame is read: by its type and, for a section that may hold a
-// volume, by its content.
+// Returns how the body of the section in a frame is read. This depends on its type and, if the
+// section may hold a volume, also on its body.
 pub(crate) fn shape_of(frame: &Frame) -> Shape
     ensures { result ≡ shape_of (framed.frame_form frame.now) }
 {

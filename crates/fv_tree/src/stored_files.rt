@@ -19,7 +19,8 @@ use fv_head::{Extent, verify_fv};
 use fv_names::NameIndex;
 use std::alloc::Global;
 
-// The files of a volume of this extent, as they are stored in it, and their numbers.
+// Returns the files of a volume of this extent, as they are stored in it, and the index of their
+// names.
 pub(crate) fn files_in_body<'a>(
     alloc: Global,
     volume: &'a [u8],
@@ -55,35 +56,35 @@ pub(crate) fn files_in_body<'a>(
     }
 }
 
-/// The files of the volume at the start of the bytes, in the order of `VolumeView::files`, as they
-/// are stored in it: with the offset of the header, the header and the data. The data are not read.
-/// (PI specification, volume 3, sections 3.2.2 and 3.2.3.)
+/// Returns the files of the volume at the start of the bytes, as they are stored in it: each with
+/// the offset of its header, its header and its data. They are in the order of `VolumeView::files`.
+/// The data are not read. (PI specification, volume 3, sections 3.2.2 and 3.2.3.)
 ///
 /// # Errors
 ///
-/// The first fault, in this order: those of the header, as for `verify_fv`; those of the body, as
+/// The first fault, in this order: faults of the header, as for `verify_fv`; faults of the body, as
 /// for `cells`; DuplicateName at the later of two files with the same name and state; TopFile at a
-/// volume top file that is not at the end. The offset is in bytes from the first of `bytes`, and
-/// the depth is 0. OutOfMemory at 0, only if they begin with the header of a volume.
+/// volume top file that is not at the end. The offset is in bytes from the start of `bytes`, and
+/// the depth is 0. OutOfMemory at 0, only if the bytes begin with a volume header.
 pub fn located_files(alloc: Global, bytes: &[u8]) -> Result<Vec<LocatedFile<'_>>, Fault>
     // The bytes begin with a volume, and these are its files.
     ensures found { IfOk result (λ fs. BeginWithFiles bytes.now (map file_form fs.items)) }
 
-    // The data of each file are in the bytes, at their offset.
+    // The bytes contain each file's data, at the data's offset.
     ensures data { IfOk result (λ fs. AllByRecursion (HasDataIn bytes.now) (map file_form fs.items)) }
 
-    // The volume that they begin with has no other files.
+    // The volume has no other files.
     ensures only { IfOk result
         (λ fs. (gs : List FileForm) → BeginWithFiles bytes.now gs → gs ≡ map file_form fs.items) }
 
-    // If an error other than OutOfMemory is returned, they begin with none.
+    // If an error other than OutOfMemory is returned, the bytes do not begin with such a volume.
     ensures none { IfErr result
         (λ f. f ≢ out_of_memory → (gs : List FileForm) → BeginWithFiles bytes.now gs → ⊥) }
 
     // An error other than OutOfMemory is the first fault.
     ensures first { IfErr result (λ f. f ≢ out_of_memory → IsFirstOfFiles bytes.now f) }
 
-    // Memory runs out only if they begin with the header of a volume.
+    // Memory runs out only if the bytes begin with a volume header.
     ensures memory { IfErr result (λ f. f ≡ out_of_memory → BeginsWithHeader bytes.now) }
 {
     let extent = verify_fv(bytes)?;

@@ -11,9 +11,9 @@ use fv_names::NameIndex;
 use std::marker::Model;
 use std::mem::size_of;
 
-/// The meaning of a volume; only reading makes one. The bytes of the files, and those of the extended
-/// header, are slices of what was read. Contracts see the meaning, and know that some bytes are a volume
-/// with this meaning. (PI specification, volume 3, section 3.2.)
+/// The meaning of a volume. Only reading a volume makes one. The bytes of the files and of the
+/// extended header are slices of what was read. Contracts see the meaning, and know that some bytes
+/// are a volume with this meaning. (PI specification, volume 3, section 3.2.)
 #[cycle(tree)]
 #[derive(Drop)]
 pub struct VolumeView<'a> {
@@ -22,8 +22,8 @@ pub struct VolumeView<'a> {
     numbers: NameIndex,
 }
 
-/// The meaning of a file of a volume: its name, its type, its attributes and its content. Only
-/// reading makes one. (PI specification, volume 3, section 3.2.3.)
+/// The meaning of a file: its name, its type, its attributes and its content. Only reading a volume
+/// makes one. (PI specification, volume 3, section 3.2.3.)
 #[cycle(tree)]
 #[derive(Drop)]
 pub struct FileView<'a> {
@@ -34,11 +34,12 @@ pub struct FileView<'a> {
     attributes: FileAttributes,
 }
 
-/// The content of a file, by the file's type. (PI specification, volume 3, section 3.2.3.)
+/// The content of a file, which depends on the file's type. (PI specification, volume 3, section
+/// 3.2.3.)
 #[cycle(tree)]
 #[derive(Drop)]
 pub enum Content<'a> {
-    /// Bytes of no further meaning.
+    /// Plain bytes, which are not interpreted.
     Plain(&'a [u8]),
     /// Sections.
     Stream {
@@ -49,20 +50,20 @@ pub enum Content<'a> {
     },
 }
 
-/// The meaning of a section: its type, the form of its header, and its body. Only reading makes
-/// one. (PI specification, volume 3, section 3.2.4.)
+/// The meaning of a section: its type, the form of its header, and its body. Only reading a volume
+/// makes one. (PI specification, volume 3, section 3.2.4.)
 #[cycle(tree)]
 #[derive(Drop)]
 pub struct SectionView<'a> {
     parts: Parts<'a>,
 }
 
-/// What a section is made of. The type and the form of the header lie in each case, because a case
-/// of its own has room for them beside the tag: a section takes 24 bytes.
+/// The parts of a section. Every variant holds the type and the form of the header itself, because
+/// it has room for them beside the tag. So a section takes 24 bytes.
 #[cycle(tree)]
 #[derive(Drop)]
 enum Parts<'a> {
-    /// Bytes of no further meaning.
+    /// Plain bytes, which are not interpreted.
     Leaf {
         kind: u8,
         extended: bool,
@@ -78,7 +79,7 @@ enum Parts<'a> {
         len: u32,
         sections: Sections<'a>,
     },
-    /// A volume. It is behind a pointer, so that a section without one is small.
+    /// A volume. It is behind a pointer, so that sections without a volume stay small.
     Nested {
         kind: u8,
         extended: bool,
@@ -86,8 +87,8 @@ enum Parts<'a> {
     },
 }
 
-/// The sections of a group, in order. One or two have no vector of their own, because it would take
-/// more memory than they do.
+/// The sections of a group, in order. One or two sections are kept without a vector, because the
+/// vector would take more memory than they do.
 #[cycle(tree)]
 #[derive(Drop)]
 enum Sections<'a> {
@@ -101,10 +102,10 @@ enum Sections<'a> {
     Many(Box<Vec<SectionView<'a>>>),
 }
 
-/// What a section holds, as a borrow of it. (PI specification, volume 3, section 3.2.5.)
+/// The body of a section, borrowed from its view. (PI specification, volume 3, section 3.2.5.)
 #[derive(Clone, Copy)]
 pub enum Body<'v, 'a> {
-    /// Bytes of no further meaning: a slice of what was read, which outlives the view.
+    /// Plain bytes: a slice of what was read, which outlives the view.
     Leaf(&'a [u8]),
     /// Sections.
     Group {
@@ -117,7 +118,8 @@ pub enum Body<'v, 'a> {
     Nested(&'v VolumeView<'a>),
 }
 
-// A section takes at least 4 bytes of a volume, so its view takes at most 6 times its length.
+// A section takes at least 4 bytes of a volume, so its view takes at most 6 times the length of the
+// section.
 const _: () = prove!(size_of::<SectionView<'static>>() == 24);
 
 // A file takes at least 24 bytes of a volume.

@@ -28,16 +28,16 @@ pub const VOLUME_TOP_FILE: [u8; 16] = [
 /// Whether a file is marked for update (`EFI_FILE_MARKED_FOR_UPDATE`).
 #[derive(Clone, Copy)]
 pub(crate) enum Mark {
-    /// It is not.
+    /// It is not marked.
     Unmarked,
-    /// It is.
+    /// It is marked.
     Marked,
-    /// It is, and one of the files replaces it.
+    /// It is marked, and one of the other files replaces it.
     Replaced,
 }
 
 impl Mark {
-    // The mark of a valid file of this state.
+    // Returns the mark of a valid file in this state.
     fn of(state: FileState) -> Mark
         ensures { result ≡ mark_of state }
     {
@@ -47,21 +47,22 @@ impl Mark {
         }
     }
 
-    /// Whether the file is marked for update.
+    /// Returns whether the file is marked for update.
     pub(crate) fn is_marked(self) -> bool
         ensures { result ≡ is_marked (state_by self) }
     {
         matches!(self, Mark::Marked | Mark::Replaced)
     }
 
-    /// Whether one of the files replaces it.
+    /// Returns whether one of the other files replaces it.
     pub(crate) fn is_replaced(self) -> bool
         ensures { result ≡ is_noted self }
     {
         matches!(self, Mark::Replaced)
     }
 
-    /// The mark of the same file, with whether one of the files replaces it.
+    /// Returns the mark of the same file, which also notes whether one of the other files replaces
+    /// it.
     pub(crate) fn with_replaced(self, replaced: bool) -> Mark
         requires { IsTrue replaced → is_marked (state_by self) ≡ true }
         ensures same { state_by result ≡ state_by self }
@@ -80,9 +81,9 @@ impl Mark {
     }
 }
 
-/// A valid file as it is stored in its volume. There may be as many as the volume has room for
+/// A valid file as it is stored in its volume. A volume may hold as many files as it has room for
 /// headers, so what follows from the other fields is not kept: the length of the header, the size
-/// and the file sum. (PI specification, volume 3, section 3.2.3.)
+/// and the file checksum. (PI specification, volume 3, section 3.2.3.)
 #[derive(Clone, Copy)]
 pub struct LocatedFile<'a> {
     /// Its data, which follow the header.
@@ -95,14 +96,15 @@ pub struct LocatedFile<'a> {
     pub kind: u8,
     /// Its attribute bits, `Attributes`.
     pub attributes: FileAttributes,
-    /// The sum of its header. No call reads it; the clauses speak of it.
+    /// Its header checksum. No call reads it, but clauses mention it.
     pub(crate) header_sum: u8,
     /// Whether it is marked for update.
     pub(crate) mark: Mark,
 }
 
 impl<'a> LocatedFile<'a> {
-    /// The length of its header in bytes, 24 or 32. (PI specification, volume 3, section 3.2.3.1.)
+    /// Returns the length of its header in bytes, 24 or 32. (PI specification, volume 3, section
+    /// 3.2.3.1.)
     pub fn header_len(&self) -> u64
         ensures is { result ≡ (file_form self.now).head.header_len }
         ensures most { result ≤ 32 }
@@ -115,14 +117,14 @@ impl<'a> LocatedFile<'a> {
     }
 }
 
-// Whether a file is a volume top file, by its name.
+// Returns whether a file is a volume top file, by its name.
 fn is_top(file: &LocatedFile) -> bool
     ensures { result ≡ is_top (file_form file.now) }
 {
     file.name.to_bytes()[..] == VOLUME_TOP_FILE[..]
 }
 
-// The file of a cell, if the cell has one.
+// Returns the file in a cell, if the cell contains one.
 fn file_of<'a>(cell: &Cell<'a>) -> Option<LocatedFile<'a>>
     requires { IsSmallCell (cellular.cell_form cell.now) }
     ensures some { IfSome result (λ s. files_in (cellular.cell_form cell.now ∷ []) ≡ file_form s ∷ []) }
@@ -146,7 +148,7 @@ fn file_of<'a>(cell: &Cell<'a>) -> Option<LocatedFile<'a>>
     }
 }
 
-// The files of some cells, in order.
+// Returns the files in some cells, in order.
 pub(crate) fn files_of<'a>(alloc: Global, cells: &[Cell<'a>]) -> Result<Vec<LocatedFile<'a>>, Fault>
     requires { AllByRecursion IsSmallCell (map cellular.cell_form cells.now) }
     ensures found { IfOk result (λ fs. map file_form fs.items ≡ files_in (map cellular.cell_form cells.now)) }
@@ -162,8 +164,8 @@ pub(crate) fn files_of<'a>(alloc: Global, cells: &[Cell<'a>]) -> Result<Vec<Loca
     Ok(files)
 }
 
-// Ok if no two of the files are twins; or the fault DuplicateName at the first file that has an
-// earlier twin.
+// Checks that no two of the files are twins. The fault is DuplicateName at the first file that has
+// an earlier twin.
 fn check_twins(files: &[LocatedFile], numbers: &NameIndex) -> Result<(), Fault>
     requires { IsIndex (names_in (map named_file files.now)) (entries_of numbers.now) }
     ensures found { OnOk result (NoTwins (map file_form files.now)) }
@@ -178,7 +180,7 @@ fn check_twins(files: &[LocatedFile], numbers: &NameIndex) -> Result<(), Fault>
     Ok(())
 }
 
-// Notes of each file whether one of the files replaces it.
+// Notes in each file's mark whether one of the other files replaces it.
 fn set_replaced(files: &mut [LocatedFile], numbers: &NameIndex)
     requires index { IsIndex (names_in (map named_file files.old)) (entries_of numbers.now) }
     requires apart { NoTwins (map file_form files.old) }
@@ -193,7 +195,7 @@ fn set_replaced(files: &mut [LocatedFile], numbers: &NameIndex)
     }
 }
 
-// Keeps only the files that none of them replaces.
+// Keeps only the files that no other file replaces.
 fn keep_current(files: &mut Vec<LocatedFile>, numbers: &NameIndex)
     requires index { IsIndex (names_in (map named_file files.old.items)) (entries_of numbers.now) }
     requires apart { NoTwins (map file_form files.old.items) }
@@ -203,7 +205,7 @@ fn keep_current(files: &mut Vec<LocatedFile>, numbers: &NameIndex)
     files.retain(|file| !file.mark.is_replaced());
 }
 
-// Whether a file ends at this offset.
+// Returns whether a file ends at this offset.
 fn ends_at(file: &LocatedFile, place: u64) -> bool
     ensures { result ≡ (end_of (file_form file.now) == place) }
 {
@@ -211,15 +213,16 @@ fn ends_at(file: &LocatedFile, place: u64) -> bool
     start <= place && file.payload.len() as u64 == place - start
 }
 
-// Whether a file is no volume top file, or is the last file and ends where the volume does.
+// Returns whether a file is not a volume top file, or is the last file and ends where the volume
+// ends.
 fn is_placed(file: &LocatedFile, last: bool, length: u64) -> bool
     ensures { result ≡ (not (is_top (file_form file.now)) || (last && (end_of (file_form file.now) == length))) }
 {
     !is_top(file) || (last && ends_at(file, length))
 }
 
-// Ok if a volume top file, if there is one, is the last of the files and ends where the volume
-// does.
+// Checks that a volume top file, if there is one, is the last file and ends where the volume ends.
+// The fault is TopFile at a volume top file that does not.
 fn check_top(files: &[LocatedFile], length: u64) -> Result<(), Fault>
     ensures found { OnOk result (TopAtEnd length (map file_form files.now)) }
     ensures first { IfErr result (λ e. (f : FileForm) × TopElsewhere length f (map file_form files.now)
@@ -237,7 +240,7 @@ fn check_top(files: &[LocatedFile], length: u64) -> Result<(), Fault>
     Ok(())
 }
 
-// As `current_files`, if two of the files may have the same name.
+// Does what `current_files` does, for files that may share a name.
 fn apart_files<'a>(
     alloc: Global,
     files: Vec<LocatedFile<'a>>,
@@ -262,8 +265,8 @@ fn apart_files<'a>(
     Ok((current, numbers))
 }
 
-// Of the valid files in a volume of this length, those that are part of it, with their numbers; or
-// the first fault.
+// Returns the files that are part of a volume of this length, out of the valid files in it, with
+// the index of their names; or the first fault.
 pub(crate) fn current_files<'a>(
     alloc: Global,
     files: Vec<LocatedFile<'a>>,
@@ -281,8 +284,8 @@ pub(crate) fn current_files<'a>(
     if !numbers.are_distinct() {
         return apart_files(alloc, files, numbers, length);
     }
-    // A twin and an update have the name of another file. So if all names differ, there is no twin,
-    // no file is dropped, and the numbers are those of the files that are kept.
+    // Twins and updates share a name with another file. So if all names differ, there are no twins,
+    // no file is dropped, and the index is that of the files that are kept.
     check_top(files.as_slice(), length)?;
     Ok((files, numbers))
 }

@@ -1,4 +1,4 @@
-//! From an input to the volume that it is.
+//! Reading a whole input as a volume.
 
 ghost use Rattle.std.specs.Prelude.{◌≡◌, ◌≢◌, ◌⊎◌, map, IfOk, IfErr};
 ghost use Rattle.std.specs.List.{AllByRecursion};
@@ -15,13 +15,13 @@ use crate::volume_files::LocatedFile;
 use fv_base::{Fault, FaultKind, check};
 use std::alloc::Global;
 
-/// The volume of the whole input, and its files as they are stored in it, in the order of
-/// `VolumeView::files`: with the offset of the header, the header and the data. (PI specification,
-/// volume 3, sections 3.2.2 and 3.2.3.)
+/// Returns the volume that is the whole input, and its files as they are stored in it: each with
+/// the offset of its header, its header and its data. The files are in the order of
+/// `VolumeView::files`. (PI specification, volume 3, sections 3.2.2 and 3.2.3.)
 ///
 /// # Errors
 ///
-/// Those of `whole_volume`.
+/// The errors of `whole_volume`.
 pub fn whole_volume_with_files(
     alloc: Global,
     input: &[u8],
@@ -30,17 +30,18 @@ pub fn whole_volume_with_files(
     ensures found { IfOk result (λ r. Accepted input.now r.0) }
     ensures only { IfOk result (λ r. (m : Meaning) → Accepted input.now m → m ≡ r.0) }
 
-    // The volume has these files, and the data of each are in it, at their offset.
+    // These are the files of the volume, and the input contains each file's data, at the data's
+    // offset.
     ensures files { IfOk result (λ r. BeginWithFiles input.now (map file_form r.1.items)) }
     ensures data { IfOk result (λ r. AllByRecursion (HasDataIn input.now) (map file_form r.1.items)) }
 
-    // Any error other than OutOfMemory says that the input is no volume.
+    // An error other than OutOfMemory means that the input is not a volume, and is its first fault.
     ensures refused { IfErr result (OrMemory (NotRead input.now)) }
 
-    // The condition of a fault holds in the input at its offset.
+    // The condition of such an error holds in the input at its offset.
     ensures stands { IfErr result (λ f. f ≢ out_of_memory → FaultStandsInInput input.now f) }
 
-    // Memory runs out only if the input begins with the header of a volume.
+    // Memory runs out only if the input begins with a volume header.
     ensures memory { IfErr result (λ f. f ≡ out_of_memory → BeginsWithHeader input.now) }
 
     // ReadFault and WriteFault are never returned.
@@ -51,23 +52,24 @@ pub fn whole_volume_with_files(
     Ok((view, files))
 }
 
-/// The volume of the whole input. (PI specification, volume 3, section 3.2.)
+/// Returns the volume that is the whole input. (PI specification, volume 3, section 3.2.)
 ///
 /// # Errors
 ///
-/// Those of `read_volume`; then Length at FvLength if bytes follow the volume. OutOfMemory.
+/// The errors of `read_volume`, OutOfMemory included; then Length at FvLength if bytes follow the
+/// volume.
 pub fn whole_volume(alloc: Global, input: &[u8]) -> Result<VolumeView<'_>, Fault>
     // The input is a volume with this meaning, and with no other.
     ensures found { IfOk result (λ view. Accepted input.now view) }
     ensures only { IfOk result (λ view. (m : Meaning) → Accepted input.now m → m ≡ view) }
 
-    // Any error other than OutOfMemory says that the input is no volume.
+    // An error other than OutOfMemory means that the input is not a volume, and is its first fault.
     ensures refused { IfErr result (OrMemory (NotRead input.now)) }
 
-    // The condition of a fault holds in the input at its offset.
+    // The condition of such an error holds in the input at its offset.
     ensures stands { IfErr result (λ f. f ≢ out_of_memory → FaultStandsInInput input.now f) }
 
-    // Memory runs out only if the input begins with the header of a volume.
+    // Memory runs out only if the input begins with a volume header.
     ensures memory { IfErr result (λ f. f ≡ out_of_memory → BeginsWithHeader input.now) }
 
     // ReadFault and WriteFault are never returned.

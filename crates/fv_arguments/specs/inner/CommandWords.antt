@@ -11,11 +11,11 @@ use Rattle.fv_plan.specs.declared.plan.Plan.{Plan}
 use Rattle.fv_arguments.specs.declared.words.WordFault.{WordFault}
 use Rattle.fv_arguments.specs.declared.words.WordFault.TheVariants.{Words}
 
--- the arguments of a command are right if there is a plan that they ask for
+-- the arguments of a command are right: there is a plan that they ask for
 abbrev pub AreRightFor : List ℕ → List (List ℕ) → Type 0
 AreRightFor name rest = (plan : Plan) × AsksBy name rest plan
 
--- the options of the command that a name names
+-- the rules of the command with this name
 abbrev pub app_named : List ℕ → App
 app_named name =
     if bytes_eq name (codes "normalise") then image_app
@@ -26,18 +26,18 @@ app_named name =
     else (if bytes_eq name (codes "list") then list_app
     else (if bytes_eq name (codes "scan") then one_input_app else volume_app))))))
 
--- the parser has accepted the arguments of a command with these options, and found this in them
+-- the parser accepted the arguments of a command, and m is what it found in them
 pub record IsRead (app : App) (rest : List (List ℕ)) (m : ArgMatches) : Type 0 where
   pub rows : rows_of (found_of m) ≡ rows_in app rest
   pub taken : faults_in app rest ≡ []
 
--- a value is one of which P holds; and a text is rejected as wrong only if P holds of none
+-- the result is a value for which P holds, or an error. The error is Words only if P holds for no value
 abbrev pub Reads : {X : Type 0} → (X → Type 0) → Result X WordFault → Type 0
 Reads P (Ok x) = P x
 Reads {X} P (Err f) = f ≡ Words → (x : X) → P x → ⊥
 
--- the command is what the arguments ask for in which this was found; or they are rejected, as wrong only if they are
--- not right
+-- the result is the command that is asked for by arguments in which the parser found m, or an error. The error is Words
+-- only if the arguments are not right
 abbrev pub AsksFor : List ℕ → ArgMatches → Result Command WordFault → Type 0
 AsksFor name m (Ok command) =
     (rest : List (List ℕ)) → IsRead (app_named name) rest m → (name ≡ command_name command) × HasTexts rest command

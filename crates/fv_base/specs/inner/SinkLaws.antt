@@ -1,5 +1,5 @@
--- The laws of bytes that are kept in memory, and of a lent port that takes bytes. There is nothing to believe here:
--- these are proofs. They are in specs/ because ghost members cite the last of each.
+-- The laws of the sink that keeps bytes in memory, and of the sink that writes to a borrowed port. These are proofs, so
+-- nothing here has to be taken on trust. They are in specs/ because ghost members cite the last of each.
 use Rattle.std.proofs.Common.{ℕ, List, [], ◌++◌, ap, sym, ◌∙◌, append_assoc, append-nil, Bool, true, false, ◌≡◌, ◌+◌}
 use Rattle.std.proofs.Common.{◌%◌, ◌^◌, ◌<◌, length, take, refl, subst, arith, add_assoc, add-zero, length-append}
 use Rattle.fv_base.specs.Sinks.{KeptLatched, KeptTakes, WalkLaws, PortShows, WritesBytes, WritesAll, WritesFront}

@@ -1,4 +1,4 @@
--- What a walk over the files of a volume requires: how deep groups and volumes nest, and where the files are; and what
+-- What a walk over the files of a volume requires (how deep groups and volumes nest, and where the files lie), and what
 -- it adds to a list of starts.
 use Rattle.std.specs.Prelude.{ℕ, List, ◌≡◌, ◌+◌, ◌≤◌, ◌++◌, ◌%◌, [], ◌∷◌, map}
 use Rattle.fv_base.specs.Words.{volume_limit}
@@ -8,11 +8,11 @@ use Rattle.fv_canon.specs.Layouts.{AreStarts, layout_item}
 use Rattle.fv_placement.specs.Words.{StartsFollow}
 use Rattle.fv_canon.specs.StoredFiles.{size_for}
 
--- the new list is the old starts, followed by those of these volumes
+-- the new list is the old list, followed by the starts of these volumes
 abbrev pub Grew : List Inside → List ℕ → List ℕ → Type 0
 Grew vs old new = (laid : List ℕ) × (new ≡ old ++ laid) × Laid AreStarts vs laid
 
--- groups and volumes nest so little that their depths fit in a byte
+-- groups and volumes nest so little that every depth fits in a byte
 abbrev pub Shallow : {M : Type 0} → (M → ℕ → Type 0) → M → ℕ → Type 0
 Shallow nests m depth = (k : ℕ) × (depth + k ≤ 255) × nests m k
 
@@ -25,7 +25,7 @@ pub record ArePlaced (total e : ℕ) (files : List FileMeaning) (starts : List �
   pub multiple : total % 8 ≡ 0
   pub limit : total ≤ volume_limit
 
--- the end of the last file, or `end` if there is none
+-- the offset at which the last file ends, or `end` if there is no file
 abbrev pub used_by : ℕ → List FileMeaning → List ℕ → ℕ
 used_by end [] starts = end
 used_by end (f ∷ fs) [] = end

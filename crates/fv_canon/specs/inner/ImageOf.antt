@@ -1,4 +1,4 @@
--- The canonical image part by part, in the order in which a walk writes it; and how many starts there are.
+-- The canonical image part by part, in the order in which a walk writes it, and the number of starts that it needs.
 use Rattle.std.specs.Prelude.{ℕ, ◌+◌, ◌-◌, List, [], ◌∷◌, ◌++◌, length, replicate, take, drop}
 use Rattle.fv_base.specs.Words.{erased_byte, up_to_8}
 use Rattle.fv_base.specs.declared.flash.Polarity.{Polarity}
@@ -10,7 +10,8 @@ use Rattle.fv_tree.specs.Words.{MoreSections, SectionMeaning, Section, Nested, f
 use Rattle.fv_tree.specs.Words.{volumes_in_file, volumes_in_section}
 use Rattle.fv_section.specs.Words.{FrameForm, frame_len, up_to_4, stream_of}
 
--- from the edge e on: the pads of a gap, a file, erased bytes to the next edge, and so on, up to the end of the volume
+-- the bytes of a volume from the edge e to its end: for each file, the pads of the preceding gap, the file, and erased
+-- bytes up to the next edge; then erased bytes up to the end
 abbrev pub files_bytes : Polarity → ℕ → ℕ → List StoredFile → List ℕ → List ℕ
 files_bytes polarity total e [] starts = replicate (total - e) (erased_byte polarity)
 files_bytes polarity total e (f ∷ fs) [] = replicate (total - e) (erased_byte polarity)
@@ -20,7 +21,7 @@ files_bytes polarity total e (f ∷ fs) (s ∷ ss) =
     ++ (replicate (up_to_8 (s + stored_len f) - (s + stored_len f)) (erased_byte polarity)
     ++ files_bytes polarity total (up_to_8 (s + stored_len f)) fs ss))
 
--- the head, the extended header's pad, erased bytes to the first edge, and the files
+-- the bytes of a volume: its header, the pad with the extended header, erased bytes up to the first edge, and the files
 abbrev pub volume_bytes : HeadFields → List StoredFile → List ℕ → List ℕ
 volume_bytes h files starts =
     canonical_head h
@@ -32,16 +33,16 @@ abbrev pub as_body : ContentMeaning → BodyMeaning
 as_body (Plain b) = Leaf b
 as_body (Sectioned sections tail) = Group sections tail
 
--- the data of a file
+-- the data of a file, in the form of a section's body
 abbrev pub data_body : FileMeaning → BodyMeaning
 data_body m = as_body (content_of m)
 
--- how many starts some volumes have
+-- the number of starts of these volumes: one for each file of each volume
 abbrev pub starts_in : List Inside → ℕ
 starts_in [] = 0
 starts_in (v ∷ vs) = length (files_of v.volume) + starts_in vs
 
--- the image, part by part, given the starts
+-- the canonical image and its parts, given the starts of the files
 abbrev mutual
   pub image_of : Meaning → List ℕ → List ℕ
   image_of (Volume h files) starts =

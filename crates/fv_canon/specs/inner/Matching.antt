@@ -1,4 +1,4 @@
--- Bytes that are compared with others, which come part after part. The laws are proofs. They are in specs/ because a
+-- The comparison of expected bytes with bytes that come in parts. The laws are proofs. They are in specs/ because a
 -- ghost member cites the last of them.
 use Rattle.std.specs.Prelude.{◌≡◌, ℕ, List, ◌++◌, Bool, true, false}
 use Rattle.std.proofs.Common.{[], refl, ap, sym, ◌∙◌, append_assoc}
@@ -9,15 +9,16 @@ use Rattle.fv_base.specs.Words.{WalkLaws}
 abbrev pub IsNoFront : List ℕ → List ℕ → Type 0
 IsNoFront s bytes = (more : List ℕ) → s ≡ bytes ++ more → ⊥
 
--- while all bytes were the same so far: the bytes that come are taken off the front of s; or s does not begin with
--- them, and then nothing more is compared
+-- how the expected bytes s change when bytes come. If all earlier bytes were as expected, the new bytes are taken off
+-- the front of s; or s does not begin with them, and from then on nothing is compared
 abbrev pub MatchLatched : List ℕ → Bool → List ℕ → List ℕ → Bool → Type 0
 MatchLatched s true bytes t true = s ≡ bytes ++ t
 MatchLatched s true bytes t false = IsNoFront s bytes
 MatchLatched s false bytes t true = ⊥
 MatchLatched s false bytes t false = Unit {0}
 
--- the same for a sink, by the bytes that are left and by whether all were the same so far
+-- the same for a sink: `rest` gives the expected bytes that are left, and `same` whether all bytes so far were as
+-- expected
 abbrev pub MatchTakes : {S : Type 0} (rest : S → List ℕ) (same : S → Bool) → S → List ℕ → S → Type 0
 MatchTakes rest same s bytes t = MatchLatched (rest s) (same s) bytes (rest t) (same t)
 

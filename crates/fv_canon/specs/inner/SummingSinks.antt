@@ -1,5 +1,5 @@
--- What the sink of a walk over a volume takes: it puts bytes into a sink below or, while the data of a file are summed,
--- adds them up. The laws are proofs. They are in specs/ because a ghost member cites the last of them.
+-- What the sink of a walk over a volume takes: it puts bytes into the sink below or, while the data of a file are being
+-- summed, adds them to the sum. The laws are proofs. They are in specs/ because a ghost member cites the last of them.
 use Rattle.std.proofs.Common.{◌≡◌, ℕ, ◌+◌, ◌%◌, List, [], ◌++◌, Bool, true, false, refl, sym, subst, ◌∙◌, ap, add-zero}
 use Rattle.std.specs.Prelude.{sum}
 use Rattle.std.proofs.lemmas.List.Sums.{sum_by-append}
@@ -9,22 +9,22 @@ use Rattle.fv_canon.specs.declared.summing_sink.Mode.{Mode}
 use Rattle.fv_canon.specs.declared.summing_sink.Mode.TheVariants.{Putting, Summing}
 use Rattle.fv_canon.specs.declared.summing_sink.SummingSink.{SummingSink}
 
--- whether bytes are summed
+-- whether the sink sums the bytes that it takes
 abbrev pub sums : Mode → Bool
 sums Putting = false
 sums (Summing total) = true
 
--- their sum so far
+-- the sum of the bytes so far
 abbrev pub total_of : Mode → ℕ
 total_of Putting = 0
 total_of (Summing total) = total
 
--- the sum grew by the bytes, modulo 256, and nothing was put into the sink below; or they were put into it
+-- either the sum grew by the bytes, modulo 256, and nothing was put into the sink below; or the bytes were put into it
 abbrev pub AddsOrPuts : {T : Type 0} (takes : T → List ℕ → T → Type 0) → Bool → T → ℕ → List ℕ → T → ℕ → Type 0
 AddsOrPuts takes true s m bytes t n = (t ≡ s) × (n % 256 ≡ (m + sum bytes) % 256)
 AddsOrPuts takes false s m bytes t n = takes s bytes t
 
--- it puts or adds as before, into the same sink
+-- the sink takes the bytes as before, by summing or by putting them, and the sink below is still the same
 abbrev pub ImageTakes : {S : Type 0} (takes : S → List ℕ → S → Type 0) → SummingSink S → List ℕ → SummingSink S → Type 0
 ImageTakes takes s bytes t =
     (t.below.ghost_name ≡ s.below.ghost_name) × (sums t.mode ≡ sums s.mode)

@@ -1,11 +1,11 @@
--- What starts are enough for. The laws are proofs, which ghost members cite.
+-- Which volumes a list of starts covers. The laws are proofs, which ghost members cite.
 use Rattle.std.proofs.Common.{ℕ, List}
 use Rattle.fv_canon.specs.Words.{BeginsWithStarts}
 use Rattle.fv_canon.proofs.Laws.{begins_first, begins_higher}
 use Rattle.fv_lines.specs.Words.{CoverLaws}
 use Rattle.fv_tree.specs.Words.{Inside}
 
--- the starts of a state of the walk begin with those of these volumes
+-- in this state of the walk the starts begin with those of these volumes
 abbrev pub BeginWith : {D : Type 0} (starts : D → List ℕ) → D → List Inside → Type 0
 BeginWith starts d vs = BeginsWithStarts vs (starts d)
 

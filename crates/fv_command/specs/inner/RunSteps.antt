@@ -1,4 +1,4 @@
--- What the steps of a run do with a sink, and whether a text was written.
+-- What the steps of a run put into a sink, and whether a text was written.
 use Rattle.std.specs.Prelude.{◌≡◌, ℕ, Bool, true, false, List, Option, Result, Ok, Err}
 use Rattle.fv_base.specs.declared.fault.Fault.{Fault}
 use Rattle.fv_compare.specs.declared.side.Side.{Side}
@@ -12,13 +12,13 @@ use Rattle.fv_plan.specs.declared.plan.Command.{Command}
 use Rattle.fv_plan.specs.declared.plan.Task.{Task}
 use Rattle.fv_text.specs.Words.{Change, Shown, StopsIn, Writes}
 
--- the sink took the text that is said with this status; or something stopped the step, and the sink is as it was
+-- the step has this status, and the sink took its text; or something stopped the step, and the sink is unchanged
 abbrev pub Puts : {S E : Type 0} → (S → List ℕ → S → Type 0) → (Status → List ℕ → Type 0) → (E → Type 0) → S → S
     → Result Status E → Type 0
 Puts takes says stops s t (Ok status) = (text : List ℕ) × says status text × takes s text t
 Puts takes says stops s t (Err e) = stops e × (t ≡ s)
 
--- the sink took what the task says of its input; or the task denies its input
+-- the sink took the text of the task for its input; or the input is denied (`Denies`)
 abbrev pub Performs : {S : Type 0} → (S → List ℕ → S → Type 0) → Task → Bool → List ℕ → S → S → Result Status Fault → Type 0
 Performs takes task hex input s t result = Puts takes (Says task hex input) (Denies task input) s t result
 
@@ -27,19 +27,19 @@ abbrev pub verdict_of : Bool → Status
 verdict_of true = Done
 verdict_of false = Different
 
--- the sink took what the comparison says; or a side stopped the run
+-- the sink took the text of the comparison; or a side stopped the run
 abbrev pub Compares : {S : Type 0} → (S → List ℕ → S → Type 0) → Bool → (at other : Option ℕ) → (first second : Change)
     → S → S → Result Status (Side × Fault) → Type 0
 Compares takes hex at other first second s t result =
     Puts takes (SaysComparison hex at other first second) (λ e. SideStops e.0 hex at other first second e.1) s t result
 
--- the sink took what the command says; or the command is refused
+-- the sink took the text of the command; or the command is refused
 abbrev pub PutsCommand : {S : Type 0} → (S → List ℕ → S → Type 0) → Command → Bool → (first second : Change) → S → S
     → Result Status Refusal → Type 0
 PutsCommand takes command hex first second s t result =
     Puts takes (SaysCommand command hex first second) (StopsCommand command hex first second) s t result
 
--- all of a text was written, or a write failed in it
+-- all of the text was written, or a write of it failed
 abbrev pub Written : Bool → List ℕ → Shown → Shown → Type 0
 Written true text old new = Writes old new text
 Written false text old new = StopsIn old new text

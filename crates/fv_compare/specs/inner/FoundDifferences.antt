@@ -1,4 +1,4 @@
--- What a walk through two meanings returns.
+-- What a search through two meanings returns.
 use Rattle.std.specs.Prelude.{◌≡◌, Result, Ok, Err, reverse, true, Option, Some, None}
 use Rattle.fv_base.specs.Words.{out_of_memory}
 use Rattle.fv_base.specs.declared.fault.Fault.{Fault}
@@ -10,12 +10,12 @@ abbrev pub in_word : Option Word → Differs
 in_word None = None
 in_word (Some word) = differ_in word
 
--- the steps in reverse order
+-- the same difference, with its steps in reverse order
 abbrev pub outermost_first : Differs → Differs
 outermost_first None = None
 outermost_first (Some d) = Some (reverse d.0, d.1)
 
--- what a walk returns: where the two first differ, with the steps from the innermost out; memory runs out only where
+-- what a search returns: where the two first differ, with the steps from the innermost out; memory runs out only if
 -- there are steps
 abbrev pub ReturnsDifference : Result Differs Fault → Differs → Type 0
 ReturnsDifference (Ok o) d = outermost_first o ≡ d

@@ -1,4 +1,5 @@
--- The op at the start of some bytes, and what ops do to a stack of truth values, whose top is its first item.
+-- The op at the start of some bytes, and the effect of ops on a stack of truth values. The first item of the stack is
+-- its top.
 use Rattle.std.specs.Prelude.{ℕ, ◌==◌, if◌then◌else◌, List, slice_index, ◌&&◌, ◌||◌, not, Bool, true, false, Option}
 use Rattle.std.specs.Prelude.{None, Some, [], ◌∷◌, option_and_then}
 use Rattle.fv_base.specs.Words.{guid_of, field}
@@ -24,7 +25,8 @@ op_by code g =
 abbrev pub op_in : List ℕ → Op
 op_in r = op_by (slice_index r 0) (guid_of (field 1 16 r))
 
--- the stack after one op, if it holds what the op takes; BEFORE and AFTER have no truth value
+-- the stack after one op; None if the stack does not hold the values that the op takes, or if the op is BEFORE or
+-- AFTER, which have no truth value
 abbrev pub evaluate_op : List Guid → List Bool → Op → Option (List Bool)
 evaluate_op set s (ops.Before g) = None
 evaluate_op set s (ops.After g) = None
@@ -38,12 +40,12 @@ evaluate_op set s ops.End = Some s
 evaluate_op set s ops.Sor = Some s
 evaluate_op set s _ = None
 
--- the value on top, if there is one
+-- the value on top of the stack, if there is one
 abbrev pub top : List Bool → Option Bool
 top [] = None
 top (v ∷ s) = Some v
 
--- the value on top after all ops
+-- the value on top of the stack after all ops, if every op can be evaluated
 abbrev pub evaluate_ops : List Guid → List Op → List Bool → Option Bool
 evaluate_ops set [] s = top s
 evaluate_ops set (o ∷ os) s = option_and_then (evaluate_ops set os) (evaluate_op set s o)

@@ -1,5 +1,5 @@
--- The four sorts of states: what a cell is by the state of its header. And the result at one place: a value, or the
--- fault of the first check that does not hold.
+-- The four sorts of states, which decide what kind of cell a header begins, and the result of the checks at one place:
+-- a value, or the fault of the first check that does not hold.
 use Rattle.std.specs.Prelude.{ℕ, Bool, true, false, List, [], Option, Some, if◌then◌else◌, ◌+◌, ◌==◌, nat_lt, None}
 use Rattle.std.specs.Prelude.{Result, Ok, Err, length}
 use Rattle.fv_base.specs.Words.{Check, outer_fault, erased_byte, up_to_8}
@@ -17,8 +17,8 @@ use Rattle.fv_file.specs.Cells as cells
 use Rattle.fv_file.specs.FileHeaders.{head_in, pad_kind, state_at}
 use Rattle.fv_file.specs.declared.head.FileHead.{FileHead}
 
--- nothing was written; the header was never finished; the file was deleted, or its data were never finished; the file
--- is valid
+-- Erased: nothing was written. Unfinished: the header is under construction or invalid. Dead: the file was deleted, or
+-- only its header is valid. Valid: the file is valid
 pub data StateSort : Type 0 where
   Erased : StateSort
   Unfinished : StateSort
@@ -32,67 +32,69 @@ sort_of states.Construction = Unfinished
 sort_of states.HeaderInvalid = Unfinished
 sort_of st = if is_alive st then Valid else Dead
 
--- whether there is a state, and it is that of a header that was never finished
+-- there is a state, and it is that of a header under construction or of an invalid header
 abbrev pub is_unfinished : Option FileState → Bool
 is_unfinished (Some states.Construction) = true
 is_unfinished (Some states.HeaderInvalid) = true
 is_unfinished _ = false
 
--- the checks of a cell by the sort of its state; a file of it is valid or not
+-- the checks of a cell according to the sort of its state; `alive` says whether a file is valid
 abbrev pub sort_checks : StateSort → FileSystem → Bool → ℕ → List ℕ → List (Check Fault)
 sort_checks Erased system alive p r = []
 sort_checks Unfinished system alive p r = stub_checks p r
 sort_checks _ system alive p r = file_checks system alive p r
 
--- the header of a file at p
+-- the header of a file at the offset p, or the first fault
 unfoldable pub file_verdict : FileSystem → FileState → ℕ → List ℕ → Result FileHead Fault
 file_verdict system state p r = verdict_by (first_fault (file_checks system (is_alive state) p r)) (head_in state r)
 
--- the cell at p of a header and data, by the sort of its state
+-- the cell at the offset p of a header and data, according to the sort of its state
 abbrev pub cell_of : StateSort → ℕ → FileHead → List ℕ → CellForm
 cell_of Unfinished p head payload = cells.Stub p head.header_len
 cell_of Dead p head payload = cells.Dead p (up_to_8 head.size) head.state
 cell_of _ p head payload = if head.kind == pad_kind then cells.Pad p head payload else cells.Valid p head payload
 
--- the cell at p, by the state that its State byte shows (the case without one is not used); r are the bytes from p on
+-- the cell at the offset p, according to the state that its State byte shows (the case without a state is not used); r
+-- is the bytes from p on
 abbrev pub cell_in : Option FileState → ℕ → List ℕ → CellForm
 cell_in None p r = cells.Free p 0
 cell_in (Some state) p r = cell_of (sort_of state) p (head_in state r) (payload_at r)
 
--- the fault of bytes that are no cell and not all erased
+-- the fault of bytes that do not begin with a cell and are not all erased: FreeSpace at the first byte that is not
+-- erased
 abbrev pub stray : Polarity → ℕ → List ℕ → Fault
 stray polarity p r = outer_fault kinds.FreeSpace (p + leading_count (erased_byte polarity) r)
 
--- the cell at p by the sort of its state if the header is known, else the fault
+-- the cell at the offset p, according to the sort of its state, if its header has no fault, and otherwise the fault
 abbrev pub cell_with : StateSort → ℕ → List ℕ → Result FileHead Fault → Result CellForm Fault
 cell_with sort p r (Ok head) = Ok (cell_of sort p head (payload_at r))
 cell_with sort p r (Err f) = Err f
 
--- the cell at p of a state of this sort, or the fault
+-- the cell at the offset p with a state of this sort, or the first fault
 abbrev pub sort_verdict : StateSort → FileState → FileSystem → Polarity → ℕ → List ℕ → Result CellForm Fault
 sort_verdict Erased state system polarity p r = Err (stray polarity p r)
 sort_verdict Unfinished state system polarity p r =
     verdict_by (first_fault (stub_checks p r)) (cell_of Unfinished p (head_in state r) (payload_at r))
 sort_verdict sort state system polarity p r = cell_with sort p r (file_verdict system state p r)
 
--- the cell at p by the state that its State byte shows, or the fault
+-- the cell at the offset p, according to the state that its State byte shows, or the first fault
 abbrev pub state_verdict : Option FileState → FileSystem → Polarity → ℕ → List ℕ → Result CellForm Fault
 state_verdict None system polarity p r = Err (outer_fault kinds.FileState (p + 23))
 state_verdict (Some state) system polarity p r = sort_verdict (sort_of state) state system polarity p r
 
--- the cell at p, which is not a free one
+-- the cell at the offset p, where no free cell begins, or the first fault
 abbrev pub cell_verdict : FileSystem → Polarity → ℕ → List ℕ → Result CellForm Fault
 cell_verdict system polarity p r =
     if nat_lt (length r) 24 then Err (stray polarity p r)
     else state_verdict (state_of polarity (state_at r)) system polarity p r
 
--- the header of a file if its state is that of a valid file, else a fault
+-- the header of a file if its state is that of a valid file, or the first fault
 abbrev pub standing_verdict : Option FileState → FileSystem → List ℕ → Result FileHead Fault
 standing_verdict None system b = Err (outer_fault kinds.FileState 23)
 standing_verdict (Some state) system b =
     if is_alive state then file_verdict system state 0 b else Err (outer_fault kinds.FileState 23)
 
--- the header of the valid file, or of the pad, that the bytes begin with
+-- the header of the valid file or pad that the bytes begin with, or the first fault
 abbrev pub verify_verdict : FileSystem → Polarity → List ℕ → Result FileHead Fault
 verify_verdict system polarity b =
     if nat_lt (length b) 24 then Err (outer_fault kinds.FileSize 20)

@@ -1,4 +1,4 @@
--- The result of the checks of a header, as the code finds it.
+-- The result of the checks of a header, defined in the way in which the code finds it.
 use Rattle.std.specs.Prelude.{◌≡◌, ◌⊎◌, ◌≤◌, ℕ, ◌+◌, ◌==◌, if◌then◌else◌, List, length, Option, None, Some}
 use Rattle.std.specs.Prelude.{Result, Ok, Err}
 use Rattle.fv_base.specs.inner.Verdicts.{first_fault}
@@ -11,15 +11,15 @@ use Rattle.fv_head.specs.HeadChecks.{file_system_at, header_len_at, volume_len_a
 use Rattle.fv_head.specs.HeadChecks.{head_checks}
 use Rattle.fv_head.specs.VolumeAttributes.{polarity_of}
 
--- there is no extended header, or its fields lie within the bytes
+-- there is no extended header, or its first 20 bytes lie within the bytes
 abbrev pub ExtHeaderWithin : List ℕ → Type 0
 ExtHeaderWithin b = (ext_offset_at b ≡ 0) ⊎ (ext_offset_at b + 20 ≤ length b)
 
--- where the first file may begin
+-- the offset at which the first file may begin
 abbrev pub first_at : List ℕ → ℕ
 first_at b = if ext_offset_at b == 0 then header_len_at b else up_to_8 (ext_offset_at b + ext_size_at b)
 
--- the extent that a header of this file system gives
+-- the extent of a volume with this file system, as its header gives it
 abbrev pub extent_at : FileSystem → List ℕ → Extent
 extent_at fs b = record {
   length = volume_len_at b;
@@ -29,12 +29,12 @@ extent_at fs b = record {
   polarity = polarity_of (le_at 44 4 b);
 }
 
--- the extent if the file system is known, else a fault
+-- the extent if there is a file system, and otherwise the fault f
 abbrev pub extent_or : Option FileSystem → Fault → List ℕ → Result Extent Fault
 extent_or None f b = Err f
 extent_or (Some fs) f b = Ok (extent_at fs b)
 
--- the first fault, or the extent
+-- the fault if there is one, and otherwise the extent
 abbrev pub extent_verdict : Option Fault → List ℕ → Result Extent Fault
 extent_verdict (Some f) b = Err f
 extent_verdict None b = extent_or (file_system_at b) (outer_fault kinds.FileSystem 16) b

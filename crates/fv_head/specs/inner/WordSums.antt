@@ -1,5 +1,5 @@
--- The sum of the 16-bit words of bytes that come in parts. The laws are proofs. They are in specs/ because a ghost
--- member cites the last of them.
+-- The sum of the 16-bit words of bytes that come in parts. The laws below are proofs. They are in specs/ because a
+-- ghost member cites the last of them.
 use Rattle.std.specs.Prelude.{◌≡◌, ℕ, ◌+◌, ◌*◌, ◌%◌, List, [], ◌∷◌, Bool, true, false, not}
 use Rattle.std.proofs.Common.{◌++◌, refl, sym, ◌∙◌, ap, arith}
 use Rattle.fv_base.specs.Words.{WalkLaws}
@@ -11,12 +11,13 @@ word_weight high [] = 0
 word_weight false (x ∷ xs) = x + word_weight true xs
 word_weight true (x ∷ xs) = 256 * x + word_weight false xs
 
--- whether the byte after them is the high byte of a word
+-- whether the byte after these bytes is the high byte of a word
 abbrev pub is_high_behind : Bool → List ℕ → Bool
 is_high_behind high [] = high
 is_high_behind high (x ∷ xs) = is_high_behind (not high) xs
 
--- the total has grown by what the bytes add, modulo 65536, and `high` says whether a high byte comes next
+-- from s to t the total has grown by what the bytes add, modulo 65536; `high` says whether the next byte is the high
+-- byte of a word
 abbrev pub AddsWords : {S : Type 0} (total : S → ℕ) (high : S → Bool) → S → List ℕ → S → Type 0
 AddsWords total high s bytes t =
     (high t ≡ is_high_behind (high s) bytes) × (total t % 65536 ≡ (total s + word_weight (high s) bytes) % 65536)

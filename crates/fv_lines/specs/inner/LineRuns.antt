@@ -1,4 +1,4 @@
--- What the code that writes lines knows of indents, of cells and of notes.
+-- Definitions for the code that puts lines: indentation, cells and notes.
 use Rattle.std.specs.Prelude.{ℕ, ◌+◌, ◌≤◌, List}
 use Rattle.fv_lines.specs.declared.indent.Indent.{Indent}
 use Rattle.fv_lines.specs.declared.indent.Indent.TheVariants.{Margin, Inside'}
@@ -10,22 +10,22 @@ use Rattle.fv_lines.specs.declared.cell_text.LengthSums.{LengthSums}
 use Rattle.fv_lines.specs.Notes.{AreNotes, HeldDepex, depex_lines}
 use Rattle.fv_lines.specs.declared.depex_notes.DepexNote.{DepexNote}
 
--- how far a line is indented, as the code holds it
+-- the number of levels by which a line is indented
 abbrev pub levels : Indent → ℕ
 levels Margin = 0
 levels (Inside' p outer) = levels outer + 1
 
--- a cell ends within the bytes that a volume may have
+-- a cell ends within the bytes that a volume may have, and its lengths agree (`IsMadeUp`)
 pub record Fits (c : CellForm) : Type 0 where
   pub within : offset_of c + cell_len c ≤ volume_limit
   pub made_up : IsMadeUp c
 
--- each of the cells does, and together they have no more bytes
+-- each of the cells fits, and together they have at most as many bytes as a volume may have
 pub record FitTogether (cells : List CellForm) : Type 0 where
   pub each : AllByRecursion Fits cells
   pub together : sum_by cell_len cells ≤ volume_limit
 
--- the sums with those of one cell more
+-- the sums after one more cell has been added
 abbrev pub sums_with : LengthSums → CellForm → LengthSums
 sums_with sums c = record {
   files = sums.files + file_length c;
@@ -35,10 +35,10 @@ sums_with sums c = record {
   free = sums.free + free_length c;
 }
 
--- all bytes that were counted
+-- the number of all bytes that were counted
 abbrev pub counted : LengthSums → ℕ
 counted sums = sums.files + sums.pads + sums.deleted + sums.filler + sums.free
 
--- the lines of the notes of these expressions were put
+-- the sink took the lines of the notes on these expressions
 abbrev pub PutsNotes : {S : Type 0} (takes : S → List ℕ → S → Type 0) → List HeldDepex → S → S → Type 0
 PutsNotes takes xs s t = (notes : List DepexNote) × AreNotes xs notes × takes s (depex_lines notes) t

@@ -1,5 +1,5 @@
--- The laws of a digest and of a borrowed buffer as sinks. There is nothing to believe here: these are proofs. They are in
--- specs/ because ghost members cite them.
+-- The laws of the sink for a digest and of the sink that fills a buffer. These are proofs, so nothing here has to be
+-- taken on trust. They are in specs/ because ghost members cite them.
 use Rattle.std.proofs.Common.{◌≡◌, ◌∙◌, ℕ, List, [], ◌∷◌, ◌++◌, length, take, drop, refl, ap, sym, subst}
 use Rattle.std.proofs.Common.{append_assoc, append-nil}
 use Rattle.sha2.specs.Hashers.{Holds256}

@@ -1,4 +1,4 @@
--- The decoding of hexadecimal text, piece after piece.
+-- How hexadecimal text is decoded, piece after piece.
 use Rattle.std.specs.Prelude.{◌≡◌, ℕ, ◌+◌, ◌*◌, Bool, List, [], ◌∷◌, ◌++◌, ◌<◌, ◌≤◌, true, false, take, length, vec_len}
 use Rattle.std.specs.Option.{unwrap_or}
 use Rattle.hex.specs.Hex.{hex_digit_value}
@@ -6,25 +6,25 @@ use Rattle.fv_text.specs.HexIn.{squeezed, DigitsSpell}
 use Rattle.fv_base.specs.Words.{volume_limit}
 use Rattle.fv_text.specs.declared.hex_text.Decoder.{Decoder}
 
--- the value of a digit, in upper or lower case; 16 of what is no digit
+-- the value of a digit, in upper or lower case, or 16 if the character is not a digit
 abbrev pub value_or_16 : ℕ → ℕ
 value_or_16 d = unwrap_or (hex_digit_value d) 16
 
--- the value of a digit
+-- the number is the value of a digit
 abbrev pub IsNibble : ℕ → Type 0
 IsNibble v = v < 16
 
--- the bytes of pairs of values, the high one first
+-- the bytes that pairs of values make, the high value of a pair first
 abbrev pub joined_pairs : List ℕ → List ℕ
 joined_pairs [] = []
 joined_pairs (h ∷ []) = []
 joined_pairs (h ∷ l ∷ vs) = (h * 16 + l) ∷ joined_pairs vs
 
--- characters that spell no bytes, whatever follows them
+-- the characters spell no bytes, whatever follows them
 abbrev pub IsSpoilt : List ℕ → Type 0
 IsSpoilt digits = (behind bytes : List ℕ) → DigitsSpell (digits ++ behind) bytes → ⊥
 
--- some digits spell bytes, except those that wait; the bytes are held, or they are more than a volume has
+-- the digits, except those that wait, spell bytes: these are held, or (`is_long`) they are more than a volume may have
 pub record HoldsDigits (is_long : Bool) (held waiting digits : List ℕ) : Type 0 where
   pub front : List ℕ
   pub bytes : List ℕ
@@ -33,27 +33,28 @@ pub record HoldsDigits (is_long : Bool) (held waiting digits : List ℕ) : Type 
   pub kept : is_long ≡ false → held ≡ bytes
   pub many : is_long ≡ true → volume_limit < length bytes
 
--- what the text so far amounts to: it is wrong whatever follows, or its digits spell what is held, at most the bytes of
--- a volume, and at most one digit waits
+-- the decoder's state after this text: the text is wrong, whatever follows, or its digits spell the bytes that the
+-- decoder holds. It holds at most the bytes of a volume, and at most one digit waits
 pub record Decodes (d : Decoder) (text : List ℕ) : Type 0 where
   pub wrong : d.is_wrong ≡ true → IsSpoilt (squeezed text)
   pub right : d.is_wrong ≡ false → HoldsDigits d.is_long d.bytes.items d.digits.items (squeezed text)
   pub small : vec_len d.bytes ≤ volume_limit
   pub waiting : vec_len d.digits ≤ 1
 
--- digits spell bytes, which are added after those that were held, unless they are too many together
+-- the digits spell bytes, which are added to those that were held, unless there are then more than a volume may have
 pub record AddsDigits (was_long is_long : Bool) (held holds digits : List ℕ) : Type 0 where
   pub more : List ℕ
   pub reads : DigitsSpell digits more
   pub kept : is_long ≡ false → (was_long ≡ false) × (holds ≡ held ++ more)
   pub many : is_long ≡ true → was_long ≡ false → volume_limit < length (held ++ more)
 
--- the digits of a decoder are found wrong, or they are decoded
+-- the decoder found its digits wrong, or it decoded them
 pub record DecodesPairs (old new : Decoder) : Type 0 where
   pub wrong : new.is_wrong ≡ true → IsSpoilt old.digits.items
   pub right : new.is_wrong ≡ false → AddsDigits old.is_long new.is_long old.bytes.items new.bytes.items old.digits.items
 
--- a text is put at a place of a room, without its white space: up to the end, which is within its length
+-- the text, without its white space, was put into a room from `start` to `end`, and needs no more space than the whole
+-- text
 pub record IsPutKept (text : List ℕ) (start : ℕ) (old new : List ℕ) (end : ℕ) : Type 0 where
   pub put : take end new ≡ take start old ++ squeezed text
   pub within : end ≤ start + length text

@@ -1,4 +1,5 @@
--- The laws of sinks above another sink. They are proofs. They are in specs/ because ghost members cite some of them.
+-- The laws of sinks that put bytes into a sink below. These are proofs. They are in specs/ because ghost members cite
+-- some of them.
 use Rattle.std.proofs.Common.{ℕ, List, ◌∙◌, refl, [], ◌++◌, sym, ap, append_assoc, append-nil, ◌∷◌, subst}
 use Rattle.fv_base.specs.Words.{WalkLaws}
 use Rattle.fv_text.specs.SinkAdapters.{LentTakes, Gathered, GatheringTakes, HexTakes, Lined}
@@ -14,7 +15,7 @@ lent_by takes lent name laws = record {
   joined = λ x y. (y.0 ∙ x.0, laws.joined x.1 y.1);
 }
 
--- what the sink below and the bytes that wait do, before and after, the sink above does
+-- a sink above another obeys the laws if the moves of the sink below and of the waiting bytes obey them
 pub waiting_by : {S H : Type 0} (moves : S → List ℕ → List ℕ → S → List ℕ → Type 0) (below : H → S) (waiting : H → List ℕ)
     → ((s : S) (p : List ℕ) → moves s p [] s p)
     → ((s t u : S) (p q r a b : List ℕ) → moves s p a t q → moves t q b u r → moves s p (a ++ b) u r)

@@ -1,4 +1,4 @@
--- A meaning as a tree of numbers, which is different for different meanings. These are proofs. They are in specs/
+-- A meaning as a tree of numbers. Different meanings have different trees. These are proofs, which are in specs/
 -- because ghost members cite them.
 use Rattle.std.specs.Prelude.{◌≡◌, ℕ, List, Bool, true, false, Option, refl}
 use Rattle.std.specs.Coded.{Coded, code_by, coded×, coded_ℕ, coded_bool, coded_list, coded_option}

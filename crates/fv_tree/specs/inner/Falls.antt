@@ -1,4 +1,4 @@
--- Each part of a section or a content is smaller than it.
+-- Each part of a section or of a content is smaller than the section or the content.
 use Rattle.std.specs.Prelude.{◌+◌, ◌≤◌}
 use Rattle.std.proofs.Common.{arith}
 use Rattle.fv_tree.specs.Views.{sections_of, parts_view, content_view}

@@ -1,4 +1,4 @@
--- What the index of names knows of a file.
+-- What the index of names knows about a file.
 use Rattle.fv_names.specs.Words.{NamedFile}
 use Rattle.fv_tree.specs.LocatedFiles.{file_form}
 use Rattle.fv_tree.specs.VolumeFiles.{FileForm, is_marked}
@@ -8,6 +8,6 @@ use Rattle.fv_tree.specs.declared.volume_files.LocatedFile.{LocatedFile}
 abbrev pub named_form : FileForm → NamedFile
 named_form f = record { name = f.head.name; marked = is_marked f.head.state }
 
--- the same of a file that a call has returned
+-- the same for a file that a call has returned
 abbrev pub named_file : LocatedFile → NamedFile
 named_file s = named_form (file_form s)

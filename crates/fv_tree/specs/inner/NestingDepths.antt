@@ -1,4 +1,4 @@
--- How deep groups and volumes nest in what was read, as the relation says by which it was read.
+-- How deep groups and volumes nest in what was read, according to the relation by which it was read.
 use Rattle.std.specs.Prelude.{Bool, ℕ, List}
 use Rattle.std.specs.List.{AllByRecursion}
 use Rattle.fv_section.specs.Words.{FrameForm}
@@ -11,18 +11,18 @@ use Rattle.fv_tree.specs.VolumeFiles.{FileForm}
 abbrev pub NestsVolume : Meaning → ℕ → Type 0
 NestsVolume m n = (b : List ℕ) × Denotes n b m
 
--- the same of each of some files
+-- the same for each of some files
 abbrev pub NestsFiles : FileMeanings → ℕ → Type 0
 NestsFiles files n = AllByRecursion (λ m. (f : FileForm) × MeansFile (Stream n) f m) (files_list files)
 
--- of the data of a file
+-- the same for the data of a file
 abbrev pub NestsContent : ContentMeaning → ℕ → Type 0
 NestsContent content n = (kind : ℕ) × (payload : List ℕ) × MeansContent (Stream n) kind payload content
 
--- of each of some sections
+-- the same for each of some sections
 abbrev pub NestsSections : SectionMeanings → ℕ → Type 0
 NestsSections sections n = AllByRecursion (λ s. (f : FrameForm) × MeansSection n f s) (sections_list sections)
 
--- of the body of a section
+-- the same for the body of a section
 abbrev pub NestsBody : BodyMeaning → ℕ → Type 0
 NestsBody body n = (f : FrameForm) × (kind : ℕ) × (extended : Bool) × MeansSection n f (Section kind extended body)

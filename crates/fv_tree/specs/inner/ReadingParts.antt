@@ -1,5 +1,5 @@
--- What a file keeps of its header, and what follows from that; how the body of a section is read; what a reader of a
--- part of a volume returns, and what it knows of the files.
+-- What a stored file keeps of its header, and what follows from it; how the body of a section is read; what a reader of
+-- a part of a volume returns, and what it knows about the files.
 use Rattle.std.specs.Prelude.{◌≡◌, ℕ, ◌+◌, ◌<◌, ◌^◌, Bool, true, false, List, length, ◌==◌, ◌&&◌, if◌then◌else◌, ◌≢◌}
 use Rattle.std.specs.Prelude.{◌≤◌, Result, MatchResult}
 use Rattle.fv_file.specs.Words.{CellForm, Valid, attribute_bits, file_sum_for}
@@ -21,17 +21,17 @@ use Rattle.fv_tree.specs.ReadParts.{IsStoredFile}
 use Rattle.fv_tree.specs.VolumeFiles.{FileForm}
 use Rattle.fv_tree.specs.FirstFault.{data_place}
 
--- the mark of a valid file of this state
+-- the mark of a valid file in this state
 abbrev pub mark_of : FileState → Mark
 mark_of states.Marked = marks.Marked
 mark_of _ = marks.Unmarked
 
--- whether a mark notes that one of the files replaces the file
+-- whether a mark notes that one of the other files replaces the file
 abbrev pub is_noted : Mark → Bool
 is_noted marks.Replaced = true
 is_noted _ = false
 
--- what a file does not keep of its header follows from what it keeps
+-- the fields of a header that a stored file does not keep follow from those that it keeps
 pub record FollowsFrom (head : FileHead) (payload : List ℕ) : Type 0 where
   pub size : head.size ≡ header_len_by (attribute_bits head.attributes) + length payload
   pub header_len : head.header_len ≡ header_len_by (attribute_bits head.attributes)
@@ -48,15 +48,16 @@ shape_of f =
     if f.kind == group_kind then shapes.Group
     else (if (f.kind == volume_kind) && is_one_volume f.body then shapes.Volume else shapes.Leaf)
 
--- P holds of the value that was read; or F of the fault, unless memory ran out
+-- P holds of the value that was read, or F of the fault unless memory ran out
 abbrev pub Reads : {T : Type 0} → (T → Type 0) → (Fault → Type 0) → Result T Fault → Type 0
 Reads P F result = MatchResult result P (λ f. f ≢ out_of_memory → F f)
 
--- a valid file in some bytes: its data are at most the limit, and end below 2 ^ 63 if the volume begins at this place
+-- a valid file in some bytes: its data have at most `volume_limit` bytes, and end below 2 ^ 63 if the volume begins at
+-- `base`
 abbrev pub IsReadyFile : ℕ → FileForm → Type 0
 IsReadyFile base f =
     IsStoredFile f × (base + data_place f + length f.payload < 2 ^ 63) × (length f.payload ≤ volume_limit)
 
--- all of the files are such files
+-- each of the files is such a file
 abbrev pub AllStored : ℕ → List FileForm → Type 0
 AllStored base fs = AllByRecursion (IsReadyFile base) fs

@@ -1,5 +1,5 @@
--- How many values a meaning holds, for the measures of recursions over it. Each part of a list of files, or of sections,
--- is smaller than it.
+-- The number of values in a meaning, which is the measure of recursions over it. Each part of a list of files or of
+-- sections is smaller than the list.
 use Rattle.std.specs.Prelude.{ℕ, ◌+◌, ◌≤◌, List, [], ◌∷◌}
 use Rattle.fv_tree.specs.Meaning.{Meaning, Volume, FileMeanings, NoFiles, MoreFiles, FileMeaning, File, ContentMeaning}
 use Rattle.fv_tree.specs.Meaning.{Plain, Sectioned, SectionMeanings, NoSections, MoreSections, SectionMeaning, Section}
@@ -35,7 +35,7 @@ abbrev mutual
   sections_size NoSections = 0
   sections_size (MoreSections s ss) = section_size s + sections_size ss + 1
 
--- of a list of sections, and of a list of files
+-- each part of a list of sections, and of a list of files, is smaller than the list
 pub sections_fall : (ss : List SectionMeaning) → most (λ s. section_size s + 1) ss ≤ sections_size (sections_from ss)
 sections_fall [] = omega arith
 sections_fall (s ∷ ss) = omega (arith, sections_fall ss)

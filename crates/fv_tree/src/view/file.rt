@@ -1,4 +1,4 @@
-//! The calls of a `FileView`.
+//! The methods of `FileView`.
 
 ghost use Rattle.std.specs.Prelude.{◌≡◌, option_map};
 ghost use Rattle.fv_file.specs.Words.{attribute_bits};
@@ -13,7 +13,7 @@ use fv_base::Guid;
 use fv_file::FileAttributes;
 
 impl<'a> FileView<'a> {
-    // The view of a file whose data have `len` bytes.
+    // Returns the view of a file whose data have `len` bytes.
     pub(crate) fn new(
         name: Guid,
         kind: u8,
@@ -34,7 +34,7 @@ impl<'a> FileView<'a> {
         }
     }
 
-    /// The name.
+    /// Returns the name.
     pub fn name(&self) -> Guid
         ensures name { result ≡ file_name_of self.now }
 
@@ -44,36 +44,38 @@ impl<'a> FileView<'a> {
         self.name
     }
 
-    /// Computes nothing. A proof that calls it knows that some bytes are a file with this meaning.
+    /// Computes nothing. After the call, a proof knows that some bytes are a file with this
+    /// meaning.
     pub fn known(&self)
         ensures { IsReadFile self.now }
     {
         let _name = self.name;
     }
 
-    /// The type (PI specification, volume 3, section 3.2.3, EFI_FV_FILETYPE).
+    /// Returns the type (PI specification, volume 3, section 3.2.3, EFI_FV_FILETYPE).
     pub fn kind(&self) -> u8
         ensures { result ≡ file_kind_of self.now }
     {
         self.file_type
     }
 
-    /// The attribute bits without 0x01 (FFS_ATTRIB_LARGE_FILE), which belongs to the form of the
-    /// header. (PI specification, volume 3, section 3.2.3.1.)
+    /// Returns the attribute bits without 0x01 (FFS_ATTRIB_LARGE_FILE), which belongs to the form
+    /// of the header. (PI specification, volume 3, section 3.2.3.1.)
     pub fn attributes(&self) -> FileAttributes
         ensures { attribute_bits result ≡ attributes_of self.now }
     {
         self.attributes
     }
 
-    /// The content.
+    /// Returns the content.
     pub fn content(&self) -> &Content<'a>
         ensures { content_view result.now ≡ content_of self.now }
     {
         &self.content
     }
 
-    /// Its data, or None if they are sections: a slice of what was read, which outlives the view.
+    /// Returns the data, or None if they are sections. The data are a slice of what was read, which
+    /// outlives the view.
     pub fn plain(&self) -> Option<&'a [u8]>
         ensures { option_map (λ b. b.now) result ≡ plain_of (content_of self.now) }
     {
@@ -83,7 +85,7 @@ impl<'a> FileView<'a> {
         }
     }
 
-    /// The sections that are its data, in order: none if its data are plain bytes.
+    /// Returns the sections of the data, in order. There are none if the data are plain bytes.
     pub fn sections(&self) -> &[SectionView<'a>]
         ensures { sections_from result.now ≡ sections_in_data (content_of self.now) }
     {
@@ -93,7 +95,7 @@ impl<'a> FileView<'a> {
         }
     }
 
-    /// The number of bytes of its data.
+    /// Returns the number of bytes of the data.
     pub fn data_len(&self) -> u64
         ensures { result ≡ data_len_of self.now }
     {

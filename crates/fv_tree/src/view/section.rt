@@ -1,4 +1,4 @@
-//! The calls of a `SectionView`, and the sections of a group.
+//! The methods of `SectionView`, and the sections of a group.
 
 ghost use Rattle.std.specs.Prelude.{◌≡◌, ◌+◌, option_map, IfOk, IfErr};
 ghost use Rattle.fv_base.specs.Words.{out_of_memory};
@@ -15,7 +15,7 @@ use std::alloc::Global;
 use std::slice::from_ref;
 
 impl<'a> Sections<'a> {
-    // The sections of a vector.
+    // Returns the sections of a vector.
     fn from_vec(alloc: Global, sections: Vec<SectionView<'a>>) -> Result<Sections<'a>, Fault>
         ensures ok { IfOk result (λ s. sections_of s ≡ sections.entry.items) }
         ensures err { IfErr result (λ f. f ≡ out_of_memory) }
@@ -33,7 +33,7 @@ impl<'a> Sections<'a> {
         Ok(Sections::Two(Box::new(alloc, [first, last])?))
     }
 
-    // The sections in order.
+    // Returns the sections in order.
     fn as_slice(&self) -> &[SectionView<'a>]
         ensures { result.now ≡ sections_of self.now }
     {
@@ -47,7 +47,7 @@ impl<'a> Sections<'a> {
 }
 
 impl<'a> SectionView<'a> {
-    // The view of the section in a frame, as bytes.
+    // Returns the view of the section in a frame, as a leaf.
     pub(crate) fn of_leaf(frame: &Frame<'a>) -> SectionView<'a>
         requires { IsReadSection (Section frame.now.kind frame.now.extended (Leaf frame.now.body.now)) }
         ensures { result ≡ Section frame.now.kind frame.now.extended (Leaf frame.now.body.now) }
@@ -61,7 +61,7 @@ impl<'a> SectionView<'a> {
         }
     }
 
-    // The view of the section in a frame, as sections in a body of `len` bytes.
+    // Returns the view of the section in a frame, as a group whose body has `len` bytes.
     pub(crate) fn of_group(
         alloc: Global,
         frame: &Frame<'a>,
@@ -88,7 +88,7 @@ impl<'a> SectionView<'a> {
         })
     }
 
-    // The view of the section in a frame, as a volume.
+    // Returns the view of the section in a frame, as a nested volume.
     pub(crate) fn of_volume(frame: &Frame<'a>, volume: Box<VolumeView<'a>>) -> SectionView<'a>
         requires { IsReadSection (Section frame.now.kind frame.now.extended (Nested volume.value)) }
         ensures { result ≡ Section frame.now.kind frame.now.extended (Nested volume.entry.value) }
@@ -102,7 +102,7 @@ impl<'a> SectionView<'a> {
         }
     }
 
-    /// The type (PI specification, volume 3, section 3.2.4, EFI_SECTION_TYPE).
+    /// Returns the type (PI specification, volume 3, section 3.2.4, EFI_SECTION_TYPE).
     pub fn kind(&self) -> u8
         ensures kind { result ≡ section_kind_of self.now }
 
@@ -115,7 +115,7 @@ impl<'a> SectionView<'a> {
         }
     }
 
-    /// Computes nothing. A proof that calls it knows that some bytes are a section with this
+    /// Computes nothing. After the call, a proof knows that some bytes are a section with this
     /// meaning.
     pub fn known(&self)
         ensures { IsReadSection self.now }
@@ -123,7 +123,7 @@ impl<'a> SectionView<'a> {
         let _parts = &self.parts;
     }
 
-    /// Whether its header is extended: 8 bytes rather than 4.
+    /// Returns whether the header is extended, so that it has 8 bytes rather than 4.
     pub fn extended(&self) -> bool
         ensures { result ≡ section_is_extended self.now }
     {
@@ -134,7 +134,7 @@ impl<'a> SectionView<'a> {
         }
     }
 
-    /// What it holds.
+    /// Returns the body: plain bytes, sections or a volume.
     pub fn body(&self) -> Body<'_, 'a>
         ensures { body_view result ≡ body_of self.now }
     {
@@ -148,7 +148,7 @@ impl<'a> SectionView<'a> {
         }
     }
 
-    /// The sections in it, in order: none if it is no group.
+    /// Returns the sections of a group, in order. There are none if the section is not a group.
     pub fn sections(&self) -> &[SectionView<'a>]
         ensures { sections_from result.now ≡ sections_in (body_of self.now) }
     {
@@ -158,8 +158,8 @@ impl<'a> SectionView<'a> {
         }
     }
 
-    /// The bytes of a leaf: a slice of what was read, which outlives the view. None if the section
-    /// is no leaf.
+    /// Returns the bytes of a leaf, or None if the section is not a leaf. The bytes are a slice of
+    /// what was read, which outlives the view.
     pub fn leaf(&self) -> Option<&'a [u8]>
         ensures { option_map (λ b. b.now) result ≡ leaf_of (body_of self.now) }
     {
@@ -169,7 +169,7 @@ impl<'a> SectionView<'a> {
         }
     }
 
-    /// The number of bytes of its body.
+    /// Returns the number of bytes of the body.
     pub fn body_len(&self) -> u64
         ensures { result ≡ body_len (body_of self.now) }
     {

@@ -1,4 +1,4 @@
-//! The calls of a `VolumeView`.
+//! The methods of `VolumeView`.
 
 ghost use Rattle.std.specs.Prelude.{◌≡◌, length, option_copied, slice_get};
 ghost use Rattle.std.specs.List.{position_or_len};
@@ -14,7 +14,7 @@ use fv_head::VolumeHead;
 use fv_names::NameIndex;
 
 impl<'a> VolumeView<'a> {
-    // The view of a volume with this head and these files, with an index of the files' names.
+    // Returns the view of a volume with this head, these files, and this index of the files' names.
     pub(crate) fn new(
         head: VolumeHead<'a>,
         files: Vec<FileView<'a>>,
@@ -31,8 +31,8 @@ impl<'a> VolumeView<'a> {
         }
     }
 
-    /// The header, with its extended header, if there is one. (PI specification, volume 3, section
-    /// 3.2.1.)
+    /// Returns the volume header, with the extended header if there is one. (PI specification,
+    /// volume 3, section 3.2.1.)
     pub fn head(&self) -> &VolumeHead<'a>
         ensures head { result.now ≡ head_of self.now }
 
@@ -42,7 +42,7 @@ impl<'a> VolumeView<'a> {
         &self.head
     }
 
-    /// Computes nothing. A proof that calls it knows that some bytes are a volume with this
+    /// Computes nothing. After the call, a proof knows that some bytes are a volume with this
     /// meaning.
     pub fn known(&self)
         ensures { IsMeaning self.now }
@@ -50,14 +50,15 @@ impl<'a> VolumeView<'a> {
         let _head = &self.head;
     }
 
-    /// The number of files.
+    /// Returns the number of files.
     pub fn file_count(&self) -> u32
         ensures { result ≡ length (files_of self.now) }
     {
         self.files.len() as u32
     }
 
-    /// File number `number`, counted from 0 in the order of the files, or None after the last.
+    /// Returns file number `number`, counted from 0 in the order of the files, or None after the
+    /// last.
     pub fn file(&self, number: u32) -> Option<&FileView<'a>>
         ensures { option_copied result ≡ slice_get (files_of self.now) number }
     {
@@ -69,14 +70,14 @@ impl<'a> VolumeView<'a> {
         }
     }
 
-    /// The files in order.
+    /// Returns the files in order.
     pub fn files(&self) -> &[FileView<'a>]
         ensures { self.now ≡ Volume (head_of self.now) (files_from result.now) }
     {
         self.files.as_slice()
     }
 
-    // The number of the first file with this name, or None.
+    // Returns the number of the first file with this name, or None if no file has it.
     pub(crate) fn number_of(&self, name: &Guid) -> Option<u32>
         ensures { unwrap_or result (length (files_of self.now)) ≡ position_or_len (is_named name.now) (files_of self.now) }
     {
