@@ -43,7 +43,7 @@ def meaning(sentence: str) -> str:
 
 def cases(short: str) -> list[Case]:
     """The runs. `short` is the name of a file of three bytes."""
-    cut, unread = "the bytes end before the volume does", "the input cannot be read, or is no hexadecimal text"
+    cut, unread = "the bytes end before the volume does", "the input cannot be read, or is not hexadecimal text"
     listed = "volume ffs2 length 128 files 0\n"
     volume = Path(VOLUME).read_text(encoding="ascii")
     return [
@@ -52,7 +52,7 @@ def cases(short: str) -> list[Case]:
         Case(["list", short], 2, "fault 1 at 3\n", meaning(cut)),
         Case(["normalise", "/missing"], 2, "fault 25 at 0\n", meaning(unread)),
         Case(["compare", "--hex", VOLUME, "/missing"], 2, "second fault 25 at 0\n", meaning(unread)),
-        Case(["hobs", short], 2, "hob fault 1 at 0\n", meaning("a block is cut")),
+        Case(["hobs", short], 2, "hob fault 1 at 0\n", meaning("a block is cut short")),
         Case(["list", "--hex", VOLUME], 0, listed, ""),
         Case(["extract", "--hex", "--name", "0" * 32, VOLUME], 1, "not found\n", ""),
         Case(["list", "--hex"], 0, listed, "", file=VOLUME),

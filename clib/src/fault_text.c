@@ -9,32 +9,32 @@ static const char *const texts[] = {
     "no volume of files begins here: its file system is neither FFS2 nor FFS3",
     "the header of a volume is damaged, or its revision is not 2",
     "the header of a volume is damaged: its length is wrong",
-    "the header of a volume is damaged: its sum is wrong",
+    "the header of a volume is damaged: its checksum is wrong",
     "the header of a volume is damaged: its block map is wrong",
     "the length in the header is wrong, or bytes follow the volume, or there are more than 256 MiB",
     "the extended header of a volume is damaged",
-    "the state of a file is none that a file has",
-    "the header of a file is damaged: its sum is wrong",
+    "the state of a file is invalid",
+    "the header of a file is damaged: its checksum is wrong",
     "the size of a file is wrong",
-    "a file has the large attribute in FFS2",
-    "the data of a file are damaged: their sum is wrong",
-    "a file may not be moved, so the volume cannot be rebuilt",
+    "a file in an FFS2 volume has the large-file attribute",
+    "the data of a file are damaged: the file checksum is wrong",
+    "a file is marked fixed: it may not be moved, so the volume cannot be rebuilt",
     "the free space of a volume is not erased",
-    "two files of a volume have one name",
+    "two files in a volume have the same name",
     "the volume top file is not at the end of its volume",
     "the size of a section is wrong",
     "one to three bytes are left where a section would begin",
     "groups and volumes nest deeper than eight levels",
-    "the files do not fit where the canonical image has them",
-    "the volume top file does not fit where the canonical image has it",
-    "memory ran out",
-    "the input cannot be read, or is no hexadecimal text",
+    "the files cannot be laid out within the volume's length",
+    "the volume top file is misaligned when placed at the end of the volume",
+    "out of memory",
+    "the input cannot be read, or is not hexadecimal text",
     "the output cannot be written",
 };
 
 const char *fv_fault_text(uint32_t number) {
     if (number < sizeof texts / sizeof *texts) return texts[number];
     if (number == FV_BUFFER_TOO_SMALL) return "the buffer is too small";
-    if (number == FV_NOT_FOUND) return "the volume has no file of this number, or the file no section of this number";
+    if (number == FV_NOT_FOUND) return "there is no file or section with this number";
     return "no result has this number";
 }

@@ -20,7 +20,7 @@ sys.path.append(str(ROOT / "clib/python"))
 import fv
 from fv import _library
 
-NOT_FOUND = "the volume has no file of this number, or the file no section of this number"
+NOT_FOUND = "there is no file or section with this number"
 
 
 def outcome(call, *arguments):

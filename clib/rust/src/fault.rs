@@ -17,7 +17,7 @@ pub mod number {
     pub const REVISION: u32 = 4;
     /// The header of a volume is damaged: its length is wrong.
     pub const HEADER_LENGTH: u32 = 5;
-    /// The header of a volume is damaged: its sum is wrong.
+    /// The header of a volume is damaged: its checksum is wrong.
     pub const HEADER_SUM: u32 = 6;
     /// The header of a volume is damaged: its block map is wrong.
     pub const BLOCK_MAP: u32 = 7;
@@ -26,21 +26,21 @@ pub mod number {
     pub const LENGTH: u32 = 8;
     /// The extended header of a volume is damaged.
     pub const EXT_HEADER: u32 = 9;
-    /// The state of a file is none that a file has.
+    /// The state of a file is invalid.
     pub const FILE_STATE: u32 = 10;
-    /// The header of a file is damaged: its sum is wrong.
+    /// The header of a file is damaged: its checksum is wrong.
     pub const FILE_HEADER_SUM: u32 = 11;
     /// The size of a file is wrong.
     pub const FILE_SIZE: u32 = 12;
-    /// A file has the large attribute in FFS2.
+    /// A file in an FFS2 volume has the large-file attribute.
     pub const LARGE_FILE: u32 = 13;
-    /// The data of a file are damaged: their sum is wrong.
+    /// The data of a file are damaged: the file checksum is wrong.
     pub const FILE_SUM: u32 = 14;
-    /// A file may not be moved, so the volume cannot be rebuilt.
+    /// A file is marked fixed: it may not be moved, so the volume cannot be rebuilt.
     pub const FIXED: u32 = 15;
     /// The free space of a volume is not erased.
     pub const FREE_SPACE: u32 = 16;
-    /// Two files of a volume have one name.
+    /// Two files in a volume have the same name.
     pub const DUPLICATE_NAME: u32 = 17;
     /// The volume top file is not at the end of its volume.
     pub const TOP_FILE: u32 = 18;
@@ -50,11 +50,11 @@ pub mod number {
     pub const SECTION_TAIL: u32 = 20;
     /// Groups and volumes nest deeper than eight levels.
     pub const DEPTH: u32 = 21;
-    /// The files do not fit where the canonical image has them.
+    /// The files cannot be laid out within the volume's length.
     pub const NO_ROOM: u32 = 22;
-    /// The volume top file does not fit where the canonical image has it.
+    /// The volume top file is misaligned when placed at the end of the volume.
     pub const TOP_ALIGNMENT: u32 = 23;
-    /// Memory ran out.
+    /// Out of memory.
     pub const OUT_OF_MEMORY: u32 = 24;
     /// The buffer is too small. No function of this crate returns it.
     pub const BUFFER_TOO_SMALL: u32 = 256;

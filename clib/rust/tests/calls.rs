@@ -559,7 +559,7 @@ fn faults_say_what_they_mean() {
         shown(fault),
         ("hand-off list: fault 1 at offset 0".to_owned(), None)
     );
-    let text = "the volume has no file of this number, or the file no section of this number";
+    let text = "there is no file or section with this number";
     assert_eq!(
         shown(fv::sections(&empty, 0).unwrap_err()),
         (text.to_owned(), Some(text))

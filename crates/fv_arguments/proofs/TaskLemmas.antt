@@ -14,10 +14,6 @@ use Rattle.fv_arguments.specs.inner.CommandWords.{AsksFor, IsRead, app_named}
 abbrev IsAsked : List ℕ → List (List ℕ) → Option ℕ → Option (String Global) → Task → Type 0
 IsAsked name rest at file task = (name ≡ task_name task) × HasTaskTexts rest task at file
 
-pub single_asked : (name : List ℕ) (m : ArgMatches) (task given : Task) (at : Option ℕ) (file : Option (String Global)) → given ≡ task
-    → ((rest : List (List ℕ)) → IsRead (app_named name) rest m → IsAsked name rest at file task) → AsksFor name m (Ok (Single given at file))
-single_asked name m task given at file is asked = λ rest r. subst (IsAsked name rest at file) (sym is) (asked rest r)
-
 -- they ask for one of two tasks, where a flag says which
 pub by_flag : (name : List ℕ) (rest : List (List ℕ)) (at : Option ℕ) (file : Option (String Global)) (given : Bool)
     (one other task : Task) → task ≡ (if given then one else other) → (given ≡ true → IsAsked name rest at file one)

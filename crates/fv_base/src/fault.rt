@@ -134,31 +134,31 @@ impl FaultKind {
             }
             FaultKind::Revision => "the header of a volume is damaged, or its revision is not 2",
             FaultKind::HeaderLength => "the header of a volume is damaged: its length is wrong",
-            FaultKind::HeaderSum => "the header of a volume is damaged: its sum is wrong",
+            FaultKind::HeaderSum => "the header of a volume is damaged: its checksum is wrong",
             FaultKind::BlockMap => "the header of a volume is damaged: its block map is wrong",
             FaultKind::Length => {
                 "the length in the header is wrong, or bytes follow the volume, \
                 or there are more than 256 MiB"
             }
             FaultKind::ExtHeader => "the extended header of a volume is damaged",
-            FaultKind::FileState => "the state of a file is none that a file has",
-            FaultKind::FileHeaderSum => "the header of a file is damaged: its sum is wrong",
+            FaultKind::FileState => "the state of a file is invalid",
+            FaultKind::FileHeaderSum => "the header of a file is damaged: its checksum is wrong",
             FaultKind::FileSize => "the size of a file is wrong",
-            FaultKind::LargeFile => "a file has the large attribute in FFS2",
-            FaultKind::FileSum => "the data of a file are damaged: their sum is wrong",
-            FaultKind::Fixed => "a file may not be moved, so the volume cannot be rebuilt",
+            FaultKind::LargeFile => "a file in an FFS2 volume has the large-file attribute",
+            FaultKind::FileSum => "the data of a file are damaged: the file checksum is wrong",
+            FaultKind::Fixed => "a file is marked fixed: it may not be moved, so the volume cannot be rebuilt",
             FaultKind::FreeSpace => "the free space of a volume is not erased",
-            FaultKind::DuplicateName => "two files of a volume have one name",
+            FaultKind::DuplicateName => "two files in a volume have the same name",
             FaultKind::TopFile => "the volume top file is not at the end of its volume",
             FaultKind::SectionSize => "the size of a section is wrong",
             FaultKind::SectionTail => "one to three bytes are left where a section would begin",
             FaultKind::Depth => "groups and volumes nest deeper than eight levels",
-            FaultKind::NoRoom => "the files do not fit where the canonical image has them",
+            FaultKind::NoRoom => "the files cannot be laid out within the volume's length",
             FaultKind::TopAlignment => {
-                "the volume top file does not fit where the canonical image has it"
+                "the volume top file is misaligned when placed at the end of the volume"
             }
-            FaultKind::OutOfMemory => "memory ran out",
-            FaultKind::ReadFault => "the input cannot be read, or is no hexadecimal text",
+            FaultKind::OutOfMemory => "out of memory",
+            FaultKind::ReadFault => "the input cannot be read, or is not hexadecimal text",
             FaultKind::WriteFault => "the output cannot be written",
         }
     }

@@ -43,3 +43,4 @@ pub mod VolumeListLaws
 pub mod PadLaws
 pub mod InsideImageLaws
 pub mod InsideMeaningLaws
+pub mod EveryInputLaws

@@ -3,11 +3,12 @@
 
 ghost use Rattle.std.specs.Prelude.{◌↔◌, ◌≡◌, ◌⊎◌, List, ℕ};
 ghost use Rattle.fv_base.specs.declared.fault.Fault.{Fault};
-ghost use Rattle.fv_tree.specs.Words.{Accepted, Meaning};
-ghost use Rattle.fv_canon.specs.Headline.{MeanSame};
+ghost use Rattle.fv_tree.specs.Words.{Accepted, Meaning, NotRead};
+ghost use Rattle.fv_base.specs.Words.{IsBytes};
+ghost use Rattle.fv_canon.specs.Headline.{MeanSame, NormalisesTo};
 ghost use Rattle.fv_canon.specs.ImageRules.{OneImage, OneMeaning, InOrder, painted, PadsRule};
 ghost use Rattle.fv_canon.specs.ImageChecks.{CanonicalImagesStay};
-ghost use Rattle.fv_canon.specs.InputRefusals.{OnlyWhatDoesNotFitIsRefused, WhatDoesNotFitIsRefused};
+ghost use Rattle.fv_canon.specs.InputRefusals.{OnlyWhatDoesNotFitIsRefused, Refuses, WhatDoesNotFitIsRefused};
 ghost use Rattle.fv_canon.specs.Layouts.{Fits};
 ghost use Rattle.fv_canon.specs.LayoutForms.{LaysVolume, LeastVolume};
 ghost use Rattle.fv_canon.specs.LayoutFaults.{Unfit};
@@ -74,4 +75,13 @@ pub fn only_what_does_not_fit_is_refused()
 /// `normalise_image` leaves the image as it is.
 pub fn canonical_images_stay()
     ensures { CanonicalImagesStay }
+{}
+
+/// Every input is a volume or has a first fault, and has a canonical image or is rejected, and never
+/// both: no case is missing from the faults.
+pub fn every_input()
+    ensures read { (input : List ℕ) → IsBytes input → ((m : Meaning) × Accepted input m) ⊎ ((f : Fault) × NotRead input f) }
+    ensures either { (input : List ℕ) → IsBytes input
+        → ((image : List ℕ) × NormalisesTo input image) ⊎ ((f : Fault) × Refuses input f) }
+    ensures never { (input image : List ℕ) (f : Fault) → NormalisesTo input image → Refuses input f → ⊥ }
 {}

@@ -43,12 +43,6 @@ truth_of_tree set phase all t is = grind (arith, common_steps, run_tree)
 pub none_of_order : (set : List Guid) (phase : Phase) (all : List Op) → IsOrder phase all → evaluate_ops set all [] ≡ None
 none_of_order set phase all is = grind (arith, common_steps)
 
--- no ops are those of a tree and of BEFORE or AFTER
-pub tree_no_order : (phase : Phase) (all : List Op) (t : Expression) → IsTree phase all t → IsOrder phase all → ⊥
-tree_no_order phase all t tree order = never (truth [] t) (sym (truth_of_tree [] phase all t tree) ∙ none_of_order [] phase all order) where
-  never : (v : Bool) → Some v ≡ None → ⊥
-  never v e = cc
-
 -- ---- the loop over the ops
 
 pub run_step : (set : List Guid) (all : List Op) (s t : List Bool) (o : Op) (i : ℕ) → drop i all ≡ o ∷ drop (i + 1) all

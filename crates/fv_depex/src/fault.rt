@@ -13,22 +13,22 @@ use thiserror::Error;
 pub enum DepexFaultKind {
     /// Fewer than 16 bytes are left for the GUID of BEFORE, AFTER or PUSH. The offset is that of
     /// the op's code.
-    #[error("the GUID of an op is cut")]
+    #[error("the GUID of an op is cut short")]
     Short,
     /// The phase does not have this op code: PEI has 0x02 to 0x08, DXE 0x00 to 0x09. The offset is
     /// that of the code.
-    #[error("the code of an op is not known")]
+    #[error("an op code is unknown in this phase")]
     Opcode,
     /// The stack holds fewer than two values at AND or OR, none at NOT, or not exactly one at END
     /// (after BEFORE or AFTER, END takes none). The offset is that of the op's code.
-    #[error("the stack does not hold what an op takes")]
+    #[error("the stack does not hold the values that an op takes")]
     Stack,
     /// The bytes end before END. The offset is that of their end.
     #[error("the expression has no end")]
     NoEnd,
     /// BEFORE, AFTER or SOR is not the first op, or an op other than END follows BEFORE or AFTER.
     /// The offset is that of the op's code.
-    #[error("an op stands where it may not")]
+    #[error("an op is not allowed at this position")]
     Position,
     /// Memory ran out. The offset is 0.
     #[error("out of memory")]

@@ -57,28 +57,9 @@ with_large_small false a h l = l
 
 -- ---- without bit 0x01
 
-pub short_without : (a : ℕ) → is_large (without_large a) ≡ false
-short_without a = grind (arith, common_steps, ne_eqb)
-
-pub fixed_without : (a : ℕ) → is_fixed (without_large a) ≡ is_fixed a
-fixed_without a = grind (arith, common_steps)
-
-pub summed_without : (a : ℕ) → is_summed (without_large a) ≡ is_summed a
-summed_without a = grind (arith, common_steps)
-
-pub alignment_without : (a : ℕ) → alignment_of (without_large a) ≡ alignment_of a
-alignment_without a = grind (arith, common_steps)
-
-pub without_small : (a : ℕ) → a < 256 → without_large a < 256
-without_small a l = omega arith
-
 -- bits without bit 0x01 are left as they are
 pub without_short : (a : ℕ) → is_large a ≡ false → without_large a ≡ a
 without_short a h = grind (arith, common_steps, small_even)
-
--- one undoes the other
-pub with_without : (a : ℕ) → with_large (is_large a) (without_large a) ≡ a
-with_without a = grind (arith, common_steps, eqb-true, without_short)
 
 pub without_with : (l : Bool) (a : ℕ) → is_large a ≡ false → without_large (with_large l a) ≡ a
 without_with false a h = without_short a h

@@ -24,20 +24,6 @@ short_size : (large : Bool) (h : List ℕ) → large ≡ false → length h ≡ 
 short_size true h short whole bytes = cc
 short_size false h short whole bytes = field_below 20 3 h bytes (length-take-le 3 (drop 20 h) (omega (arith, whole, length-drop 20 h)))
 
-pub short_limit : (s : FileSystem) (p : Polarity) (head : FileHead) (payload b : List ℕ) → IsBytes b → IsFilled s p head payload b
-    → s ≡ Ffs2 → head.size < 0x1000000
-short_limit s p head payload b bytes h two =
-    let file = h.is_file in
-    let large : Bool = is_large (slice_index file.header 19) in
-    let own : IsBytes file.header =
-    bytes_front file.header payload (subst IsBytes file.text (bytes_front h.file h.filler (subst IsBytes h.text bytes))) in
-    subst (λ (n : ℕ). n < 0x1000000) (sym (ap (λ (x : FileHead). x.size) file.is_header.fields))
-    (short_size large file.header (short large (λ e. (file.is_header.large e).0)) file.is_header.whole own)
-  where
-    short : (large : Bool) → (large ≡ true → s ≡ Ffs3) → large ≡ false
-    short true three = cc (two, three refl)
-    short false three = refl
-
 -- what is known of a file in bytes, in at most so many of them
 pub record FileRead (system : FileSystem) (limit : ℕ) (head : FileHead) (content : List ℕ) : Type 0 where
   pub name : length (bytes_of head.name) ≡ 16

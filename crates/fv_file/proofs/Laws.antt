@@ -22,8 +22,8 @@ pub use Rattle.fv_file.proofs.TiledCellLemmas.{IsRead, tiles_read}
 pub use Rattle.fv_file.proofs.TiledCellLemmas.{within_index}
 -- ---- a file
 
--- the data are after the header; a short header says a short size; what is known of a file in bytes
-pub use Rattle.fv_file.proofs.FileReadLemmas.{payload_behind, short_limit, FileRead, cell_read}
+-- the data are after the header; what is known of a file in bytes
+pub use Rattle.fv_file.proofs.FileReadLemmas.{payload_behind, FileRead, cell_read}
 -- a header has at least 24 bytes
 pub use Rattle.fv_file.proofs.FileLemmas.{header_least}
 -- ---- attribute bits
@@ -35,10 +35,9 @@ pub use Rattle.fv_file.proofs.NewHeaderLemmas.{with_large_is}
 -- the other bits stay where bit 0x01 is set as the form wants it
 pub use Rattle.fv_file.proofs.FileAttributeLemmas.{fixed_with, summed_with, alignment_with, with_large_small}
 -- the other bits stay where bit 0x01 is cleared
-pub use Rattle.fv_file.proofs.FileAttributeLemmas.{short_without, fixed_without, summed_without, alignment_without, without_small}
 pub use Rattle.fv_file.proofs.FileAttributeLemmas.{without_short}
 -- one undoes the other
-pub use Rattle.fv_file.proofs.FileAttributeLemmas.{with_without, without_with}
+pub use Rattle.fv_file.proofs.FileAttributeLemmas.{without_with}
 -- ---- headers that are written
 
 -- they are so many bytes
@@ -47,3 +46,5 @@ pub use Rattle.fv_file.proofs.NewHeaderBytesLemmas.{state_small, bytes_header, l
 pub use Rattle.fv_file.proofs.NewHeaderLemmas.{complement_small, file_written, pad_written, head_of_file, head_of_pad}
 -- no other bytes are the header of these fields
 pub use Rattle.fv_file.proofs.NewHeaderLemmas.{only_written, only_file, only_pad}
+-- it is decided: one of the two holds
+pub use Rattle.fv_file.proofs.DecidedLemmas.{body_decided}

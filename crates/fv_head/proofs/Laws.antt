@@ -14,3 +14,5 @@ pub use Rattle.fv_head.proofs.ExtImageLemmas.{ext_again, ext_len_most}
 pub use Rattle.fv_head.proofs.HeadImageLemmas.{canonical_is, canonical_only, length-canonical, header_len_is, header_len_most}
 -- with its extended header in a pad file after it, it begins a volume of its fields
 pub use Rattle.fv_head.proofs.HeadImageLemmas.{canonical_front}
+-- it is decided: one of the two holds
+pub use Rattle.fv_head.proofs.DecidedLemmas.{front_decided}

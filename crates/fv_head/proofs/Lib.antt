@@ -1,4 +1,5 @@
 pub mod BlockMapLemmas
+pub mod DecidedLemmas
 pub mod ExtImageLemmas
 pub mod ExtLemmas
 pub mod HeadCheckLemmas

@@ -12,16 +12,16 @@ use thiserror::Error;
 pub enum HobFaultKind {
     /// Fewer than 8 bytes are left for a block's header, or fewer than HobLength for the block. The
     /// offset is that of the block's header.
-    #[error("a block is cut")]
+    #[error("a block is cut short")]
     Short,
     /// HobLength is not a multiple of 8, or is below 8. The offset is that of the block's header.
-    #[error("the length of a block is no multiple of 8 from 8 on")]
+    #[error("the length of a block is not a multiple of 8, or is below 8")]
     Length,
     /// The first block is not a hand-off information table (PHIT). The offset is 0.
-    #[error("the first block is no hand-off information table")]
+    #[error("the first block is not a hand-off information table")]
     First,
     /// The block's HobType does not allow its HobLength. The offset is that of the block's header.
-    #[error("the length of a block is not that of its type")]
+    #[error("the length of a block is wrong for its type")]
     Shape,
     /// The bytes end before an end block (EFI_HOB_TYPE_END_OF_HOB_LIST). The offset is that of
     /// their end.

@@ -24,3 +24,5 @@ pub use Rattle.fv_section.proofs.FrameWalkLemmas.{split_stands}
 
 -- frames that are written one after another are read again as the same frames
 pub use Rattle.fv_section.proofs.SectionImageLemmas.{streams_are_read}
+-- it is decided: one of the two holds
+pub use Rattle.fv_section.proofs.DecidedLemmas.{stream_decided}

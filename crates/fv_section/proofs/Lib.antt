@@ -1,3 +1,4 @@
+pub mod DecidedLemmas
 pub mod FrameFaultLemmas
 pub mod FrameLemmas
 pub mod FrameWalkLemmas

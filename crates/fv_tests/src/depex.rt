@@ -94,6 +94,6 @@ fn a_fault_has_its_text(rt: HostRuntime) {
         kind: DepexFaultKind::Stack,
         offset: 2,
     };
-    let text = "the stack does not hold what an op takes (depex fault 3) at offset 2";
+    let text = "the stack does not hold the values that an op takes (depex fault 3) at offset 2";
     assert!(rt; is_printed_as(rt.alloc(), &fault, text));
 }

@@ -46,3 +46,5 @@ pub use Rattle.fv_tree.proofs.WholeInputLaws.{IsOfInput, input_kind, stood_kind}
 
 -- bytes that are a volume begin with its files; bytes begin with the files of one volume, and with the data of each
 pub use Rattle.fv_tree.proofs.LocatedLaws.{volume_files, one_files, begun_data}
+-- it is decided: one of the two holds
+pub use Rattle.fv_tree.proofs.DecidedLaws.{volume_decided, input_decided}

@@ -1,4 +1,5 @@
 pub mod BodyLaws
+pub mod DecidedLaws
 pub mod DepthLaws
 pub mod FaultKindLaws
 pub mod FaultLaws

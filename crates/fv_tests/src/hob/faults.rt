@@ -7,19 +7,19 @@ use fv_hob::{HobFault, HobFaultKind};
 const TEXTS: &[(HobFaultKind, &str)] = &[
     (
         HobFaultKind::Short,
-        "a block is cut (hob fault 1) at offset 56",
+        "a block is cut short (hob fault 1) at offset 56",
     ),
     (
         HobFaultKind::Length,
-        "the length of a block is no multiple of 8 from 8 on (hob fault 2) at offset 56",
+        "the length of a block is not a multiple of 8, or is below 8 (hob fault 2) at offset 56",
     ),
     (
         HobFaultKind::First,
-        "the first block is no hand-off information table (hob fault 3) at offset 56",
+        "the first block is not a hand-off information table (hob fault 3) at offset 56",
     ),
     (
         HobFaultKind::Shape,
-        "the length of a block is not that of its type (hob fault 4) at offset 56",
+        "the length of a block is wrong for its type (hob fault 4) at offset 56",
     ),
     (
         HobFaultKind::NoEnd,
