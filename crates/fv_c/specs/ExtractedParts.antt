@@ -1,4 +1,4 @@
--- What is extracted for C: the data of a file, or the body of one of its sections.
+-- Extracted parts as C receives them: the data of a file, or the body of one of its sections.
 use Rattle.std.specs.Option.{option_and_then}
 use Rattle.std.specs.Prelude.{◌≡◌, ℕ, ◌==◌, if◌then◌else◌, List, Option, Some, None, option_map, slice_get}
 use Rattle.fv_base.specs.declared.fault.Fault.{Fault}
@@ -22,7 +22,7 @@ part_of_file section f =
     if section == whole_file then Some (Data (content_of f))
     else option_map (λ (r : SectionRow). Body (body_of r.section)) (slice_get (section_rows (content_of f)) section)
 
--- the part of a volume that the number of a file and that of a section ask for
+-- the part of a volume that the numbers of a file and of a section ask for
 abbrev pub part_in : ℕ → ℕ → Meaning → Option PartMeaning
 part_in file section m = option_and_then (part_of_file section) (slice_get (files_of m) file)
 

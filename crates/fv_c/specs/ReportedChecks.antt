@@ -1,4 +1,4 @@
--- What is said of each volume of a flash image, as it is reported to C.
+-- The report to C on each volume of a flash image.
 use Rattle.std.specs.Prelude.{ℕ}
 use Rattle.fv_canon.specs.declared.image_check.VolumeCheck.{VolumeCheck}
 use Rattle.fv_canon.specs.declared.image_check.VolumeOutcome.{VolumeOutcome}
@@ -17,7 +17,7 @@ abbrev pub fault_in : VolumeOutcome → FvFault
 fault_in (Rejected fault) = reported_fault fault
 fault_in outcome = no_fault
 
--- a volume, and what is said of it
+-- a volume, and the report on it
 abbrev pub reported_check : VolumeCheck → FvVolumeCheck
 reported_check c = record {
   offset = c.offset;

@@ -21,8 +21,8 @@ pub record SectionRow : Type 0 where
   pub depth : ℕ
   pub section : SectionMeaning
 
--- some sections in preorder: each group is followed by the sections in it. Those of a nested volume are not included.
--- The first has the number n
+-- some sections in preorder: each group is followed by the sections in it. The sections of a nested volume are not
+-- included. The first has the number n
 abbrev mutual
   pub rows_of_sections : (n parent depth : ℕ) → SectionMeanings → List SectionRow
   rows_of_sections n parent depth NoSections = []

@@ -13,8 +13,8 @@ IsBodySum (Leaf b) digest = digest ≡ sha256 b
 IsBodySum (Group _ _) digest = digest ≡ replicate 32 0
 IsBodySum (Nested _) digest = digest ≡ replicate 32 0
 
--- the digest of a part: the SHA-256 of the canonical image of a volume; that of the data of a file, as they are in the
--- canonical image; that of a section
+-- the digest of a part: for a volume the SHA-256 of its canonical image; for a file the SHA-256 of its data as the
+-- canonical image holds them; for a section its digest
 abbrev pub IsSum : NodeMeaning → List ℕ → Type 0
 IsSum (VolumeNode m) digest = (image : List ℕ) × IsImage m image × (digest ≡ sha256 image)
 IsSum (FileNode f) digest = (bytes : List ℕ) × IsData (content_of f) bytes × (digest ≡ sha256 bytes)

@@ -80,7 +80,7 @@ reported_node offset stored r = record {
 
 -- ---- where it is
 
--- the bytes of a row: those of the volume, the data of the file, or the body of the section
+-- the bytes of a row: the whole volume, the data of the file, or the body of the section
 abbrev pub bytes_at : List ℕ → FvNode → List ℕ
 bytes_at input row = field row.offset row.len input
 

@@ -1,4 +1,4 @@
--- What C passes of a dependency expression, and what is reported to it.
+-- The arguments that C passes for a dependency expression, and the report on it.
 use Rattle.std.specs.Prelude.{ℕ, zero, suc, List, Option, Some, None, Bool, true, false}
 use Rattle.fv_base.specs.declared.guid.Guid.{Guid}
 use Rattle.fv_depex.specs.Words.{Spells, IsFirstOpFault, depex_fault_number}
@@ -28,7 +28,7 @@ phase_by_number (suc n) = phases.Dxe
 abbrev pub reported_depex_fault : DepexFault → FvFault
 reported_depex_fault f = record { offset = f.offset; number = depex_fault_number f.kind; depth = 0 }
 
--- the bytes are no expression of the phase, and this is the first fault
+-- the bytes are not an expression of the phase, and this is the first fault
 pub record NoExpression (phase : Phase) (b : List ℕ) (f : DepexFault) : Type 0 where
   pub none : (ops : List Op) (rest : List ℕ) → Spells phase ops rest b → ⊥
   pub first : IsFirstOpFault phase b f

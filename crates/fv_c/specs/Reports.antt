@@ -31,7 +31,7 @@ reported_extent e = record {
 abbrev pub reported_fault : Fault → FvFault
 reported_fault f = record { offset = f.place.offset; number = fault_number f.kind; depth = f.place.depth }
 
--- what is reported if there is no fault
+-- the report if there is no fault
 abbrev pub no_fault : FvFault
 no_fault = record { offset = 0; number = 0; depth = 0 }
 

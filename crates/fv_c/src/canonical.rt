@@ -19,13 +19,13 @@ use fv_sinks::{BufferSink, DigestSink};
 use fv_tree::VolumeView;
 use std::alloc::Global;
 
-/// Whether the input is a volume that is its own canonical image. If the input is a volume, returns
-/// 0, and `canonical` is 1 if it is its own canonical image and 0 if not. No image is made. (PI
-/// specification, volume 3, section 3.2.)
+/// Checks whether the input is a volume that is its own canonical image. Returns 0 for every
+/// volume, and sets `canonical` to 1 if the volume is its own canonical image and to 0 if not. No
+/// image is made. (PI specification, volume 3, section 3.2.)
 ///
 /// # Errors
 ///
-/// The number of the first fault, which is in `fault`: those of `whole_volume`; 24 if memory runs
+/// The number of the first fault, which is in `fault`: a fault of `whole_volume`; 24 if memory runs
 /// out. `canonical` is unchanged then.
 #[unsafe(no_mangle)]
 pub extern "C" fn fv_is_canonical(
@@ -98,13 +98,14 @@ fn digest_of(alloc: Global, input: &[u8]) -> Result<FvDigest, Fault>
     })
 }
 
-/// The SHA-256 digest of the canonical image of the volume that the input is. If it has an image,
-/// returns 0, and `digest` is that of the image. (PI specification, volume 3, section 3.2.)
+/// Computes the SHA-256 digest of the canonical image of a volume, which is the whole input.
+/// Returns 0 if the volume has an image, and `digest` is then the image's digest. (PI
+/// specification, volume 3, section 3.2.)
 ///
 /// # Errors
 ///
-/// The number of the first fault, which is in `fault`: those of `normalise`; 24 if memory runs out.
-/// `digest` is unchanged then.
+/// The number of the first fault, which is in `fault`: a fault of `normalise`; 24 if memory runs
+/// out. `digest` is unchanged then.
 #[unsafe(no_mangle)]
 pub extern "C" fn fv_digest(
     alloc: Global,
@@ -112,7 +113,7 @@ pub extern "C" fn fv_digest(
     digest: &mut FvDigest,
     fault: &mut FvFault,
 ) -> u32
-    // The digest is that of the canonical image.
+    // The digest is the SHA-256 digest of the canonical image.
     ensures ok { result ≡ 0 → (image : List ℕ) × NormalisesTo input.now image
         × (digest.new.bytes ≡ sha256 image) × (fault.new ≡ no_fault) }
 
@@ -137,14 +138,14 @@ pub extern "C" fn fv_digest(
     }
 }
 
-/// Writes the canonical image of the volume that the input is. The image is as long as the input,
-/// and is at the start of the buffer. Returns 0. (PI specification, volume 3, section 3.2.)
+/// Writes the canonical image of a volume, which is the whole input, to the start of the buffer.
+/// The image is as long as the input. Returns 0. (PI specification, volume 3, section 3.2.)
 ///
 /// # Errors
 ///
-/// The number of the first fault, which is in `fault`: those of `normalise`; 24 if memory runs out.
-/// If there is none, 256 if the buffer is shorter than the input. The buffer is unchanged in all
-/// cases.
+/// The number of the first fault, which is in `fault`: a fault of `normalise`; 24 if memory runs
+/// out. If there is none, 256 if the buffer is shorter than the input. The buffer is unchanged in
+/// all cases.
 #[unsafe(no_mangle)]
 pub extern "C" fn fv_normalise(
     alloc: Global,
@@ -191,7 +192,7 @@ pub extern "C" fn fv_normalise(
 ///
 /// # Errors
 ///
-/// The number of the first fault, which is in `fault`, at its offset in the image: those of
+/// The number of the first fault, which is in `fault`, at its offset in the image: a fault of
 /// `normalise_image`; 24 if memory runs out. If there is none, 256 if the buffer is shorter than
 /// the image. The buffer is unchanged in all cases.
 #[unsafe(no_mangle)]
@@ -212,8 +213,8 @@ pub extern "C" fn fv_normalise_image(
         × (length buffer.old < length bytes) × (fault.new ≡ no_fault) }
     ensures room { length buffer.old < length image.now → result ≢ 0 }
 
-    // Any other fault is out of memory, only if the image is within the limit, or that of the first
-    // volume that has no image.
+    // Any other fault is out of memory, only if the image is within the limit, or the fault of the
+    // first volume that has no image.
     ensures err { result ≢ 0 → result ≢ 256 → (f : Fault) × OrMemory (RefusesAll image.now) f
         × (f ≡ out_of_memory → length image.now ≤ volume_limit)
         × (result ≡ fault_number f.kind) × (fault.new ≡ reported_fault f) }

@@ -124,7 +124,7 @@ fn cell_rows(alloc: Global, bytes: &[u8]) -> Result<Vec<FvCell>, Fault>
 /// # Errors
 ///
 /// 256 if the buffer has fewer elements than `count`. The number of the first fault, which is in
-/// `fault`: those of `verify_fv`, then those of `cells`; 24 if memory runs out. `count` is
+/// `fault`: a fault of `verify_fv`, then a fault of `cells`; 24 if memory runs out. `count` is
 /// unchanged then. The buffer is unchanged in both cases.
 #[unsafe(no_mangle)]
 pub extern "C" fn fv_cells(

@@ -91,7 +91,7 @@ fn report(
 ///
 /// # Errors
 ///
-/// The number of the first fault of the input `found.side`, which is in `found.fault`: those of
+/// The number of the first fault of the input `found.side`, which is in `found.fault`: a fault of
 /// `whole_volume`; 24 if memory runs out, with the first side if the two are being compared. The
 /// second input is read only if the first is a volume. If there is no fault, 256 if the buffer is
 /// shorter than the line; `found` has its length then. The buffer is unchanged in all cases.
@@ -112,8 +112,9 @@ pub extern "C" fn fv_compare(
     ensures small { result ≡ 256 → (m : Meaning) × (k : Meaning) × Accepted first.now m × Accepted second.now k
         × IsReported m k found.new × (length buffer.old < found.new.line_len) }
 
-    // A fault is out of memory, only if the input of its side begins with the header of a volume, or
-    // the first of that input. It is the second's only if the first is a volume.
+    // A fault is out of memory, only if the input of its side begins with the header of a volume,
+    // or it is the first fault of that input. The second input is rejected only if the first is a
+    // volume.
     ensures first { found.new.side ≡ 1 → (f : Fault) × OrMemory (NotRead first.now) f
         × (f ≡ out_of_memory → BeginsWithHeader first.now)
         × (result ≡ fault_number f.kind) × (found.new ≡ reported_stop 1 f) }
@@ -122,7 +123,7 @@ pub extern "C" fn fv_compare(
         × (f ≡ out_of_memory → BeginsWithHeader second.now)
         × (result ≡ fault_number f.kind) × (found.new ≡ reported_stop 2 f) }
 
-    // Any other result is that of one of the two inputs.
+    // Any other result is the fault of one of the two inputs.
     ensures side { result ≢ 0 → result ≢ 256 → (found.new.side ≡ 1) ⊎ (found.new.side ≡ 2) }
 {
     let a = match whole_volume(alloc, first) {

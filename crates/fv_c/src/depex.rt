@@ -78,8 +78,8 @@ fn evaluated(
 ///
 /// # Errors
 ///
-/// The number of the first fault, which is in `fault`, by the numbers of `DepexFaultKind`: those of
-/// `read_depex`; 6 if memory runs out. `value` is unchanged then.
+/// The number of the first fault, which is in `fault`, by the numbers of `DepexFaultKind`: a fault
+/// of `read_depex`; 6 if memory runs out. `value` is unchanged then.
 #[unsafe(no_mangle)]
 pub extern "C" fn fv_depex(
     alloc: Global,
@@ -89,7 +89,8 @@ pub extern "C" fn fv_depex(
     value: &mut u32,
     fault: &mut FvFault,
 ) -> u32
-    // The bytes spell these ops and this rest. The value is that of the tree whose ops they are.
+    // The bytes spell these ops and this rest. The value is the truth value of the tree whose ops
+    // they are.
     ensures ok { result ≡ 0 → (ops : List Op) × (rest : List ℕ) × Spells (phase_by_number phase) ops rest bytes.now
         × ((t : Expression) → IsTree (phase_by_number phase) ops t
         → value.new ≡ reported_truth (Some (truth (map passed_guid installed.now) t)))

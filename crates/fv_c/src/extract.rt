@@ -88,8 +88,8 @@ fn put_file_part(
     }
 }
 
-// Puts the part of a volume that the number of a file and that of a section ask for, or returns 257
-// if there is none.
+// Puts the part of a volume that the numbers of a file and of a section ask for, or returns 257 if
+// there is no such part.
 fn put_part(
     alloc: Global,
     volume: &VolumeView<'_>,
@@ -137,10 +137,11 @@ fn put_extracted(
 ///
 /// # Errors
 ///
-/// 256 if the buffer is shorter than `len`. 257 if the volume has no file of this number, or the
-/// file no section of this number. The number of the first fault, which is in `fault`: those of
-/// `whole_volume`; then that of the first volume in the part that does not fit; 24 if memory runs
-/// out. `len` is unchanged then, and if it returns 257. The buffer is unchanged in all cases.
+/// 256 if the buffer is shorter than `len`. 257 if the volume has no file with this number, or the
+/// file has no section with this number. The number of the first fault, which is in `fault`: a
+/// fault of `whole_volume`; then the fault of the first volume in the part that does not fit; 24 if
+/// memory runs out. `len` is unchanged then, and if it returns 257. The buffer is unchanged in all
+/// cases.
 #[unsafe(no_mangle)]
 pub extern "C" fn fv_extract(
     alloc: Global,
@@ -163,7 +164,7 @@ pub extern "C" fn fv_extract(
     ensures absent { result ≡ 257 → HasNoPart file section input.now × (len.new ≡ len.old) × (fault.new ≡ no_fault) }
 
     // Any other fault is out of memory, only if the input begins with the header of a volume, the
-    // first of the input, or that of a volume in the part.
+    // first fault of the input, or the fault of a volume in the part.
     ensures err { result ≢ 0 → result ≢ 256 → result ≢ 257 → (f : Fault)
         × ((f ≡ out_of_memory) ⊎ (NotRead input.now f ⊎ HasUnfitPart file section input.now f))
         × (f ≡ out_of_memory → BeginsWithHeader input.now)

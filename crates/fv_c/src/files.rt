@@ -76,12 +76,12 @@ fn rows_in(alloc: Global, input: &[u8]) -> Result<Vec<FvFile>, Fault>
 
 /// Writes the files of the volume that the input is, in order, at the start of the buffer. `count`
 /// is their number. Returns 0. A file that is marked for update and whose update is in the volume
-/// is none of them. (PI specification, volume 3, section 3.2.3.)
+/// is left out. (PI specification, volume 3, section 3.2.3.)
 ///
 /// # Errors
 ///
 /// 256 if the buffer has fewer elements than `count`. The number of the first fault, which is in
-/// `fault`: those of `whole_volume`; 24 if memory runs out. `count` is unchanged then. The buffer
+/// `fault`: a fault of `whole_volume`; 24 if memory runs out. `count` is unchanged then. The buffer
 /// is unchanged in both cases.
 #[unsafe(no_mangle)]
 pub extern "C" fn fv_files(

@@ -64,7 +64,7 @@ fn hob_rows(alloc: Global, bytes: &[u8]) -> Result<(Vec<FvHob>, u64), HobFault>
 /// # Errors
 ///
 /// 256 if the buffer has fewer elements than `count`. The number of the first fault, which is in
-/// `fault`, by the numbers of `HobFaultKind`: those of `read_hobs`; 6 if memory runs out. `count`
+/// `fault`, by the numbers of `HobFaultKind`: a fault of `read_hobs`; 6 if memory runs out. `count`
 /// and `consumed` are unchanged then. The buffer is unchanged in both cases.
 #[unsafe(no_mangle)]
 pub extern "C" fn fv_hobs(

@@ -1,4 +1,4 @@
-//! What is said of each volume of a flash image.
+//! Checks each volume of a flash image and reports the outcome to C.
 
 ghost use Rattle.std.specs.Prelude.{◌≡◌, ◌≢◌, ◌⊎◌, ◌<◌, ◌≤◌, ◌++◌, ℕ, List, length, drop, map, IfErr, IfOk};
 ghost use Rattle.fv_base.specs.Words.{OrMemory, fault_number, out_of_memory, volume_limit};
@@ -69,7 +69,7 @@ impl Translate for VolumeCheck {
     }
 }
 
-// What is said of each volume of the image, for C.
+// The report for C on each volume of the image.
 fn check_rows(alloc: Global, image: &[u8]) -> Result<Vec<FvVolumeCheck>, Fault>
     ensures ok { IfOk result (λ v. (checks : List VolumeCheck) × ChecksImage image.now checks
         × (v.items ≡ map reported_check checks)) }
@@ -81,9 +81,9 @@ fn check_rows(alloc: Global, image: &[u8]) -> Result<Vec<FvVolumeCheck>, Fault>
     Ok(translate_all(alloc, checks.as_slice())?)
 }
 
-/// Writes what is said of each volume that `fv_scan` finds in a flash image, in their order, at the
-/// start of the buffer. `count` is their number. Returns 0, also if a volume is rejected: its row
-/// has the fault. (PI specification, volume 3, section 3.2.)
+/// Writes a report on each volume that `fv_scan` finds in a flash image, in order, at the start of
+/// the buffer. `count` is their number. Returns 0, also if a volume is rejected: its row has the
+/// fault. (PI specification, volume 3, section 3.2.)
 ///
 /// # Errors
 ///
@@ -108,7 +108,7 @@ pub extern "C" fn fv_check_image(
         × (count.new ≡ length checks) × (length buffer.old < length checks) × (fault.new ≡ no_fault) }
 
     // Any other fault is out of memory, only if a volume begins in an image within the limit, or
-    // that of an image above the limit.
+    // Length, if the image is above the limit.
     ensures err { result ≢ 0 → result ≢ 256 → (f : Fault) × OrMemory (IsAboveLimit image.now) f
         × (f ≡ out_of_memory → (length image.now ≤ volume_limit) × ((place : ℕ) × IsPlace image.now place))
         × (result ≡ fault_number f.kind) × (fault.new ≡ reported_fault f) × (count.new ≡ count.old) }

@@ -17,11 +17,11 @@ pub fn sections_are_in_preorder()
     ensures { (ss : SectionMeanings) (tail : ℕ) → map (λ r. r.section) (section_rows (Sectioned ss tail)) ≡ preorder ss }
 {}
 
-/// The groups of the sections that `fv_sections` writes. Those of depth 0 are exactly the sections
-/// of the file that are in no group, in order, and have no parent. Those in the group of number `n`
-/// are exactly the sections that section number `n` holds, in order, and their depth is one more.
-/// There are none if that section is no group, or no section has that number. (PI specification,
-/// volume 3, section 3.2.4.)
+/// States how the rows that `fv_sections` writes show groups. The rows of depth 0 are exactly the
+/// sections of the file that are in no group, in order, and have no parent. The rows with the
+/// parent `n` are exactly the sections that section number `n` holds, in order, and their depth is
+/// one more. There are none if that section is not a group, or if no section has that number. (PI
+/// specification, volume 3, section 3.2.4.)
 pub fn sections_have_their_group()
     ensures roots { (content : ContentMeaning) → filter is_root (section_rows content)
         ≡ rows_under no_parent 0 (sections_in_data content) }
@@ -29,21 +29,22 @@ pub fn sections_have_their_group()
         ≡ rows_under_row n (slice_get (section_rows content) n) }
 {}
 
-/// What the rows that `fv_tree` writes hold. The volume itself is the only row of depth 0, and has
-/// no parent. The rows with the parent `n` are exactly the parts that row number `n` holds, in
-/// order and numbered from 0, and their depth is one more: the files of a volume, the sections of a
-/// file or a group, the volume of a section. There are none if that row holds bytes, or no row has
-/// that number. (PI specification, volume 3, sections 3.2.1, 3.2.3 and 3.2.4.)
+/// States which rows `fv_tree` writes for the parts of each part. The volume itself is the only row
+/// of depth 0, and has no parent. The rows with the parent `n` are exactly the parts that row
+/// number `n` holds, in order and numbered from 0, and their depth is one more: the files of a
+/// volume, the sections of a file or a group, the volume of a section. There are none if that row
+/// holds bytes, or no row has that number. (PI specification, volume 3, sections 3.2.1, 3.2.3 and
+/// 3.2.4.)
 pub fn rows_have_their_parent()
     ensures first { (m : Meaning) → filter is_first (tree_rows m) ≡ rows_of_parts no_parent 0 0 (VolumeNode m ∷ []) }
     ensures inner { (m : Meaning) (n : ℕ) → filter (is_held_by n) (tree_rows m)
         ≡ rows_held n (slice_get (tree_rows m) n) }
 {}
 
-/// Which bytes of the input are at the places of the rows that `fv_tree` writes. At that of a
-/// volume are the bytes of a volume with its meaning. At that of a file of plain bytes are these
-/// bytes, and at that of a section that holds bytes are these. (PI specification, volume 3, sections
-/// 3.2.1, 3.2.3 and 3.2.4.)
+/// States which bytes of the input are at the places of the rows that `fv_tree` writes. At a
+/// volume's place are the bytes of a volume with its meaning. At the place of a file of plain bytes
+/// are these bytes, and at the place of a section that holds bytes are these bytes. (PI
+/// specification, volume 3, sections 3.2.1, 3.2.3 and 3.2.4.)
 pub fn rows_have_their_bytes()
     ensures volume { (input : List ℕ) (rows : List FvNode) (row : FvNode) (r : TreeRow) (m : Meaning)
         → IsNodeIn input rows row r → r.node ≡ VolumeNode m → Accepted (bytes_at input row) m }

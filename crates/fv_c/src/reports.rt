@@ -1,4 +1,4 @@
-//! What is reported to C.
+//! The structures in which calls report to C.
 
 ghost use Rattle.std.specs.Prelude.{◌≡◌, ◌↔◌, ◌<◌, ◌≤◌, true};
 ghost use Rattle.fv_base.specs.Words.{fault_number};
@@ -7,15 +7,15 @@ ghost use Rattle.fv_c.specs.Reports.{reported_extent, reported_fault};
 use fv_base::{Fault, FileSystem};
 use fv_head::Extent;
 
-/// What a call returns if the caller's buffer is too small. The numbers from 256 on are results of
-/// this library itself: the number of a fault is a byte.
+/// The result of a call if the caller's buffer is too small. Results from 256 on are the library's
+/// own, because the number of a fault is a byte.
 pub const BUFFER_TOO_SMALL: u32 = 256;
 
-/// What a call returns if memory runs out: the number of that fault.
+/// The result of a call if memory runs out: the number of OutOfMemory.
 pub const OUT_OF_MEMORY: u32 = 24;
 
-/// What a call returns if the volume has no file of the number that was passed, or the file no
-/// section of that number.
+/// The result of a call if the volume has no file with the number that was passed, or the file has
+/// no section with that number.
 pub const NOT_FOUND: u32 = 257;
 
 /// A fault and its place. All fields are 0 if there is none.
@@ -31,7 +31,7 @@ pub struct FvFault {
     pub depth: u32,
 }
 
-/// That there is no fault.
+/// The report that there is no fault.
 pub const NO_FAULT: FvFault = FvFault {
     offset: 0,
     number: 0,

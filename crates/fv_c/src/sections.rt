@@ -92,9 +92,10 @@ fn section_rows(alloc: Global, input: &[u8], number: u64) -> Result<Option<Vec<F
 ///
 /// # Errors
 ///
-/// 256 if the buffer has fewer elements than `count`. 257 if the volume has no file of this number.
-/// The number of the first fault, which is in `fault`: those of `whole_volume`; 24 if memory runs
-/// out. `count` is unchanged then, and if it returns 257. The buffer is unchanged in all cases.
+/// 256 if the buffer has fewer elements than `count`. 257 if the volume has no file with this
+/// number. The number of the first fault, which is in `fault`: a fault of `whole_volume`; 24 if
+/// memory runs out. `count` is unchanged then, and if it returns 257. The buffer is unchanged in
+/// all cases.
 #[unsafe(no_mangle)]
 pub extern "C" fn fv_sections(
     alloc: Global,

@@ -324,17 +324,17 @@ fn rows_in(alloc: Global, input: &[u8]) -> Result<Vec<FvNode>, Fault>
     Ok(rows)
 }
 
-/// Writes the whole tree of the volume that the input is at the start of the buffer: the volume,
-/// its files and their sections, and in the same way each volume that a section holds. Each row is
-/// followed by the rows of what it holds. `count` is the number of rows. Returns 0. Data are read
-/// once. To find the places of the parts, headers are read again, except those of the volume's own
-/// files. A file that is marked for update and whose update is in its volume is none of them. (PI
-/// specification, volume 3, sections 3.2.1, 3.2.3 and 3.2.4.)
+/// Writes the whole tree of a volume, which is the whole input, to the start of the buffer: the
+/// volume, its files and their sections, and in the same way each volume that a section holds. Each
+/// row is followed by the rows of what it holds. `count` is the number of rows. Returns 0. Data are
+/// read once. To find the places of the parts, headers are read again, except the headers of the
+/// volume's own files. A file that is marked for update and whose update is in its volume is left
+/// out. (PI specification, volume 3, sections 3.2.1, 3.2.3 and 3.2.4.)
 ///
 /// # Errors
 ///
 /// 256 if the buffer has fewer elements than `count`. The number of the first fault, which is in
-/// `fault`: those of `whole_volume`; 24 if memory runs out. `count` is unchanged then. The buffer
+/// `fault`: a fault of `whole_volume`; 24 if memory runs out. `count` is unchanged then. The buffer
 /// is unchanged in both cases.
 #[unsafe(no_mangle)]
 pub extern "C" fn fv_tree(

@@ -23,10 +23,10 @@ use fv_sinks::DigestSink;
 use fv_tree::{Body, Content, FileView, SectionView, VolumeView};
 use std::alloc::{AllocError, Global};
 
-// In place of the digest of a section that holds sections or a volume.
+// The bytes in place of the digest of a section that holds sections or a volume.
 const NO_SUM: FvDigest = FvDigest { bytes: [0; 32] };
 
-// The digest of a volume: that of its canonical image.
+// Returns the digest of a volume: the SHA-256 digest of its canonical image.
 fn volume_sum(volume: &VolumeView<'_>, starts: &[u64]) -> FvDigest
     requires { BeginsWithStarts (volumes_in volume.now) starts.now }
     ensures { IsSum (VolumeNode volume.now) result.bytes }
@@ -38,7 +38,7 @@ fn volume_sum(volume: &VolumeView<'_>, starts: &[u64]) -> FvDigest
     }
 }
 
-// The digest of a file: that of its data, as they are in the canonical image.
+// Returns the digest of a file: the SHA-256 digest of its data as the canonical image holds them.
 fn file_sum(file: &FileView<'_>, starts: &[u64]) -> FvDigest
     requires { BeginsWithStarts (volumes_in_content (content_of file.now)) starts.now }
     ensures { IsSum (FileNode file.now) result.bytes }
@@ -50,7 +50,7 @@ fn file_sum(file: &FileView<'_>, starts: &[u64]) -> FvDigest
     }
 }
 
-// The digest of some bytes.
+// Returns the SHA-256 digest of these bytes.
 fn bytes_sum(bytes: &[u8]) -> FvDigest
     ensures { result.bytes ≡ sha256 bytes.now }
 {
@@ -61,7 +61,8 @@ fn bytes_sum(bytes: &[u8]) -> FvDigest
     }
 }
 
-// The digest of a section: that of its body, if it is a leaf.
+// Returns the digest of a section: the SHA-256 digest of its body if the section is a leaf,
+// otherwise zero bytes.
 fn section_sum(section: &SectionView<'_>) -> FvDigest
     ensures { IsSum (SectionNode section.now) result.bytes }
 {
@@ -71,8 +72,8 @@ fn section_sum(section: &SectionView<'_>) -> FvDigest
     }
 }
 
-// Adds the digests of some sections, each followed by those of what it holds. Each of these walks
-// returns the starts of what comes after.
+// Adds the digests of these sections, each followed by the digests of its parts. Each of these
+// walks returns the remaining starts of the layout.
 #[cycle(sums)]
 fn add_sections<'s>(
     sections: &[SectionView<'_>],
@@ -132,7 +133,7 @@ fn add_content<'s>(
     }
 }
 
-// Adds the digests of some files, each followed by those of what it holds.
+// Adds the digests of these files, each followed by the digests of its parts.
 #[cycle(sums)]
 fn add_files<'s>(
     files: &[FileView<'_>],
@@ -153,7 +154,7 @@ fn add_files<'s>(
     Ok(rest)
 }
 
-// Adds the digest of a volume, followed by those of what it holds.
+// Adds the digest of a volume, followed by the digests of its parts.
 #[cycle(sums)]
 fn add_volume<'s>(
     volume: &VolumeView<'_>,
@@ -182,18 +183,17 @@ fn sums_in(alloc: Global, input: &[u8]) -> Result<Vec<FvDigest>, Fault>
     Ok(sums)
 }
 
-/// Writes the SHA-256 digests of the parts of the volume that the input is at the start of the
-/// buffer: one for each row of `fv_tree`, in the same order. That of a volume is the digest of its
-/// canonical image, that of a file is the digest of its data as they are in the canonical image,
-/// and that of a section is the digest of its body. A section that holds sections or a volume has
-/// 32 zero bytes in place of it. `count` is the number of digests. Returns 0. The input is read and
-/// laid out once, and no image is kept in memory. (PI specification, volume 3, sections 3.2.1,
-/// 3.2.3 and 3.2.4.)
+/// Writes the SHA-256 digests of the parts of a volume, which is the whole input, to the start of
+/// the buffer: one for each row of `fv_tree`, in the same order. A volume's digest covers its
+/// canonical image, a file's digest its data as the canonical image holds them, and a section's
+/// digest its body. A section that holds sections or a volume has 32 zero bytes instead. `count` is
+/// the number of digests. Returns 0. The input is read and laid out once, and no image is kept in
+/// memory. (PI specification, volume 3, sections 3.2.1, 3.2.3 and 3.2.4.)
 ///
 /// # Errors
 ///
 /// 256 if the buffer has fewer elements than `count`. The number of the first fault, which is in
-/// `fault`: those of `normalise`; 24 if memory runs out. `count` is unchanged then. The buffer is
+/// `fault`: a fault of `normalise`; 24 if memory runs out. `count` is unchanged then. The buffer is
 /// unchanged in both cases.
 #[unsafe(no_mangle)]
 pub extern "C" fn fv_list_sums(

@@ -10,13 +10,14 @@ ghost use Rattle.fv_c.specs.Reports.{reported_extent, reported_fault, no_fault};
 use crate::reports::{FvExtent, FvFault, NO_FAULT, refused, reported_extent};
 use fv_head::verify_fv;
 
-/// Whether the bytes begin with a volume. Only its header is read. If they do, returns 0, and
-/// `extent` is that of the volume. Takes no memory. (PI specification, volume 3, section 3.2.1.1.)
+/// Checks whether the bytes begin with a volume. Only its header is read. Returns 0 if they do, and
+/// `extent` then describes the volume. Takes no memory. (PI specification, volume 3, section
+/// 3.2.1.1.)
 ///
 /// # Errors
 ///
-/// The number of the first fault, which is in `fault`: those of `verify_fv`. `extent` is unchanged
-/// then.
+/// The number of the first fault, which is in `fault`: a fault of `verify_fv`. `extent` is
+/// unchanged then.
 #[unsafe(no_mangle)]
 pub extern "C" fn fv_verify(bytes: &[u8], extent: &mut FvExtent, fault: &mut FvFault) -> u32
     // The bytes begin with the header of a volume of this extent.
@@ -27,7 +28,7 @@ pub extern "C" fn fv_verify(bytes: &[u8], extent: &mut FvExtent, fault: &mut FvF
     ensures only { (h : HeadFields) (e : Extent) → BeginsVolume h e bytes.now
         → (result ≡ 0) × (extent.new ≡ reported_extent e) }
 
-    // A fault is that of the first check that does not hold.
+    // A fault is the fault of the first check that does not hold.
     ensures first { result ≢ 0 → (f : Fault) × IsFirstFault (head_checks bytes.now) f
         × (result ≡ fault_number f.kind) × (fault.new ≡ reported_fault f) }
 

@@ -83,7 +83,7 @@ fn guids_are_parsed_from_each_form(rt: HostRuntime) {
     }
 }
 
-// Texts that are no names.
+// Texts that are not names.
 #[test]
 fn guids_are_parsed_from_no_other_text(rt: HostRuntime) {
     for text in [

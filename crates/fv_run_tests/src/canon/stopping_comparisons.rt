@@ -7,7 +7,7 @@ use fv_compare::{Side, run_compare};
 use std::alloc::Global;
 use std::io::Read;
 
-/// What is written of the two volumes.
+/// The line that a comparison of the two volumes writes.
 const LINE: &[u8; 31] = b"different at file 0 attributes\n";
 
 // Whether a comparison returns this, and writes the bytes and nothing after them.

@@ -1,4 +1,4 @@
-//! How a run ends that writes one line: what is wrong with it.
+//! How a run ends that writes a single line about what is wrong.
 
 use super::runs::{Input, ends_as};
 use crate::fakes::FakeWriter;

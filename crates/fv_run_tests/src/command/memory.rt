@@ -13,7 +13,7 @@ const LIST: &[u8; 250] = b"volume ffs2 length 128 files 1 sha256 \
     \x20 file 0 0a0a0a0a-0a0a-0a0a-0a0a-0a0a0a0a0a0a type 01 attributes 00 data 0 \
     sha256 e3b0c44298fc1c149afbf4c8996fb92427ae41e4649b934ca495991b7852b855\n";
 
-/// What is written if memory ran out.
+/// The output if memory ran out.
 const LINE: &[u8; 14] = b"fault 24 at 0\n";
 
 // The plan to list a volume with digests.

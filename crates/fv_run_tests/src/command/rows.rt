@@ -2,7 +2,7 @@
 //!
 //! A line is a command, a colon, its inputs, with an ampersand before the second, and after an
 //! arrow the status and what is written. An input is words that spell it, or text after an
-//! apostrophe, which is only read as hexadecimal text. What is written is lines that end with a
+//! apostrophe, which is only read as hexadecimal text. The output is given as lines that end with a
 //! bar, or, after an equals sign, words that spell bytes. `commands` has the command line of each
 //! command. `rows/README.md` has the notation of more of them.
 
@@ -16,7 +16,7 @@ use std::alloc::Global;
 /// A run, and how it ends.
 #[derive(Drop)]
 pub(crate) struct Run {
-    /// What is to be done.
+    /// The task of the run.
     pub plan: Plan,
     /// The bytes of the first input.
     pub first: Vec<u8>,

@@ -84,7 +84,7 @@ fn bodies(polarity: Polarity) -> &'static [BodyRow] {
     }
 }
 
-// Whether a cell is no pad, and has this state, offset and length.
+// Whether a cell is not a pad, and has this state, offset and length.
 fn is_cell(cell: &Cell, wanted: CellRow) -> bool {
     match *cell {
         Cell::Valid { offset, head, .. } => wanted == (head.state, offset, head.size),

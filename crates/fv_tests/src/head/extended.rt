@@ -73,14 +73,14 @@ const AT_77: &[(usize, &[u8])] = &[
     (93, &[0x14, 0x00, 0x00, 0x00]),
 ];
 
-/// What is changed in a volume.
+/// The bytes that are changed in a volume.
 type Changes = &'static [(usize, &'static [u8])];
 
 /// The type and the payload of each entry.
 type Entries = &'static [(u16, &'static [u8])];
 
-/// What is changed in the bare volume; then where its first file may begin, and the entries and the
-/// tail of its extended header; and then how long that is.
+/// The bytes that are changed in the bare volume; then where its first file may begin, and the
+/// entries and the tail of its extended header; and then how long that is.
 type ReadRow = (Changes, u64, Entries, &'static [u8], u32);
 
 /// Extended headers that are read.
