@@ -112,8 +112,8 @@ IsFileWord text file = option_map string_bytes file ≡ text
 abbrev pub HasInput : App → List (List ℕ) → Option ℕ → Option (String Global) → Type 0
 HasInput app rest at file = IsAtWord (text_in app (codes "at") rest) at × IsFileWord (text_in app (codes "file") rest) file
 
--- the task, its byte and its file are those that the arguments give. A flag (`--all`, `--sums`) distinguishes two tasks
--- with one name. With `--all` no byte is given
+-- the arguments give this task, this byte and this file. A flag (`--all`, `--sums`) distinguishes two tasks with one
+-- name. With `--all` no byte is given
 abbrev pub HasTaskTexts : List (List ℕ) → Task → Option ℕ → Option (String Global) → Type 0
 HasTaskTexts rest Normalise at file =
     (flag_in image_app (codes "all") rest ≡ false) × HasInput image_app rest at file
@@ -134,7 +134,7 @@ HasTaskTexts rest CheckAll at file =
 HasTaskTexts rest Cells at file = HasInput volume_app rest at file
 HasTaskTexts rest Scan at file = (at ≡ None) × IsFileWord (text_in one_input_app (codes "file") rest) file
 
--- the command is the one that the arguments after its name give
+-- the arguments after the command's name give this command
 abbrev pub HasTexts : List (List ℕ) → Command → Type 0
 HasTexts rest (Single task at file) = HasTaskTexts rest task at file
 HasTexts rest (Hobs file image) =
@@ -144,16 +144,16 @@ HasTexts rest (Compare first second) =
     IsVolumeWords (text_in compare_app (codes "first") rest) (text_in compare_app (codes "at") rest) first
     × IsVolumeWords (text_in compare_app (codes "second") rest) (text_in compare_app (codes "other-at") rest) second
 
--- the plan is for the command with this name. The parser accepts the arguments after the name, the command is the one
--- that they give, and inputs are text exactly if the flag `--hex` is given
+-- the plan is for the command with this name. The parser accepts the arguments after the name, these arguments give the
+-- plan's command, and inputs and outputs are hexadecimal text exactly if the flag `--hex` is given
 pub record AsksBy (name : List ℕ) (rest : List (List ℕ)) (plan : Plan) : Type 0 where
   pub command : name ≡ command_name plan.command
   pub taken : faults_in (command_app plan.command) rest ≡ []
   pub hex : plan.hex ≡ flag_in (command_app plan.command) (codes "hex") rest
   pub texts : HasTexts rest plan.command
 
--- the plan is what a complete command line asks for. The argument after the program's name names the command
--- (`AsksBy`). Without that argument, the plan is `plan_without_words`
+-- a complete command line asks for this plan. The argument after the program's name names the command (`AsksBy`).
+-- Without that argument, the plan is `plan_without_words`
 abbrev pub Asks : List (List ℕ) → Plan → Type 0
 Asks [] plan = plan ≡ plan_without_words
 Asks (program ∷ []) plan = plan ≡ plan_without_words

@@ -25,7 +25,7 @@ at_rule = option_rule (codes "at")
 abbrev pub other_at_rule : Rule
 other_at_rule = option_rule (codes "other-at")
 
--- the rules that all commands share: `--hex`, which says that inputs and outputs are text
+-- the rules that all commands share: `--hex`, which says that inputs and outputs are hexadecimal text
 abbrev pub flag_app : App
 flag_app = with_rule (new_app (codes "fvtool")) (flag_rule (codes "hex"))
 

@@ -111,7 +111,7 @@ fn is_given(matches: &ArgMatches<'_>, name: &str) -> bool
     matches.get_one::<bool>(name).unwrap_or(false)
 }
 
-// Returns the first task if the flag is given, otherwise the other one.
+// Returns the first task if the flag is given, otherwise the other task.
 fn task_by(given: bool, task: Task, other: Task) -> Task
     ensures { result ≡ if given then task else other }
 {

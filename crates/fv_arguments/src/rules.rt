@@ -45,7 +45,7 @@ fn add_volume<'a>(
 }
 
 // Makes the rules that every command has: the flag `--hex`, which says that inputs and outputs are
-// text.
+// hexadecimal text.
 fn text_rules<'a>(alloc: Global) -> Result<Command<'a>, AllocError>
     ensures { IfOk result (λ c. app_of c ≡ flag_app) }
 {

@@ -1,5 +1,5 @@
--- The limits on what is read. The code has its own constants for them (src/limits.rt): a contract that cites one of
--- these numbers can be proved only while the two agree.
+-- The limits on volumes, on their headers and on nesting. The code has its own constants for them (src/limits.rt): a
+-- contract that cites one of these numbers can be proved only while the two agree.
 use Rattle.std.specs.Prelude.{ℕ}
 
 -- the maximum length of a volume, and of the binary input of a run, in bytes

@@ -1,10 +1,10 @@
--- Definitions about bytes and numbers that contracts of other calls cite: a sum, a test that bytes are erased,
+-- Further definitions about bytes and numbers that contracts cite: a sum, a test that all bytes have one value,
 -- alignments, and a limit (PI specification, volume 3, section 3.2.3.1).
 use Rattle.std.specs.List.{list_all}
 use Rattle.std.specs.Prelude.{ℕ, ◌%◌, List, sum, ◌≡◌, ◌==◌, Bool, ◌^◌, ◌≤◌}
 
--- the maximum length of a file's data in bytes: that of a volume, less the 32 bytes of a large header. The code has no
--- constant for it
+-- the maximum length of a file's data in bytes: the maximum length of a volume, less the 32 bytes of a large header.
+-- The code has no constant for it
 abbrev pub data_limit : ℕ
 data_limit = 268435424
 

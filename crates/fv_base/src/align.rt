@@ -6,7 +6,7 @@ ghost use Rattle.fv_base.specs.Measures.{IsAlignment};
 
 use std::marker::Model;
 
-/// The alignment of a file's data, relative to the first byte of its volume: a power of two.
+/// The alignment of a file's data, counted from the first byte of its volume: a power of two.
 /// Contracts see its exponent. (PI specification, volume 3, section 3.2.3.1,
 /// `FFS_ATTRIB_DATA_ALIGNMENT` and `FFS_ATTRIB_DATA_ALIGNMENT_2`.)
 #[derive(Clone, Copy, Debug, PartialEq, Eq)]

@@ -17,7 +17,7 @@ pub enum FaultKind {
     Truncated,
     /// `Signature`, the four bytes at 40, is not `_FVH` (`EFI_FVH_SIGNATURE`). At 40.
     Signature,
-    /// `FileSystemGuid`, at 16, is neither the GUID of FFS2 nor that of FFS3. At 16.
+    /// `FileSystemGuid`, at 16, is neither the GUID of FFS2 nor the GUID of FFS3. At 16.
     FileSystem,
     /// `Revision`, the byte at 55, is not 2 (`EFI_FVH_REVISION`). At 55.
     Revision,
@@ -46,8 +46,8 @@ pub enum FaultKind {
     /// the end; or `Size` of a large header is not 0; or the end cuts the header short. At the file
     /// + 20.
     FileSize,
-    /// `Attributes` of a file in FFS2 has `FFS_ATTRIB_LARGE_FILE`, bit 0x01. (A header that was
-    /// never finished may have this bit.) At the file + 19.
+    /// `Attributes` of a file in FFS2 has `FFS_ATTRIB_LARGE_FILE`, bit 0x01. (In a header under
+    /// construction, or an invalid header, the bit is allowed.) At the file + 19.
     LargeFile,
     /// The file checksum of a valid file that is not a pad is wrong: with `FFS_ATTRIB_CHECKSUM`,
     /// the data and `IntegrityCheck.Checksum.File` do not sum to 0; without it,
@@ -60,8 +60,8 @@ pub enum FaultKind {
     /// either fewer than 24 of them are left or `State` is erased. At the first of these bytes that
     /// is not erased.
     FreeSpace,
-    /// A valid file that is not a pad has the same `Name` as an earlier one in the same state. At
-    /// the later file.
+    /// A valid file that is not a pad has the same `Name` as an earlier such file in the same
+    /// state. At the later file.
     DuplicateName,
     /// A file that has the `Name` `EFI_FFS_VOLUME_TOP_FILE_GUID` and is not superseded is not the
     /// last file, or does not end at `FvLength`. At the file.
@@ -74,7 +74,8 @@ pub enum FaultKind {
     /// The content of a group or of an opened volume would be at depth 9. At the section header.
     Depth,
     /// A volume was read, but its files cannot be laid out within its `FvLength` bytes, although
-    /// its volume top file, if it has one, could be placed. At 0, with the depth of that volume.
+    /// its volume top file, if it has one, can begin at its only possible start. At 0, with the
+    /// depth of that volume.
     NoRoom,
     /// A volume was read, but its volume top file, placed so that it ends at `FvLength`, does not
     /// begin at a multiple of 8, or the file's data are not aligned (`FFS_ATTRIB_DATA_ALIGNMENT`).
@@ -82,7 +83,8 @@ pub enum FaultKind {
     TopAlignment,
     /// Memory ran out. At 0.
     OutOfMemory,
-    /// The reader failed, or was interrupted too often. At the number of bytes read so far.
+    /// The reader failed, or was interrupted too often (at the number of bytes read so far). Or an
+    /// input that should be hexadecimal text is not an even number of digits (at 0).
     ReadFault,
     /// The writer failed, or took none of the bytes that it was given. At the number of bytes
     /// written so far.

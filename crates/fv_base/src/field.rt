@@ -3,7 +3,7 @@
 ghost use Rattle.std.specs.Prelude.{◌≡◌, ◌+◌, ◌<◌, ◌≤◌, ◌^◌, length, drop};
 ghost use Rattle.fv_base.specs.Value.{field, le_at, up_to_8};
 
-/// Returns the bytes of a field: `size` bytes from the offset `at` on. They must lie within
+/// Returns the bytes of a field: `size` bytes from the offset `at` on. The field must lie within
 /// `bytes`.
 pub fn field(bytes: &[u8], at: usize, size: usize) -> &[u8]
     requires { at + size ≤ length bytes.now }
@@ -21,7 +21,7 @@ pub fn bytes_from(bytes: &[u8], at: usize) -> &[u8]
     &bytes[at..]
 }
 
-/// Returns the little-endian 2-byte number at the offset `at`. It must lie within `bytes`.
+/// Returns the little-endian 2-byte number at the offset `at`. The number must lie within `bytes`.
 pub fn u16_at(bytes: &[u8], at: usize) -> u16
     requires { at + 2 ≤ length bytes.now }
     ensures { result ≡ le_at at 2 bytes.now }
@@ -30,7 +30,7 @@ pub fn u16_at(bytes: &[u8], at: usize) -> u16
     u16::from_le_bytes([part[0], part[1]])
 }
 
-/// Returns the little-endian 4-byte number at the offset `at`. It must lie within `bytes`.
+/// Returns the little-endian 4-byte number at the offset `at`. The number must lie within `bytes`.
 pub fn u32_at(bytes: &[u8], at: usize) -> u32
     requires { at + 4 ≤ length bytes.now }
     ensures { result ≡ le_at at 4 bytes.now }
@@ -39,7 +39,7 @@ pub fn u32_at(bytes: &[u8], at: usize) -> u32
     u32::from_le_bytes([part[0], part[1], part[2], part[3]])
 }
 
-/// Returns the little-endian 8-byte number at the offset `at`. It must lie within `bytes`.
+/// Returns the little-endian 8-byte number at the offset `at`. The number must lie within `bytes`.
 pub fn u64_at(bytes: &[u8], at: usize) -> u64
     requires { at + 8 ≤ length bytes.now }
     ensures { result ≡ le_at at 8 bytes.now }

@@ -16,14 +16,14 @@ pub struct Guid {
 }
 
 impl Guid {
-    /// The GUID with these sixteen bytes, in the order in which a volume stores them.
+    /// Returns the GUID with these sixteen bytes, in the order in which a volume stores them.
     pub const fn from_bytes(bytes: [u8; 16]) -> Guid
         ensures { bytes_of result ≡ bytes }
     {
         Guid { bytes }
     }
 
-    /// The sixteen bytes, in the order in which a volume stores them.
+    /// Returns the sixteen bytes, in the order in which a volume stores them.
     pub const fn to_bytes(self) -> [u8; 16]
         ensures { result ≡ bytes_of self }
     {

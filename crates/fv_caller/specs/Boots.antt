@@ -1,4 +1,4 @@
--- What a boot reads.
+-- The inputs that a boot reads.
 use Rattle.std.specs.Prelude.{◌≡◌, ◌⊎◌, ◌≤◌, ℕ, List, length, take}
 use Rattle.fv_caller.specs.declared.fault.CallerFault.{CallerFault}
 use Rattle.fv_caller.specs.declared.fault.CallerFault.TheVariants as faults

@@ -21,8 +21,8 @@ pub struct Archived {
     pub files: u32,
 }
 
-/// Returns what the archive keeps of the volume that the input is. (PI specification, volume 3,
-/// section 3.2.)
+/// Reads the input as a volume with no bytes after it, and returns its canonical image and the
+/// number of its files. (PI specification, volume 3, section 3.2.)
 ///
 /// # Errors
 ///

@@ -47,7 +47,7 @@ pub record FirstRefused (b places : List ℕ) (fault : Fault) : Type 0 where
   pub refused : RefusedAt b place fault
 
 -- either b is longer than the limit, and the fault is Length at the limit; or b is within the limit, and the fault is
--- that of the first volume in b that is rejected
+-- the fault of the first rejected volume in b
 abbrev pub RefusesAll : List ℕ → Fault → Type 0
 RefusesAll b fault =
     ((volume_limit < length b) × (fault ≡ outer_fault kinds.Length volume_limit))

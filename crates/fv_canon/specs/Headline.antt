@@ -56,7 +56,7 @@ CellSums b (Pad at head _) = (header_sum_of (take head.header_len (drop at b)) �
 CellSums b _ = Unit {0}
 
 -- a canonical image begins with the volume header, whose words sum to zero, and cells with right checksums tile the
--- rest. One of these cells is the pad with the extended header
+-- rest. If there is an extended header, its pad is the first of these cells
 abbrev pub SumsAreRight : Type 0
 SumsAreRight =
     (m : Meaning) (image : List ℕ) → IsMeaning m → IsImage m image
@@ -78,8 +78,8 @@ IsWithin part whole = (before : List ℕ) × (after : List ℕ) × (whole ≡ be
 abbrev pub HasOwnImage : List ℕ → Inside → Type 0
 HasOwnImage whole v = (own : List ℕ) × IsImage v.volume own × IsWithin own whole
 
--- for each volume inside a volume, some bytes have its meaning, and the outer volume's canonical image contains its own
--- as consecutive bytes
+-- for a volume and for each volume inside it, some bytes have that volume's meaning, and the canonical image of the
+-- outer volume contains that volume's canonical image as consecutive bytes
 abbrev pub EachVolumeHasItsImage : Type 0
 EachVolumeHasItsImage =
     (m : Meaning) (image : List ℕ) → IsMeaning m → IsImage m image

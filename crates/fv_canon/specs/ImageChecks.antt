@@ -14,11 +14,11 @@ use Rattle.fv_canon.specs.declared.image_check.VolumeCheck.{VolumeCheck}
 use Rattle.fv_canon.specs.declared.image_check.VolumeOutcome.{VolumeOutcome}
 use Rattle.fv_canon.specs.declared.image_check.VolumeOutcome.TheVariants.{Canonical, NotCanonical, Rejected}
 
--- the bytes are a volume, but not the canonical image of its meaning, which may have none
+-- the bytes are a volume, but are not the canonical image of its meaning; the meaning may have no canonical image
 abbrev pub IsOtherThanImage : List ℕ → Type 0
 IsOtherThanImage bytes = (m : Meaning) × Accepted bytes m × (IsImage m bytes → ⊥)
 
--- the outcome is that of the bytes, which begin at this offset of a flash image. Canonical: they are a volume and its
+-- the outcome describes the bytes, which begin at this offset of a flash image. Canonical: they are a volume and its
 -- own canonical image. NotCanonical: they are a volume, but not its canonical image. Rejected: they are not a volume,
 -- and the fault is their first, with its offset counted from the first byte of the flash image
 abbrev pub HasOutcome : ℕ → List ℕ → VolumeOutcome → Type 0

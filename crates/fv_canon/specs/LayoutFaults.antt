@@ -18,14 +18,14 @@ abbrev pub layout_fault : FaultKind → ℕ → Fault
 layout_fault kind depth = record { kind = kind; place = record { offset = 0; depth = depth } }
 
 -- the volume's own files cannot be placed. The fault is TopAlignment if the volume top file cannot begin at its only
--- possible start, and otherwise NoRoom
+-- possible start (`TopOff`), and otherwise NoRoom
 abbrev pub UnfitHere : Meaning → ℕ → Fault → Type 0
 UnfitHere m depth f =
     (TopOff (length_of m) (layout_items m) × (f ≡ layout_fault kinds.TopAlignment depth))
     ⊎ (HasNoRoom (length_of m) (first_edge (head_of m) (head_of m).ext) (layout_items m) × (f ≡ layout_fault kinds.NoRoom depth))
 
--- the fault f is that of the first of these volumes whose own files cannot be placed. `depth` is added to the depths of
--- the volumes
+-- f is the fault of the first of these volumes whose own files cannot be placed. `depth` is added to the depths of the
+-- volumes
 abbrev pub FirstUnfit : List Inside → ℕ → Fault → Type 0
 FirstUnfit [] depth f = ⊥
 FirstUnfit (v ∷ vs) depth f = UnfitHere v.volume (depth + v.depth) f ⊎ (IsPlaced v × FirstUnfit vs depth f)

@@ -19,8 +19,8 @@ Laid are_own [] starts = starts ≡ []
 Laid are_own (v ∷ vs) starts =
     (own : List ℕ) × (inner : List ℕ) × (starts ≡ own ++ inner) × are_own v.volume own × Laid are_own vs inner
 
--- the list consists of the starts of the volume's own files and then those of the files of the volumes inside it, in
--- preorder
+-- the list consists of the starts of the volume's own files, and then the starts of the files of the volumes inside it,
+-- in preorder
 abbrev pub LaysVolume : Meaning → List ℕ → Type 0
 LaysVolume m starts = Laid AreStarts (volumes_in m) starts
 
@@ -38,6 +38,6 @@ pub record Places : Type 0 where
   pub own : List ℕ
   pub inner : List ℕ
 
--- the starts are those of the canonical image, and `own` has one start for each of the volume's own files
+-- the files of the canonical image begin at these starts, and `own` has one start for each of the volume's own files
 abbrev pub IsLayout : Meaning → Places → Type 0
 IsLayout m l = LaysVolume m (l.own ++ l.inner) × (length l.own ≡ length (files_of m))

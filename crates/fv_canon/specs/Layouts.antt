@@ -10,7 +10,7 @@ use Rattle.fv_placement.specs.Words.{IsFirstPlacement}
 use Rattle.fv_placement.specs.declared.first_placement.LayoutItem.{LayoutItem}
 use Rattle.fv_canon.specs.StoredFiles.{head_len_for, size_for}
 
--- what the placement of a file depends on. `layout_items` lists it for each of a volume's own files
+-- the properties of a file on which its placement depends. `layout_items` lists them for each of a volume's own files
 abbrev pub layout_item : FileMeaning → LayoutItem
 layout_item f = record {
   header = head_len_for (data_len_of f);

@@ -48,7 +48,8 @@ pub fn write_canonical<W: Write>(
     ensures err { IfErr result (λ f. (image : List ℕ) × IsImage view.now image
         × WriteStops (W.contents (inner_of writer.old)) (W.contents (inner_of writer.new)) image f) }
 
-    // WriteFault is returned exactly if a write failed.
+    // If the result is Ok, the port's error flag is as it was before. If an error is returned, the
+    // flag is set.
     ensures fine { OnOk result (has_erred writer.new ≡ has_erred writer.old) }
     ensures erred { OnErr result (has_erred writer.new ≡ true) }
 {
@@ -67,7 +68,7 @@ pub fn write_canonical<W: Write>(
 ///
 /// The errors of `layout`, and OutOfMemory.
 pub fn canonical(alloc: Global, view: &VolumeView<'_>) -> Result<ByteList, Fault>
-    // The result is the image of the view's meaning, and no other bytes are.
+    // The result is the image of the view's meaning, and no other bytes are its image.
     ensures image { IfOk result (λ bytes. IsImage view.now bytes) }
     ensures only { (other : List ℕ) → IsImage view.now other → IfOk result (λ bytes. bytes ≡ other) }
 
@@ -76,7 +77,8 @@ pub fn canonical(alloc: Global, view: &VolumeView<'_>) -> Result<ByteList, Fault
     ensures denotes { IfOk result (λ bytes. Accepted bytes view.now) }
     ensures meaning { IfOk result (λ bytes. (m : Meaning) → IsMeaning m → IsImage m bytes → m ≡ view.now) }
 
-    // Any error other than OutOfMemory is the fault of a volume that does not fit.
+    // Any error other than OutOfMemory is the fault of the first volume whose own files cannot be
+    // placed.
     ensures err { IfErr result (OrMemory (Unfit view.now 0)) }
 
     // If the volume fits, the only error is OutOfMemory.

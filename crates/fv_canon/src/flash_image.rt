@@ -238,7 +238,8 @@ pub fn write_normalised_image<W: Write>(
     // Memory runs out only if the image is within the limit.
     ensures memory { IfErr result (λ f. f ≡ out_of_memory → length image.now ≤ volume_limit) }
 
-    // WriteFault is returned exactly if a write failed.
+    // If the result is Ok, the port's error flag is as it was before. If WriteFault is returned,
+    // the flag is set.
     ensures fine { OnOk result (has_erred writer.new ≡ has_erred writer.old) }
     ensures erred { IfErr result (λ f. f.kind ≡ FaultKind.WriteFault → has_erred writer.new ≡ true) }
 {

@@ -14,7 +14,8 @@ ghost use Rattle.fv_canon.specs.LayoutForms.{LaysVolume, LeastVolume};
 ghost use Rattle.fv_canon.specs.LayoutFaults.{Unfit};
 ghost use Rattle.fv_canon.specs.PlacedBytes.{ShowsPlaced, PlacedBytes};
 
-/// A meaning has at most one image, and an image is the image of only one meaning.
+/// A meaning has at most one canonical image. Two different meanings, each of which some bytes
+/// have, never have the same image.
 pub fn one_image()
     ensures image { OneImage }
     ensures meaning { OneMeaning }
@@ -27,7 +28,7 @@ pub fn fits()
     ensures unfit { (m : Meaning) (depth : ℕ) (f : Fault) → Unfit m depth f → Fits m → ⊥ }
 {}
 
-/// A volume that does not fit is rejected with only one fault.
+/// The layout of a volume has at most one fault.
 pub fn one_fault()
     ensures { (m : Meaning) (depth : ℕ) (f g : Fault) → Unfit m depth f → Unfit m depth g → f ≡ g }
 {}
@@ -44,8 +45,9 @@ pub fn pads()
     ensures { PadsRule }
 {}
 
-/// If spans are in order and do not overlap, exactly one list of bytes contains them and is erased
-/// elsewhere: the list that joins the spans and the erased bytes between them.
+/// If spans are in order, do not overlap and end within `total` bytes, exactly one list of `total`
+/// bytes contains them and is erased elsewhere: the list that joins the spans and the erased bytes
+/// around them.
 pub fn one_list_shows()
     ensures { (erased total : ℕ) (placed : List PlacedBytes) (bytes : List ℕ) → InOrder total 0 placed
         → ShowsPlaced total erased placed bytes ↔ (bytes ≡ painted erased total 0 placed) }
@@ -65,8 +67,8 @@ pub fn what_does_not_fit_is_refused()
     ensures refused { WhatDoesNotFitIsRefused }
 {}
 
-/// An input that is rejected as NoRoom or TopAlignment is a volume whose layout does not fit. An
-/// input that is rejected with any other fault is not a volume.
+/// An input that is rejected as NoRoom or TopAlignment is a volume that does not fit. An input that
+/// is rejected with any other fault is not a volume.
 pub fn only_what_does_not_fit_is_refused()
     ensures { OnlyWhatDoesNotFitIsRefused }
 {}
@@ -77,8 +79,8 @@ pub fn canonical_images_stay()
     ensures { CanonicalImagesStay }
 {}
 
-/// Every input is a volume or has a first fault, and has a canonical image or is rejected, and never
-/// both: no case is missing from the faults.
+/// Every input is a volume, or it is not a volume and has a first fault. Every input has a
+/// canonical image or is rejected, and never both. So no case is missing from the faults.
 pub fn every_input()
     ensures read { (input : List ℕ) → IsBytes input → ((m : Meaning) × Accepted input m) ⊎ ((f : Fault) × NotRead input f) }
     ensures either { (input : List ℕ) → IsBytes input

@@ -3,8 +3,8 @@
 //! accepted volume whose layout fits normalises to an accepted volume of the same length and
 //! meaning that normalises to itself, with each file's data aligned and each checksum right. An
 //! accepted volume whose layout does not fit is rejected as NoRoom or TopAlignment, and no other
-//! volume is. The laws of this third sentence are in `further_laws`, and `normalise` has clauses
-//! for it.
+//! input is rejected with these faults. The laws of this third sentence are in `further_laws`, and
+//! `normalise` has clauses for it.
 //!
 //! None of these functions does anything: their contracts are what is proved.
 
@@ -38,16 +38,16 @@ pub fn data_are_aligned()
 
 /// The canonical image of a volume begins with its header, whose 16-bit words sum to zero. The rest
 /// is tiled by files and pads with right checksums: the header of each sums to zero, a file's file
-/// checksum is right, and a pad's file checksum is 0xAA. The pad that holds the extended header is
-/// one of these pads. Each volume inside is its own canonical image, so this is true at every
-/// level. (PI specification, volume 3, sections 3.2.1.1 and 3.2.3.1.)
+/// checksum is right, and a pad's file checksum is 0xAA. If there is an extended header, the pad
+/// that holds it is one of these pads. Each volume inside is its own canonical image, so this is
+/// true at every level. (PI specification, volume 3, sections 3.2.1.1 and 3.2.3.1.)
 pub fn sums_are_right()
     ensures { SumsAreRight }
 {}
 
-/// For each volume inside a volume, some bytes have its meaning, and the canonical image of the
-/// outer volume contains its own canonical image as consecutive bytes. So what is true of every
-/// canonical image is true at every level.
+/// For a volume and for each volume inside it, some bytes have that volume's meaning, and the
+/// canonical image of the outer volume contains that volume's canonical image as consecutive bytes.
+/// So a law of all canonical images holds at every level.
 pub fn each_volume_has_its_image()
     ensures { EachVolumeHasItsImage }
 {}

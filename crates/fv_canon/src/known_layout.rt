@@ -48,8 +48,8 @@ impl Layout {
         }
     }
 
-    /// Returns all starts: those of the volume's own files, and then those of the files of the
-    /// volumes inside it.
+    /// Returns all starts: first the starts of the volume's own files, then the starts of the files
+    /// of the volumes inside it.
     pub fn starts(&self) -> &[u64]
         ensures { result.now ≡ self.now.own ++ self.now.inner }
     {

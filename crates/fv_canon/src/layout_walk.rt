@@ -27,11 +27,11 @@ use std::alloc::Global;
 ///
 /// # Errors
 ///
-/// The fault of the first volume that does not fit, at offset 0 and with the depth of that volume;
-/// the outer volume comes before the volumes inside it. The fault is TopAlignment if the only
-/// possible start of the volume top file is not a multiple of 8, or if its data are not aligned
-/// there. Otherwise it is NoRoom: the files cannot be placed in their order. OutOfMemory, only if
-/// the volume has a file.
+/// The fault of the first volume whose own files cannot be placed, at offset 0 and with the depth
+/// of that volume; the outer volume comes before the volumes inside it. The fault is TopAlignment
+/// if the only possible start of the volume top file is not a multiple of 8, or if its data are not
+/// aligned there. Otherwise it is NoRoom: the files cannot be placed in their order. OutOfMemory,
+/// only if the volume has a file.
 pub fn layout(alloc: Global, view: &VolumeView<'_>) -> Result<Layout, Fault>
     // The files are in their first placement at every level.
     ensures layout { IfOk result (IsLayout view.now) }
@@ -45,7 +45,8 @@ pub fn layout(alloc: Global, view: &VolumeView<'_>) -> Result<Layout, Fault>
         → Placement (length_of view.now) (first_edge (head_of view.now) (head_of view.now).ext) (layout_items view.now) others
         → take i others ≡ take i l.own → get_or l.own i 0 ≤ get_or others i 0) }
 
-    // Any error other than OutOfMemory is the fault of the first volume that does not fit.
+    // Any error other than OutOfMemory is the fault of the first volume whose own files cannot be
+    // placed.
     ensures err { IfErr result (OrMemory (Unfit view.now 0)) }
 
     // If the volume fits, its layout is returned, unless memory runs out.
@@ -160,7 +161,8 @@ fn own_starts(alloc: Global, view: &VolumeView<'_>, depth: u8) -> Result<Vec<u64
     }
 }
 
-// Returns what the placement of each file of a volume depends on, in the order of the files.
+// Returns, for each file of a volume in order, the properties on which the file's placement
+// depends.
 fn layout_items(alloc: Global, view: &VolumeView<'_>) -> Result<Vec<LayoutItem>, Fault>
     ensures ok { IfOk result (λ items. (items.items ≡ layout_items view.now)
         × All (IsLawfulItem (head_of view.now).length) items.items) }
@@ -177,7 +179,7 @@ fn layout_items(alloc: Global, view: &VolumeView<'_>) -> Result<Vec<LayoutItem>,
     Ok(items)
 }
 
-// Returns what the placement of a file depends on.
+// Returns the properties of a file on which its placement depends.
 fn layout_item(file: &FileView<'_>) -> LayoutItem
     ensures { result ≡ layout_item file.now }
 {

@@ -32,12 +32,12 @@ pub fn normalise(alloc: Global, input: &[u8]) -> Result<ByteList, Fault>
     ensures length { IfOk result (λ bytes. length bytes ≡ length input.now) }
 
     // Any error other than OutOfMemory is the first fault of an input that is not a volume, or the
-    // fault of the first volume in the input that does not fit.
+    // fault of the first volume in the input whose own files cannot be placed.
     ensures err { IfErr result (OrMemory (Refuses input.now)) }
 
     // NoRoom or TopAlignment is returned only if the input is a volume that does not fit, and is
-    // the fault of the first volume in it that does not fit. Any other error except OutOfMemory is
-    // returned only if the input is not a volume.
+    // the fault of the first volume in it whose own files cannot be placed. Any other error except
+    // OutOfMemory is returned only if the input is not a volume.
     ensures unfit { IfErr result (λ f. IsOfLayout f.kind → NotPlaced input.now f) }
     ensures unread { IfErr result (λ f. f ≢ out_of_memory → (IsOfLayout f.kind → ⊥) → IsNoVolume input.now) }
 
@@ -82,7 +82,8 @@ pub fn write_normalised<W: Write>(
     // Memory runs out only if the input begins with the header of a volume.
     ensures memory { IfErr result (λ f. f ≡ out_of_memory → BeginsWithHeader input.now) }
 
-    // WriteFault is returned exactly if a write failed.
+    // If the result is Ok, the port's error flag is as it was before. If WriteFault is returned,
+    // the flag is set.
     ensures fine { OnOk result (has_erred writer.new ≡ has_erred writer.old) }
     ensures erred { IfErr result (λ f. f.kind ≡ FaultKind.WriteFault → has_erred writer.new ≡ true) }
 {

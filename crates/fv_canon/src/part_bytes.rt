@@ -19,16 +19,17 @@ use std::alloc::Global;
 ///
 /// # Errors
 ///
-/// The fault of the first volume in the data that does not fit, at offset 0 and with the depth of
-/// that volume, which is 1 if the volume is the body of one of the file's own sections.
-/// OutOfMemory.
+/// The fault of the first volume in the data whose own files cannot be placed, at offset 0 and with
+/// the depth of that volume, which is 1 if the volume is the body of one of the file's own
+/// sections. OutOfMemory.
 pub fn file_bytes(alloc: Global, file: &FileView<'_>) -> Result<ByteList, Fault>
     ensures data { IfOk result (λ o. IsData (content_of file.now) o) }
 
     // The result is unique.
     ensures only { (other : List ℕ) → IsData (content_of file.now) other → IfOk result (λ o. o ≡ other) }
 
-    // Any error other than OutOfMemory is the fault of the first volume that does not fit.
+    // Any error other than OutOfMemory is the fault of the first volume whose own files cannot be
+    // placed.
     ensures err { IfErr result (OrMemory (FirstUnfit (volumes_in_content (content_of file.now)) 0)) }
 
     // If all volumes in the data fit, the only error is OutOfMemory.
@@ -47,15 +48,16 @@ pub fn file_bytes(alloc: Global, file: &FileView<'_>) -> Result<ByteList, Fault>
 ///
 /// # Errors
 ///
-/// The fault of the first volume in the body that does not fit, at offset 0 and with the depth of
-/// that volume, which is 0 if the volume is the body itself. OutOfMemory.
+/// The fault of the first volume in the body whose own files cannot be placed, at offset 0 and with
+/// the depth of that volume, which is 0 if the volume is the body itself. OutOfMemory.
 pub fn body_bytes(alloc: Global, section: &SectionView<'_>) -> Result<ByteList, Fault>
     ensures body { IfOk result (λ o. IsBodyImage (body_of section.now) o) }
 
     // The result is unique.
     ensures only { (other : List ℕ) → IsBodyImage (body_of section.now) other → IfOk result (λ o. o ≡ other) }
 
-    // Any error other than OutOfMemory is the fault of the first volume that does not fit.
+    // Any error other than OutOfMemory is the fault of the first volume whose own files cannot be
+    // placed.
     ensures err { IfErr result (OrMemory (FirstUnfit (volumes_in_body (body_of section.now)) 0)) }
 
     // If all volumes in the body fit, the only error is OutOfMemory.

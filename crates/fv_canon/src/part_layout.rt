@@ -19,9 +19,9 @@ use std::alloc::Global;
 ///
 /// # Errors
 ///
-/// The fault of the first volume in the data that does not fit, at offset 0 and with the depth of
-/// that volume, which is 1 if the volume is the body of one of the file's own sections.
-/// OutOfMemory.
+/// The fault of the first volume in the data whose own files cannot be placed, at offset 0 and with
+/// the depth of that volume, which is 1 if the volume is the body of one of the file's own
+/// sections. OutOfMemory.
 pub fn lay_out_data(alloc: Global, file: &FileView<'_>) -> Result<Vec<u64>, Fault>
     ensures ok { IfOk result
         (λ starts. BeginsWithStarts (volumes_in_content (content_of file.now)) starts.items) }
@@ -30,7 +30,8 @@ pub fn lay_out_data(alloc: Global, file: &FileView<'_>) -> Result<Vec<u64>, Faul
     ensures long { IfOk result
         (λ _. (bytes : List ℕ) × IsData (content_of file.now) bytes × (length bytes ≡ data_len_of file.now)) }
 
-    // Any error other than OutOfMemory is the fault of the first volume that does not fit.
+    // Any error other than OutOfMemory is the fault of the first volume whose own files cannot be
+    // placed.
     ensures err { IfErr result (OrMemory (FirstUnfit (volumes_in_content (content_of file.now)) 0)) }
 {
     // In a file that was read, groups and volumes nest so little that a byte can count the levels.
@@ -43,8 +44,8 @@ pub fn lay_out_data(alloc: Global, file: &FileView<'_>) -> Result<Vec<u64>, Faul
 ///
 /// # Errors
 ///
-/// The fault of the first volume in the body that does not fit, at offset 0 and with the depth of
-/// that volume, which is 0 if the volume is the body itself. OutOfMemory.
+/// The fault of the first volume in the body whose own files cannot be placed, at offset 0 and with
+/// the depth of that volume, which is 0 if the volume is the body itself. OutOfMemory.
 pub fn lay_out_body(alloc: Global, section: &SectionView<'_>) -> Result<Vec<u64>, Fault>
     ensures ok { IfOk result
         (λ starts. Laid AreStarts (volumes_in_body (body_of section.now)) starts.items) }
@@ -53,7 +54,8 @@ pub fn lay_out_body(alloc: Global, section: &SectionView<'_>) -> Result<Vec<u64>
     ensures long { IfOk result (λ _. (bytes : List ℕ) × IsBodyImage (body_of section.now) bytes
         × (length bytes ≡ body_len (body_of section.now))) }
 
-    // Any error other than OutOfMemory is the fault of the first volume that does not fit.
+    // Any error other than OutOfMemory is the fault of the first volume whose own files cannot be
+    // placed.
     ensures err { IfErr result (OrMemory (FirstUnfit (volumes_in_body (body_of section.now)) 0)) }
 {
     // For a section that was read, the walk with these starts puts its body.

@@ -34,8 +34,8 @@ pub(crate) fn skip_body<'s>(body: Body<'_, '_>, starts: &'s [u64]) -> &'s [u64]
     }
 }
 
-// Returns the starts that follow the starts of a volume: those of its own files and of the volumes
-// in them.
+// Returns the starts that follow the starts of a volume, which are the starts of its own files and
+// of the volumes in them.
 #[cycle(skip)]
 fn skip_volume<'s>(volume: &VolumeView<'_>, starts: &'s [u64]) -> &'s [u64]
     requires laid { BeginsWithStarts (volumes_in volume.now) starts.now }

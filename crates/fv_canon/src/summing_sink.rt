@@ -14,7 +14,7 @@ ghost use Rattle.fv_canon.specs.inner.SummingSinks.{ImageTakes, image_by, sums, 
 
 use fv_base::{Sink, sum8};
 
-/// What a `SummingSink` does with the bytes that it takes.
+/// How a `SummingSink` treats the bytes that it takes.
 #[derive(Clone, Copy, Drop)]
 pub(crate) enum Mode {
     /// It puts them into the sink below.

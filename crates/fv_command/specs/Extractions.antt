@@ -1,4 +1,4 @@
--- What is extracted from a volume: the data of a file, or the body of one of its sections.
+-- The parts that are extracted from a volume: the data of a file, or the body of one of its sections.
 use Rattle.std.specs.Prelude.{◌≡◌, ⊤, ℕ, List, Option, Some, None}
 use Rattle.fv_base.specs.declared.fault.Fault.{Fault}
 use Rattle.fv_canon.specs.Words.{IsData, IsBodyImage, FirstUnfit}
@@ -23,8 +23,8 @@ IsFramePart None NotFound = ⊤
 IsFramePart _ _ = ⊥
 
 -- the result of looking for the section of this type and instance. Sections are counted in preorder through groups. In
--- a security core whose data are a stream, its frames are counted instead. If the data are plain bytes otherwise, the
--- result is NotSectioned (PI specification, volume 3, section 3.2.3)
+-- a security core whose data are a stream, its frames are counted instead. For every other file whose data are plain
+-- bytes, the result is NotSectioned (PI specification, volume 3, section 3.2.3)
 pub record IsSectionOf (f : FileMeaning) (kind instance : ℕ) (answer : Extraction) : Type 0 where
   pub sections : (ss : SectionMeanings) (t : ℕ) → content_of f ≡ Sectioned ss t
       → IsSectionPart (section_of_type kind instance ss) answer
@@ -46,8 +46,8 @@ abbrev pub IsPart : Option FileMeaning → Part → Extraction → Type 0
 IsPart None part answer = answer ≡ NotFound
 IsPart (Some f) part answer = IsFilePart f part.section part.instance answer
 
--- why the data of the file, or the body of the section, cannot be extracted: the fault of the first volume in it that
--- does not fit
+-- why the data of the file, or the body of the section, cannot be extracted: the fault of the first volume in these
+-- bytes whose own files cannot be placed
 abbrev pub StopsFilePart : FileMeaning → Option ℕ → ℕ → Fault → Type 0
 StopsFilePart f None instance fault = FirstUnfit (volumes_in_content (content_of f)) 0 fault
 StopsFilePart f (Some kind) instance fault =
@@ -55,8 +55,8 @@ StopsFilePart f (Some kind) instance fault =
     × (section_of_type kind instance ss ≡ Some s)
     × FirstUnfit (volumes_in_body (body_of s)) 0 fault
 
--- why a part cannot be extracted: the fault of the first volume in it that does not fit, with the depth of that volume
--- in the part
+-- why a part cannot be extracted: the fault of the first volume in it whose own files cannot be placed, with the depth
+-- of that volume in the part
 abbrev pub StopsPart : Option FileMeaning → Part → Fault → Type 0
 StopsPart None part fault = ⊥
 StopsPart (Some f) part fault = StopsFilePart f part.section part.instance fault

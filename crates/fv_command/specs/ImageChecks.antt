@@ -37,7 +37,8 @@ checks_status checks =
     if list_any (λ c. is_rejected c.outcome) checks then Faulty
     else (if list_any (λ c. is_another c.outcome) checks then Different else Done)
 
--- the text has a line for each volume that is found in the input, in order, and the status is that of all these checks
+-- the text has a line for each volume that is found in the input, in order, and the worst of these checks determines
+-- the status
 abbrev pub ChecksText : List ℕ → Status → List ℕ → Type 0
 ChecksText input status text =
     (checks : List VolumeCheck) × ChecksImage input checks × (status ≡ checks_status checks)

@@ -26,7 +26,8 @@ abbrev pub HobImageStops : Bool → Option ℕ → Change → Fault → Type 0
 HobImageStops hex None input fault = ⊥
 HobImageStops hex (Some base) input fault = GivingStops hex input.old input.new fault
 
--- the list and the image were read, the first input begins with a hand-off list, and the text is that of `hobs` for it
+-- the list and the image were read, the first input begins with a hand-off list, and the text is the output of `hobs`
+-- for this list
 pub record ListsHobs (hex : Bool) (base : Option ℕ) (first second : Change) (text : List ℕ) : Type 0 where
   pub list : List ℕ
   pub gives : Gives hex first.old first.new list
@@ -61,12 +62,11 @@ StopsHobs base hex first second (Input fault) = HobInputStops hex base first sec
 StopsHobs base hex first second (Hobs fault) = RefusesHobs hex base first second fault
 StopsHobs base hex first second (OneOfTwo side fault) = ⊥
 
--- an input was read to its end, and what is taken of it (all of it, or what begins at byte `at`) is a volume with this
--- meaning
+-- an input was read to its end, and the bytes taken of it (`GivesAt`) are a volume with this meaning
 abbrev pub GivesVolume : Bool → Option ℕ → Change → Meaning → Type 0
 GivesVolume hex at input m = (bytes : List ℕ) × GivesAt hex at input.old input.new bytes × Accepted bytes m
 
--- an input stopped the run: reading it stopped, what is taken of it is not a volume, or memory ran out
+-- an input stopped the run: reading it stopped, the bytes taken of it are not a volume, or memory ran out
 abbrev pub VolumeInputStops : Bool → Option ℕ → Change → Fault → Type 0
 VolumeInputStops hex at input fault =
     GivingStops hex input.old input.new fault

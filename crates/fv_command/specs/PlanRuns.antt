@@ -18,8 +18,8 @@ use Rattle.fv_command.specs.declared.ending.Refusal.TheVariants.{Input, OneOfTwo
 use Rattle.fv_command.specs.declared.status.Status.{Status}
 use Rattle.fv_command.specs.declared.status.Status.TheVariants.{Refused}
 
--- the unread bytes of a source, given those of standard input and of a file; a file that could not be opened has none,
--- and neither has an input that does not exist
+-- the unread bytes of a source, given the unread bytes of standard input and of a file; a file that could not be opened
+-- has none, and neither has an input that does not exist
 abbrev pub unread : {S F : Type 0} → (S → Option (List ℕ)) → (F → Option (List ℕ)) → Source S F → Option (List ℕ)
 unread of_input of_file (Standard reader) = of_input reader
 unread of_input of_file (File file) = of_file file
@@ -63,8 +63,8 @@ StopsCommand (Hobs file image) hex first second refusal =
 StopsCommand (Compare a b) hex first second (OneOfTwo side fault) = SideStops side hex a.at b.at first second fault
 StopsCommand (Compare a b) hex first second refusal = ⊥
 
--- the text and the status of a run. Without a refusal they are those of the command. With a refusal the command is
--- refused for that reason, the text is the line of the refusal, and the status is Refused
+-- the text and the status of a run. Without a refusal they are the text and the status of the command. With a refusal
+-- the command is refused for that reason, the text is the line of the refusal, and the status is Refused
 abbrev pub HasText : Command → Bool → (first second : Change) → Option Refusal → Status → List ℕ → Type 0
 HasText command hex first second None status text = SaysCommand command hex first second status text
 HasText command hex first second (Some refusal) status text =
@@ -76,11 +76,11 @@ Runs p ended ports =
     (ran : Status) × (text : List ℕ) × HasText p.command p.hex ports.first ports.second ended.refusal ran text
     × Ends ran text ports.output ended.status
 
--- what the port over a source shows before anything is read: the unread bytes, and no failed call
+-- the view of the port over a source before anything is read: the unread bytes, and no failed call
 abbrev pub fresh : {S F : Type 0} → (S → Option (List ℕ)) → (F → Option (List ℕ)) → Source S F → Shown
 fresh of_input of_file source = seen (unread of_input of_file source) false
 
--- a run of the plan over the sources that it names: what opening its paths returns, and standard input
+-- a run of the plan over the sources that it names: the files that opening its paths returns, and standard input
 abbrev pub RunsOver : {S F : Type 0} → (S → Option (List ℕ)) → (F → Option (List ℕ)) → (List ℕ → Option F → Type 0)
     → (S → Type 0) → Plan → Ending → Change → Type 0
 RunsOver {S} {F} of_input of_file opens is_standard p ended output =

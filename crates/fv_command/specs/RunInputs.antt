@@ -20,17 +20,17 @@ At n input volume =
     ((h : HeadFields) × (e : Extent) × BeginsVolume h e (drop n input) × (volume ≡ take e.length (drop n input)))
     ⊎ (((h : HeadFields) (e : Extent) → BeginsVolume h e (drop n input) → ⊥) × (volume ≡ drop n input))
 
--- what a command takes of an input: all of it, or the volume at byte n
+-- the bytes that a command takes of an input: all of them, or the volume at byte n
 abbrev pub TakenAt : Option ℕ → List ℕ → List ℕ → Type 0
 TakenAt None input taken = taken ≡ input
 TakenAt (Some n) input taken = At n input taken
 
--- an input was read to its end, and these bytes are what is taken of it: all of it, or the volume at byte `at`
+-- an input was read to its end, and these bytes are taken of it: all of them, or the volume at byte `at`
 abbrev pub GivesAt : Bool → Option ℕ → Shown → Shown → List ℕ → Type 0
 GivesAt hex at old new taken = (input : List ℕ) × Gives hex old new input × TakenAt at input taken
 
--- reading an input stopped with this fault, or its text spells no bytes; if the fault is a failure of the reader, one
--- of the reader's calls has failed
+-- reading an input stopped with this fault. For bytes: if the fault is ReadFault and the port's error flag was clear
+-- before, the flag is set. For hexadecimal text: as `TextStops` says, which includes text that is rejected
 abbrev pub GivingStops : Bool → Shown → Shown → Fault → Type 0
 GivingStops false old new fault =
     ReadStops old.bytes new.bytes fault × (old.erred ≡ false → fault.kind ≡ kinds.ReadFault → new.erred ≡ true)

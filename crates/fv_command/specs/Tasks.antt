@@ -34,9 +34,9 @@ pub record AreCells (m : Meaning) (b : List ℕ) (polarity : Polarity) (cells : 
   pub polarity_is : polarity ≡ extent.polarity
   pub tiles : Tiles extent.file_system polarity extent.first cells (drop extent.first b)
 
--- the input is a volume, and the text is that of `check`: a line for each pad whose data bytes are not all erased, one
--- for each rejected dependency expression, and a last line. The last line says whether the input is the canonical image
--- of its meaning
+-- the input is a volume, and the text is the output of `check`: a line for each pad whose data bytes are not all
+-- erased, a line for each rejected dependency expression, and a last line. The last line says whether the input is the
+-- canonical image of its meaning
 pub record CheckText (input : List ℕ) (same : Bool) (text : List ℕ) : Type 0 where
   pub meaning : Meaning
   pub accepted : Accepted input meaning
@@ -60,7 +60,7 @@ FileDigest f digest = (bytes : List ℕ) × IsData (content_of f) bytes × (dige
 abbrev pub LeafDigest : List ℕ → Option (List ℕ) → Type 0
 LeafDigest b digest = digest ≡ Some (sha256 b)
 
--- the text of `list --sums`: that of `list`, with these digests
+-- the text of `list --sums`: the text of `list`, with these digests
 abbrev pub SumsText : Meaning → List ℕ → Type 0
 SumsText m text = VolumeLines VolumeDigest FileDigest LeafDigest 0 m text
 
@@ -74,7 +74,7 @@ PartText hex NotSectioned Different text = text ≡ codes "not sectioned\n"
 PartText hex x status text = ⊥
 
 -- the text and the status of a task for its input; a task has no text with any other status:
--- - `Normalise`: the canonical image of the volume that the input is
+-- - `Normalise`: the canonical image of the input, which is a volume
 -- - `NormaliseAll`: the input, with each volume in it replaced by its canonical image
 -- - `Listing`, `ListSums`: the lines of the volume with which the input begins
 -- - `Extract`: the result of extracting the part from that volume
@@ -99,10 +99,10 @@ Says task hex input status text = ⊥
 
 -- why a task writes nothing for its input: memory ran out, or one of these reasons:
 -- - `Normalise`: the input is not a volume, or does not fit
--- - `NormaliseAll`: this is so for a volume in the input, or the input is longer than the limit
+-- - `NormaliseAll`: a volume in the input is not accepted or does not fit, or the input is longer than the limit
 -- - `Listing`: the input does not begin with a volume
 -- - `ListSums`: the input does not begin with a volume, or the volume does not fit
--- - `Extract`: the input does not begin with a volume, or the part does not fit
+-- - `Extract`: the input does not begin with a volume, or a volume in the part does not fit
 -- - `Check`: the input is not a volume
 -- - `CheckAll`: the input is longer than the limit
 -- - `Cells`: the input does not begin with a volume whose body is tiled by cells
@@ -120,14 +120,14 @@ Denies CheckAll input fault = OrMemory (IsAboveLimit input) fault
 Denies Cells input fault = OrMemory (NotTiled input) fault
 Denies Scan input fault = fault ≡ out_of_memory
 
--- the input stops the task: reading it stopped with this fault; or it was read to its end, and what is taken of it is
--- rejected, or memory ran out (`Denies`)
+-- the input stops the task: reading it stopped with this fault; or it was read to its end, and the bytes taken of it
+-- are rejected, or memory ran out (`Denies`)
 abbrev pub StopsTask : Task → Bool → Option ℕ → Change → Fault → Type 0
 StopsTask task hex at input fault =
     GivingStops hex input.old input.new fault
     ⊎ ((bytes : List ℕ) × GivesAt hex at input.old input.new bytes × Denies task bytes fault)
 
--- the input was read to its end, and the task has this text and this status for what is taken of it (`Says`)
+-- the input was read to its end, and the task has this text and this status for the bytes taken of it (`Says`)
 abbrev pub SaysTask : Task → Bool → Option ℕ → Change → Status → List ℕ → Type 0
 SaysTask task hex at input status text =
     (bytes : List ℕ) × GivesAt hex at input.old input.new bytes × Says task hex bytes status text

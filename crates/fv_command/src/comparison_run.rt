@@ -34,7 +34,7 @@ fn read_side<R: Read>(
     }
 }
 
-// Returns the volume that the bytes of a side are. A fault is returned with the side.
+// Reads the bytes of a side as a volume with no bytes after it. A fault is returned with the side.
 fn accept_side(alloc: Global, side: Side, bytes: &[u8]) -> Result<VolumeView<'_>, (Side, Fault)>
     ensures ok { IfOk result (λ view. Accepted bytes.now view) }
     ensures err { IfErr result (λ e. (e.0 ≡ side) × VolumeStops bytes.now e.1) }
@@ -80,8 +80,8 @@ fn compare_with<Second: Read, S: Sink>(
 }
 
 /// Puts whether two volumes have the same meaning and, if not, where they first differ. If `at` is
-/// a number, the first volume is the one at this byte of its input; `other_at` does the same for
-/// the second. The second input is read only if the first is a volume.
+/// a number, the first volume begins at this byte of the first input; `other_at` does the same for
+/// the second volume. The second input is read only if the first is a volume.
 ///
 /// # Errors
 ///

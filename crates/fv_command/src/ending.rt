@@ -33,6 +33,7 @@ pub struct Ending {
     /// How the run ended.
     pub status: Status,
     /// Why the run was refused: the fault whose line it wrote, or tried to write. None if the run
-    /// was not refused, or only because a write of its result failed.
+    /// was not refused, or if it was refused only because a write of its result or the flush after
+    /// it failed.
     pub refusal: Option<Refusal>,
 }

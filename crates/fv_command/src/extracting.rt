@@ -41,11 +41,13 @@ fn file_part<'a>(alloc: Global, file: &FileView<'a>, part: &Part) -> Result<Extr
     }
 }
 
-/// Returns the part of the volume.
+/// Extracts a part of the volume: the data of the file that `part` names or, if `part` gives a
+/// type, the body of one of the file's sections.
 ///
 /// # Errors
 ///
-/// The fault of the first volume in the part that does not fit. OutOfMemory.
+/// The fault of the first volume in the part whose own files cannot be placed, at offset 0 and with
+/// the depth of that volume in the part. OutOfMemory.
 pub fn extract<'a>(
     alloc: Global,
     volume: &VolumeView<'a>,

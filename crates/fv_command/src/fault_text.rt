@@ -39,8 +39,8 @@ fn put_side_fault<S: Sink>(out: &mut S, side: Side, fault: Fault)
 }
 
 /// Puts the line of a refusal: `fault N at M`, with the number of the fault and its offset in
-/// bytes. The word `hob` precedes the fault of a hand-off list, and `first` or `second` that of one
-/// of two inputs.
+/// bytes. The line begins with `hob` for the fault of a hand-off list, and with `first` or `second`
+/// for the fault of one of two inputs.
 pub fn put_refusal<S: Sink>(out: &mut S, refusal: Refusal)
     ensures { S.takes out.old (refusal_line refusal) out.new }
 {

@@ -63,11 +63,11 @@ fn read_inputs<First: Read, Second: Read>(
 }
 
 /// Puts the lines of `hobs` for the hand-off list that the first reader gives. If there is a base,
-/// the second reader gives an image whose first byte has that address.
+/// the second reader gives an image, and the base is the address of its first byte.
 ///
 /// # Errors
 ///
-/// The faults of reading, and those of `read_hobs`. Nothing has been put in that case.
+/// The faults of reading, and the faults of `read_hobs`. Nothing has been put in that case.
 pub fn put_hob_list<First: Read, Second: Read, S: Sink>(
     alloc: Global,
     hex: bool,

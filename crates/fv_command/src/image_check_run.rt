@@ -90,9 +90,9 @@ fn status_of(checks: &[VolumeCheck]) -> Status
 }
 
 /// Puts a line for each volume of the image, in order: its place, and whether it is its own
-/// canonical image or the fault with which it is rejected. The offset of that fault counts from the
-/// first byte of the image. Returns Faulty if a volume is rejected, otherwise Different if a volume
-/// is not its own canonical image, otherwise Done.
+/// canonical image or the fault with which it is rejected. The fault's offset counts from the first
+/// byte of the image. Returns Faulty if a volume is rejected, otherwise Different if a volume is
+/// not its own canonical image, otherwise Done.
 ///
 /// # Errors
 ///

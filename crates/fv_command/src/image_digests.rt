@@ -12,11 +12,11 @@ use fv_sinks::DigestSink;
 use fv_tree::{FileView, VolumeView};
 
 /// The digests of the volumes that a walk visits, and of the files in them. Each digest is computed
-/// when it is needed: the canonical image of the volume, or the file's data as they are in it, are
-/// put into a digest sink.
+/// when it is needed: a walk puts the volume's canonical image, or the file's data as they are in
+/// that image, into a digest sink.
 #[derive(Clone, Copy)]
 pub struct ImageDigests<'s> {
-    /// The starts of a layout that remain. Those of the next volume come first.
+    /// The starts of a layout that remain. The starts of the next volume come first.
     starts: &'s [u64],
 }
 

@@ -51,7 +51,7 @@ impl<'a> Image for LaidImage<'a> {
     }
 }
 
-/// Reads the volume that the input is, and lays it out.
+/// Reads the input as a volume with no bytes after it, and lays it out.
 ///
 /// # Errors
 ///

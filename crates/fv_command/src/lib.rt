@@ -1,7 +1,7 @@
 //! The commands of the program, over readers and a writer.
 //!
 //! A `.._run` module runs a command: it reads its inputs, or is given them, and puts its text into
-//! the sink of the run. Most lines are those of fv_lines; the lines of faults are in `fault_text`.
+//! the sink of the run. Most lines come from fv_lines; `fault_text` has the lines of faults.
 //! Contracts see a reader by the bytes that it has left and a writer by the bytes that it holds, if
 //! these are known, and both by whether one of their calls has failed.
 #![tactic(auto)]

@@ -15,8 +15,8 @@ use fv_plan::Plan;
 use std::alloc::Global;
 use std::io::{Read, Write};
 
-/// Opens the inputs of a run: files by their paths, and standard input. The program opens those of
-/// its process; a test may open others.
+/// Opens the inputs of a run: files by their paths, and standard input. The program opens the
+/// inputs of its process; a test may open others.
 pub trait Opener {
     /// An opened file.
     type File: Read + Drop;

@@ -12,7 +12,7 @@ use fv_lines::put_pad_notes;
 use fv_tree::volume_cells;
 use std::alloc::Global;
 
-// Returns the cells of the volume that the input is, and its erase polarity.
+// Returns the cells of the input, which is a volume, and its erase polarity.
 fn outer_cells(alloc: Global, input: &[u8]) -> Result<(Cells<'_>, Polarity), Fault>
     requires { (m : Meaning) × Accepted input.now m }
     ensures ok { IfOk result (λ r. (m : Meaning) → Accepted input.now m → AreCells m input.now r.1 r.0) }
@@ -22,10 +22,10 @@ fn outer_cells(alloc: Global, input: &[u8]) -> Result<(Cells<'_>, Polarity), Fau
     Ok((list, extent.polarity))
 }
 
-/// Returns the cells of the volume that the input is, and its erase polarity, or None if the volume
-/// is its own canonical image. In a canonical image, pads from the offset of the first file on
-/// contain only erased data bytes. So there is nothing to note, and the cells do not have to be
-/// read.
+/// Returns the cells of the input, which is a volume, and its erase polarity. Returns None if
+/// `is_same` says that the volume is its own canonical image. In a canonical image, pads from the
+/// offset of the first file on contain only erased data bytes. So there is nothing to note, and the
+/// cells do not have to be read.
 ///
 /// # Errors
 ///

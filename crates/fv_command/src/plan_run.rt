@@ -116,10 +116,10 @@ pub fn run_plan<First: Read, Second: Read, W: Write>(
     second: &mut Port<Second>,
     writer: &mut Port<W>,
 ) -> Ending
-    // A run has a text and a status: those of the command for its inputs or, if it is refused, the
-    // line of the refusal and Refused. Either all of the text was written, and the run ends with
-    // this status; or a write of the text or the flush after it failed, and the run ends with
-    // Refused.
+    // A run has a text and a status: the text and the status of the command for its inputs or, if
+    // the command is refused, the line of the refusal and Refused. Either all of the text was
+    // written, and the run ends with this status; or a write of the text or the flush after it
+    // failed, and the run ends with Refused.
     ensures runs { Runs plan.now result (record {
       first = change First.remaining first.old first.new;
       second = change Second.remaining second.old second.new;

@@ -8,7 +8,8 @@ ghost use Rattle.fv_command.specs.Endings.{exit_code};
 pub enum Status {
     /// Everything that was requested was written.
     Done,
-    /// Two inputs differ, a volume differs from its canonical image, or a part does not exist.
+    /// Two volumes differ in meaning, a volume is not its own canonical image, or a part does not
+    /// exist.
     Different,
     /// A volume of an image was rejected, and everything that was requested was written.
     Faulty,

@@ -156,7 +156,7 @@ fn perform<S: Sink>(
 ///
 /// # Errors
 ///
-/// The faults of reading, and those of the task. Nothing has been put in that case.
+/// The faults of reading, and the faults of the task. Nothing has been put in that case.
 pub fn put_task<R: Read, S: Sink>(
     alloc: Global,
     task: &Task,

@@ -1,4 +1,4 @@
--- What a run that compares two volumes, or two inputs, reads and writes, and what stops it.
+-- The reads and writes of a run that compares two volumes or two inputs, and the faults that stop it.
 use Rattle.std.specs.Prelude.{ℕ, ◌≡◌, List, Option, ◌⊎◌, ◌≢◌, ◌↔◌, Bool, true}
 use Rattle.std.specs.Io.KnownBytes.{Appends, Keeps}
 use Rattle.fv_base.specs.Words.{out_of_memory, ReadsWhole, ReadStops, WriteStops}

@@ -72,13 +72,13 @@ pub fn write_comparison<W: Write>(
     ensures err { IfErr result (λ e. ComparisonStops e.0 first.now second.now
         (W.contents (inner_of writer.old)) (W.contents (inner_of writer.new)) e.1) }
 
-    // After Ok the port has erred exactly if it had erred before the call.
+    // After Ok the port's error flag is as it was before the call.
     ensures writer_fine { OnOk result (has_erred writer.new ≡ has_erred writer.old) }
 
     // After any error other than WriteFault the port is as it was before the call.
     ensures untouched { IfErr result (λ e. e.1.kind ≢ FaultKind.WriteFault → writer.new ≡ writer.old) }
 
-    // WriteFault comes with the side Output, and is returned only if the port has erred.
+    // If WriteFault is returned, the side is Output and the port's error flag is set.
     ensures writer_erred { IfErr result (λ e. e.1.kind ≡ FaultKind.WriteFault
         → (e.0 ≡ Side.Output) × (has_erred writer.new ≡ true)) }
 {
@@ -153,8 +153,9 @@ pub fn run_compare<R: Read, Q: Read, W: Write>(
         (Q.remaining (inner_of second.old)) (Q.remaining (inner_of second.new))
         (W.contents (inner_of writer.old)) (W.contents (inner_of writer.new)) e.1) }
 
-    // A fault of a reader or of the writer comes with the side of that port, and is returned only
-    // if the port has erred.
+    // If ReadFault is returned with the side of an input, the error flag of that input's port is
+    // set, provided that it was clear before the call. If WriteFault is returned, the side is
+    // Output, and the error flag of the writer's port is set.
     ensures first_erred { has_erred first.old ≡ false
         → IfErr result (λ e. e.0 ≡ Side.First → e.1.kind ≡ FaultKind.ReadFault → has_erred first.new ≡ true) }
     ensures second_erred { has_erred second.old ≡ false

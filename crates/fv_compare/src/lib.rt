@@ -1,5 +1,5 @@
 //! Where two firmware volumes first differ: as a value, as a line, and by a run that reads two
-//! inputs. All calls take memory, except those of `Difference`.
+//! inputs. All calls take memory, except the methods of `Difference`.
 #![tactic(auto)]
 
 mod compare;

@@ -27,7 +27,7 @@ postfix (negated t) = postfix t ++ (ops.Not ∷ [])
 postfix (both t u) = postfix t ++ (postfix u ++ (ops.And ∷ []))
 postfix (either t u) = postfix t ++ (postfix u ++ (ops.Or ∷ []))
 
--- the ops are those of the tree t, followed by END; if the phase is DXE, SOR may precede them
+-- the ops are the tree t in postfix order, followed by END; if the phase is DXE, SOR may precede them
 pub record IsTree (phase : Phase) (all : List Op) (t : Expression) : Type 0 where
   pub sor : List Op
   pub joined : all ≡ sor ++ (postfix t ++ (ops.End ∷ []))
@@ -85,7 +85,7 @@ pub record Spells (phase : Phase) (all : List Op) (rest b : List ℕ) : Type 0 w
   pub whole : ((t : Expression) × IsTree phase all t) ⊎ IsOrder phase all
   pub sized : AllByRecursion IsSized all
 
--- whether the GUID g is among the installed ones
+-- whether the GUID g is among the GUIDs of the set
 abbrev pub is_among : Guid → List Guid → Bool
 is_among g set = list_any (λ h. bytes_eq (bytes_of h) (bytes_of g)) set
 

@@ -101,8 +101,8 @@ abbrev pub OpPath : Phase → Stage → List Op → Stage → Type 0
 OpPath phase stage [] final = stage ≡ final
 OpPath phase stage (o ∷ os) final = OpFits phase stage o × (o ≢ ops.End) × OpPath phase (stage_after stage o) os final
 
--- b begins with allowed ops, none of them END, up to the fault's offset; the fault is that of the first check that
--- fails for the op there
+-- b begins with allowed ops, none of them END, up to the fault's offset; the fault's kind comes from the first check
+-- that fails for the op there
 pub record IsFirstOpFault (phase : Phase) (b : List ℕ) (fault : DepexFault) : Type 0 where
   pub before : List Op
   pub stage : Stage
@@ -112,7 +112,7 @@ pub record IsFirstOpFault (phase : Phase) (b : List ℕ) (fault : DepexFault) : 
   pub place : fault.offset ≡ length (ops_bytes before)
   pub kind_is : IsFirstFault (op_checks phase stage r) fault.kind
 
--- the fault that every call returns when memory runs out: OutOfMemory at offset 0
+-- the fault that is returned when memory runs out: OutOfMemory at offset 0
 abbrev pub depex_out_of_memory : DepexFault
 depex_out_of_memory = record { kind = kinds.OutOfMemory; offset = 0 }
 

@@ -2,8 +2,8 @@
 
 use fv_base::Guid;
 
-/// The phase that evaluates an expression. Expressions of the MM phase are read as DXE ones. (PI
-/// specification, volume 1, section 3.4, and volume 2, section 10.7.)
+/// The phase that evaluates an expression. Expressions of the MM phase are read as DXE expressions.
+/// (PI specification, volume 1, section 3.4, and volume 2, section 10.7.)
 #[derive(Clone, Copy, Debug, PartialEq, Eq)]
 pub enum Phase {
     /// PEI (volume 1): op codes 0x02 to 0x08, without BEFORE, AFTER and SOR.
@@ -16,11 +16,11 @@ pub enum Phase {
 /// values. (PI specification, volume 1, section 3.4, and volume 2, section 10.7.)
 #[derive(Clone, Copy, Debug, PartialEq, Eq)]
 pub enum Op {
-    /// EFI_DEP_BEFORE, 0x00: the driver is dispatched right before the one whose file has this
+    /// EFI_DEP_BEFORE, 0x00: the driver is dispatched right before the driver whose file has this
     /// name. It must be the first op, and END must follow it. DXE only.
     Before(Guid),
-    /// EFI_DEP_AFTER, 0x01: the driver is dispatched right after the one whose file has this name.
-    /// It must be the first op, and END must follow it. DXE only.
+    /// EFI_DEP_AFTER, 0x01: the driver is dispatched right after the driver whose file has this
+    /// name. It must be the first op, and END must follow it. DXE only.
     After(Guid),
     /// EFI_DEP_PUSH, 0x02: pushes whether the protocol (in PEI, the PPI) with this GUID is
     /// installed.
@@ -35,7 +35,8 @@ pub enum Op {
     True,
     /// EFI_DEP_FALSE, 0x07: pushes false.
     False,
-    /// EFI_DEP_END, 0x08: ends the expression, whose value is the only value on the stack.
+    /// EFI_DEP_END, 0x08: ends the expression, whose value is the only value on the stack. After
+    /// BEFORE or AFTER, the stack is empty.
     End,
     /// EFI_DEP_SOR, 0x09: schedule on request, which does not change the value. It must be the
     /// first op, and an expression must follow it. DXE only.

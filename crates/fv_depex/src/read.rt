@@ -186,8 +186,8 @@ fn read_ops(alloc: Global, bytes: &[u8], phase: Phase) -> Result<(Vec<Op>, usize
 /// # Errors
 ///
 /// The first op with a fault determines the error. Its checks come in this order: NoEnd if no bytes
-/// are left, Opcode, Position, Short, Stack. The offset is that of the op's code, or of the end of
-/// the bytes for NoEnd, in bytes from the first byte of `bytes`. OutOfMemory is at offset 0.
+/// are left, Opcode, Position, Short, Stack. The offset, in bytes from the first byte of `bytes`,
+/// points to the op's code, or to the end of the bytes for NoEnd. OutOfMemory is at offset 0.
 pub fn read_depex(alloc: Global, bytes: &[u8], phase: Phase) -> Result<Depex, DepexFault>
     // The bytes spell the ops and the rest of the result.
     ensures found { IfOk result (λ d. (d.phase ≡ phase) × Spells phase d.ops d.rest bytes.now) }

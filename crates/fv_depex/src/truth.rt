@@ -12,7 +12,7 @@ use crate::op::Op;
 use fv_base::Guid;
 use std::alloc::{AllocError, Global};
 
-// Returns whether a GUID is among the installed ones.
+// Returns whether a GUID is among the installed GUIDs.
 fn is_among(guid: &Guid, installed: &[Guid]) -> bool
     ensures { result ≡ is_among guid.now installed.now }
 {
@@ -101,14 +101,14 @@ pub fn evaluate(
     depex: &Depex,
     installed: &[Guid],
 ) -> Result<Option<bool>, DepexFault>
-    // If the ops are those of a tree, the result is the truth value of the tree.
+    // If a tree has these ops (`IsTree`), the result is the truth value of the tree.
     ensures truth { IfOk result
         (λ v. (t : Expression) → IsTree depex.now.phase depex.now.ops t → v ≡ Some (truth installed.now t)) }
 
     // For BEFORE and AFTER, the result is None.
     ensures order { IfOk result (λ v. IsOrder depex.now.phase depex.now.ops → v ≡ None) }
 
-    // The ops are those of at most one tree.
+    // At most one tree has these ops.
     ensures tree { (t u : Expression) → IsTree depex.now.phase depex.now.ops t → IsTree depex.now.phase depex.now.ops u
         → t ≡ u }
 

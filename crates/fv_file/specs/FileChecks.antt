@@ -26,7 +26,7 @@ abbrev pub allows_large : FileSystem → Bool
 allows_large Ffs2 = false
 allows_large Ffs3 = true
 
--- what the header at the start of r says: the length of the header, the size of the file, and the file's data
+-- from the header at the start of r: the length of the header, the size of the file, and the file's data
 abbrev pub file_header_len_at : List ℕ → ℕ
 file_header_len_at r = file_header_len (is_large (attributes_at r))
 
@@ -90,7 +90,7 @@ cell_checks system polarity p r =
     (p + leading_count (erased_byte polarity) r)
     ∷ state_checks (state_of polarity (state_at r)) system p r
 
--- there is a state, and it is that of a valid file
+-- there is a state, and a file in this state is valid
 abbrev pub is_standing : Option FileState → Bool
 is_standing None = false
 is_standing (Some state) = is_alive state

@@ -14,7 +14,7 @@ use Rattle.fv_file.specs.declared.state.FileState.{FileState}
 abbrev pub pad_kind : ℕ
 pad_kind = 0xf0
 
--- the length of a header in bytes: 24 for a short one, 32 for a large one
+-- the length of a header in bytes: 24 if it is short, 32 if it is large
 abbrev pub file_header_len : Bool → ℕ
 file_header_len false = 24
 file_header_len true = 32
@@ -39,7 +39,7 @@ attributes_at b = slice_index b 19
 abbrev pub state_at : List ℕ → ℕ
 state_at b = slice_index b 23
 
--- the size of the file, including its header: Size of a short header, ExtendedSize of a large one
+-- the size of the file, including its header: Size of a short header, ExtendedSize of a large header
 abbrev pub file_size_in : Bool → List ℕ → ℕ
 file_size_in false b = le_at 20 3 b
 file_size_in true b = le_at 24 8 b

@@ -16,7 +16,7 @@ use Rattle.fv_file.specs.declared.attributes.FileAttributes.{FileAttributes}
 use Rattle.fv_file.specs.declared.head.FileHead.{FileHead}
 use Rattle.fv_file.specs.declared.state.FileState.TheVariants as states
 
--- the bytes begin with a file that has this header: its state is that of a valid file, and it is a pad or sound
+-- the bytes begin with a file that has this header: the file is valid by its state, and it is a pad or sound
 -- (`IsSound`). Any bytes may follow
 pub record BeginsFile (system : FileSystem) (polarity : Polarity) (head : FileHead) (b : List ℕ) : Type 0 where
   pub file : List ℕ

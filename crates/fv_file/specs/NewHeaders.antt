@@ -8,7 +8,7 @@ use Rattle.fv_file.specs.FileAttributes.{attribute_bits, is_summed}
 use Rattle.fv_file.specs.FileHeaders.{file_header_len, fixed_checksum, pad_kind}
 use Rattle.fv_file.specs.declared.attributes.FileAttributes.{FileAttributes}
 
--- a file with this much data needs a large header: with a short one its size would be more than 0xFFFFFF
+-- a file with this much data needs a large header: with a short header its size would be more than 0xFFFFFF
 abbrev pub needs_large : ℕ → Bool
 needs_large data_len = nat_lt 0xffffff (24 + data_len)
 
@@ -26,12 +26,12 @@ state_byte Zeros = 0x07
 abbrev pub pad_name : List ℕ
 pad_name = replicate 16 0xff
 
--- what must be added to n to make it a multiple of 256
+-- the least number that, added to n, makes a multiple of 256
 abbrev pub complement : ℕ → ℕ
 complement n = (256 - n % 256) % 256
 
--- the file checksum for these data: with the checksum attribute, what must be added to their sum to make it a multiple
--- of 256; otherwise 0xAA
+-- the file checksum for these data: with the checksum attribute, the least number that, added to their sum, makes a
+-- multiple of 256; otherwise 0xAA
 abbrev pub file_sum_for : ℕ → List ℕ → ℕ
 file_sum_for attributes payload = if is_summed attributes then complement (sum payload) else fixed_checksum
 

@@ -116,8 +116,8 @@ fn span_of(cell: &Cell) -> u64
     }
 }
 
-// Returns whether there is a state, and it is that of a header under construction or of an invalid
-// header.
+// Returns whether there is a state, and it is the state of a header under construction or of an
+// invalid header.
 fn is_unfinished(state: Option<FileState>) -> bool
     ensures { result ≡ is_unfinished state }
 {

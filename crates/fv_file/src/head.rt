@@ -166,7 +166,8 @@ fn has_file_sum(head: &FileHead, payload: &[u8]) -> bool
     }
 }
 
-// Returns whether the file's data are checked. They are not if it is a pad or not valid.
+// Returns whether the file's data are checked. The data of a pad, and of a file that is not valid,
+// are not checked.
 fn checks_data(head: &FileHead) -> bool
     ensures { result ≡ (is_alive head.now.state && not (head.now.kind == pad_kind)) }
 {

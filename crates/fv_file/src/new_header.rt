@@ -100,7 +100,7 @@ fn size_fields(size: u64, large: bool, state: u8) -> [u8; 12]
     bytes
 }
 
-// Returns the 32 bytes of a large header, or the 24 bytes of a short one with zeros after them.
+// Returns the 32 bytes of a large header, or the 24 bytes of a short header with zeros after them.
 fn whole_bytes(
     header: &NewHeader,
     header_sum: u8,

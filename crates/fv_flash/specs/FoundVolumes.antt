@@ -12,7 +12,7 @@ VolumeAt b k n = (h : HeadFields) × (e : Extent) × BeginsVolume h e (drop k b)
 abbrev pub IsPlace : List ℕ → ℕ → Type 0
 IsPlace b o = (o % 8 ≡ 0) × ((n : ℕ) × VolumeAt b o n)
 
--- p is greater than o, and at or after the end of the volume that begins at the offset o
+-- p is greater than o, and at or after the end of every volume that begins at the offset o
 abbrev pub LiesBehind : List ℕ → ℕ → ℕ → Type 0
 LiesBehind b o p = (o < p) × ((n : ℕ) → VolumeAt b o n → o + n ≤ p)
 

@@ -36,8 +36,7 @@ impl Offsets {
     }
 }
 
-// Returns whether the bytes from the offset `at` on have the signature at its place in a volume
-// header.
+// Returns whether the signature is 40 bytes after the offset `at`, its place in a volume header.
 fn is_signed(bytes: &[u8], at: usize) -> bool
     requires { at + 56 ≤ length bytes.now }
     ensures { result ≡ has_signature (drop at bytes.now) }

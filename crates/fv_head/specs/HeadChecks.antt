@@ -16,7 +16,7 @@ use Rattle.fv_head.specs.declared.extent.Extent.{Extent}
 abbrev pub has_signature : List ℕ → Bool
 has_signature b = bytes_eq (field 40 4 b) signature_bytes
 
--- the file system whose GUID is at offset 16, if it is that of FFS2 or FFS3
+-- the file system whose GUID is at offset 16, if this is the GUID of FFS2 or FFS3
 abbrev pub file_system_at : List ℕ → Option FileSystem
 file_system_at b =
     if bytes_eq (field 16 16 b) (system_guid Ffs2) then Some Ffs2

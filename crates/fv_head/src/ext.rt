@@ -53,9 +53,9 @@ impl<'a> ExtEntry<'a> {
     }
 }
 
-/// The extended header of a volume. The only way to get one is to read it. In contracts, it is an
-/// `Extension` for which `IsReadExt` holds: there are bytes that form an extended header with this
-/// meaning. (PI specification, volume 3, section 3.2.1.2, `EFI_FIRMWARE_VOLUME_EXT_HEADER`.)
+/// The extended header of a volume. Only reading an extended header makes one. In contracts, it is
+/// an `Extension` for which `IsReadExt` holds: there are bytes that form an extended header with
+/// this meaning. (PI specification, volume 3, section 3.2.1.2, `EFI_FIRMWARE_VOLUME_EXT_HEADER`.)
 #[derive(Drop)]
 pub struct ExtHeader<'a> {
     name: Guid,
@@ -123,7 +123,7 @@ pub(crate) fn is_used_size(kind: u16, payload: &[u8]) -> bool
     kind == USED_SIZE && payload.len() == 4
 }
 
-// Returns the entry that these bytes are: a header of 4 bytes, and then the payload.
+// Reads these bytes as an entry: a header of 4 bytes, and then the payload.
 fn entry_of(entry: &[u8]) -> ExtEntry<'_>
     requires { 4 ≤ length entry.now }
     ensures kind { result.0 ≡ le_at 2 2 entry.now }
@@ -155,7 +155,7 @@ fn entries_of(alloc: Global, bytes: &[u8]) -> Result<(Vec<ExtEntry<'_>>, &[u8]),
     Ok((entries, rest))
 }
 
-// Reads the extended header that these bytes are.
+// Reads these bytes as an extended header.
 pub(crate) fn ext_of(alloc: Global, bytes: &[u8]) -> Result<ExtHeader<'_>, Fault>
     requires least { 20 ≤ length bytes.now }
     requires most { length bytes.now ≤ ext_limit }

@@ -2,8 +2,8 @@
 
 use fv_base::{FileSystem, Polarity};
 
-/// The extent of a volume, and what its header says about the body: where it begins, its file
-/// system and its erase polarity. (PI specification, volume 3, section 3.2.1.1.)
+/// The extent of a volume, and the properties of its body that its header gives: where the body
+/// begins, its file system and its erase polarity. (PI specification, volume 3, section 3.2.1.1.)
 #[derive(Clone, Copy, Debug, PartialEq, Eq)]
 pub struct Extent {
     /// The length of the volume in bytes, `FvLength`.

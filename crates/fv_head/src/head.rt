@@ -23,7 +23,7 @@ use fv_base::{Fault, FileSystem};
 use std::alloc::Global;
 use std::marker::Model;
 
-/// The header of a volume. The only way to get one is to read it. In contracts, it is a
+/// The header of a volume. Only reading a volume header makes one. In contracts, it is a
 /// `HeadFields` for which `IsReadHead` holds: there are bytes that form a volume header with these
 /// fields. (PI specification, volume 3, section 3.2.1.1, `EFI_FIRMWARE_VOLUME_HEADER`.)
 #[derive(Drop)]

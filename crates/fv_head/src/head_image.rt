@@ -26,8 +26,8 @@ struct WordSink {
     high: bool,
 }
 
-// Returns what a byte adds to a sum of 16-bit words: as the high byte of a word if `high` is true,
-// and otherwise as the low byte.
+// Returns the number that a byte adds to a sum of 16-bit words: as the high byte of a word if
+// `high` is true, and otherwise as the low byte.
 fn word_weight(byte: u8, high: bool) -> u16
     ensures { result ≡ word_weight high (byte ∷ []) }
 {
@@ -102,7 +102,7 @@ fn canonical_offset(head: &VolumeHead<'_>) -> u16
 
 /// Returns the first edge: the offset at which the first file of the canonical image may begin, in
 /// bytes from the volume's start. Without an extended header, this is the end of the volume header.
-/// With one, it is the end of the pad file that holds the extended header, rounded up to a multiple
+/// Otherwise it is the end of the pad file that holds the extended header, rounded up to a multiple
 /// of 8. (That pad file follows the volume header. It consists of its own header, 24 bytes, and the
 /// extended header.) Takes no memory. (PI specification, volume 3, sections 3.2.1.1 and 3.2.1.2.)
 pub fn first_edge(head: &VolumeHead<'_>) -> u64
@@ -135,7 +135,7 @@ fn put_spelled<S: Sink>(out: &mut S, head: &VolumeHead<'_>, checksum: u16)
     put_u64(out, 0);
 }
 
-// Returns what must be added to a sum of 16-bit words to make it 0 modulo 65536.
+// Returns the number that, added to a sum of 16-bit words, makes it 0 modulo 65536.
 fn complement(sum: u16) -> u16
     ensures value { result ≡ (65536 - sum) % 65536 }
     ensures small { sum < 65536 }
@@ -175,7 +175,7 @@ pub fn put_head<S: Sink>(out: &mut S, head: &VolumeHead<'_>)
 ///
 /// OutOfMemory at offset 0.
 pub fn head_bytes(alloc: Global, head: &VolumeHead<'_>) -> Result<ByteList, Fault>
-    // These bytes are the volume header of the canonical image, and no other bytes are.
+    // These bytes are the volume header of the canonical image, and no other bytes are this header.
     ensures head { IfOk result (λ bytes. IsCanonicalHead head.now bytes) }
     ensures only { (other : List ℕ) → IsCanonicalHead head.now other → IfOk result (λ bytes. bytes ≡ other) }
 

@@ -60,8 +60,8 @@ fn has_signature(bytes: &[u8]) -> bool
     bytes[SIGNATURE_OFFSET..SIGNATURE_OFFSET + 4] == SIGNATURE[..]
 }
 
-// Returns the file system whose GUID is in `FileSystemGuid`, or None if that is neither FFS2 nor
-// FFS3.
+// Returns the file system whose GUID is in `FileSystemGuid`, or None if the GUID is neither the
+// GUID of FFS2 nor the GUID of FFS3.
 fn file_system_at(bytes: &[u8]) -> Option<FileSystem>
     requires { 56 ≤ length bytes.now }
     ensures { result ≡ file_system_at bytes.now }
@@ -239,8 +239,8 @@ fn front_verdict(bytes: &[u8]) -> Result<FileSystem, Fault>
     Ok(file_system)
 }
 
-// Makes the remaining checks, which are those of the whole header, of FvLength and of the extended
-// header. Returns the first fault, if there is one.
+// Makes the remaining checks, which are the checks of the whole header, of FvLength and of the
+// extended header. Returns the first fault, if there is one.
 fn whole_verdict(bytes: &[u8]) -> Result<(), Fault>
     requires long { 56 ≤ length bytes.now }
     requires header_len { is_header_len (header_len_at bytes.now) ≡ true }

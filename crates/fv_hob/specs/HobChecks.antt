@@ -8,7 +8,7 @@ use Rattle.fv_hob.specs.declared.fault.HobFault.{HobFault}
 use Rattle.fv_hob.specs.declared.fault.HobFaultKind.{HobFaultKind}
 use Rattle.fv_hob.specs.declared.fault.HobFaultKind.TheVariants as kinds
 
--- whether n is a length that a block may have: at least that of the header, which it includes, and a multiple of 8
+-- whether n is a length that a block may have: a multiple of 8, and at least 8, the length of the header
 abbrev pub is_hob_len : ℕ → Bool
 is_hob_len n = nat_le 8 n && (n % 8 == 0)
 
@@ -38,8 +38,8 @@ pub record BeginsBlock (first : Bool) (c r : List ℕ) : Type 0 where
 abbrev pub BeginsTable : List ℕ → Type 0
 BeginsTable r = (c : List ℕ) × BeginsBlock true c r
 
--- b begins with blocks of a list, none of them an end block, up to the fault's offset; the fault is that of the first
--- check that fails for the block there
+-- b begins with blocks of a list, none of them an end block, up to the fault's offset; the fault's kind comes from the
+-- first check that fails for the block there
 pub record IsFirstHobFault (b : List ℕ) (fault : HobFault) : Type 0 where
   pub before : List HobForm
   pub c : List ℕ
@@ -51,7 +51,7 @@ pub record IsFirstHobFault (b : List ℕ) (fault : HobFault) : Type 0 where
   pub place : fault.offset ≡ length c
   pub kind_is : IsFirstFault (hob_checks (length before == 0) r) fault.kind
 
--- the fault that every call returns when memory runs out: OutOfMemory at offset 0
+-- the fault that is returned when memory runs out: OutOfMemory at offset 0
 abbrev pub hob_out_of_memory : HobFault
 hob_out_of_memory = record { kind = kinds.OutOfMemory; offset = 0 }
 

@@ -100,7 +100,7 @@ fn cpu_in(block: &[u8]) -> HobKind
     }
 }
 
-// Reads the fields of a volume that was found in a file of another volume.
+// Reads the fields of an FV2 block, for a volume that was extracted from a file of another volume.
 fn volume2_in(block: &[u8]) -> HobKind
     requires { length block.now ≡ 56 }
     ensures { result ≡ kind_by 0x0009 block.now }
@@ -114,7 +114,7 @@ fn volume2_in(block: &[u8]) -> HobKind
     }
 }
 
-// Reads the content of a block: what follows its header.
+// Reads the content of a block: the fields that follow its header.
 fn kind_in(alloc: Global, block: &[u8]) -> Result<HobKind, AllocError>
     requires { IsBlock block.now }
     ensures { IfOk result (λ kind. kind ≡ kind_by (hob_type_at block.now) block.now) }

@@ -16,16 +16,19 @@ pub struct Handoff {
     pub version: u32,
     /// BootMode.
     pub boot_mode: u32,
-    /// EfiMemoryTop: the highest address of the memory that was allocated for the HOB producer
-    /// phase.
+    /// EfiMemoryTop: the highest address of the memory that is allocated for use by the HOB
+    /// producer phase.
     pub memory_top: u64,
-    /// EfiMemoryBottom: the lowest address of that memory.
+    /// EfiMemoryBottom: the lowest address of the memory that is allocated for use by the HOB
+    /// producer phase.
     pub memory_bottom: u64,
-    /// EfiFreeMemoryTop: the highest address of the free memory.
+    /// EfiFreeMemoryTop: the highest address of the free memory that is available to the HOB
+    /// producer phase.
     pub free_memory_top: u64,
-    /// EfiFreeMemoryBottom: the lowest address of the free memory.
+    /// EfiFreeMemoryBottom: the lowest address of the free memory that is available to the HOB
+    /// producer phase.
     pub free_memory_bottom: u64,
-    /// EfiEndOfHobList: the address of the end block.
+    /// EfiEndOfHobList: the address of the end of the HOB list.
     pub end_of_list: u64,
 }
 
@@ -63,9 +66,9 @@ pub struct Resource {
     pub length: u64,
 }
 
-/// The content of a block, by its type. The description of each variant includes its HobType and
-/// the length that the block must have, in bytes, including its header of 8 bytes. (PI
-/// specification, volume 3, section 5.)
+/// The content of a block, by its type. The comment of each variant gives its HobType and the
+/// length that the block must have, in bytes, including its header of 8 bytes. (PI specification,
+/// volume 3, section 5.)
 #[derive(Drop)]
 pub enum HobKind {
     /// EFI_HOB_TYPE_HANDOFF, 0x0001: the hand-off information table (PHIT), 56 bytes.
@@ -99,16 +102,16 @@ pub enum HobKind {
     },
     /// EFI_HOB_TYPE_MEMORY_POOL, 0x0007: a pool of memory, 8 bytes.
     MemoryPool,
-    /// EFI_HOB_TYPE_FV2, 0x0009: a firmware volume that was found in a file of another volume, 56
-    /// bytes.
+    /// EFI_HOB_TYPE_FV2, 0x0009: a firmware volume that was extracted from a file of another
+    /// firmware volume, 56 bytes.
     FirmwareVolume2 {
         /// BaseAddress.
         base: u64,
         /// Length.
         length: u64,
-        /// FvName: the name of that other volume.
+        /// FvName: the name of the firmware volume.
         volume_name: Guid,
-        /// FileName: the name of the file in it.
+        /// FileName: the name of the file that contained the firmware volume.
         file_name: Guid,
     },
     /// EFI_HOB_TYPE_UEFI_CAPSULE, 0x000B: a capsule, 24 bytes.

@@ -17,8 +17,8 @@ use crate::offsets::header;
 use fv_base::field::{bytes_from, u16_at};
 use std::alloc::Global;
 
-// Returns whether a block may have this length: it is at least that of the header, which it
-// includes, and a multiple of 8.
+// Returns whether a block may have this length: a multiple of 8, and at least 8, the length of the
+// header.
 fn is_hob_len(len: usize) -> bool
     ensures { result ≡ is_hob_len len }
 {
@@ -101,8 +101,8 @@ fn read_blocks(alloc: Global, bytes: &[u8]) -> Result<(Vec<Hob>, usize), HobFaul
 /// The first block with a fault determines the error. Its checks come in this order: NoEnd if no
 /// bytes are left, Short if fewer than 8 are left, Length (HobLength), Short if fewer than
 /// HobLength are left, First (HobType of the first block), Shape (HobLength for this HobType). The
-/// offset is that of the block's header, or of the end of the bytes for NoEnd, in bytes from the
-/// first byte of `bytes`. OutOfMemory is at offset 0.
+/// offset, in bytes from the first byte of `bytes`, points to the block's header, or to the end of
+/// the bytes for NoEnd. OutOfMemory is at offset 0.
 pub fn read_hobs(alloc: Global, bytes: &[u8]) -> Result<(HobList, u64), HobFault>
     // The bytes begin with the returned list, and the returned number is its length in bytes.
     ensures found { IfOk result (λ p. (p.1 ≤ length bytes.now) × IsHobList p.0 (take p.1 bytes.now)) }

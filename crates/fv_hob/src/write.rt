@@ -107,7 +107,7 @@ fn push_resource(bytes: &mut Vec<u8>, said: &Resource) -> Result<(), AllocError>
     push_span(bytes, said.start, said.length)
 }
 
-// Appends the bytes of `one`, followed by those of `other`.
+// Appends the bytes of `one`, followed by the bytes of `other`.
 fn push_pair(bytes: &mut Vec<u8>, one: &[u8], other: &[u8]) -> Result<(), AllocError>
     ensures { OnOk result (bytes.new.items ≡ bytes.old.items ++ concat (one.now ∷ other.now ∷ [])) }
 {
@@ -115,8 +115,7 @@ fn push_pair(bytes: &mut Vec<u8>, one: &[u8], other: &[u8]) -> Result<(), AllocE
     push_bytes(bytes, other)
 }
 
-// Appends the body of an FV2 block: a volume's base and length, the name of the volume in which it
-// was found, and the name of the file.
+// Appends the body of an FV2 block: the base and the length of a volume, FvName and FileName.
 fn push_volume2(
     bytes: &mut Vec<u8>,
     base: u64,

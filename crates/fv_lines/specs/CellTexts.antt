@@ -93,7 +93,7 @@ abbrev pub cell_lines : ℕ → List CellForm → List ℕ
 cell_lines first cells =
     span_line (codes "header") 0 first ++ (flat_map cell_line cells ++ sums_line (sums_of cells))
 
--- the text is that of `cells` for the volume at the start of the input
+-- the text is the output of `cells` for the volume at the start of the input
 abbrev pub CellsText : List ℕ → List ℕ → Type 0
 CellsText input text = (e : Extent) × (cells : List CellForm) × BeginsTiled e cells input
     × (text ≡ cell_lines e.first cells)

@@ -1,4 +1,4 @@
--- The text of `hobs`, and what an image holds where a volume should be.
+-- The text of `hobs`, and the content of an image where a volume should be.
 use Rattle.std.specs.Prelude.{◌≡◌, ◌≤◌, ℕ, ◌+◌, ◌-◌, List, length, take, drop, [], ◌∷◌, ◌++◌, Option, None, Some, codes}
 use Rattle.std.specs.Prelude.{decimal}
 use Rattle.fv_head.specs.Words.{HeadFields, BeginsVolume}
@@ -23,8 +23,8 @@ bytes_in_span image base s = take s.length (drop (s.base - base) image)
 abbrev pub IsWholeVolume : List ℕ → Type 0
 IsWholeVolume b = (h : HeadFields) × (e : Extent) × BeginsVolume h e b × (e.length ≡ length b)
 
--- what the image holds in the span: Outside, if the span is not within the image; otherwise Volume, if a volume fills
--- the span, or Absent, if none does
+-- the content of the image in the span: Outside, if the span is not within the image; otherwise Volume, if a volume
+-- fills the span, or Absent, if none does
 abbrev pub IsStanding : List ℕ → ℕ → Span → Standing → Type 0
 IsStanding image base s Outside = IsMapped base (length image) s → ⊥
 IsStanding image base s Volume = IsMapped base (length image) s × IsWholeVolume (bytes_in_span image base s)
@@ -53,7 +53,7 @@ hob_line code n word = codes "hob " ++ (four_digits code ++ (codes " length " ++
 abbrev pub consumed_line : ℕ → List ℕ
 consumed_line n = codes "consumed " ++ (decimal n ++ line_feed)
 
--- the word for what an image holds in a span, with a space before it: `outside`, `volume` or `absent`
+-- the word for the content of an image in a span, with a space before it: `outside`, `volume` or `absent`
 abbrev pub standing_word : Standing → List ℕ
 standing_word Outside = codes " outside"
 standing_word Volume = codes " volume"

@@ -32,8 +32,8 @@ unit_text unit = if is_plain unit then unit ∷ [] else codes "\\u" ++ four_digi
 abbrev pub Shows : {A : Type 0} → (A → Type 0) → (A → List ℕ) → List ℕ → Type 0
 Shows {A = A} Holds shown text = ((x : A) × Holds x × (text ≡ shown x)) ⊎ (((x : A) → Holds x → ⊥) × (text ≡ []))
 
--- what is shown of a version section (its build number), of a user interface section (its text) and of a freeform
--- subtype section (its GUID); nothing, if the body does not have that format
+-- the text shown for a version section (its build number), for a user interface section (its text) and for a freeform
+-- subtype section (its GUID); the text is empty if the body does not have that format
 abbrev pub VersionText : List ℕ → List ℕ → Type 0
 VersionText b text =
     Shows (λ (build : ℕ). (units : List ℕ) × IsVersion b build units) (λ build. codes " version " ++ decimal build) text
@@ -48,14 +48,14 @@ SubtypeText b text =
     Shows (λ (guid : Guid). (rest : List ℕ) × IsFreeform b guid rest)
     (λ guid. codes " subtype " ++ guid_text (bytes_of guid)) text
 
--- what is shown of the body of a leaf, by the type of its section
+-- the text shown for the body of a leaf, by the type of its section
 pub record LeafText (kind : ℕ) (b text : List ℕ) : Type 0 where
   pub version : kind ≡ 0x14 → VersionText b text
   pub interface : kind ≡ 0x15 → InterfaceText b text
   pub subtype : kind ≡ 0x18 → SubtypeText b text
   pub other : kind ≢ 0x14 → kind ≢ 0x15 → kind ≢ 0x18 → text ≡ []
 
--- what is shown of the body of a section: nothing, if the section is not a leaf
+-- the text shown for the body of a section, which is empty if the section is not a leaf
 abbrev pub BodyShown : ℕ → BodyMeaning → List ℕ → Type 0
 BodyShown kind (Leaf b) text = LeafText kind b text
 BodyShown kind (Group _ _) text = text ≡ []
@@ -95,7 +95,7 @@ file_text k i f digest =
     ++ (codes " attributes " ++ (two_digits (attributes_of f)
     ++ (codes " data " ++ (decimal (data_len_of f) ++ (digest_text digest ++ line_feed)))))))))))
 
--- the line of a section, which is number j in its stream, indented by k levels; `shown` is what is shown of its body
+-- the line of a section, which is number j in its stream, indented by k levels; `shown` is the text shown for its body
 abbrev pub form_text : Bool → List ℕ
 form_text true = codes " extended body "
 form_text false = codes " short body "
@@ -116,7 +116,7 @@ DigestOf A = A → Option (List ℕ) → Type 0
 abbrev pub NoDigest : {A : Type 0} → DigestOf A
 NoDigest x digest = digest ≡ None
 
--- the digest in the line of a section: that of its body if the section is a leaf, otherwise None
+-- the digest in the line of a section: the digest of its body if the section is a leaf, otherwise None
 abbrev pub BodyDigest : DigestOf (List ℕ) → DigestOf BodyMeaning
 BodyDigest of_leaf (Leaf b) digest = of_leaf b digest
 BodyDigest of_leaf (Group _ _) digest = digest ≡ None
@@ -174,12 +174,12 @@ abbrev mutual
   BodyLines of_volume of_file of_leaf k (Group sections tail) text = SectionsLines of_volume of_file of_leaf k 0 sections text
   BodyLines of_volume of_file of_leaf k (Nested volume) text = VolumeLines of_volume of_file of_leaf k volume text
 
--- the text is that of `list` for a volume with this meaning
+-- the text is the output of `list` for a volume with this meaning
 abbrev pub ListText : Meaning → List ℕ → Type 0
 ListText m text = VolumeLines NoDigest NoDigest NoDigest 0 m text
 
--- `covers d vs`: in the state d the digests of the volumes vs, and of the files in them, are available. Then so are
--- those of the first volumes in vs, and nesting depths do not matter
+-- `covers d vs`: in the state d the digests of the volumes vs, and of the files in them, are available. Then the
+-- digests of the first volumes in vs are available too. Nesting depths do not matter
 pub record CoverLaws {D : Type 0} (covers : D → List Inside → Type 0) : Type 0 where
   pub first : (d : D) (vs ws : List Inside) → covers d (vs ++ ws) → covers d vs
   pub higher : (d : D) (vs ws : List Inside) → covers d (deeper vs ++ ws) → covers d (vs ++ ws)

@@ -59,7 +59,7 @@ abbrev pub read_by : Guid → List ℕ → Option Phase → List HeldDepex
 read_by name b None = []
 read_by name b (Some phase) = record { name = name; phase = phase; bytes = b } ∷ []
 
--- the expression in a section: the body of a leaf whose type is that of a dependency expression; nothing otherwise
+-- the expression in a section: the body of a leaf whose type is a type of dependency expressions; nothing otherwise
 abbrev pub section_depex : Guid → SectionMeaning → List HeldDepex
 section_depex name (Section kind extended (Leaf b)) = read_by name b (phase_of kind)
 section_depex name (Section kind extended (Group _ _)) = []
@@ -86,7 +86,7 @@ IsSpelled x = (ops : List Op) × (rest : List ℕ) × Spells x.phase ops rest x.
 abbrev pub note_of : Guid → DepexFault → DepexNote
 note_of name fault = record { name = name; number = depex_fault_number fault.kind; offset = fault.offset }
 
--- the bytes do not spell an expression, and the note is that on their first fault
+-- the bytes do not spell an expression, and the note describes their first fault
 pub record IsNoted (x : HeldDepex) (note : DepexNote) : Type 0 where
   pub fault : DepexFault
   pub first : IsFirstOpFault x.phase x.bytes fault

@@ -11,7 +11,7 @@ volume_place at n = codes "volume at " ++ (decimal at ++ (codes " length " ++ de
 abbrev pub volume_line : ℕ → ℕ → List ℕ
 volume_line at n = volume_place at n ++ line_feed
 
--- the text is that of `scan`: a line for each volume of b that begins at one of these offsets, in order
+-- the text is the output of `scan`: a line for each volume of b that begins at one of these offsets, in order
 abbrev pub ScanText : List ℕ → List ℕ → List ℕ → Type 0
 ScanText b [] text = text ≡ []
 ScanText b (o ∷ os) text =

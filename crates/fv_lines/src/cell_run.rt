@@ -10,9 +10,9 @@ use fv_base::{Fault, Sink};
 use fv_tree::volume_cells;
 use std::alloc::Global;
 
-/// Puts where each part of the volume at the start of the input lies: a line for its header, one
-/// for each cell, and a last line with the sums of their lengths. Nothing is put before all cells
-/// have been read.
+/// Puts where each part of the volume at the start of the input lies: a line for its header, a line
+/// for each cell, and a last line with the sums of the cells' lengths. Nothing is put before all
+/// cells have been read.
 ///
 /// # Errors
 ///

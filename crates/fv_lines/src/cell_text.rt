@@ -1,4 +1,5 @@
-//! The lines of `cells`: one for each cell of a volume, and one with the sums of their lengths.
+//! The lines of `cells`: a line for the header of a volume, a line for each cell, and a last line
+//! with the sums of the cells' lengths.
 
 ghost use Rattle.std.specs.Prelude.{◌≡◌, ◌≤◌, ◌+◌, ◌-◌, ◌<◌, ◌^◌, length, map};
 ghost use Rattle.std.specs.List.{flat_map, sum_by};

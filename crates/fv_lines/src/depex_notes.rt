@@ -67,8 +67,8 @@ fn put_depex<S: Sink>(out: &mut S, name: Guid, bytes: &[u8], phase: Phase)
     put_note(out, &note);
 }
 
-// Puts the note on the body of a leaf, if the section type is that of a dependency expression and
-// the expression is rejected.
+// Puts the note on the body of a leaf, if the section's type is a type of dependency expressions
+// and the expression is rejected.
 fn put_leaf<S: Sink>(out: &mut S, name: Guid, kind: u8, bytes: &[u8])
     ensures { PutsNotes S.takes (read_by name bytes.now (phase_of kind)) out.old out.new }
 {

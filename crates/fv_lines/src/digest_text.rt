@@ -19,7 +19,7 @@ fn put_sum<S: Sink>(out: &mut S, sum: &[u8; 32])
 }
 
 /// Puts the digest at the end of the line of a volume, a file or a section. Puts nothing if there
-/// is none.
+/// is no digest.
 pub fn put_digest<S: Sink>(out: &mut S, digest: Option<[u8; 32]>)
     ensures { S.takes out.old (digest_text digest) out.new }
 {

@@ -10,11 +10,11 @@ use fv_tree::{FileView, VolumeView};
 /// these parts in preorder. A value is the state of the walk: it knows the digests of the volumes
 /// that are still to come.
 pub trait Digests: Copy {
-    /// The state covers these volumes: their digests, and those of the files in them, are
+    /// The state covers these volumes: the digests of these volumes and of the files in them are
     /// available.
     ghost covers: { Self → List Inside → Type 0 };
 
-    /// A state that covers some volumes also covers the first ones of them, and how deep the
+    /// A state that covers some volumes also covers the first of these volumes. How deep the
     /// volumes are nested does not matter.
     ghost laws: { CoverLaws covers };
 

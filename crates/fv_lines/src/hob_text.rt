@@ -1,4 +1,4 @@
-//! The lines of `hobs`, and what an image holds where a volume should be.
+//! The lines of `hobs`, and the content of an image where a volume should be.
 
 ghost use Rattle.std.specs.Prelude.{◌≡◌, ℕ, List, MatchOption, length};
 ghost use Rattle.fv_lines.specs.HobLines.{HobsText, IsWord, consumed_line, hob_line, standing_word, held_image};
@@ -10,7 +10,7 @@ use fv_head::verify_fv;
 use fv_hob::{Hob, Span};
 use fv_text::{put_decimal, put_four_digits};
 
-/// What an image holds in a span where a volume should be.
+/// The content of an image in a span where a volume should be.
 #[derive(Clone, Copy, Debug, PartialEq, Eq)]
 pub enum Standing {
     /// The span is not within the image.
@@ -56,7 +56,7 @@ fn span_bytes(image: &[u8], base: u64, span: Span) -> Option<&[u8]>
     Some(field(image, start, span.length as usize))
 }
 
-/// Returns what an image holds in a span where a volume should be. `base` is the address of the
+/// Returns the content of an image in a span where a volume should be. `base` is the address of the
 /// image's first byte. Addresses are compared as whole numbers, and nothing wraps.
 pub fn standing_of(image: &[u8], base: u64, span: Span) -> Standing
     ensures { IsStanding image.now base span result }

@@ -1,4 +1,4 @@
-//! What `list` shows of a leaf section: a build number, a text or a GUID.
+//! The part of a leaf section that `list` shows: a build number, a text or a GUID.
 
 ghost use Rattle.std.specs.Prelude.{◌≡◌, ℕ, List};
 ghost use Rattle.std.specs.List.{flat_map};
@@ -45,7 +45,7 @@ fn put_units<S: Sink>(out: &mut S, units: &[u8])
     }
 }
 
-// Puts the build number of a version section, if the body has the format of one.
+// Puts the build number of a version section, if the body has the format of a version section.
 fn put_version<S: Sink>(out: &mut S, body: &[u8])
     ensures { (text : List ℕ) × VersionText body.now text × S.takes out.old text out.new }
 {
@@ -58,7 +58,8 @@ fn put_version<S: Sink>(out: &mut S, body: &[u8])
     }
 }
 
-// Puts the text of a user interface section, if the body has the format of one.
+// Puts the text of a user interface section, if the body has the format of a user interface
+// section.
 fn put_interface<S: Sink>(out: &mut S, body: &[u8])
     ensures { (text : List ℕ) × InterfaceText body.now text × S.takes out.old text out.new }
 {
@@ -72,7 +73,8 @@ fn put_interface<S: Sink>(out: &mut S, body: &[u8])
     }
 }
 
-// Puts the GUID of a freeform subtype section, if the body has the format of one.
+// Puts the GUID of a freeform subtype section, if the body has the format of a freeform subtype
+// section.
 fn put_subtype<S: Sink>(out: &mut S, body: &[u8])
     ensures { (text : List ℕ) × SubtypeText body.now text × S.takes out.old text out.new }
 {
@@ -85,7 +87,7 @@ fn put_subtype<S: Sink>(out: &mut S, body: &[u8])
     }
 }
 
-// Puts what is shown of the body of a leaf, by its type.
+// Puts the text that `list` shows for the body of a leaf, which depends on the section's type.
 fn put_leaf<S: Sink>(out: &mut S, kind: u8, body: &[u8])
     ensures { (text : List ℕ) × LeafText kind body.now text × S.takes out.old text out.new }
 {
@@ -97,7 +99,8 @@ fn put_leaf<S: Sink>(out: &mut S, kind: u8, body: &[u8])
     }
 }
 
-/// Puts what is shown of the body of a section: nothing if the section is not a leaf.
+/// Puts the text that `list` shows for the body of a section. Puts nothing if the section is not a
+/// leaf.
 pub fn put_section_body<S: Sink>(out: &mut S, section: &SectionView<'_>)
     ensures { (text : List ℕ) × BodyShown (section_kind_of section.now) (body_of section.now) text
         × S.takes out.old text out.new }

@@ -29,8 +29,8 @@ fn form_words(is_extended: bool) -> &'static [u8]
     }
 }
 
-// Returns the digest in the line of a section: that of its body if the section is a leaf, otherwise
-// None.
+// Returns the digest in the line of a section: the digest of its body if the section is a leaf,
+// otherwise None.
 fn section_digest<D: Digests>(section: &SectionView<'_>, digests: &D) -> Option<[u8; 32]>
     ensures { BodyDigest D.of_leaf (body_of section.now) result }
 {
@@ -137,8 +137,8 @@ fn put_volume_line<S: Sink, D: Digests>(
     out.put(b"\n");
 }
 
-// Puts the lines of some sections and of everything in them. This walk, like those below, returns
-// the digests for what comes after.
+// Puts the lines of some sections and of everything in them. This walk and the walks below return
+// the digests for the parts that follow.
 #[cycle(lines)]
 fn put_sections<S: Sink, D: Digests>(
     out: &mut S,

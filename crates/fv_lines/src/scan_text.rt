@@ -29,7 +29,7 @@ fn put_found<S: Sink>(out: &mut S, offset: u64, length: u64)
 }
 
 /// Puts a line for each volume that the scan found in the input. `offsets` must be the result of
-/// that scan: the offsets at which the volumes begin.
+/// the scan: the offsets at which the volumes begin.
 pub fn put_volumes<S: Sink>(out: &mut S, input: &[u8], offsets: &[u64])
     requires { Found input.now offsets.now }
     ensures { (text : List ℕ) × ScanText input.now offsets.now text × S.takes out.old text out.new }

@@ -9,7 +9,7 @@ use Rattle.fv_base.specs.Words.{bytes_of, IsBytes, field}
 use Rattle.fv_base.specs.declared.guid.Guid.{Guid}
 use Rattle.fv_names.specs.declared.name_index.NameIndex.{NameIndex}
 
--- the list consists of sixteen bytes; and the name does
+-- the list consists of sixteen bytes; and the bytes of the name are such a list
 abbrev pub IsSixteenBytes : List ℕ → Type 0
 IsSixteenBytes bytes = (length bytes ≡ 16) × IsBytes bytes
 
@@ -42,7 +42,7 @@ halves_cmp a b = ordering_then (nat_cmp a.0 b.0) (nat_cmp a.1 b.1)
 abbrev pub entry_cmp : Entry → Entry → Ordering
 entry_cmp a b = ordering_then (halves_cmp a.0 b.0) (nat_cmp a.1 b.1)
 
--- the entries are those of these names, numbered from 0 and sorted; each name has sixteen bytes
+-- the entries are the entries of these names, numbered from 0 and sorted; each name has sixteen bytes
 pub record IsIndex (names : List Guid) (entries : List Entry) : Type 0 where
   pub ordered : IsSorted entry_cmp entries
   pub all : IsPermutation (numbered 0 names) entries
@@ -52,7 +52,7 @@ pub record IsIndex (names : List Guid) (entries : List Entry) : Type 0 where
 abbrev pub entries_of : NameIndex → List Entry
 entries_of index = index.sorted.items
 
--- no two adjacent entries have the same name; `e` is what is read past the last entry
+-- no two adjacent entries have the same name; `e` is the value of a read past the last entry
 abbrev pub AllApart : List Entry → Type 0
 AllApart es =
     (e : Entry) (place : ℕ) → 0 < place → place < length es → (get_or es (place - 1) e).0 ≢ (get_or es place e).0

@@ -226,7 +226,7 @@ impl NameIndex {
         first
     }
 
-    // Returns whether an entry next to the one at a place has the same name.
+    // Returns whether an entry next to the entry at a place has the same name.
     pub(crate) fn shares_its_name(&self, place: usize) -> bool
         requires { place < length (entries_of self.now) }
         ensures yes { IsTrue result → (e : Entry) → SharesItsName (entries_of self.now) e place }

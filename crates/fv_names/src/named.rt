@@ -1,4 +1,4 @@
-//! What the index of names reads from a file.
+//! The name and the mark of a file, for the index of names.
 
 ghost use Rattle.std.specs.Prelude.{◌≡◌};
 ghost use Rattle.fv_names.specs.NamedFiles.{NamedFile};

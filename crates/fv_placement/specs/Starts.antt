@@ -12,7 +12,7 @@ pub record Lawful (e : ℕ) (f : LayoutItem) (s : ℕ) : Type 0 where
   pub aligned : (s + f.header) % f.alignment ≡ 0
 
 -- s is a start of the file f in a volume of `total` bytes: it is lawful after the edge e, the file ends within the
--- volume, and the volume top file ends where the volume ends
+-- volume, and a volume top file ends where the volume ends
 pub record StandsInVolume (total e : ℕ) (f : LayoutItem) (s : ℕ) : Type 0 where
   pub lawful : Lawful e f s
   pub within : s + f.size ≤ total

@@ -34,7 +34,8 @@ use fv_base::Fault;
 use fv_base::field::up_to_8;
 use std::alloc::Global;
 
-/// What the placement of a file depends on. (PI specification, volume 3, section 3.2.3.1.)
+/// The properties of a file on which its placement depends. (PI specification, volume 3, section
+/// 3.2.3.1.)
 #[derive(Clone, Copy)]
 pub struct LayoutItem {
     /// The length of the file's header, in bytes.
@@ -51,8 +52,9 @@ pub struct LayoutItem {
 /// `first`: the start of each file, in bytes from the volume's start. Returns None if the files
 /// cannot be placed in their order at all. Both `total` and `first` are multiples of 8; `total` is
 /// within the limit of a volume, and `first` is below 2 ^ 32. Each file is at most as long as the
-/// volume. Its header lies within it, and the header's length is a multiple of 8 bytes. Its
-/// alignment is a power of two, at most 2 ^ 24. (PI specification, volume 3, section 3.2.3.1.)
+/// volume, and at least as long as its own header. The header's length is a multiple of 8 bytes.
+/// The file's alignment is a power of two, at most 2 ^ 24. (PI specification, volume 3, section
+/// 3.2.3.1.)
 ///
 /// # Errors
 ///

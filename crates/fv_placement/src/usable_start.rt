@@ -2,7 +2,8 @@
 //!
 //! A start is usable if the file may begin there and ends at a usable edge. The volume top file has
 //! one possible start, with which it ends at the volume's end. For any other file the search goes
-//! from one lawful start to the next. The step is the alignment of the file, but at least 8.
+//! from one aligned start to the next. The step is the alignment of the file's data, but at least
+//! 8.
 
 ghost use Rattle.std.specs.Prelude.{◌≡◌, ℕ, ◌+◌, ◌%◌, ◌^◌, ◌<◌, ◌≤◌, IfSome, IfNone};
 ghost use Rattle.fv_base.specs.Words.{IsAlignment, volume_limit};
@@ -45,11 +46,11 @@ fn widened(alignment: u64) -> u64
     if alignment < 8 { 8 } else { alignment }
 }
 
-// Returns the first usable start after `edge`, if there is one: `edge` itself, or a start that
-// leaves room for a pad. The loop tries at most two starts. A start fails only if the edge after
-// the file is 8 or 16 bytes below the greatest usable edge. With a step of 8 this does not happen,
-// because then `edge` is lawful as well, is usable, and has already been returned. A larger step is
-// at least 16, so the next start leads to the greatest usable edge or past it.
+// Returns the first usable start at or after `edge`, if there is one: `edge` itself, or a start
+// that leaves room for a pad. The loop tries at most two starts. A start fails only if the edge
+// after the file is 8 or 16 bytes below the greatest usable edge. With a step of 8 this does not
+// happen, because then `edge` itself is a usable start, and has already been returned. A larger
+// step is at least 16, so the next start leads to the greatest usable edge or past it.
 pub(crate) fn first_start(total: u64, edge: u64, item: &LayoutItem, after: Reach) -> Option<u64>
     requires total { total ≤ volume_limit }
     requires edge { (edge % 8 ≡ 0) × (edge ≤ total) }
@@ -80,11 +81,11 @@ pub(crate) fn first_start(total: u64, edge: u64, item: &LayoutItem, after: Reach
     None
 }
 
-// Returns the greatest usable start, if there is one. For a file other than the volume top file it
-// is one of the two greatest lawful starts with which the file ends at or below the greatest usable
-// edge. With a step of 8 the greater start leads exactly to this edge. With a larger step, which is
-// at least 16, it may lead to an edge 8 or 16 bytes below. The lesser start then leads to an edge
-// at least 24 bytes below, which is usable.
+// Returns the greatest usable start, if there is one. For a file other than the volume top file, it
+// is one of the two greatest multiples of 8 at which the file's data are aligned and with which the
+// edge after the file is at or below the greatest usable edge. With a step of 8 the greater start
+// leads exactly to this edge. With a larger step, which is at least 16, it may lead to an edge 8 or
+// 16 bytes below. The lesser start then leads to an edge at least 24 bytes below, which is usable.
 pub(crate) fn greatest_start(total: u64, item: &LayoutItem, after: Reach) -> Option<u64>
     requires total { (total ≤ volume_limit) × (total % 8 ≡ 0) }
     requires item { IsLawfulItem total item.now }

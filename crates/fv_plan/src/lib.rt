@@ -1,4 +1,4 @@
-//! A plan: what a command line asks for. It names a command, its input files and its options.
+//! The plan of a run, which a command line asks for: a command, its input files and its options.
 #![tactic(auto)]
 
 mod plan;

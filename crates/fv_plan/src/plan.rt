@@ -5,21 +5,21 @@ ghost use Rattle.fv_plan.specs.CommandFiles.{first_file, second_file};
 
 use fv_base::Guid;
 
-/// What a command line asks for.
+/// The plan of a run, which a command line asks for.
 #[derive(Debug, Drop)]
 pub struct Plan {
-    /// Whether inputs, images and parts are hexadecimal text.
+    /// Whether the inputs, and the images and parts that are written, are hexadecimal text.
     pub hex: bool,
     /// The command.
     pub command: Command,
 }
 
-/// What to do, and with which files.
+/// A command, and the files that it works on.
 #[derive(Debug, Drop)]
 pub enum Command {
     /// A task with one input.
     Single {
-        /// What to do with the input.
+        /// The task.
         task: Task,
         /// The byte of the input at which the volume begins, or None if the input is the volume.
         at: Option<u64>,
@@ -42,7 +42,7 @@ pub enum Command {
     },
 }
 
-/// What to do with one input.
+/// A task with one input.
 #[derive(Clone, Copy, Debug, PartialEq, Eq)]
 pub enum Task {
     /// Write the canonical image of a volume.

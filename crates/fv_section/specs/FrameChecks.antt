@@ -36,8 +36,8 @@ frame_checks at r =
     ∷ check (has_section_size r) kinds.SectionSize at
     ∷ []
 
--- b splits into frames up to the offset `at`, a multiple of 4 within b; the fault is that of the first check that fails
--- there, or of any, as `which` selects
+-- b splits into frames up to the offset `at`, a multiple of 4 within b; the fault comes from a check that fails there:
+-- the first, or any, as `which` selects
 pub record FrameFault (which : Which) (b : List ℕ) (fault : Fault) : Type 0 where
   pub frames : List FrameForm
   pub tail : ℕ
@@ -47,6 +47,6 @@ pub record FrameFault (which : Which) (b : List ℕ) (fault : Fault) : Type 0 wh
   pub inside : at < length b
   pub fails : Fails which (frame_checks at (drop at b)) fault
 
--- the first fault of a stream: that of the first check that fails where the next frame should begin
+-- the first fault of a stream, which comes from the first check that fails where the next frame should begin
 abbrev pub IsFirstFrameFault : List ℕ → Fault → Type 0
 IsFirstFrameFault = FrameFault First

@@ -34,8 +34,9 @@ IsHeadOfFrame extended kind n h =
     (at : ℕ) (body rest : List ℕ) → length body ≡ n
     → BeginsFrame (record { offset = at; kind = kind; extended = extended; body = body }) (h ++ (body ++ rest)) rest
 
--- the frames are in place from the offset `at` on: each begins at the first multiple of 4 at or after the end of the
--- previous one, each body fits the form of its header, and the tail ends at most at the next multiple of 4
+-- the frames are in place from the offset `at` on: the first begins at `at`, and each other at the first multiple of 4
+-- at or after the end of the previous frame; each body fits the form of its header; and the tail ends at most at the
+-- next multiple of 4. Without frames, the tail is 0
 abbrev pub InPlace : ℕ → List FrameForm → ℕ → Type 0
 InPlace at [] tail = tail ≡ 0
 InPlace at (f ∷ []) tail =
@@ -57,7 +58,7 @@ frame_in at r = record {
   body = take (section_size_at r - section_header_len_at r) (drop (section_header_len_at r) r);
 }
 
--- the offset at which the frame after the one at the offset `at` would begin
+-- the offset at which the next frame would begin, after the frame at the offset `at`
 abbrev pub offset_after : ℕ → List ℕ → ℕ
 offset_after at b = up_to_4 (at + frame_len (frame_in at (drop at b)))
 

@@ -26,7 +26,8 @@ pub struct Frame<'a> {
     pub offset: u64,
     /// The section's `Type`, for example 0x15 for `EFI_SECTION_USER_INTERFACE`.
     pub kind: u8,
-    /// Whether the header is `EFI_COMMON_SECTION_HEADER2`, of 8 bytes, rather than the header of 4.
+    /// Whether the header is `EFI_COMMON_SECTION_HEADER2`, of 8 bytes, rather than
+    /// `EFI_COMMON_SECTION_HEADER`, of 4 bytes.
     pub extended: bool,
     /// The bytes after the header.
     pub body: &'a [u8],

@@ -68,7 +68,7 @@ fn extended_head(kind: u8, size: u32) -> SectionHead
 /// Returns the header of a section with this `Type` and a body of `body_len` bytes. A short header
 /// holds the section's size in `Size`; an extended header holds 0xFFFFFF there and the size in
 /// `ExtendedSize`. The size includes the header, and must fit the form: it is at most 0xFFFFFE for
-/// a short header, and at most 0xFFFFFFFF for an extended one. Allocates no memory. (PI
+/// a short header, and at most 0xFFFFFFFF for an extended header. Allocates no memory. (PI
 /// specification, volume 3, section 3.2.4.)
 pub fn section_head_bytes(kind: u8, extended: bool, body_len: u64) -> SectionHead
     requires fits { FitsForm extended body_len }
@@ -79,7 +79,7 @@ pub fn section_head_bytes(kind: u8, extended: bool, body_len: u64) -> SectionHea
     // Followed by any body of `body_len` bytes, it makes a frame.
     ensures frame { IsHeadOfFrame extended kind body_len result }
 
-    // Its bytes are those of `section_head_of`.
+    // Its bytes are the bytes that `section_head_of` defines.
     ensures bytes { result ≡ section_head_of kind extended body_len }
 
     // Frames that are written one after another, with zero bytes between them, are read back as the

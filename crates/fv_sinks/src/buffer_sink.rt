@@ -41,8 +41,8 @@ impl<'b> BufferSink<'b> {
     }
 }
 
-/// These bytes follow those that were taken before, as many of them as fit. The rest of the buffer
-/// is unchanged.
+/// The bytes follow the bytes that were taken before, as many of them as fit. The rest of the
+/// buffer is unchanged.
 impl<'b> Sink for BufferSink<'b> {
     ghost takes = { BufferTakes (λ s. take s.len s.buffer.now) (λ s. drop s.len s.buffer.now)
         (λ s. s.buffer.ghost_name) };

@@ -33,7 +33,7 @@ impl DigestSink {
     }
 }
 
-/// The sink takes all of the bytes, after those that it took before.
+/// The sink takes all of the bytes, after the bytes that it took before.
 impl Sink for DigestSink {
     ghost takes = { DigestTakes (λ s. s.hasher) };
 

@@ -33,8 +33,8 @@ last_text (x ∷ b) = line_text (x ∷ b)
 abbrev pub IsWholeLine : List ℕ → Type 0
 IsWholeLine b = length b ≡ 32
 
--- the text has a line of lower-case digits for every 32 bytes, and one for the remaining bytes if there are any; each
--- line ends with a line feed
+-- the text has a line of lower-case digits for every 32 bytes, and a last line for the remaining bytes if there are
+-- any; each line ends with a line feed
 pub record IsHexText (bytes text : List ℕ) : Type 0 where
   pub lines : List (List ℕ)
   pub last : List ℕ

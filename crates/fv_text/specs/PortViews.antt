@@ -1,10 +1,10 @@
--- What a run reads and writes, seen from outside: the state of a port, and what was written to it.
+-- The reads and writes of a run, seen from outside: the state of a port, and the text that was written to it.
 use Rattle.std.specs.Prelude.{◌≡◌, ◌<◌, ℕ, Bool, true, List, Option, length, take}
 use Rattle.std.specs.Io.KnownBytes.{Appends}
 use Rattle.fv_base.specs.Words.{has_erred, inner_of}
 use Rattle.fv_base.specs.declared.port.Port.{Port}
 
--- what can be seen of a port: the bytes that its reader has left or that its writer holds, if they are known; and its
+-- the visible state of a port: the bytes that its reader has left or that its writer holds, if they are known; and its
 -- error flag
 pub record Shown : Type 0 where
   pub bytes : Option (List ℕ)

@@ -1,4 +1,4 @@
--- Sinks that put bytes into a sink below: at once or after the bytes have waited, as they are or as lines.
+-- Sinks that put bytes into a sink below: at once, or after the bytes have waited; as they are, or as lines of digits.
 use Rattle.std.specs.Prelude.{◌≡◌, ℕ, List, ◌++◌}
 use Rattle.std.specs.List.{AllByRecursion, concat}
 use Rattle.fv_text.specs.HexText.{lines_text, IsWholeLine}
@@ -16,7 +16,7 @@ pub record Gathered {S : Type 0} (takes : S → List ℕ → S → Type 0) (s : 
   pub joined : p ++ bytes ≡ passed ++ q
   pub taken : takes s passed t
 
--- how a gathering sink takes bytes: a first part of the waiting bytes and the new ones is put into the sink below, and
+-- how a gathering sink takes bytes: a first part of the waiting bytes and the new bytes is put into the sink below, and
 -- the rest waits
 abbrev pub GatheringTakes : {S H : Type 0} (takes : S → List ℕ → S → Type 0) (below : H → S) (waiting : H → List ℕ) → H
     → List ℕ → H → Type 0
@@ -31,7 +31,7 @@ pub record Lined {S : Type 0} (takes : S → List ℕ → S → Type 0) (s : S) 
   pub whole : AllByRecursion IsWholeLine lines
   pub taken : takes s (lines_text lines) t
 
--- how a sink of lines takes bytes: a first part of the waiting bytes and the new ones is put into the sink below as
+-- how a sink of lines takes bytes: a first part of the waiting bytes and the new bytes is put into the sink below as
 -- whole lines, and the rest waits
 abbrev pub HexTakes : {S H : Type 0} (takes : S → List ℕ → S → Type 0) (below : H → S) (waiting : H → List ℕ) → H
     → List ℕ → H → Type 0

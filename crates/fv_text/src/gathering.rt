@@ -67,7 +67,7 @@ impl<S: Sink> GatheringSink<S> {
         self.below.put(bytes);
     }
 
-    // Adds the bytes to those that wait. There must be room for them.
+    // Adds the bytes to the waiting bytes. There must be room for them.
     fn keep(&mut self, bytes: &[u8])
         requires { self.old.filled + length bytes.now ≤ 8192 }
         ensures { GatheringTakes S.takes (λ s. s.below) (λ s. take s.filled s.room) self.old bytes.now self.new }

@@ -112,8 +112,8 @@ impl Collector for Decoder {
 /// if the text is not an even number of digits; otherwise Length at 268,435,456, if it spells more
 /// bytes than that. OutOfMemory.
 pub fn read_hex<R: Read>(alloc: Global, reader: &mut Port<R>) -> Result<Vec<u8>, Fault>
-    // The text was read to its end, and has at most 2 ^ 30 bytes. The input is what its digits
-    // spell in pairs, without the white space, and is not longer than a volume may be.
+    // The text was read to its end, and has at most 2 ^ 30 bytes. The input is the bytes that its
+    // digits spell in pairs, without the white space, and is not longer than a volume may be.
     ensures read { IfOk result (λ v. SpellsWhole (R.remaining (inner_of reader.old)) (R.remaining (inner_of reader.new))
         v.items) }
 

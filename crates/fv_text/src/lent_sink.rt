@@ -6,7 +6,8 @@ ghost use Rattle.fv_text.specs.inner.SinkAdapterLaws.{lent_by};
 
 use fv_base::Sink;
 
-/// Lends a sink to another sink, as the sink below it. The lent sink takes whatever this one takes.
+/// Lends a sink to another sink, as the sink below it. The lent sink takes all bytes that this sink
+/// takes.
 #[derive(Drop)]
 pub struct LentSink<'a, S: Sink> {
     sink: &'a mut S,

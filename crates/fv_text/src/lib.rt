@@ -1,5 +1,6 @@
-//! Numbers in decimal or hexadecimal digits, bytes as lines of hexadecimal digits, and the decoding
-//! of such text. Sinks that turn bytes into such lines, or that gather small pieces.
+//! Writes numbers in decimal or hexadecimal digits and bytes as lines of hexadecimal digits, and
+//! decodes such lines. It has sinks that turn bytes into lines, that gather small pieces, and that
+//! lend a sink.
 #![tactic(auto)]
 
 mod gathering;

@@ -1,4 +1,4 @@
--- What the program does with its arguments.
+-- The runs of the program with its arguments.
 use Rattle.std.specs.Global.{Global}
 use Rattle.std.specs.Prelude.{◌≡◌, ◌≢◌, ◌<◌, ◌⊎◌, ℕ, List, Option, Result, Ok, Err, String, Vec, length, map}
 use Rattle.std.specs.String.{string_bytes}

@@ -1,4 +1,4 @@
-//! What a process is given: its arguments, its files and its standard streams.
+//! The arguments, the files and the standard streams of a process.
 
 ghost use Rattle.std.specs.Global.{Global};
 ghost use Rattle.std.specs.IoError.{error_kind};

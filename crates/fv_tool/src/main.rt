@@ -69,15 +69,15 @@ fn refuse_words<W: Write>(writer: &mut Port<W>, fault: WordFault) -> Ending
     }
 }
 
-// Runs what the command line asks for, or reports why it is rejected.
+// Runs the plan that the command line asks for, or reports why the command line is rejected.
 fn run_given<O: Opener, W: Write>(
     alloc: Global,
     opener: &O,
     words: Result<Vec<String>, WordFault>,
     writer: &mut Port<W>,
 ) -> Ending
-    // Either what the arguments ask for is run, or the program reports why it is not: the arguments
-    // ask for no plan or could not be read, or memory ran out.
+    // Either the plan that the arguments ask for is run, or the program reports why no plan is run:
+    // the arguments are wrong or could not be read, or memory ran out.
     ensures ran { RunsArguments O.Standard.remaining O.File.remaining (O.opens opener.now) (O.is_standard opener.now)
         words result (change W.contents writer.old writer.new) }
 
@@ -100,7 +100,7 @@ fn run_given<O: Opener, W: Write>(
 
 // Opens the directory `/` three times. The opened directories occupy those file descriptors below 3
 // that are closed, so no file of the run is used as a standard stream. Reads and writes of a
-// directory fail, as those of a closed descriptor do.
+// directory fail, like reads and writes of a closed descriptor.
 fn hold_numbers<O: Opener>(opener: &O) -> (Option<O::File>, Option<O::File>, Option<O::File>) {
     (
         opener.file_at("/"),
@@ -109,8 +109,8 @@ fn hold_numbers<O: Opener>(opener: &O) -> (Option<O::File>, Option<O::File>, Opt
     )
 }
 
-// Runs what the arguments of a process ask for, and writes to its standard output. Returns how the
-// run ended, and the output.
+// Runs the plan that the arguments of a process ask for, and writes to its standard output. Returns
+// how the run ended, and the output.
 fn run_process<P: Opener + Process>(alloc: Global, process: &P) -> (Ending, Port<P::Writer>)
     ensures runs { (writer : P.Writer) × P.is_output process.now writer
         × RunsProcess P.Standard.remaining P.File.remaining (P.opens process.now) (P.is_standard process.now)
@@ -140,9 +140,9 @@ fn advise<P: Process>(process: &P, ending: Ending) {
     }
 }
 
-// Runs what the arguments of a process ask for, and shows at a terminal what a person needs to know
-// about how it ended. Returns the exit code for the status with which the run ended, and the
-// output. Unless the status is Refused, the last call to the output was a flush. This holds for any
+// Runs the plan that the arguments of a process ask for, and shows a message at a terminal about
+// how the run ended. Returns the exit code for the status with which the run ended, and the output.
+// Unless the status is Refused, the last call to the output was a flush. This holds for any
 // process: whatever its arguments are, whatever opens its files, and wherever it writes.
 fn process<P: Opener + Process>(alloc: Global, process: &P) -> (ExitCode, Port<P::Writer>)
     ensures { (writer : P.Writer) × P.is_output process.now writer
@@ -159,8 +159,8 @@ fn process<P: Opener + Process>(alloc: Global, process: &P) -> (ExitCode, Port<P
     (exit_with(ending.status), output)
 }
 
-// Runs what the arguments ask for, and ends with the exit code for the status. The compiler accepts
-// no clause on `main`, so it is a single expression.
+// Runs the plan that the arguments ask for, and ends with the exit code for the status. The
+// compiler accepts no clause on `main`, so it is a single expression.
 fn main(rt: HostRuntime) -> ExitCode {
     process(rt.alloc(), &Host::new(&rt, rt.stdin(), rt.stderr())).0
 }

@@ -28,8 +28,8 @@ pub record Opens (b : List ℕ) : Type 0 where
   pub file_system : (system : FileSystem) × (field 16 16 b ≡ system_guid system)
   pub whole : le_at 32 8 b ≡ length b
 
--- whether files of this type hold sections: types 02 and 04 to 0F do (section 3.2.3, EFI_FV_FILETYPE_FREEFORM and those
--- from EFI_FV_FILETYPE_PEI_CORE on)
+-- whether files of this type hold sections: types 02 and 04 to 0F do (section 3.2.3, EFI_FV_FILETYPE_FREEFORM, and
+-- EFI_FV_FILETYPE_PEI_CORE to EFI_FV_FILETYPE_MM_CORE_STANDALONE)
 abbrev pub holds_sections : ℕ → Bool
 holds_sections kind = (kind == 0x02) || (nat_le 0x04 kind && nat_le kind 0x0f)
 
@@ -43,8 +43,8 @@ Pairwise R (x ∷ xs) (y ∷ ys) = R x y × Pairwise R xs ys
 -- ---- what bytes mean, given what the parts inside them mean: these definitions take relations for the parts, and
 -- MeansSection closes the recursion
 
--- the kinds of relations: of a frame and a section; of sections, a number of bytes after the last, and the bytes of a
--- stream; of the bytes of a volume and a meaning
+-- three kinds of relations: between a frame and a section; between sections, the number of bytes after the last, and
+-- the bytes of a stream; between the bytes of a volume and a meaning
 abbrev pub SectionRelation : Type 1
 SectionRelation = FrameForm → SectionMeaning → Type 0
 

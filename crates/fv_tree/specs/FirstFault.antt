@@ -39,8 +39,8 @@ body_at at f = record { offset = at.offset + body_place f; depth = at.depth + 1 
 abbrev pub data_at : Place → FileForm → Place
 data_at at f = record { offset = at.offset + data_place f; depth = at.depth }
 
--- a predicate on a fault and on bytes that begin at a place; and one on a fault and on a frame of a stream that begins
--- at a place
+-- a predicate on a fault and on bytes that begin at a place; and a predicate on a fault and on a frame of a stream that
+-- begins at a place
 abbrev pub Faulty : Type 1
 Faulty = Fault → List ℕ → Place → Type 0
 

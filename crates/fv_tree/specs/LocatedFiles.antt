@@ -43,8 +43,8 @@ state_by marks.Replaced = states.Marked
 abbrev pub header_len_by : ℕ → ℕ
 header_len_by attributes = file_header_len (is_large attributes)
 
--- the stored form of a file that a call has returned: its fields, what follows from them, and its data as a list of
--- bytes
+-- the stored form of a file that a call has returned: its fields, the fields that follow from them, and its data as a
+-- list of bytes
 abbrev pub file_form : LocatedFile → FileForm
 file_form s = record {
   offset = s.offset;

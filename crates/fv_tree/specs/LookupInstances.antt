@@ -10,12 +10,12 @@ use Rattle.fv_tree.specs.declared.lookup.Item.TheVariants as items
 use Rattle.fv_tree.specs.declared.lookup.Lookup.{Lookup}
 use Rattle.fv_tree.specs.declared.lookup.Lookup.TheVariants as answers
 
--- the number of the file after the one with this number, or of the first file if there is no number
+-- the number of the file after the file with this number, or of the first file if there is no number
 abbrev pub number_after : Option ℕ → ℕ
 number_after None = 0
 number_after (Some last) = last + 1
 
--- the file after the one with this number, or the first file if there is no number, together with its own number
+-- the file after the file with this number, or the first file if there is no number, together with its own number
 abbrev pub file_after : Option ℕ → List FileMeaning → Option (ℕ × FileMeaning)
 file_after after fs = option_map (λ f. (number_after after, f)) (slice_get fs (number_after after))
 

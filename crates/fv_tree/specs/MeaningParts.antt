@@ -37,7 +37,7 @@ leaf_of (Leaf b) = Some b
 leaf_of (Group _ _) = None
 leaf_of (Nested _) = None
 
--- the sections in the data of a file, and those in a body; sections in their groups are not included
+-- the sections in the data of a file, and the sections in a body; sections in groups among them are not included
 abbrev pub sections_in_data : ContentMeaning → SectionMeanings
 sections_in_data (Plain b) = NoSections
 sections_in_data (Sectioned sections tail) = sections

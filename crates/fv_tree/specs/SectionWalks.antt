@@ -20,7 +20,8 @@ left_in (ss ∷ levels) = left_in levels ++ preorder (sections_from ss.now)
 abbrev pub NestsAt : ℕ → SectionMeaning → Type 0
 NestsAt depth s = (n : ℕ) × (depth + n ≤ depth_limit) × (f : FrameForm) × MeansSection n f s
 
--- the sections of the first level are inside `depth` groups, and those of each further level are inside one more group
+-- the sections of the first level are inside `depth` groups, and the sections of each further level are inside one more
+-- group
 abbrev pub AreLevels : ℕ → List (Bor (List SectionMeaning)) → Type 0
 AreLevels depth [] = Unit {0}
 AreLevels depth (ss ∷ levels) = AllByRecursion (NestsAt depth) ss.now × AreLevels (depth + 1) levels

@@ -16,7 +16,7 @@ use fv_base::{Fault, Guid};
 use fv_file::file_type::SECURITY_CORE;
 use fv_section::{Frame, FrameWalk};
 
-/// What looking up a section found. (PI specification, volume 3, section 3.2.4.)
+/// The section or the frame that a look-up found. (PI specification, volume 3, section 3.2.4.)
 #[derive(Clone, Copy)]
 pub enum Item<'v, 'a> {
     /// A section of the view.
@@ -45,9 +45,9 @@ pub fn file_by_name<'v, 'a>(volume: &'v VolumeView<'a>, name: &Guid) -> Option<&
     volume.file(number)
 }
 
-/// Returns the file after the one with this number, together with its own number. For None, returns
-/// the first file. After the last file, returns None. Files are numbered from 0 in order. Takes no
-/// memory. (PI specification, volume 3, section 3.2.3.)
+/// Returns the file that follows file number `after`, together with its own number. If `after` is
+/// None, returns the first file. Returns None after the last file. Files are numbered from 0 in
+/// order. Takes no memory. (PI specification, volume 3, section 3.2.3.)
 pub fn next_file<'v, 'a>(
     volume: &'v VolumeView<'a>,
     after: Option<u32>,

@@ -1,4 +1,4 @@
-//! What the index of names reads from a file as it is stored.
+//! The name and the mark of a stored file, for the index of names.
 
 ghost use Rattle.fv_tree.specs.inner.NameForms.{named_file};
 

@@ -239,9 +239,9 @@ fn read_at(alloc: Global, bytes: &[u8], at: Level) -> Result<(VolumeView<'_>, u6
 /// for `cells`; DuplicateName at the later of two files with the same name and state; TopFile at a
 /// volume top file that is not at the end. After these come the faults of each file in turn: faults
 /// of its sections, as for `frames`; Depth at a group or an opened volume that is nested too deep;
-/// and faults of what a group or an opened volume holds. The offset is in bytes from the start of
-/// `bytes`, and the depth is the number of groups and opened volumes around the fault. OutOfMemory
-/// at 0, only if the bytes begin with a volume header.
+/// and faults in the content of a group or an opened volume. The offset is in bytes from the start
+/// of `bytes`, and the depth is the number of groups and opened volumes around the fault.
+/// OutOfMemory at 0, only if the bytes begin with a volume header.
 pub fn read_volume(alloc: Global, bytes: &[u8]) -> Result<(VolumeView<'_>, u64), Fault>
     // The returned number is FvLength, and this many of the first bytes are a volume with this
     // meaning.

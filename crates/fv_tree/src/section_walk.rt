@@ -66,9 +66,9 @@ impl<T: Copy> Stack<T> {
 /// left. (PI specification, volume 3, section 3.2.4.)
 #[derive(Drop)]
 pub struct SectionWalk<'v, 'a> {
-    // The sections that are left at each level: first those of the file, then those of each group
-    // that the walk is in. Groups nest at most eight deep. The tenth level is what the innermost
-    // sections contain, which is nothing.
+    // The sections that are left at each level: first the sections of the file, then the sections
+    // of each group that the walk is in. Groups nest at most eight deep. The tenth level holds the
+    // sections of the innermost sections, and is always empty.
     levels: Stack<&'v [SectionView<'a>]>,
 }
 

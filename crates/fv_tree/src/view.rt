@@ -12,8 +12,8 @@ use std::marker::Model;
 use std::mem::size_of;
 
 /// The meaning of a volume. Only reading a volume makes one. The bytes of the files and of the
-/// extended header are slices of what was read. Contracts see the meaning, and know that some bytes
-/// are a volume with this meaning. (PI specification, volume 3, section 3.2.)
+/// extended header are slices of the bytes that were read. Contracts see the meaning, and know that
+/// some bytes are a volume with this meaning. (PI specification, volume 3, section 3.2.)
 #[cycle(tree)]
 #[derive(Drop)]
 pub struct VolumeView<'a> {
@@ -105,7 +105,7 @@ enum Sections<'a> {
 /// The body of a section, borrowed from its view. (PI specification, volume 3, section 3.2.5.)
 #[derive(Clone, Copy)]
 pub enum Body<'v, 'a> {
-    /// Plain bytes: a slice of what was read, which outlives the view.
+    /// Plain bytes: a slice of the bytes that were read, which outlives the view.
     Leaf(&'a [u8]),
     /// Sections.
     Group {

@@ -82,8 +82,9 @@ impl Mark {
 }
 
 /// A valid file as it is stored in its volume. A volume may hold as many files as it has room for
-/// headers, so what follows from the other fields is not kept: the length of the header, the size
-/// and the file checksum. (PI specification, volume 3, section 3.2.3.)
+/// headers. To save memory, three fields of the header that follow from the others are not kept:
+/// the length of the header, the size and the file checksum. (PI specification, volume 3, section
+/// 3.2.3.)
 #[derive(Clone, Copy)]
 pub struct LocatedFile<'a> {
     /// Its data, which follow the header.
@@ -285,7 +286,7 @@ pub(crate) fn current_files<'a>(
         return apart_files(alloc, files, numbers, length);
     }
     // Twins and updates share a name with another file. So if all names differ, there are no twins,
-    // no file is dropped, and the index is that of the files that are kept.
+    // no file is dropped, and the index of all files is the index of the files that are kept.
     check_top(files.as_slice(), length)?;
     Ok((files, numbers))
 }

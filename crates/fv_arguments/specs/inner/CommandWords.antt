@@ -26,7 +26,7 @@ app_named name =
     else (if bytes_eq name (codes "list") then list_app
     else (if bytes_eq name (codes "scan") then one_input_app else volume_app))))))
 
--- the parser accepted the arguments of a command, and m is what it found in them
+-- the parser accepted the arguments of a command, and m holds the values that it found in them
 pub record IsRead (app : App) (rest : List (List ℕ)) (m : ArgMatches) : Type 0 where
   pub rows : rows_of (found_of m) ≡ rows_in app rest
   pub taken : faults_in app rest ≡ []

@@ -1,5 +1,5 @@
--- What a walk over the files of a volume requires (how deep groups and volumes nest, and where the files lie), and what
--- it adds to a list of starts.
+-- Conditions of a walk over the files of a volume (how deep groups and volumes nest, and where the files lie), and the
+-- starts that it adds to a list.
 use Rattle.std.specs.Prelude.{ℕ, List, ◌≡◌, ◌+◌, ◌≤◌, ◌++◌, ◌%◌, [], ◌∷◌, map}
 use Rattle.fv_base.specs.Words.{volume_limit}
 use Rattle.fv_tree.specs.Words.{FileMeaning, data_len_of, Inside}

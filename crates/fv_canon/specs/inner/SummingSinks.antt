@@ -1,5 +1,6 @@
--- What the sink of a walk over a volume takes: it puts bytes into the sink below or, while the data of a file are being
--- summed, adds them to the sum. The laws are proofs. They are in specs/ because a ghost member cites the last of them.
+-- The sink of a walk over a volume: it puts the bytes that it takes into the sink below or, while the data of a file
+-- are being summed, adds them to the sum. The laws are proofs. They are in specs/ because a ghost member cites the last
+-- of them.
 use Rattle.std.proofs.Common.{◌≡◌, ℕ, ◌+◌, ◌%◌, List, [], ◌++◌, Bool, true, false, refl, sym, subst, ◌∙◌, ap, add-zero}
 use Rattle.std.specs.Prelude.{sum}
 use Rattle.std.proofs.lemmas.List.Sums.{sum_by-append}

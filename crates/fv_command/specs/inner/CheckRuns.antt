@@ -1,4 +1,4 @@
--- The lines of `check`, by what was read for its notes.
+-- The lines of `check`, by the cells that were read for its notes.
 use Rattle.std.specs.Prelude.{◌≡◌, ℕ, Bool, true, List, [], ◌++◌, Option, Some, None}
 use Rattle.fv_base.specs.declared.flash.Polarity.{Polarity}
 use Rattle.fv_file.specs.Words.{CellForm}

@@ -5,7 +5,7 @@ use Rattle.fv_canon.proofs.Laws.{begins_first, begins_higher}
 use Rattle.fv_lines.specs.Words.{CoverLaws}
 use Rattle.fv_tree.specs.Words.{Inside}
 
--- in this state of the walk the starts begin with those of these volumes
+-- in this state of the walk, the starts begin with the starts of these volumes
 abbrev pub BeginWith : {D : Type 0} (starts : D → List ℕ) → D → List Inside → Type 0
 BeginWith starts d vs = BeginsWithStarts vs (starts d)
 

@@ -18,7 +18,7 @@ abbrev pub Puts : {S E : Type 0} → (S → List ℕ → S → Type 0) → (Stat
 Puts takes says stops s t (Ok status) = (text : List ℕ) × says status text × takes s text t
 Puts takes says stops s t (Err e) = stops e × (t ≡ s)
 
--- the sink took the text of the task for its input; or the input is denied (`Denies`)
+-- the sink took the text of the task for its input; or the task fails for its input (`Denies`)
 abbrev pub Performs : {S : Type 0} → (S → List ℕ → S → Type 0) → Task → Bool → List ℕ → S → S → Result Status Fault → Type 0
 Performs takes task hex input s t result = Puts takes (Says task hex input) (Denies task input) s t result
 

@@ -1,4 +1,4 @@
--- What a search through two meanings returns.
+-- The result of a search through two meanings.
 use Rattle.std.specs.Prelude.{◌≡◌, Result, Ok, Err, reverse, true, Option, Some, None}
 use Rattle.fv_base.specs.Words.{out_of_memory}
 use Rattle.fv_base.specs.declared.fault.Fault.{Fault}
@@ -15,7 +15,7 @@ abbrev pub outermost_first : Differs → Differs
 outermost_first None = None
 outermost_first (Some d) = Some (reverse d.0, d.1)
 
--- what a search returns: where the two first differ, with the steps from the innermost out; memory runs out only if
+-- the result of a search: where the two first differ, with the steps from the innermost out; memory runs out only if
 -- there are steps
 abbrev pub ReturnsDifference : Result Differs Fault → Differs → Type 0
 ReturnsDifference (Ok o) d = outermost_first o ≡ d

@@ -32,7 +32,7 @@ sort_of states.Construction = Unfinished
 sort_of states.HeaderInvalid = Unfinished
 sort_of st = if is_alive st then Valid else Dead
 
--- there is a state, and it is that of a header under construction or of an invalid header
+-- there is a state, and it is the state of a header under construction or of an invalid header
 abbrev pub is_unfinished : Option FileState → Bool
 is_unfinished (Some states.Construction) = true
 is_unfinished (Some states.HeaderInvalid) = true
@@ -88,7 +88,7 @@ cell_verdict system polarity p r =
     if nat_lt (length r) 24 then Err (stray polarity p r)
     else state_verdict (state_of polarity (state_at r)) system polarity p r
 
--- the header of a file if its state is that of a valid file, or the first fault
+-- the header of a file if the file is valid by its state, or the first fault
 abbrev pub standing_verdict : Option FileState → FileSystem → List ℕ → Result FileHead Fault
 standing_verdict None system b = Err (outer_fault kinds.FileState 23)
 standing_verdict (Some state) system b =

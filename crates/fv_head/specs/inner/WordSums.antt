@@ -5,7 +5,7 @@ use Rattle.std.proofs.Common.{◌++◌, refl, sym, ◌∙◌, ap, arith}
 use Rattle.fv_base.specs.Words.{WalkLaws}
 use Rattle.fv_base.specs.inner.SinkLaws.{sums_joined}
 
--- what bytes add to a sum of 16-bit words; `high` says whether the first byte is the high byte of a word
+-- the number that bytes add to a sum of 16-bit words; `high` says whether the first byte is the high byte of a word
 abbrev pub word_weight : Bool → List ℕ → ℕ
 word_weight high [] = 0
 word_weight false (x ∷ xs) = x + word_weight true xs
@@ -16,8 +16,8 @@ abbrev pub is_high_behind : Bool → List ℕ → Bool
 is_high_behind high [] = high
 is_high_behind high (x ∷ xs) = is_high_behind (not high) xs
 
--- from s to t the total has grown by what the bytes add, modulo 65536; `high` says whether the next byte is the high
--- byte of a word
+-- from s to t the total has grown by the number that the bytes add, modulo 65536; `high` says whether the next byte is
+-- the high byte of a word
 abbrev pub AddsWords : {S : Type 0} (total : S → ℕ) (high : S → Bool) → S → List ℕ → S → Type 0
 AddsWords total high s bytes t =
     (high t ≡ is_high_behind (high s) bytes) × (total t % 65536 ≡ (total s + word_weight (high s) bytes) % 65536)

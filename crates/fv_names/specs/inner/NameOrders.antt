@@ -1,5 +1,6 @@
--- What looking up names needs: the keys by which names are first sorted; and what adjacent entries, in the order of
--- names and numbers, show about their files. `d` and `e` are what is read past the last file and past the last entry.
+-- Definitions for looking up names: the keys by which names are first sorted; and facts that adjacent entries, in the
+-- order of names and numbers, show about their files. `d` and `e` are the values of a read past the last file and past
+-- the last entry.
 use Rattle.std.specs.Prelude.{◌≡◌, ℕ, ◌+◌, ◌*◌, ◌/◌, ◌^◌, ◌-◌, ◌<◌, ◌⊎◌, Bool, List, length, get_or}
 use Rattle.fv_names.specs.NameIndexes.{Entry}
 use Rattle.fv_names.specs.NamedFiles.{NamedFile}
@@ -21,7 +22,7 @@ abbrev pub IsTwinAt : List NamedFile → NamedFile → List Entry → Entry → 
 IsTwinAt fs d es e place =
     AreTwins fs d (get_or es (place - 1) e) (get_or es place e) ⊎ AreTwins fs d (get_or es (place - 2) e) (get_or es place e)
 
--- an entry next to the one at a place has the same name
+-- an entry next to the entry at a place has the same name
 abbrev pub SharesItsName : List Entry → Entry → ℕ → Type 0
 SharesItsName es e place =
     ((0 < place) × ((get_or es (place - 1) e).0 ≡ (get_or es place e).0))

@@ -29,7 +29,7 @@ pub record IsBound (total : ℕ) (fs : List LayoutItem) (r : Reach) : Type 0 whe
   pub greatest : r.greatest ≤ total
   pub complete : (e : ℕ) → e % 8 ≡ 0 → CanPlace total e fs → IsUsable r e
 
--- the edges that are usable by the reach are exactly those after which the files can be placed
+-- the edges that are usable by the reach are exactly the edges after which the files can be placed
 pub record IsReach (total : ℕ) (fs : List LayoutItem) (r : Reach) : Type 0 where
   pub bound : IsBound total fs r
   pub eighth : r.greatest % 8 ≡ 0

@@ -33,8 +33,9 @@ pub record HoldsDigits (is_long : Bool) (held waiting digits : List ℕ) : Type 
   pub kept : is_long ≡ false → held ≡ bytes
   pub many : is_long ≡ true → volume_limit < length bytes
 
--- the decoder's state after this text: the text is wrong, whatever follows, or its digits spell the bytes that the
--- decoder holds. It holds at most the bytes of a volume, and at most one digit waits
+-- the decoder's state after this text: the text is wrong, whatever follows, or its digits, except a digit that waits,
+-- spell the bytes that the decoder holds or more bytes than a volume may have. It holds at most the bytes of a volume,
+-- and at most one digit waits
 pub record Decodes (d : Decoder) (text : List ℕ) : Type 0 where
   pub wrong : d.is_wrong ≡ true → IsSpoilt (squeezed text)
   pub right : d.is_wrong ≡ false → HoldsDigits d.is_long d.bytes.items d.digits.items (squeezed text)

@@ -1,4 +1,4 @@
--- What the index of names knows about a file.
+-- The name and the mark of a file, which the index of names knows.
 use Rattle.fv_names.specs.Words.{NamedFile}
 use Rattle.fv_tree.specs.LocatedFiles.{file_form}
 use Rattle.fv_tree.specs.VolumeFiles.{FileForm, is_marked}

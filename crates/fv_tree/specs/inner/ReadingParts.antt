@@ -1,5 +1,5 @@
--- What a stored file keeps of its header, and what follows from it; how the body of a section is read; what a reader of
--- a part of a volume returns, and what it knows about the files.
+-- The fields of its header that a stored file keeps, and the fields that follow from them; how the body of a section is
+-- read; the result of a reader of a part of a volume, and the facts that it knows about the files.
 use Rattle.std.specs.Prelude.{◌≡◌, ℕ, ◌+◌, ◌<◌, ◌^◌, Bool, true, false, List, length, ◌==◌, ◌&&◌, if◌then◌else◌, ◌≢◌}
 use Rattle.std.specs.Prelude.{◌≤◌, Result, MatchResult}
 use Rattle.fv_file.specs.Words.{CellForm, Valid, attribute_bits, file_sum_for}
@@ -38,7 +38,7 @@ pub record FollowsFrom (head : FileHead) (payload : List ℕ) : Type 0 where
   pub file_sum : head.file_sum ≡ file_sum_for (attribute_bits head.attributes) payload
   pub state : head.state ≡ state_by (mark_of head.state)
 
--- if the cell is a valid file, its header follows from what is kept of it, and its offset fits in 32 bits
+-- if the cell is a valid file, its header follows from the fields that are kept of it, and its offset fits in 32 bits
 abbrev pub IsSmallCell : CellForm → Type 0
 IsSmallCell (Valid at head payload) = (at < 2 ^ 32) × FollowsFrom head payload
 IsSmallCell _ = Unit {0}

@@ -74,8 +74,8 @@ impl<'a> FileView<'a> {
         &self.content
     }
 
-    /// Returns the data, or None if they are sections. The data are a slice of what was read, which
-    /// outlives the view.
+    /// Returns the data, or None if they are sections. The data are a slice of the bytes that were
+    /// read, which outlives the view.
     pub fn plain(&self) -> Option<&'a [u8]>
         ensures { option_map (λ b. b.now) result ≡ plain_of (content_of self.now) }
     {

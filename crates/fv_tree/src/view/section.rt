@@ -159,7 +159,7 @@ impl<'a> SectionView<'a> {
     }
 
     /// Returns the bytes of a leaf, or None if the section is not a leaf. The bytes are a slice of
-    /// what was read, which outlives the view.
+    /// the bytes that were read, which outlives the view.
     pub fn leaf(&self) -> Option<&'a [u8]>
         ensures { option_map (λ b. b.now) result ≡ leaf_of (body_of self.now) }
     {
