@@ -1,4 +1,5 @@
--- What a reader gave, why reading stopped, and what a writer holds when a run has stopped.
+-- The bytes that a reader gave, the reasons why reading stopped, and the bytes that a writer holds when a run has
+-- stopped.
 use Rattle.std.specs.Prelude.{ℕ, ◌≡◌, ◌<◌, ◌≤◌, List, length, Option, take}
 use Rattle.std.specs.Io.KnownBytes.{Consumes, IsAtEnd, Appends}
 use Rattle.fv_base.specs.declared.fault.Fault.{Fault}

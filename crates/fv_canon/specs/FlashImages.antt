@@ -30,8 +30,8 @@ NormalisesAll b o = (length b ≤ volume_limit) × (places : List ℕ) × Found 
 abbrev pub HasImageAt : List ℕ → ℕ → Type 0
 HasImageAt b p = (n : ℕ) × (image : List ℕ) × VolumeAt b p n × NormalisesTo (field p n b) image
 
--- the volume that begins at the offset p of b is rejected, and this is its fault, with the offset counted from the
--- first byte of b
+-- the volume that begins at the offset p of b is rejected, and this is its fault, with the fault's offset counted from
+-- the first byte of b
 abbrev pub RefusedAt : List ℕ → ℕ → Fault → Type 0
 RefusedAt b p fault =
     (n : ℕ) × VolumeAt b p n × (own : Fault) × Refuses (field p n b) own × (fault ≡ moved_fault p own.place.depth own)

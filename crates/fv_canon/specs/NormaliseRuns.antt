@@ -1,4 +1,4 @@
--- What a run over one input reads and writes, and what stops it.
+-- The reads and writes of a run over one input, and the faults that stop it.
 use Rattle.std.specs.Prelude.{ℕ, List, Option, ◌⊎◌}
 use Rattle.std.specs.Io.KnownBytes.{Appends, Keeps}
 use Rattle.fv_base.specs.Words.{OrMemory, ReadsWhole, ReadStops, WriteStops}

@@ -1,4 +1,4 @@
--- Where the bytes of an input come from, and what a run of a plan does to its inputs and its output.
+-- The sources of a run's inputs, and the effects of a run of a plan on its inputs and its output.
 use Rattle.std.specs.Prelude.{◌≡◌, ℕ, List, [], Option, Some, None, String, Bool, false, option_map}
 use Rattle.std.specs.Global.{Global}
 use Rattle.std.specs.String.{string_bytes}
@@ -43,7 +43,7 @@ abbrev pub IsSecondSource : {S F : Type 0} → (List ℕ → Option F → Type 0
 IsSecondSource opens None source = source ≡ Nothing
 IsSecondSource opens (Some path) source = IsOpened opens (string_bytes path) source
 
--- the text and the status of a command that is not refused, by what was read of its inputs. A task reads nothing of the
+-- the text and the status of a command that is not refused, for these reads of its inputs. A task reads nothing of the
 -- second input
 abbrev pub SaysCommand : Command → Bool → (first second : Change) → Status → List ℕ → Type 0
 SaysCommand (Single task at file) hex first second status text =
@@ -52,8 +52,8 @@ SaysCommand (Hobs file image) hex first second status text =
     SaysHobs (option_map (λ i. i.base) image) hex first second status text
 SaysCommand (Compare a b) hex first second status text = SaysComparison hex a.at b.at first second status text
 
--- why a command is refused, by what was read of its inputs: a fault of an input, of one of two volumes with its side,
--- or of a hand-off list. A task reads nothing of the second input
+-- why a command is refused, for these reads of its inputs: a fault of an input, of one of two volumes with its side, or
+-- of a hand-off list. A task reads nothing of the second input
 abbrev pub StopsCommand : Command → Bool → (first second : Change) → Refusal → Type 0
 StopsCommand (Single task at file) hex first second (Input fault) =
     (second.new ≡ second.old) × StopsTask task hex at first fault

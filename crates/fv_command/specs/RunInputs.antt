@@ -1,4 +1,4 @@
--- What a run reads, and what stops the reading.
+-- The bytes that a run reads, and the faults that stop the reading.
 use Rattle.std.specs.Prelude.{◌≡◌, ◌≤◌, ◌⊎◌, ℕ, Bool, true, false, List, length, take, drop, Option, None, Some}
 use Rattle.fv_base.specs.Words.{ReadsWhole, ReadStops}
 use Rattle.fv_base.specs.declared.fault.Fault.{Fault}

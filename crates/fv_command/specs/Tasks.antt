@@ -1,4 +1,4 @@
--- The text and the status of each task over one input, and what stops a task.
+-- The text and the status of each task over one input, and the faults that stop a task.
 use Rattle.std.specs.Prelude.{◌≡◌, ◌↔◌, ℕ, Bool, true, List, ◌++◌, drop, Option, Some, ◌⊎◌, false, codes}
 use Rattle.fv_base.specs.Words.{OrMemory, out_of_memory}
 use Rattle.fv_base.specs.declared.flash.Polarity.{Polarity}
@@ -106,6 +106,7 @@ Says task hex input status text = ⊥
 -- - `Check`: the input is not a volume
 -- - `CheckAll`: the input is longer than the limit
 -- - `Cells`: the input does not begin with a volume whose body is tiled by cells
+-- - `Scan`: no other reason
 abbrev pub Denies : Task → List ℕ → Fault → Type 0
 Denies Normalise input fault = OrMemory (Refuses input) fault
 Denies NormaliseAll input fault = OrMemory (RefusesAll input) fault

@@ -1,4 +1,5 @@
-//! The command `check`: is a volume its own canonical image, and what in it deserves a note?
+//! The command `check`: reports whether a volume is its own canonical image, and its parts that
+//! deserve a note.
 
 ghost use Rattle.std.specs.Prelude.{◌≡◌, ◌⊎◌, ℕ, Bool, List, option_copied, IfErr, IfOk, OnErr};
 ghost use Rattle.fv_base.specs.Words.{out_of_memory};

@@ -1,5 +1,5 @@
-//! The command `check --all`: is each volume of an image its own canonical image, or with which
-//! fault is it rejected?
+//! The command `check --all`: reports for each volume of an image whether it is its own canonical
+//! image, or the fault with which it is rejected.
 
 ghost use Rattle.std.specs.Prelude.{◌≡◌, ◌++◌, Bool, codes};
 ghost use Rattle.std.specs.List.{flat_map, list_any};

@@ -1,4 +1,4 @@
--- What is known of a header that was read, and of the volume header of the canonical image (PI specification, volume 3,
+-- Facts about a header that was read, and about the volume header of the canonical image (PI specification, volume 3,
 -- section 3.2.1).
 use Rattle.std.specs.Prelude.{◌≡◌, ℕ, List, ◌++◌, length, Option, None, Some}
 use Rattle.fv_base.specs.Words.{IsBytes, le_at}

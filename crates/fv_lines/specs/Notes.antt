@@ -1,4 +1,4 @@
--- What `check` reports of a volume: notes on pads whose data bytes are not all erased, notes on rejected dependency
+-- The report of `check` on a volume: notes on pads whose data bytes are not all erased, notes on rejected dependency
 -- expressions, and whether the volume is its own canonical image.
 use Rattle.std.specs.Prelude.{◌≡◌, ◌⊎◌, ℕ, ◌==◌, ◌||◌, not, if◌then◌else◌, Bool, true, false, List, [], ◌∷◌, ◌++◌}
 use Rattle.std.specs.Prelude.{Option, Some, None, codes, decimal}

@@ -22,7 +22,8 @@ pub enum Standing {
 }
 
 impl Standing {
-    /// Returns the word for it, with a space before it: ` outside`, ` volume` or ` absent`.
+    /// Returns the word for this content, with a space before it: ` outside`, ` volume` or `
+    /// absent`.
     pub fn word(self) -> &'static str
         ensures { result.now ≡ standing_word self }
     {
@@ -70,8 +71,8 @@ pub fn standing_of(image: &[u8], base: u64, span: Span) -> Standing
     }
 }
 
-// Returns the word for the volume that a block describes, or an empty text if it describes none or
-// there is no image.
+// Returns the word for the volume that a block describes, or an empty text if the block describes
+// no volume or there is no image.
 fn word_of(hob: &Hob, image: Option<MappedImage<'_>>) -> &'static str
     ensures { IsWord (held_image image.entry) hob.now result.now }
 {

@@ -56,7 +56,7 @@ pub enum Task {
     ListSums,
     /// Write the data of a file of a volume, or the body of one of the file's sections.
     Extract(Part),
-    /// Report whether a volume is its own canonical image, and what in it deserves a note.
+    /// Report whether a volume is its own canonical image, and its parts that deserve a note.
     Check,
     /// Report for each volume of an image whether it is its own canonical image, or its fault.
     CheckAll,

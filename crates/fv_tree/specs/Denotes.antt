@@ -120,7 +120,7 @@ Denotes n = VolumeOver (Stream n)
 abbrev pub Accepted : VolumeRelation
 Accepted b m = IsBytes b × Denotes depth_limit b m
 
--- ---- what is known of everything that was read
+-- ---- a fact about everything that was read
 
 -- some bytes are a volume with this meaning: true of every `VolumeView`
 abbrev pub IsMeaning : Meaning → Type 0

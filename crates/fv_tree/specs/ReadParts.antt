@@ -1,4 +1,4 @@
--- What is known of a file or a section that was read.
+-- Facts about a file or a section that was read.
 use Rattle.std.specs.Prelude.{ℕ, ◌≤◌, List, length}
 use Rattle.fv_base.specs.Words.{depth_limit, volume_limit, IsBytes}
 use Rattle.fv_base.specs.declared.flash.FileSystem.{FileSystem}

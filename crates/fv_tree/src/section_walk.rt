@@ -102,8 +102,8 @@ impl<'v, 'a> SectionWalk<'v, 'a> {
     }
 }
 
-/// Returns the first of the sections that are left, and keeps the others. After the last section,
-/// returns None. Takes no memory.
+/// Returns the first of the remaining sections, and keeps the others. Returns None after the last
+/// section. Takes no memory.
 impl<'v, 'a> Iterator for SectionWalk<'v, 'a> {
     type Item = &'v SectionView<'a>;
 

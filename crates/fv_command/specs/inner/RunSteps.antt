@@ -1,4 +1,4 @@
--- What the steps of a run put into a sink, and whether a text was written.
+-- The text that the steps of a run put into a sink, and whether a text was written.
 use Rattle.std.specs.Prelude.{◌≡◌, ℕ, Bool, true, false, List, Option, Result, Ok, Err}
 use Rattle.fv_base.specs.declared.fault.Fault.{Fault}
 use Rattle.fv_compare.specs.declared.side.Side.{Side}

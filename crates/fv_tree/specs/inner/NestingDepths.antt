@@ -1,4 +1,4 @@
--- How deep groups and volumes nest in what was read, according to the relation by which it was read.
+-- How deep groups and volumes nest in a meaning that was read, according to the relation by which it was read.
 use Rattle.std.specs.Prelude.{Bool, ℕ, List}
 use Rattle.std.specs.List.{AllByRecursion}
 use Rattle.fv_section.specs.Words.{FrameForm}
