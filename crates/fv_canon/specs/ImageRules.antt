@@ -17,8 +17,8 @@ abbrev pub InOrder : ℕ → ℕ → List PlacedBytes → Type 0
 InOrder total e [] = e ≤ total
 InOrder total e (p ∷ ps) = (e ≤ p.at) × InOrder total (p.at + length p.bytes) ps
 
--- a gap of at least 24 bytes, a multiple of 8, is one pad if it has at most 0xFFFFF8 bytes. Otherwise it is a pad of
--- `long_pad` bytes and then the pads of the rest, which has at least 256 bytes
+-- a gap whose length is a multiple of 8 and at least 24 is one pad if it has at most 0xFFFFF8 bytes. Otherwise it is a
+-- pad of `long_pad` bytes and then the pads of the rest, which has at least 256 bytes
 abbrev pub PadsRule : Type 0
 PadsRule =
     (polarity : Polarity) (gap : ℕ) → 24 ≤ gap → gap % 8 ≡ 0

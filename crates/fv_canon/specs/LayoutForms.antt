@@ -38,6 +38,7 @@ pub record Places : Type 0 where
   pub own : List ℕ
   pub inner : List ℕ
 
--- the files of the canonical image begin at these starts, and `own` has one start for each of the volume's own files
+-- these are the starts of the files at every level in the canonical image, and `own` has one start for each of the
+-- volume's own files
 abbrev pub IsLayout : Meaning → Places → Type 0
 IsLayout m l = LaysVolume m (l.own ++ l.inner) × (length l.own ≡ length (files_of m))

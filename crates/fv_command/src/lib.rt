@@ -1,9 +1,9 @@
 //! The commands of the program, over readers and a writer.
 //!
 //! A `.._run` module runs a command: it reads its inputs, or is given them, and puts its text into
-//! the sink of the run. Most lines come from fv_lines; `fault_text` has the lines of faults.
-//! Contracts see a reader by the bytes that it has left and a writer by the bytes that it holds, if
-//! these are known, and both by whether one of their calls has failed.
+//! the sink of the run. Most lines come from fv_lines; the module `fault_text` puts the lines of
+//! faults. Contracts see a reader by the bytes that it has left and a writer by the bytes that it
+//! holds, if these are known, and both by whether one of their calls has failed.
 #![tactic(auto)]
 
 mod check_run;

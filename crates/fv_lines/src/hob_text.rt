@@ -22,8 +22,7 @@ pub enum Standing {
 }
 
 impl Standing {
-    /// Returns the word for this content, with a space before it: ` outside`, ` volume` or `
-    /// absent`.
+    /// Returns the word for this content, after a space: `outside`, `volume` or `absent`.
     pub fn word(self) -> &'static str
         ensures { result.now ≡ standing_word self }
     {

@@ -1,6 +1,5 @@
 //! Writes numbers in decimal or hexadecimal digits and bytes as lines of hexadecimal digits, and
-//! decodes such lines. It has sinks that turn bytes into lines, that gather small pieces, and that
-//! lend a sink.
+//! decodes such lines. Its sinks turn bytes into lines, gather small pieces, or lend another sink.
 #![tactic(auto)]
 
 mod gathering;
