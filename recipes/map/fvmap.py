@@ -1,5 +1,5 @@
 #!/usr/bin/env python3
-"""Draws a flash image or a firmware volume as one HTML page: what is where, how large it is, and what is free.
+"""Draws a flash image or a firmware volume as one HTML page, which shows the parts, their sizes and the free space.
 
     fvmap.py IMAGE > map.html
     fvmap.py --against OTHER IMAGE > map.html     also what came, went and changed since OTHER
@@ -474,7 +474,7 @@ class Names:
                         self.known[guid.lower()] = name.strip()
 
     def file(self, file: File) -> str:
-        """Returns the name of a file: that of its section, otherwise that of the list, otherwise its GUID."""
+        """Returns the name of a file: the text of its section, otherwise its name in the list, otherwise its GUID."""
         return printable(file.text or self.known.get(file.guid, file.guid))
 
     def volume(self, volume: Volume) -> str:
