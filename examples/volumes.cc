@@ -1,5 +1,5 @@
-// An example for C++ programs: lists the volumes of a flash image with their files and bytes of data, and reports whether
-// all of the volumes are canonical.
+// An example for C++ programs: lists the volumes of a flash image with their files and bytes of data, and reports
+// whether all of the volumes are canonical.
 //   c++ -std=c++17 volumes.cc $(pkg-config --cflags --libs fv)        ./a.out IMAGE
 #include <fv.h>
 
