@@ -2,7 +2,7 @@
 """Draws a flash image or a firmware volume as one HTML page, which shows the parts, their sizes and the free space.
 
     fvmap.py IMAGE > map.html
-    fvmap.py --against OTHER IMAGE > map.html     also what came, went and changed since OTHER
+    fvmap.py --against OLD IMAGE > map.html       also what came, went and changed since OLD
 
 The script runs `fvtool scan`, `list`, `cells`, `check` and `extract`, and needs only Python's standard library. The
 program opens no compressed section. The script opens LZMA data with Python's own module, and runs the program again on
@@ -77,7 +77,7 @@ LEGEND = {
     "deleted": "deleted or unfinished",
     "header": "header",
     "free": "free",
-    "bad": "refused volume",
+    "bad": "rejected volume",
     "none": "no volume",
     "unread": "not shown",
 }
@@ -104,23 +104,25 @@ SECTIONS = {
     0x1B: "PEI depex",
     0x1C: "MM depex",
 }
+# What a fault of a volume means. The header of a volume that is drawn has no fault, so faults 1 to 9 are of nested ones.
 FAULTS = {
-    1: "cut short",
-    9: "its extended header is damaged",
+    1: "a nested volume is cut short",
+    **dict.fromkeys(range(4, 9), "the header of a nested volume is damaged"),
+    9: "the extended header of a nested volume is damaged",
     10: "the state of a file is invalid",
     11: "the header of a file is damaged",
     12: "the size of a file is wrong",
     13: "a large file in FFS2",
     14: "the data of a file are damaged",
-    15: "it has a file that may not be moved",
+    15: "a file is marked fixed: it may not be moved",
     16: "its free space is not erased",
-    17: "two files have one name",
-    18: "its top file is not at its end",
+    17: "two files have the same name",
+    18: "its volume top file is not at its end",
     19: "the size of a section is wrong",
-    20: "bytes are left after the sections",
-    21: "it nests too deep",
-    22: "no room for its canonical image",
-    23: "its top file is not aligned",
+    20: "1 to 3 bytes are left after a section",
+    21: "it nests deeper than 8 levels",
+    22: "its files cannot be laid out in its length",
+    23: "its volume top file would be misaligned",
 }
 GUID = "[0-9a-f]{8}(?:-[0-9a-f]{4}){3}-[0-9a-f]{12}"
 VOLUME_LINE = re.compile(rf"volume (ffs[23]) length (\d+) files (\d+)(?: name ({GUID}))?(?: sha256 ([0-9a-f]{{64}}))?")
@@ -923,7 +925,7 @@ def main() -> int:
     """Writes the page to standard output."""
     words = fvlines.Arguments(description="Draws a flash image or a firmware volume as one HTML page.")
     words.add_argument("image", help="the image")
-    words.add_argument("--against", metavar="OTHER", help="an image to compare with: what came, went and changed since")
+    words.add_argument("--against", metavar="OLD", help="an image to compare with: what came, went and changed since")
     words.add_argument(
         "--names", metavar="FILE", action="append", default=[], help="more names: lines of a GUID and a name"
     )
