@@ -32,8 +32,9 @@ class Case:
 
 
 def synopsis() -> str:
-    """The lines at the top of the page of the program."""
-    block = Path("docs/PROGRAM.md").read_text(encoding="utf-8").split("\n\n")[1]
+    """The lines at the top of the page of the program, its first indented block."""
+    blocks = Path("docs/PROGRAM.md").read_text(encoding="utf-8").split("\n\n")
+    block = next(it for it in blocks if it.startswith("    fvtool\n"))
     return "".join(line[4:] + "\n" for line in block.split("\n"))
 
 

@@ -1,4 +1,5 @@
-/* Lists the volumes of a flash image and the data of their files, and whether the image is as it would be rebuilt.
+/* An example for C programs: lists the volumes of a flash image with their files and bytes of data, and reports whether
+ * all of the volumes are canonical.
  *   cc -std=c11 volumes.c $(pkg-config --cflags --libs fv)        ./a.out IMAGE */
 #include <fv.h>
 #include <stdio.h>

@@ -1,6 +1,8 @@
 #!/usr/bin/env python3
-"""Lists the volumes of a flash image and the data of their files, and whether the image is as it would be rebuilt.
-LIBFV=clib/out/libfv.so.0 PYTHONPATH=clib/python examples/volumes.py IMAGE"""
+"""An example for Python programs: lists the volumes of a flash image with their files and bytes of data, and reports
+whether all of the volumes are canonical.
+
+    LIBFV=clib/out/libfv.so.0 PYTHONPATH=clib/python examples/volumes.py IMAGE"""
 
 import sys
 
@@ -13,7 +15,7 @@ try:
         image = bytearray(file.read())
 except OSError:
     sys.exit(print(f"volumes: cannot read {sys.argv[1]}", file=sys.stderr) or 2)
-# Nothing writes to the image while a call runs, so no slice of it needs to be copied: in_place=True.
+# Nothing writes to the image while a call runs, so its slices need not be copied: in_place=True.
 view = memoryview(image)
 for at in fv.scan(view, in_place=True):
     volume = view[at : at + fv.verify(view[at:], in_place=True).length]

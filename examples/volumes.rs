@@ -1,11 +1,11 @@
-//! Lists the volumes of a flash image and the data of their files, and whether the image is as it
-//! would be rebuilt.
+//! An example for Rust programs: lists the volumes of a flash image with their files and bytes of
+//! data, and reports whether all of the volumes are canonical.
 //!   cargo run --offline --manifest-path clib/rust/Cargo.toml --example volumes IMAGE
 
 use std::io::{stdout, Write};
 use std::process::ExitCode;
 
-/// What is said of the volume that begins at an offset.
+/// Returns the line of the volume at an offset, without its place.
 fn volume(image: &[u8], at: usize) -> Result<String, fv::Fault> {
     let volume = &image[at..][..fv::verify(&image[at..])?.length];
     let files = fv::files(volume)?;
@@ -13,13 +13,13 @@ fn volume(image: &[u8], at: usize) -> Result<String, fv::Fault> {
     Ok(format!("{} files, {data} bytes of data", files.len()))
 }
 
-/// What is said of the whole image.
+/// Returns whether the image is canonical, as text.
 fn verdict(image: &[u8]) -> Result<String, fv::Fault> {
     let words = ["not canonical", "canonical"];
     Ok(words[usize::from(fv::normalise_image(image)? == image)].to_owned())
 }
 
-/// What a result says: itself, or what the fault means.
+/// Returns the text of a result: its value, or the explanation of its fault.
 fn text(result: Result<String, fv::Fault>) -> String {
     result.unwrap_or_else(|fault| fault.text().unwrap_or_default().to_owned())
 }

@@ -1,6 +1,6 @@
-# Completion of fvtool(1) for bash. It needs no other package, and calls the fvtool of PATH for offsets and names.
+# Completion of fvtool(1) for bash. It needs no other package, and runs the fvtool in PATH for offsets and names.
 
-# The Nth file among the other arguments.
+# Writes the Nth file among the other arguments.
 _fvtool_file() { # N
     local word found=0
     for word in "${COMP_WORDS[@]:2:COMP_CWORD-2}" "${COMP_WORDS[@]:COMP_CWORD+1}"; do
@@ -11,7 +11,7 @@ _fvtool_file() { # N
     done
 }
 
-# The offsets of the volumes in the Nth file.
+# Writes the offsets of the volumes in the Nth file.
 _fvtool_offsets() { # N
     local file
     file=$(_fvtool_file "$1")
@@ -20,7 +20,7 @@ _fvtool_offsets() { # N
     fi
 }
 
-# The names of the files of the volume, which is that at --at if there is one.
+# Writes the names of the files in the volume: the volume at --at, if it is given.
 _fvtool_names() {
     local file index at=()
     file=$(_fvtool_file 1)
@@ -48,7 +48,7 @@ _fvtool() {
             --instance | --base) choices= ;;
             --image) return ;;
             *)
-                # With no answer the shell completes names of files.
+                # Without choices the shell completes names of files.
                 if [[ $current != -* ]]; then return; fi
                 case ${COMP_WORDS[1]} in
                     normalise | check) choices='--all --at --hex' ;;

@@ -1,7 +1,7 @@
 #compdef fvtool
-# Completion of fvtool(1) for zsh. It calls the fvtool of PATH for offsets and names.
+# Completion of fvtool(1) for zsh. It runs the fvtool in PATH for offsets and names.
 
-# The Nth file among the arguments.
+# Writes the Nth file among the arguments.
 _fvtool_file() { # N
     local word found=0
     for word in "${(@Q)words[2,-1]}"; do
@@ -12,7 +12,7 @@ _fvtool_file() { # N
     done
 }
 
-# The offsets of the volumes in the Nth file.
+# Adds the offsets of the volumes in the Nth file.
 _fvtool_offsets() { # N
     local file=$(_fvtool_file $1)
     local -a hex offsets
@@ -23,7 +23,7 @@ _fvtool_offsets() { # N
     _wanted offsets expl 'offset of a volume' compadd -a offsets
 }
 
-# The names of the files of the volume, which is that at --at if there is one.
+# Adds the names of the files in the volume: the volume at --at, if it is given.
 _fvtool_names() {
     local file=$(_fvtool_file 1) place=${words[(i)--at]}
     local -a hex at names

@@ -1,7 +1,7 @@
-"""The package `fv` over the library libfv, for the recipes that read an image in one process.
+"""Loads the Python package `fv`, which calls libfv, for the recipes that read an image in one process.
 
-In the repository it is that of clib/, if its library is built or the environment variable LIBFV names one. Otherwise it
-is the package that is installed."""
+The environment variable LIBFV names the shared object. Otherwise it is the one that clib/build has made in the
+repository, otherwise the installed one. With either of the first two, the package is that of clib/python."""
 
 from __future__ import annotations
 
@@ -20,7 +20,7 @@ HELP = (
 
 
 def load() -> Any:
-    """The package. Ends the recipe with status 4 if there is none, or if its library cannot be used."""
+    """Returns the package. Ends the recipe with status 4 if there is none, or if its library cannot be used."""
     library = OWN / "out" / "libfv.so.0"
     if library.exists():
         os.environ.setdefault("LIBFV", str(library))

@@ -1,7 +1,8 @@
-"""What fvtool says, for the recipes in Python: the volumes of an image, and the files and sections of a volume.
+"""Runs fvtool and reads its lines, for the recipes in Python: the volumes of an image, the files and sections of a
+volume.
 
-The environment variable FVTOOL names the program. Otherwise it is `fvtool` in the PATH, else the script of the
-repository."""
+The environment variable FVTOOL names the program. Otherwise it is `fvtool` in the PATH, otherwise the script at the top
+of the repository."""
 
 from __future__ import annotations
 
@@ -20,11 +21,11 @@ from typing import NoReturn
 
 
 class Refused(Exception):
-    """The program refused an input. The text is its line, and may be empty if a write failed."""
+    """The program has rejected an input. The text is its line, which may be empty if a write has failed."""
 
 
 class Arguments(argparse.ArgumentParser):
-    """The arguments of a recipe. Wrong ones are a line of usage and status 3, as in all recipes."""
+    """The arguments of a recipe. If they are wrong, it writes the usage and ends with status 3, as all recipes do."""
 
     def error(self, message: str) -> NoReturn:
         usage = " ".join(self.format_usage().split())
@@ -32,12 +33,12 @@ class Arguments(argparse.ArgumentParser):
 
 
 class TooLong(Exception):
-    """The program writes more than is wanted."""
+    """The program has written more than the caller wants."""
 
 
 @dataclasses.dataclass(frozen=True)
 class Place:
-    """Where a volume lies in an image, in bytes."""
+    """The offset and the length of a volume in an image, in bytes."""
 
     offset: int
     length: int
@@ -45,7 +46,7 @@ class Place:
 
 @dataclasses.dataclass
 class Section:
-    """A section: its type, the bytes of its header, the text of a user interface section, and whether it holds a
+    """A section: its type, the length of its header, the text of a user interface section, and whether it holds a
     volume that the program reads."""
 
     kind: int
@@ -56,7 +57,7 @@ class Section:
 
 @dataclasses.dataclass
 class File:
-    """A file: its name, the names of the files around it (in a nested volume), its type and attributes, the bytes of
+    """A file: its name, the names of the files around it (in a nested volume), its type and attributes, the length of
     its data and their SHA-256 (with --sums), and its sections in the order in which `extract` counts them."""
 
     name: str
@@ -73,13 +74,13 @@ class File:
 
     @property
     def text(self) -> str | None:
-        """The name for people, if the file has one."""
+        """Returns the readable name, if the file has one."""
         return next((it.text for it in self.sections if it.text is not None), None)
 
 
 def prepare_output() -> None:
-    """Lets a recipe end silently if what reads its output has ended, as other tools do. A character that the encoding of
-    the output does not have is written as its number."""
+    """Lets a recipe end silently if the reader of its output has ended, as other tools do. A character that the
+    encoding of the output does not have is written as its number."""
     signal.signal(signal.SIGPIPE, signal.SIG_DFL)
     for stream in (sys.stdout, sys.stderr):
         if isinstance(stream, io.TextIOWrapper):
@@ -87,13 +88,13 @@ def prepare_output() -> None:
 
 
 def printable(text: str) -> str:
-    """A text in which every character is seen. All others are written as their numbers: a line feed, an escape
-    sequence, a character that turns the direction of a line, a byte of a name that is no UTF-8."""
+    """Returns a text with the number in place of each character that cannot be seen: a line feed, an escape sequence, a
+    character that changes the direction of a line, a byte of a name that is not UTF-8."""
     return "".join(it if it.isprintable() else f"\\u{ord(it):04x}" for it in text)
 
 
 def program() -> str:
-    """The program that is run."""
+    """Returns the path of the program."""
     own = Path(__file__).resolve().parent.parent / "fvtool"
     return os.environ.get("FVTOOL") or shutil.which("fvtool") or str(own)
 
@@ -105,8 +106,8 @@ def stop(what: str) -> NoReturn:
 
 
 def ask(words: Sequence[str], most: int | None) -> tuple[int, bytes]:
-    """The status of a program, and what it writes. If that is more than `most` bytes, the program is ended, and one byte
-    more than these is returned."""
+    """Runs a program, and returns its status and its output. If the output has more than `most` bytes, ends the
+    program, and returns the first `most` + 1 bytes."""
     with subprocess.Popen(words, stdin=subprocess.DEVNULL, stdout=subprocess.PIPE) as child:
         assert child.stdout
         written = child.stdout.read(-1 if most is None else most + 1)
@@ -116,8 +117,8 @@ def ask(words: Sequence[str], most: int | None) -> tuple[int, bytes]:
 
 
 def run(command: Sequence[str], *files: str | Path, most: int | None = None) -> tuple[int, bytes]:
-    """The status of a run of a command over files, and what it wrote. Its standard input is empty. A file whose name
-    begins with a hyphen is no option. Raises TooLong if it writes more than `most` bytes."""
+    """Runs a command over files, and returns its status and its output. Its standard input is empty. A file name that
+    begins with a hyphen is not taken for an option. Raises TooLong if the output has more than `most` bytes."""
     words = [program(), *command, "--", *map(str, files)]
     try:
         status, written = ask(words, most)
@@ -131,7 +132,7 @@ def run(command: Sequence[str], *files: str | Path, most: int | None = None) -> 
 
 
 def output(command: Sequence[str], *files: str | Path, most: int | None = None) -> bytes:
-    """What a run wrote that is not refused. Raises TooLong if it writes more than `most` bytes."""
+    """Returns the output of a command. Raises Refused if it rejects its input, and TooLong above `most` bytes."""
     status, written = run(command, *files, most=most)
     if status == 2:
         raise Refused(written[:80].decode("ascii", "replace").strip())
@@ -139,18 +140,18 @@ def output(command: Sequence[str], *files: str | Path, most: int | None = None) 
 
 
 def scan(image: str | Path) -> list[Place]:
-    """The volumes of an image."""
+    """Returns the volumes of an image."""
     lines = output(["scan"], image).decode("ascii").splitlines()
     return [Place(int(line.split()[2]), int(line.split()[4])) for line in lines]
 
 
 def list_text(image: str | Path, offset: int, sums: bool = False, most: int | None = None) -> str:
-    """The lines of `list` of the volume that begins at an offset. Raises TooLong if they have more than `most` bytes."""
+    """Returns the lines of `list` for the volume at an offset. Raises TooLong if they have more than `most` bytes."""
     return output(["list", *(["--sums"] if sums else []), "--at", str(offset)], image, most=most).decode("ascii")
 
 
 def files_of(text: str) -> list[File]:
-    """The files in the lines of `list`, at every level, each before those inside it."""
+    """Returns the files in the lines of `list`, at every level, each before the files inside it."""
     files: list[File] = []
     open_parts: list[tuple[int, File | Section]] = []  # the parts around a line, each with its indentation
     for line in text.splitlines():

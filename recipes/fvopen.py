@@ -1,4 +1,4 @@
-"""Opens the sections that fvtool keeps whole, for the recipes in Python: compressed and GUID-defined ones."""
+"""Opens the sections that fvtool does not open, for the recipes in Python: compressed and GUID-defined sections."""
 
 from __future__ import annotations
 
@@ -17,19 +17,19 @@ OTHERS = {
     uuid.UUID("a31280ad-481e-41b6-95e8-127f4c984779"): "Tiano compression",
     uuid.UUID("a7717414-c616-4977-9420-844712a735bf"): "signed by RSA 2048 and SHA-256",
 }
-MOST_BYTES, MOST_MEMORY, DEEPEST = 1 << 28, 1 << 29, 8  # of what is opened; of a decoder; of sections in each other
+MOST_BYTES, MOST_MEMORY, DEEPEST = 1 << 28, 1 << 29, 8  # of opened data; of a decoder; of sections inside one another
 
 
 class Closed(Exception):
-    """A section is not opened; the text says why."""
+    """A section is not opened. The text says why."""
 
 
 class Full(Exception):
-    """What is left to open of an image is more than was allowed; the text says more than what."""
+    """An image holds more than may be opened or read. The text names the limit."""
 
 
 def from_lzma(data: bytes, left: int | None) -> bytes:
-    """What LZMA data hold, up to the most that fvtool reads. Raises Full if that is more than `left` bytes."""
+    """Returns the contents of LZMA data, up to the limit of fvtool. Raises Full if they have more than `left` bytes."""
     most = MOST_BYTES if left is None else min(left, MOST_BYTES)
     try:
         decoder = lzma.LZMADecompressor(lzma.FORMAT_ALONE, MOST_MEMORY)
@@ -46,16 +46,16 @@ def from_lzma(data: bytes, left: int | None) -> bytes:
 
 
 def without_x86_filter(data: bytes) -> bytes:
-    """x86 code whose calls have the addresses of their targets, with the distances that they had before. The
-    library has that filter only before a compression, so the data are packed without it and unpacked with it."""
+    """Replaces the addresses in the calls of x86 code by the distances that they had before. The library has that
+    filter only together with compression, so the data are packed without the filter and unpacked with it."""
     packed = lzma.compress(data, lzma.FORMAT_RAW, filters=[{"id": lzma.FILTER_LZMA2, "preset": 0}])
     chain: list[dict[str, Any]] = [{"id": lzma.FILTER_X86}, {"id": lzma.FILTER_LZMA2, "preset": 0}]
     return lzma.decompress(packed, lzma.FORMAT_RAW, filters=chain)
 
 
 def opened(kind: int, header: int, body: bytes, left: int | None = None) -> tuple[str, bytes]:
-    """How a section is opened, and what it holds. `header` is the length of the header that the body does not have.
-    Raises Full if it unpacks to more than `left` bytes."""
+    """Opens a section, and returns how it was opened and its contents. `header` is the length of the section header,
+    which the body does not include. Raises Full if the contents have more than `left` bytes."""
     if kind == COMPRESSION:
         if body[4:5] != b"\0":
             raise Closed("compression of the PI specification")
@@ -77,7 +77,7 @@ def opened(kind: int, header: int, body: bytes, left: int | None = None) -> tupl
 
 
 def frames(data: bytes, start: int, end: int) -> Iterator[tuple[int, int, int, int]]:
-    """The type, start, start of the body and end of each section of a stream, up to where it is no stream any more."""
+    """Yields type, start, start of the body and end of each section, up to the first bytes that are not a section."""
     while start + 4 <= end:
         size, kind, body = int.from_bytes(data[start : start + 3], "little"), data[start + 3], start + 4
         if size == 0xFFFFFF and start + 8 <= end:

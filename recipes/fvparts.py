@@ -1,8 +1,8 @@
-"""What an image holds, by libfv in one process, for the recipes in Python: volumes, their files and sections, and what
-compressed sections hold.
+"""Reads all parts of an image by libfv in one process, for the recipes in Python: volumes, their files and sections,
+and the contents of compressed sections.
 
-libfv reads volumes. What an opened section holds is no volume: its sections are read here. An image is not trusted, so
-a reader opens and reads only so much of one (`Reader`)."""
+libfv reads volumes. The contents of an opened section are not a volume, so this module reads the sections in them. An
+image is not trusted, so there are limits on what is opened and read (`Reader`)."""
 
 from __future__ import annotations
 
@@ -19,7 +19,7 @@ from fvopen import COMPRESSION, DEEPEST, GROUP, GUIDED, UI, VOLUME, Closed, Full
 
 fv = fvlib.load()
 
-MOST_BYTES = 1 << 30  # of an image, and of all that its sections hold
+MOST_BYTES = 1 << 30  # of an image and all opened contents
 MOST_OPENED = 1000  # sections of an image that are opened
 MOST_PARTS = 100_000  # volumes, files and sections of an image that are read
 MOST_MEMORY = 4 << 30  # that the process may take
@@ -70,9 +70,9 @@ SECTIONS = {
 
 @dataclass
 class Part:
-    """A volume, a file or a section, and what it holds. Its bytes, its data or its body are `length` bytes at `offset`
-    of `data`: of the image, or of what an opened section holds. A volume that is rejected has its fault, and no parts.
-    A section has what it holds after it was opened, or the reason why it was not."""
+    """A volume, a file or a section, and the parts inside it. The volume, the file's data or the section's body are the
+    `length` bytes at `offset` of `data`, which is the image or the contents of an opened section. A rejected volume has
+    its fault, and no parts. A packed section has its contents once it is opened, or the reason why it is not."""
 
     what: str
     data: bytes
@@ -93,17 +93,17 @@ class Part:
 
     @property
     def volume(self) -> Part | None:
-        """The volume that a section holds."""
+        """Returns the volume that a section holds, if it holds one."""
         return self.parts[0] if self.parts and self.parts[0].what == "volume" else None
 
     @property
     def is_packed(self) -> bool:
-        """Whether it is a section that may be opened."""
+        """Returns whether it is a section that may be opened."""
         return self.what == "section" and self.kind in (COMPRESSION, GUIDED)
 
     @property
     def type_name(self) -> str:
-        """The type of a file or a section, or the file system of a volume."""
+        """Returns the type of a file or a section, or the file system of a volume."""
         if self.what == "volume":
             return SYSTEMS.get(self.guid, "") if self.guid else ""
         names = {"file": FILES, "data": FILES, "section": SECTIONS}.get(self.what)
@@ -112,8 +112,8 @@ class Part:
 
 @dataclass
 class Opened:
-    """What a section holds: how it was opened, the data, their sections, the volumes after these, and the offset from
-    which on the data are no sections any more."""
+    """The contents of a section: how it was opened, the data, their sections, the volumes after these, and the offset
+    at which the sections end."""
 
     how: str
     data: bytes
@@ -123,19 +123,20 @@ class Opened:
 
     @property
     def others(self) -> list[Part]:
-        """The bytes after the last section that are in no volume."""
+        """Returns the bytes after the last section that are in no volume."""
         return outside(self.data, self.end, self.volumes)
 
 
 def limit_memory() -> None:
-    """Has memory run out for this process before it does for others. libfv is proved to end well then."""
+    """Limits the memory of this process, so that others do not run out of it. libfv reports the fault out of memory
+    then."""
     soft, hard = resource.getrlimit(resource.RLIMIT_AS)
     if soft == resource.RLIM_INFINITY or soft > MOST_MEMORY:
         resource.setrlimit(resource.RLIMIT_AS, (MOST_MEMORY, hard))
 
 
 def leaves(parts: list[Part]) -> Iterator[Part]:
-    """The sections of a file, or of a stream, that are no groups, in order."""
+    """Yields the sections that are not groups, in order, also those inside groups."""
     for part in parts:
         if part.kind == GROUP:
             yield from leaves(part.parts)
@@ -144,7 +145,7 @@ def leaves(parts: list[Part]) -> Iterator[Part]:
 
 
 def ui_texts(parts: list[Part]) -> Iterator[str]:
-    """The names for people that sections have: their own first, then those in what was opened."""
+    """Yields the texts of the user interface sections: first among these sections, then in the opened contents."""
     found = list(leaves(parts))
     yield from (it.body.decode("utf-16-le", "replace").split("\0")[0] for it in found if it.kind == UI)
     for it in found:
@@ -153,12 +154,12 @@ def ui_texts(parts: list[Part]) -> Iterator[str]:
 
 
 def ui_text(parts: list[Part]) -> str:
-    """The first name for people that is not empty."""
+    """Returns the first text of a user interface section that is not empty, otherwise an empty text."""
     return next(filter(None, ui_texts(parts)), "")
 
 
 def known_names() -> dict[str, str]:
-    """The names of GUIDs that the map has (recipes/map), if it is there."""
+    """Returns the names of GUIDs from recipes/map, if that folder exists."""
     try:
         lines = NAMES.read_text(encoding="utf-8").splitlines()
     except OSError:
@@ -167,7 +168,7 @@ def known_names() -> dict[str, str]:
 
 
 def places(data: bytes, start: int = 0) -> list[tuple[int, int]]:
-    """Where the volumes in some data lie, from an offset on, and their lengths."""
+    """Returns the offsets and the lengths of the volumes in some data, from an offset on."""
     offsets = [start + it for it in fv.scan(data[start:])]
     return [(it, struct.unpack_from("<Q", data, it + 32)[0]) for it in offsets]
 
@@ -180,7 +181,7 @@ def outside(data: bytes, start: int, volumes: list[Part]) -> list[Part]:
 
 
 def volume_guid(volume: Part) -> uuid.UUID | None:
-    """The name of a volume, which is in its extended header, if it has one. Faults up to 9 are of the headers."""
+    """Returns the name in the extended header of a volume, if it has one. Faults 1 to 9 are those of the headers."""
     if volume.fault and volume.fault.number < 10:
         return None
     (place,) = struct.unpack_from("<H", volume.data, volume.offset + 52)
@@ -189,7 +190,7 @@ def volume_guid(volume: Part) -> uuid.UUID | None:
 
 
 class Reader:
-    """Reads the parts of an image, up to the most that it may. Raises Full for what is more."""
+    """Reads the parts of an image, up to the limits. Raises Full if the image exceeds one."""
 
     def __init__(self, image: bytes, most: int = MOST_BYTES) -> None:
         self.image = image
@@ -200,12 +201,12 @@ class Reader:
             raise Full(f"{most} bytes")
 
     def volumes(self, data: bytes | None = None, start: int = 0) -> list[Part]:
-        """The volumes of the image, or of other data from an offset on."""
+        """Returns the volumes of the image, or of other data from an offset on."""
         data = self.image if data is None else data
         return [self.volume(data, *place) for place in places(data, start)]
 
     def volume(self, data: bytes, offset: int, length: int) -> Part:
-        """The volume that some bytes are, with all that it holds."""
+        """Returns the volume at these bytes, with all parts inside it."""
         try:
             rows = fv.tree(data[offset : offset + length])
         except fv.Fault as fault:
@@ -223,26 +224,26 @@ class Reader:
         return parts[0]
 
     def core_sections(self, file: Part) -> list[Part]:
-        """The sections of a security core. To libfv its data are bytes, since they need not be sections."""
+        """Returns the sections of a security core. For libfv its data are bytes, since they need not be sections."""
         end = file.offset + file.length
         parts, after = self.stream(file.data, file.offset, end, 0) if file.kind == SECURITY_CORE else ([], 0)
         return parts if after == end else []
 
     def count(self, more: int) -> None:
-        """Counts parts."""
+        """Counts further parts."""
         self.parts += more
         if self.parts > MOST_PARTS:
             raise Full(f"{MOST_PARTS} parts")
 
     def open_all(self, parts: list[Part], depth: int) -> None:
-        """Opens the sections that can be opened, and those in them, or notes why one is not opened. `depth` is the
-        number of opened sections around them. What is in a volume is not opened."""
+        """Opens the sections that can be opened, and the sections inside them, or notes why a section is not opened.
+        `depth` is the number of opened sections around them. Sections in nested volumes are not opened."""
         for section in leaves(parts):
             if section.is_packed:
                 self.open(section, depth)
 
     def open(self, section: Part, depth: int) -> None:
-        """Opens a section, and those in it, unless that was done."""
+        """Opens a section and the sections inside it, unless that was done before."""
         if section.opened or section.closed:
             return
         parts = self.parts
@@ -258,7 +259,7 @@ class Reader:
             self.open_all(section.opened.sections, depth + 1)
 
     def what_holds(self, section: Part, depth: int) -> Opened:
-        """What a section holds. Raises Closed if it is not opened."""
+        """Returns the contents of a section. Raises Closed if it is not opened."""
         if depth >= DEEPEST:
             raise Closed("too deep")
         if self.opened == MOST_OPENED:
@@ -273,7 +274,7 @@ class Reader:
         return Opened(how, data, sections, self.volumes(data, end), end)
 
     def stream(self, data: bytes, start: int, end: int, depth: int) -> tuple[list[Part], int]:
-        """The sections in some bytes, and where the last one ends."""
+        """Returns the sections in some bytes, and the offset at which the last one ends."""
         parts: list[Part] = []
         for kind, head, body, after in frames(data, start, end):
             self.count(1)

@@ -1,6 +1,6 @@
-# shellcheck shell=bash
-# What the tests of the recipes share: the made images in $room/images, and how a run is looked at. A test sources it
-# and ends with `tried`. It works in a scratch folder, and writes nothing beside the sources.
+# shellcheck shell=bash Shared code of the tests of the recipes: the made images in $room/images, and functions that
+# check a run. A test sources this file and ends with `tried`. It works in a scratch folder, and writes nothing beside
+# the sources.
 set -euo pipefail
 recipes=$(cd "$(dirname "${BASH_SOURCE[0]}")" && pwd)
 export FVTOOL=${FVTOOL:-$recipes/../crates/fv_tool/out/fv_tool} PYTHONDONTWRITEBYTECODE=1 LC_ALL=C
@@ -21,7 +21,7 @@ failed() { # WHAT
     printf 'FAILED: %.200s\n' "$1"
 }
 
-# Runs a command, and looks whether it ends with the status and writes the text.
+# Runs a command, and checks that it ends with the status and writes the text.
 expect() { # STATUS TEXT COMMAND..
     local said status=0
     said=$("${@:3}" 2>&1) || status=$?
@@ -32,7 +32,7 @@ expect() { # STATUS TEXT COMMAND..
     fi
 }
 
-# Looks whether a text has a line.
+# Checks that a text has a line.
 has() { # TEXT LINE
     tries=$((tries + 1))
     if ! grep -qxF -- "$2" <<< "$1"; then
@@ -41,7 +41,7 @@ has() { # TEXT LINE
     fi
 }
 
-# Whether the library is built that some recipes use.
+# Returns whether the library is built, which some recipes use.
 has_library() {
     export LIBFV=${LIBFV:-$recipes/../clib/out/libfv.so.0}
     if [[ ! -e $LIBFV ]]; then

@@ -1,10 +1,10 @@
-/* fv.h - reads, checks, compares and rebuilds UEFI firmware volumes (PI specification 1.8, volume 3).
- * Link with `pkg-config --libs fv`.
+/* fv.h - the calls of libfv, for C and C++ programs that read, check, compare or rebuild UEFI firmware volumes (PI
+ * specification 1.8, volume 3). Link with `pkg-config --libs fv`.
  *
  * The calls are written in Rattle. Each is proved to do what its comment here says, except for three statements:
  * which faults a call can return, that 553 bytes are enough for the line of a comparison, and which side a comparison
- * reports when it runs out of memory. This header, src/heap.c, and that the caller keeps the rules below are not
- * proved either.
+ * reports when it runs out of memory. This header and src/heap.c are not proved either. The proofs hold only if the
+ * caller keeps the rules below.
  *
  * The meaning of a volume is the content of its header, files and sections, wherever they are stored, and whatever
  * pads, fillers and deleted files hold. Its canonical image is the one image that all volumes of that meaning share.
@@ -31,7 +31,7 @@
  * Input: "a volume" must be exactly one volume; bytes after it are fault 8. If the input only "begins with one", the
  * bytes after it are not read, and neither are the bytes after an expression.
  * Memory: in addition to its arguments, a call takes up to this many times the size of the input. This was measured
- * for inputs that consist of tiny parts only; 14 is the highest figure among the calls listed with 14.
+ * for inputs that consist of tiny parts only, which cost most; 14 is the highest figure among the calls listed with 14.
  * Stack: at most 16.5 KiB, as measured.
  *
  * Rules for the caller
@@ -56,14 +56,14 @@
  * All lengths and offsets are in bytes. A volume has at most 268,435,456 bytes. The same limit applies to an image
  * that is passed to fv_normalise_image or fv_check_image.
  *
- * Rows: a field is either as stored in the input, or part of the meaning, and then the canonical image has it too.
+ * Rows: a field is as stored in the input, or part of the meaning (so the canonical image has it too), or both.
  *   fv_extent   As stored.
  *   fv_cell     As stored. All cells are listed, also superseded and deleted files, which the meaning does not have.
  *   fv_file     `data_offset` and `attributes` are as stored: a meaning has no offsets, and no attribute 0x01.
  *               `sections` is part of the meaning. `data_len`, `kind` and `name` are both. Only the files of the
  *               meaning are listed, in their order.
- *   fv_section  `parent`, `depth` and `holds` are part of the meaning. `len`, `kind` and `header_len` are both. No row
- *               has the offset of a section.
+ *   fv_section  `parent`, `depth` and `holds` are part of the meaning. `len`, `kind` and `header_len` are both. There
+ *               is no offset; fv_tree has one for each section.
  *   fv_node     `offset` is as stored, and so is the `header_len` of a file. All other fields are part of the meaning.
  *   fv_hob      As stored.
  * fv_extract writes what is part of the meaning: the bytes that the canonical image has. */

@@ -1,7 +1,7 @@
-"""Makes the wheel and the source archive of the package, as PEP 517 asks, by Python's standard library only: without
-network, without setuptools, without a compiler. Both have the library in them, since only the kit can build it: the one
-that LIBFV names, else fv/libfv.so.0 (which an unpacked source archive has), else clib/out/libfv.so.0 (which clib/build
-has made). Two runs make the same bytes."""
+"""Makes the wheel and the source archive of the package for pip, as PEP 517 defines, with Python's standard library
+only: without network, without setuptools, without a compiler. Both contain the library, since only the kit can build
+it: the one that LIBFV names, otherwise fv/libfv.so.0 (which an unpacked source archive contains), otherwise
+clib/out/libfv.so.0 (which clib/build makes). Two runs make the same bytes."""
 
 from __future__ import annotations
 
@@ -18,12 +18,12 @@ from pathlib import Path
 HERE = Path(__file__).resolve().parent
 # The library runs on Linux on x86-64, with any Python 3.
 TAG = "py3-none-linux_x86_64"
-# The date of all files: the first that a zip archive can have.
+# The date of all files: the earliest that a zip archive can hold.
 DATE = (1980, 1, 1, 0, 0, 0)
 
 
 def first_of(what: str, *places: Path) -> bytes:
-    """The bytes of the first of some files that is there."""
+    """Returns the bytes of the first of these files that exists."""
     for place in places:
         if place.exists():
             return place.read_bytes()
@@ -31,7 +31,7 @@ def first_of(what: str, *places: Path) -> bytes:
 
 
 def sources() -> dict[str, bytes]:
-    """The files of the package and its licences, by their names."""
+    """Returns the files of the package and its licences, by their names."""
     named = os.environ.get("LIBFV")
     places = [Path(named)] if named else [HERE / "fv/libfv.so.0", HERE.parent / "out/libfv.so.0"]
     found = {f"fv/{it.name}": it.read_bytes() for it in sorted((HERE / "fv").glob("*.py"))}
@@ -42,26 +42,26 @@ def sources() -> dict[str, bytes]:
 
 
 def field(name: str) -> str:
-    """A field of pyproject.toml that is a text."""
+    """Returns a text field of pyproject.toml."""
     match = re.search(rf'(?m)^{name} = "(.*)"$', (HERE / "pyproject.toml").read_text(encoding="utf-8"))
     assert match, name
     return match[1]
 
 
 def version() -> str:
-    """The version of the package."""
+    """Returns the version of the package."""
     match = re.search(r'(?m)^__version__ = "(.*)"$', (HERE / "fv/__init__.py").read_text(encoding="utf-8"))
     assert match, "no version"
     return match[1]
 
 
 def title() -> str:
-    """The name and the version, as names of files have them."""
+    """Returns the name and the version, as file names have them."""
     return f"{field('name')}-{version()}"
 
 
 def metadata() -> bytes:
-    """The file METADATA of a wheel, which is PKG-INFO of a source archive."""
+    """Returns the file METADATA of a wheel, which is also PKG-INFO of a source archive."""
     lines = ["Metadata-Version: 2.1", f"Name: {field('name')}", f"Version: {version()}"]
     lines += [f"Summary: {field('description')}", f"Requires-Python: {field('requires-python')}"]
     lines += ["License-File: copyright", "Description-Content-Type: text/markdown", ""]
@@ -69,7 +69,7 @@ def metadata() -> bytes:
 
 
 def record(files: dict[str, bytes], name: str) -> bytes:
-    """The file RECORD of a wheel: the name, the digest and the length of each of its files."""
+    """Returns the file RECORD of a wheel: the name, the digest and the length of each of its files."""
     lines = []
     for path, data in files.items():
         digest = base64.urlsafe_b64encode(hashlib.sha256(data).digest()).decode().rstrip("=")

@@ -1,10 +1,10 @@
-//! Where libfv is: in the folder that LIBFV_DIR names, or where `pkg-config --libs fv` says.
+//! Finds libfv: in the folder that LIBFV_DIR names, otherwise where `pkg-config --libs fv` says.
 
 use std::env;
 use std::path::Path;
 use std::process::{exit, Command};
 
-/// Says why the crate cannot be linked.
+/// Reports why the crate cannot be linked, and ends the build.
 fn fail(why: &str) -> ! {
     eprintln!("libfv is not found: {why}");
     eprintln!(
@@ -13,7 +13,7 @@ fn fail(why: &str) -> ! {
     exit(1)
 }
 
-/// The line that the linker needs, as pkg-config writes it.
+/// Returns the options for the linker, as pkg-config writes them.
 fn line_of_pkg_config() -> String {
     let tool = env::var("PKG_CONFIG").unwrap_or_else(|_| "pkg-config".to_owned());
     match Command::new(&tool).args(["--libs", "fv"]).output() {

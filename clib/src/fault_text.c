@@ -1,4 +1,4 @@
-/* What a result of a call means, in a sentence. docs/FAULTS.md has the same texts of faults. */
+/* The sentences that explain the results of calls. docs/FAULTS.md has the same texts of faults. */
 #include "fv.h"
 
 /* 0, and the faults by their numbers. */

@@ -1,9 +1,9 @@
-/* The heap of libfv: the three functions with which the proved code gets and returns memory, by malloc,
- * realloc and free. They are not proved. To link libfv.a where there is no malloc, write these three anew.
+/* The heap of libfv: the three functions with which the proved code gets and returns memory. They call malloc,
+ * realloc and free, and are not proved. To link libfv.a on a system without malloc, replace these three.
  *
- * `a` is the alignment, 1 to 16. malloc aligns to 16 on x86-64 Linux. For a request of no bytes these ask
- * for `a` bytes, since malloc may return NULL for none. If there is no memory, `p` is the address of a byte
- * that is never used, since the proved code takes no null pointer. */
+ * `a` is the alignment, 1 to 16. malloc aligns to 16 on x86-64 Linux. For a request of 0 bytes the functions
+ * ask for `a` bytes, since malloc(0) may return NULL. If there is no memory, `p` is the address of a byte that
+ * is never used, since the proved code accepts no null pointer. */
 #include <stdbool.h>
 #include <stddef.h>
 #include <stdint.h>

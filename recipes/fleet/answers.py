@@ -1,4 +1,4 @@
-"""What the two Python programs of this folder share: lists of images, files of answers, and a progress bar."""
+"""Shared code of the two Python scripts in this folder: lists of images, files of answers, and a progress bar."""
 
 from __future__ import annotations
 
@@ -10,19 +10,19 @@ from typing import BinaryIO
 
 
 def shown(name: bytes) -> bytes:
-    """A name as a line of an answer has it: a control character in it must not look like the end of a line or field."""
+    """Returns a name for a line of an answer, without control characters, which could look like the end of a field."""
     return re.sub(rb"[\x01-\x1f\x7f]", b"?", name)
 
 
 def names_in(path: str) -> list[bytes]:
-    """The names that a list has, one a line."""
+    """Returns the names in a list, which has one in each line."""
     with open(path, "rb") as file:
         return [name for name in file.read().split(b"\n") if name]
 
 
 def answered(answers: BinaryIO) -> set[bytes]:
-    """The names that have an answer in a file that is open for reading and writing. A last line that was cut off, as a
-    program that is killed leaves it, is taken away."""
+    """Returns the names that have an answer in a file that is open for reading and writing. Removes an incomplete last
+    line, as a killed program leaves it."""
     data = answers.read()
     whole = data.rfind(b"\n") + 1
     answers.truncate(whole)
@@ -31,19 +31,19 @@ def answered(answers: BinaryIO) -> set[bytes]:
 
 
 def open_answers(path: str) -> BinaryIO:
-    """The file of answers, made if it is not there, open for reading and writing."""
+    """Opens the file of answers for reading and writing, and creates it if it does not exist."""
     return os.fdopen(os.open(path, os.O_RDWR | os.O_CREAT, 0o666), "r+b", buffering=0)
 
 
 class Bar:
-    """A progress bar on standard error, drawn anew at most ten times a second, and only on a terminal."""
+    """A progress bar on standard error. It is drawn only on a terminal, at most ten times a second."""
 
     def __init__(self, total: int) -> None:
         self.total, self.done, self.start, self.drawn = total, 0, time.monotonic(), 0.0
         self.is_shown = sys.stderr.isatty()
 
     def add(self, count: int) -> None:
-        """Counts images that are done."""
+        """Counts images that were checked."""
         self.done += count
         now = time.monotonic()
         if self.is_shown and (now - self.drawn > 0.1 or self.done == self.total):
@@ -59,7 +59,7 @@ class Bar:
             )
 
     def end(self) -> None:
-        """Writes what was done, and how fast."""
+        """Writes how many images were checked, and how fast."""
         took = time.monotonic() - self.start
         lead = "\n" if self.is_shown else ""
         print(

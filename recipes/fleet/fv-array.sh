@@ -1,7 +1,9 @@
 #!/usr/bin/env bash
-# The task of a Slurm array: `sbatch --array=0-N fv-array.sh LIST FOLDER SIZE` checks the images of LIST, SIZE a task.
-# A task writes its answers to FOLDER/ID.tsv by a rename, so a file that is there is whole. A task whose node is lost is
-# put back in the queue (--requeue). A task whose file is there ends at once: the same command does what is left.
+# The task of a Slurm array: `sbatch --array=0-N fv-array.sh LIST FOLDER SIZE` checks the images of LIST, SIZE in each
+# task. A task writes its answers to another file and renames it to FOLDER/ID.tsv, so that file is always complete. A
+# task whose node is lost is put back in the queue (--requeue). A task whose file exists ends at once, so the same
+# command does the remaining tasks. Exit status 0: the file exists. 1: an answer could not be had (fv-check-some), or
+# there is no task or no LIST. 3: the arguments are wrong.
 #SBATCH --requeue
 #SBATCH --job-name=fvcheck
 set -euo pipefail

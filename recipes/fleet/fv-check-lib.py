@@ -1,10 +1,15 @@
 #!/usr/bin/env python3
-"""fv-check-lib.py [--jobs N] LIST ANSWERS: what fv-check-some writes of each image of LIST, by libfv in one process.
+"""fv-check-lib.py [--jobs N] LIST ANSWERS: writes the lines of fv-check-some for each image of LIST, by libfv in one
+process.
 
-The answers are added to the file ANSWERS, in the order of the list. Images that have an answer there already are passed
-over: a run that was ended in the middle is started again in the same way. If memory runs out for an image while others
-are checked beside it, it is checked again alone. If it runs out then too, `0 fault 24 at 0` is its answer. LIBFV names
-the shared object, PYTHONPATH the folder clib/python; neither is needed where the package is installed."""
+The answers are added to the file ANSWERS, in the order of the list. Images that have an answer there already are
+skipped, so a run that was interrupted can be repeated with the same command. If memory runs out for an image while
+others are checked beside it, it is checked again on its own. If memory runs out then too, `0 fault 24 at 0` is its
+answer. LIBFV names the shared object, and PYTHONPATH the folder clib/python; neither is needed if the package is
+installed.
+
+Exit status 0: every image has an answer. 1, with Python's message: the library, LIST or ANSWERS cannot be used. 3: the
+arguments are wrong."""
 
 from __future__ import annotations
 
@@ -23,14 +28,14 @@ sys.path.insert(0, str(Path(__file__).resolve().parent.parent))
 
 import fvlines  # noqa: E402
 
-LONGEST = 268435456  # bytes of an image; fvtool refuses a longer one as fault 8 at this place
-CHUNK = 200  # images that are given to the threads at a time, and whose answers are then written
+LONGEST = 268435456  # bytes of an image; fvtool rejects a longer one with fault 8 at this offset
+CHUNK = 200  # images that the threads get at a time; their answers are then written
 MOST_VOLUMES = 1000  # of an image that are checked
 
 
 def read(name: bytes) -> bytearray:
-    """The bytes of an image: a bytearray, so that libfv can read slices of it in place. Of an image that is too long,
-    one byte more than the longest has."""
+    """Reads an image into a bytearray, so that libfv can read slices of it in place. Reads at most one byte more than
+    the longest image has."""
     with open(name, "rb", buffering=0) as file:
         data = bytearray(min(os.fstat(file.fileno()).st_size, LONGEST + 1))
         del data[file.readinto(data) :]
@@ -38,7 +43,7 @@ def read(name: bytes) -> bytearray:
 
 
 def verdict(data: memoryview) -> tuple[int, str]:
-    """What `fvtool check` says of a volume, and its status."""
+    """Returns the status and the last line of `fvtool check` for a volume."""
     try:
         return (0, "canonical") if fv.is_canonical(data, in_place=True) else (1, "not canonical")
     except fv.Fault as fault:
@@ -46,7 +51,7 @@ def verdict(data: memoryview) -> tuple[int, str]:
 
 
 def volumes(data: memoryview) -> Iterator[tuple[int, memoryview]]:
-    """The volumes of an image and where they begin; all bytes if there is none."""
+    """Yields each volume of an image with its offset, or all bytes if the image contains no volume."""
     places = fv.scan(data, in_place=True)
     for at in places:
         yield at, data[at : at + fv.verify(data[at:], in_place=True).length]
@@ -55,7 +60,7 @@ def volumes(data: memoryview) -> Iterator[tuple[int, memoryview]]:
 
 
 def answer(name: bytes) -> bytes:
-    """The line of an image."""
+    """Returns the line of an image."""
     try:
         data = read(name)
     except OSError:
@@ -75,12 +80,12 @@ def answer(name: bytes) -> bytes:
 
 
 def line(status: int, verdicts: str, name: bytes) -> bytes:
-    """The line of an answer."""
+    """Returns the line of an answer."""
     return b"%d\t%s\t%s\n" % (status, verdicts.encode(), shown(name))
 
 
 def answer_alone(name: bytes) -> bytes:
-    """The line of an image for which memory ran out while others were checked beside it."""
+    """Returns the line of an image for which memory ran out while others were checked beside it."""
     try:
         return answer(name)
     except MemoryError:
@@ -88,7 +93,7 @@ def answer_alone(name: bytes) -> bytes:
 
 
 def answers(pool: ThreadPoolExecutor, names: list[bytes]) -> bytes:
-    """The lines of some images."""
+    """Returns the lines of some images."""
     runs = [pool.submit(answer, name) for name in names]
     wait(runs)
     failed = [isinstance(run.exception(), MemoryError) for run in runs]
@@ -99,12 +104,12 @@ def answers(pool: ThreadPoolExecutor, names: list[bytes]) -> bytes:
 
 
 def main() -> int:
-    """Answers what has no answer yet."""
+    """Checks the images that have no answer yet."""
     words = fvlines.Arguments(description="Checks the images of a list in one process.")
-    words.add_argument("list", help="the names of the images, one a line")
+    words.add_argument("list", help="a file with the name of an image in each line")
     words.add_argument("answers", help="the file to which the answers are added")
     words.add_argument(
-        "--jobs", type=int, default=os.cpu_count(), help="how many threads; one a processor if not given"
+        "--jobs", type=int, default=os.cpu_count(), help="the number of threads; by default one for each processor"
     )
     given = words.parse_args()
     with open_answers(given.answers) as file, ThreadPoolExecutor(given.jobs) as pool:

@@ -1,10 +1,13 @@
 #!/usr/bin/env python3
-"""fv-dask.py [--batch N] SCHEDULER LIST ANSWERS: what fv-check-some writes of each image of LIST, on the workers of a
-dask cluster.
+"""fv-dask.py [--batch N] SCHEDULER LIST ANSWERS: writes the lines of fv-check-some for each image of LIST, by the
+workers of a dask cluster.
 
-A batch goes to a worker as names, so the workers must see the same files. fv-check-some is in the PATH of the workers.
-A batch whose worker is lost goes to another one. The answers are added to the file ANSWERS as they come. Images that
-have an answer there already are passed over: a run that was ended in the middle is started again in the same way."""
+A worker gets the names of a batch, so the workers must see the same files, and fv-check-some must be in their PATH. A
+batch whose worker is lost goes to another worker. The answers are added to the file ANSWERS as they come. Images that
+have an answer there already are skipped, so a run that was interrupted can be repeated with the same command.
+
+Exit status 0: every image has an answer. 1, with Python's message: the scheduler, LIST or ANSWERS cannot be used, or a
+batch has failed four times. 3: the arguments are wrong."""
 
 from __future__ import annotations
 
@@ -22,19 +25,19 @@ import fvlines  # noqa: E402
 
 
 def check(names: list[bytes]) -> bytes:
-    """The lines of a batch. It runs on a worker."""
+    """Returns the lines of a batch. Runs on a worker."""
     return subprocess.run(
         ["fv-check-some", *names], stdin=subprocess.DEVNULL, stdout=subprocess.PIPE, check=True
     ).stdout
 
 
 def main() -> int:
-    """Answers what has no answer yet."""
+    """Checks the images that have no answer yet."""
     words = fvlines.Arguments(description="Checks the images of a list on a dask cluster.")
-    words.add_argument("scheduler", help="its address, as tcp://HOST:8786")
-    words.add_argument("list", help="the names of the images, one a line")
+    words.add_argument("scheduler", help="the address of the scheduler, such as tcp://HOST:8786")
+    words.add_argument("list", help="a file with the name of an image in each line")
     words.add_argument("answers", help="the file to which the answers are added")
-    words.add_argument("--batch", type=int, default=100, help="how many images a worker gets at a time")
+    words.add_argument("--batch", type=int, default=100, help="the number of images that a worker gets at a time")
     given = words.parse_args()
     with open_answers(given.answers) as file, Client(given.scheduler) as client:
         before = answered(file)

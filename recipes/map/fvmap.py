@@ -1,13 +1,16 @@
 #!/usr/bin/env python3
-"""Draws a flash image or a firmware volume as one HTML page: what lies where, how large it is, and what is free.
+"""Draws a flash image or a firmware volume as one HTML page, which shows the parts, their sizes and the free space.
 
     fvmap.py IMAGE > map.html
-    fvmap.py --against OTHER IMAGE > map.html     also what came, went and changed since OTHER
+    fvmap.py --against OLD IMAGE > map.html       also what came, went and changed since OLD
 
-It asks `fvtool scan`, `list`, `cells`, `check` and `extract`, and needs only Python's standard library. The program
-opens no compressed section. This script opens LZMA by Python's own module, and asks the program again about what is
-inside. Nothing here is proved. The texts of an image are not trusted: the page escapes them, and forbids scripts and
-anything from outside."""
+The script runs `fvtool scan`, `list`, `cells`, `check` and `extract`, and needs only Python's standard library. The
+program opens no compressed section. The script opens LZMA data with Python's own module, and runs the program again on
+the contents. It is not proved. The texts of an image are not trusted: the page escapes them, and forbids scripts and
+anything from outside.
+
+Exit status 0: the page is written. 1: the program or a file cannot be used, or memory ran out, and nothing is written.
+3: the arguments are wrong."""
 
 from __future__ import annotations
 
@@ -32,9 +35,9 @@ import fvlines  # noqa: E402
 from fvlines import printable  # noqa: E402
 
 DEEPEST = 6  # how deep images inside files are opened
-MOST_OPENED = 1 << 28  # bytes that are unpacked for one page
-MOST_SECTIONS = 1000  # sections that are opened for one page
-MOST_VOLUMES = 250  # volumes that are drawn on one page
+MOST_OPENED = 1 << 28  # bytes that are unpacked for one image
+MOST_SECTIONS = 1000  # sections that are opened for one image
+MOST_VOLUMES = 250  # volumes that are drawn for one image
 MOST_TEXT = 1 << 24  # bytes of the lines of one volume
 MOST_DRAWN = 1000  # files of a volume that are drawn as areas
 MOST_ROWS = 5000  # rows of a table
@@ -42,7 +45,7 @@ MOST_MEMORY = 1 << 29  # bytes that LZMA may take
 LZMA = "ee4e5898-3914-4259-9d6e-dc7bd79403cf"
 NEEDS_PROCESSING = 1  # attribute of a GUID-defined section
 
-# Types of files: what they are called, and the class of their colour.
+# Types of files: their names, and the classes of their colours.
 KINDS = {
     0x01: ("raw", "raw"),
     0x02: ("freeform", "free-form"),
@@ -74,11 +77,11 @@ LEGEND = {
     "deleted": "deleted or unfinished",
     "header": "header",
     "free": "free",
-    "bad": "refused volume",
+    "bad": "rejected volume",
     "none": "no volume",
     "unread": "not shown",
 }
-# Parts of a volume that are no files of it: what they are called, and the class of their colour.
+# Parts of a volume that are not among its files: their names, and the classes of their colours.
 GONE = {
     "file": ("superseded file", "deleted"),
     "deleted": ("deleted file", "deleted"),
@@ -101,23 +104,25 @@ SECTIONS = {
     0x1B: "PEI depex",
     0x1C: "MM depex",
 }
+# What a fault of a volume means. The header of a volume that is drawn has no fault, so faults 1 to 9 are of nested ones.
 FAULTS = {
-    1: "cut short",
-    9: "its extended header is damaged",
-    10: "the state of a file is none that a file has",
+    1: "a nested volume is cut short",
+    **dict.fromkeys(range(4, 9), "the header of a nested volume is damaged"),
+    9: "the extended header of a nested volume is damaged",
+    10: "the state of a file is invalid",
     11: "the header of a file is damaged",
     12: "the size of a file is wrong",
     13: "a large file in FFS2",
     14: "the data of a file are damaged",
-    15: "it has a file that may not be moved",
+    15: "a file is marked fixed: it may not be moved",
     16: "its free space is not erased",
-    17: "two files have one name",
-    18: "its top file is not at its end",
+    17: "two files have the same name",
+    18: "its volume top file is not at its end",
     19: "the size of a section is wrong",
-    20: "bytes are left after the sections",
-    21: "it nests too deep",
-    22: "no room for its canonical image",
-    23: "its top file is not aligned",
+    20: "1 to 3 bytes are left after a section",
+    21: "it nests deeper than 8 levels",
+    22: "its files cannot be laid out in its length",
+    23: "its volume top file would be misaligned",
 }
 GUID = "[0-9a-f]{8}(?:-[0-9a-f]{4}){3}-[0-9a-f]{12}"
 VOLUME_LINE = re.compile(rf"volume (ffs[23]) length (\d+) files (\d+)(?: name ({GUID}))?(?: sha256 ([0-9a-f]{{64}}))?")
@@ -141,7 +146,7 @@ class Section:
 
 @dataclass
 class File:
-    """A file of a volume: its data's size and digest, and what was found inside."""
+    """A file of a volume: the size and the digest of its data, and what was found inside."""
 
     guid: str
     kind: int
@@ -158,7 +163,7 @@ class File:
 
 @dataclass
 class Inside:
-    """What a section of a file holds: how it was packed, how many bytes it has unpacked, and its volumes."""
+    """The contents of a section: how it was packed, its packed and unpacked size, and its volumes."""
 
     how: str
     packed: int
@@ -200,7 +205,8 @@ class Volume:
 
 @dataclass
 class Image:
-    """An image: where it is, its size and SHA-256, its volumes, and from which byte on volumes are not shown."""
+    """An image: its path, size and SHA-256, its volumes, the offset of the first byte that is not shown, whether it is
+    cut."""
 
     path: str
     size: int
@@ -211,22 +217,22 @@ class Image:
 
 
 class Failed(Exception):
-    """The program could not be asked."""
+    """The program could not be run."""
 
 
-# Asking the program
+# Running the program
 
 
 class Tool:
-    """The program, and a folder for what it is asked about."""
+    """The program, a folder for its inputs, and the counts that are limited."""
 
     def __init__(self, program: str, room: str) -> None:
         self.program, self.room, self.count, self.opened, self.sections, self.volumes = program, room, 0, 0, 0, 0
         self.is_cut = False  # whether the image has more than is drawn
-        self.unread: int | None = None  # where the first volume of the image lies that is not drawn
+        self.unread: int | None = None  # the offset of the first volume of the image that is not drawn
 
     def keep(self, data: bytes) -> str:
-        """A file with these bytes."""
+        """Writes these bytes to a file, and returns its path."""
         self.count += 1
         path = os.path.join(self.room, str(self.count))
         with open(path, "wb") as file:
@@ -234,11 +240,11 @@ class Tool:
         return path
 
     def ask(self, command: str, path: str, *options: str) -> tuple[int, bytes]:
-        """The status of a command and what it writes."""
+        """Runs a command, and returns its status and its output."""
         return self.run(command, path, options, None)
 
     def run(self, command: str, path: str, options: tuple[str, ...], most: int | None) -> tuple[int, bytes]:
-        """The same. If it writes more than `most` bytes, it is ended, and one byte more than these is what it wrote."""
+        """Does the same. If the output has more than `most` bytes, ends the command, and returns `most` + 1 bytes."""
         words = [self.program, command, *options, "--", path]
         try:
             status, said = fvlines.ask(words, most)
@@ -251,7 +257,7 @@ class Tool:
         return status, said
 
     def text(self, command: str, path: str, *options: str) -> tuple[int, str]:
-        """The status of a command and the text that it writes. Of a long text the first lines."""
+        """Runs a command, and returns its status and its lines, or the first lines if they exceed the limit."""
         status, said = self.run(command, path, options, MOST_TEXT)
         if len(said) > MOST_TEXT:
             self.is_cut = True
@@ -260,7 +266,7 @@ class Tool:
 
 
 def read_image(program: str, path: str, room: str) -> Image:
-    """An image, with all that the program says of it."""
+    """Returns an image with everything that the program reports about it."""
     with open(path, "rb") as file:
         data = file.read()
     tool = Tool(program, room)
@@ -270,7 +276,7 @@ def read_image(program: str, path: str, room: str) -> Image:
 
 
 def volumes_in(tool: Tool, data: bytes, depth: int = 0) -> list[Volume]:
-    """The volumes of an image, with their files and what those hold."""
+    """Returns the volumes of an image, with their files and the contents of these."""
     path = tool.keep(data)
     status, said = tool.text("scan", path)
     if status:
@@ -289,7 +295,7 @@ def volumes_in(tool: Tool, data: bytes, depth: int = 0) -> list[Volume]:
 
 
 def read_volume(tool: Tool, path: str, volume: Volume, depth: int) -> None:
-    """Fills in what the program says of a volume."""
+    """Fills in what the program reports about a volume."""
     place = ["--at", str(volume.at)]
     status, said = tool.text("cells", path, *place)
     if status == 0:
@@ -302,7 +308,7 @@ def read_volume(tool: Tool, path: str, volume: Volume, depth: int) -> None:
         return
     volume.verdict = tool.text("check", path, *place)[1].rpartition("\n")[2]
     read_list(said, volume)
-    # A superseded file has the name of another, so the name does not say which of the two a part is.
+    # A superseded file has the same name as its update, so the name alone does not identify a cell.
     offsets = {(cell.guid, cell.kind, cell.data): cell.at for cell in volume.cells}
     for file in volume.files:
         file.at = offsets.get((file.guid, file.kind, file.size))
@@ -311,7 +317,7 @@ def read_volume(tool: Tool, path: str, volume: Volume, depth: int) -> None:
 
 
 def cells_of(text: str) -> list[Cell]:
-    """The parts of a volume, as `cells` has them."""
+    """Returns the parts of a volume, as `cells` lists them."""
     found = []
     for line in text.splitlines():
         if match := CELL_LINE.fullmatch(line):
@@ -321,11 +327,11 @@ def cells_of(text: str) -> list[Cell]:
 
 
 def read_list(text: str, volume: Volume) -> None:
-    """The files of a volume and their sections, as `list` has them, without those of nested volumes."""
+    """Adds the files of a volume and their sections, as `list` shows them, without those of nested volumes."""
     first, *lines = text.splitlines()
     if match := VOLUME_LINE.fullmatch(first):
         volume.system, volume.guid = match[1].upper(), match[4] or ""
-    nested = 0  # the depth of the lines of a nested volume that is passed over
+    nested = 0  # the depth of the lines of a nested volume, which are skipped
     for line in lines:
         words = line.lstrip(" ")
         depth = (len(line) - len(words)) // 2
@@ -342,12 +348,12 @@ def read_list(text: str, volume: Volume) -> None:
 
 
 def unescaped(text: str) -> str:
-    """A text as its section has it: `list` writes some characters as their numbers."""
+    """Returns a text as its section has it: `list` writes some characters as their numbers."""
     return re.sub(r"\\u([0-9a-f]{4})", lambda it: chr(int(it[1], 16)), text)
 
 
 def open_sections(tool: Tool, path: str, place: list[str], file: File, depth: int) -> None:
-    """Opens what the sections of a file hold: volumes, and packed data that have volumes."""
+    """Opens the sections of a file that hold volumes, or packed data with volumes."""
     counts: dict[int, int] = {}
     for section in file.sections:
         kind = section.kind
@@ -372,7 +378,7 @@ def open_sections(tool: Tool, path: str, place: list[str], file: File, depth: in
 
 
 def unpacked(tool: Tool, body: bytes, header: int) -> tuple[str, bytes | None]:
-    """What a GUID-defined section holds: how it is packed, and its data if they can be opened."""
+    """Returns how a GUID-defined section is packed, and its contents if they can be opened."""
     if len(body) < 20:
         return "GUID-defined", None
     guid = str(uuid.UUID(bytes_le=body[:16]))
@@ -396,7 +402,7 @@ def unpacked(tool: Tool, body: bytes, header: int) -> tuple[str, bytes | None]:
 
 @dataclass
 class Change:
-    """A file that came, went or changed: where it is, and what it was and is."""
+    """A file that came, went or changed: where it is, and the old and the new file."""
 
     where: str
     old: File | None
@@ -404,12 +410,12 @@ class Change:
 
     @property
     def kind(self) -> str:
-        """One word for it."""
+        """Returns the kind of the change, in one word."""
         return "came" if self.old is None else "went" if self.new is None else "changed"
 
     @property
     def by(self) -> int:
-        """By how many bytes the file grew."""
+        """Returns by how many bytes the file grew."""
         return (self.new.size if self.new else 0) - (self.old.size if self.old else 0)
 
 
@@ -417,7 +423,7 @@ Key = tuple[str, ...]
 
 
 def files_by_key(names: Names, volumes: list[Volume], above: Key = ()) -> Iterator[tuple[Key, Volume, File | None]]:
-    """Each volume (without a file) and each file, with what it is known by in both images."""
+    """Yields each volume (without a file) and each file, with the key by which both images are matched."""
     seen: dict[str, int] = {}
     for volume in volumes:
         name = names.volume(volume)
@@ -431,7 +437,7 @@ def files_by_key(names: Names, volumes: list[Volume], above: Key = ()) -> Iterat
 
 
 def changes(names: Names, old: list[Volume], new: list[Volume]) -> list[Change]:
-    """What came, went and changed, the largest changes first. Marks the files and volumes of the new image."""
+    """Returns what came, went and changed, the largest change first. Marks the files and volumes of the new image."""
     before = {key: (volume, file) for key, volume, file in files_by_key(names, old)}
     found, seen = [], set()
     for key, volume, file in files_by_key(names, new):
@@ -458,7 +464,7 @@ def changes(names: Names, old: list[Volume], new: list[Volume]) -> list[Change]:
 
 
 class Names:
-    """What GUIDs are called."""
+    """The names of GUIDs."""
 
     def __init__(self, paths: list[str]) -> None:
         self.known: dict[str, str] = {}
@@ -470,28 +476,28 @@ class Names:
                         self.known[guid.lower()] = name.strip()
 
     def file(self, file: File) -> str:
-        """The name of a file: that of its section, else that of the list, else its GUID."""
+        """Returns the name of a file: the text of its section, otherwise its name in the list, otherwise its GUID."""
         return printable(file.text or self.known.get(file.guid, file.guid))
 
     def volume(self, volume: Volume) -> str:
-        """The name of a volume, or its number in what contains it."""
+        """Returns the name of a volume, or its number in the data that contain it."""
         return printable(self.known.get(volume.guid, volume.guid) or f"volume {volume.number}")
 
 
 def amount(count: int) -> str:
-    """A number of bytes with a unit."""
+    """Returns a number of bytes with a unit."""
     if count >= 1 << 20:
         return f"{count / (1 << 20):.2f} MiB"
     return f"{count / 1024:.1f} KiB" if count >= 1024 else f"{count} B"
 
 
 def offset(at: int) -> str:
-    """An offset, decimal and hexadecimal."""
+    """Returns an offset in decimal and hexadecimal."""
     return f"{at} ({at:#x})"
 
 
 def name_of(path: str, other: str | None) -> str:
-    """What an image is called: the name of its file, with as much of its path as it takes to know it from another."""
+    """Returns the file name of an image, with as much of its path as distinguishes it from the other image."""
     ours, theirs = (Path(os.path.abspath(it)).parts for it in (path, other or path))
     count = 1
     while ours != theirs and ours[-count:] == theirs[-count:]:
@@ -500,38 +506,38 @@ def name_of(path: str, other: str | None) -> str:
 
 
 def bytes_of(count: int) -> str:
-    """A number of bytes with a unit, and exactly."""
+    """Returns a number of bytes with a unit, and the exact number."""
     return f"{amount(count)} ({count:,} bytes)"
 
 
 def percent(part: int, whole: int) -> str:
-    """A share of a whole."""
+    """Returns a part of a whole in percent."""
     return f"{100 * part / whole:.1f} %" if whole else "0 %"
 
 
 def offset_cells(at: int | None) -> str:
-    """Two cells of a table: an offset, decimal and hexadecimal."""
+    """Returns two cells of a table: an offset in decimal and hexadecimal."""
     shown = ("", "") if at is None else (at, f"{at:#x}")
     return "".join(f'<td class="n mono">{it}' for it in shown)
 
 
 def text(value: object) -> str:
-    """Text for the page: of the image nothing is taken for markup."""
+    """Returns text for the page. Nothing from the image is taken for markup."""
     return html.escape(str(value), quote=True)
 
 
 def breakable(name: str) -> str:
-    """A name for the page, which may be broken between its words."""
+    """Returns a name for the page, which may be broken between its words."""
     return "<wbr>".join(text(it) for it in re.split(r"(?<=[a-z0-9])(?=[A-Z])", name))
 
 
 def kind_of(kind: int) -> tuple[str, str]:
-    """What a type of file is called, and the class of its colour."""
+    """Returns the name of a type of files, and the class of its colour."""
     return KINDS.get(kind, (f"type {kind:02x}", "other"))
 
 
 def fault_of(fault: str) -> str:
-    """A fault, its offset in both ways, and what it means."""
+    """Returns a fault, its offset in decimal and hexadecimal, and its meaning."""
     match = re.match(r"fault (\d+)", fault)
     meaning = FAULTS.get(int(match[1])) if match else None
     fault = re.sub(r"\bat (\d+)", lambda it: f"at {offset(int(it[1]))}", fault)
@@ -546,13 +552,13 @@ Part = tuple[int, int, str, str]  # of a strip: offset, length, colour, title
 
 
 def worst_side(areas: list[float], short: float) -> float:
-    """How far from a square the worst of a row of rectangles is."""
+    """Returns how far from a square the worst of a row of rectangles is."""
     side = sum(areas) / short
     return max(max(side * side / area, area / (side * side)) for area in areas)
 
 
 def squarified(sizes: list[int], box: Box) -> Iterator[Box]:
-    """Rectangles of these sizes, the largest first, that are near to squares and fill a box."""
+    """Yields rectangles of these sizes, the largest first, that are almost squares and fill a box."""
     x, y, width, height = box
     scale = width * height / sum(sizes)
     rest = [size * scale for size in sizes]
@@ -587,16 +593,16 @@ class Page:
         self.lines += lines
 
     def color(self, name: str) -> str:
-        """The class of a colour, which the legend then has."""
+        """Returns the class of a colour, and adds the colour to the legend."""
         self.used.add(name)
         return f"k-{name}"
 
     def anchor(self, volume: Volume) -> str:
-        """What the place of a volume on the page is called."""
+        """Returns the name of the place of a volume on the page."""
         return self.anchors.setdefault(id(volume), f"v{len(self.anchors)}")
 
     def head(self, image: Image, name: str) -> None:
-        """What image it is."""
+        """Adds the head of the page, which says what image it is."""
         total = sum(volume.length for volume in image.volumes)
         count = f"{len(image.volumes)} volume{'s' * (len(image.volumes) != 1)} in {percent(total, image.size)}"
         self.add(f"<header><h1>{text(name)}</h1>")
@@ -604,7 +610,7 @@ class Page:
         self.add(f'<p class="mono dim">SHA-256 {image.digest}</p></header>')
 
     def strip(self, parts: list[Part], whole: int) -> None:
-        """Parts of a whole. Parts too thin to be seen are drawn as one, but none with what is no volume."""
+        """Adds the parts of a whole. Parts too thin to be seen are drawn as one, except those that are not volumes."""
         self.add('<div class="strip">')
         thin = whole / 1200
         at, length, color, title = 0, 0, "", ""
@@ -620,7 +626,7 @@ class Page:
         self.add(f'<div class="ends"><span>{offset(0)}</span><span>{offset(whole)}</span></div>')
 
     def part(self, part: Part, whole: int) -> None:
-        """A part of a strip, with its name on it if that has room."""
+        """Adds a part of a strip, with its name on it if there is room."""
         at, length, color, title = part
         sides = f"left:{100 * at / whole:.4f}%;right:{100 * (whole - at - length) / whole:.4f}%"
         about = text(f"{title}\nat {offset(at)}, {amount(length)}")
@@ -630,7 +636,7 @@ class Page:
         self.add(f'<i class="{self.color(color)}{edge}" style="{sides}" title="{about}">{shown}</i>')
 
     def flash(self, image: Image) -> None:
-        """Where the volumes of the image lie, and what is none."""
+        """Adds the section of the image: where its volumes are, and the parts that are not volumes."""
         parts: list[Part] = []
         end = 0
         for volume in image.volumes:
@@ -654,7 +660,7 @@ class Page:
         self.add("</table></div></section>")
 
     def rows(self, volume: Volume, depth: int) -> None:
-        """A row of the table of volumes, and those of the volumes inside."""
+        """Adds the row of a volume to the table of volumes, and the rows of the volumes inside."""
         self.add(
             f'<tr><td class="name" style="padding-left:{18 * depth}px"><a href="#{self.anchor(volume)}">'
             f'{text(self.names.volume(volume))}</a>{offset_cells(volume.at)}<td class="n">{amount(volume.length)}'
@@ -674,14 +680,14 @@ class Page:
                     self.rows(inner, depth + 1)
 
     def verdict(self, volume: Volume) -> str:
-        """Whether a volume is its own canonical image."""
+        """Returns the verdict on a volume: whether it is its own canonical image, or its fault."""
         if volume.fault:
             return f'<span class="chip bad">{text(fault_of(volume.fault))}</span>'
         kind = "good" if volume.verdict == "canonical" else "fair"
         return f'<span class="chip {kind}">{text(fault_of(volume.verdict))}</span>'
 
     def volume(self, volume: Volume, inside: str = "") -> None:
-        """A volume: its numbers, where its parts lie, how large its files are, and the volumes in them."""
+        """Adds a volume: its figures, where its parts are, how large its files are, and the volumes in them."""
         self.add(
             f'<section id="{self.anchor(volume)}"><h2>{text(self.names.volume(volume))} {self.verdict(volume)}</h2>'
         )
@@ -707,7 +713,7 @@ class Page:
         self.add("</section>")
 
     def places(self, volume: Volume) -> None:
-        """Where the parts of a volume lie, and where they lay before."""
+        """Adds where the parts of a volume are, and where they were before."""
         if not volume.cells:
             return
         label = "Where it lies"
@@ -719,7 +725,7 @@ class Page:
         self.cells(volume)
 
     def cells(self, volume: Volume) -> None:
-        """The parts of a volume in a strip."""
+        """Adds the parts of a volume as a strip."""
         files = {file.at: file for file in volume.files}
         parts: list[Part] = []
         for cell in volume.cells:
@@ -731,7 +737,7 @@ class Page:
         self.strip(parts, volume.length)
 
     def areas(self, volume: Volume) -> None:
-        """Files as rectangles of their sizes. The style hides a name that has no room."""
+        """Adds files as rectangles of their sizes. The style hides a name that has no room."""
         files = sorted((file for file in volume.files if file.size), key=lambda it: -it.size)[:MOST_DRAWN]
         height = 560 if len(files) > 40 else 340 if len(files) > 8 else 180
         total = sum(file.size for file in files)
@@ -750,7 +756,7 @@ class Page:
         self.add("</div>")
 
     def table(self, volume: Volume) -> None:
-        """The files of a volume, in their order."""
+        """Adds the table of the files of a volume, in their order."""
         most = max(file.size for file in volume.files) or 1
         count = f"{len(volume.files)} file{'s' * (len(volume.files) != 1)}"
         self.add(f'<details{" open" * (len(volume.files) < 4)}><summary>{count}</summary><div class="wide"><table>')
@@ -770,7 +776,7 @@ class Page:
         self.add("</table></div></details>")
 
     def against(self, old: Image, new: Image, found: list[Change]) -> None:
-        """Which image is which, and what came, went and changed."""
+        """Adds which image is which, and what came, went and changed."""
         self.add(f"<section><h2>Against {text(name_of(old.path, new.path))}</h2>")
         self.add('<div class="wide"><table><tr><th><th>Image<th class="n">Size<th>SHA-256</tr>')
         for when, image, other in (("before", old, new), ("now", new, old)):
@@ -786,7 +792,7 @@ class Page:
         self.add("</section>")
 
     def changes(self, found: list[Change]) -> None:
-        """The files that came, went or changed."""
+        """Adds the table of the files that came, went or changed."""
         self.add('<div class="wide"><table>')
         self.add('<tr><th><th>File<th class="n">Before<th class="n">Now<th class="n">By<th>In</tr>')
         for it in found[:MOST_ROWS]:
@@ -801,7 +807,7 @@ class Page:
         self.add("</table></div>")
 
     def legend(self) -> str:
-        """The colours that the page has."""
+        """Returns the legend of the colours on the page."""
         shown = [
             f'<span><i class="k-{key}"></i>{text(name)}</span>' for key, name in LEGEND.items() if key in self.used
         ]
@@ -809,7 +815,7 @@ class Page:
         return f'<p class="legend">{"".join(shown)}</p>'
 
     def whole(self, title: str) -> str:
-        """The page."""
+        """Returns the page."""
         return "\n".join(
             [START.replace("@TITLE@", text(title)).replace("@STYLE@", STYLE), *self.lines, "</body></html>"]
         )
@@ -894,7 +900,7 @@ td.long{min-width:520px}}
 
 
 def make_page(given: argparse.Namespace) -> str:
-    """The page of an image."""
+    """Returns the page of an image."""
     names = Names([given.guids, *given.names])
     with tempfile.TemporaryDirectory(prefix="fvmap-") as room:
         image = read_image(given.fvtool, given.image, room)
@@ -919,12 +925,12 @@ def main() -> int:
     """Writes the page to standard output."""
     words = fvlines.Arguments(description="Draws a flash image or a firmware volume as one HTML page.")
     words.add_argument("image", help="the image")
-    words.add_argument("--against", metavar="OTHER", help="an image to compare with: what came, went and changed since")
+    words.add_argument("--against", metavar="OLD", help="an image to compare with: what came, went and changed since")
     words.add_argument(
         "--names", metavar="FILE", action="append", default=[], help="more names: lines of a GUID and a name"
     )
     words.add_argument(
-        "--fvtool", default=fvlines.program(), help="the program; else FVTOOL, fvtool in the PATH, or the script here"
+        "--fvtool", default=fvlines.program(), help="the program; otherwise FVTOOL, fvtool in the PATH, the script here"
     )
     given = words.parse_args()
     given.guids = os.path.join(os.path.dirname(os.path.realpath(__file__)), "guids.txt")

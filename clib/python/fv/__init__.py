@@ -1,4 +1,4 @@
-"""libfv for Python, by ctypes: UEFI firmware volumes read, checked, compared and rebuilt.
+"""The calls of libfv, for Python programs that read, check, compare or rebuild UEFI firmware volumes.
 
     import fv
     fv.verify(data)             the extent of the volume with which the data begin
@@ -6,28 +6,30 @@
     fv.normalise(data)          the canonical image of a volume
     fv.normalise_image(data)    a flash image with each volume in it replaced by its canonical image
     fv.is_canonical(data)       whether a volume is its own canonical image
-    fv.check_image(data)        of each volume of a flash image whether it is, or its fault
-    fv.digest(data)             the SHA-256 digest of its canonical image
+    fv.check_image(data)        whether each volume of a flash image is its own canonical image, or its fault
+    fv.digest(data)             the SHA-256 digest of the canonical image of a volume
     fv.compare(a, b)            "same", or where the meanings of two volumes first differ
-    fv.cells(data)              the files, pads and free bytes of a volume, and where they lie
+    fv.cells(data)              the files, pads, deleted files and free bytes of a volume, and where they are
     fv.files(data)              the files of a volume
-    fv.sections(data, number)   the sections of one of them
-    fv.tree(data)               all of it in one call: the volume, its files, their sections, and the volumes in these
+    fv.sections(data, number)   the sections of a file
+    fv.tree(data)               a volume, its files, their sections, and the same for each volume in a section
     fv.list_sums(data)          the SHA-256 digest for each row of the tree
-    fv.extract(data, number)    the data of a file, or the body of a section: fv.extract(data, number, section)
+    fv.extract(data, number)    the data of a file; with a third argument the body of that section
     fv.depex(data, phase, ..)   the truth value of a dependency expression
     fv.hobs(data)               the blocks of a hand-off list
 
-Data are anything that has the buffer protocol: bytes, bytearray, memoryview, mmap. Bytes are read where they are, and
-every other buffer is copied first, since something else may write to it during the call: a thread, for other threads of
-Python run meanwhile, or a process that has mapped the same file. With in_place=True a buffer that can be written to is
-not copied. The caller then sees to it that nothing writes to it during the call; else the process can crash.
+The data may be any object with the buffer protocol: bytes, bytearray, memoryview, mmap. A bytes object is read in
+place. Any other buffer is copied first, since something else may write to it during the call: another Python thread, or
+a process that has mapped the same file. With in_place=True a writable buffer is not copied. (A read-only buffer still
+is.) Pass in_place=True only if nothing writes to the buffer until the call returns, since the process can crash
+otherwise.
 
-What a call returns cannot be changed. Cells, files, sections, nodes, sums, checks, blocks and offsets are in Rows: a
-sequence that makes each of them when it is looked at.
+The returned values are immutable. Cells, files, sections, nodes, sums, checks, blocks and offsets come in Rows, a
+sequence that makes each of them when you access it.
 
-An input that is rejected raises Fault. Out of memory raises MemoryError. A number of no file or section raises
-IndexError. The environment variable LIBFV names the shared object. `python3 -m fv` shows what an image holds.
+A rejected input raises Fault. Running out of memory raises MemoryError. The number of a file or section that does not
+exist raises IndexError. The environment variable LIBFV names the shared object, if another one is to be used.
+`python3 -m fv` lists the contents of an image.
 """
 
 from __future__ import annotations
@@ -67,5 +69,5 @@ __all__ = [
 FILE, PAD, DELETED, UNFINISHED, FREE = What.FILE, What.PAD, What.DELETED, What.UNFINISHED, What.FREE
 FILES, BYTES, SECTIONS, VOLUME = Holds.FILES, Holds.BYTES, Holds.SECTIONS, Holds.VOLUME
 NODE_VOLUME, NODE_FILE, NODE_SECTION = NodeWhat.VOLUME, NodeWhat.FILE, NodeWhat.SECTION
-# The parent of a section that is in no group, and of the first row of a tree.
+# The parent of a section that is not in a group, and of the first row of a tree.
 NO_PARENT = None

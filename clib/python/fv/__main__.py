@@ -1,18 +1,20 @@
-"""What the volumes of a flash image hold, a line for each part, as text or as JSON.
+"""Lists the contents of the volumes in a flash image for scripts, one line for each part, as text or as JSON.
 
     python3 -m fv files IMAGE [--json]      the files of each volume
-    python3 -m fv tree IMAGE [--json]       all of it: the files, their sections, and the volumes in these
-    python3 -m fv cells IMAGE [--json]      its files, pads and free bytes, and where they lie
-    python3 -m fv check IMAGE [--json]      whether it is its own canonical image
-    python3 -m fv sums IMAGE [--json]       the SHA-256 of its canonical image, and of each file and section in that
+    python3 -m fv tree IMAGE [--json]       each volume, its files, their sections, and the same for nested volumes
+    python3 -m fv cells IMAGE [--json]      the files, pads, deleted files and free bytes of each volume, with offsets
+    python3 -m fv check IMAGE [--json]      whether each volume is its own canonical image
+    python3 -m fv sums IMAGE [--json]       the SHA-256 digest of each canonical image, and of its files and sections
 
-Each line begins with the offset of its volume in the image. Files, nodes and cells have the fields that they have in
-`fv`. In the text of `tree` a line is indented by its depth, and has only the fields that are not shown so. All other
-offsets count from the first byte of the volume. Of a volume that is rejected the line is its fault. If no volume begins
-in the image, it is the fault of its first bytes.
+Each line begins with the offset of its volume in the image. All other offsets count from the first byte of that volume.
+Files, nodes and cells have the fields that they have in `fv`. As text, a line of `tree` is indented by its depth. It
+leaves out the parent, and the fields that a volume, a file or a section does not have.
 
-The exit status is 0; 1 if `check` finds a volume that is not canonical; 2 if a volume is rejected, the image cannot be
-read, the output cannot be written, or memory runs out; 3 if the arguments are wrong."""
+A rejected volume has a single line, with its fault. If the image contains no volume, the only line is the fault of its
+first bytes.
+
+Exit status 0: success. 1: `check` has found a volume that is not canonical. 2: a volume is rejected, the image cannot
+be read, the output cannot be written, or memory ran out. 3: the arguments are wrong."""
 
 from __future__ import annotations
 
@@ -28,50 +30,51 @@ from typing import Any, NoReturn
 
 import fv
 
-# What a line shows: the names of its fields, and their values.
+# The fields of a line: their names and values.
 Line = dict[str, Any]
-# The most bytes of an image that one call checks.
+# The largest image that fv.check_image takes, in bytes.
 MOST = 2**28
 
 
 def shown(value: Any) -> Any:
-    """A value of a field, as JSON has it."""
+    """Returns a value of a field in the form in which JSON has it."""
     if isinstance(value, enum.Enum):
         return value.name.lower()
     return str(value) if isinstance(value, uuid.UUID) else value
 
 
 def fields(row: Any) -> Line:
-    """The fields of a row."""
+    """Returns the fields of a row."""
     return {it.name: shown(getattr(row, it.name)) for it in dataclasses.fields(row)}
 
 
 def files(volume: memoryview) -> Iterator[Line]:
-    """The files of a volume."""
+    """Yields a line for each file of a volume."""
     for number, file in enumerate(fv.files(volume, in_place=True)):
         yield {"file": number, **fields(file)}
 
 
 def tree(volume: memoryview) -> Iterator[Line]:
-    """The rows of the tree of a volume."""
+    """Yields a line for each row of the tree of a volume."""
     for row, node in enumerate(fv.tree(volume, in_place=True)):
         yield {"row": row, **fields(node)}
 
 
 def cells(volume: memoryview) -> Iterator[Line]:
-    """The cells of a volume. Those that are no file and no pad have only a place."""
+    """Yields a line for each cell of a volume. A cell that is neither a file nor a pad has only its offset and
+    length."""
     for cell in fv.cells(volume, in_place=True):
         has_header = cell.what in (fv.FILE, fv.PAD)
         yield fields(cell) if has_header else {"offset": cell.offset, "len": cell.len, "what": shown(cell.what)}
 
 
 def check(volume: memoryview) -> Iterator[Line]:
-    """Whether a volume is canonical."""
+    """Yields one line, which says whether a volume is canonical."""
     yield {"canonical": fv.is_canonical(volume, in_place=True)}
 
 
 def sums(volume: memoryview) -> Iterator[Line]:
-    """The digests of a volume, of its files, and of all below these that has one."""
+    """Yields a line for the digest of a volume, of each of its files, and of each part inside that has a digest."""
     digests, number = fv.list_sums(volume, in_place=True), 0
     for row, (node, digest) in enumerate(zip(fv.tree(volume, in_place=True), digests)):
         number = node.number if node.depth == 1 else number
@@ -80,14 +83,15 @@ def sums(volume: memoryview) -> Iterator[Line]:
 
 
 def place(row: int, node: fv.Node, file: int) -> Line:
-    """Which node of a tree a digest is of: the volume, a file of it, or what is in that file."""
+    """Returns the fields that name the node of a digest: of the volume, of a file of it, or of a part inside that
+    file."""
     if node.depth < 2:
         return {"file": file, "name": shown(node.guid)} if node.depth else {}
     name: Line = {"guid": shown(node.guid)} if node.what == fv.NODE_FILE else {}
     return {"file": file, "row": row, "what": shown(node.what), "kind": node.kind, **name}
 
 
-# By the names that the command line has.
+# The commands, by their names on the command line.
 COMMANDS: dict[str, Callable[[memoryview], Iterator[Line]]] = {
     "files": files,
     "tree": tree,
@@ -97,7 +101,7 @@ COMMANDS: dict[str, Callable[[memoryview], Iterator[Line]]] = {
 }
 
 
-# The fields of a node that the text of `tree` has. Its depth is the indent.
+# The fields of a node that a text line of `tree` shows. The indentation shows the depth.
 PLACE = ("offset", "len", "header_len")
 SHOWN: dict[str, tuple[str, ...]] = {
     "volume": (*PLACE, "guid"),
@@ -107,7 +111,7 @@ SHOWN: dict[str, tuple[str, ...]] = {
 
 
 def volumes(image: memoryview) -> Iterator[tuple[int, memoryview]]:
-    """The volumes of an image and where they begin; all bytes if there is none."""
+    """Yields each volume of an image with its offset, or all bytes if the image contains no volume."""
     places = fv.scan(image, in_place=True)
     for at in places:
         yield at, image[at : at + fv.verify(image[at:], in_place=True).length]
@@ -116,20 +120,20 @@ def volumes(image: memoryview) -> Iterator[tuple[int, memoryview]]:
 
 
 def rejected(at: int, fault: fv.Fault, base: int = 0) -> Line:
-    """The line of a volume with a fault, whose offset counts from the base."""
+    """Returns the line of a rejected volume. The offset of its fault counts from the base."""
     where = {"offset": fault.offset - base, "depth": fault.depth}
     return {"volume": at, "fault": fault.number, **where, "text": fault.text}
 
 
 def checks(image: memoryview) -> Iterator[Line]:
-    """The lines of `check` for several volumes: one call reads them all."""
+    """Yields the lines of `check` for several volumes, which a single call reads."""
     for it in fv.check_image(image, in_place=True):
         judged: Line = {"volume": it.offset, "canonical": it.canonical}
         yield rejected(it.offset, it.fault, it.offset) if it.fault else judged
 
 
 def lines(image: memoryview, name: str) -> Iterator[Line]:
-    """The lines of a command."""
+    """Yields the lines of a command."""
     if name == "check" and len(image) <= MOST and len(fv.scan(image, in_place=True)) > 1:
         yield from checks(image)
         return
@@ -142,8 +146,8 @@ def lines(image: memoryview, name: str) -> Iterator[Line]:
 
 
 def text_of(line: Line) -> str:
-    """A line as text: each field with its name. A node of a tree has, after the offset of its volume, an indent and what
-    it is with its number, and then the fields that it has."""
+    """Returns a line as text: each field with its name. For a node of a tree the offset of its volume comes first, then
+    the indentation, then what the node is and its number, and then its fields."""
     if "row" in line and "depth" in line:
         head: str = f"volume {line['volume']} " + "  " * line["depth"]
         return head + text_of({line["what"]: line["number"], **{it: line[it] for it in SHOWN[line["what"]]}})
@@ -151,7 +155,7 @@ def text_of(line: Line) -> str:
 
 
 class Arguments(argparse.ArgumentParser):
-    """Arguments whose faults are status 3."""
+    """A parser of arguments that ends with status 3 if they are wrong."""
 
     def error(self, message: str) -> NoReturn:
         self.print_usage(sys.stderr)
@@ -159,7 +163,7 @@ class Arguments(argparse.ArgumentParser):
 
 
 def run(given: argparse.Namespace) -> int:
-    """Writes the lines of a command, and returns the status."""
+    """Writes the lines of a command, and returns the exit status."""
     with open(given.image, "rb") as file:
         image = bytearray(file.read())
     status = 0
@@ -171,18 +175,18 @@ def run(given: argparse.Namespace) -> int:
 
 
 def main() -> int:
-    """Reads the arguments, and runs the command that they name."""
-    words = Arguments(prog="python3 -m fv", description="What the volumes of a flash image hold.")
+    """Reads the arguments, runs the command, and returns the exit status."""
+    words = Arguments(prog="python3 -m fv", description="Lists the contents of the volumes in a flash image.")
     words.add_argument("command", choices=COMMANDS)
     words.add_argument("image", metavar="IMAGE")
-    words.add_argument("--json", action="store_true", help="a JSON object a line")
+    words.add_argument("--json", action="store_true", help="write each line as a JSON object")
     given = words.parse_args()
     try:
         return run(given)
     except MemoryError:
         print("fv: memory ran out", file=sys.stderr)
     except BrokenPipeError:
-        os.dup2(os.open(os.devnull, os.O_WRONLY), sys.stdout.fileno())  # so that the last flush is no error
+        os.dup2(os.open(os.devnull, os.O_WRONLY), sys.stdout.fileno())  # so that the last flush does not fail
     except OSError as error:
         print(f"fv: {error}", file=sys.stderr)
     return 2

@@ -1,5 +1,5 @@
-"""libfv by ctypes: where it is, what each call takes, and how bytes go in and out. Users of the package need nothing of
-this."""
+"""Loads libfv by ctypes, and passes bytes to it and from it. For the other modules: users of the package need nothing
+in here."""
 
 from __future__ import annotations
 
@@ -11,7 +11,7 @@ from mmap import mmap
 from pathlib import Path
 from typing import TYPE_CHECKING, Any, Union
 
-# Whatever lends its bytes.
+# Any object with the buffer protocol.
 if not TYPE_CHECKING:
     Buffer = Any
 elif sys.version_info >= (3, 12):
@@ -20,12 +20,12 @@ else:
     Buffer = Union[bytes, bytearray, memoryview, mmap, "array[int]"]
 
 OUT_OF_MEMORY, BUFFER_TOO_SMALL, NOT_FOUND = 24, 256, 257
-# The number of a part that no part has: that a section is in no group, that no row holds the row of a volume, and that
-# all data of a file are asked for.
+# The number that no part has. As a parent it means that a section is not in a group, or that a row is the first one. As
+# the number of a section it requests all data of a file.
 NO_NUMBER = 2**64 - 1
 
 _bytes, _len, _u32, _u64, _result = c.c_void_p, c.c_size_t, c.c_uint32, c.c_uint64, c.c_void_p
-# What each call of fv.h takes, in its order. All return a number of 32 bits, except fv_fault_text.
+# The types of the arguments of each call of fv.h, in order. All calls return a 32-bit number, except fv_fault_text.
 ARGUMENTS: dict[str, list[Any]] = {
     "fv_verify": [_bytes, _len, _result, _result],
     "fv_normalise": [_bytes, _len, _result, _len, _result],
@@ -48,7 +48,8 @@ ARGUMENTS: dict[str, list[Any]] = {
 
 
 def _load() -> c.CDLL:
-    """The library: what LIBFV names; else that of this package, if it is from a wheel; else what the loader finds."""
+    """Loads the library: the one that LIBFV names, otherwise the one in this package (a wheel has one), otherwise the
+    one that the system's loader finds."""
     own = Path(__file__).with_name("libfv.so.0")
     library = c.CDLL(os.environ.get("LIBFV") or (str(own) if own.exists() else own.name))
     for name, arguments in ARGUMENTS.items():
@@ -59,13 +60,13 @@ def _load() -> c.CDLL:
 
 lib: Any = _load()
 
-# A bytes object that nothing has been written to: an image is not zeroed first, and not copied.
+# Makes a bytes object with undefined contents, so that an image is neither zeroed first nor copied afterwards.
 _bytes_of = c.pythonapi.PyBytes_FromStringAndSize
 _bytes_of.argtypes, _bytes_of.restype = [c.c_void_p, c.c_ssize_t], c.py_object
 
 
 def new_bytes(length: int) -> bytes:
-    """Bytes for a call to write to before anyone else has them. What they hold until then is not defined."""
+    """Returns bytes that a call writes before anyone else sees them. Until then their contents are undefined."""
     if not length:
         return b"\0"
     made: bytes = _bytes_of(None, length)
@@ -73,7 +74,7 @@ def new_bytes(length: int) -> bytes:
 
 
 def given(data: Buffer, in_place: bool) -> tuple[Any, int]:
-    """What is passed for some data, and their length in bytes."""
+    """Returns the argument that is passed for some data, and their length in bytes."""
     if isinstance(data, bytes):
         return data, len(data)
     view = memoryview(data).cast("B")
@@ -83,20 +84,20 @@ def given(data: Buffer, in_place: bool) -> tuple[Any, int]:
 
 
 def of_32_bits(number: int) -> int:
-    """A number of 32 bits; ctypes would cut others."""
+    """Returns the number if it has at most 32 bits; ctypes would cut a larger one."""
     if not 0 <= number < 2**32:
         raise ValueError(f"{number} is no number of 32 bits")
     return number
 
 
 def of_part(number: int) -> int:
-    """The number of a file or a section; ctypes would cut others to 64 bits."""
+    """Returns the number if a file or a section may have it; ctypes would cut a larger one to 64 bits."""
     if not 0 <= number < NO_NUMBER:
         raise IndexError(fault_text(NOT_FOUND))
     return number
 
 
 def fault_text(number: int) -> str:
-    """What a result of a call means, in a sentence. ValueError if the number has more than 32 bits."""
+    """Returns a sentence that explains a result of a call. Raises ValueError if the number has more than 32 bits."""
     text: bytes = lib.fv_fault_text(of_32_bits(number))
     return text.decode()

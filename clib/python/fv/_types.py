@@ -1,4 +1,4 @@
-"""What the calls return, and the fault that they raise."""
+"""The types of the values that the calls return, and of the fault that they raise."""
 
 from __future__ import annotations
 
@@ -15,29 +15,29 @@ Item = TypeVar("Item")
 
 
 class What(enum.IntEnum):
-    """What a cell of a volume's body is: a valid file, a pad, a file that was deleted, a file whose data or header were
-    never finished, erased bytes up to the volume's end."""
+    """What a cell of a volume's body is: a valid file (even if it is superseded), a pad, a deleted file, a file whose
+    data or header were never finished, or erased bytes up to the end of the volume."""
 
     FILE, PAD, DELETED, UNFINISHED, FREE = 1, 2, 3, 4, 5
 
 
 class Holds(enum.IntEnum):
-    """What a section holds: bytes, sections (it is a group), a volume. In a tree a volume holds files, and a file bytes
-    or sections."""
+    """What a section holds: bytes, sections (the section is a group), or a volume. In a tree a volume holds files, and
+    a file holds bytes or sections."""
 
     FILES, BYTES, SECTIONS, VOLUME = 0, 1, 2, 3
 
 
 class NodeWhat(enum.IntEnum):
-    """What a row of a tree is: a volume, a file, a section."""
+    """What a row of a tree is: a volume, a file, or a section."""
 
     VOLUME, FILE, SECTION = 1, 2, 3
 
 
 @dataclass(frozen=True)
 class Extent:
-    """The extent of a volume: its lengths in bytes, the offset of its first file, its file system (2 or 3), and the
-    value of an erased byte."""
+    """The extent of a volume: its length and the length of its header in bytes, the offset at which its first file may
+    begin, its file system (2: FFS2, 3: FFS3), and the value of an erased byte (0 or 255)."""
 
     length: int
     header_len: int
@@ -48,8 +48,9 @@ class Extent:
 
 @dataclass(frozen=True)
 class Cell:
-    """A cell of a volume's body: its offset and length in bytes, the length of its header, what it is, and of a file or
-    a pad its type, attributes and name. A field that the cell does not have is 0. All is as it is stored."""
+    """A cell of a volume's body: its offset and length in bytes, the length of its header, what it is, and the type,
+    the attributes and the name of a file or a pad. A field that the cell does not have is 0. All fields are as
+    stored."""
 
     offset: int
     len: int
@@ -62,8 +63,8 @@ class Cell:
 
 @dataclass(frozen=True)
 class File:
-    """A file of a volume: where its data are in the input, and how many bytes they have; how many sections it has, its
-    type, its attributes as they are stored (0x01 is a large header), and its name."""
+    """A file of a volume: the offset of its data in the input and their length, the number of its sections (including
+    those in groups), its type, its attributes as stored (0x01 if the header is large), and its name."""
 
     data_offset: int
     data_len: int
@@ -75,8 +76,8 @@ class File:
 
 @dataclass(frozen=True)
 class Section:
-    """A section of a file: how many bytes its body has, the number of the group that it is in (None if it is in none),
-    how many groups are around it, its type, the length of its header, and what it holds."""
+    """A section of a file: the length of its body, the number of the group that it is in (None if it is not in a
+    group), the number of groups around it, its type, the length of its header, and what it holds."""
 
     len: int
     parent: int | None
@@ -88,11 +89,13 @@ class Section:
 
 @dataclass(frozen=True)
 class Node:
-    """A volume, a file or a section of the tree of a volume: where its bytes, its data or its body are in the input,
-    and how many bytes they have; the number of the row that holds it (None of the first), how many rows are around it,
-    and its number among what that row holds; what it is, its type, its attributes (without 0x01), the length of its
-    header, and what it holds. The GUID is the name of a file, that of a volume's file system, and None of a section.
-    Type and attributes are 0 if it has none."""
+    """A row of a tree: a volume, a file or a section.
+
+    `offset` and `len` give the place in the input of the volume, the file's data or the section's body. `parent` is the
+    number of the row that holds this one (None for the first row), `depth` the number of rows around it, and `number`
+    its place among the parts of its parent. `kind` is Type; `attributes` leaves out bit 0x01; both are 0 for a part
+    without them. `header_len` is the length of its header. `guid` is the name of a file or the file system of a volume,
+    and None for a section."""
 
     offset: int
     len: int
@@ -109,7 +112,8 @@ class Node:
 
 @dataclass(frozen=True)
 class Hob:
-    """A block of a hand-off list: the span of the volume that it describes, or zeros, its type, and its length."""
+    """A block of a hand-off list: the base address and the length of the volume that it describes (otherwise 0), its
+    type, and its own length."""
 
     base: int
     length: int
@@ -152,7 +156,7 @@ def _sum(digest: bytes) -> bytes | None:
     return digest if any(digest) else None
 
 
-# The structures of fv.h, as the module struct writes them. Of those that come in rows also what is made of one.
+# The structures of fv.h, as the module struct writes them; for those that come in rows also what makes a value of one.
 FAULT, EXTENT, COMPARISON, DIGEST = "=QII", "=3QII", "=Q2I16s", "=32s"
 OFFSETS, CELLS, FILES = ("=Q", int), ("=3Q4I16s", _cell), ("=3Q2I16s", _file)
 SECTIONS, NODES, HOBS = ("=3Q4I", _section), ("=5Q6I16s", _node), ("=2Q2I", Hob)
@@ -160,8 +164,8 @@ SUMS = "=32s", _sum
 
 
 class Rows(Sequence[Item]):
-    """The rows that a call has written, in order. Each is made when it is looked at: there is no list of them. Rows are
-    equal to a list of the same."""
+    """The rows that a call has written, in order. A row is made when you access it, so there is no list of all rows.
+    Rows are equal to a list of the same rows."""
 
     def __init__(self, layout: str, make: Callable[..., Item], data: bytes) -> None:
         self._layout, self._make, self._data = layout, make, data
@@ -196,14 +200,14 @@ class Rows(Sequence[Item]):
         return f"<{len(self)} rows>"
 
     def __reduce__(self) -> tuple[Any, ...]:
-        """How rows are copied, and sent from one process to another."""
+        """Lets rows be copied, and sent from one process to another."""
         return Rows, (self._layout, self._make, self._data)
 
 
 class Fault(Exception):
-    """Why an input was rejected: the number of the fault, its offset in bytes, its depth in groups and volumes, the
-    side of a comparison (1 or 2, else 0), and a text that says what it means (None for expressions and hand-off
-    lists)."""
+    """The reason why an input was rejected: the number of the fault, its offset in bytes, the number of groups and
+    opened volumes around it, the side of a comparison (1 or 2, otherwise 0), and a text that explains it (None for
+    dependency expressions and hand-off lists)."""
 
     def __init__(self, number: int, offset: int, depth: int = 0, side: int = 0, has_text: bool = True) -> None:
         super().__init__(f"{('', 'first ', 'second ')[side]}fault {number} at {offset}")
@@ -225,14 +229,14 @@ class Fault(Exception):
         return hash(self._fields())
 
     def __reduce__(self) -> tuple[Any, ...]:
-        """How a fault is copied, and sent from one process to another."""
+        """Lets a fault be copied, and sent from one process to another."""
         return type(self), self._fields(), self.__dict__
 
 
 @dataclass(frozen=True)
 class VolumeCheck:
     """A volume of a flash image: its offset and length in bytes, whether it is its own canonical image, and the fault
-    with which it is rejected, at its offset in the image, or None."""
+    with which it is rejected, or None. The offset of the fault counts from the first byte of the image."""
 
     offset: int
     length: int

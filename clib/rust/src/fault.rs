@@ -1,11 +1,11 @@
-//! Why a call returned nothing.
+//! Faults: why a call failed.
 
 use crate::raw;
 use std::error::Error;
 use std::ffi::CStr;
 use std::fmt;
 
-/// The results of calls by their names, as `fv.h` has them.
+/// The numbers of results, under the names that `fv.h` gives them.
 pub mod number {
     /// The bytes end before the volume does.
     pub const TRUNCATED: u32 = 1;
@@ -56,13 +56,13 @@ pub mod number {
     pub const TOP_ALIGNMENT: u32 = 23;
     /// Out of memory.
     pub const OUT_OF_MEMORY: u32 = 24;
-    /// The buffer is too small. No function of this crate returns it.
+    /// The buffer is too small. No function of this crate returns this number.
     pub const BUFFER_TOO_SMALL: u32 = 256;
-    /// There is no file or section of the number that was passed.
+    /// There is no file or section with this number.
     pub const NOT_FOUND: u32 = 257;
 }
 
-/// Out of memory by the numbers that expressions and hand-off lists have.
+/// The number of the fault out of memory for dependency expressions and hand-off lists.
 const OUT_OF_MEMORY_OF_THEIRS: u32 = 6;
 
 /// `fv_fault`.
@@ -75,7 +75,7 @@ pub(crate) struct RawFault {
 }
 
 impl RawFault {
-    /// What a call returned: success, or the fault that it has written.
+    /// Returns Ok if the status is 0, otherwise the fault that the call has written.
     pub(crate) fn check(self, status: u32, subject: Subject) -> Result<(), Fault> {
         match status {
             0 => Ok(()),
@@ -88,17 +88,17 @@ impl RawFault {
         }
     }
 
-    /// The fault of a row, if it has one.
+    /// Returns the fault of a row, if the row has one.
     pub(crate) fn of_row(self) -> Option<Fault> {
         self.check(self.number, Subject::Input).err()
     }
 }
 
-/// What was rejected. It says by which numbers a fault is numbered.
+/// What was rejected. It decides which list of numbers the number of a fault is from.
 #[derive(Clone, Copy, Debug, PartialEq, Eq, Hash)]
 #[non_exhaustive]
 pub enum Subject {
-    /// The input of a call that has one: a volume, or an image.
+    /// The input of a call with a single input: a volume or an image.
     Input,
     /// The first input of [`compare`](crate::compare).
     First,
@@ -110,12 +110,12 @@ pub enum Subject {
     HandOffList,
 }
 
-/// Why a call returned nothing: the first fault of the input and its place, or that memory ran out,
-/// or that there is no such part. `docs/FAULTS.md` has all.
+/// The reason why a call failed: the first fault of the input with its place, or memory ran out, or
+/// the requested part does not exist. `docs/FAULTS.md` explains every fault.
 #[derive(Clone, Copy, Debug, PartialEq, Eq, Hash)]
 #[non_exhaustive]
 pub struct Fault {
-    /// Its number: of an input and of a comparison one of [`number`].
+    /// Its number: one of [`number`], unless the subject is an expression or a hand-off list.
     pub number: u32,
     /// Its offset in bytes, from the first byte of the input.
     pub offset: usize,
@@ -126,7 +126,7 @@ pub struct Fault {
 }
 
 impl Fault {
-    /// Memory ran out.
+    /// Returns the fault for memory that ran out.
     pub(crate) fn out_of_memory(subject: Subject) -> Fault {
         let number = match subject {
             Subject::Expression | Subject::HandOffList => OUT_OF_MEMORY_OF_THEIRS,
@@ -140,7 +140,7 @@ impl Fault {
         }
     }
 
-    /// There is no section of the number that was passed.
+    /// Returns the fault for a section that does not exist.
     pub(crate) fn not_found() -> Fault {
         Fault {
             number: number::NOT_FOUND,
@@ -150,18 +150,18 @@ impl Fault {
         }
     }
 
-    /// Whether memory ran out. Then nothing is known of the input.
+    /// Returns whether memory ran out. If so, nothing is known about the input.
     pub fn is_out_of_memory(&self) -> bool {
         self.number == Fault::out_of_memory(self.subject).number
     }
 
-    /// Whether the volume has no file, or the file no section, of the number that was passed.
+    /// Returns whether the requested file or section does not exist.
     pub fn is_not_found(&self) -> bool {
         self.number == number::NOT_FOUND
     }
 
-    /// What it means, in a sentence. `None` of expressions and hand-off lists, which have no texts,
-    /// unless memory ran out.
+    /// Returns a sentence that explains the fault. Returns `None` for expressions and hand-off
+    /// lists, whose faults have no texts, unless memory ran out.
     pub fn text(&self) -> Option<&'static str> {
         match self.subject {
             _ if self.is_out_of_memory() => Some(fault_text(number::OUT_OF_MEMORY)),
@@ -194,8 +194,8 @@ impl fmt::Display for Fault {
 
 impl Error for Fault {}
 
-/// What a result of a call means, in a sentence. It knows the results in [`number`], 0, and the
-/// faults 25 and 26 of the program. `docs/FAULTS.md` has the same texts.
+/// Returns a sentence that explains a result of a call. It knows the results in [`number`], 0, and
+/// the faults 25 and 26 of the program. `docs/FAULTS.md` has the same texts of faults.
 ///
 /// ```
 /// assert_eq!(fv::fault_text(fv::number::SECTION_SIZE), "the size of a section is wrong");

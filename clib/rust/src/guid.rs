@@ -3,7 +3,8 @@
 use std::fmt;
 use std::str::FromStr;
 
-/// A GUID. It is shown as `8c8ce578-8a3d-4f1c-9935-896185c32dd3`, and parsed from such a text.
+/// A GUID. It is displayed as text, and parsed from text, in the form
+/// `8c8ce578-8a3d-4f1c-9935-896185c32dd3`.
 ///
 /// ```
 /// let guid: fv::Guid = "8c8ce578-8a3d-4f1c-9935-896185c32dd3".parse().unwrap();
@@ -16,18 +17,18 @@ pub struct Guid {
     bytes: [u8; 16],
 }
 
-/// Of the bytes of the text in order, the place in a volume: the first three fields have their
-/// least significant byte first there.
+/// The place in a volume of each byte of the text, in the order of the text. In a volume the first
+/// three fields have their least significant byte first.
 const PLACES: [usize; 16] = [3, 2, 1, 0, 5, 4, 7, 6, 8, 9, 10, 11, 12, 13, 14, 15];
 
 impl Guid {
-    /// The GUID with these bytes, as a volume has them. The first three fields have their least
-    /// significant byte first.
+    /// Makes a GUID from its bytes in a volume. The first three fields have their least significant
+    /// byte first.
     pub const fn from_bytes(bytes: [u8; 16]) -> Guid {
         Guid { bytes }
     }
 
-    /// Its bytes, as a volume has them.
+    /// Returns the bytes of the GUID in a volume.
     pub const fn to_bytes(self) -> [u8; 16] {
         self.bytes
     }
@@ -51,7 +52,8 @@ impl fmt::Debug for Guid {
     }
 }
 
-/// That a text is no GUID: 8-4-4-4-12 hexadecimal digits of either case.
+/// The error for a text that is not a GUID. A GUID has 8-4-4-4-12 hexadecimal digits of either
+/// case.
 #[derive(Clone, Copy, Debug, PartialEq, Eq)]
 pub struct NoGuid;
 

@@ -1,33 +1,36 @@
-//! UEFI firmware volumes (PI specification 1.8, volume 3) read, checked, compared and rebuilt: safe
-//! functions over the calls of libfv.
+//! Safe functions over the calls of libfv, for Rust programs that read, check, compare or rebuild
+//! UEFI firmware volumes (PI specification 1.8, volume 3).
 //!
-//! The calls are proved to do what `fv.h` says of them. This crate is not: it keeps the rules that
-//! `fv.h` has for callers (no null pointer, buffers of the right length that overlap nothing), and
-//! makes values of what they write.
+//! The calls are proved to do what `fv.h` says. This crate is not proved. It keeps the rules of
+//! `fv.h` for callers (no null pointer, buffers of the right length that overlap nothing), and
+//! turns what the calls write into Rust values.
 //!
 //! | Question | Function |
 //! |---|---|
-//! | Do the bytes begin with a volume, and how long is it? | [`verify`] |
+//! | Do the bytes begin with a volume? How long is it? | [`verify`] |
 //! | Where do the volumes of a flash image begin? | [`scan`] |
-//! | Is a volume as it would be rebuilt? | [`is_canonical`], and each of a flash image [`check_image`] |
-//! | How would it be rebuilt? | [`normalise`], and of a whole flash image [`normalise_image`] |
-//! | By which digest are volumes of one meaning found? | [`digest`] |
-//! | Do two volumes mean the same, and where do they differ? | [`compare`] |
-//! | Where does each part of a volume lie? | [`cells`] |
-//! | Which files has it, and which sections has a file? | [`files`], [`sections`] |
+//! | Is a volume its own canonical image? | [`is_canonical`] |
+//! | Which volumes of a flash image are canonical? | [`check_image`] |
+//! | What is the canonical image of a volume? | [`normalise`] |
+//! | What is a flash image with each volume canonical? | [`normalise_image`] |
+//! | Which digest do all volumes of one meaning share? | [`digest`] |
+//! | Do two volumes mean the same? Where do they differ? | [`compare`] |
+//! | Where are files, pads, deleted files, free bytes? | [`cells`] |
+//! | Which files does a volume have? | [`files`] |
+//! | Which sections does a file have? | [`sections`] |
 //! | What is in a volume, at every level? | [`tree`] |
-//! | By which digests are its files and sections found? | [`list_sums`] |
-//! | What does a file or a section hold? | [`extract`] |
+//! | Which digest does each of these parts have? | [`list_sums`] |
+//! | What are the data of a file, the body of a section? | [`extract`] |
 //! | Is a dependency expression true? | [`depex`] |
-//! | Which blocks has a hand-off list? | [`hobs`] |
+//! | Which blocks does a hand-off list have? | [`hobs`] |
 //!
-//! An input may be any slice, also an empty one. A call that rejects it returns a [`Fault`]; so
-//! does one for which memory runs out. Nothing is kept between calls, and any number of threads may
-//! call at once. While a call runs, nothing may write to its input: see to that for the slice of a
-//! file that is mapped into memory, since another process may write to it.
+//! An input may be any slice, even an empty one. If it is rejected, or if memory runs out, the
+//! function returns a [`Fault`]. The crate keeps no state, so any number of threads may call at
+//! once. Nothing may write to an input while a call reads it. Rust ensures that, except for the
+//! slice of a file that is mapped into memory, since another process may write to that file.
 //!
-//! `pkg-config --libs fv` says where libfv is, or the environment variable `LIBFV_DIR` names its
-//! folder.
+//! The environment variable `LIBFV_DIR` names the folder of libfv when the crate is built. Without
+//! it, `pkg-config --libs fv` finds the library.
 #![deny(missing_docs)]
 #![deny(unsafe_op_in_unsafe_fn)]
 
@@ -51,12 +54,12 @@ use rows::Raw;
 /// The version of this crate, which is that of the `fv.h` that it declares.
 pub const VERSION: &str = env!("CARGO_PKG_VERSION");
 
-/// How many rows there is room for at first. If there are more, a call is made a second time.
+/// The number of rows that the first buffer has room for. If there are more, the call is repeated.
 const ROOM: usize = 1024;
-/// The most bytes that the line of a comparison has.
+/// The greatest length of the line of a comparison, in bytes.
 const LONGEST_LINE: usize = 553;
 
-/// Room for elements that are not written yet.
+/// Allocates room for elements that are not written yet.
 fn room<T>(count: usize, subject: Subject) -> Result<Vec<T>, Fault> {
     let mut made = Vec::new();
     match made.try_reserve_exact(count) {
@@ -65,13 +68,14 @@ fn room<T>(count: usize, subject: Subject) -> Result<Vec<T>, Fault> {
     }
 }
 
-/// What a call writes to a buffer, given its address, its length, and places for the count and the
-/// fault. There is room for `first` elements; only if there are more, it is called again.
+/// Returns what a call writes to a buffer. The call gets the address and the length of the buffer,
+/// and places for the count and the fault. The first buffer has room for `first` elements. If there
+/// are more, the call is repeated.
 ///
 /// # Safety
 ///
-/// If the call returns 0, it has written `count` elements, which are no more than the length that
-/// it was given.
+/// If the call returns 0, it must have written `count` elements, and no more than the length that
+/// was passed to it.
 unsafe fn filled<T>(
     first: usize,
     subject: Subject,
@@ -83,7 +87,7 @@ unsafe fn filled<T>(
         let result = call(buffer.as_mut_ptr(), length, &mut count, &mut fault);
         if result != number::BUFFER_TOO_SMALL {
             fault.check(result, subject)?;
-            // SAFETY: the caller says that this many elements are written.
+            // SAFETY: by the contract of this function, this many elements are written.
             unsafe { buffer.set_len(count as usize) };
             buffer.shrink_to_fit();
             return Ok(buffer);
@@ -92,7 +96,7 @@ unsafe fn filled<T>(
     }
 }
 
-/// A call that writes the rows of an input.
+/// A call that writes rows about an input.
 type RowCall<T> = unsafe extern "C" fn(
     *const u8,
     usize,
@@ -102,10 +106,10 @@ type RowCall<T> = unsafe extern "C" fn(
     *mut RawFault,
 ) -> u32;
 
-/// The rows that a call writes of an input.
+/// Returns the rows that a call writes about an input.
 fn rows<T: Row>(call: RowCall<T>, input: &[u8]) -> Result<Rows<T>, Fault> {
-    // SAFETY: the input is what it is a slice of, the buffer is that of `filled`, and fv.h says
-    // what is written.
+    // SAFETY: the input is a valid slice, the buffer comes from `filled`, and the call writes what
+    // fv.h says.
     let raw = unsafe {
         filled(ROOM, Subject::Input, |buffer, length, count, fault| {
             call(input.as_ptr(), input.len(), buffer, length, count, fault)
@@ -114,13 +118,13 @@ fn rows<T: Row>(call: RowCall<T>, input: &[u8]) -> Result<Rows<T>, Fault> {
     raw.map(Rows::new)
 }
 
-/// A call that writes what it makes of an input.
+/// A call that writes one value about an input.
 type ReadCall<T> = unsafe extern "C" fn(*const u8, usize, *mut T, *mut RawFault) -> u32;
 
-/// What a call writes of an input.
+/// Returns the value that a call writes about an input.
 fn read<T: Default>(call: ReadCall<T>, input: &[u8]) -> Result<T, Fault> {
     let (mut found, mut fault) = (T::default(), RawFault::default());
-    // SAFETY: the input is what it is a slice of, and the results are places of this function.
+    // SAFETY: the input is a valid slice, and the results are variables of this function.
     let result = unsafe { call(input.as_ptr(), input.len(), &mut found, &mut fault) };
     fault.check(result, Subject::Input)?;
     Ok(found)
@@ -129,11 +133,11 @@ fn read<T: Default>(call: ReadCall<T>, input: &[u8]) -> Result<T, Fault> {
 /// A call that writes an image that is as long as the input.
 type ImageCall = unsafe extern "C" fn(*const u8, usize, *mut u8, usize, *mut RawFault) -> u32;
 
-/// The image that a call writes of an input.
+/// Returns the image that a call writes.
 fn image(call: ImageCall, input: &[u8]) -> Result<Vec<u8>, Fault> {
     let length = input.len();
-    // SAFETY: the input is what it is a slice of, the buffer is that of `filled`, and a call that
-    // returns 0 has written as many bytes as the input has.
+    // SAFETY: the input is a valid slice, the buffer comes from `filled`, and a call that returns 0
+    // has written as many bytes as the input has.
     unsafe {
         filled(length, Subject::Input, |buffer, _, count, fault| {
             *count = length as u64;
@@ -157,7 +161,8 @@ pub struct Extent {
     pub erased: u8,
 }
 
-/// Whether the bytes begin with a volume. Only its header is read, and no memory is taken.
+/// Checks whether the bytes begin with a volume, and returns its extent. Reads only its header, and
+/// takes no memory.
 ///
 /// ```
 /// # include!(concat!(env!("CARGO_MANIFEST_DIR"), "/tests/sample/volumes.rs"));
@@ -185,7 +190,7 @@ pub fn verify(bytes: &[u8]) -> Result<Extent, Fault> {
     })
 }
 
-/// The offsets at which the volumes in the bytes begin, in rising order.
+/// Returns the offsets at which the volumes in the bytes begin, in rising order.
 ///
 /// ```
 /// # include!(concat!(env!("CARGO_MANIFEST_DIR"), "/tests/sample/volumes.rs"));
@@ -201,10 +206,10 @@ pub fn verify(bytes: &[u8]) -> Result<Extent, Fault> {
 ///
 /// # Errors
 ///
-/// 24 if memory runs out, which it can only if a volume begins in the bytes.
+/// 24 if memory runs out, which can happen only if a volume begins in the bytes.
 pub fn scan(bytes: &[u8]) -> Result<Rows<usize>, Fault> {
-    // SAFETY: the bytes are what they are a slice of, the buffer is that of `filled`, and fv.h says
-    // what is written.
+    // SAFETY: the bytes are a valid slice, the buffer comes from `filled`, and the call writes what
+    // fv.h says.
     let raw = unsafe {
         filled(ROOM, Subject::Input, |buffer, length, count, _| {
             raw::fv_scan(bytes.as_ptr(), bytes.len(), buffer, length, count)
@@ -213,7 +218,7 @@ pub fn scan(bytes: &[u8]) -> Result<Rows<usize>, Fault> {
     raw.map(Rows::new)
 }
 
-/// The canonical image of the volume that the input is. It is as long as the input.
+/// Returns the canonical image of the input volume. The image is as long as the input.
 ///
 /// ```
 /// # include!(concat!(env!("CARGO_MANIFEST_DIR"), "/tests/sample/volumes.rs"));
@@ -232,8 +237,8 @@ pub fn normalise(input: &[u8]) -> Result<Vec<u8>, Fault> {
     image(raw::fv_normalise, input)
 }
 
-/// The flash image with each volume that [`scan`] finds in it replaced by its canonical image. All
-/// other bytes are kept.
+/// Returns the flash image with each volume that [`scan`] finds in it replaced by its canonical
+/// image. All other bytes are kept.
 ///
 /// ```
 /// # include!(concat!(env!("CARGO_MANIFEST_DIR"), "/tests/sample/volumes.rs"));
@@ -248,25 +253,26 @@ pub fn normalise(input: &[u8]) -> Result<Vec<u8>, Fault> {
 ///
 /// # Errors
 ///
-/// The fault of the first volume that has no image, at its offset in the flash image; 8 if the
-/// image has more than 268,435,456 bytes; 24 if memory runs out, which it can only if the image is
-/// within this limit.
+/// The fault of the first volume that has no canonical image, with its offset in the flash image; 8
+/// if the flash image has more than 268,435,456 bytes; 24 if memory runs out, which can happen only
+/// if the flash image is within this limit.
 pub fn normalise_image(image: &[u8]) -> Result<Vec<u8>, Fault> {
     self::image(raw::fv_normalise_image, image)
 }
 
-/// Whether the input is a volume that is its own canonical image. It is not if it has none.
+/// Returns whether the input volume is its own canonical image. A volume that has no canonical
+/// image is not.
 ///
 /// # Errors
 ///
-/// The first fault if the input is no volume, 1 to 21, or 24.
+/// The first fault if the input is not a volume, 1 to 21, or 24.
 pub fn is_canonical(input: &[u8]) -> Result<bool, Fault> {
     read(raw::fv_is_canonical, input).map(|canonical: u32| canonical == 1)
 }
 
-/// What is said of each volume that [`scan`] finds in a flash image, in order. A volume that is
-/// rejected has its fault there. One that has no canonical image, since it does not fit, is not
-/// canonical.
+/// Checks each volume that [`scan`] finds in a flash image, and returns the results in the order of
+/// the volumes. The result for a rejected volume has its fault. A volume that has no canonical
+/// image, since it does not fit, is not canonical.
 ///
 /// ```
 /// # include!(concat!(env!("CARGO_MANIFEST_DIR"), "/tests/sample/volumes.rs"));
@@ -288,14 +294,14 @@ pub fn is_canonical(input: &[u8]) -> Result<bool, Fault> {
 ///
 /// # Errors
 ///
-/// 8 if the image has more than 268,435,456 bytes; 24 if memory runs out, which it can only if a
-/// volume begins in an image within this limit.
+/// 8 if the image has more than 268,435,456 bytes; 24 if memory runs out, which can happen only if
+/// a volume begins in an image within this limit.
 pub fn check_image(image: &[u8]) -> Result<Rows<VolumeCheck>, Fault> {
     rows(raw::fv_check_image, image)
 }
 
-/// The SHA-256 digest of the canonical image of the volume that the input is. Volumes that mean the
-/// same have the same digest.
+/// Returns the SHA-256 digest of the canonical image of the input volume. Volumes with the same
+/// meaning have the same digest.
 ///
 /// ```
 /// # include!(concat!(env!("CARGO_MANIFEST_DIR"), "/tests/sample/volumes.rs"));
@@ -322,7 +328,7 @@ pub struct Comparison {
     pub line: String,
 }
 
-/// Compares the meanings of two inputs that are volumes.
+/// Compares the meanings of two volumes.
 ///
 /// ```
 /// # include!(concat!(env!("CARGO_MANIFEST_DIR"), "/tests/sample/volumes.rs"));
@@ -337,11 +343,12 @@ pub struct Comparison {
 ///
 /// # Errors
 ///
-/// The first fault of the input that [`Fault::subject`] names, 1 to 21, or 24. It is the second
-/// only if the first is a volume. 24 has the first if memory runs out while the two are compared.
+/// The first fault of the input that [`Fault::subject`] names, 1 to 21, or 24. It names the second
+/// input only if the first is a volume. If memory runs out while the two are compared, it names the
+/// first.
 pub fn compare(first: &[u8], second: &[u8]) -> Result<Comparison, Fault> {
     let (mut line, mut found) = ([0; LONGEST_LINE], raw::RawComparison::default());
-    // SAFETY: the inputs are what they are slices of, and the results are places of this function.
+    // SAFETY: the inputs are valid slices, and the results are variables of this function.
     let result = unsafe {
         raw::fv_compare(
             first.as_ptr(),
@@ -366,8 +373,8 @@ pub fn compare(first: &[u8], second: &[u8]) -> Result<Comparison, Fault> {
     })
 }
 
-/// The cells of the volume with which the bytes begin, in order: its files, pads, deleted files and
-/// free bytes.
+/// Returns the cells of the volume with which the bytes begin, in order: its files, pads, deleted
+/// files and free bytes.
 ///
 /// # Errors
 ///
@@ -377,8 +384,8 @@ pub fn cells(bytes: &[u8]) -> Result<Rows<Cell>, Fault> {
     rows(raw::fv_cells, bytes)
 }
 
-/// The files of the volume that the input is, in order. Pads are no files. A file that is marked
-/// for update is none either if its update is in the volume.
+/// Returns the files of the input volume, in order. Pads are not listed, nor is a file that is
+/// marked for update if its update is in the volume.
 ///
 /// ```
 /// # include!(concat!(env!("CARGO_MANIFEST_DIR"), "/tests/sample/volumes.rs"));
@@ -402,18 +409,18 @@ pub fn files(input: &[u8]) -> Result<Rows<File>, Fault> {
     rows(raw::fv_files, input)
 }
 
-/// The sections of a file of the volume that the input is, in preorder: each group is followed by
-/// the sections in it. The number of a section is its place there. `file` is the place of the file
-/// in what [`files`] returns. There are none if the data of the file are not sections. Those of a
-/// nested volume are not included: [`tree`] has them.
+/// Returns the sections of a file of the input volume, in preorder: each group is followed by the
+/// sections in it. The number of a section is its place in this order. `file` is the place of the
+/// file among those that [`files`] returns. There are no sections if the data of the file are not
+/// sections. The sections of a nested volume are not included: [`tree`] lists them.
 ///
 /// # Errors
 ///
-/// 257 if the volume has no such file ([`Fault::is_not_found`]). Else the first fault of the input,
-/// 1 to 21, or 24.
+/// 257 if the volume has no such file ([`Fault::is_not_found`]). Otherwise the first fault of the
+/// input, 1 to 21, or 24.
 pub fn sections(input: &[u8], file: usize) -> Result<Rows<Section>, Fault> {
-    // SAFETY: the input is what it is a slice of, the buffer is that of `filled`, and fv.h says
-    // what is written.
+    // SAFETY: the input is a valid slice, the buffer comes from `filled`, and the call writes what
+    // fv.h says.
     let raw = unsafe {
         filled(ROOM, Subject::Input, |buffer, length, count, fault| {
             raw::fv_sections(
@@ -430,11 +437,11 @@ pub fn sections(input: &[u8], file: usize) -> Result<Rows<Section>, Fault> {
     raw.map(Rows::new)
 }
 
-/// The whole tree of the volume that the input is: the volume, its files, their sections and, in
-/// the same way, each volume that a section holds. Each row is followed by the rows of what it
-/// holds, and the first is the volume itself. The bytes at an offset are as they are in the input, also
-/// those of a nested volume, whereas [`extract`] has its canonical image. It takes about as long as
-/// [`files`].
+/// Returns the whole tree of the input volume: the volume, its files, their sections and, in the
+/// same way, each volume that a section holds. Each row is followed by the rows of what it holds.
+/// The first row is the volume itself. The bytes at an offset are as stored in the input, also
+/// those of a nested volume, whereas [`extract`] returns its canonical image. Takes about as long
+/// as [`files`].
 ///
 /// ```
 /// # include!(concat!(env!("CARGO_MANIFEST_DIR"), "/tests/sample/volumes.rs"));
@@ -459,9 +466,9 @@ pub fn tree(input: &[u8]) -> Result<Rows<Node>, Fault> {
     rows(raw::fv_tree, input)
 }
 
-/// A SHA-256 digest for each row of [`tree`], in the same order: of a volume that of its canonical
-/// image, of a file that of its data as the canonical image has them, of a section that holds bytes
-/// that of its body. `None` for a section that holds sections or a volume.
+/// Returns the SHA-256 digest for each row of [`tree`], in the same order. A volume's digest covers
+/// its canonical image, a file's digest its data in that image, and the digest of a section that
+/// holds bytes its body. A section that holds sections or a volume has `None`.
 ///
 /// ```
 /// # include!(concat!(env!("CARGO_MANIFEST_DIR"), "/tests/sample/volumes.rs"));
@@ -483,22 +490,22 @@ pub fn list_sums(input: &[u8]) -> Result<Rows<Option<[u8; 32]>>, Fault> {
     rows(raw::fv_list_sums, input)
 }
 
-/// What [`extract`] takes of a file.
+/// The part of a file that [`extract`] returns.
 #[derive(Clone, Copy, Debug, PartialEq, Eq, Hash)]
 pub enum Part {
     /// All its data.
     Data,
-    /// The body of the section of this number. No section has the number 2^64 - 1.
+    /// The body of the section with this number. No section has the number 2^64 - 1.
     Section(usize),
 }
 
-/// The data of a file of the volume that the input is, or the body of one of its sections. `file`
-/// is the place of the file in what [`files`] returns, and the number of a section its place in
-/// what [`sections`] returns.
+/// Returns the data of a file of the input volume, or the body of one of the file's sections.
+/// `file` is the place of the file among those that [`files`] returns, and the number of a section
+/// its place among those that [`sections`] returns.
 ///
 /// The bytes are those that the canonical image has: a volume in the part is its own canonical
-/// image, and the bytes between sections are 0. Plain data, and a section that holds bytes, are as
-/// they are in the input.
+/// image, and the bytes between sections are 0. Plain data, and the body of a section that holds
+/// bytes, are as they are in the input.
 ///
 /// ```
 /// # include!(concat!(env!("CARGO_MANIFEST_DIR"), "/tests/sample/volumes.rs"));
@@ -512,18 +519,17 @@ pub enum Part {
 ///
 /// # Errors
 ///
-/// 257 if the volume has no such file or section ([`Fault::is_not_found`]). Else the first fault of
-/// the input, 1 to 21; or that of a volume in the part that does not fit in its canonical form, 22
-/// or 23; or 24.
+/// 257 if the volume has no such file or section ([`Fault::is_not_found`]). Otherwise the first
+/// fault of the input, 1 to 21; or that of a volume in the part that does not fit in its canonical
+/// form, 22 or 23; or 24.
 pub fn extract(input: &[u8], file: usize, part: Part) -> Result<Vec<u8>, Fault> {
     let section = match part {
         Part::Data => u64::MAX,
         Part::Section(number) if number as u64 == u64::MAX => return Err(Fault::not_found()),
         Part::Section(number) => number as u64,
     };
-    // No part is longer than the volume. Memory that nothing is written to costs little. SAFETY:
-    // the input is what it is a slice of, the buffer is that of `filled`, and fv.h says what is
-    // written.
+    // No part is longer than the volume. Memory that is never written to costs little. SAFETY: the
+    // input is a valid slice, the buffer comes from `filled`, and the call writes what fv.h says.
     unsafe {
         filled(
             input.len(),
@@ -554,8 +560,8 @@ pub enum Phase {
     Dxe,
 }
 
-/// The truth value of a dependency expression of a phase when these GUIDs are installed. `None` for
-/// BEFORE and AFTER, which have none. Bytes after the END op are not looked at.
+/// Returns the truth value of a dependency expression of a phase if these GUIDs are installed, or
+/// `None` for BEFORE and AFTER, which have no truth value. Bytes after the END op are not read.
 ///
 /// ```
 /// let guid = fv::Guid::from_bytes([10; 16]);
@@ -566,11 +572,11 @@ pub enum Phase {
 ///
 /// # Errors
 ///
-/// The first fault by the numbers of dependency expressions: 1 to 5, or 6 if memory runs out.
+/// The first fault, by the numbers for dependency expressions: 1 to 5, or 6 if memory runs out.
 pub fn depex(bytes: &[u8], phase: Phase, installed: &[Guid]) -> Result<Option<bool>, Fault> {
     let (mut value, mut fault) = (0, RawFault::default());
-    // SAFETY: the bytes and the GUIDs are what they are slices of, and the results are places of
-    // this function.
+    // SAFETY: the bytes and the GUIDs are valid slices, and the results are variables of this
+    // function.
     let result = unsafe {
         raw::fv_depex(
             bytes.as_ptr(),
@@ -586,8 +592,8 @@ pub fn depex(bytes: &[u8], phase: Phase, installed: &[Guid]) -> Result<Option<bo
     Ok((value != 2).then_some(value == 1))
 }
 
-/// The blocks of the hand-off list with which the bytes begin, in order, and the number of bytes of
-/// the list.
+/// Returns the blocks of the hand-off list with which the bytes begin, in order, and the number of
+/// bytes of the list.
 ///
 /// ```
 /// let mut list = vec![0; 64];
@@ -600,11 +606,11 @@ pub fn depex(bytes: &[u8], phase: Phase, installed: &[Guid]) -> Result<Option<bo
 ///
 /// # Errors
 ///
-/// The first fault by the numbers of hand-off lists: 1 to 5, or 6 if memory runs out.
+/// The first fault, by the numbers for hand-off lists: 1 to 5, or 6 if memory runs out.
 pub fn hobs(bytes: &[u8]) -> Result<(Rows<Hob>, usize), Fault> {
     let consumed = std::cell::Cell::new(0);
-    // SAFETY: the bytes are what they are a slice of, the buffer is that of `filled`, and fv.h says
-    // what is written.
+    // SAFETY: the bytes are a valid slice, the buffer comes from `filled`, and the call writes what
+    // fv.h says.
     let raw = unsafe {
         filled(
             ROOM,

@@ -1,5 +1,5 @@
-//! The calls as `fv.h` declares them. The structures that they write are in the modules that return
-//! them.
+//! The declarations of `fv.h` in Rust. The structures that the calls write are in the modules that
+//! return them.
 
 use crate::fault::RawFault;
 use crate::rows::{Hob, RawCell, RawCheck, RawFile, RawNode, RawSection};
@@ -28,7 +28,7 @@ pub(crate) struct RawComparison {
     pub(crate) fault: RawFault,
 }
 
-// The sizes that fv.h and the proved crate assert.
+// fv.h and the proved crate assert the same sizes.
 const _: () = {
     assert!(size_of::<RawFault>() == 16 && size_of::<RawExtent>() == 32);
     assert!(size_of::<RawComparison>() == 32 && size_of::<[u8; 32]>() == 32);

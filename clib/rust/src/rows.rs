@@ -1,28 +1,28 @@
-//! What calls write in rows.
+//! The rows that the calls write, and the types of their values.
 
 use crate::fault::RawFault;
 use crate::{Fault, Guid};
 use std::fmt;
 use std::iter::Map;
 
-/// What comes in [`Rows`]. No other type can implement it.
+/// A type of values that come in [`Rows`]. Types outside this crate cannot implement it.
 pub trait Row: Sized + sealed::Raw {}
 
 mod sealed {
-    /// How a row lies in memory, and what is made of it.
+    /// The form of a row in memory, and the value that is made from it.
     pub trait Raw: Sized {
         /// The structure of `fv.h`.
         type Raw: Copy;
 
-        /// What is made of it.
+        /// Makes the value.
         fn made(raw: &Self::Raw) -> Self;
     }
 }
 
 pub(crate) use sealed::Raw;
 
-/// The rows that a call has written, in order. Each is made when it is looked at: there is no
-/// second list.
+/// The rows that a call has written, in order. A value is made when you access its row, so there is
+/// no second list.
 ///
 /// ```
 /// # include!(concat!(env!("CARGO_MANIFEST_DIR"), "/tests/sample/volumes.rs"));
@@ -45,7 +45,7 @@ pub struct Rows<T: Row> {
 /// An iterator over rows.
 pub type Iter<'r, T> = Map<std::slice::Iter<'r, <T as Raw>::Raw>, fn(&'r <T as Raw>::Raw) -> T>;
 
-/// An iterator over rows that it has for itself.
+/// An iterator that owns its rows.
 pub type IntoIter<T> = Map<std::vec::IntoIter<<T as Raw>::Raw>, fn(<T as Raw>::Raw) -> T>;
 
 impl<T: Row> Rows<T> {
@@ -53,22 +53,22 @@ impl<T: Row> Rows<T> {
         Rows { raw }
     }
 
-    /// How many there are.
+    /// Returns the number of rows.
     pub fn len(&self) -> usize {
         self.raw.len()
     }
 
-    /// Whether there are none.
+    /// Returns whether there are no rows.
     pub fn is_empty(&self) -> bool {
         self.raw.is_empty()
     }
 
-    /// The row of a number, from 0.
+    /// Returns the row with this number, counted from 0, if there is one.
     pub fn get(&self, number: usize) -> Option<T> {
         self.raw.get(number).map(T::made)
     }
 
-    /// Goes over the rows, in order.
+    /// Returns an iterator over the rows, in order.
     pub fn iter(&self) -> Iter<'_, T> {
         self.raw.iter().map(T::made as fn(&T::Raw) -> T)
     }
@@ -117,8 +117,8 @@ impl Raw for usize {
     }
 }
 
-/// A SHA-256 digest, as [`list_sums`](crate::list_sums) has it for a row of the tree. `None` for a
-/// section that holds sections or a volume.
+/// The SHA-256 digest that [`list_sums`](crate::list_sums) returns for a row of the tree. `None`
+/// for a section that holds sections or a volume.
 impl Row for Option<[u8; 32]> {}
 
 impl Raw for Option<[u8; 32]> {
@@ -129,14 +129,14 @@ impl Raw for Option<[u8; 32]> {
     }
 }
 
-/// A volume of a flash image, and what is said of it.
+/// A volume of a flash image, and the result of its check.
 #[derive(Clone, Copy, Debug, PartialEq, Eq, Hash)]
 pub struct VolumeCheck {
     /// Its offset in bytes from the first byte of the image.
     pub offset: usize,
     /// The number of its bytes.
     pub length: usize,
-    /// The fault with which it is rejected, at its offset in the image.
+    /// The fault with which it is rejected, with the offset in the image.
     pub fault: Option<Fault>,
     /// Whether it is its own canonical image.
     pub canonical: bool,
@@ -173,24 +173,24 @@ impl Raw for VolumeCheck {
 #[derive(Clone, Copy, Debug, PartialEq, Eq, Hash)]
 #[non_exhaustive]
 pub enum What {
-    /// A valid file, also one that is superseded.
+    /// A valid file, even if it is superseded.
     File,
     /// A pad file.
     Pad,
-    /// A file that was deleted.
+    /// A deleted file.
     Deleted,
     /// A file whose data or header were never finished.
     Unfinished,
-    /// Erased bytes up to the volume's end.
+    /// Erased bytes up to the end of the volume.
     Free,
 }
 
-/// A cell of a volume's body, as it is stored. A field that the cell does not have is 0.
+/// A cell of a volume's body, as stored. A field that the cell does not have is 0.
 #[derive(Clone, Copy, Debug, PartialEq, Eq, Hash)]
 pub struct Cell {
     /// Its offset in bytes from the volume's first byte.
     pub offset: usize,
-    /// The number of its bytes; of a file or a pad without the filler after it.
+    /// The number of its bytes; for a file or a pad, without the filler after it.
     pub len: usize,
     /// The number of bytes of the header of a file or a pad. Its data are at `offset + header_len`.
     pub header_len: usize,
@@ -246,11 +246,11 @@ impl Raw for Cell {
 /// A file of a volume.
 #[derive(Clone, Copy, Debug, PartialEq, Eq, Hash)]
 pub struct File {
-    /// Its data are at this offset of the input.
+    /// The offset of its data in the input.
     pub data_offset: usize,
     /// The number of bytes of its data.
     pub data_len: usize,
-    /// The number of its sections, those in groups included; 0 if its data are not sections.
+    /// The number of its sections, including those in groups; 0 if its data are not sections.
     pub sections: usize,
     /// `Type`.
     pub kind: u8,
@@ -290,15 +290,15 @@ impl Raw for File {
     }
 }
 
-/// What a section holds, or a [`Node`].
+/// What a section or a [`Node`] holds.
 #[derive(Clone, Copy, Debug, PartialEq, Eq, Hash)]
 #[non_exhaustive]
 pub enum Holds {
-    /// Files: it is a volume. No section has this.
+    /// Files: the node is a volume. No section has this value.
     Files,
     /// Bytes.
     Bytes,
-    /// Sections: it is a group.
+    /// Sections: it is a group, or a file whose data are sections.
     Sections,
     /// A volume.
     Volume,
@@ -320,7 +320,7 @@ impl Holds {
 pub struct Section {
     /// The number of bytes of its body.
     pub len: usize,
-    /// The number of the group that it is in; `None` if it is in none.
+    /// The number of the group that it is in; `None` if it is not in a group.
     pub parent: Option<usize>,
     /// The number of groups around it.
     pub depth: usize,
@@ -378,11 +378,11 @@ pub enum NodeWhat {
 /// A volume, a file or a section of the tree of a volume.
 #[derive(Clone, Copy, Debug, PartialEq, Eq, Hash)]
 pub struct Node {
-    /// Its data, its body, or the volume itself, are at this offset of the input, as stored.
+    /// The offset in the input of the file's data, the section's body or the volume, as stored.
     pub offset: usize,
-    /// The number of their bytes; of a volume `FvLength`.
+    /// The number of these bytes; for a volume `FvLength`.
     pub len: usize,
-    /// The number of the row that holds it; `None` of the first.
+    /// The number of the row that holds it; `None` for the first row.
     pub parent: Option<usize>,
     /// The number of rows around it.
     pub depth: usize,
@@ -390,15 +390,16 @@ pub struct Node {
     pub number: usize,
     /// What it is.
     pub what: NodeWhat,
-    /// `Type` of a file or a section; 0 of a volume.
+    /// `Type` of a file or a section; 0 for a volume.
     pub kind: u8,
-    /// `Attributes` of a file without bit 0x01: then its header has 32 bytes. 0 of all others.
+    /// `Attributes` of a file without bit 0x01, in place of which `header_len` is 32; otherwise 0.
     pub attributes: u8,
-    /// `HeaderLength` of a volume; 24 or 32 of a file, 4 or 8 of a section, both before the offset.
+    /// `HeaderLength` of a volume; 24 or 32 for a file, 4 or 8 for a section. The header of a file
+    /// or a section is before the offset.
     pub header_len: usize,
     /// What it holds.
     pub holds: Holds,
-    /// `FileSystemGuid` of a volume, `Name` of a file; `None` of a section.
+    /// `FileSystemGuid` of a volume, `Name` of a file; `None` for a section.
     pub guid: Option<Guid>,
 }
 
@@ -452,9 +453,9 @@ impl Raw for Node {
 #[repr(C)]
 #[derive(Clone, Copy, Debug, PartialEq, Eq, Hash)]
 pub struct Hob {
-    /// The base address of the volume that an FV or FV2 block describes, else 0.
+    /// The base address of the volume that an FV or FV2 block describes, otherwise 0.
     pub base: u64,
-    /// The number of bytes of that volume, else 0.
+    /// The number of bytes of that volume, otherwise 0.
     pub length: u64,
     /// `HobType`.
     pub code: u32,
