@@ -8,8 +8,8 @@ pub use Rattle.fv_head.specs.Words.{BeginsWithHeader}
 use Rattle.fv_head.specs.declared.extent.Extent.{Extent}
 use Rattle.fv_c.specs.declared.reports.FvExtent.{FvExtent}
 use Rattle.fv_c.specs.declared.reports.FvFault.{FvFault}
-use Rattle.fv_compare.specs.Words.{compare_line, difference}
-use Rattle.fv_tree.specs.Words.{Meaning}
+use Rattle.fv_compare.specs.Words.{compare_line}
+use Rattle.fv_tree.specs.Words.{Meaning, difference}
 use Rattle.fv_c.specs.declared.compare.FvComparison.{FvComparison}
 
 -- the number of a file system: 2 for FFS2, 3 for FFS3

@@ -3,8 +3,8 @@
 ghost use Rattle.std.specs.Prelude.{◌≡◌, ◌≢◌, ◌⊎◌, ◌↔◌, ◌<◌, ◌++◌, length, drop, true, IfOk, IfErr};
 ghost use Rattle.fv_base.specs.Words.{OrMemory, fault_number, out_of_memory};
 ghost use Rattle.fv_base.specs.declared.fault.Fault.{Fault};
-ghost use Rattle.fv_compare.specs.Words.{compare_line, difference};
-ghost use Rattle.fv_tree.specs.Words.{NotRead, Accepted, Meaning};
+ghost use Rattle.fv_compare.specs.Words.{compare_line};
+ghost use Rattle.fv_tree.specs.Words.{NotRead, Accepted, Meaning, difference};
 ghost use Rattle.fv_c.specs.Reports.{IsReported, reported_stop, BeginsWithHeader};
 
 use crate::buffer::put_all;

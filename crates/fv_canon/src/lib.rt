@@ -1,6 +1,6 @@
 //! Computes the canonical image of a firmware volume and its layout, which says where the files of
 //! the image begin. It does the same for each volume of a flash image, and writes images to a port.
-//! The calls of `fv_compare` compare two volumes. `whole_volume` comes from fv_tree. The calls of
+//! `whole_volume` comes from fv_tree, and `run_compare` and `Side` from fv_compare. The calls of
 //! the modules `headline` and `further_laws` do nothing: their contracts are laws, among them the
 //! headline.
 #![tactic(auto)]
@@ -28,6 +28,7 @@ pub use canonical_input::{is_canonical, is_canonical_image};
 pub use flash_image::{
     LaidImage, lay_out_image, normalise_image, put_laid_image, write_normalised_image,
 };
+pub use fv_compare::{Side, run_compare};
 pub use fv_tree::whole_volume;
 pub use image_check::{VolumeCheck, VolumeOutcome, check_image};
 pub use known_layout::Layout;

@@ -11,10 +11,10 @@ use Rattle.fv_command.specs.declared.ending.Refusal.TheVariants.{Input, OneOfTwo
 use Rattle.fv_text.specs.Words.{Change}
 use Rattle.fv_command.specs.declared.status.Status.{Status}
 use Rattle.fv_command.specs.declared.status.Status.TheVariants.{Done, Different}
-use Rattle.fv_compare.specs.Words.{VolumeStops, compare_line, difference}
+use Rattle.fv_compare.specs.Words.{VolumeStops, compare_line}
 use Rattle.fv_compare.specs.declared.side.Side.{Side}
 use Rattle.fv_compare.specs.declared.side.Side.TheVariants as sides
-use Rattle.fv_tree.specs.Words.{Accepted, Meaning}
+use Rattle.fv_tree.specs.Words.{Accepted, Meaning, difference}
 
 -- if there is a base, an image was read to its end; otherwise nothing was read, and the image has no bytes
 abbrev pub GivesImage : Bool → Option ℕ → Change → List ℕ → Type 0

@@ -5,7 +5,7 @@ use Rattle.std.proofs.Common.{length-append, append_assoc, append-nil}
 use Rattle.std.specs.Prelude.{codes}
 use Rattle.std.proofs.lemmas.List.{take_more, take_all}
 use Rattle.fv_compare.specs.Words.{path_text, step_text}
-use Rattle.fv_compare.specs.declared.difference.Step.{Step}
+use Rattle.fv_tree.specs.declared.difference.Step.{Step}
 use Rattle.fv_text.specs.Words.{line_feed}
 
 -- a step is short, since its number is

@@ -1,6 +1,2 @@
 pub mod CompareLaws
 pub mod ComparisonLineLaws
-pub mod DifferenceLaws
-pub mod DifferenceWalkLaws
-pub mod FewStepLaws
-pub mod Laws

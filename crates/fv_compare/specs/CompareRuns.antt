@@ -3,9 +3,8 @@ use Rattle.std.specs.Prelude.{ℕ, ◌≡◌, List, Option, ◌⊎◌, ◌≢◌
 use Rattle.std.specs.Io.KnownBytes.{Appends, Keeps}
 use Rattle.fv_base.specs.Words.{out_of_memory, ReadsWhole, ReadStops, WriteStops}
 use Rattle.fv_base.specs.declared.fault.Fault.{Fault}
-use Rattle.fv_tree.specs.Words.{Accepted, MemoryRanOut, NotRead, Meaning}
+use Rattle.fv_tree.specs.Words.{Accepted, MemoryRanOut, NotRead, Meaning, difference}
 use Rattle.fv_compare.specs.ComparisonLines.{compare_line}
-use Rattle.fv_compare.specs.Difference.{difference}
 use Rattle.fv_compare.specs.declared.side.Side.{Side}
 use Rattle.fv_compare.specs.declared.side.Side.TheVariants as sides
 

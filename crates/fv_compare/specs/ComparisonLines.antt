@@ -1,11 +1,11 @@
 -- The line of a comparison.
 use Rattle.std.specs.Prelude.{List, [], ◌∷◌, ◌++◌, ℕ, codes, decimal, Some, None}
 use Rattle.fv_text.specs.Words.{line_feed}
-use Rattle.fv_compare.specs.Difference.{Differs}
-use Rattle.fv_compare.specs.declared.difference.Step.{Step}
-use Rattle.fv_compare.specs.declared.difference.Step.TheVariants as steps
-use Rattle.fv_compare.specs.declared.difference.Word.{Word}
-use Rattle.fv_compare.specs.declared.difference.Word.TheVariants as words
+use Rattle.fv_tree.specs.Words.{Differs}
+use Rattle.fv_tree.specs.declared.difference.Step.{Step}
+use Rattle.fv_tree.specs.declared.difference.Step.TheVariants as steps
+use Rattle.fv_tree.specs.declared.difference.Word.{Word}
+use Rattle.fv_tree.specs.declared.difference.Word.TheVariants as words
 
 -- the text of a step, followed by a space
 abbrev pub step_text : Step → List ℕ

@@ -5,14 +5,12 @@ ghost use Rattle.std.specs.Prelude.{IfOk, IfErr, OnOk, OnErr};
 ghost use Rattle.fv_base.specs.Words.{out_of_memory, ReadsWhole, ReadStops, inner_of, has_erred};
 ghost use Rattle.fv_compare.specs.CompareRuns.{Compares, ComparisonStops, RunCompares, SideStopsRun, VolumeStops};
 ghost use Rattle.fv_compare.specs.ComparisonLines.{compare_line};
-ghost use Rattle.fv_tree.specs.Words.{Accepted};
-ghost use Rattle.fv_compare.specs.Difference.{difference};
+ghost use Rattle.fv_tree.specs.Words.{Accepted, difference};
 
 use crate::comparison_line::put_line;
-use crate::difference::first_difference;
 use crate::side::Side;
 use fv_base::{Fault, FaultKind, Port, Sink, WriteSink, read_input};
-use fv_tree::{VolumeView, whole_volume};
+use fv_tree::{VolumeView, first_difference, whole_volume};
 use std::alloc::Global;
 use std::io::{Read, Write};
 

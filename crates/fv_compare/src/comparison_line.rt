@@ -3,9 +3,9 @@
 ghost use Rattle.std.specs.Prelude.{◌≤◌, ◌+◌, ◌*◌, ◌≡◌, length, option_copied, Some, IfSome};
 ghost use Rattle.fv_compare.specs.ComparisonLines.{compare_line, path_text, step_text, difference_word};
 
-use crate::difference::{Difference, Step, Word};
 use fv_base::Sink;
 use fv_text::put_decimal;
+use fv_tree::{Difference, Step, Word};
 
 // Puts a step: `file` or `section`, its number, and a space.
 fn put_step<S: Sink>(out: &mut S, step: Step)

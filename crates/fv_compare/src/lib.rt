@@ -1,13 +1,11 @@
-//! Where two firmware volumes first differ: as a value, as a line, and by a run that reads two
-//! inputs. All calls take memory, except the methods of `Difference`.
+//! Compares two firmware volumes: by a line that shows where they first differ, and by a run that
+//! reads two inputs. The first difference as a value is `first_difference` of fv_tree. All calls
+//! take memory.
 #![tactic(auto)]
 
 mod compare;
 mod comparison_line;
-mod difference;
-mod head_difference;
 mod side;
 
 pub use compare::{put_comparison, run_compare, write_comparison};
-pub use difference::{Difference, Step, Word, first_difference};
 pub use side::Side;

@@ -9,12 +9,12 @@ pub use Rattle.fv_tree.proofs.LengthLaws.{AsLong, stream_long, section_long, bod
 -- a volume has fewer files than bytes
 pub use Rattle.fv_tree.proofs.FileCountLaws.{few_files, few_of}
 -- what is in a list is smaller than the list
-pub use Rattle.fv_tree.proofs.SizeLaws.{section_falls, body_falls, section_body_falls, file_falls, content_falls}
+pub use Rattle.fv_tree.proofs.SizeLaws.{section_falls, section_body_falls, file_falls, content_falls}
 pub use Rattle.fv_tree.proofs.SizeLaws.{file_content_falls}
 -- the volumes in a section and in a file
 pub use Rattle.fv_tree.proofs.DepthLaws.{in_section, in_file}
 -- what is inside something that was read nests one level less deep
-pub use Rattle.fv_tree.proofs.DepthLaws.{nests_files, nests_content, nests_sections, nests_body, nests_group, nests_nested}
+pub use Rattle.fv_tree.proofs.DepthLaws.{nests_files, nests_body, nests_group, nests_nested}
 -- ---- a volume
 
 -- a volume that bytes begin with has its header there
@@ -48,3 +48,9 @@ pub use Rattle.fv_tree.proofs.WholeInputLaws.{IsOfInput, input_kind, stood_kind}
 pub use Rattle.fv_tree.proofs.LocatedLaws.{volume_files, one_files, begun_data}
 -- it is decided: one of the two holds
 pub use Rattle.fv_tree.proofs.DecidedLaws.{volume_decided, input_decided}
+-- ---- where two meanings first differ
+
+-- two meanings differ nowhere exactly where they are one
+pub use Rattle.fv_tree.proofs.DifferenceLaws.{one_volume, no_difference}
+-- a first difference is few steps down
+pub use Rattle.fv_tree.proofs.FewStepLaws.{few_steps}

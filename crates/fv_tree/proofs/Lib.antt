@@ -1,9 +1,12 @@
 pub mod BodyLaws
 pub mod DecidedLaws
 pub mod DepthLaws
+pub mod DifferenceLaws
+pub mod DifferenceWalkLaws
 pub mod FaultKindLaws
 pub mod FaultLaws
 pub mod FaultPlaceLaws
+pub mod FewStepLaws
 pub mod FileCountLaws
 pub mod FirstLaws
 pub mod Laws

@@ -12,5 +12,6 @@ pub mod FileNames
 pub mod LookupInstances
 pub mod SectionWalks
 pub mod Views
+pub mod Difference
 pub mod Words
 pub mod inner

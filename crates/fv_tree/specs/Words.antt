@@ -27,3 +27,6 @@ pub use Rattle.fv_tree.specs.LookupInstances.{inside_section, inside_body, of_ty
 pub use Rattle.fv_tree.specs.LookupInstances.{frame_of_type, SeesSection, SeesFrame, IsNotSectioned}
 pub use Rattle.fv_tree.specs.SectionWalks.{left_in, NestsAt, AreLevels}
 pub use Rattle.fv_tree.specs.Views.{sections_of, parts_view, HasLength, body_view, content_view}
+pub use Rattle.fv_tree.specs.Difference.{is_ffs3, blocks_eq, entries_eq, ext_eq, Differs, has_steps, differ_in}
+pub use Rattle.fv_tree.specs.Difference.{unless_one, under, head_differs, difference, files_differ, file_differs}
+pub use Rattle.fv_tree.specs.Difference.{content_differs, sections_differ, section_differs, body_differs}

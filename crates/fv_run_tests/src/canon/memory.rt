@@ -5,11 +5,10 @@ use crate::row_bytes::{bytes_in_two_tries, number_of};
 use crate::volumes::row_of;
 use fv_base::{ByteList, Fault, FaultKind, Port};
 use fv_canon::{
-    Layout, VolumeCheck, VolumeOutcome, body_bytes, canonical, check_image, file_bytes,
-    is_canonical, layout, normalise, normalise_image, run_normalise, write_canonical,
+    Layout, Side, VolumeCheck, VolumeOutcome, body_bytes, canonical, check_image, file_bytes,
+    is_canonical, layout, normalise, normalise_image, run_compare, run_normalise, write_canonical,
     write_normalised_image,
 };
-use fv_compare::{Side, run_compare};
 use fv_tree::{FileView, Item, Lookup, VolumeView, read_volume, section_by_type};
 use std::alloc::Global;
 

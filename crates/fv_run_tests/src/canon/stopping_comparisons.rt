@@ -3,7 +3,7 @@
 use crate::fakes::{FakeReader, FakeWriter, InterruptedReader, SpaceReader};
 use crate::row_bytes::bytes_of;
 use fv_base::{Fault, FaultKind, Port};
-use fv_compare::{Side, run_compare};
+use fv_canon::{Side, run_compare};
 use std::alloc::Global;
 use std::io::Read;
 

@@ -1,6 +1,6 @@
 use Rattle.std.proofs.Common.{◌≡◌, ◌∙◌, ◌≤◌, ◌↔◌, ◌++◌, ℕ, Bool, List, ap, arith, drop, length, refl, rules, sym, true}
-use Rattle.fv_compare.specs.Words.{compare_line, difference}
-use Rattle.fv_tree.specs.Words.{Meaning}
+use Rattle.fv_compare.specs.Words.{compare_line}
+use Rattle.fv_tree.specs.Words.{Meaning, difference}
 use Rattle.fv_c.specs.Reports.{IsReported, no_fault}
 use Rattle.fv_c.proofs.compare.report.Goals as goal
 

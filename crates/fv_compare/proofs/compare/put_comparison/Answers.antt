@@ -1,7 +1,7 @@
 use Rattle.std.proofs.Common.{◌≤◌, ◌∙◌, length, subst, sym}
 use Rattle.std.specs.Prelude.{IfSome}
-use Rattle.fv_compare.specs.Words.{Differs}
-use Rattle.fv_compare.proofs.FewStepLaws.{few_steps}
+use Rattle.fv_tree.specs.Words.{Differs}
+use Rattle.fv_tree.proofs.Laws.{few_steps}
 use Rattle.fv_compare.proofs.compare.put_comparison.Goals as goal
 
 pub put_line-requires : goal.put_line-requires

@@ -1,6 +1,6 @@
 use Rattle.std.proofs.Common.{ℕ, List, arith, subst, sym}
-use Rattle.fv_compare.specs.declared.difference.Step.{Step}
-use Rattle.fv_compare.specs.declared.difference.Step.TheVariants as steps
+use Rattle.fv_tree.specs.declared.difference.Step.{Step}
+use Rattle.fv_tree.specs.declared.difference.Step.TheVariants as steps
 use Rattle.fv_compare.proofs.ComparisonLineLaws.{path_next, path_short, path_whole, path_ends}
 use Rattle.fv_compare.proofs.comparison_line.put_path.Goals as goal
 

@@ -6,13 +6,13 @@ use Rattle.std.specs.Prelude.{◌==◌, ◌&&◌}
 use Rattle.std.specs.Option.{option_or}
 use Rattle.std.specs.Str.{bytes_eq}
 use Rattle.fv_head.specs.Words.{HeadFields}
-use Rattle.fv_compare.specs.Words.{Differs, has_steps, differ_in, entries_eq, head_differs, difference, files_differ, sections_differ}
-use Rattle.fv_compare.specs.declared.difference.Step.{Step}
-use Rattle.fv_compare.specs.declared.difference.Word.{Word}
-use Rattle.fv_compare.specs.inner.FoundDifferences.{in_word, outermost_first}
-use Rattle.fv_compare.specs.declared.difference.Word.TheVariants as words
+use Rattle.fv_tree.specs.Words.{Differs, has_steps, differ_in, entries_eq, head_differs, difference, files_differ, sections_differ}
+use Rattle.fv_tree.specs.declared.difference.Step.{Step}
+use Rattle.fv_tree.specs.declared.difference.Word.{Word}
+use Rattle.fv_tree.specs.inner.FoundDifferences.{in_word, outermost_first}
+use Rattle.fv_tree.specs.declared.difference.Word.TheVariants as words
 use Rattle.fv_tree.specs.Words.{Meaning, Volume, FileMeaning, SectionMeaning, head_of, files_from, sections_from}
-use Rattle.fv_compare.proofs.DifferenceLaws.{no_difference}
+use Rattle.fv_tree.proofs.DifferenceLaws.{no_difference}
 
 -- ---- the first of two
 

@@ -3,16 +3,17 @@
 ghost use Rattle.std.specs.Prelude.{◌≡◌, ◌≢◌, ◌==◌, true, Some, IfOk, IfErr, IfSome, IfNone};
 ghost use Rattle.std.specs.Option.{option_or};
 ghost use Rattle.fv_base.specs.Words.{out_of_memory};
-ghost use Rattle.fv_compare.specs.Difference.{has_steps, differ_in, unless_one, under};
-ghost use Rattle.fv_compare.specs.inner.FoundDifferences.{outermost_first, ReturnsDifference};
-ghost use Rattle.fv_compare.specs.Difference.{difference, files_differ, file_differs, content_differs};
-ghost use Rattle.fv_compare.specs.Difference.{sections_differ, section_differs, body_differs};
-ghost use Rattle.fv_compare.specs.declared.difference.Word.TheVariants as words;
-ghost use Rattle.fv_tree.specs.Words.{files_from, sections_from, content_view, body_view};
+ghost use Rattle.fv_tree.specs.Difference.{has_steps, differ_in, unless_one, under};
+ghost use Rattle.fv_tree.specs.inner.FoundDifferences.{outermost_first, ReturnsDifference};
+ghost use Rattle.fv_tree.specs.Difference.{difference, files_differ, file_differs, content_differs};
+ghost use Rattle.fv_tree.specs.Difference.{sections_differ, section_differs, body_differs};
+ghost use Rattle.fv_tree.specs.declared.difference.Word.TheVariants as words;
+ghost use Rattle.fv_tree.specs.MeaningParts.{files_from, sections_from};
+ghost use Rattle.fv_tree.specs.Views.{content_view, body_view};
 
 use crate::head_difference::head_word;
+use crate::view::{Body, Content, FileView, SectionView, VolumeView};
 use fv_base::Fault;
-use fv_tree::{Body, Content, FileView, SectionView, VolumeView};
 use std::alloc::Global;
 use std::marker::Model;
 
@@ -76,8 +77,8 @@ pub struct Difference {
 
 impl Model for Difference {
     ghost use Rattle.std.specs.Prelude.{List};
-    ghost use Rattle.fv_compare.specs.declared.difference.Step.{Step};
-    ghost use Rattle.fv_compare.specs.declared.difference.Word.{Word};
+    ghost use Rattle.fv_tree.specs.declared.difference.Step.{Step};
+    ghost use Rattle.fv_tree.specs.declared.difference.Word.{Word};
 
     ghost Value = { List Step × Word };
 

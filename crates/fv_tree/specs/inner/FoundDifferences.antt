@@ -2,8 +2,8 @@
 use Rattle.std.specs.Prelude.{◌≡◌, Result, Ok, Err, reverse, true, Option, Some, None}
 use Rattle.fv_base.specs.Words.{out_of_memory}
 use Rattle.fv_base.specs.declared.fault.Fault.{Fault}
-use Rattle.fv_compare.specs.Difference.{Differs, differ_in, has_steps}
-use Rattle.fv_compare.specs.declared.difference.Word.{Word}
+use Rattle.fv_tree.specs.Difference.{Differs, differ_in, has_steps}
+use Rattle.fv_tree.specs.declared.difference.Word.{Word}
 
 -- a difference of this kind, if there is one
 abbrev pub in_word : Option Word → Differs

@@ -1,10 +1,10 @@
 use Rattle.std.proofs.lemmas.Grind.{common_steps}
 use Rattle.std.proofs.Common.{sym, ap, ◌∙◌, arith}
 use Rattle.fv_base.proofs.Laws.{err_is}
-use Rattle.fv_compare.specs.inner.FoundDifferences.{outermost_first}
-use Rattle.fv_compare.proofs.DifferenceLaws.{one_volume}
-use Rattle.fv_compare.proofs.DifferenceWalkLaws.{steps_differ, differ_told}
-use Rattle.fv_compare.proofs.difference.first_difference.Goals as goal
+use Rattle.fv_tree.specs.inner.FoundDifferences.{outermost_first}
+use Rattle.fv_tree.proofs.DifferenceLaws.{one_volume}
+use Rattle.fv_tree.proofs.DifferenceWalkLaws.{steps_differ, differ_told}
+use Rattle.fv_tree.proofs.difference.first_difference.Goals as goal
 
 pub returns-in_err-found-clause-memory : goal.returns-in_err-found-clause-memory
 returns-in_err-found-clause-memory c =

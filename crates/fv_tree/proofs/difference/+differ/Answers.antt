@@ -1,11 +1,11 @@
 use Rattle.std.proofs.Common.{◌≡◌, ◌+◌, ◌==◌, sym, ap, ◌∙◌, arith}
-use Rattle.fv_compare.specs.Words.{unless_one}
-use Rattle.fv_compare.specs.declared.difference.Word.TheVariants as words
+use Rattle.fv_tree.specs.Words.{unless_one}
+use Rattle.fv_tree.specs.declared.difference.Word.TheVariants as words
 use Rattle.fv_tree.specs.Words.{files_from, sections_from, content_view, body_view}
 use Rattle.fv_tree.specs.inner.Sizes.{volume_size, files_size, content_size, sections_size, body_size}
-use Rattle.fv_compare.proofs.DifferenceWalkLaws.{files_uneven, sections_uneven, volume_word}
-use Rattle.fv_tree.proofs.Laws.{section_falls, body_falls, file_falls, content_falls}
-use Rattle.fv_compare.proofs.difference.+differ.Goals as goal
+use Rattle.fv_tree.proofs.DifferenceWalkLaws.{files_uneven, sections_uneven, volume_word}
+use Rattle.fv_tree.proofs.SizeLaws.{section_falls, body_falls, file_falls, content_falls}
+use Rattle.fv_tree.proofs.difference.+differ.Goals as goal
 
 -- ---- what is compared is smaller
 

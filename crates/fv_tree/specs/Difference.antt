@@ -8,13 +8,13 @@ use Rattle.std.specs.Bool.{beq}
 use Rattle.std.specs.Option.{option_eq, option_or}
 use Rattle.std.specs.Str.{bytes_eq}
 use Rattle.fv_head.specs.Words.{Extension, HeadFields}
-use Rattle.fv_tree.specs.Words.{Meaning, Volume, FileMeanings, NoFiles, MoreFiles, FileMeaning, File, ContentMeaning}
-use Rattle.fv_tree.specs.Words.{Plain, Sectioned, SectionMeanings, NoSections, MoreSections, SectionMeaning, Section}
-use Rattle.fv_tree.specs.Words.{BodyMeaning, Leaf, Group, Nested}
-use Rattle.fv_compare.specs.declared.difference.Step.{Step}
-use Rattle.fv_compare.specs.declared.difference.Step.TheVariants as steps
-use Rattle.fv_compare.specs.declared.difference.Word.{Word}
-use Rattle.fv_compare.specs.declared.difference.Word.TheVariants as words
+use Rattle.fv_tree.specs.Meaning.{Meaning, Volume, FileMeanings, NoFiles, MoreFiles, FileMeaning, File, ContentMeaning}
+use Rattle.fv_tree.specs.Meaning.{Plain, Sectioned, SectionMeanings, NoSections, MoreSections, SectionMeaning, Section}
+use Rattle.fv_tree.specs.Meaning.{BodyMeaning, Leaf, Group, Nested}
+use Rattle.fv_tree.specs.declared.difference.Step.{Step}
+use Rattle.fv_tree.specs.declared.difference.Step.TheVariants as steps
+use Rattle.fv_tree.specs.declared.difference.Word.{Word}
+use Rattle.fv_tree.specs.declared.difference.Word.TheVariants as words
 
 -- whether the file system is FFS3
 abbrev pub is_ffs3 : FileSystem → Bool

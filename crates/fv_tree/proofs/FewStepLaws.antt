@@ -13,14 +13,14 @@ use Rattle.fv_head.specs.Words.{HeadFields}
 use Rattle.fv_tree.specs.Words.{IsMeaning, Meaning, Volume, FileMeanings, NoFiles, MoreFiles, FileMeaning, File, content_of, ContentMeaning}
 use Rattle.fv_tree.specs.Words.{Plain, Sectioned, SectionMeanings, NoSections, MoreSections, SectionMeaning, Section, body_of, BodyMeaning}
 use Rattle.fv_tree.specs.Words.{Leaf, Group, Nested}
-use Rattle.fv_compare.specs.Words.{Differs, unless_one, under, head_differs, difference, files_differ, file_differs, content_differs}
-use Rattle.fv_compare.specs.Words.{sections_differ, section_differs, body_differs}
-use Rattle.fv_compare.specs.declared.difference.Step.{Step}
-use Rattle.fv_compare.specs.declared.difference.Word.{Word}
-use Rattle.fv_compare.specs.declared.difference.Step.TheVariants as steps
-use Rattle.fv_compare.specs.declared.difference.Word.TheVariants as words
+use Rattle.fv_tree.specs.Words.{Differs, unless_one, under, head_differs, difference, files_differ, file_differs, content_differs}
+use Rattle.fv_tree.specs.Words.{sections_differ, section_differs, body_differs}
+use Rattle.fv_tree.specs.declared.difference.Step.{Step}
+use Rattle.fv_tree.specs.declared.difference.Word.{Word}
+use Rattle.fv_tree.specs.declared.difference.Step.TheVariants as steps
+use Rattle.fv_tree.specs.declared.difference.Word.TheVariants as words
 use Rattle.fv_tree.specs.inner.NestingDepths.{NestsVolume, NestsFiles, NestsContent, NestsSections, NestsBody}
-use Rattle.fv_tree.proofs.Laws.{nests_files, nests_content, nests_sections, nests_body, nests_group, nests_nested}
+use Rattle.fv_tree.proofs.DepthLaws.{nests_files, nests_content, nests_sections, nests_body, nests_group, nests_nested}
 
 -- ---- 1. bounds on the steps
 

@@ -1,8 +1,8 @@
 //! Where the headers of two volumes first differ.
 
 ghost use Rattle.std.specs.Prelude.{◌≡◌, option_copied};
-ghost use Rattle.fv_compare.specs.Difference.{blocks_eq, entries_eq, ext_eq, head_differs};
-ghost use Rattle.fv_compare.specs.inner.FoundDifferences.{in_word};
+ghost use Rattle.fv_tree.specs.Difference.{blocks_eq, entries_eq, ext_eq, head_differs};
+ghost use Rattle.fv_tree.specs.inner.FoundDifferences.{in_word};
 
 use crate::difference::Word;
 use fv_head::{ExtEntry, ExtHeader, VolumeHead};

@@ -19,10 +19,10 @@ use Rattle.fv_base.specs.declared.flash.FileSystem.{FileSystem}
 use Rattle.fv_base.specs.declared.guid.Guid.{Guid}
 use Rattle.fv_base.specs.declared.flash.FileSystem.TheVariants.{Ffs2, Ffs3}
 use Rattle.fv_head.specs.Words.{Extension, HeadFields}
-use Rattle.fv_compare.specs.Words.{is_ffs3, Differs, unless_one, under, blocks_eq, entries_eq, ext_eq, head_differs, difference}
-use Rattle.fv_compare.specs.Words.{files_differ, file_differs, content_differs, sections_differ, section_differs, body_differs}
-use Rattle.fv_compare.specs.declared.difference.Step.{Step}
-use Rattle.fv_compare.specs.declared.difference.Word.{Word}
+use Rattle.fv_tree.specs.Words.{is_ffs3, Differs, unless_one, under, blocks_eq, entries_eq, ext_eq, head_differs, difference}
+use Rattle.fv_tree.specs.Words.{files_differ, file_differs, content_differs, sections_differ, section_differs, body_differs}
+use Rattle.fv_tree.specs.declared.difference.Step.{Step}
+use Rattle.fv_tree.specs.declared.difference.Word.{Word}
 use Rattle.fv_tree.specs.Words.{Meaning, Volume, FileMeanings, NoFiles, MoreFiles, FileMeaning, File, ContentMeaning, Plain, Sectioned}
 use Rattle.fv_tree.specs.Words.{SectionMeanings, NoSections, MoreSections, SectionMeaning, Section, BodyMeaning, Leaf, Group, Nested}
 

@@ -1,2 +1,0 @@
--- Definitions that only private clauses cite: nothing here has to be taken on trust.
-pub mod FoundDifferences

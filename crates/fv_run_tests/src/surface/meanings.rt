@@ -1,0 +1,122 @@
+//! The names of fv_tree and fv_canon, and those of the crates that the program is made of.
+
+use fv_arguments::{WordFault, parse_words};
+use fv_canon::{
+    Layout, Side, body_bytes, canonical, file_bytes, is_canonical, layout, normalise,
+    normalise_image, run_compare, run_normalise, write_canonical,
+};
+use fv_command::{Status, run_plan};
+use fv_plan::Plan;
+use fv_tree::{
+    Body, Content, Difference, FileView, Item, Lookup, Offsets, SectionView, Step, VolumeView,
+    Word, file_by_name, file_by_type, first_difference, next_file, read_volume, scan,
+    section_by_type,
+};
+
+// Names the contents of a file, and the bodies of a section.
+fn name_parts(content: &Content<'_>, body: Body<'_, '_>) {
+    match content {
+        Content::Plain(_)
+        | Content::Stream {
+            sections: _,
+            tail: _,
+        } => {}
+    }
+    match body {
+        Body::Leaf(_)
+        | Body::Group {
+            sections: _,
+            tail: _,
+        }
+        | Body::Nested(_) => {}
+    }
+}
+
+// Names the results of looking up a section.
+fn name_lookup(lookup: Lookup<'_, '_>) {
+    match lookup {
+        Lookup::Found(Item::Section(_) | Item::Frame(_)) | Lookup::Absent | Lookup::NotSectioned =>
+            {}
+    }
+}
+
+// Names the steps to a difference, and the kinds of differences.
+fn name_difference(step: Step, word: Word) {
+    match step {
+        Step::File(_) | Step::Section(_) => {}
+    }
+    match word {
+        Word::ZeroVector
+        | Word::FileSystem
+        | Word::Length
+        | Word::VolumeAttributes
+        | Word::Reserved
+        | Word::BlockMap
+        | Word::ExtendedHeader
+        | Word::FileCount
+        | Word::Name
+        | Word::Type
+        | Word::Attributes
+        | Word::Data
+        | Word::SectionCount
+        | Word::Tail
+        | Word::Form
+        | Word::Shape
+        | Word::Body => {}
+    }
+}
+
+/// Names what fv_tree has.
+pub(super) fn name_tree() {
+    let _ = (read_volume, next_file, file_by_name, file_by_type);
+    let _ = (section_by_type, scan, first_difference);
+    let _ = (VolumeView::head, VolumeView::file_count, VolumeView::file);
+    let _ = (FileView::name, FileView::kind, FileView::attributes);
+    let _ = (FileView::content, FileView::plain, FileView::data_len);
+    let _ = (SectionView::kind, SectionView::extended, SectionView::leaf);
+    let _ = (SectionView::body_len, SectionView::body);
+    let _ = (Offsets::as_slice, Difference::steps, Difference::word);
+    name_parts(&Content::Plain(b""), Body::Leaf(b""));
+    name_lookup(Lookup::Absent);
+    name_difference(Step::File(0), Word::Name);
+}
+
+// Names the sides of a comparison.
+fn name_sides(side: Side) {
+    match side {
+        Side::First | Side::Second | Side::Output => {}
+    }
+}
+
+/// Names what fv_canon has.
+pub(super) fn name_canon() {
+    let _ = (layout, Layout::start);
+    let _ = (canonical, normalise, is_canonical, normalise_image);
+    let _ = (file_bytes, body_bytes, write_canonical::<&mut [u8]>);
+    let _ = run_normalise::<&[u8], &mut [u8]>;
+    let _ = run_compare::<&[u8], &[u8], &mut [u8]>;
+    name_sides(Side::First);
+}
+
+// Names the faults of arguments, and the results of a run.
+fn name_results(fault: WordFault, status: Status) {
+    match fault {
+        WordFault::Words | WordFault::OutOfMemory => {}
+    }
+    match status {
+        Status::Done | Status::Different | Status::Faulty | Status::Refused | Status::WrongWords =>
+            {}
+    }
+}
+
+// Names the parts of a plan.
+fn name_plan(plan: &Plan) {
+    let Plan { hex: _, command: _ } = plan;
+}
+
+/// Names what the program is made of: the calls of fv_arguments and fv_command.
+pub(super) fn name_program() {
+    let _ = (parse_words, run_plan::<&[u8], &[u8], &mut [u8]>);
+    let _ = name_plan;
+    name_results(WordFault::Words, Status::Done);
+}
