@@ -1,10 +1,10 @@
 //! The line of a run without a result: the arguments are wrong, or a fault stopped the run.
 
-ghost use Rattle.std.specs.Prelude.{◌≡◌, ◌≢◌, ◌++◌, true};
+ghost use Rattle.std.specs.Prelude.{◌≡◌, ◌≢◌, ◌⊎◌, ◌++◌, true};
 ghost use Rattle.fv_base.specs.Words.{is_flushed};
 ghost use Rattle.fv_command.specs.Endings.{Ends, numbered_line, refusal_line, side_fault_line};
 ghost use Rattle.fv_command.specs.inner.RunSteps.{Written};
-ghost use Rattle.fv_text.specs.Words.{change, shown};
+ghost use Rattle.fv_text.specs.Words.{StopsIn, change, shown};
 
 use crate::ending::{Ending, Refusal};
 use crate::run_end::{finish, is_whole};
@@ -88,6 +88,10 @@ pub fn say<W: Write>(writer: &mut Port<W>, line: &str, status: Status) -> Status
 pub fn refuse<W: Write>(writer: &mut Port<W>, refusal: Refusal) -> Ending
     ensures ends { Ends Status.Refused (refusal_line refusal) (change W.contents writer.old writer.new) result.status }
     ensures why { result.refusal ≡ Some refusal }
+
+    // Unless a write of the line failed, the last call to the writer was a flush.
+    ensures flushed { StopsIn (shown W.contents writer.old) (shown W.contents writer.new) (refusal_line refusal)
+        ⊎ (is_flushed writer.new ≡ true) }
 {
     let is_written = write_refusal(writer, refusal);
     let status = finish(writer, is_written, Status::Refused);

@@ -1,10 +1,10 @@
 //! The end of a run.
 
-ghost use Rattle.std.specs.Prelude.{◌≡◌, ◌≢◌, ℕ, List, true};
+ghost use Rattle.std.specs.Prelude.{◌≡◌, ◌≢◌, ◌⊎◌, ℕ, List, true};
 ghost use Rattle.fv_base.specs.Words.{is_flushed, is_writing};
 ghost use Rattle.fv_command.specs.Endings.{Ends};
 ghost use Rattle.fv_command.specs.inner.RunSteps.{Written};
-ghost use Rattle.fv_text.specs.Words.{Shown, shown};
+ghost use Rattle.fv_text.specs.Words.{Shown, StopsIn, shown};
 
 use crate::status::Status;
 use fv_base::{Port, WriteSink};
@@ -27,6 +27,11 @@ pub fn finish<W: Write>(writer: &mut Port<W>, is_written: bool, status: Status) 
     ensures ends { (text : List ℕ) (before : Shown) → Written is_written text before (shown W.contents writer.old)
         → Ends status text (record { old = before; new = shown W.contents writer.new }) result }
     ensures flushed { result ≢ Status.Refused → is_flushed writer.new ≡ true }
+
+    // Whatever the status is, the last call to the writer was a flush unless a write of the text
+    // failed.
+    ensures last { (text : List ℕ) (before : Shown) → Written is_written text before (shown W.contents writer.old)
+        → StopsIn before (shown W.contents writer.new) text ⊎ (is_flushed writer.new ≡ true) }
 {
     if !is_written || writer.flush().is_err() {
         return Status::Refused;

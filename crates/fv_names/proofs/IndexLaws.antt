@@ -5,13 +5,13 @@
 use Rattle.std.proofs.lemmas.Grind.{common_steps}
 use Rattle.std.proofs.Common.{◌≡◌, ◌≤◌, ◌<◌, ◌⊎◌, ℕ, ◌+◌, List, [], length, get_or, map, Bool, true, false, refl, sym, ap, ◌∙◌}
 use Rattle.std.proofs.Common.{subst, arith, inl, inr}
-use Rattle.std.specs.Prelude.{◌==◌}
+use Rattle.std.specs.Prelude.{◌==◌, Some, None}
 use Rattle.std.specs.Bool.{Decides}
-use Rattle.std.specs.List.{All, AllWithin, Contains, HoldsAt, IsDistinct, position_or_len, range_with_len}
+use Rattle.std.specs.List.{All, AllWithin, Contains, HoldsAt, IsDistinct, position, position_or_len, range_with_len}
 use Rattle.std.specs.List.Sorted.{IsNonDecreasingBy}
 use Rattle.std.specs.Ordering.{is_lt, ordering_index}
 use Rattle.std.specs.declared.cmp.Ordering.TheVariants.{Less, Equal, Greater}
-use Rattle.std.proofs.lemmas.Bool.{cases_lt}
+use Rattle.std.proofs.lemmas.Bool.{cases_lt, lt-ltb, le-ltb}
 use Rattle.std.proofs.lemmas.Bool.Decides.{Decides-eqb, not_from_Decides}
 use Rattle.std.proofs.lemmas.Cmp.{nat_eq_equiv}
 use Rattle.std.proofs.lemmas.List.{get_or-map, get_or_default, length-map}
@@ -138,24 +138,26 @@ module _ (es : List Entry) (name : Guid) (names : List Guid) (whole : IsName nam
   -- an entry of the name with the least number is that of the first file of the name
   found : (p : ℕ) → p < length es → (entry p).0 ≡ halves_of name
       → ((q : ℕ) → q < length es → (entry q).0 ≡ halves_of name → (entry p).1 ≤ (entry q).1)
-      → position_or_len (is_name name) names ≡ (entry p).1
+      → Some (entry p).1 ≡ position (is_name name) names
   found p l is least =
       let n : ℕ = (entry p).1 in
       let r = of_name names es index g e p l in
       let within : n < length names = r.0 in
+      let first : position_or_len (is_name name) names ≡ n =
       position_or_len_is (is_name name) names n g (omega (arith, within)) (λ k lt.
       other k (omega (arith, lt, within)) (λ same.
       let s = place_of names es index g e k (omega (arith, lt, within)) in
       let number : (entry s.0).1 ≡ k = ap (λ (x : Entry). x.1) s.2 in
       omega (arith, least s.0 s.1 (ap (λ (x : Entry). x.0) s.2 ∙ sym same), number, lt)))
-      (λ m. (named n m).1 (sym is ∙ r.1))
+      (λ m. (named n m).1 (sym is ∙ r.1)) in
+      rw (first, lt-ltb n (length names) within)
 
   pub found_first : (p : ℕ) → p < length es → HoldsAt (λ x. entry_cmp x (halves_of name, 0) ≡ Equal) es p
-      → 0 ≡ position_or_len (is_name name) names
+      → Some 0 ≡ position (is_name name) names
   found_first p l same =
       let is : entry p ≡ (halves_of name, 0) = tied_entry (entry p) (halves_of name, 0) (same e) in
       let number : (entry p).1 ≡ 0 = ap (λ (x : Entry). x.1) is in
-      sym (found p l (ap (λ (x : Entry). x.0) is) (λ q m n. omega (arith, number)) ∙ number)
+      ap Some (sym number) ∙ found p l (ap (λ (x : Entry). x.0) is) (λ q m n. omega (arith, number))
 
   module _ (place : ℕ) (less : AllWithin (λ x. entry_cmp x (halves_of name, 0) ≡ Less) es 0 place) where
     -- the entries of the name are from the place on
@@ -166,14 +168,16 @@ module _ (es : List Entry) (name : Guid) (names : List Guid) (whole : IsName nam
       go (inr l) = l
 
     pub found_there : place < length es → (get_or es place e).0 ≡ halves_of name
-        → (get_or es place e).1 ≡ position_or_len (is_name name) names
-    found_there l is = sym (found place l is (λ q m named. upward names es index g e place q (from_place q named) m (is ∙ sym named)))
+        → Some (get_or es place e).1 ≡ position (is_name name) names
+    found_there l is = found place l is (λ q m named. upward names es index g e place q (from_place q named) m (is ∙ sym named))
 
     pub found_none : AllWithin (λ x. entry_cmp x (halves_of name, 0) ≡ Greater) es place (length es)
-        → (place < length es → (get_or es place e).0 ≡ halves_of name → ⊥) → length names ≡ position_or_len (is_name name) names
+        → (place < length es → (get_or es place e).0 ≡ halves_of name → ⊥) → None ≡ position (is_name name) names
     found_none more not_there =
-        sym (position_or_len_is (is_name name) names (length names) g (omega arith) (λ k l.
-        other k l (λ same. never k l (place_of names es index g e k l) same)) (λ l. absurd (omega (arith, l))))
+        let all : position_or_len (is_name name) names ≡ length names =
+        position_or_len_is (is_name name) names (length names) g (omega arith) (λ k l.
+        other k l (λ same. never k l (place_of names es index g e k l) same)) (λ l. absurd (omega (arith, l))) in
+        rw (all, le-ltb (length names) (length names) (omega arith))
       where
         never : (k : ℕ) → k < length names → (p : ℕ) × (p < length es) × (entry p ≡ (halves_of (get_or names k g), k))
             → halves_of name ≡ halves_of (get_or names k g) → ⊥

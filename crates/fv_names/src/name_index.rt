@@ -2,9 +2,8 @@
 
 ghost use Rattle.std.specs.Prelude.{◌≡◌, ◌<◌, ◌≤◌, ◌+◌, ◌*◌, ◌/◌, ◌%◌, ◌^◌, List, length, map, take, get_or, true};
 ghost use Rattle.std.specs.Prelude.{IsSorted, IsTrue, IfOk, IfErr};
-ghost use Rattle.std.specs.List.{AllByRecursion, list_any, position_or_len};
+ghost use Rattle.std.specs.List.{AllByRecursion, list_any, position};
 ghost use Rattle.std.specs.List.Sorted.{IsPermutation};
-ghost use Rattle.std.specs.Option.{unwrap_or};
 ghost use Rattle.std.specs.Ordering.{nat_cmp};
 ghost use Rattle.fv_base.specs.Words.{out_of_memory};
 ghost use Rattle.fv_base.specs.declared.guid.Guid.{Guid};
@@ -256,7 +255,7 @@ impl NameIndex {
     /// Returns the number of the first file with this name, or None if no file has it.
     pub fn get(&self, name: &Guid) -> Option<u32>
         ensures { (names : List Guid) → IsIndex names (entries_of self.now)
-            → unwrap_or result (length names) ≡ position_or_len (is_name name.now) names }
+            → result ≡ position (is_name name.now) names }
     {
         let key = halves(*name);
         // Entries with the same name are ordered by file number. So Ok means that file 0 has this

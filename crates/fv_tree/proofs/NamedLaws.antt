@@ -1,11 +1,13 @@
 -- Files as they are stored, and what the index of names has of them: what it says of names and marks holds of the files.
-use Rattle.std.proofs.Common.{◌≡◌, ◌<◌, ℕ, ◌+◌, List, [], ◌∷◌, length, take, get_or, map, Bool, true, false, cond, refl, sym}
-use Rattle.std.proofs.Common.{ap, ◌∙◌, subst, arith}
-use Rattle.std.specs.Prelude.{◌||◌, ◌&&◌, not, Option}
-use Rattle.std.specs.List.{AllByRecursion, filter, list_any, position_or_len}
-use Rattle.std.specs.Option.{unwrap_or}
+use Rattle.std.proofs.Common.{◌≡◌, ◌<◌, ℕ, ◌+◌, List, [], ◌∷◌, length, take, get_or, map, Bool, true, false, cond, ◌≤◌, ◌⊎◌, refl, sym}
+use Rattle.std.proofs.Common.{ap, ◌∙◌, subst, arith, inl, inr}
+use Rattle.std.specs.Prelude.{◌||◌, ◌&&◌, not}
+use Rattle.std.specs.List.{AllByRecursion, filter, find, list_any, position, position_or_len, slice_get}
+use Rattle.std.specs.Option.{option_and_then}
+use Rattle.std.proofs.lemmas.Bool.{cases_lt, lt-ltb, le-ltb}
 use Rattle.std.proofs.lemmas.List.{get_or-map, length-map, take-map}
-use Rattle.std.proofs.lemmas.List.Folds.{Any-from_list_any}
+use Rattle.std.proofs.lemmas.List.Folds.{Any-from_list_any, find_at}
+use Rattle.std.proofs.lemmas.Option.{slice_get_past}
 use Rattle.std.proofs.lemmas.Simd.{map-map}
 use Rattle.fv_base.specs.declared.guid.Guid.{Guid}
 use Rattle.fv_base.proofs.Laws.{and_split}
@@ -48,10 +50,18 @@ place_named name [] = refl
 place_named name (f ∷ fs) = ap (λ (n : ℕ). cond (not (is_named name f)) (1 + n) 0) (place_named name fs)
 
 -- so a number that was found among the names is that of the file
-pub looked_up : (name : Guid) (fs : List FileMeaning) (number : Option ℕ)
-    → unwrap_or number (length (map file_name_of fs)) ≡ position_or_len (is_name name) (map file_name_of fs)
-    → unwrap_or number (length fs) ≡ position_or_len (is_named name) fs
-looked_up name fs number h = ap (unwrap_or number) (sym (length-map fs file_name_of)) ∙ h ∙ place_named name fs
+pub looked_up : (name : Guid) (fs : List FileMeaning) → position (is_name name) (map file_name_of fs) ≡ position (is_named name) fs
+looked_up name fs = rw (place_named name fs, length-map fs file_name_of)
+
+-- and the file of the number is the first of the name
+pub file_there : (test : FileMeaning → Bool) (fs : List FileMeaning) → option_and_then (slice_get fs) (position test fs) ≡ find test fs
+file_there test fs = go (cases_lt (position_or_len test fs) (length fs)) where
+  at : ℕ
+  at = position_or_len test fs
+
+  go : (at < length fs) ⊎ (length fs ≤ at) → option_and_then (slice_get fs) (position test fs) ≡ find test fs
+  go (inl inside) = rw (lt-ltb at (length fs) inside) (sym (find_at test fs))
+  go (inr past) = rw (le-ltb at (length fs) past) (sym (find_at test fs ∙ slice_get_past fs at past))
 
 -- ---- twins and updates
 

@@ -1,8 +1,7 @@
 //! The methods of `VolumeView`.
 
 ghost use Rattle.std.specs.Prelude.{◌≡◌, length, option_copied, slice_get};
-ghost use Rattle.std.specs.List.{position_or_len};
-ghost use Rattle.std.specs.Option.{unwrap_or};
+ghost use Rattle.std.specs.List.{position};
 ghost use Rattle.fv_tree.specs.Denotes.{IsMeaning};
 ghost use Rattle.fv_tree.specs.Meaning.{Volume, head_of, files_of};
 ghost use Rattle.fv_tree.specs.MeaningParts.{files_from};
@@ -79,7 +78,7 @@ impl<'a> VolumeView<'a> {
 
     // Returns the number of the first file with this name, or None if no file has it.
     pub(crate) fn number_of(&self, name: &Guid) -> Option<u32>
-        ensures { unwrap_or result (length (files_of self.now)) ≡ position_or_len (is_named name.now) (files_of self.now) }
+        ensures { result ≡ position (is_named name.now) (files_of self.now) }
     {
         self.numbers.get(name)
     }

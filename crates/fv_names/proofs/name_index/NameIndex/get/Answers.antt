@@ -1,5 +1,5 @@
 use Rattle.std.proofs.Common.{◌≡◌, ◌<◌, ℕ, get_or, length, List, sym, ap, ◌∙◌, subst, arith}
-use Rattle.std.specs.Prelude.{◌==◌, ◌&&◌}
+use Rattle.std.specs.Prelude.{◌==◌, ◌&&◌, Some}
 use Rattle.std.specs.List.{HoldsAt}
 use Rattle.std.specs.List.Sorted.{IsNonDecreasingBy, IsPartitionPoint}
 use Rattle.std.specs.Ordering.{ordering_index}
@@ -44,7 +44,7 @@ returns-then-eq c = λ names has.
     let l : place < length es = omega arith in
     let cut = cuts_there es c.deref.result.now key (halves_of c.args.name.now) place c.deref.ensures.value c.halves-key.ensures.is
     c.in-Err.ensures.position (rises es (halves_of c.args.name.now) names has) in
-    ap (λ (e : Entry). e.1) c.index-then-eq.ensures
+    ap (λ (e : Entry). Some e.1) c.index-then-eq.ensures
     ∙ found_there es c.args.name.now names c.halves-key.ensures.whole has d place cut.0 l
     (ap (λ (e : Entry). e.0) (get_or_default es place d a l ∙ sym c.index.ensures)
     ∙ (halves_decide a.0 key).0 (sym c.if-eq.ensures) ∙ c.halves-key.ensures.is)

@@ -1,4 +1,4 @@
-use Rattle.std.proofs.Common.{map}
+use Rattle.std.proofs.Common.{◌∙◌, map}
 use Rattle.fv_tree.specs.Words.{file_name_of}
 use Rattle.fv_tree.proofs.NamedLaws.{looked_up}
 use Rattle.fv_tree.proofs.VolumePartLaws.{files_list_back}
@@ -7,5 +7,5 @@ use Rattle.fv_tree.proofs.view.VolumeView.number_of.Goals as goal
 pub returns : goal.returns
 returns c =
     let files = c.self.inside.files in
-    rw (← c.self.view_is, files_list_back files.items) (looked_up c.args.name.now files.items c.get.result
-    (c.get.ensures (map file_name_of files.items) c.self.invariant.1))
+    rw (← c.self.view_is, files_list_back files.items) (c.get.ensures (map file_name_of files.items) c.self.invariant.1
+    ∙ looked_up c.args.name.now files.items)
