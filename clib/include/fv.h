@@ -170,7 +170,7 @@ uint32_t fv_normalise(const uint8_t *input, size_t len, uint8_t *FV_RESTRICT buf
 
 /* Does the same for a flash image: replaces each volume that fv_scan finds in it by its canonical image, and keeps all
  * other bytes. The fault is that of the first volume that has no canonical image, with its offset in the flash image.
- * 24 is returned only if the image is within the limit. */
+ * 24 is returned only if a volume begins in an image within the limit. */
 uint32_t fv_normalise_image(const uint8_t *image, size_t len, uint8_t *FV_RESTRICT buffer, size_t buffer_len,
                             fv_fault *FV_RESTRICT fault);
 

@@ -7,6 +7,7 @@ ghost use Rattle.sha2.specs.Sha256.{sha256};
 ghost use Rattle.fv_base.specs.Words.{OrMemory, fault_number, out_of_memory, volume_limit};
 ghost use Rattle.fv_base.specs.declared.fault.Fault.{Fault};
 ghost use Rattle.fv_canon.specs.Words.{NormalisesAll, RefusesAll, NormalisesTo, IsImage, IsLayout, Refuses};
+ghost use Rattle.fv_flash.specs.Words.{IsPlace};
 ghost use Rattle.fv_tree.specs.Words.{NotRead, Accepted, Meaning};
 ghost use Rattle.fv_c.specs.Reports.{BeginsWithHeader, reported_fault, no_fault};
 
@@ -213,10 +214,10 @@ pub extern "C" fn fv_normalise_image(
         × (length buffer.old < length bytes) × (fault.new ≡ no_fault) }
     ensures room { length buffer.old < length image.now → result ≢ 0 }
 
-    // Any other fault is out of memory, only if the image is within the limit, or the fault of the
-    // first volume that has no image.
+    // Any other fault is out of memory, only if a volume begins in an image within the limit, or the
+    // fault of the first volume that has no image.
     ensures err { result ≢ 0 → result ≢ 256 → (f : Fault) × OrMemory (RefusesAll image.now) f
-        × (f ≡ out_of_memory → length image.now ≤ volume_limit)
+        × (f ≡ out_of_memory → (length image.now ≤ volume_limit) × ((place : ℕ) × IsPlace image.now place))
         × (result ≡ fault_number f.kind) × (fault.new ≡ reported_fault f) }
 
     // If each volume has an image, only memory or the buffer can be too small.

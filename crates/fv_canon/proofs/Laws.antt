@@ -18,6 +18,8 @@ pub use Rattle.fv_canon.proofs.FitLaws.{laid_fits, fits_laid, unfit_none}
 pub use Rattle.fv_canon.proofs.LaidVolumeLaws.{laid_renewed}
 -- starts that begin with those of some volumes begin with those of the first of them, and of the same volumes one level higher
 pub use Rattle.fv_canon.proofs.VolumeListLaws.{begins_first, begins_higher}
+-- the starts of some volumes, with none after them, begin with those of the volumes
+pub use Rattle.fv_canon.proofs.PartLengthLaws.{begin_all}
 -- an input that is no volume, or one that does not fit, is rejected; one that has an image is neither
 pub use Rattle.fv_canon.proofs.RejectedInputLaws.{not_read, not_placed, not_read_never}
 -- the data of a file that was read are shorter than a volume may be

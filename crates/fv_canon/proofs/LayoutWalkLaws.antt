@@ -1,7 +1,8 @@
 -- The walk over a volume that adds the starts of the files in it: what it added, how deep it goes, and the fault that it passes on.
 use Rattle.std.proofs.lemmas.Grind.{common_steps}
 use Rattle.std.proofs.Common.{◌≡◌, ◌≢◌, ◌≤◌, ap, ◌<◌, ◌⊎◌, inr, ◌+◌, ℕ, suc, List, length, take, get_or, ◌++◌, append_assoc, refl, sym, subst, arith}
-use Rattle.std.proofs.Common.{[], ◌∷◌, true, false, true≢false}
+use Rattle.std.proofs.Common.{[], ◌∷◌, ◌∙◌, true, false, true≢false}
+use Rattle.std.specs.List.{Any}
 use Rattle.fv_base.proofs.Laws.{or_more}
 use Rattle.fv_base.specs.Words.{out_of_memory}
 use Rattle.fv_base.specs.declared.fault.Fault.{Fault}
@@ -9,7 +10,7 @@ use Rattle.fv_head.specs.Words.{HeadFields}
 use Rattle.fv_section.specs.Words.{FrameForm}
 use Rattle.fv_tree.specs.Words.{IsMeaning, MeansFile, MeansSection, Stream, IsReadFile, IsReadSection, FileForm, Meaning, Volume, head_of}
 use Rattle.fv_tree.specs.Words.{FileMeanings, NoFiles, MoreFiles, files_of, FileMeaning, files_from, sections_from, body_of}
-use Rattle.fv_tree.specs.Words.{SectionMeanings, SectionMeaning, Group, Nested, volumes_in, volumes_in_files, volumes_in_file}
+use Rattle.fv_tree.specs.Words.{Inside, SectionMeanings, SectionMeaning, Group, Nested, volumes_in, volumes_in_files, volumes_in_file}
 use Rattle.fv_tree.specs.Words.{volumes_in_sections, volumes_in_section, volumes_in_body}
 use Rattle.fv_canon.specs.inner.ImageOf.{data_body, starts_in}
 use Rattle.fv_tree.specs.inner.NestingDepths.{NestsVolume, NestsFiles, NestsSections, NestsBody}
@@ -146,3 +147,13 @@ own_counted (Volume h files) = omega arith
 pub starts_need_file : (m : Meaning) → 0 < starts_in (volumes_in m) → files_of m ≢ []
 starts_need_file (Volume h NoFiles) some none = absurd (omega (arith, some))
 starts_need_file (Volume h (MoreFiles f fs)) some none = cc
+
+-- volumes that have starts are not all without files
+pub starts_need_some : (vs : List Inside) → 0 < starts_in vs → Any (λ v. files_of v.volume ≢ []) vs
+starts_need_some [] some = absurd (omega (arith, some))
+starts_need_some (v ∷ vs) some = here (files_of v.volume) refl (λ less. starts_need_some vs less)
+  where
+    here : (fs : List FileMeaning) → files_of v.volume ≡ fs → (0 < starts_in vs → Any (λ w. files_of w.volume ≢ []) vs)
+        → Any (λ w. files_of w.volume ≢ []) (v ∷ vs)
+    here [] none rest = let (k, w, less, is, has) = rest (omega (arith, some, ap length none)) in (suc k, w, omega (arith, less), is, has)
+    here (f ∷ fs) is rest = (0, v, omega arith, refl, λ none. let bad : f ∷ fs ≡ [] = sym is ∙ none in cc)

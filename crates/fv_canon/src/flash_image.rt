@@ -8,7 +8,7 @@ ghost use Rattle.fv_canon.specs.LayoutForms.{IsLayout};
 ghost use Rattle.fv_canon.specs.NormaliseRuns.{ImageWrites, ImageStops};
 ghost use Rattle.fv_canon.specs.InputRefusals.{Refuses};
 ghost use Rattle.fv_tree.specs.Words.{Accepted};
-ghost use Rattle.fv_flash.specs.Words.{Found, VolumeAt};
+ghost use Rattle.fv_flash.specs.Words.{Found, IsPlace, VolumeAt};
 
 use crate::canonical_image::put_canonical;
 use crate::known_layout::Layout;
@@ -95,6 +95,9 @@ fn laid_at_each<'a>(
     requires { Found image.now offsets.now }
     ensures ok { IfOk result (λ volumes. AreLaid image.now offsets.now volumes.items) }
     ensures err { IfErr result (OrMemory (FirstRefused image.now offsets.now)) }
+
+    // It fails only if there is a volume.
+    ensures some { IfErr result (λ _. (place : ℕ) × IsPlace image.now place) }
     ensures kind { IfErr result (λ f. (f.kind ≢ FaultKind.ReadFault) × (f.kind ≢ FaultKind.WriteFault)) }
 {
     let mut volumes = Vec::with_capacity(alloc, offsets.len())?;
@@ -147,7 +150,8 @@ impl<'a> Model for LaidImage<'a> {
 ///
 /// Length at the limit of 268,435,456 bytes, if the image is longer. Otherwise the fault of the
 /// first volume that `normalise` rejects, with its offset counted from the start of the image;
-/// NoRoom and TopAlignment are at the volume's start. OutOfMemory.
+/// NoRoom and TopAlignment are at the volume's start. OutOfMemory, only if a volume begins in the
+/// image.
 pub fn lay_out_image(alloc: Global, image: &[u8]) -> Result<LaidImage<'_>, Fault>
     // The result is the image, in which each volume has a meaning and a layout.
     ensures ok { IfOk result (λ laid. laid ≡ image.now) }
@@ -159,8 +163,9 @@ pub fn lay_out_image(alloc: Global, image: &[u8]) -> Result<LaidImage<'_>, Fault
     // If each volume has a canonical image, the only error is OutOfMemory.
     ensures fits { (other : List ℕ) → NormalisesAll image.now other → IfErr result (λ f. f ≡ out_of_memory) }
 
-    // Memory runs out only if the image is within the limit.
-    ensures memory { IfErr result (λ f. f ≡ out_of_memory → length image.now ≤ volume_limit) }
+    // Memory runs out only if the image is within the limit and a volume begins in it.
+    ensures memory { IfErr result (λ f. f ≡ out_of_memory
+        → (length image.now ≤ volume_limit) × ((place : ℕ) × IsPlace image.now place)) }
 
     // ReadFault and WriteFault are never returned.
     ensures kind { IfErr result (λ f. (f.kind ≢ FaultKind.ReadFault) × (f.kind ≢ FaultKind.WriteFault)) }
@@ -218,8 +223,8 @@ pub fn normalise_image(alloc: Global, image: &[u8]) -> Result<ByteList, Fault>
 ///
 /// # Errors
 ///
-/// The errors of `normalise_image`, with nothing written. WriteFault at the number of bytes
-/// written; exactly that many bytes of the new image were written.
+/// The errors of `lay_out_image`, with nothing written. WriteFault at the number of bytes written;
+/// exactly that many bytes of the new image were written.
 pub fn write_normalised_image<W: Write>(
     alloc: Global,
     image: &[u8],
@@ -229,14 +234,15 @@ pub fn write_normalised_image<W: Write>(
     ensures ok { OnOk result
         (ImageWrites image.now (W.contents (inner_of writer.old)) (W.contents (inner_of writer.new))) }
 
-    // Either the error is one of `normalise_image`, and nothing was written. Or it is WriteFault,
-    // and the first bytes of the new image were written, as many as its offset says.
+    // Either the error is one of `lay_out_image`, and nothing was written. Or it is WriteFault, and
+    // the first bytes of the new image were written, as many as its offset says.
     ensures err { IfErr result
         (ImageStops image.now (W.contents (inner_of writer.old)) (W.contents (inner_of writer.new))) }
     ensures read { IfErr result (λ f. f.kind ≢ FaultKind.ReadFault) }
 
-    // Memory runs out only if the image is within the limit.
-    ensures memory { IfErr result (λ f. f ≡ out_of_memory → length image.now ≤ volume_limit) }
+    // Memory runs out only if the image is within the limit and a volume begins in it.
+    ensures memory { IfErr result (λ f. f ≡ out_of_memory
+        → (length image.now ≤ volume_limit) × ((place : ℕ) × IsPlace image.now place)) }
 
     // If the result is Ok, the port's error flag is as it was before. If WriteFault is returned,
     // the flag is set.

@@ -1,6 +1,6 @@
 //! The layout of a volume and of the volumes inside it.
 
-ghost use Rattle.std.specs.Prelude.{◌≡◌, ◌≢◌, ◌<◌, ◌≤◌, ◌⊎◌, ◌+◌, ◌++◌, ℕ, List, [], All, length, take, get_or, IfOk, IfErr, OnOk};
+ghost use Rattle.std.specs.Prelude.{◌≡◌, ◌≢◌, ◌<◌, ◌≤◌, ◌⊎◌, ◌+◌, ◌++◌, ℕ, List, [], All, Any, length, take, get_or, IfOk, IfErr, OnOk};
 ghost use Rattle.fv_base.specs.Words.{OrMemory, out_of_memory};
 ghost use Rattle.fv_head.specs.Words.{first_edge};
 ghost use Rattle.fv_tree.specs.inner.NestingDepths.{NestsVolume, NestsFiles, NestsSections, NestsBody};
@@ -71,6 +71,8 @@ pub(crate) fn layout_of_body(alloc: Global, body: Body<'_, '_>) -> Result<Vec<u6
     ensures ok { IfOk result (λ starts. Laid AreStarts (volumes_in_body (body_view body.entry)) starts.items) }
     ensures err { IfErr result (OrMemory (FirstUnfit (volumes_in_body (body_view body.entry)) 0)) }
     ensures fits { AllFit (volumes_in_body (body_view body.entry)) → IfErr result (λ f. f ≡ out_of_memory) }
+    ensures memory { IfErr result (λ f. f ≡ out_of_memory
+        → Any (λ v. files_of v.volume ≢ []) (volumes_in_body (body_view body.entry))) }
 {
     let mut starts = Vec::new(alloc);
     lay_body(body, 0, &mut starts)?;

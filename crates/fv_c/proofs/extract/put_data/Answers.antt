@@ -1,9 +1,12 @@
 use Rattle.std.proofs.Common.{rules, ◌∙◌, length, ap, arith, sym}
 use Rattle.fv_canon.specs.Words.{IsData}
-use Rattle.fv_canon.proofs.Laws.{data_one}
+use Rattle.fv_canon.proofs.Laws.{begin_all, data_one}
 use Rattle.fv_tree.specs.Words.{content_of}
 use Rattle.fv_c.proofs.PartLaws.{part_put}
 use Rattle.fv_c.proofs.extract.put_data.Goals as goal
+
+pub put_laid_data-requires : goal.put_laid_data-requires
+put_laid_data-requires c = rw c.as_slice.ensures.value (begin_all _ c.in_ok-starts.starts.items c.in_ok-starts.ensures.ok)
 
 pub returns-clause-ok : goal.returns-clause-ok
 returns-clause-ok c =

@@ -16,3 +16,6 @@ returns-clause-long c =
 
 pub returns-clause-err : goal.returns-clause-err
 returns-clause-err c = let err = c.layout_of_body.ensures.err in rw c.body.ensures at err
+
+pub returns-clause-memory : goal.returns-clause-memory
+returns-clause-memory c = let memory = c.layout_of_body.ensures.memory in rw c.body.ensures at memory
