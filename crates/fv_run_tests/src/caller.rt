@@ -43,7 +43,8 @@ fn archive_keeps_the_canonical_image(rt: HostRuntime) {
 fn boot_is_rejected_by_its_first_fault(rt: HostRuntime) {
     let alloc = rt.alloc();
     assert!(rt; matches!(boot(alloc, &ALWAYS, LIST), Some(Ok(()))));
-    let wanted = "expression: the stack does not hold the values that an op takes (depex fault 3) at offset 0";
+    let wanted =
+        "expression: the stack does not hold the values that an op takes (depex fault 3) at offset 0";
     assert!(rt; has_fault(alloc, &ALWAYS[1..], LIST, wanted) == Some(true));
     let wanted = "hand-off list: the list has no end block (hob fault 5) at offset 56";
     assert!(rt; has_fault(alloc, &ALWAYS, "PHIT", wanted) == Some(true));
