@@ -1,0 +1,310 @@
+"""The parts of `.ci/mutants`: edits and the functions that they change, the answers of a proof, and what a check
+reports of goals."""
+
+from __future__ import annotations
+
+import dataclasses
+import os
+import pathlib
+import re
+
+FALSE, NO_PROOF, TEXT = "false", "no proof", "text"
+
+# The line that begins a function, the attribute of a function that is proved with others, the lines that hold functions
+# together, those that begin a type, and imports.
+FUNCTION = re.compile(r'( {0,4})(?:pub(?:\([^)]*\))? )?(?:const )?(?:unsafe )?(?:extern "C" )?fn (\w+)')
+CYCLE = re.compile(r"\s*#\[cycle\((\w+)\)\]")
+HOLDER = re.compile(r"(?:pub(?:\([^)]*\))? )?(impl|trait)\b")
+TYPE = re.compile(r"(?m)^(?:pub(?:\([^)]*\))? )?(?:struct|enum) (\w+)")
+IMPORT = re.compile(r"\s*(?:pub(?:\([^)]*\))? )?use ")
+# The line that begins a declaration in a proof file, and what else begins a part of such a file.
+DECLARES = re.compile(r"(?:pub )?(\S+) : ")
+APART = re.compile(r"use |--|mutual\b|mod |pub mod ")
+# A line of a check that has a place, and one that is of a function.
+PLACED = re.compile(r"(?:note: )?(?:\./)?((?:src|specs|proofs)/\S+?):(\d+):\d+: (.*)")
+OF_FUNCTION = re.compile(r"fn \w+?::(\S+): (.*)")
+OF_FILE = re.compile(r"note: `([^`]+)` of (?:\./)?proofs/(\S+)/\w+\.antt may be false")
+NOT_TRIED = re.compile(r"note: `search` has not tried the goals of `\w+?::([^`]+)`")
+# What the checker says of a goal that its tactics do not prove, and of values at which a goal is false.
+TACTIC = r"`?\b(?:search|grind|omega|simp|cc)\b`?"
+UNFOUND = re.compile(rf"{TACTIC}(?::| broke| stopped| met| found| gave)|give the call less to do|no proof of ")
+VALUES = re.compile(r"the goal fails,? at|this goal is false")
+# What it says of an answer whose goal the edit has taken away, and of one that it did not check.
+GONE = re.compile(r"module `[^`]*\.Goals` has no|(?:was|were) rejected, (?:was|were) not checked")
+BY_TACTIC = re.compile(r"=\s*(?:λ[^.]*\.\s*)?(?:search|grind|omega|simp|cc)\b")
+
+
+@dataclasses.dataclass(frozen=True)
+class Function:
+    """A function of a source: its lines, its path below the crate, and what is proved as one: itself, or the cycle that
+    it is in."""
+
+    first: int
+    last: int
+    path: str
+    unit: str
+
+
+@dataclasses.dataclass(frozen=True)
+class Change:
+    """A text of a file, which is there exactly once, and the text that replaces it."""
+
+    file: str
+    old: str
+    new: str
+
+
+@dataclasses.dataclass(frozen=True)
+class Edit:
+    """A wrong body: its changes, and the goal that has to stay open. `of` is the function of that goal, if the line
+    names it."""
+
+    path: pathlib.Path
+    changes: tuple[Change, ...]
+    goal: str
+    of: str
+
+    @property
+    def name(self) -> str:
+        """The name of the edit: the name of its file without the ending."""
+        return self.path.stem
+
+
+@dataclasses.dataclass(frozen=True)
+class Open:
+    """A goal that a check leaves open: what it belongs to, its name, and whether it is false, has no proof, or has an
+    answer that does not fit."""
+
+    unit: str
+    goal: str
+    grade: str
+
+
+@dataclasses.dataclass
+class Report:
+    """What a check says: the goals that it leaves open, the functions that it names, and for each that waits, what it
+    waits for. `broken` are the places in sources that do not compile, and `unknown` functions that the checker knows by
+    another name. `judged` says whether the check came to its end, and `said` is all that it says."""
+
+    opens: list[Open]
+    named: set[str]
+    waits: dict[str, set[str]]
+    broken: list[tuple[str, int, str]]
+    unknown: set[str]
+    judged: bool
+    said: str
+
+
+def read_edit(path: pathlib.Path) -> Edit:
+    """Reads an edit. A line that belongs to no change is passed over, as `rt must-fail` does."""
+    file, old, goal, of, changes = "", "", "", "", []
+    for line in path.read_text(encoding="utf-8").split("\n"):
+        if line.startswith("file: "):
+            file = line[6:].strip()
+        elif line.startswith("old: "):
+            old = line[5:]
+        elif line.startswith("new:"):
+            changes.append(Change(file, old, line[4:].removeprefix(" ")))
+        elif line.startswith("goal: "):
+            of, _, goal = line[6:].rpartition(" ")
+    return Edit(path, tuple(changes), goal, of)
+
+
+def applied(changes: tuple[Change, ...], texts: dict[str, str]) -> dict[str, str] | None:
+    """The texts after some changes, or nothing if an old text is not there exactly once."""
+    found = dict(texts)
+    for change in changes:
+        if not change.old or found.get(change.file, "").count(change.old) != 1:
+            return None
+        found[change.file] = found[change.file].replace(change.old, change.new)
+    return found if found != texts else None
+
+
+def holder_of(header: str) -> str:
+    """The name that the checker gives what an `impl` or a `trait` holds: `VecU8Collector` of
+    `impl Collector for Vec<u8>`. It has no lifetimes and no parameters."""
+    bare = re.split(r"\bwhere\b|\{", header.replace("->", ""))[0]
+    depth, end = 0, 0
+    for at, sign in enumerate(bare if re.match(r"(?:pub )?impl<", bare) else ""):
+        depth += (sign == "<") - (sign == ">")
+        if sign == ">" and not depth:
+            end = at + 1
+            break
+    parameters = {*re.findall(r"(?:<|, )(\w+)\b", bare[:end])}
+    rest = re.sub(r"\w+::|'\w+|\b(?:pub|impl|trait)\b", "", bare[end:])
+    trait, _, kind = re.split(r": ", rest)[0].rpartition(" for ")
+    words = [it for part in (kind, trait) for it in re.findall(r"\w+", part) if it not in parameters]
+    return "".join(it[0].upper() + it[1:] for it in words)
+
+
+def module_of(file: str) -> list[str]:
+    """The module of a source, as a path of at most one part."""
+    module = re.sub(r"^src/|\.rt$", "", file).removesuffix("/mod").replace("/", "::")
+    return [] if module in ("lib", "main") else [module]
+
+
+def homes(texts: dict[str, str]) -> dict[str, list[str]]:
+    """The modules of the types of a crate. The checker names a method by the module of its type."""
+    sources = {file: text for file, text in texts.items() if file.startswith("src/")}
+    return {name: module_of(file) for file, text in sources.items() for name in TYPE.findall(text)}
+
+
+def last_of(lines: list[str], first: int, indent: str) -> int | None:
+    """The last line of the function that begins at a line, or nothing if it has no body."""
+    opened = False
+    for number in range(first, len(lines)):
+        line = lines[number]
+        if number == first or line.startswith((f"{indent}{{", f"{indent})")):
+            opened = opened or line.endswith(("{", "{}"))
+        if opened and (line.startswith(f"{indent}}}") or line.endswith("{}")):
+            return number
+        if not opened and line.endswith(";"):
+            return None
+    return None
+
+
+def functions(file: str, text: str, types: dict[str, list[str]]) -> list[Function]:
+    """The functions of a source that have bodies, in their order."""
+    lines, found, holder, cycle = text.split("\n"), [], "", ""
+    parts = module_of(file)
+    for number, line in enumerate(lines):
+        begins, is_cycle = FUNCTION.match(line), CYCLE.match(line)
+        if HOLDER.match(line):
+            holder = holder_of(" ".join(lines[number : number + 6]))
+        elif line.startswith("}"):
+            holder = ""
+        cycle = is_cycle[1] if is_cycle else cycle
+        last = last_of(lines, number, begins[1]) if begins else None
+        if begins and last is not None:
+            inside = [*types.get(holder, parts), holder] if begins[1] and holder else parts
+            path = "::".join([*inside, begins[2]])
+            unit = "::".join([*parts, f"+{cycle}"]) if cycle else path
+            found.append(Function(number, last, path, unit))
+            cycle = ""
+    return found
+
+
+def around(file: str, texts: dict[str, str], line: int) -> Function | None:
+    """The function that a line of a source is in. Attributes and comments above a function are not in it."""
+    return next((it for it in functions(file, texts.get(file, ""), homes(texts)) if it.first <= line <= it.last), None)
+
+
+def changed(edit: Edit, texts: dict[str, str]) -> list[Function] | None:
+    """The functions that an edit changes, or nothing if it changes what is outside of a function and is no import."""
+    found: dict[str, Function] = {}
+    now = texts
+    for change in edit.changes:
+        text = now[change.file]
+        at = text.count("\n", 0, text.find(change.old) + len(change.old) - len(change.old.lstrip()))
+        function = around(change.file, now, at)
+        if function:
+            found[function.path] = function
+        elif not IMPORT.match(text.split("\n")[at]):
+            return None
+        now = {**now, change.file: text.replace(change.old, change.new)}
+    return list(found.values()) or None
+
+
+def answers(text: str) -> dict[str, tuple[int, int]]:
+    """The declarations of a proof file: the lines of each, from its first up to the next declaration."""
+    lines, begins, ends = text.split("\n"), {}, []
+    for number, line in enumerate(lines):
+        declares = DECLARES.match(line)
+        if declares and not APART.match(line):
+            begins[declares[1]] = number
+            ends.append(number)
+        elif APART.match(line):
+            ends.append(number)
+    return {name: (at, min((it for it in ends if it > at), default=len(lines))) for name, at in begins.items()}
+
+
+def without(text: str, name: str) -> str | None:
+    """A proof file without one of its declarations, or nothing if it has none of this name."""
+    place = answers(text).get(name)
+    if not place:
+        return None
+    lines = text.split("\n")
+    return "\n".join(lines[: place[0]] + lines[place[1] :])
+
+
+def resting(text: str, name: str) -> set[str]:
+    """The declarations of a proof file that rest on one of them, itself among them."""
+    lines = text.split("\n")
+    bodies = {it: "\n".join(lines[at:end]) for it, (at, end) in answers(text).items()}
+    found = {name}
+    while True:
+        names = "|".join(map(re.escape, found))
+        more = {it for it, body in bodies.items() if re.search(rf"(?<![\w.-])(?:{names})(?![\w-])", body)}
+        if more <= found:
+            return found
+        found |= more
+
+
+def items(said: str) -> list[str]:
+    """The lines of a check, each with the lines below it that go on with it."""
+    found: list[str] = []
+    for line in said.split("\n"):
+        if line.startswith("  ") and found:
+            found[-1] += "\n" + line
+        else:
+            found.append(line)
+    return found
+
+
+def of_answer(file: str, text: str, proof: str) -> list[Open]:
+    """The goals that an error in a proof file leaves open. Values at which a tactic fails are the goal's own only if
+    the tactic is the whole answer."""
+    unit = os.path.dirname(file.removeprefix("proofs/")).replace("/", "::")
+    names = re.match(r"error: `([^`]+)`: ?(.*)", text, re.S)
+    if not names or GONE.search(text):
+        return []
+    begin, end = answers(proof).get(names[1], (0, 0))
+    whole = bool(BY_TACTIC.search(" ".join(proof.split("\n")[begin:end])))
+    unfound = bool(UNFOUND.search(names[2]))
+    own = FALSE if unfound and whole and VALUES.search(names[2]) else NO_PROOF if unfound else TEXT
+    goals = {it for it in resting(proof, names[1]) if f"{it} : goal." in proof}
+    return [Open(unit, it, own if it == names[1] else TEXT) for it in sorted(goals)]
+
+
+def of_place(match: re.Match[str], text: str, texts: dict[str, str], report: Report) -> None:
+    """Adds what an item with a place says to a report."""
+    file, line, said = match[1], int(match[2]) - 1, text[match.start(3) :]
+    if file.startswith("proofs/"):
+        if said.startswith("error: "):
+            report.opens += of_answer(file, said, texts.get(file, ""))
+        return
+    if said.startswith("error"):
+        report.broken.append((file, line, said.split("\n")[0]))
+        return
+    goal = re.search(r"it is not proved that .*?\(`([^`]+)`\)", said, re.S)
+    after = (it for it in functions(file, texts.get(file, ""), homes(texts)) if it.last >= line)
+    function = next(after, None)
+    if goal and function:
+        report.opens.append(Open(function.unit, goal[1], FALSE if VALUES.search(said) else NO_PROOF))
+
+
+def report_of(said: str, texts: dict[str, str]) -> Report:
+    """Reads what a check says of sources and proof files with these texts."""
+    unknown = {*re.findall(r"has no function `([^`]+)`", said)}
+    judged = bool(re.search(r"(?m)^(?:only=\d+ proved=|logic=)", said))
+    report = Report([], set(), {}, [], unknown, judged, said)
+    for text in items(said):
+        placed, function = PLACED.match(text), OF_FUNCTION.match(text)
+        if placed:
+            of_place(placed, text, texts, report)
+        if function:
+            report.named.add(function[1])
+            calls = re.search(r"it calls (.*?),? which (?:is|are) not", function[2])
+            if calls:
+                waits = {it.split("::", 1)[-1] for it in re.findall(r"`([^`]+)`", calls[1])}
+                report.waits.setdefault(function[1], set()).update(waits)
+            goals = re.search(r"did not prove ((?:(?:, | and )?`[^`]+`)+)", function[2])
+            unit = re.search(r"answers in (?:\./)?proofs/(\S+)/\w+\.antt", function[2])
+            owner = unit[1].replace("/", "::") if unit else function[1]
+            report.opens += [Open(owner, it, NO_PROOF) for it in re.findall(r"`([^`]+)`", goals[1] if goals else "")]
+        false, untried = OF_FILE.match(text), NOT_TRIED.match(text)
+        if false:
+            report.opens.append(Open(false[2].replace("/", "::"), false[1], FALSE))
+        if untried:
+            report.waits.setdefault(untried[1], set())
+    return report
