@@ -116,7 +116,7 @@ def level_groups(size):
 
 
 def deep_data(size):
-    """Nine volumes, each nested in the previous one, with data in the innermost, over which each level has a checksum."""
+    """Nine volumes, each nested in the previous one, with data in the innermost: each level has a checksum over these."""
     inner = volume(file(bytes(size - 4096), kind=0x01))
     for _ in range(8):
         inner = volume(file(section(VOLUME, inner)))
