@@ -116,7 +116,7 @@ def level_groups(size):
 
 
 def deep_data(size):
-    """Nine volumes, each nested in the previous one, with data in the innermost: each level has a checksum over these."""
+    """Nine volumes, each nested in the previous one, with data in the innermost. Each level has a checksum of these."""
     inner = volume(file(bytes(size - 4096), kind=0x01))
     for _ in range(8):
         inner = volume(file(section(VOLUME, inner)))
