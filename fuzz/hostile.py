@@ -98,7 +98,7 @@ def pads(size):
 
 
 def levels(size):
-    """Eight volumes, one in the other, each with empty sections beside it."""
+    """Nine volumes, each nested in the previous one, each with empty sections."""
     count = 10000 if size == 16 * MIB else size // 40
     inner = b""
     for _ in range(9):
@@ -107,7 +107,7 @@ def levels(size):
 
 
 def level_groups(size):
-    """Eight groups, one in the other, each with empty sections beside it."""
+    """Eight groups, each nested in the previous one, with empty sections beside each and in the innermost."""
     count = 10000 if size == 16 * MIB else size // 40
     inner = EMPTY_SECTION * count
     for _ in range(8):
@@ -116,7 +116,7 @@ def level_groups(size):
 
 
 def deep_data(size):
-    """Eight volumes, one in the other, with data in the innermost: each level has a file sum over all of them."""
+    """Nine volumes, each nested in the previous one, with data in the innermost. Each level has a checksum of these."""
     inner = volume(file(bytes(size - 4096), kind=0x01))
     for _ in range(8):
         inner = volume(file(section(VOLUME, inner)))
@@ -180,7 +180,7 @@ def groups_of_three(size):
 
 
 def nested_sections(size):
-    """Volumes nested as deep as they may be, the innermost with empty sections in its file."""
+    """Eight volumes, each nested in the previous one, the innermost with empty sections in its file."""
     inner = volume(file(EMPTY_SECTION * ((size - 2000) // 4)))
     for _ in range(7):
         inner = volume(file(section(VOLUME, inner)))
