@@ -149,32 +149,32 @@ def homes(texts: dict[str, str]) -> dict[str, list[str]]:
     return {name: module_of(file) for file, text in sources.items() for name in TYPE.findall(text)}
 
 
-def last_of(lines: list[str], first: int, indent: str) -> int | None:
-    """The last line of the function that begins at a line, or nothing if it has no body."""
+def last_of(lines: list[str], first: int, indent: str, in_trait: bool) -> int | None:
+    """The last line of the function that begins at a line, or nothing if it has no body, as only one of a trait."""
     opened = False
     for number in range(first, len(lines)):
         line = lines[number]
-        if number == first or line.startswith((f"{indent}{{", f"{indent})")):
-            opened = opened or line.endswith(("{", "{}"))
-        if opened and (line.startswith(f"{indent}}}") or line.endswith("{}")):
+        opens = number == first or line.startswith((f"{indent}{{", f"{indent})"))
+        opened = opened or opens and line.endswith(("{", "{}"))
+        if opened and (line.startswith(f"{indent}}}") or opens and line.endswith("{}")):
             return number
-        if not opened and line.endswith(";"):
+        if in_trait and not opened and line.endswith(";"):
             return None
     return None
 
 
 def functions(file: str, text: str, types: dict[str, list[str]]) -> list[Function]:
     """The functions of a source that have bodies, in their order."""
-    lines, found, holder, cycle = text.split("\n"), [], "", ""
+    lines, found, holder, cycle, in_trait = text.split("\n"), [], "", "", False
     parts = module_of(file)
     for number, line in enumerate(lines):
-        begins, is_cycle = FUNCTION.match(line), CYCLE.match(line)
-        if HOLDER.match(line):
-            holder = holder_of(" ".join(lines[number : number + 6]))
+        begins, is_cycle, holds = FUNCTION.match(line), CYCLE.match(line), HOLDER.match(line)
+        if holds:
+            holder, in_trait = holder_of(" ".join(lines[number : number + 6])), holds[1] == "trait"
         elif line.startswith("}"):
-            holder = ""
+            holder, in_trait = "", False
         cycle = is_cycle[1] if is_cycle else cycle
-        last = last_of(lines, number, begins[1]) if begins else None
+        last = last_of(lines, number, begins[1], in_trait) if begins else None
         if begins and last is not None:
             inside = [*types.get(holder, parts), holder] if begins[1] and holder else parts
             path = "::".join([*inside, begins[2]])
