@@ -1,4 +1,5 @@
-# shellcheck shell=bash Shared code of the tests of the recipes: the made images in $room/images, and functions that
+# shellcheck shell=bash
+# Shared code of the tests of the recipes: the made images in $room/images, and functions that
 # check a run. A test sources this file and ends with `tried`. It works in a scratch folder, and writes nothing beside
 # the sources.
 set -euo pipefail
