@@ -46,7 +46,7 @@
  *   1 to 24   The first fault of the input. docs/FAULTS.md lists the faults and their order. 24 is out of memory. It
  *             may replace any other result as soon as memory runs out; but a call that reads its input as a volume
  *             returns it only if that input begins with the header of a volume. Faults 22 and 23 of fv_extract are
- *             those of the requested part.
+ *             about the requested part.
  *   257       There is no file or section with the number that was passed. Returned only if the input is a volume.
  *   256       The buffer is too small. Returned only if the input has no fault and the part exists. If the call
  *             writes a count, the count is then the number of elements that the buffer needs.
@@ -169,7 +169,7 @@ uint32_t fv_normalise(const uint8_t *input, size_t len, uint8_t *FV_RESTRICT buf
                       fv_fault *FV_RESTRICT fault);
 
 /* Does the same for a flash image: replaces each volume that fv_scan finds in it by its canonical image, and keeps all
- * other bytes. The fault is that of the first volume that has no canonical image, with its offset in the flash image.
+ * other bytes. The fault is in the first volume that has no canonical image, with its offset in the flash image.
  * 24 is returned only if a volume begins in an image within the limit. */
 uint32_t fv_normalise_image(const uint8_t *image, size_t len, uint8_t *FV_RESTRICT buffer, size_t buffer_len,
                             fv_fault *FV_RESTRICT fault);
@@ -295,7 +295,7 @@ FV_ASSERT(sizeof(fv_section) == 40 && offsetof(fv_section, parent) == 8 && offse
 /* Writes the sections of a file of the input volume, in preorder, to the start of the buffer: each group is followed by
  * the sections in it. The number of a section is its place in this order, counted from 0. `file` is the place of the
  * file among those that fv_files writes. Sets *count to the number of sections, which is 0 if the data of the file are
- * not sections. (For this call, those of a security core are not.) The sections of a nested volume are not included:
+ * not sections. (For this call, the data of a security core are not.) The sections of a nested volume are not included:
  * fv_tree lists them.
  * Returns 0, 256 if *count > buffer_count, or 257 if the volume has no such file. Otherwise returns the first fault of
  * the input, 1 to 21, or 24. Leaves *count unchanged after a fault and after 257. */
@@ -310,8 +310,8 @@ uint32_t fv_sections(const uint8_t *input, size_t len, uint64_t file, fv_section
  * canonical image, and the bytes between sections are 0. Plain data, and the body of a section that holds bytes, are as
  * they are in the input.
  * Returns 0, or 256 if buffer_len < *part_len; so pass an empty buffer to ask for the number. Returns 257 if the volume
- * has no such file or section. Otherwise returns the first fault of the input, 1 to 21; or that of a volume in the part
- * that does not fit in its canonical form, 22 or 23; or 24. Leaves *part_len unchanged after a fault and after 257. */
+ * has no such file or section. Otherwise returns the first fault of the input, 1 to 21; or 22 or 23, if a volume in the
+ * part does not fit in its canonical form; or 24. Leaves *part_len unchanged after a fault and after 257. */
 uint32_t fv_extract(const uint8_t *input, size_t len, uint64_t file, uint64_t section,
                     uint8_t *FV_RESTRICT buffer, size_t buffer_len, uint64_t *FV_RESTRICT part_len,
                     fv_fault *FV_RESTRICT fault);
@@ -347,8 +347,8 @@ FV_ASSERT(sizeof(fv_node) == 80 && offsetof(fv_node, len) == 8 && offsetof(fv_no
 /* Writes the whole tree of the input volume to the start of the buffer: the volume, its files, their sections and, in
  * the same way, each volume that a section holds. Each row is followed by the rows of what it holds. Row 0 is the
  * volume itself. The files of a volume are those of fv_files. Sets *count to the number of rows. The bytes at an offset
- * are as stored in the input, also those of a nested volume, whereas fv_extract writes its canonical image. Data are
- * read once. To find the places of the parts, headers are read again, except those of the volume's own files.
+ * are as stored in the input, also in a nested volume, whereas fv_extract writes its canonical image. Data are read
+ * once. To find the places of the parts, headers are read again, except the headers of the volume's own files.
  * Returns 0, or 256 if *count > buffer_count. Otherwise returns the first fault of the input, 1 to 21, or 24, and
  * leaves *count unchanged. */
 uint32_t fv_tree(const uint8_t *input, size_t len, fv_node *FV_RESTRICT buffer, size_t buffer_count,
@@ -358,7 +358,7 @@ uint32_t fv_tree(const uint8_t *input, size_t len, fv_node *FV_RESTRICT buffer, 
  * in the same order. A volume's digest covers its canonical image, as for fv_digest. A file's digest covers its data as
  * the canonical image has them, which is what fv_extract writes. The digest of a section that holds bytes covers its
  * body; a section that holds sections or a volume has 32 zero bytes instead of a digest. Sets *count to the number of
- * digests, which is that of the rows. The input is read once, and no image is kept in memory.
+ * digests: one for each row. The input is read once, and no image is kept in memory.
  * Returns 0, or 256 if *count > buffer_count. Otherwise returns the first fault of the input, 1 to 24, and leaves
  * *count unchanged. */
 uint32_t fv_list_sums(const uint8_t *input, size_t len, fv_sha256 *FV_RESTRICT buffer, size_t buffer_count,

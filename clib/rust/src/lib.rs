@@ -51,7 +51,7 @@ pub use rows::{
 use fault::RawFault;
 use rows::Raw;
 
-/// The version of this crate, which is that of the `fv.h` that it declares.
+/// The version of this crate and of the `fv.h` that it declares.
 pub const VERSION: &str = env!("CARGO_PKG_VERSION");
 
 /// The number of rows that the first buffer has room for. If there are more, the call is repeated.
@@ -440,8 +440,8 @@ pub fn sections(input: &[u8], file: usize) -> Result<Rows<Section>, Fault> {
 /// Returns the whole tree of the input volume: the volume, its files, their sections and, in the
 /// same way, each volume that a section holds. Each row is followed by the rows of what it holds.
 /// The first row is the volume itself. The bytes at an offset are as stored in the input, also
-/// those of a nested volume, whereas [`extract`] returns its canonical image. Takes about as long
-/// as [`files`].
+/// in a nested volume, whereas [`extract`] returns its canonical image. Takes about as long as
+/// [`files`].
 ///
 /// ```
 /// # include!(concat!(env!("CARGO_MANIFEST_DIR"), "/tests/sample/volumes.rs"));
@@ -520,8 +520,8 @@ pub enum Part {
 /// # Errors
 ///
 /// 257 if the volume has no such file or section ([`Fault::is_not_found`]). Otherwise the first
-/// fault of the input, 1 to 21; or that of a volume in the part that does not fit in its canonical
-/// form, 22 or 23; or 24.
+/// fault of the input, 1 to 21; or 22 or 23, if a volume in the part does not fit in its canonical
+/// form; or 24.
 pub fn extract(input: &[u8], file: usize, part: Part) -> Result<Vec<u8>, Fault> {
     let section = match part {
         Part::Data => u64::MAX,
