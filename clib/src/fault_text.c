@@ -18,7 +18,7 @@ static const char *const texts[] = {
     "the size of a file is wrong",
     "a file in an FFS2 volume has the large-file attribute",
     "the data of a file are damaged: the file checksum is wrong",
-    "a file is marked fixed: it may not be moved, so the volume cannot be rebuilt",
+    "a file is marked fixed, and only volumes whose files may all be moved are read",
     "the free space of a volume is not erased",
     "two files in a volume have the same name",
     "the volume top file is not at the end of its volume",

@@ -36,7 +36,7 @@ pub mod number {
     pub const LARGE_FILE: u32 = 13;
     /// The data of a file are damaged: the file checksum is wrong.
     pub const FILE_SUM: u32 = 14;
-    /// A file is marked fixed: it may not be moved, so the volume cannot be rebuilt.
+    /// A file is marked fixed, and only volumes whose files may all be moved are read.
     pub const FIXED: u32 = 15;
     /// The free space of a volume is not erased.
     pub const FREE_SPACE: u32 = 16;

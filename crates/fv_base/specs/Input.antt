@@ -1,6 +1,6 @@
 -- The bytes that a reader gave, the reasons why reading stopped, and the bytes that a writer holds when a run has
 -- stopped.
-use Rattle.std.specs.Prelude.{ℕ, ◌≡◌, ◌<◌, ◌≤◌, List, length, Option, take}
+use Rattle.std.specs.Prelude.{ℕ, ◌≡◌, ◌<◌, ◌≤◌, ◌⊎◌, List, length, Option, take}
 use Rattle.std.specs.Io.KnownBytes.{Consumes, IsAtEnd, Appends}
 use Rattle.fv_base.specs.declared.fault.Fault.{Fault}
 use Rattle.fv_base.specs.declared.fault.FaultKind.{FaultKind}
@@ -10,6 +10,11 @@ use Rattle.fv_base.specs.Limits.{volume_limit}
 -- the maximum number of bytes that a single read asks for
 abbrev pub read_limit : ℕ
 read_limit = 65536
+
+-- the least number of bytes for which memory is taken before an input is read: the length of a volume header without
+-- its block map
+abbrev pub least_room : ℕ
+least_room = 56
 
 -- the reader gave these bytes, and they are all that it had
 pub record GivesAll (old new : Option (List ℕ)) (bytes : List ℕ) : Type 0 where
@@ -42,9 +47,12 @@ pub record StopsWithin (limit : ℕ) (old new : Option (List ℕ)) (fault : Faul
   pub depth : fault.place.depth ≡ 0
   pub cause : ReadStopsFor limit fault.kind old new fault.place.offset
 
--- reading the input stopped with this fault
+-- reading the input stopped with this fault. If memory ran out, it ran out before the first byte, or after more than
+-- `least_room` bytes
 abbrev pub ReadStops : Option (List ℕ) → Option (List ℕ) → Fault → Type 0
-ReadStops = StopsWithin volume_limit
+ReadStops old new fault =
+    StopsWithin volume_limit old new fault
+    × (fault.kind ≡ kinds.OutOfMemory → (GaveCount old new 0 ⊎ GaveMore old new least_room))
 
 -- writing stopped with a WriteFault: the writer holds a first part of the output, which is not all of it, and the
 -- fault's offset is the length of that part

@@ -149,7 +149,7 @@ impl FaultKind {
             FaultKind::LargeFile => "a file in an FFS2 volume has the large-file attribute",
             FaultKind::FileSum => "the data of a file are damaged: the file checksum is wrong",
             FaultKind::Fixed =>
-                "a file is marked fixed: it may not be moved, so the volume cannot be rebuilt",
+                "a file is marked fixed, and only volumes whose files may all be moved are read",
             FaultKind::FreeSpace => "the free space of a volume is not erased",
             FaultKind::DuplicateName => "two files in a volume have the same name",
             FaultKind::TopFile => "the volume top file is not at the end of its volume",

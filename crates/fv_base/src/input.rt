@@ -1,11 +1,12 @@
 //! Reading an input to its end.
 
-ghost use Rattle.std.specs.Prelude.{◌≡◌, ◌≤◌, ◌++◌, ℕ, List, [], length, true, false, IfOk, IfErr, OnOk, vec_len};
+ghost use Rattle.std.specs.Prelude.{◌≡◌, ◌<◌, ◌≤◌, ◌+◌, ◌++◌, ◌⊎◌, ℕ, List, [], length, true, false};
+ghost use Rattle.std.specs.Prelude.{IfOk, IfErr, OnOk, OnErr, vec_len, vec_capacity};
 ghost use Rattle.fv_base.specs.Port.{inner_of, has_erred};
-ghost use Rattle.fv_base.specs.Input.{GivesAll, ReadsWhole, ReadStops, StopsWithin, read_limit};
+ghost use Rattle.fv_base.specs.Input.{GaveCount, GivesAll, ReadsWhole, ReadStops, StopsWithin, read_limit};
 
 use crate::fault::{Fault, FaultKind};
-use crate::limits::{READ_LIMIT, VOLUME_LIMIT};
+use crate::limits::{LEAST_ROOM, READ_LIMIT, VOLUME_LIMIT};
 use crate::port::Port;
 use std::alloc::{AllocError, Global};
 use std::io::{ErrorKind, Read};
@@ -15,20 +16,31 @@ pub trait Collector {
     /// Its state is the result of collecting exactly these bytes.
     ghost holds: { Self → List ℕ → Type 0 };
 
+    /// It has to take more memory to hold this many bytes.
+    ghost lacks: { Self → ℕ → Type 0 };
+
     /// Takes the next piece of the input, which is at most as long as one read. A collector that
-    /// held some bytes then holds these bytes followed by the piece.
+    /// held some bytes then holds these bytes followed by the piece, and what it had memory for
+    /// before it still has memory for.
     ///
     /// # Errors
     ///
-    /// AllocError if memory runs out.
+    /// AllocError if memory runs out, only if the collector lacks memory for the bytes and the
+    /// piece.
     fn take(&mut self, piece: &[u8]) -> Result<(), AllocError>
         requires { length piece.now ≤ read_limit }
-        ensures { OnOk result ((before : List ℕ) → holds self.old before → holds self.new (before ++ piece.now)) };
+        ensures holds { OnOk result ((before : List ℕ) → holds self.old before
+            → holds self.new (before ++ piece.now)) }
+        ensures room { OnOk result ((n : ℕ) → lacks self.new n → lacks self.old n) }
+        ensures full { OnErr result ((before : List ℕ) → holds self.old before
+            → lacks self.old (length before + length piece.now)) };
 }
 
 /// A vector collects the bytes themselves.
 impl Collector for Vec<u8> {
     ghost holds = { λ v bytes. v.items ≡ bytes };
+
+    ghost lacks = { λ v n. vec_capacity v < n };
 
     fn take(&mut self, piece: &[u8]) -> Result<(), AllocError> {
         self.extend_from_slice(piece)
@@ -71,6 +83,12 @@ pub fn read_to_end<R: Read, C: Collector>(
 
     // If ReadFault is returned, the port's error flag is set.
     ensures erred { IfErr result (λ f. f.kind ≡ FaultKind.ReadFault → has_erred reader.new ≡ true) }
+
+    // Memory runs out before the first byte, or after a number of bytes for which the collector
+    // lacked memory at first.
+    ensures memory { IfErr result (λ f. f.kind ≡ FaultKind.OutOfMemory → ((count : ℕ)
+        × GaveCount (R.remaining (inner_of reader.old)) (R.remaining (inner_of reader.new)) count
+        × ((count ≡ 0) ⊎ C.lacks collector.old count))) }
 {
     let mut store = zeros(alloc, READ_LIMIT)?;
     let chunk = store.as_mut_slice();
@@ -94,19 +112,20 @@ pub fn read_to_end<R: Read, C: Collector>(
 
 /// Reads an input to its end: at most as many bytes as a volume may have. A read that returns
 /// `Interrupted` is repeated, and counts as a read. The vector is allocated with the port's `room`,
-/// up to the limit of a volume.
+/// which counts as 56 bytes if it is less, up to the limit of a volume.
 ///
 /// # Errors
 ///
 /// ReadFault at the number of bytes read so far, if the reader fails or the reads run out. Length
-/// at the limit, if there are more bytes. OutOfMemory at 0. The first of these to occur is
-/// returned.
+/// at the limit, if there are more bytes. OutOfMemory at 0, only before the first byte or after at
+/// least 57 bytes. The first of these to occur is returned.
 pub fn read_input<R: Read>(alloc: Global, reader: &mut Port<R>) -> Result<Vec<u8>, Fault>
     // The result is all the bytes that the reader had, in order, and the reader is at its end.
     ensures ok { IfOk result
         (λ v. ReadsWhole (R.remaining (inner_of reader.old)) (R.remaining (inner_of reader.new)) v.items) }
 
-    // The fault is ReadFault, Length or OutOfMemory, never another.
+    // The fault is ReadFault, Length or OutOfMemory, never another. Memory runs out before the
+    // first byte, or after more than 56 bytes.
     ensures err { IfErr result (ReadStops (R.remaining (inner_of reader.old)) (R.remaining (inner_of reader.new))) }
 
     // For a port whose error flag was not set before: if ReadFault is returned, the flag is set
@@ -114,7 +133,8 @@ pub fn read_input<R: Read>(alloc: Global, reader: &mut Port<R>) -> Result<Vec<u8
     ensures erred { has_erred reader.old ≡ false
         → IfErr result (λ f. f.kind ≡ FaultKind.ReadFault → has_erred reader.new ≡ true) }
 {
-    let mut bytes = Vec::with_capacity(alloc, reader.room().min(VOLUME_LIMIT as usize))?;
+    let room = reader.room().max(LEAST_ROOM).min(VOLUME_LIMIT as usize);
+    let mut bytes = Vec::with_capacity(alloc, room)?;
     read_to_end(alloc, reader, VOLUME_LIMIT as u32, &mut bytes)?;
     Ok(bytes)
 }

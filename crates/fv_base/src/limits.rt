@@ -1,8 +1,9 @@
 //! The limits on volumes, on their headers, on nesting, on hexadecimal text and on one read. The
 //! code defines each of them only here. Each of them also has a definition with a number of its
 //! own: in `specs/Limits.antt` for volumes, their headers and the nesting depth, in
-//! `specs/Input.antt` for one read, and in `specs/HexIn.antt` of `fv_text` for hexadecimal text.
-//! Contracts tie the two together, so a limit must be changed in both places, or the proof fails.
+//! `specs/Input.antt` for one read and for the least memory of an input, and in `specs/HexIn.antt`
+//! of `fv_text` for hexadecimal text. Contracts tie the two together, so a limit must be changed
+//! in both places, or the proof fails.
 
 /// The maximum length of a volume, and of the binary input of a run, in bytes.
 pub const VOLUME_LIMIT: u64 = 268_435_456;
@@ -23,3 +24,7 @@ pub const TEXT_LIMIT: u64 = 4 * VOLUME_LIMIT;
 
 /// The maximum number of bytes that a single read asks for.
 pub const READ_LIMIT: usize = 65_536;
+
+/// The least number of bytes for which memory is taken before an input is read: a volume header
+/// without its block map.
+pub const LEAST_ROOM: usize = 56;

@@ -94,6 +94,7 @@ fn sorted_keys<F: Named>(alloc: Global, files: &[F], packing: Packing) -> Result
     ensures sorted { IfOk result (λ keys. IsSorted nat_cmp keys.items) }
     ensures whole { IfOk result (λ _. AllByRecursion IsName (names_in (map F.named files.now))) }
     ensures err { IfErr result (λ f. f ≡ out_of_memory) }
+    ensures some { IfErr result (λ _. 0 < length files.now) }
 {
     let mut keys = Vec::with_capacity(alloc, files.len())?;
     for file in files {
@@ -136,7 +137,7 @@ impl NameIndex {
     ///
     /// # Errors
     ///
-    /// OutOfMemory at 0.
+    /// OutOfMemory at 0, only if there is a file.
     pub fn of<F: Named>(alloc: Global, files: &[F]) -> Result<NameIndex, Fault>
         requires { length files.now < 2 ^ 32 }
 
@@ -144,8 +145,9 @@ impl NameIndex {
         // then by number.
         ensures found { IfOk result (λ index. IsIndex (names_in (map F.named files.now)) (entries_of index)) }
 
-        // The only error is OutOfMemory.
+        // The only error is OutOfMemory, and only if there is a file.
         ensures err { IfErr result (λ f. f ≡ out_of_memory) }
+        ensures some { IfErr result (λ _. 0 < length files.now) }
     {
         let packing = Packing::of(files.len());
         let mut sorted = Vec::with_capacity(alloc, files.len())?;

@@ -1,6 +1,6 @@
 //! Hexadecimal text as an input: digits in upper or lower case, and white space, which is ignored.
 
-ghost use Rattle.std.specs.Prelude.{◌≡◌, ◌≤◌, ◌%◌, [], ℕ, List, false, length, IfOk, IfErr, OnOk, vec_len};
+ghost use Rattle.std.specs.Prelude.{◌≡◌, ◌≤◌, ◌%◌, ⊤, [], ℕ, List, false, length, IfOk, IfErr, OnOk, vec_len};
 ghost use Rattle.fv_base.specs.Words.{volume_limit, inner_of, has_erred};
 ghost use Rattle.fv_text.specs.inner.HexDecoding.{Decodes, DecodesPairs};
 ghost use Rattle.fv_text.specs.HexIn.{SpellsWhole, TextStops, RefusesText, DigitsSpell, squeezed};
@@ -86,6 +86,9 @@ impl Decoder {
 
 impl Collector for Decoder {
     ghost holds = { Decodes };
+
+    // Nothing is said of its memory.
+    ghost lacks = { λ _ _. ⊤ };
 
     // A text that was found wrong stays wrong.
     fn take(&mut self, piece: &[u8]) -> Result<(), AllocError> {

@@ -3,7 +3,8 @@ use Rattle.std.specs.Io.KnownBytes.{Consumes}
 use Rattle.fv_base.specs.Words.{inner_of, has_erred}
 use Rattle.fv_base.proofs.input.read_to_end.Given as goal
 
--- what the reader gave so far is what the collector holds, and without an error each read gave a byte
+-- what the reader gave so far is what the collector holds, what the collector had memory for at first it still has
+-- memory for, and without an error each read gave a byte
 abbrev pub invariant-loop-turn : goal.invariant-loop-turn
 invariant-loop-turn g l =
     (bytes : List ℕ)
@@ -12,3 +13,4 @@ invariant-loop-turn g l =
     × (l.count ≡ length bytes)
     × (length bytes ≤ l.limit)
     × (has_erred l.reader ≡ false → l._turn ≤ length bytes)
+    × ((n : ℕ) → g.C.Collector.lacks l.collector n → g.C.Collector.lacks l.initial.collector n)

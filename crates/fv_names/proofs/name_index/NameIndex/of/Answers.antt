@@ -1,4 +1,5 @@
 use Rattle.std.proofs.Common.{◌≡◌, ◌<◌, ◌≤◌, ◌%◌, ◌^◌, ℕ, [], ◌∷◌, ◌++◌, get_or, length, List, map, sym, ap, ◌∙◌, subst, arith}
+use Rattle.std.proofs.Common.{Result, Ok, Err, IfErr}
 use Rattle.std.specs.List.Sorted.{IsPermutation}
 use Rattle.std.proofs.lemmas.List.{length-map, map_more, take_all}
 use Rattle.std.proofs.lemmas.List.Sorted.{IsPermutation-trans}
@@ -37,6 +38,19 @@ loop-key-preserved g c =
     c.in_ok-push.ensures.items ∙ ap (λ (e : Entry). old ++ e ∷ []) (c.entry_at.ensures no_named)
     ∙ ap (λ (n : ℕ). old ++ entry_at files n ∷ []) c.number-number.ensures
     ∙ ap (λ (es : List Entry). es ++ f (get_or keys i 0) ∷ []) c.loop-key.invariant ∙ sym (map_more f keys i 0 c.loop-key-test.true)
+
+-- what holds anyway holds if there is an error
+of_error : {A E : Type 0} (r : Result A E) (P : Type 0) → P → IfErr r (λ _. P)
+of_error (Ok a) P p = tt
+of_error (Err e) P p = p
+
+pub returns-in_err-push-clause-some : goal.returns-in_err-push-clause-some
+returns-in_err-push-clause-some g c =
+    let files : List NamedFile = map g.F.Named.named c.args.files.now in
+    let count = length-map c.args.files.now g.F.Named.named in
+    let of_files = within files c.of-packing.result.bits (omega (arith, count, c.of-packing.ensures.room)) c.deref-key-items.result.now
+    c.in_ok-keys.keys.items c.deref-key-items.ensures.value c.in_ok-keys.ensures.keys c.loop-key.key-index c.loop-key-test.true in
+    of_error c.from_residual-in_err-push.result _ (omega (arith, of_files, count))
 
 pub returns-clause-found : goal.returns-clause-found
 returns-clause-found g c =

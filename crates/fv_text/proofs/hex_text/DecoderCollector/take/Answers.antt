@@ -12,11 +12,11 @@ few_digits was now pairs waiting all piece was_is now_is joined room waited shor
     let long : length all ≡ length waiting + length (squeezed piece) = ap length joined ∙ length-append waiting (squeezed piece) in
     omega (arith, long, squeezed_short piece)
 
-pub returns-then-self : goal.returns-then-self
-returns-then-self c = λ before so_far. stays_wrong c.args.self.now before c.args.piece.now c.if-self.true so_far
+pub returns-then-self-clause-holds : goal.returns-then-self-clause-holds
+returns-then-self-clause-holds c = λ before so_far. stays_wrong c.args.self.now before c.args.piece.now c.if-self.true so_far
 
-pub returns-in_ok-push : goal.returns-in_ok-push
-returns-in_ok-push c = λ before so_far.
+pub returns-in_ok-push-clause-holds : goal.returns-in_ok-push-clause-holds
+returns-in_ok-push-clause-holds c = λ before so_far.
     let was = so_far.right c.if-self.false in
     let decoded = c.in_ok-decode.ensures.read in
     let left = c.in_ok-push.ensures.items ∙ ap (λ (l : List ℕ). l ++ c.in-Some.digit ∷ []) c.in_ok-decode.ensures.empty in
@@ -30,8 +30,8 @@ returns-in_ok-push c = λ before so_far.
       waiting = omega (arith, c.in_ok-push.ensures.len, c.decode.new.self.digits.ok.0, ap length c.in_ok-decode.ensures.empty);
     }
 
-pub returns-in_default : goal.returns-in_default
-returns-in_default c = λ before so_far.
+pub returns-in_default-clause-holds : goal.returns-in_default-clause-holds
+returns-in_default-clause-holds c = λ before so_far.
     let was = so_far.right c.if-self.false in
     let decoded = c.in_ok-decode.ensures.read in
     record {
