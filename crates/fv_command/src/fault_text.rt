@@ -1,7 +1,7 @@
 //! The line of a run without a result: the arguments are wrong, or a fault stopped the run.
 
-ghost use Rattle.std.specs.Prelude.{◌≡◌, ◌≢◌, ◌⊎◌, ◌++◌, true};
-ghost use Rattle.fv_base.specs.Words.{is_flushed};
+ghost use Rattle.std.specs.Prelude.{◌≡◌, ◌≢◌, ◌⊎◌, ◌++◌, true, false};
+ghost use Rattle.fv_base.specs.Words.{has_erred, is_flushed};
 ghost use Rattle.fv_command.specs.Endings.{Ends, numbered_line, refusal_line, side_fault_line};
 ghost use Rattle.fv_command.specs.inner.RunSteps.{Written};
 ghost use Rattle.fv_text.specs.Words.{StopsIn, change, shown};
@@ -76,8 +76,10 @@ pub fn say<W: Write>(writer: &mut Port<W>, line: &str, status: Status) -> Status
     // after it failed, and Refused is returned.
     ensures ends { Ends status line.now (change W.contents writer.old writer.new) result }
 
-    // Unless the status is Refused, the last call to the writer was a flush.
+    // The last call to the writer was a flush, unless the status is Refused and a call to the
+    // writer has failed.
     ensures flushed { result ≢ Status.Refused → is_flushed writer.new ≡ true }
+    ensures fine { has_erred writer.new ≡ false → is_flushed writer.new ≡ true }
 {
     let is_written = write_line(writer, line.as_bytes());
     finish(writer, is_written, status)
@@ -92,6 +94,7 @@ pub fn refuse<W: Write>(writer: &mut Port<W>, refusal: Refusal) -> Ending
     // Unless a write of the line failed, the last call to the writer was a flush.
     ensures flushed { StopsIn (shown W.contents writer.old) (shown W.contents writer.new) (refusal_line refusal)
         ⊎ (is_flushed writer.new ≡ true) }
+    ensures fine { has_erred writer.new ≡ false → is_flushed writer.new ≡ true }
 {
     let is_written = write_refusal(writer, refusal);
     let status = finish(writer, is_written, Status::Refused);

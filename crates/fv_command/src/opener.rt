@@ -103,8 +103,10 @@ pub fn run_over<O: Opener, W: Write>(
     ensures runs { RunsOver O.Standard.remaining O.File.remaining (O.opens opener.now) (O.is_standard opener.now)
         plan.now result (change W.contents writer.old writer.new) }
 
-    // Unless the status is Refused, the last call to the writer was a flush.
+    // The last call to the writer was a flush, unless the status is Refused and a call to the
+    // writer has failed.
     ensures flushed { result.status ≢ Status.Refused → is_flushed writer.new ≡ true }
+    ensures fine { has_erred writer.new ≡ false → is_flushed writer.new ≡ true }
 {
     let first = first_source(opener, plan);
     let second = second_source(opener, plan);

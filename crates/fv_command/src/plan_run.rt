@@ -1,7 +1,7 @@
 //! Running a plan over readers and a writer.
 
-ghost use Rattle.std.specs.Prelude.{◌≡◌, ◌≢◌, ℕ, Bool, List, option_map, true};
-ghost use Rattle.fv_base.specs.Words.{is_flushed};
+ghost use Rattle.std.specs.Prelude.{◌≡◌, ◌≢◌, ℕ, Bool, List, option_map, true, false};
+ghost use Rattle.fv_base.specs.Words.{has_erred, is_flushed};
 ghost use Rattle.fv_command.specs.inner.RunSteps.{PutsCommand};
 ghost use Rattle.fv_text.specs.Words.{Change, change};
 ghost use Rattle.fv_command.specs.PlanRuns.{HasText, Runs};
@@ -126,8 +126,10 @@ pub fn run_plan<First: Read, Second: Read, W: Write>(
       output = change W.contents writer.old writer.new;
     }) }
 
-    // Unless the status is Refused, the last call to the writer was a flush.
+    // The last call to the writer was a flush, unless the status is Refused and a call to the
+    // writer has failed.
     ensures flushed { result.status ≢ Status.Refused → is_flushed writer.new ≡ true }
+    ensures fine { has_erred writer.new ≡ false → is_flushed writer.new ≡ true }
 {
     let mut ending = Ending {
         status: Status::Refused,

@@ -1,7 +1,7 @@
 //! The end of a run.
 
-ghost use Rattle.std.specs.Prelude.{◌≡◌, ◌≢◌, ◌⊎◌, ℕ, List, true};
-ghost use Rattle.fv_base.specs.Words.{is_flushed, is_writing};
+ghost use Rattle.std.specs.Prelude.{◌≡◌, ◌≢◌, ◌⊎◌, ℕ, List, true, false};
+ghost use Rattle.fv_base.specs.Words.{has_erred, is_flushed, is_writing};
 ghost use Rattle.fv_command.specs.Endings.{Ends};
 ghost use Rattle.fv_command.specs.inner.RunSteps.{Written};
 ghost use Rattle.fv_text.specs.Words.{Shown, StopsIn, shown};
@@ -32,6 +32,10 @@ pub fn finish<W: Write>(writer: &mut Port<W>, is_written: bool, status: Status) 
     // failed.
     ensures last { (text : List ℕ) (before : Shown) → Written is_written text before (shown W.contents writer.old)
         → StopsIn before (shown W.contents writer.new) text ⊎ (is_flushed writer.new ≡ true) }
+
+    // The same, if no call to the writer has failed.
+    ensures fine { (text : List ℕ) (before : Shown) → Written is_written text before (shown W.contents writer.old)
+        → has_erred writer.new ≡ false → is_flushed writer.new ≡ true }
 {
     if !is_written || writer.flush().is_err() {
         return Status::Refused;

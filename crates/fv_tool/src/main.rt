@@ -11,7 +11,7 @@ ghost use Rattle.fv_command.specs.Words.{Ends, exit_code};
 ghost use Rattle.fv_tool.specs.ArgumentRefusals.{line_of, refusal_of, status_of};
 ghost use Rattle.fv_tool.specs.Does.{IsGiven, RunsArguments, RunsProcess};
 ghost use Rattle.std.specs.Prelude.{◌≡◌, ◌≢◌, false, true, IfErr, IfOk};
-ghost use Rattle.fv_base.specs.Words.{is_flushed};
+ghost use Rattle.fv_base.specs.Words.{has_erred, is_flushed};
 ghost use Rattle.std.specs.Process.{exit_status};
 ghost use Rattle.std.specs.Vec.Iter.{into_iter_items};
 
@@ -56,6 +56,7 @@ fn refuse_words<W: Write>(writer: &mut Port<W>, fault: WordFault) -> Ending
     ensures ends { Ends (status_of fault) (line_of fault) (change W.contents writer.old writer.new) result.status }
     ensures why { result.refusal ≡ refusal_of fault }
     ensures flushed { result.status ≢ Status.Refused → is_flushed writer.new ≡ true }
+    ensures fine { has_erred writer.new ≡ false → is_flushed writer.new ≡ true }
 {
     match fault {
         WordFault::Words => Ending {
@@ -85,8 +86,10 @@ fn run_given<O: Opener, W: Write>(
     ensures wrong { result.status ≡ Status.WrongWords
         → Writes (shown W.contents writer.old) (shown W.contents writer.new) (line_of WordFault.Words) }
 
-    // Unless the status is Refused, the last call to the writer was a flush.
+    // The last call to the writer was a flush, unless the status is Refused and a call to the
+    // writer has failed.
     ensures flushed { result.status ≢ Status.Refused → is_flushed writer.new ≡ true }
+    ensures fine { has_erred writer.new ≡ false → is_flushed writer.new ≡ true }
 {
     let plan = match words {
         Ok(words) => parse_words(alloc, &words),
@@ -119,6 +122,7 @@ fn run_process<P: Opener + Process>(alloc: Global, process: &P) -> (Ending, Port
           new = shown P.Writer.contents result.1;
         }) }
     ensures flushed { result.0.status ≢ Status.Refused → is_flushed result.1 ≡ true }
+    ensures fine { has_erred result.1 ≡ false → is_flushed result.1 ≡ true }
 {
     let _held = hold_numbers(process);
     let mut port = Port::new(process.standard_output());
@@ -142,8 +146,8 @@ fn advise<P: Process>(process: &P, ending: Ending) {
 
 // Runs the plan that the arguments of a process ask for, and shows a message at a terminal about
 // how the run ended. Returns the exit code for the status with which the run ended, and the output.
-// Unless the status is Refused, the last call to the output was a flush. This holds for any
-// process: whatever its arguments are, whatever opens its files, and wherever it writes.
+// The last call to the output was a flush, unless the status is Refused and a call to the output
+// has failed. This holds for any process: whatever its arguments are, whatever opens its files, and wherever it writes.
 fn process<P: Opener + Process>(alloc: Global, process: &P) -> (ExitCode, Port<P::Writer>)
     ensures { (writer : P.Writer) × P.is_output process.now writer
         × (ended : Ending) × (exit_status result.0 ≡ exit_code ended.status)
@@ -152,7 +156,8 @@ fn process<P: Opener + Process>(alloc: Global, process: &P) -> (ExitCode, Port<P
           old = seen (P.Writer.contents writer) false;
           new = shown P.Writer.contents result.1;
         })
-        × (ended.status ≢ Status.Refused → is_flushed result.1 ≡ true) }
+        × (ended.status ≢ Status.Refused → is_flushed result.1 ≡ true)
+        × (has_erred result.1 ≡ false → is_flushed result.1 ≡ true) }
 {
     let (ending, output) = run_process(alloc, process);
     advise(process, ending);
