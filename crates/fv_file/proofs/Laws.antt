@@ -48,3 +48,5 @@ pub use Rattle.fv_file.proofs.NewHeaderLemmas.{complement_small, file_written, p
 pub use Rattle.fv_file.proofs.NewHeaderLemmas.{only_written, only_file, only_pad}
 -- it is decided: one of the two holds
 pub use Rattle.fv_file.proofs.DecidedLemmas.{body_decided}
+-- marks of fixed files that are taken away: no byte comes or goes, and where cells tile there is none
+pub use Rattle.fv_file.proofs.UnmarkLemmas.{length-unmarks, none_marked}

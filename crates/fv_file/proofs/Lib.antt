@@ -20,3 +20,4 @@ pub mod StateLemmas
 pub mod StrideLemmas
 pub mod TiledCellLemmas
 pub mod TilingLemmas
+pub mod UnmarkLemmas

@@ -7,5 +7,6 @@ pub mod NewHeaders
 pub mod HeaderReads
 pub mod FileChecks
 pub mod CellForms
+pub mod Unmarking
 pub mod Words
 pub mod inner

@@ -23,7 +23,7 @@ use std::alloc::Global;
 // Returns whether a free cell begins here, which means that all remaining bytes are erased. All of
 // them are looked at only if fewer than 24 are left or `State` is erased. If they are not all
 // erased then, `cell_at` rejects them, so a body is looked through at most once.
-fn is_free(rest: &[u8], polarity: Polarity) -> bool
+pub(crate) fn is_free(rest: &[u8], polarity: Polarity) -> bool
     ensures { result ≡ all_are (erased_byte polarity) rest.now }
 {
     let erased = polarity.erased();
@@ -70,7 +70,7 @@ fn file_cell(offset: u64, head: FileHead, payload: &[u8]) -> Cell<'_>
 }
 
 // Returns the cell at the offset `at`, where no free cell begins, or the first fault there.
-fn cell_at<'a>(
+pub(crate) fn cell_at<'a>(
     rest: &'a [u8],
     at: u64,
     system: FileSystem,
@@ -106,7 +106,7 @@ fn cell_at<'a>(
 }
 
 // Returns the length of a cell in bytes, including its filler.
-fn span_of(cell: &Cell) -> u64
+pub(crate) fn span_of(cell: &Cell) -> u64
     requires { cell_len (cell_form cell.now) < 2 ^ 64 }
     ensures { result ≡ cell_len (cell_form cell.now) }
 {

@@ -13,6 +13,7 @@ mod leading;
 mod new_header;
 pub mod offsets;
 mod state;
+mod unmark;
 
 pub use attributes::FileAttributes;
 pub use cell::Cell;
@@ -24,3 +25,4 @@ pub use new_header::{
     HeadBytes, NEW_STATE_ON_ONES, NEW_STATE_ON_ZEROS, file_head_bytes, pad_head_bytes,
 };
 pub use state::{FileState, file_state};
+pub use unmark::unmark_files;

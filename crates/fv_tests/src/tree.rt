@@ -1,6 +1,7 @@
 //! What neither a contract nor a run of the program says: look-ups, and slices that are lent.
 
 mod lookups;
+mod marks;
 mod views;
 
 use fv_base::Fault;

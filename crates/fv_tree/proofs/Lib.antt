@@ -9,6 +9,7 @@ pub mod FaultPlaceLaws
 pub mod FewStepLaws
 pub mod FileCountLaws
 pub mod FirstLaws
+pub mod FixedMarkLaws
 pub mod Laws
 pub mod LengthLaws
 pub mod ListPairs

@@ -8,6 +8,7 @@ pub mod ReadParts
 pub mod FirstFault
 pub mod InputFaults
 pub mod LocatedFiles
+pub mod Unfixing
 pub mod FileNames
 pub mod LookupInstances
 pub mod SectionWalks

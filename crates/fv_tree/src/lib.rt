@@ -11,6 +11,7 @@
 mod body_cells;
 mod difference;
 mod fault_place;
+mod fixed_marks;
 mod head_difference;
 mod lookup;
 mod named_files;
@@ -25,6 +26,7 @@ mod whole_input;
 pub use body_cells::volume_cells;
 pub use difference::{Difference, Step, Word, first_difference};
 pub use fault_place::fault_within;
+pub use fixed_marks::unfix;
 pub use fv_flash::{Offsets, scan};
 pub use lookup::{Item, Lookup, file_by_name, file_by_type, next_file, section_by_type};
 pub use read::read_volume;

@@ -1,0 +1,259 @@
+-- The marks of fixed files. 1. Where a cell has the fault Fixed, its attributes are there and have the bit. 2. Without the mark the file
+-- has it no more, and the bytes before it are the same. 3. The marks are taken away one after another, and the cells before tile.
+use Rattle.std.proofs.Common.{◌≡◌, ◌≤◌, ◌<◌, ℕ, ◌+◌, ◌-◌, ◌%◌, List, [], ◌∷◌, ◌++◌, length, take, drop, refl, sym, ap, ◌∙◌, subst, arith}
+use Rattle.std.proofs.Common.{Bool, true, false, length-drop, zero, suc, inl, inr}
+use Rattle.std.specs.Prelude.{◌≢◌, ◌⊎◌, ◌||◌, ◌&&◌, ◌==◌, not, nat_le, slice_index, slice_set, Option, None, Some, Ok, Err}
+use Rattle.std.specs.List.{AllByRecursion}
+use Rattle.std.proofs.lemmas.Bool.{cases_lt, leb-true, eq-eqb}
+use Rattle.std.proofs.lemmas.Bool.Decides.{nat_tests}
+use Rattle.std.proofs.lemmas.List.{get_or-drop, get_or-set_same, get_or-set_other, length-set, take-set-le, length-take-le, take-append-drop, take_all}
+use Rattle.std.proofs.Math.Seq.{take-add}
+use Rattle.fv_base.specs.Words.{First, Check, check, AllHold, outer_fault, AllAre, erased_byte}
+use Rattle.fv_base.specs.declared.fault.Fault.{Fault}
+use Rattle.fv_base.specs.declared.flash.FileSystem.{FileSystem}
+use Rattle.fv_base.specs.declared.flash.Polarity.{Polarity}
+use Rattle.fv_base.specs.declared.fault.FaultKind.TheVariants as kinds
+use Rattle.fv_base.proofs.Laws.{and_split, in_middle, up_is_not_down}
+use Rattle.fv_file.specs.Words.{CellForm, Free, offset_of, IsCell, Tiles, cell_len, NoneFree, IsFirstCellFault, cell_checks, file_checks}
+use Rattle.fv_file.specs.Words.{state_checks, leading_count, attributes_at, is_fixed, bits_of, state_of, state_at, unmarked, Unmarks}
+use Rattle.fv_file.specs.declared.state.FileState.{FileState}
+use Rattle.fv_file.specs.declared.state.FileState.TheVariants as states
+use Rattle.fv_file.specs.inner.CellVerdicts.{cell_verdict}
+use Rattle.fv_file.proofs.CellVerdictLemmas.{verdict_first, verdict_stands, no_bits}
+use Rattle.fv_file.proofs.ErasedByteLemmas.{all_at}
+use Rattle.fv_file.proofs.BodyLemmas.{none_after}
+use Rattle.fv_file.proofs.TilingLemmas.{one_more, none_more}
+
+-- ---- 1. the fault Fixed
+
+or_not : (a b : Bool) → (a || not b) ≡ false → b ≡ true
+or_not true b h = cc
+or_not false true h = refl
+or_not false false h = cc
+
+module _ (at : ℕ) (r : List ℕ) where
+  -- a check whose fault is Fixed is at the attributes, and fails only where they have the bit
+  abbrev Marked : Check Fault → Type 0
+  Marked c = c.fault.kind ≡ kinds.Fixed → c.holds ≡ false
+      → (c.fault ≡ outer_fault kinds.Fixed (at + 19)) × (is_fixed (attributes_at r) ≡ true)
+
+  file_marked : (s : FileSystem) (alive : Bool) → AllByRecursion Marked (file_checks s alive at r)
+  file_marked s alive =
+      (λ e h. cc, (λ e h. cc, (λ e h. cc, (λ e h. cc, (λ e h. (refl, or_not _ _ h), (λ e h. cc, tt))))))
+
+  state_marked : (o : Option FileState) (s : FileSystem) → AllByRecursion Marked (state_checks o s at r)
+  state_marked None s = (λ e h. cc, tt)
+  state_marked (Some states.Free) s = tt
+  state_marked (Some states.Construction) s = (λ e h. cc, tt)
+  state_marked (Some states.HeaderInvalid) s = (λ e h. cc, tt)
+  state_marked (Some states.HeaderValid) s = file_marked s false
+  state_marked (Some states.DataValid) s = file_marked s true
+  state_marked (Some states.Marked) s = file_marked s true
+  state_marked (Some states.Deleted) s = file_marked s false
+
+  cell_marked : (s : FileSystem) (p : Polarity) → AllByRecursion Marked (cell_checks s p at r)
+  cell_marked s p = (λ e h. cc, state_marked (state_of p (state_at r)) s)
+
+-- what is known where the fault is Fixed
+pub record FixedThere (p : Polarity) (at : ℕ) (r : List ℕ) (f : Fault) : Type 0 where
+  pub fault : f ≡ outer_fault kinds.Fixed (at + 19)
+  pub fixed : is_fixed (attributes_at r) ≡ true
+  pub long : 24 ≤ length r
+  pub used : not (bits_of p (state_at r) == 0) ≡ true
+
+pub fixed_there : (s : FileSystem) (p : Polarity) (at : ℕ) (r : List ℕ) (f : Fault) → cell_verdict s p at r ≡ Err f → f.kind ≡ kinds.Fixed
+    → FixedThere p at r f
+fixed_there s p at r f is kind =
+    let w = verdict_first s p at r f is in go w.0 w.1 w.2 w.3 w.4 w.5 w.6
+  where
+    go : (before : List (Check Fault)) (c : Check Fault) (after : List (Check Fault)) → cell_checks s p at r ≡ before ++ (c ∷ after)
+        → AllHold before → c.holds ≡ false → f ≡ c.fault → FixedThere p at r f
+    go [] c after e held fails is =
+        let first : c ≡ check (nat_le 24 (length r) && not (bits_of p (state_at r) == 0)) kinds.FreeSpace (at + leading_count (erased_byte p) r) = cc in
+        let other : kinds.FreeSpace ≡ kinds.Fixed = ap (λ (d : Check Fault). d.fault.kind) (sym first) ∙ ap (λ (g : Fault). g.kind) (sym is) ∙ kind in
+        cc
+    go (d ∷ ds) c after e held fails is =
+        let all = subst (λ (cs : List (Check Fault)). AllByRecursion (Marked at r) cs) e (cell_marked at r s p) in
+        let here = in_middle (Marked at r) (d ∷ ds) c after all (ap (λ (g : Fault). g.kind) (sym is) ∙ kind) fails in
+        let first : d ≡ check (nat_le 24 (length r) && not (bits_of p (state_at r) == 0)) kinds.FreeSpace (at + leading_count (erased_byte p) r) = cc in
+        let both = and_split (nat_le 24 (length r)) (not (bits_of p (state_at r) == 0)) (ap (λ (g : Check Fault). g.holds) (sym first) ∙ held.0) in
+        record { fault = is ∙ here.0; fixed = here.1; long = leb-true _ _ both.0; used = both.1 }
+
+-- the bit is in a byte that is there
+pub fixed_least : (a : ℕ) → is_fixed a ≡ true → 4 ≤ a
+fixed_least a h = grind (arith, nat_tests)
+
+pub some_byte : (r : List ℕ) (i : ℕ) → 4 ≤ slice_index r i → i < length r
+some_byte [] i h = absurd (none i h)
+  where
+    none : (i : ℕ) → 4 ≤ slice_index [] i → ⊥
+    none zero h = omega (arith, h)
+    none (suc i) h = omega (arith, h)
+some_byte (x ∷ xs) zero h = omega arith
+some_byte (x ∷ xs) (suc i) h = let l = some_byte xs i h in omega (arith, l)
+
+-- ---- 2. without the mark
+
+pub length-unmarked : (p : ℕ) (b : List ℕ) → length (unmarked p b) ≡ length b
+length-unmarked p b = length-set (slice_set b (p + 16) ((slice_index b (p + 16) + 4) % 256)) (p + 19) (slice_index b (p + 19) - 4)
+    ∙ length-set b (p + 16) ((slice_index b (p + 16) + 4) % 256)
+
+pub front_unmarked : (p : ℕ) (b : List ℕ) → take p (unmarked p b) ≡ take p b
+front_unmarked p b = take-set-le p (slice_set b (p + 16) ((slice_index b (p + 16) + 4) % 256)) (p + 19) (slice_index b (p + 19) - 4) (omega arith)
+    ∙ take-set-le p b (p + 16) ((slice_index b (p + 16) + 4) % 256) (omega arith)
+
+attributes_unmarked : (p : ℕ) (b : List ℕ) → p + 19 < length b
+    → attributes_at (drop p (unmarked p b)) ≡ slice_index b (p + 19) - 4
+attributes_unmarked p b l =
+    get_or-drop p (unmarked p b) 19 0
+    ∙ get_or-set_same (slice_set b (p + 16) ((slice_index b (p + 16) + 4) % 256)) (p + 19) (slice_index b (p + 19) - 4) 0
+    (subst (λ (n : ℕ). p + 19 < n) (sym (length-set b (p + 16) ((slice_index b (p + 16) + 4) % 256))) l)
+
+state_unmarked : (p : ℕ) (b : List ℕ) → state_at (drop p (unmarked p b)) ≡ state_at (drop p b)
+state_unmarked p b =
+    get_or-drop p (unmarked p b) 23 0
+    ∙ get_or-set_other (slice_set b (p + 16) ((slice_index b (p + 16) + 4) % 256)) (p + 19) (p + 23) (slice_index b (p + 19) - 4) 0 (λ e. omega (arith, e))
+    ∙ get_or-set_other b (p + 16) (p + 23) ((slice_index b (p + 16) + 4) % 256) 0 (λ e. omega (arith, e))
+    ∙ sym (get_or-drop p b 23 0)
+
+bit_cleared : (a : ℕ) → is_fixed a ≡ true → is_fixed (a - 4) ≡ true → ⊥
+bit_cleared a h k = grind (arith, nat_tests)
+
+-- a file is not fixed without its mark
+pub not_fixed_again : (s : FileSystem) (p : Polarity) (from at : ℕ) (b : List ℕ) (f : Fault) → at + 19 < length b
+    → is_fixed (slice_index b (at + 19)) ≡ true → cell_verdict s p from (drop at (unmarked at b)) ≡ Err f → f.kind ≢ kinds.Fixed
+not_fixed_again s p from at b f l fixed is kind =
+    let again = fixed_there s p from (drop at (unmarked at b)) f is kind in
+    bit_cleared (slice_index b (at + 19)) fixed (ap is_fixed (sym (attributes_unmarked at b l)) ∙ again.fixed)
+
+not_up : (t : Bool) → not t ≡ true → t ≡ false
+not_up false h = refl
+not_up true h = cc
+
+-- ---- 3. one after another
+
+pub marks_more : (s : FileSystem) (p : Polarity) (first : ℕ) (ps : List ℕ) (q : ℕ) (b o : List ℕ) → Unmarks s p first ps b o
+    → IsFirstCellFault s p first o (outer_fault kinds.Fixed (first + q + 19)) → Unmarks s p first (ps ++ q ∷ []) b (unmarked q o)
+marks_more s p first [] q b o same here =
+    (subst (λ (x : List ℕ). IsFirstCellFault s p first x (outer_fault kinds.Fixed (first + q + 19))) same here, ap (unmarked q) same)
+marks_more s p first (r ∷ rs) q b o marks here = (marks.0, marks_more s p first rs q (unmarked r b) o marks.1 here)
+
+-- the marks up to a place are taken away, and cells tile the body up to there
+pub record Unmarked (s : FileSystem) (p : Polarity) (first : ℕ) (old body : List ℕ) (at : ℕ) : Type 0 where
+  pub places : List ℕ
+  pub marks : Unmarks s p first places old body
+  pub same_length : length body ≡ length old
+  pub cells : List CellForm
+  pub tiled : Tiles s p first cells (take at body)
+  pub none_free : NoneFree cells
+  pub multiple : at % 8 ≡ 0
+  pub inside : at ≤ length body
+
+-- the place at which a check fails
+pub stops_here : (s : FileSystem) (p : Polarity) (first : ℕ) (old body : List ℕ) (at : ℕ) (f : Fault) → Unmarked s p first old body at
+    → (at < length body) × (AllAre (erased_byte p) (drop at body) → ⊥) → cell_verdict s p (first + at) (drop at body) ≡ Err f
+    → IsFirstCellFault s p first body f
+stops_here s p first old body at f k used is = record {
+  cells = k.cells;
+  at = at;
+  tiled = k.tiled;
+  none_free = k.none_free;
+  inside = used.0;
+  not_erased = used.1;
+  fails = verdict_first s p (first + at) (drop at body) f is;
+}
+
+-- one mark less, at the place
+pub one_less : (s : FileSystem) (p : Polarity) (first : ℕ) (old body new : List ℕ) (at : ℕ) → Unmarked s p first old body at
+    → (at < length body) × (AllAre (erased_byte p) (drop at body) → ⊥)
+    → (new ≡ body) ⊎ ((cell_verdict s p (first + at) (drop at body) ≡ Err (outer_fault kinds.Fixed (first + at + 19))) × (new ≡ unmarked at body))
+    → Unmarked s p first old new at
+one_less s p first old body new at k used (inl same) = subst (λ (b : List ℕ). Unmarked s p first old b at) (sym same) k
+one_less s p first old body new at k used (inr (is, less)) =
+    subst (λ (b : List ℕ). Unmarked s p first old b at) (sym less) (record {
+      places = k.places ++ at ∷ [];
+      marks = marks_more s p first k.places at old body k.marks (stops_here s p first old body at _ k used is);
+      same_length = length-unmarked at body ∙ k.same_length;
+      cells = k.cells;
+      tiled = subst (λ (b : List ℕ). Tiles s p first k.cells b) (sym (front_unmarked at body)) k.tiled;
+      none_free = k.none_free;
+      multiple = k.multiple;
+      inside = subst (λ (n : ℕ). at ≤ n) (sym (length-unmarked at body)) k.inside;
+    })
+
+-- the place at which a check fails, after the mark there was taken away
+pub stopped : (s : FileSystem) (p : Polarity) (first : ℕ) (old body new : List ℕ) (at : ℕ) (f : Fault) → Unmarked s p first old body at
+    → (at < length body) × (AllAre (erased_byte p) (drop at body) → ⊥)
+    → (new ≡ body) ⊎ ((cell_verdict s p (first + at) (drop at body) ≡ Err (outer_fault kinds.Fixed (first + at + 19))) × (new ≡ unmarked at body))
+    → cell_verdict s p (first + at) (drop at new) ≡ Err f → IsFirstCellFault s p first new f
+stopped s p first old body new at f k used step is =
+    stops_here s p first old new at f (one_less s p first old body new at k used step) (used_still step) is
+  where
+    used_still : (new ≡ body) ⊎ ((cell_verdict s p (first + at) (drop at body) ≡ Err (outer_fault kinds.Fixed (first + at + 19))) × (new ≡ unmarked at body))
+        → (at < length new) × (AllAre (erased_byte p) (drop at new) → ⊥)
+    used_still (inl same) = subst (λ b. (at < length b) × (AllAre (erased_byte p) (drop at b) → ⊥)) (sym same) used
+    used_still (inr (fixed, less)) =
+        let there = fixed_there s p (first + at) (drop at body) _ fixed refl in
+        let same : length new ≡ length body = ap length less ∙ length-unmarked at body in
+        let state : state_at (drop at new) ≡ state_at (drop at body) = ap (λ b. state_at (drop at b)) less ∙ state_unmarked at body in
+        (omega (arith, same, used.0), λ all.
+          let erased = all_at (erased_byte p) (drop at new) 23 all (omega (arith, length-drop at new, length-drop at body, same, there.long)) in
+          let bits = no_bits p (state_at (drop at body)) (sym state ∙ erased) in
+          let zero = eq-eqb (bits_of p (state_at (drop at body))) 0 bits in
+          up_is_not_down _ zero (not_up _ there.used))
+
+
+-- one cell more
+pub one_further : (s : FileSystem) (p : Polarity) (first : ℕ) (old body : List ℕ) (at len : ℕ) (c : CellForm)
+    → Unmarked s p first old body at → length body % 8 ≡ 0 → cell_verdict s p (first + at) (drop at body) ≡ Ok c → len ≡ cell_len c
+    → Unmarked s p first old body (at + len) × (0 < len) × (at + len ≤ length body)
+one_further s p first old body at len c k in_eights is l =
+    let stands = verdict_stands s p (first + at) (drop at body) c
+    (ap (λ (n : ℕ). n % 8) (length-drop at body) ∙ eighth (length body) at in_eights k.multiple k.inside) is in
+    let part : IsCell s p c (take len (drop at body)) = subst (λ n. IsCell s p c (take n (drop at body))) (sym l) stands.cell in
+    let long : length (take at body) ≡ at = length-take-le at body k.inside in
+    let place : offset_of c ≡ first + length (take at body) = omega (arith, stands.place, long) in
+    let more = one_more s p first k.cells c (take at body) (take len (drop at body)) k.tiled k.none_free part place in
+    let inside : at + len ≤ length body = omega (arith, l, stands.within, length-drop at body, k.inside) in
+    (record {
+      places = k.places;
+      marks = k.marks;
+      same_length = k.same_length;
+      cells = k.cells ++ c ∷ [];
+      tiled = subst (λ b. Tiles s p first (k.cells ++ c ∷ []) b) (sym (take-add at len body)) more;
+      none_free = none_more k.cells c k.none_free stands.not_free;
+      multiple = both at len (cell_len c) k.multiple l stands.multiple;
+      inside = inside;
+    }, omega (arith, l, stands.some), inside)
+  where
+    eighth : (a b : ℕ) → a % 8 ≡ 0 → b % 8 ≡ 0 → b ≤ a → (a - b) % 8 ≡ 0
+    eighth a b h m n = omega arith
+
+    both : (a b c : ℕ) → a % 8 ≡ 0 → b ≡ c → c % 8 ≡ 0 → (a + b) % 8 ≡ 0
+    both a b c h e m = omega arith
+
+-- the end: the body's, or a free rest
+pub at_end : (s : FileSystem) (p : Polarity) (first : ℕ) (old body : List ℕ) (at : ℕ) → Unmarked s p first old body at
+    → AllAre (erased_byte p) (drop at body) → (cells : List CellForm) × Tiles s p first cells body
+at_end s p first old body at k clean = go (cases_lt at (length body)) where
+  go : (at < length body) ⊎ (length body ≤ at) → (cells : List CellForm) × Tiles s p first cells body
+  go (inr all) = (k.cells, subst (λ b. Tiles s p first k.cells b) (take_all at body all) k.tiled)
+  go (inl some) =
+      let long : length (take at body) ≡ at = length-take-le at body k.inside in
+      let left : length (drop at body) ≡ length body - at = length-drop at body in
+      let free : IsCell s p (Free (first + at) (length body - at)) (drop at body) = (omega (arith, some), clean, sym left) in
+      let more = one_more s p first k.cells (Free (first + at) (length body - at)) (take at body) (drop at body) k.tiled k.none_free free
+      (omega (arith, long)) in
+      (k.cells ++ Free (first + at) (length body - at) ∷ [], subst (λ b. Tiles s p first (k.cells ++ Free (first + at) (length body - at) ∷ []) b) (take-append-drop at body) more)
+
+-- no byte comes or goes
+pub length-unmarks : (s : FileSystem) (p : Polarity) (first : ℕ) (ps : List ℕ) (b o : List ℕ) → Unmarks s p first ps b o
+    → length o ≡ length b
+length-unmarks s p first [] b o same = ap length same
+length-unmarks s p first (q ∷ qs) b o marks = length-unmarks s p first qs (unmarked q b) o marks.1 ∙ length-unmarked q b
+
+-- where cells tile, there is no mark
+pub none_marked : (s : FileSystem) (p : Polarity) (first : ℕ) (ps : List ℕ) (b o : List ℕ) (cs : List CellForm) → Unmarks s p first ps b o
+    → Tiles s p first cs b → o ≡ b
+none_marked s p first [] b o cs same tiles = same
+none_marked s p first (q ∷ qs) b o cs marks tiles = absurd (none_after First s p first b _ cs marks.0 tiles)

@@ -1,0 +1,29 @@
+-- A volume without the marks of its fixed files (PI specification, volume 3, section 3.2.3.1, FFS_ATTRIB_FIXED).
+use Rattle.std.specs.Prelude.{◌≡◌, ◌≢◌, ◌-◌, ℕ, List, ◌++◌, take, drop}
+use Rattle.fv_base.specs.declared.fault.Fault.{Fault}
+use Rattle.fv_base.specs.Words.{field}
+use Rattle.fv_base.specs.declared.fault.FaultKind.TheVariants as kinds
+use Rattle.fv_file.specs.Words.{CellForm, Unmarks, IsFirstCellFault}
+use Rattle.fv_head.specs.Words.{HeadFields, BeginsVolume}
+use Rattle.fv_head.specs.declared.extent.Extent.{Extent}
+use Rattle.fv_tree.specs.LocatedFiles.{BeginsTiled}
+
+-- b begins with a volume, and o is b with the marks of fixed files of the volume taken away. `body` is the body of the
+-- volume in o. The files in volumes inside it are as they were
+pub record Unfixes (e : Extent) (b o body : List ℕ) : Type 0 where
+  pub head : HeadFields
+  pub front : BeginsVolume head e b
+  pub places : List ℕ
+  pub marks : Unmarks e.file_system e.polarity e.first places (field e.first (e.length - e.first) b) body
+  pub text : o ≡ take e.first b ++ (body ++ drop e.length b)
+
+-- the marks of all fixed files of the volume are taken away: o begins with a volume whose body cells tile
+abbrev pub IsUnfixed : List ℕ → List ℕ → Type 0
+IsUnfixed b o =
+    (e : Extent) × (body : List ℕ) × Unfixes e b o body × ((cells : List CellForm) × BeginsTiled e cells o)
+
+-- a cell has this fault, which is not that a file is fixed; the marks before it are taken away
+abbrev pub UnfixStops : List ℕ → List ℕ → Fault → Type 0
+UnfixStops b o f =
+    (e : Extent) × (body : List ℕ) × Unfixes e b o body × IsFirstCellFault e.file_system e.polarity e.first body f
+    × (f.kind ≢ kinds.Fixed)
