@@ -195,13 +195,14 @@ stopped s p first old body new at f k used step is =
     used_still (inr (fixed, less)) =
         let there = fixed_there s p (first + at) (drop at body) _ fixed refl in
         let same : length new ≡ length body = ap length less ∙ length-unmarked at body in
-        let state : state_at (drop at new) ≡ state_at (drop at body) = ap (λ b. state_at (drop at b)) less ∙ state_unmarked at body in
-        (omega (arith, same, used.0), λ all.
-          let erased = all_at (erased_byte p) (drop at new) 23 all (omega (arith, length-drop at new, length-drop at body, same, there.long)) in
-          let bits = no_bits p (state_at (drop at body)) (sym state ∙ erased) in
-          let zero = eq-eqb (bits_of p (state_at (drop at body))) 0 bits in
-          up_is_not_down _ zero (not_up _ there.used))
-
+        let state : state_at (drop at new) ≡ state_at (drop at body) = ap (λ b. state_at (drop at b)) less ∙ state_unmarked at body in (
+          omega (arith, same, used.0),
+          λ all.
+              let erased = all_at (erased_byte p) (drop at new) 23 all (omega (arith, length-drop at new, length-drop at body, same, there.long)) in
+              let bits = no_bits p (state_at (drop at body)) (sym state ∙ erased) in
+              let zero = eq-eqb (bits_of p (state_at (drop at body))) 0 bits in
+              up_is_not_down _ zero (not_up _ there.used),
+        )
 
 -- one cell more
 pub one_further : (s : FileSystem) (p : Polarity) (first : ℕ) (old body : List ℕ) (at len : ℕ) (c : CellForm)
@@ -214,17 +215,20 @@ one_further s p first old body at len c k in_eights is l =
     let long : length (take at body) ≡ at = length-take-le at body k.inside in
     let place : offset_of c ≡ first + length (take at body) = omega (arith, stands.place, long) in
     let more = one_more s p first k.cells c (take at body) (take len (drop at body)) k.tiled k.none_free part place in
-    let inside : at + len ≤ length body = omega (arith, l, stands.within, length-drop at body, k.inside) in
-    (record {
-      places = k.places;
-      marks = k.marks;
-      same_length = k.same_length;
-      cells = k.cells ++ c ∷ [];
-      tiled = subst (λ b. Tiles s p first (k.cells ++ c ∷ []) b) (sym (take-add at len body)) more;
-      none_free = none_more k.cells c k.none_free stands.not_free;
-      multiple = both at len (cell_len c) k.multiple l stands.multiple;
-      inside = inside;
-    }, omega (arith, l, stands.some), inside)
+    let inside : at + len ≤ length body = omega (arith, l, stands.within, length-drop at body, k.inside) in (
+      record {
+        places = k.places;
+        marks = k.marks;
+        same_length = k.same_length;
+        cells = k.cells ++ c ∷ [];
+        tiled = subst (λ b. Tiles s p first (k.cells ++ c ∷ []) b) (sym (take-add at len body)) more;
+        none_free = none_more k.cells c k.none_free stands.not_free;
+        multiple = both at len (cell_len c) k.multiple l stands.multiple;
+        inside = inside;
+      },
+      omega (arith, l, stands.some),
+      inside,
+    )
   where
     eighth : (a b : ℕ) → a % 8 ≡ 0 → b % 8 ≡ 0 → b ≤ a → (a - b) % 8 ≡ 0
     eighth a b h m n = omega arith

@@ -6,14 +6,15 @@ use Rattle.fv_base.specs.declared.flash.Polarity.{Polarity}
 use Rattle.fv_base.specs.declared.fault.FaultKind.TheVariants as kinds
 use Rattle.fv_file.specs.FileChecks.{IsFirstCellFault}
 
--- the bytes without the mark of the fixed file at p: bit 0x04 of its attributes is cleared, and its header sum is 4 more.
--- So the bytes have the same sum as before, and all other sums stay right
+-- the bytes b without the mark of the fixed file at the offset p: bit 0x04 of the file's attributes is cleared, and 4 is
+-- added to its header checksum, modulo 256. So the bytes of the header have the same sum as before
 abbrev pub unmarked : ℕ → List ℕ → List ℕ
 unmarked p b =
     slice_set (slice_set b (p + 16) ((slice_index b (p + 16) + 4) % 256)) (p + 19) (slice_index b (p + 19) - 4)
 
--- o is the body b without the marks of the fixed files at these places, taken away one after another: each is that of
--- the first cell with a fault, which is that the file is fixed. `first` is where the body begins in its volume
+-- o is the body b without the marks of the fixed files at these offsets, which are taken away one after another. For each
+-- of them the first fault of the body is that this file is fixed, when its turn comes. `first` is the offset of the body
+-- in its volume
 abbrev pub Unmarks : FileSystem → Polarity → ℕ → List ℕ → List ℕ → List ℕ → Type 0
 Unmarks system polarity first [] b o = o ≡ b
 Unmarks system polarity first (p ∷ ps) b o =

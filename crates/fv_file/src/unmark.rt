@@ -1,6 +1,7 @@
-//! A body without the marks of fixed files.
+//! Taking the marks of fixed files away from a volume's body.
 
-ghost use Rattle.std.specs.Prelude.{◌≡◌, ◌≢◌, ◌⊎◌, ℕ, ◌+◌, ◌<◌, ◌≤◌, ◌%◌, ◌^◌, List, length, drop, slice_index, Ok, Err, IfOk, IfErr, OnOk};
+ghost use Rattle.std.specs.Prelude.{◌≡◌, ◌≢◌, ◌⊎◌, ℕ, ◌+◌, ◌<◌, ◌≤◌, ◌%◌, ◌^◌, List, length, drop, slice_index};
+ghost use Rattle.std.specs.Prelude.{Ok, Err, IfOk, IfErr, OnOk};
 ghost use Rattle.fv_base.specs.Words.{outer_fault};
 ghost use Rattle.fv_file.specs.Cells.{CellForm, Tiles};
 ghost use Rattle.fv_file.specs.CellForms.{cell_len};
@@ -13,10 +14,11 @@ use crate::offsets::{ATTRIBUTES_OFFSET, HEADER_SUM_OFFSET};
 use fv_base::field::bytes_from;
 use fv_base::{Fault, FaultKind, FileSystem, Polarity};
 
-// Bit 0x04, `FFS_ATTRIB_FIXED`.
+// The bit of a file's attributes that marks the file as fixed: `FFS_ATTRIB_FIXED`.
 const FIXED: u8 = 0x04;
 
-// Takes away the mark of the fixed file at `at`.
+// Takes the mark away from the fixed file at the offset `at` of the body. Header checksum and
+// attributes have the same sum afterwards, so the header's checksum stays right.
 fn unmark(body: &mut [u8], at: usize)
     requires within { at + 20 ≤ length body.old }
     requires marked { 4 ≤ slice_index body.old (at + 19) }
@@ -28,14 +30,9 @@ fn unmark(body: &mut [u8], at: usize)
     body[at + ATTRIBUTES_OFFSET] = attributes;
 }
 
-// The number of bytes of the cell at the offset `at`, which is not a free one, or the first fault
-// there.
-fn span_at(
-    rest: &[u8],
-    at: u64,
-    system: FileSystem,
-    polarity: Polarity,
-) -> Result<u64, Fault>
+// Returns the length of the cell at the offset `at`, in bytes, where no free cell begins, or the
+// first fault there.
+fn span_at(rest: &[u8], at: u64, system: FileSystem, polarity: Polarity) -> Result<u64, Fault>
     requires place { at + length rest.now < 2 ^ 63 }
     requires multiple { length rest.now % 8 ≡ 0 }
     ensures found { IfOk result
@@ -46,8 +43,8 @@ fn span_at(
     Ok(span_of(&cell))
 }
 
-// The number of bytes of the cell at `at`, which is not a free one, or the first fault there. If the
-// fault is that the file is fixed, its mark is taken away before.
+// Returns the length of the cell at the offset `at` of the body, in bytes, where no free cell
+// begins, or the first fault there. If the cell is a fixed file, takes its mark away first.
 fn unmark_at(
     body: &mut [u8],
     at: usize,
@@ -79,15 +76,17 @@ fn unmark_at(
     }
 }
 
-/// Takes away the marks of all fixed files of a volume's body, which begins at the offset `first`.
-/// Of each, bit 0x04 of the attributes is cleared and the header sum is 4 more, so all other sums
-/// stay right. Files that are marked for update are among them, whether or not they are superseded;
-/// pads and deleted files are not. Takes no memory. (PI specification, volume 3, section 3.2.3.1,
-/// `FFS_ATTRIB_FIXED`.)
+/// Takes the marks away from all fixed files of a volume's body, which begins at the offset `first`
+/// of the volume, in bytes. For each such file, bit 0x04 of its attributes is cleared and 4 is
+/// added to its header checksum (modulo 256), so no checksum becomes wrong. This includes files
+/// that are marked for update, whether or not they are superseded. Pads, deleted files, and files
+/// of volumes inside the body stay as they are. Takes no memory. (PI specification, volume 3,
+/// section 3.2.3.1, `FFS_ATTRIB_FIXED`.)
 ///
 /// # Errors
 ///
-/// The first fault of a cell, as for `cells`, except Fixed. The marks before it are taken away.
+/// The first fault of a cell, as for `cells`, except Fixed. The files before that cell have no
+/// marks afterwards, and all other bytes are as they were.
 pub fn unmark_files(
     body: &mut [u8],
     first: u64,
@@ -97,13 +96,14 @@ pub fn unmark_files(
     requires multiple { length body.old % 8 ≡ 0 }
     requires place { first + length body.old < 2 ^ 63 }
 
-    // The marks of these files were taken away, and nothing else was changed.
+    // The marks were taken away from the files at some offsets of the body, each of which was
+    // fixed, and nothing else was changed. This holds after an error too.
     ensures marks { (places : List ℕ) × Unmarks system polarity first places body.old body.new }
 
-    // Cells tile the body then.
+    // After Ok the body is tiled by cells, so none of its files is fixed.
     ensures tiled { OnOk result ((cells : List CellForm) × Tiles system polarity first cells body.new) }
 
-    // Or there is a fault of a cell, which is not that a file is fixed.
+    // The fault is the first one of the body as it is afterwards, and it is not Fixed.
     ensures first { IfErr result
         (λ f. IsFirstCellFault system polarity first body.new f × (f.kind ≢ FaultKind.Fixed)) }
 {

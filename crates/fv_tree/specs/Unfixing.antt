@@ -8,8 +8,8 @@ use Rattle.fv_head.specs.Words.{HeadFields, BeginsVolume}
 use Rattle.fv_head.specs.declared.extent.Extent.{Extent}
 use Rattle.fv_tree.specs.LocatedFiles.{BeginsTiled}
 
--- b begins with a volume, and o is b with the marks of fixed files of the volume taken away. `body` is the body of the
--- volume in o. The files in volumes inside it are as they were
+-- b begins with a volume header, and o is b after the marks of some fixed files of this volume were taken away. `body` is
+-- the body of the volume in o. All other bytes are the same, also those of volumes inside
 pub record Unfixes (e : Extent) (b o body : List ℕ) : Type 0 where
   pub head : HeadFields
   pub front : BeginsVolume head e b
@@ -17,12 +17,13 @@ pub record Unfixes (e : Extent) (b o body : List ℕ) : Type 0 where
   pub marks : Unmarks e.file_system e.polarity e.first places (field e.first (e.length - e.first) b) body
   pub text : o ≡ take e.first b ++ (body ++ drop e.length b)
 
--- the marks of all fixed files of the volume are taken away: o begins with a volume whose body cells tile
+-- o is b after the marks of all fixed files of its volume were taken away: cells tile the body of the volume in o
 abbrev pub IsUnfixed : List ℕ → List ℕ → Type 0
 IsUnfixed b o =
     (e : Extent) × (body : List ℕ) × Unfixes e b o body × ((cells : List CellForm) × BeginsTiled e cells o)
 
--- a cell has this fault, which is not that a file is fixed; the marks before it are taken away
+-- the first fault of the volume's body in o is this one, which is not Fixed. o is b after the marks of the fixed files
+-- before that fault were taken away
 abbrev pub UnfixStops : List ℕ → List ℕ → Fault → Type 0
 UnfixStops b o f =
     (e : Extent) × (body : List ℕ) × Unfixes e b o body × IsFirstCellFault e.file_system e.polarity e.first body f

@@ -1,4 +1,4 @@
-//! A volume without the marks of its fixed files.
+//! Taking the marks of fixed files away from a volume.
 
 ghost use Rattle.std.specs.Prelude.{◌≡◌, ◌≢◌, ◌⊎◌, IfErr, OnOk};
 ghost use Rattle.fv_base.specs.Words.{IsFirstFault};
@@ -9,20 +9,22 @@ use fv_base::Fault;
 use fv_file::unmark_files;
 use fv_head::verify_fv;
 
-/// Takes away the marks of the fixed files of the volume at the start of the bytes: of each, bit
-/// 0x04 of its attributes is cleared, and its header sum is 4 more. All other bytes stay as they
-/// are, those of volumes inside it too. Takes no memory. (PI specification, volume 3, section
-/// 3.2.3.1, `FFS_ATTRIB_FIXED`.)
+/// Takes the marks away from all fixed files of the volume at the start of the bytes. For each such
+/// file, bit 0x04 of its attributes is cleared and 4 is added to its header checksum (modulo 256).
+/// All other bytes stay as they are, also those of volumes inside this volume and those that follow
+/// it. Takes no memory. (PI specification, volume 3, section 3.2.3.1, `FFS_ATTRIB_FIXED`.)
 ///
 /// # Errors
 ///
-/// The first fault: those of the header, as for `verify_fv`, then those of the body, as for
-/// `cells`, except Fixed. The marks before the fault are taken away then.
+/// The first fault of the header, as for `verify_fv`; then nothing was changed. Otherwise the first
+/// fault of a cell, as for `cells`, except Fixed. Then the fixed files before that cell have lost
+/// their marks already, so a caller that needs the bytes as they were works on a copy.
 pub fn unfix(bytes: &mut [u8]) -> Result<(), Fault>
-    // The marks were taken away, and nothing else was changed.
+    // The volume has no fixed file any more, and nothing but the marks was changed.
     ensures done { OnOk result (IsUnfixed bytes.old bytes.new) }
 
-    // The header has a fault, and nothing was changed; or a cell has a fault, which is not Fixed.
+    // Either the fault is the first one of the header, and nothing was changed; or it is the first
+    // one of the body without the marks before it, and it is not Fixed.
     ensures stops { IfErr result
         (λ f. (IsFirstFault (head_checks bytes.old) f × (bytes.new ≡ bytes.old)) ⊎ UnfixStops bytes.old bytes.new f) }
 {

@@ -30,9 +30,11 @@ returns-then-eq-clause-refused c =
     let long : c.args.at + 19 < length c.args.body.now = omega (arith, there.long, length-drop c.args.at c.args.body.now) in
     let bit = ap is_fixed (sym (get_or-drop c.args.at c.args.body.now 19 0)) ∙ there.fixed in
     IfErr-weaker c.span_at-then-eq.result _ _ (λ f h.
-      let is = ap (cell_verdict c.args.system c.args.polarity (c.args.first + c.args.at)) (sym c.bytes_from-then-eq.ensures) ∙ h in
-      (is, not_fixed_again _ _ _ c.args.at c.args.body.now f long bit
-        (ap (λ b. cell_verdict c.args.system c.args.polarity (c.args.first + c.args.at) (drop c.args.at b)) (sym c.unmark.ensures) ∙ is)))
+    let is = ap (cell_verdict c.args.system c.args.polarity (c.args.first + c.args.at)) (sym c.bytes_from-then-eq.ensures) ∙ h in (
+      is,
+      not_fixed_again _ _ _ c.args.at c.args.body.now f long bit
+          (ap (λ b. cell_verdict c.args.system c.args.polarity (c.args.first + c.args.at) (drop c.args.at b)) (sym c.unmark.ensures) ∙ is),
+    ))
     c.span_at-then-eq.ensures.refused
 
 pub returns-then-eq-clause-step : goal.returns-then-eq-clause-step
