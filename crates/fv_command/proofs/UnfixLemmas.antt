@@ -1,10 +1,12 @@
 -- Why an input has no copy without the marks of its fixed files.
 -- 1. Marks that are taken away end in cells that tile the body, or at a fault that is not Fixed, and not in both (`not_both`).
 -- 2. The body of a copy is in its place, and cells tile it there (`body_tiles`).
--- 3. So no copy is made if the header has a fault, if a cell has such a fault, or if bytes follow the volume (`bad_header`,
---    `bad_cell`, `bytes_follow`).
+-- 3. So no copy is made if the header has a fault, if a cell has such a fault (`stopped`), or if bytes follow the volume
+--    (`bytes_follow`).
+-- 4. A copy that was changed as a whole is what the change made of it (`whole_kept`).
 use Rattle.std.proofs.Common.{◌≡◌, ◌∙◌, ℕ, ◌+◌, ◌-◌, ◌++◌, List, [], ◌∷◌, length, take, drop, ap, append_assoc, arith, inl, inr, subst, sym}
-use Rattle.std.specs.Prelude.{◌≢◌}
+use Rattle.std.specs.Prelude.{◌≢◌, ◌⊎◌, ◌<◌, nat_eq, false}
+use Rattle.std.proofs.lemmas.Bool.Decides.{nat_tests}
 use Rattle.std.proofs.Math.Seq.{drop-append_seam, take-append_seam}
 use Rattle.std.proofs.lemmas.List.{length-append, length-drop, length-take-le}
 use Rattle.fv_base.proofs.Laws.{none_faulty, not_first}
@@ -19,7 +21,7 @@ use Rattle.fv_head.proofs.Laws.{first_lies, front_holds, one_front}
 use Rattle.fv_head.specs.Words.{BeginsVolume, HeadFields, head_checks}
 use Rattle.fv_head.specs.declared.extent.Extent.{Extent}
 use Rattle.fv_tree.specs.Words.{BeginsTiled, IsUnfixed, Unfixes, UnfixStops}
-use Rattle.fv_command.specs.Words.{GoesOnAfter, IsFirstOfMarked, NotUnfixed, UnfixesTo}
+use Rattle.fv_command.specs.Words.{IsFirstOfMarked, NotUnfixed, UnfixesTo}
 
 -- ---- 1. marks that are taken away
 
@@ -76,13 +78,12 @@ not_unfixed : (input : List ℕ) (f : Fault) → IsFirstOfMarked input f → ((o
 not_unfixed input f first none = record { none = none; first = first }
 
 -- the header has a fault
-pub bad_header : (input : List ℕ) (f : Fault) → IsFirstFault (head_checks input) f → NotUnfixed input f
+bad_header : (input : List ℕ) (f : Fault) → IsFirstFault (head_checks input) f → NotUnfixed input f
 bad_header input f first = not_unfixed input f (inl first) (λ o to.
-    let e = to.1.1 in
-    not_first (head_checks input) f first (none_faulty (head_checks input) (front_holds input to.1.0 e to.1.2.0)))
+    not_first (head_checks input) f first (none_faulty (head_checks input) (front_holds input to.1.0 to.1.1 to.1.2)))
 
 -- a cell has a fault, which is not that a file is fixed
-pub bad_cell : (input o : List ℕ) (f : Fault) → UnfixStops input o f → NotUnfixed input f
+bad_cell : (input o : List ℕ) (f : Fault) → UnfixStops input o f → NotUnfixed input f
 bad_cell input o f stops = not_unfixed input f (inr (inl (o, stops))) (λ x to.
     let unfixed = to.0 in
     let e = stops.0 in
@@ -93,8 +94,22 @@ bad_cell input o f stops = not_unfixed input f (inr (inl (o, stops))) (λ x to.
     not_both e.file_system e.polarity e.first t.places u.places (field e.first (e.length - e.first) input) unfixed.1 stops.1
     unfixed.3.0 f t.marks (body_tiles input x unfixed.1 e unfixed.3.0 t tiled) u.marks stops.3 stops.4)
 
+pub stopped : (input old new : List ℕ) (f : Fault) → old ≡ input
+    → (IsFirstFault (head_checks old) f × (new ≡ old)) ⊎ UnfixStops old new f → NotUnfixed input f
+stopped input old new f same (inl head) = bad_header input f (subst (λ (b : List ℕ). IsFirstFault (head_checks b) f) same head.0)
+stopped input old new f same (inr stops) = bad_cell input new f (subst (λ (b : List ℕ). UnfixStops b new f) same stops)
+
 -- bytes follow the volume
-pub bytes_follow : (input o : List ℕ) (f : Fault) → IsUnfixed input o → GoesOnAfter input f → NotUnfixed input f
-bytes_follow input o f unfixed more = not_unfixed input f (inr (inr ((o, unfixed), more))) (λ x to.
-    let same = (one_front input more.0 to.1.0 more.1 to.1.1 more.2 to.1.2.0).1 in
-    omega (arith, ap (λ (y : Extent). y.length) same, to.1.2.1, more.3))
+pub bytes_follow : (input old new : List ℕ) (f : Fault) (h : HeadFields) (e : Extent) → old ≡ input → IsUnfixed old new
+    → BeginsVolume h e input → nat_eq e.length (length input) ≡ false → f ≡ outer_fault kinds.Length e.length → NotUnfixed input f
+bytes_follow input old new f h e same unfixed front other is =
+    let less : e.length < length input = grind (arith, nat_tests, front.whole) in
+    not_unfixed input f (inr (inr ((new, subst (λ (b : List ℕ). IsUnfixed b new) same unfixed), (h, e, front, less, is)))) (λ x to.
+    let one = (one_front input h to.1.0 e to.1.1 front to.1.2).1 in
+    omega (arith, ap (λ (y : Extent). y.length) one, to.1.3, less))
+
+-- ---- 4. the copy
+
+-- all of a vector was written
+pub whole_kept : (new items : List ℕ) (n : ℕ) → length new ≡ n → take n (new ++ drop (length new) items) ≡ new
+whole_kept new items n e = take_seam new (drop (length new) items) n e
