@@ -1024,7 +1024,7 @@ compare a b c|check --hex=1|scan a b|extract|extract a|extract --name|extract --
 extract --name NAME --section 100 a|extract --name NAME --section 0x1 a|extract --name NAME --section +1 a|
 extract --name NAME --section g a|extract --name NAME --instance -1 a|extract --name NAME --instance 4294967296 a|
 extract --name NAME --instance x a|hobs --image a b|hobs --base 1 b|hobs --image a --base -1 b|list -x|hobs a b|
-list --at|list --sums --sums|check --sums a|cells a b|cells --all a|list --at x a|list --at=-1 a|list --at 0x a|list --at 0x+1 a|list --at 18446744073709551616 a|scan --at 8 a|
+list --at|list --sums --sums|check --sums a|cells a b|cells --all a|unfix a b|unfix --all a|list --at x a|list --at=-1 a|list --at 0x a|list --at 0x+1 a|list --at 18446744073709551616 a|scan --at 8 a|
 hobs --at 8 a|normalise --all --at 8 a|check --all --at 8 a|list --other-at 8 a|compare a b --other-at x|
 hobs --image a --base 0x10 b|hobs --image a --base 18446744073709551616 b|list --name NAME a"""
 

@@ -16,7 +16,7 @@ sys.dont_write_bytecode = True  # no folder beside the scripts
 from fuzz import DATA_VALID, FFS3, GROUP, LARGE, MARKED, PAD, ROOT, SUMMED, VOLUME, sum8, sum16  # noqa: E402
 
 MIB = 1 << 20
-COMMANDS = ("normalise", "normalise --all", "list", "list --sums", "cells", "check", "check --all", "scan", "compare")
+COMMANDS = ("normalise", "normalise --all", "list", "list --sums", "cells", "unfix", "check", "check --all", "scan", "compare")
 MOST_SECONDS, MOST_SUMS_SECONDS = 3, 10
 EMPTY_SECTION = b"\x04\0\0\x19"
 EXPRESSION = 0x13

@@ -38,7 +38,7 @@ _fvtool() {
     if [[ " ${COMP_WORDS[*]} " == *' --hex '* ]]; then hex=(--hex); fi
     COMPREPLY=()
     if ((COMP_CWORD == 1)); then
-        choices='normalise list cells extract check scan compare hobs'
+        choices='normalise list cells unfix extract check scan compare hobs'
     else
         case $previous in
             --at) choices=$(_fvtool_offsets 1) ;;
@@ -53,7 +53,7 @@ _fvtool() {
                 case ${COMP_WORDS[1]} in
                     normalise | check) choices='--all --at --hex' ;;
                     list) choices='--sums --at --hex' ;;
-                    cells) choices='--at --hex' ;;
+                    cells | unfix) choices='--at --hex' ;;
                     extract) choices='--name --section --instance --at --hex' ;;
                     scan) choices='--hex' ;;
                     compare) choices='--at --other-at --hex' ;;

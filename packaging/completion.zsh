@@ -41,6 +41,7 @@ _fvtool_commands() {
         'normalise:write the canonical image'
         'list:write the meaning, a line for each part'
         'cells:write where each part lies'
+        'unfix:write a copy in which no file is fixed'
         'extract:write the data of a file or the body of a section'
         'check:report whether a volume is its own canonical image'
         'scan:find the volumes of a flash image'
@@ -61,7 +62,7 @@ _fvtool() {
     case $words[1] in
         normalise|check) _arguments "(--all)$at" '(--at)--all[each volume of a flash image]' $hex '1:file:_files' ;;
         list) _arguments '--sums[with digests]' $at $hex '1:file:_files' ;;
-        cells) _arguments $at $hex '1:file:_files' ;;
+        cells|unfix) _arguments $at $hex '1:file:_files' ;;
         extract)
             _arguments '--name[the name of the file]:name:_fvtool_names' $at $hex '1:file:_files' \
                 "--section[the type of the section]:type:$sections" '--instance[which of these sections]:number:'

@@ -19,7 +19,7 @@ use Rattle.fv_plan.specs.declared.plan.Part.{Part}
 use Rattle.fv_plan.specs.declared.plan.VolumeFile.{VolumeFile}
 use Rattle.fv_plan.specs.declared.plan.Command.TheVariants.{Single, Hobs, Compare}
 use Rattle.fv_plan.specs.declared.plan.Task.TheVariants.{Normalise, NormaliseAll, List as Listing, ListSums, Extract, Check}
-use Rattle.fv_plan.specs.declared.plan.Task.TheVariants.{CheckAll, Cells, Scan}
+use Rattle.fv_plan.specs.declared.plan.Task.TheVariants.{CheckAll, Cells, Unfix, Scan}
 use Rattle.fv_arguments.proofs.ArgumentReadLemmas.{by_name, faults_read}
 use Rattle.fv_arguments.specs.Words.{compare_app, extract_app, faults_in, flag_in, hobs_app, image_app, text_in, HasInput, HasTexts}
 use Rattle.fv_arguments.specs.Words.{IsAtWord, IsImageWords, IsPartBy, IsVolumeWords, command_app, command_name}
@@ -37,6 +37,7 @@ named_app (Single (Extract part) at file) = refl
 named_app (Single Check at file) = refl
 named_app (Single CheckAll at file) = refl
 named_app (Single Cells at file) = refl
+named_app (Single Unfix at file) = refl
 named_app (Single Scan at file) = refl
 named_app (Hobs file image) = refl
 named_app (Compare first second) = refl
@@ -103,6 +104,7 @@ right_input name rest volume right =
     go (Single Check at file) volume texts = ((at, file), texts.1)
     go (Single CheckAll at file) volume texts = ((at, file), texts.2)
     go (Single Cells at file) volume texts = ((at, file), texts)
+    go (Single Unfix at file) volume texts = ((at, file), texts)
     go c volume texts = absurd (true≢false (sym volume))
 
 -- so a command on one volume is rejected if its input is

@@ -16,7 +16,7 @@ use Rattle.fv_arguments.specs.Options.{compare_app, extract_app, faults_in, flag
 use Rattle.fv_arguments.specs.Options.{text_in, volume_app}
 use Rattle.fv_plan.specs.declared.plan.Command.TheVariants.{Single, Hobs, Compare}
 use Rattle.fv_plan.specs.declared.plan.Task.TheVariants.{Normalise, NormaliseAll, List as Listing, ListSums, Extract, Check}
-use Rattle.fv_plan.specs.declared.plan.Task.TheVariants.{CheckAll, Cells, Scan}
+use Rattle.fv_plan.specs.declared.plan.Task.TheVariants.{CheckAll, Cells, Unfix, Scan}
 
 -- the plan of a command line without arguments: normalise hexadecimal text from standard input
 abbrev pub plan_without_words : Plan
@@ -32,6 +32,7 @@ task_name (Extract part) = codes "extract"
 task_name Check = codes "check"
 task_name CheckAll = codes "check"
 task_name Cells = codes "cells"
+task_name Unfix = codes "unfix"
 task_name Scan = codes "scan"
 
 -- the argument that names the command
@@ -50,6 +51,7 @@ task_app (Extract part) = extract_app
 task_app Check = image_app
 task_app CheckAll = image_app
 task_app Cells = volume_app
+task_app Unfix = volume_app
 task_app Scan = one_input_app
 
 -- the rules of the command
@@ -132,6 +134,7 @@ HasTaskTexts rest Check at file =
 HasTaskTexts rest CheckAll at file =
     (flag_in image_app (codes "all") rest ≡ true) × (at ≡ None) × HasInput image_app rest at file
 HasTaskTexts rest Cells at file = HasInput volume_app rest at file
+HasTaskTexts rest Unfix at file = HasInput volume_app rest at file
 HasTaskTexts rest Scan at file = (at ≡ None) × IsFileWord (text_in one_input_app (codes "file") rest) file
 
 -- the arguments after the command's name give this command

@@ -292,6 +292,15 @@ fn cells(alloc: Global, matches: &ArgMatches<'_>) -> Result<Command, WordFault>
     Ok(Command::Single { task, at, file })
 }
 
+// Reads the arguments of `unfix`: a volume.
+fn unfix(alloc: Global, matches: &ArgMatches<'_>) -> Result<Command, WordFault>
+    ensures { AsksFor (codes "unfix") matches.now result }
+{
+    let (at, file) = input_of(alloc, matches)?;
+    let task = Task::Unfix;
+    Ok(Command::Single { task, at, file })
+}
+
 // Reads the arguments of `scan`: a file that is searched for volumes.
 fn scan(alloc: Global, matches: &ArgMatches<'_>) -> Result<Command, WordFault>
     ensures { AsksFor (codes "scan") matches.now result }
@@ -312,6 +321,7 @@ fn command_of(alloc: Global, name: &str, matches: &ArgMatches<'_>) -> Result<Com
         "extract" => extract(alloc, matches),
         "check" => on_image(alloc, matches, Task::CheckAll, Task::Check),
         "cells" => cells(alloc, matches),
+        "unfix" => unfix(alloc, matches),
         "scan" => scan(alloc, matches),
         "compare" => compare(alloc, matches),
         _ => Err(WordFault::Words),

@@ -91,8 +91,8 @@ fn compare_rules<'a>(alloc: Global) -> Result<Command<'a>, AllocError>
     add(first, Arg::new(alloc, "second"))
 }
 
-// Makes the rules of the command with this name. `cells` takes a volume. A name that is not a
-// command gets the same rules, and is rejected after parsing.
+// Makes the rules of the command with this name. `cells` and `unfix` take a volume. A name
+// that is not a command gets the same rules, and is rejected after parsing.
 pub(crate) fn rules_of<'a>(alloc: Global, name: &str) -> Result<Command<'a>, AllocError>
     ensures { IfOk result (λ c. app_of c ≡ app_named name.now) }
 {

@@ -5,3 +5,4 @@ pub mod OpenerLemmas
 pub mod PadLemmas
 pub mod PartLemmas
 pub mod RunLemmas
+pub mod UnfixLemmas

@@ -18,13 +18,14 @@ use Rattle.fv_text.specs.Words.{ShowsBytes, Change}
 use Rattle.fv_command.specs.RunInputs.{BeginsWith, BeginsNone, GivesAt, GivingStops}
 use Rattle.fv_command.specs.Extractions.{IsPart, StopsPart}
 use Rattle.fv_command.specs.ImageChecks.{ChecksText}
+use Rattle.fv_command.specs.Unfixings.{NotUnfixed, UnfixesTo}
 use Rattle.fv_command.specs.declared.status.Status.{Status}
 use Rattle.fv_command.specs.declared.status.Status.TheVariants.{Done, Different}
 use Rattle.fv_command.specs.declared.extracting.Extraction.{Extraction}
 use Rattle.fv_command.specs.declared.extracting.Extraction.TheVariants.{Made, Stored, NotFound, NotSectioned}
 use Rattle.fv_plan.specs.declared.plan.Task.{Task}
 use Rattle.fv_plan.specs.declared.plan.Task.TheVariants.{Normalise, NormaliseAll, List as Listing, ListSums, Extract}
-use Rattle.fv_plan.specs.declared.plan.Task.TheVariants.{Check, CheckAll, Cells, Scan}
+use Rattle.fv_plan.specs.declared.plan.Task.TheVariants.{Check, CheckAll, Cells, Unfix, Scan}
 
 -- a volume with this meaning has these cells and this erase polarity; the cells tile it from the offset of its first
 -- file on
@@ -81,6 +82,7 @@ PartText hex x status text = ⊥
 -- - `Check`: the notes and the verdict
 -- - `CheckAll`: a line for each volume in the input
 -- - `Cells`: the lines of the cells of the volume with which the input begins
+-- - `Unfix`: the input, which is a volume, with none of its files marked as fixed
 -- - `Scan`: the lines of the volumes in the input
 abbrev pub Says : Task → Bool → List ℕ → Status → List ℕ → Type 0
 Says Normalise hex input Done text = (image : List ℕ) × NormalisesTo input image × ShowsBytes hex image text
@@ -94,6 +96,7 @@ Says Check hex input Done text = CheckText input true text
 Says Check hex input Different text = CheckText input false text
 Says CheckAll hex input status text = ChecksText input status text
 Says Cells hex input Done text = CellsText input text
+Says Unfix hex input Done text = (o : List ℕ) × UnfixesTo input o × ShowsBytes hex o text
 Says Scan hex input Done text = (offsets : List ℕ) × Found input offsets × ScanText input offsets text
 Says task hex input status text = ⊥
 
@@ -106,6 +109,8 @@ Says task hex input status text = ⊥
 -- - `Check`: the input is not a volume
 -- - `CheckAll`: the input is longer than the limit
 -- - `Cells`: the input does not begin with a volume whose body is tiled by cells
+-- - `Unfix`: the input does not begin with a volume whose body is tiled by cells when no file is marked as fixed, or
+--   bytes follow the volume
 -- - `Scan`: no other reason
 abbrev pub Denies : Task → List ℕ → Fault → Type 0
 Denies Normalise input fault = OrMemory (Refuses input) fault
@@ -119,6 +124,7 @@ Denies (Extract part) input fault =
 Denies Check input fault = OrMemory (NotRead input) fault
 Denies CheckAll input fault = OrMemory (IsAboveLimit input) fault
 Denies Cells input fault = OrMemory (NotTiled input) fault
+Denies Unfix input fault = OrMemory (NotUnfixed input) fault
 Denies Scan input fault = fault ≡ out_of_memory
 
 -- the input stops the task: reading it stopped with this fault; or it was read to its end, and the bytes taken of it

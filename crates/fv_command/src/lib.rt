@@ -24,6 +24,7 @@ mod shown_image;
 mod source;
 mod status;
 mod task_run;
+mod unfix_run;
 
 pub use ending::{Ending, Refusal};
 pub use fault_text::{refuse, say};

@@ -17,6 +17,7 @@ use crate::image_run::lay_out_volume;
 use crate::inputs::{read_bytes, taken_at};
 use crate::shown_image::put_shown_image;
 use crate::status::Status;
+use crate::unfix_run::put_unfixed;
 use fv_base::{Fault, Port, Sink};
 use fv_canon::{lay_out_image, layout};
 use fv_lines::{put_cells, put_list, put_list_with, put_volumes};
@@ -147,6 +148,7 @@ fn perform<S: Sink>(
         Task::Check => put_check(alloc, input, out),
         Task::CheckAll => put_image_check(alloc, input, out),
         Task::Cells => cells(alloc, input, out),
+        Task::Unfix => put_unfixed(alloc, hex, input, out),
         Task::Scan => scan(alloc, input, out),
     }
 }

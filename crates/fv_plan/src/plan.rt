@@ -62,6 +62,8 @@ pub enum Task {
     CheckAll,
     /// List the cells of a volume, with their places.
     Cells,
+    /// Write a volume with none of its files marked as fixed.
+    Unfix,
     /// Find the volumes in an input.
     Scan,
 }

@@ -70,6 +70,9 @@ fn plans() -> &'static str {
     fv cells: Plan { hex: false, command: Single { task: Cells, at: None, file: None } }\n\
     fv cells --at 64 --hex a.txt: Plan { hex: true, command: Single { task: Cells, at: Some(64), file: \
         Some(\"a.txt\") } }\n\
+    fv unfix: Plan { hex: false, command: Single { task: Unfix, at: None, file: None } }\n\
+    fv unfix --at 64 --hex a.txt: Plan { hex: true, command: Single { task: Unfix, at: Some(64), file: \
+        Some(\"a.txt\") } }\n\
     fv scan a.bin: Plan { hex: false, command: Single { task: Scan, at: None, file: Some(\"a.bin\") } }\n\
     fv scan --hex: Plan { hex: true, command: Single { task: Scan, at: None, file: None } }\n\
     fv compare a.fv b.fv: Plan { hex: false, command: Compare { first: VolumeFile { path: \"a.fv\", at: None }, \

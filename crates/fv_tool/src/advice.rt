@@ -10,6 +10,7 @@ pub const SYNOPSIS: &str = "\
     fvtool normalise [--at N | --all] [--hex] [FILE]\n\
     fvtool list [--sums] [--at N] [--hex] [FILE]\n\
     fvtool cells [--at N] [--hex] [FILE]\n\
+    fvtool unfix [--at N] [--hex] [FILE]\n\
     fvtool extract --name GUID [--section HH] [--instance N] [--at N] [--hex] [FILE]\n\
     fvtool check [--at N | --all] [--hex] [FILE]\n\
     fvtool scan [--hex] [FILE]\n\

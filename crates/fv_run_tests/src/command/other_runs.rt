@@ -33,6 +33,8 @@ pub(crate) fn small_runs() -> &'static str {
     scan: 11*8 empty 22*16 H72 33*8 -> 0 volume at 8 length 128|volume at 152 length 72|\n\
     cells: deleted-file -> 0 header at 0 length 72|deleted at 72 length 32|free at 104 length 24|sums files 0 pads 0 \
         deleted 32 filler 0 free 24|\n\
+    unfix: H128 0a*16 43aa0104180000f8 ff*32 -> 0 =H128 0a*16 47aa0100180000f8 ff*32\n\
+    unfix: H128 0a*16 43ab0104180000f8 ff*32 -> 2 fault 14 at 89|\n\
     check: empty -> 0 canonical|\n\
     check: H160 0a*16 3baa07001e0000f8060000130308 ff*18 00aaf000200000f801 ff*31 -> 1 note pad at 104 holds 1 \
         bytes|note depex in 0a0a0a0a-0a0a-0a0a-0a0a-0a0a0a0a0a0a fault 3 at 0|not canonical|\n\

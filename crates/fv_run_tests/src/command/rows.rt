@@ -42,6 +42,7 @@ fn commands() -> &'static str {
     extract 0b - 1: fv extract --name 0b0b0b0b-0b0b-0b0b-0b0b-0b0b0b0b0b0b\n\
     scan: fv scan\n\
     cells: fv cells\n\
+    unfix: fv unfix\n\
     check: fv check\n\
     check-all: fv check --all\n\
     compare: fv compare first second\n\

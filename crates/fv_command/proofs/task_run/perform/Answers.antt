@@ -40,5 +40,8 @@ returns-in-CheckAll g c = rw c.in-CheckAll.is (c.put_image_check.ensures c.args.
 pub returns-in-Cells : goal.returns-in-Cells
 returns-in-Cells g c = rw c.in-Cells.is (c.cells.ensures c.args.hex)
 
+pub returns-in-Unfix : goal.returns-in-Unfix
+returns-in-Unfix g c = rw c.in-Unfix.is c.put_unfixed.ensures
+
 pub returns-in-Scan : goal.returns-in-Scan
 returns-in-Scan g c = rw c.in-Scan.is (c.scan.ensures c.args.hex)

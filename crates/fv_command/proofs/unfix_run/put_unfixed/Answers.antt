@@ -1,0 +1,15 @@
+use Rattle.std.proofs.Common.{refl, subst}
+use Rattle.fv_base.proofs.Laws.{err_is}
+use Rattle.fv_command.proofs.unfix_run.put_unfixed.Goals as goal
+use Rattle.fv_text.specs.Words.{ShowsBytes}
+
+pub returns-in_err-volume : goal.returns-in_err-volume
+returns-in_err-volume g c = rw (err_is c.from_residual.ensures.1) (c.in_err-volume.ensures.err, refl)
+
+pub returns : goal.returns
+returns g c =
+    let put = c.put_shown.ensures in (
+      put.0,
+      (c.in_ok-volume.volume, c.in_ok-volume.ensures.ok, subst (λ b. ShowsBytes c.args.hex b put.0) c.as_slice.ensures put.1),
+      put.2,
+    )

@@ -1,0 +1,53 @@
+//! The command `unfix`: a volume without the marks of its fixed files.
+
+ghost use Rattle.std.specs.Prelude.{IfErr, IfOk};
+ghost use Rattle.fv_base.specs.Words.{OrMemory};
+ghost use Rattle.fv_command.specs.Unfixings.{NotUnfixed, UnfixesTo};
+ghost use Rattle.fv_command.specs.inner.RunSteps.{Performs};
+
+use crate::status::Status;
+use fv_base::{ByteList, Fault, FaultKind, Sink, check};
+use fv_head::verify_fv;
+use fv_plan::Task;
+use fv_text::put_shown;
+use fv_tree::unfix;
+use std::alloc::Global;
+
+// Returns a copy of the input, which is a volume, with none of its files marked as fixed. Faults of
+// the header come first, then faults of the cells, then Length at FvLength if bytes follow the
+// volume.
+fn unfixed(alloc: Global, input: &[u8]) -> Result<ByteList, Fault>
+    ensures ok { IfOk result (UnfixesTo input.now) }
+    ensures err { IfErr result (OrMemory (NotUnfixed input.now)) }
+{
+    let extent = verify_fv(input)?;
+    let mut bytes = Vec::from_slice(alloc, input)?;
+    unfix(&mut bytes)?;
+    check(
+        extent.length == input.len() as u64,
+        FaultKind::Length,
+        extent.length,
+    )?;
+    Ok(ByteList::from_vec(bytes))
+}
+
+/// Puts the input, which is a volume, with none of its files marked as fixed. In the header of each
+/// such file bit 0x04 of the attributes is cleared, and the header checksum is 4 more. Works on a
+/// copy of the input. (PI specification, volume 3, section 3.2.3.1, `FFS_ATTRIB_FIXED`.)
+///
+/// # Errors
+///
+/// As for `fv_tree::unfix`; then Length at FvLength if bytes follow the volume. OutOfMemory.
+/// Nothing has been put in that case.
+pub fn put_unfixed<S: Sink>(
+    alloc: Global,
+    hex: bool,
+    input: &[u8],
+    out: &mut S,
+) -> Result<Status, Fault>
+    ensures { Performs S.takes Task.Unfix hex input.now out.old out.new result }
+{
+    let volume = unfixed(alloc, input)?;
+    put_shown(out, hex, volume.as_slice());
+    Ok(Status::Done)
+}
