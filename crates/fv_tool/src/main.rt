@@ -147,7 +147,8 @@ fn advise<P: Process>(process: &P, ending: Ending) {
 // Runs the plan that the arguments of a process ask for, and shows a message at a terminal about
 // how the run ended. Returns the exit code for the status with which the run ended, and the output.
 // The last call to the output was a flush, unless the status is Refused and a call to the output
-// has failed. This holds for any process: whatever its arguments are, whatever opens its files, and wherever it writes.
+// has failed. This holds for any process: whatever its arguments are, whatever opens its files, and
+// wherever it writes.
 fn process<P: Opener + Process>(alloc: Global, process: &P) -> (ExitCode, Port<P::Writer>)
     ensures { (writer : P.Writer) × P.is_output process.now writer
         × (ended : Ending) × (exit_status result.0 ≡ exit_code ended.status)
