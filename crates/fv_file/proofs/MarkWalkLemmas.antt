@@ -71,12 +71,15 @@ module _ (s : FileSystem) (p : Polarity) (first : ℕ) (body : List ℕ) (at : �
         → (b ≡ drop at body) ⊎ (19 < len) → Walked s p first body (at + len) × (0 < len) × (at + len ≤ length body)
     walk_on len c in_eights is l past =
         let on = one_further s p first body new at len c so_far (ap (λ (n : ℕ). n % 8) so_far.same_length ∙ in_eights)
-        (ap (cell_verdict s p (first + at)) (stepped step).2 ∙ is) l in
-        (record {
-          less = new;
-          so_far = on.0;
-          same = sym (drop-drop len at new) ∙ ap (drop len) (stepped step).2 ∙ behind step past ∙ drop-drop len at body;
-        }, on.1, omega (arith, on.2, so_far.same_length))
+        (ap (cell_verdict s p (first + at)) (stepped step).2 ∙ is) l in (
+          record {
+            less = new;
+            so_far = on.0;
+            same = sym (drop-drop len at new) ∙ ap (drop len) (stepped step).2 ∙ behind step past ∙ drop-drop len at body;
+          },
+          on.1,
+          omega (arith, on.2, so_far.same_length),
+        )
       where
         behind : OneMarkLess s p (first + at) (drop at body) b → (b ≡ drop at body) ⊎ (19 < len) → drop len b ≡ drop len (drop at body)
         behind (inl e) past = ap (drop len) e

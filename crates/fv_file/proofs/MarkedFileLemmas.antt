@@ -43,11 +43,11 @@ less_four (x ∷ []) l h = absurd (omega (arith, l))
 less_four (x ∷ y ∷ ds) l h =
     ap (λ (n : ℕ). n + 4) (two x (y - 4) (take 3 ds)) ∙ sums x y (sum (take 3 ds)) h ∙ sym (two x y (take 3 ds))
   where
-  two : (x y : ℕ) (l : List ℕ) → sum (x ∷ y ∷ l) ≡ x + (y + sum l)
-  two x y l = sum_by-cons (λ (n : ℕ). n) x (y ∷ l) ∙ ap (λ (n : ℕ). x + n) (sum_by-cons (λ (n : ℕ). n) y l)
+    two : (x y : ℕ) (l : List ℕ) → sum (x ∷ y ∷ l) ≡ x + (y + sum l)
+    two x y l = sum_by-cons (λ (n : ℕ). n) x (y ∷ l) ∙ ap (λ (n : ℕ). x + n) (sum_by-cons (λ (n : ℕ). n) y l)
 
-  sums : (x y n : ℕ) → 4 ≤ y → x + (y - 4 + n) + 4 ≡ x + (y + n)
-  sums x y n h = omega (arith, h)
+    sums : (x y n : ℕ) → 4 ≤ y → x + (y - 4 + n) + 4 ≡ x + (y + n)
+    sums x y n h = omega (arith, h)
 
 even_less : (a : ℕ) → 4 ≤ a → (a - 4) % 2 ≡ a % 2
 even_less a l = omega (arith, l)
@@ -144,7 +144,7 @@ module _ (r : List ℕ) (long : 24 ≤ length r) (fixed : is_fixed (attributes_a
       ap (λ (l : List ℕ). file_sum_right (attributes_at (unmarked 0 r)) (file_sum_at (unmarked 0 r)) l) payload_same
       ∙ ap (λ (n : ℕ). file_sum_right (attributes_at (unmarked 0 r)) n (payload_at r)) (other 17 (λ e. omega (arith, e)) (λ e. omega (arith, e)))
       ∙ ap (λ (t : Bool). if t then (sum (payload_at r) + file_sum_at r) % 256 == 0 else file_sum_at r == fixed_checksum)
-        (ap is_summed attributes ∙ summed_less (slice_index r 19) fixed)
+      (ap is_summed attributes ∙ summed_less (slice_index r 19) fixed)
 
   pub state_same : state_at (unmarked 0 r) ≡ state_at r
   state_same = other 23 (λ e. omega (arith, e)) (λ e. omega (arith, e))
@@ -283,12 +283,13 @@ module _ (s : FileSystem) (p : Polarity) (at : ℕ) (r : List ℕ) (f : Fault) (
   pub cell_without : has_file_sum r ≡ true
       → (c : CellForm) × (cell_verdict s p at (unmarked 0 r) ≡ Ok c) × (cell_len c ≡ up_to_8 (file_size_at r)) × (19 < up_to_8 (file_size_at r))
   cell_without sound =
-      let head : FileHead = head_in marked.state (unmarked 0 r) in
-      (cell_of sorts.Valid at head (payload_at (unmarked 0 r)),
-      verdict ∙ ap (cell_with sorts.Valid at (unmarked 0 r))
-      (data_right s marked.state at (unmarked 0 r) right checked (moves r long fixed) (file_sum_same r long fixed ∙ sound)),
-      of_kind head (payload_at (unmarked 0 r)) (head.kind == pad_kind) refl ∙ ap up_to_8 (size_same r long fixed),
-      enough (is_large (attributes_at r)) (file_size_at r) size_within.0)
+      let head : FileHead = head_in marked.state (unmarked 0 r) in (
+        cell_of sorts.Valid at head (payload_at (unmarked 0 r)),
+        verdict ∙ ap (cell_with sorts.Valid at (unmarked 0 r))
+            (data_right s marked.state at (unmarked 0 r) right checked (moves r long fixed) (file_sum_same r long fixed ∙ sound)),
+        of_kind head (payload_at (unmarked 0 r)) (head.kind == pad_kind) refl ∙ ap up_to_8 (size_same r long fixed),
+        enough (is_large (attributes_at r)) (file_size_at r) size_within.0,
+      )
     where
       enough : (t : Bool) (n : ℕ) → file_header_len t ≤ n → 19 < up_to_8 n
       enough false n l = omega (arith, l)

@@ -35,12 +35,7 @@ fn sound_size(rest: &[u8], at: u64) -> Result<u64, Fault>
 
 // Returns the number of bytes of the cell at the offset `at`, where no free cell begins, or the
 // first fault there. A fixed file is taken without its mark.
-fn span_unmarked(
-    rest: &[u8],
-    at: u64,
-    system: FileSystem,
-    polarity: Polarity,
-) -> Result<u64, Fault>
+fn span_unmarked(rest: &[u8], at: u64, system: FileSystem, polarity: Polarity) -> Result<u64, Fault>
     requires place { at + length rest.now < 2 ^ 63 }
     requires multiple { length rest.now % 8 ≡ 0 }
     ensures found { IfOk result (λ n. (b : List ℕ) × OneMarkLess system polarity at rest.now b

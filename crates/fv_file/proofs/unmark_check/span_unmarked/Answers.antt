@@ -42,7 +42,7 @@ returns-in_err-size-in-Err-clause-refused c =
       _,
       inr (c.in-Err.ensures.refused ∙ ap Err k.there.fault, refl),
       wrong_without c.args.system c.args.polarity c.args.at c.args.rest.now _ k.there.long c.in-Err.ensures.refused k.kind k.there.fixed found.1
-      ∙ ap Err (sym found.0),
+          ∙ ap Err (sym found.0),
       λ e. let bad : kinds.FileSum ≡ kinds.Fixed = sym (ap (λ f. f.kind) found.0) ∙ e in cc,
     )
 
@@ -55,8 +55,7 @@ pub returns-then-eq-clause-found : goal.returns-then-eq-clause-found
 returns-then-eq-clause-found c =
     let k = known (goal.at.returns-then-eq-clause-found c).Then-eq in
     let right = c.in_ok-size-in-Err.ensures.right in
-    let cell = cell_without c.args.system c.args.polarity c.args.at c.args.rest.now _ k.there.long c.in-Err.ensures.refused k.kind k.there.fixed right.1 in
-    (
+    let cell = cell_without c.args.system c.args.polarity c.args.at c.args.rest.now _ k.there.long c.in-Err.ensures.refused k.kind k.there.fixed right.1 in (
       _,
       inr (c.in-Err.ensures.refused ∙ ap Err k.there.fault, refl),
       (cell.0, cell.1, rw (c.up_to_8.ensures, right.0) (sym cell.2)),
