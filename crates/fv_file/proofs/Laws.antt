@@ -50,3 +50,5 @@ pub use Rattle.fv_file.proofs.NewHeaderLemmas.{only_written, only_file, only_pad
 pub use Rattle.fv_file.proofs.DecidedLemmas.{body_decided}
 -- marks of fixed files that are taken away: no byte comes or goes, and where cells tile there is none
 pub use Rattle.fv_file.proofs.UnmarkLemmas.{length-unmarks, none_marked}
+-- all of them are taken away in one way
+pub use Rattle.fv_file.proofs.UnmarkLemmas.{NoneFixed, tiled_unfixed, fault_unfixed, one_unmarked}

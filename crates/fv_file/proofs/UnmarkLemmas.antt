@@ -1,5 +1,6 @@
 -- The marks of fixed files. 1. Where a cell has the fault Fixed, its attributes are there and have the bit. 2. Without the mark the file
 -- has it no more, and the bytes before it are the same. 3. The marks are taken away one after another, and the cells before tile.
+-- 4. All marks are taken away in one way (`one_unmarked`).
 use Rattle.std.proofs.Common.{◌≡◌, ◌≤◌, ◌<◌, ℕ, ◌+◌, ◌-◌, ◌%◌, List, [], ◌∷◌, ◌++◌, length, take, drop, refl, sym, ap, ◌∙◌, subst, arith}
 use Rattle.std.proofs.Common.{Bool, true, false, length-drop, zero, suc, inl, inr}
 use Rattle.std.specs.Prelude.{◌≢◌, ◌⊎◌, ◌||◌, ◌&&◌, ◌==◌, not, nat_le, slice_index, slice_set, Option, None, Some, Ok, Err}
@@ -22,6 +23,7 @@ use Rattle.fv_file.specs.inner.CellVerdicts.{cell_verdict}
 use Rattle.fv_file.proofs.CellVerdictLemmas.{verdict_first, verdict_stands, no_bits}
 use Rattle.fv_file.proofs.ErasedByteLemmas.{all_at}
 use Rattle.fv_file.proofs.BodyLemmas.{none_after}
+use Rattle.fv_file.proofs.OneFaultLemmas.{one_cell_fault}
 use Rattle.fv_file.proofs.TilingLemmas.{one_more, none_more}
 
 -- ---- 1. the fault Fixed
@@ -261,3 +263,38 @@ pub none_marked : (s : FileSystem) (p : Polarity) (first : ℕ) (ps : List ℕ) 
     → Tiles s p first cs b → o ≡ b
 none_marked s p first [] b o cs same tiles = same
 none_marked s p first (q ∷ qs) b o cs marks tiles = absurd (none_after First s p first b _ cs marks.0 tiles)
+
+-- ---- 4. in one way
+
+-- the first fault of the body, if it has one, is not that a file is fixed
+abbrev pub NoneFixed : FileSystem → Polarity → ℕ → List ℕ → Type 0
+NoneFixed s p first b = (f : Fault) → IsFirstCellFault s p first b f → f.kind ≢ kinds.Fixed
+
+-- cells tile the body
+pub tiled_unfixed : (s : FileSystem) (p : Polarity) (first : ℕ) (b : List ℕ) (cs : List CellForm) → Tiles s p first cs b
+    → NoneFixed s p first b
+tiled_unfixed s p first b cs tiles f here kind = none_after First s p first b f cs here tiles
+
+-- another fault is the first
+pub fault_unfixed : (s : FileSystem) (p : Polarity) (first : ℕ) (b : List ℕ) (f : Fault) → IsFirstCellFault s p first b f
+    → f.kind ≢ kinds.Fixed → NoneFixed s p first b
+fault_unfixed s p first b f here other g there kind =
+    other (ap (λ (x : Fault). x.kind) (one_cell_fault s p first b f g here there) ∙ kind)
+
+one_place : (first p q : ℕ) → outer_fault kinds.Fixed (first + p + 19) ≡ outer_fault kinds.Fixed (first + q + 19) → p ≡ q
+one_place first p q e = omega (arith, ap (λ (f : Fault). f.place.offset) e)
+
+-- the bytes without all marks are the only ones
+pub one_unmarked : (s : FileSystem) (p : Polarity) (first : ℕ) (ps qs : List ℕ) (b o x : List ℕ) → Unmarks s p first ps b o
+    → NoneFixed s p first o → Unmarks s p first qs b x → NoneFixed s p first x → x ≡ o
+one_unmarked s p first [] [] b o x same end other end_x = other ∙ sym same
+one_unmarked s p first [] (r ∷ rs) b o x same end other end_x =
+    absurd (end (outer_fault kinds.Fixed (first + r + 19))
+    (subst (λ (y : List ℕ). IsFirstCellFault s p first y (outer_fault kinds.Fixed (first + r + 19))) (sym same) other.0) refl)
+one_unmarked s p first (q ∷ qs) [] b o x marks end same end_x =
+    absurd (end_x (outer_fault kinds.Fixed (first + q + 19))
+    (subst (λ (y : List ℕ). IsFirstCellFault s p first y (outer_fault kinds.Fixed (first + q + 19))) (sym same) marks.0) refl)
+one_unmarked s p first (q ∷ qs) (r ∷ rs) b o x marks end other end_x =
+    let same : r ≡ q = one_place first r q (one_cell_fault s p first b _ _ other.0 marks.0) in
+    one_unmarked s p first qs rs (unmarked q b) o x marks.1 end
+    (subst (λ (n : ℕ). Unmarks s p first rs (unmarked n b) x) same other.1) end_x

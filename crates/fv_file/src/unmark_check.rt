@@ -1,6 +1,7 @@
-//! Whether the marks of fixed files can be taken away from a body, which stays as it is.
+//! Checking whether the marks of fixed files can be taken away from a body, which stays as it is.
 
-ghost use Rattle.std.specs.Prelude.{◌≡◌, ◌≢◌, ◌⊎◌, ◌+◌, ◌<◌, ◌≤◌, ◌%◌, ◌^◌, true, false, List, ℕ, length, Ok, Err, IfOk, IfErr, OnOk};
+ghost use Rattle.std.specs.Prelude.{◌≡◌, ◌≢◌, ◌⊎◌, ◌+◌, ◌<◌, ◌≤◌, ◌%◌, ◌^◌, true, false, List, ℕ, length};
+ghost use Rattle.std.specs.Prelude.{Ok, Err, IfOk, IfErr, OnOk};
 ghost use Rattle.fv_base.specs.Words.{outer_fault};
 ghost use Rattle.fv_file.specs.Cells.{CellForm, Tiles};
 ghost use Rattle.fv_file.specs.CellForms.{cell_len};
@@ -33,8 +34,8 @@ fn sound_size(rest: &[u8], at: u64) -> Result<u64, Fault>
     Ok(head.size)
 }
 
-// Returns the number of bytes of the cell at the offset `at`, where no free cell begins, or the
-// first fault there. A fixed file is taken without its mark.
+// Returns the length of the cell at the offset `at`, in bytes, where no free cell begins, or the
+// first fault there. A fixed file is read as if its mark was taken away.
 fn span_unmarked(rest: &[u8], at: u64, system: FileSystem, polarity: Polarity) -> Result<u64, Fault>
     requires place { at + length rest.now < 2 ^ 63 }
     requires multiple { length rest.now % 8 ≡ 0 }
@@ -55,13 +56,13 @@ fn span_unmarked(rest: &[u8], at: u64, system: FileSystem, polarity: Polarity) -
     }
 }
 
-/// Checks a volume's body, which begins at the offset `first`, as `unmark_files` does, but changes
-/// nothing. So it finds out whether the marks of all fixed files can be taken away. Takes no memory.
+/// Checks whether `unmark_files` can take the marks away from all fixed files of a volume's body,
+/// which begins at the offset `first` of the volume, in bytes. Changes nothing. Takes no memory.
 /// (PI specification, volume 3, section 3.2.3.1, `FFS_ATTRIB_FIXED`.)
 ///
 /// # Errors
 ///
-/// The first fault of a cell, as for `cells`, except Fixed.
+/// The fault that `unmark_files` returns: the first fault of a cell, as for `cells`, except Fixed.
 pub fn verify_unmarked(
     body: &[u8],
     first: u64,
@@ -71,11 +72,12 @@ pub fn verify_unmarked(
     requires multiple { length body.now % 8 ≡ 0 }
     requires place { first + length body.now < 2 ^ 63 }
 
-    // Without the marks of these files, cells tile the body.
+    // Cells tile the body after the marks were taken away from the files at some offsets, each of
+    // which was fixed.
     ensures tiled { OnOk result ((places : List ℕ) × (o : List ℕ) × Unmarks system polarity first places body.now o
         × ((cells : List CellForm) × Tiles system polarity first cells o)) }
 
-    // Or there is a fault of a cell after the marks before it, which is not that a file is fixed.
+    // The fault is the first one of the body after some marks were taken away, and it is not Fixed.
     ensures first { IfErr result (λ f. (places : List ℕ) × (o : List ℕ) × Unmarks system polarity first places body.now o
         × IsFirstCellFault system polarity first o f × (f.kind ≢ FaultKind.Fixed)) }
 {

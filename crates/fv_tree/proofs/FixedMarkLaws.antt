@@ -1,15 +1,18 @@
--- A volume whose fixed files are marked no more begins with the same header, and cells tile its body.
+-- A volume whose fixed files are marked no more begins with the same header, and cells tile its body. It is the only one.
 use Rattle.std.proofs.Common.{◌≡◌, ℕ, ◌+◌, ◌-◌, ◌≤◌, List, ◌++◌, length, take, drop, sym, ap, ◌∙◌, subst, arith, append_assoc, [], ◌∷◌, zero, suc}
-use Rattle.std.specs.Prelude.{Option, None, Some}
+use Rattle.std.specs.Prelude.{◌≢◌, Option, None, Some}
 use Rattle.std.proofs.lemmas.List.{length-append, length-take-le, length-drop, take-append-drop, take-append-le, take_all}
-use Rattle.fv_base.specs.Words.{field, le, le_at}
-use Rattle.fv_base.proofs.Laws.{take-take_le, field-take}
-use Rattle.fv_file.specs.Words.{CellForm, Tiles}
-use Rattle.fv_file.proofs.Laws.{length-unmarks}
-use Rattle.fv_head.specs.Words.{Extension, HasExt, HeadFields, IsHead, BeginsVolume}
+use Rattle.std.proofs.lemmas.List.{drop-drop, drop-take}
+use Rattle.fv_base.specs.Words.{First, IsFirstFault, field, le, le_at}
+use Rattle.fv_base.specs.declared.fault.Fault.{Fault}
+use Rattle.fv_base.specs.declared.fault.FaultKind.TheVariants as kinds
+use Rattle.fv_base.proofs.Laws.{take-take_le, field-take, none_faulty, not_first}
+use Rattle.fv_file.specs.Words.{CellForm, Tiles, IsFirstCellFault}
+use Rattle.fv_file.proofs.Laws.{length-unmarks, none_marked, none_after, NoneFixed, tiled_unfixed, fault_unfixed, one_unmarked}
+use Rattle.fv_head.specs.Words.{Extension, HasExt, HeadFields, IsHead, BeginsVolume, head_checks}
 use Rattle.fv_head.specs.declared.extent.Extent.{Extent}
-use Rattle.fv_head.proofs.Laws.{first_lies, front_lies}
-use Rattle.fv_tree.specs.Words.{Unfixes, BeginsTiled}
+use Rattle.fv_head.proofs.Laws.{first_lies, front_lies, one_front, front_holds}
+use Rattle.fv_tree.specs.Words.{Unfixes, IsUnfixed, BeginsTiled}
 
 take-append_all : (xs ys : List ℕ) (n : ℕ) → length xs ≡ n → take n (xs ++ ys) ≡ xs
 take-append_all xs ys n e = take-append-le n xs ys (omega (arith, e)) ∙ take_all n xs (omega (arith, e))
@@ -58,28 +61,91 @@ header_kept b o h e front long same =
       polarity = front.polarity;
     }
 
--- and cells tile the body
-pub tiled_there : (b o body : List ℕ) (e : Extent) (cells : List CellForm) → Unfixes e b o body
-    → Tiles e.file_system e.polarity e.first cells body → BeginsTiled e cells o
-tiled_there b o body e cells u tiles =
+-- the body of the volume is in its place, and all other bytes are as they were
+record Kept (e : Extent) (b o body : List ℕ) : Type 0 where
+  pub length_is : length o ≡ length b
+  pub front : take e.first o ≡ take e.first b
+  pub body_is : drop e.first (take e.length o) ≡ body
+
+kept : (b o body : List ℕ) (e : Extent) → Unfixes e b o body → Kept e b o body
+kept b o body e u =
     let lies = first_lies b u.head e u.front in
     let size : length (field e.first (e.length - e.first) b) ≡ e.length - e.first =
     length-take-le (e.length - e.first) (drop e.first b) (omega (arith, length-drop e.first b, u.front.whole, lies.1)) in
     let long : length body ≡ e.length - e.first = length-unmarks _ _ _ _ _ _ u.marks ∙ size in
     let before : length (take e.first b) ≡ e.first = length-take-le e.first b (omega (arith, u.front.whole, lies.1)) in
-    let same_length : length o ≡ length b =
-    ap length u.text ∙ length-append (take e.first b) (body ++ drop e.length b)
-    ∙ omega (arith, before, long, length-append body (drop e.length b), length-drop e.length b, u.front.whole, lies.1) in
-    let same : take e.first o ≡ take e.first b =
-    ap (take e.first) u.text ∙ take-append_all (take e.first b) (body ++ drop e.length b) e.first before in
     let whole : take e.length o ≡ take e.first b ++ body =
     ap (take e.length) (u.text ∙ sym (append_assoc (take e.first b) body (drop e.length b)))
     ∙ take-append_all (take e.first b ++ body) (drop e.length b) e.length
     (length-append (take e.first b) body ∙ omega (arith, before, long, lies.1)) in
-    let rest : drop e.first (take e.length o) ≡ body =
-    ap (drop e.first) whole ∙ drop-append_all (take e.first b) body e.first before in
+    record {
+      length_is = ap length u.text ∙ length-append (take e.first b) (body ++ drop e.length b)
+          ∙ omega (arith, before, long, length-append body (drop e.length b), length-drop e.length b, u.front.whole, lies.1);
+      front = ap (take e.first) u.text ∙ take-append_all (take e.first b) (body ++ drop e.length b) e.first before;
+      body_is = ap (drop e.first) whole ∙ drop-append_all (take e.first b) body e.first before;
+    }
+
+-- and cells tile the body
+pub tiled_there : (b o body : List ℕ) (e : Extent) (cells : List CellForm) → Unfixes e b o body
+    → Tiles e.file_system e.polarity e.first cells body → BeginsTiled e cells o
+tiled_there b o body e cells u tiles =
+    let k = kept b o body e u in
     record {
       head = u.head;
-      front = header_kept b o u.head e u.front same_length same;
-      tiles = subst (Tiles e.file_system e.polarity e.first cells) (sym rest) tiles;
+      front = header_kept b o u.head e u.front k.length_is k.front;
+      tiles = subst (Tiles e.file_system e.polarity e.first cells) (sym k.body_is) tiles;
     }
+
+-- ---- the bytes without the marks are the only ones
+
+-- other bytes without all marks have a body that cells tile, and they are the same
+one_unfixed : (b o body : List ℕ) (e : Extent) → Unfixes e b o body → NoneFixed e.file_system e.polarity e.first body
+    → (x : List ℕ) → IsUnfixed b x → ((cells : List CellForm) × Tiles e.file_system e.polarity e.first cells body) × (x ≡ o)
+one_unfixed b o body e u end x other =
+    let one = (one_front b other.2.head u.head other.0 e other.2.front u.front).1 in
+    let v : Unfixes e b x other.1 = subst (λ (y : Extent). Unfixes y b x other.1) one other.2 in
+    let there : BeginsTiled e other.3.0 x = subst (λ (y : Extent). BeginsTiled y other.3.0 x) one other.3.1 in
+    let tiles : Tiles e.file_system e.polarity e.first other.3.0 other.1 =
+    subst (Tiles e.file_system e.polarity e.first other.3.0) (kept b x other.1 e v).body_is there.tiles in
+    let same : other.1 ≡ body =
+    one_unmarked e.file_system e.polarity e.first u.places v.places (field e.first (e.length - e.first) b) body other.1
+    u.marks end v.marks (tiled_unfixed e.file_system e.polarity e.first other.1 other.3.0 tiles) in (
+      (other.3.0, subst (Tiles e.file_system e.polarity e.first other.3.0) same tiles),
+      v.text ∙ ap (λ (y : List ℕ). take e.first b ++ (y ++ drop e.length b)) same ∙ sym u.text,
+    )
+
+-- where cells tile the body, there are no others
+pub only_unfixed : (b o body : List ℕ) (e : Extent) (cells : List CellForm) → Unfixes e b o body
+    → Tiles e.file_system e.polarity e.first cells body → (x : List ℕ) → IsUnfixed b x → x ≡ o
+only_unfixed b o body e cells u tiles x other =
+    (one_unfixed b o body e u (tiled_unfixed e.file_system e.polarity e.first body cells tiles) x other).1
+
+-- where the body has another fault, there are none
+pub none_unfixed : (b o body : List ℕ) (e : Extent) (f : Fault) → Unfixes e b o body
+    → IsFirstCellFault e.file_system e.polarity e.first body f → f.kind ≢ kinds.Fixed → (x : List ℕ) → IsUnfixed b x → ⊥
+none_unfixed b o body e f u here kind x other =
+    let one = one_unfixed b o body e u (fault_unfixed e.file_system e.polarity e.first body f here kind) x other in
+    none_after First e.file_system e.polarity e.first body f one.0.0 here one.0.1
+
+-- where the header has a fault, there are none
+pub none_headed : (b : List ℕ) (f : Fault) → IsFirstFault (head_checks b) f → (x : List ℕ) → IsUnfixed b x → ⊥
+none_headed b f first x other =
+    not_first (head_checks b) f first (none_faulty (head_checks b) (front_holds b other.2.head other.0 other.2.front))
+
+-- where cells tile the body already, nothing changes
+pub unchanged : (b o body : List ℕ) (e x : Extent) (cells : List CellForm) → Unfixes e b o body → BeginsTiled x cells b → o ≡ b
+unchanged b o body e x cells u has =
+    let one = (one_front b has.head u.head x e has.front u.front).1 in
+    let there : BeginsTiled e cells b = subst (λ (y : Extent). BeginsTiled y cells b) one has in
+    let end : e.first + (e.length - e.first) ≡ e.length = omega (arith, (first_lies b u.head e u.front).1) in
+    let part : drop e.first (take e.length b) ≡ field e.first (e.length - e.first) b =
+    ap (λ (n : ℕ). drop e.first (take n b)) (sym end) ∙ drop-take e.first (e.length - e.first) b in
+    let same : body ≡ field e.first (e.length - e.first) b =
+    none_marked e.file_system e.polarity e.first u.places (field e.first (e.length - e.first) b) body cells u.marks
+    (subst (Tiles e.file_system e.polarity e.first cells) part there.tiles) in
+    let rest : drop e.length b ≡ drop (e.length - e.first) (drop e.first b) =
+    ap (λ (n : ℕ). drop n b) (sym end) ∙ sym (drop-drop (e.length - e.first) e.first b) in
+    u.text ∙ ap (λ (y : List ℕ). take e.first b ++ (y ++ drop e.length b)) same
+    ∙ ap (λ (y : List ℕ). take e.first b ++ (field e.first (e.length - e.first) b ++ y)) rest
+    ∙ ap (λ (y : List ℕ). take e.first b ++ y) (take-append-drop (e.length - e.first) (drop e.first b))
+    ∙ take-append-drop e.first b

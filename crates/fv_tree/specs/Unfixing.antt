@@ -23,7 +23,7 @@ IsUnfixed b o =
     (e : Extent) × (body : List ℕ) × Unfixes e b o body × ((cells : List CellForm) × BeginsTiled e cells o)
 
 -- the first fault of the volume's body in o is this one, which is not Fixed. o is b after the marks of the fixed files
--- before that fault were taken away
+-- whose fault Fixed came before it were taken away
 abbrev pub UnfixStops : List ℕ → List ℕ → Fault → Type 0
 UnfixStops b o f =
     (e : Extent) × (body : List ℕ) × Unfixes e b o body × IsFirstCellFault e.file_system e.polarity e.first body f

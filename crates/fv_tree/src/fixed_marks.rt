@@ -1,8 +1,11 @@
 //! Taking the marks of fixed files away from a volume.
 
-ghost use Rattle.std.specs.Prelude.{◌≡◌, ◌≢◌, ◌⊎◌, IfErr, OnOk};
+ghost use Rattle.std.specs.Prelude.{◌≡◌, ◌⊎◌, ℕ, List, IfErr, OnOk};
 ghost use Rattle.fv_base.specs.Words.{IsFirstFault};
+ghost use Rattle.fv_file.specs.Words.{CellForm};
 ghost use Rattle.fv_head.specs.Words.{head_checks};
+ghost use Rattle.fv_head.specs.declared.extent.Extent.{Extent};
+ghost use Rattle.fv_tree.specs.LocatedFiles.{BeginsTiled};
 ghost use Rattle.fv_tree.specs.Unfixing.{IsUnfixed, UnfixStops};
 
 use fv_base::Fault;
@@ -16,17 +19,27 @@ use fv_head::verify_fv;
 ///
 /// # Errors
 ///
-/// The first fault of the header, as for `verify_fv`; then nothing was changed. Otherwise the first
-/// fault of a cell, as for `cells`, except Fixed. Then the fixed files before that cell have lost
-/// their marks already, so a caller that needs the bytes as they were works on a copy.
+/// The first fault of the header, as for `verify_fv`. Nothing was changed in that case. Otherwise the
+/// first fault of a cell, as for `cells`, except Fixed. By then the fixed files before that cell
+/// have lost their marks, and so has the file of that cell if the fault is FileSum. So a caller that
+/// needs the bytes as they were works on a copy.
 pub fn unfix(bytes: &mut [u8]) -> Result<(), Fault>
     // The volume has no fixed file any more, and nothing but the marks was changed.
     ensures done { OnOk result (IsUnfixed bytes.old bytes.new) }
+
+    // No other bytes are the given bytes without these marks.
+    ensures only { OnOk result ((o : List ℕ) → IsUnfixed bytes.old o → o ≡ bytes.new) }
+
+    // After an error, no bytes are the given bytes without these marks.
+    ensures none { IfErr result (λ _. (o : List ℕ) → IsUnfixed bytes.old o → ⊥) }
 
     // Either the fault is the first one of the header, and nothing was changed; or it is the first
     // one of the body without the marks before it, and it is not Fixed.
     ensures stops { IfErr result
         (λ f. (IsFirstFault (head_checks bytes.old) f × (bytes.new ≡ bytes.old)) ⊎ UnfixStops bytes.old bytes.new f) }
+
+    // If cells tile the body of the volume, none of its files is fixed, and nothing was changed.
+    ensures same { (e : Extent) (cells : List CellForm) → BeginsTiled e cells bytes.old → bytes.new ≡ bytes.old }
 {
     let extent = verify_fv(bytes)?;
     let body = &mut bytes[extent.first as usize..extent.length as usize];
