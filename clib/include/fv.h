@@ -15,6 +15,7 @@
  *   Is a volume its own canonical image?                    fv_is_canonical       a volume         14
  *   What is its canonical image?                            fv_normalise          a volume         14
  *   What is a flash image with each volume canonical?       fv_normalise_image    any bytes        14
+ *   What is a volume without the marks of fixed files?      fv_unfix              a volume         none
  *   Which volumes of a flash image are canonical?           fv_check_image        any bytes        14
  *   Which digest do all volumes of one meaning share?       fv_digest             a volume         14
  *   Do two volumes mean the same? Where do they differ?     fv_compare            two volumes      13, of both
@@ -173,6 +174,17 @@ uint32_t fv_normalise(const uint8_t *input, size_t len, uint8_t *FV_RESTRICT buf
  * 24 is returned only if a volume begins in an image within the limit. */
 uint32_t fv_normalise_image(const uint8_t *image, size_t len, uint8_t *FV_RESTRICT buffer, size_t buffer_len,
                             fv_fault *FV_RESTRICT fault);
+
+/* Writes the input volume to the first `len` bytes of the buffer, with none of its files marked as fixed. In the header
+ * of each fixed file, bit 0x04 of the attributes is cleared, and 4 is added to the header checksum (modulo 256), so all
+ * checksums stay right. Files that are marked for update are among these files. All other bytes are those of the input,
+ * also those of pads, of deleted files and of nested volumes. A volume without fixed files is written as it is. The
+ * calls that read the files of a volume reject one with fixed files (15), so pass them what this call writes. It is for
+ * reading, comparing and archiving, and must not be flashed. Takes no memory.
+ * Returns 0; the first fault of the header or of the cells, or 8 if bytes follow the volume: 1 to 16, but never 15;
+ * otherwise 256 if buffer_len < len. */
+uint32_t fv_unfix(const uint8_t *input, size_t len, uint8_t *FV_RESTRICT buffer, size_t buffer_len,
+                  fv_fault *FV_RESTRICT fault);
 
 /* Checks whether the input volume is its own canonical image.
  * Returns 0 if the input is a volume, and sets *canonical to 1 if it is its own image, or to 0 if it is not or has no

@@ -1,5 +1,5 @@
 /* The commands of the program by the library, so that a script can compare their output; and runs for a sanitizer.
- *   fvc normalise|all|check|checkall|scan|cells|list|tree|sums|hobs|digest|flips|prefixes FILE
+ *   fvc normalise|all|unfix|check|checkall|scan|cells|list|tree|sums|hobs|digest|flips|prefixes FILE
  *   fvc compare FIRST SECOND
  * The status is that of the program. */
 #include <fv.h>
@@ -43,12 +43,14 @@ static int refuse(const char *before, fv_fault f)
     return 2;
 }
 
-static int normalise(const char *command, struct bytes in)
+/* The commands that write as many bytes as the input has. */
+static int rewrite(const char *command, struct bytes in)
 {
     fv_fault fault;
     uint8_t *buffer = malloc(in.n ? in.n : 1);
-    uint32_t status = command[0] == 'n' ? fv_normalise(in.p, in.n, buffer, in.n, &fault)
-                                        : fv_normalise_image(in.p, in.n, buffer, in.n, &fault);
+    uint32_t status = command[0] == 'n'   ? fv_normalise(in.p, in.n, buffer, in.n, &fault)
+                      : command[0] == 'u' ? fv_unfix(in.p, in.n, buffer, in.n, &fault)
+                                          : fv_normalise_image(in.p, in.n, buffer, in.n, &fault);
     if (!status) fwrite(buffer, 1, in.n, stdout);
     free(buffer);
     return status ? refuse("", fault) : 0;
@@ -475,6 +477,27 @@ static void vary_parts(const uint8_t *p, size_t n, uint32_t status)
     }
 }
 
+/* The input without the marks of its fixed files, in a buffer of as many bytes. Cells tile what was written, and it differs
+ * from the input in the two bytes of each mark. The results of fv_cells and fv_unfix differ only where a file is fixed. */
+static void vary_marks(const uint8_t *p, size_t n, uint8_t *buffer)
+{
+    static fv_cell cells[512];
+    uint64_t count = 0;
+    fv_fault fault, of_cells;
+    uint32_t read = fv_cells(p, n, cells, 512, &count, &of_cells), status = fv_unfix(p, n, buffer, n, &fault);
+    if (status != fault.number || status > FV_FREE_SPACE || status == FV_FIXED) abort();
+    if (status ? read != status && read != FV_FIXED && (read || status != FV_LENGTH) : read && read != FV_FIXED) abort();
+    if (status) return;
+    if (fv_cells(buffer, n, cells, 512, &count, &fault)) abort();
+    for (size_t i = 0, at = 0; i < n; i++) {
+        while (at < count && i >= cells[at].offset + 24) at++;
+        int of_file = at < count && cells[at].what == FV_CELL_FILE && i >= cells[at].offset;
+        int fixed = of_file && p[cells[at].offset + 19] & 4;
+        int change = !fixed ? 0 : i == cells[at].offset + 16 ? 4 : i == cells[at].offset + 19 ? -4 : 0;
+        if (buffer[i] != (uint8_t)(p[i] + change)) abort();
+    }
+}
+
 /* A buffer that is too small is reported only for an input without a fault. */
 static void empty_buffer(const uint8_t *p, size_t n, uint32_t status, uint32_t of_all)
 {
@@ -521,6 +544,7 @@ static int vary(const char *command, struct bytes in)
         fv_verify(p, n, &extent, &fault);
         fv_is_canonical(p, n, &canonical, &fault);
         empty_buffer(p, n, status, fv_normalise_image(p, n, buffer, n, &fault));
+        vary_marks(p, n, buffer);
         fv_scan(p, n, offsets, 64, &count);
         fv_check_image(p, n, checks, 64, &count, &fault);
         fv_cells(p, n, cells, 512, &count, &fault);
@@ -547,7 +571,7 @@ int main(int argc, char **argv)
     const char *command = argv[1];
     struct bytes in = read_file(argv[2]);
     int status = 3;
-    if (!strcmp(command, "normalise") || !strcmp(command, "all")) status = normalise(command, in);
+    if (!strcmp(command, "normalise") || !strcmp(command, "all") || !strcmp(command, "unfix")) status = rewrite(command, in);
     if (!strcmp(command, "check")) status = check(in);
     if (!strcmp(command, "checkall")) status = check_all(in);
     if (!strcmp(command, "digest")) status = digest(in);

@@ -1,6 +1,6 @@
 /* Each allocation of each call is refused in turn, by three functions in place of those of src/heap.c. A call must then
  * return that memory ran out, at offset 0 and depth 0, and nothing else. It keeps no block, and leaves the buffer
- * unchanged. */
+ * unchanged. fv_unfix takes no memory. */
 #include <fv.h>
 #include <stdbool.h>
 #include <stdio.h>
@@ -40,10 +40,11 @@ void rattle_dealloc(uint8_t *p)
     free(p);
 }
 
-enum { CALLS = 16 };
+enum { CALLS = 17, UNFIX = 14 };
 static const char *const names[CALLS] = {"normalise", "normalise_image", "is_canonical", "digest", "scan",
                                          "compare",   "cells",           "files",        "sections", "extract",
-                                         "extract_section", "check_image", "tree", "list_sums", "hobs", "depex"};
+                                         "extract_section", "check_image", "tree", "list_sums", "unfix", "hobs",
+                                         "depex"};
 static uint8_t in[1 << 24], buffer[1 << 24];
 static fv_fault fault;
 
@@ -81,7 +82,8 @@ static uint32_t call(int which, size_t n)
     case 11: return fv_check_image(in, n, checks, 64, &count, &fault);
     case 12: return fv_tree(in, n, nodes, 4096, &count, &fault);
     case 13: return fv_list_sums(in, n, sums, 4096, &count, &fault);
-    case 14: return fv_hobs(blocks_of, sizeof blocks_of, list, 4096, &count, &consumed, &fault);
+    case UNFIX: return fv_unfix(in, n, buffer, n, &fault);
+    case 15: return fv_hobs(blocks_of, sizeof blocks_of, list, 4096, &count, &consumed, &fault);
     default: return fv_depex(expression, sizeof expression, 0, &guid, 1, &value, &fault);
     }
 }
@@ -93,7 +95,7 @@ int main(int argc, char **argv)
     size_t n = fread(in, 1, sizeof in, f);
     fclose(f);
     for (int which = 0; which < CALLS; which++) {
-        uint32_t want = 0, memory = which < 14 ? 24 : 6;
+        uint32_t want = 0, memory = which < 15 ? 24 : 6;
         long k;
         for (k = -1;; k++) {
             left = k;
@@ -118,6 +120,10 @@ int main(int argc, char **argv)
             }
             for (size_t i = 0; i < n; i++)
                 if (buffer[i] != 7) return 1;
+        }
+        if (which == UNFIX && k) {
+            printf("unfix: it takes memory\n");
+            return 1;
         }
         printf("%s returns %u; each of its %ld allocations ends in %u\n", names[which], want, k, memory);
     }

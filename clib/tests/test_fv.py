@@ -139,6 +139,22 @@ def checks_have_faults(volume):
     assert wanted != fault and wanted != "fault" and fv.check_image(wrong[8:]) == []
 
 
+def marks_are_taken_away(volume):
+    """A volume with a fixed file is read without the mark. What is returned is no part of what was passed."""
+    at = 72
+    marked = bytearray(volume)
+    marked[at + 16], marked[at + 19] = (marked[at + 16] - 4) % 256, marked[at + 19] | 4
+    for call in (fv.normalise, fv.files, fv.cells, fv.tree, fv.digest):
+        assert fields(raised(call, marked))[1:4] == (15, at + 19, 0), call
+    before = bytes(marked)
+    assert fv.unfixed(marked) == fv.unfixed(before) == volume and marked == before
+    assert fv.unfixed(marked, in_place=True) == volume and marked == before
+    assert fields(raised(fv.unfixed, before + b"\0"))[1:4] == (8, len(volume), 0)
+    assert fields(raised(fv.unfixed, b""))[1:4] == (1, 0, 0)
+    marked[at + 17] ^= 1
+    assert fields(raised(fv.unfixed, marked))[1:4] == (14, at + 17, 0)
+
+
 def buffers_are_read(volume):
     """Each kind of buffer is read, and a buffer that is read in place as it is."""
     image = fv.normalise(volume)
@@ -146,6 +162,7 @@ def buffers_are_read(volume):
         for in_place in (False, True):
             data = kind(volume)
             assert fv.normalise(data, in_place=in_place) == image and data == volume
+            assert fv.unfixed(data, in_place=in_place) == volume and data == volume
             assert fv.compare(data, image, in_place=in_place) == "same"
             assert fv.scan(data, in_place=in_place) == [0]
             assert len(fv.files(data, in_place=in_place)) == len(fv.files(volume))
@@ -171,11 +188,11 @@ def buffers_may_change(seconds):
     writer.start()
     begin, calls = time.monotonic(), 0
     while time.monotonic() - begin < seconds:
-        for call in (fv.normalise, fv.digest, fv.is_canonical, fv.tree, fv.check_image, fv.list_sums):
+        for call in (fv.normalise, fv.unfixed, fv.digest, fv.is_canonical, fv.tree, fv.check_image, fv.list_sums):
             outcome(call, data)
         for call in (fv.sections, fv.extract):
             outcome(call, data, 0)
-        calls += 8
+        calls += 9
     ends.set()
     writer.join()
     return calls
@@ -218,6 +235,7 @@ def main(paths):
     calls_are_all()
     rows_are_sequences(volume)
     checks_have_faults(volume)
+    marks_are_taken_away(volume)
     buffers_are_read(volume)
     calls = buffers_may_change(2)
     images = 0
@@ -228,10 +246,15 @@ def main(paths):
         assert all(isinstance(outcome(fv.verify, data[at:]), fv.Extent) for at in offsets), path
         all_of_it = outcome(fv.normalise_image, data)
         checks_are_of_volumes(path, data, offsets)
+        unfixed = outcome(fv.unfixed, data)
+        if isinstance(unfixed, bytes):
+            assert len(unfixed) == len(data) and fv.unfixed(unfixed) == unfixed, path
+            assert isinstance(outcome(fv.cells, unfixed), fv.Rows), path
         if isinstance(image, str):
             assert outcome(fv.digest, data) == image, path
             assert not isinstance(all_of_it, bytes) or len(all_of_it) == len(data), path
             continue
+        assert unfixed == data, path
         images += 1
         assert fv.digest(data) == hashlib.sha256(image).digest(), path
         assert fv.is_canonical(image) and fv.is_canonical(data) == (image == data), path

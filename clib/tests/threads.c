@@ -26,6 +26,7 @@ static void *work(void *unused)
     (void)unused;
     for (int i = 0; i < turns; i++) {
         bad += fv_normalise(in, n, buffer, n, &fault) != 0 || memcmp(buffer, in, n) != 0;
+        bad += fv_unfix(in, n, part, n, &fault) != 0 || memcmp(part, in, n) != 0;
         bad += fv_is_canonical(in, n, &canonical, &fault) != 0 || canonical != 1;
         bad += fv_check_image(in, n, &volume, 1, &count, &fault) != 0 || count != 1 || volume.canonical != 1;
         bad += fv_tree(in, n, nodes, n / 4 + 1, &rows, &fault) != 0 || nodes[0].len != n;

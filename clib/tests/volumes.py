@@ -1,6 +1,6 @@
 #!/usr/bin/env python3
-"""volumes.py: normalise, normalise_image, is_canonical, check_image, compare, verify and cells of the Python package over
-the volumes of crates/fv_run_tests/rows, and depex and hobs over its expressions and lists.
+"""volumes.py: normalise, normalise_image, unfixed, is_canonical, check_image, compare, verify and cells of the Python
+package over the volumes of crates/fv_run_tests/rows, and depex and hobs over its expressions and lists.
 
 The images and the faults of these were worked out by hand. Of some, each byte is then replaced by each other one: the
 calls have to agree on what they are given, and whatever has an image has to keep it."""
@@ -16,7 +16,7 @@ sys.path += [str(ROOT / "clib/python"), str(ROOT / "crates/fv_run_tests/rows")]
 import fv
 import rows
 
-NO_ROOM, TOP_ALIGNMENT = 22, 23
+FIXED, NO_ROOM, TOP_ALIGNMENT = 15, 22, 23
 # What `cells` calls each cell, and in which of its sums the bytes are.
 CELLS = {
     fv.FILE: ("file", "files"),
@@ -136,6 +136,29 @@ def check_bodies(table):
     return count
 
 
+def check_unfixed(table, others):
+    """Each volume of a row of `unfix` loses its marks, or has the fault of the row. Each body of the other rows is written
+    as it is, or has the same fault as the cells, except that a file is fixed."""
+    count = 0
+    for name, words, result in map(rows.parts, table):
+        if name != "unfix" or words.startswith("'"):  # a volume at an offset, or text that is no bytes
+            continue
+        data, text = rows.spelled(words), result.partition(" ")[2]
+        fault = re.fullmatch(r"fault (\d+) at (\d+)\|", text)
+        wanted = (*map(int, fault.groups()), 0) if fault else rows.spelled(text[1:])
+        assert outcome(fv.unfixed, data) == wanted, (words, result)
+        count += 1
+    for row in others:
+        for data in rows.bodies(row):
+            cells, found = outcome(fv.cells, data), outcome(fv.unfixed, data)
+            if isinstance(cells, fv.Rows):
+                assert found == data, row
+            else:
+                assert found != cells if cells[0] == FIXED else found == cells, row
+            count += 1
+    return count
+
+
 def check_rejected(table):
     """Each expression, hand-off list and head has the fault of its row, or an expression is accepted."""
     calls = {"pei": lambda data: fv.depex(data, fv.PEI), "dxe": fv.depex, "hobs": fv.hobs, "head": fv.verify}
@@ -207,6 +230,8 @@ def main():
     print(f"volumes: the volumes of {check_checks(library['checked images'])} flash images are checked")
     extents, bodies = check_extents(library["extents"]), check_bodies(rows.tables("bodies")[""])
     print(f"volumes: {extents} have their extents, and {bodies} their cells or their fault")
+    unfixed = check_unfixed(rows.tables("unfix")[""], rows.tables("bodies")[""])
+    print(f"volumes: {unfixed} lose the marks of their fixed files, or have their fault")
     print(f"volumes: {check_rejected(rows.tables('parts')[''])} expressions, hand-off lists and heads are as the rows say")
     print(f"volumes: {check_values(library['values'])} expressions have their values")
     print(f"volumes: of {check_replaced(IMAGES, agree) + check_replaced(VOLUMES, keeps)} with another byte each is as it should be")

@@ -5,6 +5,7 @@
     fv.scan(data)               the offsets of the volumes in the data
     fv.normalise(data)          the canonical image of a volume
     fv.normalise_image(data)    a flash image with each volume in it replaced by its canonical image
+    fv.unfixed(data)            a copy of a volume in which no file is marked as fixed
     fv.is_canonical(data)       whether a volume is its own canonical image
     fv.check_image(data)        whether each volume of a flash image is its own canonical image, or its fault
     fv.digest(data)             the SHA-256 digest of the canonical image of a volume
@@ -52,6 +53,7 @@ from ._calls import (
     scan,
     sections,
     tree,
+    unfixed,
     verify,
 )
 from ._library import BUFFER_TOO_SMALL, NOT_FOUND, OUT_OF_MEMORY, fault_text
@@ -63,7 +65,7 @@ __all__ = [
     "NOT_FOUND", "NO_PARENT", "OUT_OF_MEMORY", "PAD", "PEI", "SECTIONS", "UNFINISHED", "VOLUME", "Cell", "Extent",
     "Fault", "File", "Hob", "Holds", "Node", "NodeWhat", "Rows", "Section", "VolumeCheck", "What", "cells",
     "check_image", "compare", "depex", "digest", "extract", "fault_text", "files", "hobs", "is_canonical", "list_sums",
-    "normalise", "normalise_image", "scan", "sections", "tree", "verify",
+    "normalise", "normalise_image", "scan", "sections", "tree", "unfixed", "verify",
 ]  # fmt: skip
 
 FILE, PAD, DELETED, UNFINISHED, FREE = What.FILE, What.PAD, What.DELETED, What.UNFINISHED, What.FREE

@@ -30,6 +30,7 @@ ARGUMENTS: dict[str, list[Any]] = {
     "fv_verify": [_bytes, _len, _result, _result],
     "fv_normalise": [_bytes, _len, _result, _len, _result],
     "fv_normalise_image": [_bytes, _len, _result, _len, _result],
+    "fv_unfix": [_bytes, _len, _result, _len, _result],
     "fv_is_canonical": [_bytes, _len, _result, _result],
     "fv_digest": [_bytes, _len, _result, _result],
     "fv_scan": [_bytes, _len, _result, _len, _result],

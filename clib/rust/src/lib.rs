@@ -13,6 +13,7 @@
 //! | Which volumes of a flash image are canonical? | [`check_image`] |
 //! | What is the canonical image of a volume? | [`normalise`] |
 //! | What is a flash image with each volume canonical? | [`normalise_image`] |
+//! | What is a volume without the marks of fixed files? | [`unfixed`] |
 //! | Which digest do all volumes of one meaning share? | [`digest`] |
 //! | Do two volumes mean the same? Where do they differ? | [`compare`] |
 //! | Where are files, pads, deleted files, free bytes? | [`cells`] |
@@ -258,6 +259,35 @@ pub fn normalise(input: &[u8]) -> Result<Vec<u8>, Fault> {
 /// if the flash image is within this limit.
 pub fn normalise_image(image: &[u8]) -> Result<Vec<u8>, Fault> {
     self::image(raw::fv_normalise_image, image)
+}
+
+/// Returns a copy of the input volume in which no file is marked as fixed. The copy is as long as
+/// the input.
+///
+/// In the header of each fixed file, bit 0x04 of the attributes is cleared, and 4 is added to the
+/// header checksum (modulo 256). All other bytes are those of the input, so the files of nested
+/// volumes keep their marks. The functions that read the files of a volume reject one with fixed
+/// files, but read such a copy. The copy must not be flashed.
+///
+/// ```
+/// # include!(concat!(env!("CARGO_MANIFEST_DIR"), "/tests/sample/volumes.rs"));
+/// # fn main() -> Result<(), fv::Fault> {
+/// # let mut volume = volume();
+/// // The header of the file at 72: its attributes are at 19, and its header checksum is at 16.
+/// volume[72 + 19] |= 4;
+/// volume[72 + 16] = volume[72 + 16].wrapping_sub(4);
+/// assert_eq!(fv::files(&volume).unwrap_err().number, fv::number::FIXED);
+/// assert_eq!(fv::files(&fv::unfixed(&volume)?)?.len(), 1);
+/// # Ok(())
+/// # }
+/// ```
+///
+/// # Errors
+///
+/// The first fault of the header or of the cells, or 8 if bytes follow the volume: 1 to 16, but
+/// never 15. 24 if there is no memory for the copy.
+pub fn unfixed(input: &[u8]) -> Result<Vec<u8>, Fault> {
+    image(raw::fv_unfix, input)
 }
 
 /// Returns whether the input volume is its own canonical image. A volume that has no canonical

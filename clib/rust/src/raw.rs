@@ -59,6 +59,13 @@ extern "C" {
         buffer_len: usize,
         fault: *mut RawFault,
     ) -> u32;
+    pub(crate) fn fv_unfix(
+        input: *const u8,
+        len: usize,
+        buffer: *mut u8,
+        buffer_len: usize,
+        fault: *mut RawFault,
+    ) -> u32;
     pub(crate) fn fv_is_canonical(
         input: *const u8,
         len: usize,

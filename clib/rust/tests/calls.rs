@@ -70,6 +70,27 @@ fn flash_images_are_rebuilt() {
     }
 }
 
+#[test]
+fn fixed_files_lose_their_marks() {
+    let words = Words::new();
+    for row in table("unfix", "") {
+        let (name, given, wanted) = parts(&row);
+        // Other rows name a volume by its offset, or spell text that is no bytes.
+        if name != "unfix" || given.starts_with('\'') {
+            continue;
+        }
+        let found = fv::unfixed(&words.spelled(given));
+        let wanted = wanted.split_once(' ').unwrap().1;
+        match wanted.strip_prefix("fault ") {
+            None => assert_eq!(found.unwrap(), words.spelled(&wanted[1..]), "{row}"),
+            Some(fault) => {
+                let place = numbers(&fault.replace("at ", "").replace('|', " 0"));
+                assert_eq!(fault_of(found), place, "{row}");
+            }
+        }
+    }
+}
+
 /// What is said of a volume of a flash image, as a row has it.
 fn said_of(check: &fv::VolumeCheck) -> String {
     let said = match check.fault {
@@ -475,6 +496,7 @@ fn inputs_may_be_empty() {
     let truncated = [1, 0, 0];
     assert_eq!(fault_of(fv::verify(none)), truncated);
     assert_eq!(fault_of(fv::normalise(none)), truncated);
+    assert_eq!(fault_of(fv::unfixed(none)), truncated);
     assert_eq!(fault_of(fv::is_canonical(none)), truncated);
     assert_eq!(fault_of(fv::digest(none)), truncated);
     assert_eq!(fault_of(fv::compare(none, none)), truncated);

@@ -16,3 +16,4 @@ pub mod TreeRows
 pub mod TreeParents
 pub mod TreeBytes
 pub mod SumWalks
+pub mod UnfixKinds

@@ -49,6 +49,9 @@ pub extern "C" fn fv_unfix(input: &[u8], buffer: &mut [u8], fault: &mut FvFault)
     ensures err { result ≢ 0 → result ≢ 256 → (f : Fault) × NotUnfixed input.now f
         × (result ≡ fault_number f.kind) × (fault.new ≡ reported_fault f) }
 
+    // Its number is at most 16, and not that of Fixed.
+    ensures number { result ≢ 0 → result ≢ 256 → (result ≤ 16) × (result ≢ 15) }
+
     // If the marks can be taken away, only the buffer can be too small.
     ensures fits { (o : List ℕ) → UnfixesTo input.now o → result ≢ 0 → result ≡ 256 }
 {

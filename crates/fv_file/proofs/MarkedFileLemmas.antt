@@ -1,23 +1,22 @@
 -- A fixed file and its mark. 1. Without the mark the bytes are the same but for two, and their sum is the same. 2. So the header is right as
 -- it was, and the data are checked as they were. 3. The header of a file whose fault is Fixed is right. 4. So without the mark it is a cell,
 -- or its fault is FileSum.
-use Rattle.std.proofs.lemmas.Grind.{common_steps}
-use Rattle.std.proofs.Common.{◌≡◌, ◌≤◌, ◌<◌, ℕ, ◌+◌, ◌-◌, ◌%◌, ◌/◌, List, [], ◌∷◌, ◌++◌, length, take, drop, refl, sym, ap, ◌∙◌, subst, arith}
-use Rattle.std.proofs.Common.{Bool, true, false, inl, inr, suc, zero}
-use Rattle.std.specs.Prelude.{◌≢◌, ◌⊎◌, ◌||◌, ◌&&◌, ◌==◌, if◌then◌else◌, not, nat_le, nat_lt, slice_index, slice_set, sum, Option, None, Some, Ok, Err, Result}
-use Rattle.std.proofs.lemmas.Bool.{le-leb, leb-true, ltb-true, ltb-false}
+use Rattle.std.proofs.Common.{◌≡◌, ◌≤◌, ◌<◌, ℕ, ◌+◌, ◌-◌, ◌%◌, List, [], ◌∷◌, ◌++◌, length, take, drop, refl, sym, ap, ◌∙◌, subst, arith}
+use Rattle.std.proofs.Common.{Bool, true, false}
+use Rattle.std.specs.Prelude.{◌≢◌, ◌||◌, ◌==◌, if◌then◌else◌, not, nat_le, nat_lt, slice_index, slice_set, sum, Option, None, Some, Ok, Err, Result}
+use Rattle.std.proofs.lemmas.Bool.{ltb-true}
 use Rattle.std.proofs.lemmas.Bool.Decides.{nat_tests}
 use Rattle.std.proofs.lemmas.List.{get_or-drop, get_or-set_same, get_or-set_other, drop-set-add, drop-set-lt, take-set-le, take_more, take_more_set, length-set, length-drop, drop-take}
 use Rattle.std.proofs.lemmas.List.Sums.{sum_by-cons, sum_by_push}
-use Rattle.fv_base.specs.Words.{check, erased_byte, field, le, le_at, outer_fault, up_to_8}
+use Rattle.fv_base.specs.Words.{check, erased_byte, field, le, outer_fault, up_to_8}
 use Rattle.fv_base.specs.inner.Verdicts.{first_fault, verdict_by}
 use Rattle.fv_base.specs.declared.fault.Fault.{Fault}
 use Rattle.fv_base.specs.declared.fault.FaultKind.{FaultKind}
 use Rattle.fv_base.specs.declared.flash.FileSystem.{FileSystem}
 use Rattle.fv_base.specs.declared.flash.Polarity.{Polarity}
 use Rattle.fv_base.specs.declared.fault.FaultKind.TheVariants as kinds
-use Rattle.fv_base.proofs.Laws.{field-take, take-take_le, and_split}
-use Rattle.fv_file.specs.Words.{CellForm, cell_len, attributes_at, state_at, file_sum_at, file_type_at, is_fixed, is_large, is_summed, is_alive}
+use Rattle.fv_base.proofs.Laws.{field-take, take-take_le}
+use Rattle.fv_file.specs.Words.{CellForm, cell_len, attributes_at, state_at, file_sum_at, is_fixed, is_large, is_summed, is_alive}
 use Rattle.fv_file.specs.Words.{file_header_len, file_size_in, file_header_len_at, file_size_at, payload_at, header_sum_of, allows_large, leading_count, state_of}
 use Rattle.fv_file.specs.Words.{may_be_large, has_header_sum, has_file_size, has_file_sum, skips_data, head_in, unmarked, file_sum_right, pad_kind, fixed_checksum}
 use Rattle.fv_file.specs.declared.head.FileHead.{FileHead}

@@ -1,4 +1,4 @@
-use Rattle.std.proofs.Common.{◌≡◌, ◌≤◌, ◌<◌, ◌+◌, ◌^◌, ◌∙◌, ap, arith, inl, inr, length, refl, rules, sym}
+use Rattle.std.proofs.Common.{◌≡◌, ◌≤◌, ◌∙◌, ap, arith, inr, length, refl, rules, sym}
 use Rattle.fv_base.proofs.Laws.{err_is}
 use Rattle.fv_base.specs.contracts.fault.FaultKind.{the_type}
 use denote.Enum.Bare.{same_true}

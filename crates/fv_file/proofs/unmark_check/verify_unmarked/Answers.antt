@@ -1,4 +1,4 @@
-use Rattle.std.proofs.Common.{◌≡◌, ◌≤◌, ◌<◌, ◌+◌, ◌∙◌, arith, length, sym}
+use Rattle.std.proofs.Common.{◌≤◌, ◌<◌, ◌+◌, ◌∙◌, arith, length, sym}
 use Rattle.fv_base.proofs.Laws.{err_is}
 use Rattle.fv_file.proofs.BodyLemmas.{rest_free, rest_used}
 use Rattle.fv_file.proofs.MarkWalkLemmas.{Walked, walk_begins, walk_ends, walk_on, walk_stops}

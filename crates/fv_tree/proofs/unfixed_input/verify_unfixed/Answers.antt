@@ -1,4 +1,4 @@
-use Rattle.std.proofs.Common.{◌≡◌, ◌-◌, ◌∙◌, List, ℕ, ap, arith, refl, sym}
+use Rattle.std.proofs.Common.{List, ℕ, arith, refl}
 use Rattle.std.proofs.lemmas.Bool.Decides.{nat_tests}
 use Rattle.fv_base.proofs.Laws.{err_is}
 use Rattle.fv_tree.specs.Words.{IsUnfixed}
