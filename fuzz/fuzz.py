@@ -836,6 +836,21 @@ def has_sums(lines):
     return True
 
 
+def check_unfixed(tool, case, _image):
+    """`unfix` takes the marks away from fixed files, and changes nothing else."""
+    places = [int(it) for it in re.findall(rb"(?m)^file at (\d+) ", tool.ask("cells", case.data)[1])]
+    marked = bytearray(case.data)
+    chosen = sorted(tool.pick.sample(places, tool.pick.randrange(len(places) + 1)))
+    for at in chosen:
+        marked[at + 16] = (marked[at + 16] - FIXED) % 256
+        marked[at + 19] |= FIXED
+    require(tool.ask("unfix", bytes(marked)) == (0, case.data), "unfix: another volume", *map(str, chosen))
+    if chosen:
+        require(tool.ask("list", bytes(marked)) == (2, b"fault 15 at %d\n" % (chosen[0] + 19)), "list: a fixed file", str(chosen[0]))
+    status, text = tool.ask("unfix", bytes(marked) + b"\0")
+    require((status, text) == (2, b"fault 8 at %d\n" % len(marked)), "unfix: bytes after the volume", text)
+
+
 def check_sums(tool, case, image):
     """`list --sums` has the lines of `list`, and the digests of the image and of the parts that `extract` writes."""
     status, text = tool.ask("list", case.data, options=["--sums"])
@@ -916,7 +931,7 @@ def check_accepted(tool, case, image):
         require(tool.ask("list", case.data) == (0, joined(case.lines)), "list: other lines", *case.lines)
     if case.twin and tool.pick.randrange(4) == 0:
         require(tool.ask("normalise", case.twin) == (0, image), "normalise: another image of the same meaning")
-    ways = (check_own, check_listed, check_scanned, check_after, check_placed, check_cells, check_sums, check_prefix, check_parts)
+    ways = (check_own, check_listed, check_scanned, check_after, check_placed, check_cells, check_unfixed, check_sums, check_prefix, check_parts)
     if tool.pick.randrange(2):
         tool.pick.choice(ways)(tool, case, image)
 

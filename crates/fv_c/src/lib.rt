@@ -25,4 +25,5 @@ pub mod sections;
 mod translate;
 pub mod tree;
 pub mod tree_sums;
+mod unfix;
 mod verify;

@@ -5,4 +5,3 @@ pub mod OpenerLemmas
 pub mod PadLemmas
 pub mod PartLemmas
 pub mod RunLemmas
-pub mod UnfixLemmas

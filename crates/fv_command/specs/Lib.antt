@@ -4,7 +4,6 @@ pub mod Endings
 pub mod RunInputs
 pub mod PairRuns
 pub mod ImageChecks
-pub mod Unfixings
 pub mod Tasks
 pub mod PlanRuns
 pub mod Words

@@ -8,7 +8,7 @@ use Rattle.fv_file.specs.Words.{CellForm, Tiles}
 use Rattle.fv_head.specs.Words.{BeginsVolume}
 use Rattle.fv_head.specs.declared.extent.Extent.{Extent}
 use Rattle.fv_tree.specs.Words.{Accepted, Meaning, files_of, head_of, FileMeaning, content_of, NotRead, file_named}
-use Rattle.fv_tree.specs.Words.{NotTiled}
+use Rattle.fv_tree.specs.Words.{NotTiled, NotUnfixed, UnfixesTo}
 use Rattle.fv_lines.specs.Words.{AreNotes, depex_lines, depexes_in, pad_notes, verdict_line, VolumeLines, ListText}
 use Rattle.fv_lines.specs.Words.{CellsText, ScanText}
 use Rattle.fv_lines.specs.declared.depex_notes.DepexNote.{DepexNote}
@@ -18,7 +18,6 @@ use Rattle.fv_text.specs.Words.{ShowsBytes, Change}
 use Rattle.fv_command.specs.RunInputs.{BeginsWith, BeginsNone, GivesAt, GivingStops}
 use Rattle.fv_command.specs.Extractions.{IsPart, StopsPart}
 use Rattle.fv_command.specs.ImageChecks.{ChecksText}
-use Rattle.fv_command.specs.Unfixings.{NotUnfixed, UnfixesTo}
 use Rattle.fv_command.specs.declared.status.Status.{Status}
 use Rattle.fv_command.specs.declared.status.Status.TheVariants.{Done, Different}
 use Rattle.fv_command.specs.declared.extracting.Extraction.{Extraction}

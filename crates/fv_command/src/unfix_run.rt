@@ -2,7 +2,7 @@
 
 ghost use Rattle.std.specs.Prelude.{IfErr, IfOk};
 ghost use Rattle.fv_base.specs.Words.{OrMemory};
-ghost use Rattle.fv_command.specs.Unfixings.{NotUnfixed, UnfixesTo};
+ghost use Rattle.fv_tree.specs.Words.{NotUnfixed, UnfixesTo};
 ghost use Rattle.fv_command.specs.inner.RunSteps.{Performs};
 
 use crate::status::Status;

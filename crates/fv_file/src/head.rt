@@ -96,7 +96,7 @@ pub(crate) fn size_at(rest: &[u8]) -> u64
 }
 
 // Returns the fields of the header that the bytes begin with, with this state.
-fn head_in(rest: &[u8], state: FileState) -> FileHead
+pub(crate) fn head_in(rest: &[u8], state: FileState) -> FileHead
     requires least { 24 ≤ length rest.now }
     requires header { file_header_len_at rest.now ≤ length rest.now }
     ensures { result ≡ head_in state rest.now }
@@ -156,7 +156,7 @@ fn has_file_size(head: &FileHead, rest: &[u8]) -> bool
 
 // Returns whether the file checksum is right: with the checksum attribute, the data and the file
 // checksum sum to zero modulo 256; otherwise the file checksum is 0xAA.
-fn has_file_sum(head: &FileHead, payload: &[u8]) -> bool
+pub(crate) fn has_file_sum(head: &FileHead, payload: &[u8]) -> bool
     ensures { result ≡ file_sum_right (attribute_bits head.now.attributes) head.now.file_sum payload.now }
 {
     if head.attributes.is_summed() {

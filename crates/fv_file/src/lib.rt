@@ -14,6 +14,7 @@ mod new_header;
 pub mod offsets;
 mod state;
 mod unmark;
+mod unmark_check;
 
 pub use attributes::FileAttributes;
 pub use cell::Cell;
@@ -26,3 +27,4 @@ pub use new_header::{
 };
 pub use state::{FileState, file_state};
 pub use unmark::unmark_files;
+pub use unmark_check::verify_unmarked;

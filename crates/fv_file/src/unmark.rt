@@ -32,7 +32,12 @@ fn unmark(body: &mut [u8], at: usize)
 
 // Returns the length of the cell at the offset `at`, in bytes, where no free cell begins, or the
 // first fault there.
-fn span_at(rest: &[u8], at: u64, system: FileSystem, polarity: Polarity) -> Result<u64, Fault>
+pub(crate) fn span_at(
+    rest: &[u8],
+    at: u64,
+    system: FileSystem,
+    polarity: Polarity,
+) -> Result<u64, Fault>
     requires place { at + length rest.now < 2 ^ 63 }
     requires multiple { length rest.now % 8 ≡ 0 }
     ensures found { IfOk result

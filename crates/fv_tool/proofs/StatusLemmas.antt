@@ -16,7 +16,7 @@ use Rattle.fv_plan.specs.declared.plan.Plan.{Plan}
 use Rattle.fv_plan.specs.declared.plan.Task.{Task}
 use Rattle.fv_plan.specs.declared.plan.Command.TheVariants.{Single, Hobs, Compare}
 use Rattle.fv_plan.specs.declared.plan.Task.TheVariants.{Normalise, NormaliseAll, List as Listing, ListSums, Extract, Check}
-use Rattle.fv_plan.specs.declared.plan.Task.TheVariants.{CheckAll, Cells, Scan}
+use Rattle.fv_plan.specs.declared.plan.Task.TheVariants.{CheckAll, Cells, Unfix, Scan}
 
 part_not_wrong : (hex : Bool) (x : Extraction) (text : List ℕ) → PartText hex x WrongWords text → ⊥
 part_not_wrong hex (Made bytes) text said = said
@@ -38,6 +38,7 @@ says_not_wrong (Extract part) hex input text (m, x, begins, is, said) = part_not
 says_not_wrong Check hex input text said = said
 says_not_wrong CheckAll hex input text (checks, found, is, text_is) = checks_not_wrong _ _ is
 says_not_wrong Cells hex input text said = said
+says_not_wrong Unfix hex input text said = said
 says_not_wrong Scan hex input text said = said
 
 command_not_wrong : (c : Command) (hex : Bool) (first second : Change) (text : List ℕ) → SaysCommand c hex first second WrongWords text

@@ -48,6 +48,10 @@ pub use Rattle.fv_tree.proofs.WholeInputLaws.{IsOfInput, input_kind, stood_kind}
 pub use Rattle.fv_tree.proofs.LocatedLaws.{volume_files, one_files, begun_data}
 -- it is decided: one of the two holds
 pub use Rattle.fv_tree.proofs.DecidedLaws.{volume_decided, input_decided}
+-- ---- the marks of fixed files
+
+-- why those of an input cannot be taken away; all of a copy was changed
+pub use Rattle.fv_tree.proofs.UnfixedInputLaws.{stopped, never_stops, bytes_follow, whole_kept}
 -- ---- where two meanings first differ
 
 -- two meanings differ nowhere exactly where they are one

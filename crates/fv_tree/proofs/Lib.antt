@@ -26,6 +26,7 @@ pub mod SizeLaws
 pub mod SmallCellLaws
 pub mod StreamWalkLaws
 pub mod TwinLaws
+pub mod UnfixedInputLaws
 pub mod VolumeCellLaws
 pub mod VolumePartLaws
 pub mod WholeInputLaws

@@ -9,6 +9,7 @@ pub mod FirstFault
 pub mod InputFaults
 pub mod LocatedFiles
 pub mod Unfixing
+pub mod UnfixedInputs
 pub mod FileNames
 pub mod LookupInstances
 pub mod SectionWalks

@@ -21,8 +21,8 @@ use fv_head::verify_fv;
 ///
 /// The first fault of the header, as for `verify_fv`. Nothing was changed in that case. Otherwise
 /// the first fault of a cell, as for `cells`, except Fixed. By then the fixed files before that
-/// cell have lost their marks, and so has the file of that cell if the fault is FileSum. So a caller
-/// that needs the bytes as they were works on a copy.
+/// cell have lost their marks, and so has the file of that cell if the fault is FileSum. So a
+/// caller that needs the bytes as they were works on a copy.
 pub fn unfix(bytes: &mut [u8]) -> Result<(), Fault>
     // The volume has no fixed file any more, and nothing but the marks was changed.
     ensures done { OnOk result (IsUnfixed bytes.old bytes.new) }

@@ -19,6 +19,7 @@ mod read;
 mod section_walk;
 mod shape;
 mod stored_files;
+mod unfixed_input;
 mod view;
 mod volume_files;
 mod whole_input;
@@ -32,6 +33,7 @@ pub use lookup::{Item, Lookup, file_by_name, file_by_type, next_file, section_by
 pub use read::read_volume;
 pub use section_walk::SectionWalk;
 pub use stored_files::located_files;
+pub use unfixed_input::verify_unfixed;
 pub use view::{Body, Content, FileView, SectionView, VolumeView};
 pub use volume_files::{LocatedFile, VOLUME_TOP_FILE};
 pub use whole_input::{whole_volume, whole_volume_with_files};

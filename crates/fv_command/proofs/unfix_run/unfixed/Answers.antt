@@ -1,8 +1,7 @@
 use Rattle.std.proofs.Common.{◌∙◌, arith, inr, subst, sym}
 use Rattle.std.proofs.lemmas.Bool.Decides.{nat_tests}
 use Rattle.fv_base.proofs.Laws.{err_is}
-use Rattle.fv_command.proofs.UnfixLemmas.{bytes_follow, stopped, whole_kept}
-use Rattle.fv_command.specs.Words.{UnfixesTo}
+use Rattle.fv_tree.proofs.Laws.{bytes_follow, stopped, whole_kept}
 use Rattle.fv_tree.specs.Words.{IsUnfixed}
 use Rattle.fv_command.proofs.unfix_run.unfixed.Goals as goal
 

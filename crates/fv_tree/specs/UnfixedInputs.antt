@@ -1,4 +1,4 @@
--- A volume without the marks of its fixed files, as `unfix` writes it, and why it is not written (PI specification,
+-- An input that is a volume, without the marks of its fixed files, and why they cannot be taken away (PI specification,
 -- volume 3, section 3.2.3.1, FFS_ATTRIB_FIXED).
 use Rattle.std.specs.Prelude.{◌≡◌, ◌<◌, ◌⊎◌, ℕ, List, length}
 use Rattle.fv_base.specs.Words.{IsFirstFault, outer_fault}
@@ -6,7 +6,7 @@ use Rattle.fv_base.specs.declared.fault.Fault.{Fault}
 use Rattle.fv_base.specs.declared.fault.FaultKind.TheVariants as kinds
 use Rattle.fv_head.specs.Words.{HeadFields, BeginsVolume, head_checks}
 use Rattle.fv_head.specs.declared.extent.Extent.{Extent}
-use Rattle.fv_tree.specs.Words.{IsUnfixed, UnfixStops}
+use Rattle.fv_tree.specs.Unfixing.{IsUnfixed, UnfixStops}
 
 -- the input begins with a volume header, and no bytes follow the volume
 abbrev pub EndsWithVolume : List ℕ → Type 0

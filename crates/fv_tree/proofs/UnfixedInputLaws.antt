@@ -4,7 +4,8 @@
 -- 3. So no copy is made if the header has a fault, if a cell has such a fault (`stopped`), or if bytes follow the volume
 --    (`bytes_follow`).
 -- 4. A copy that was changed as a whole is what the change made of it (`whole_kept`).
-use Rattle.std.proofs.Common.{◌≡◌, ◌∙◌, ℕ, ◌+◌, ◌-◌, ◌++◌, List, [], ◌∷◌, length, take, drop, ap, append_assoc, arith, inl, inr, subst, sym}
+-- 5. A walk that changes nothing finds the volume without its marks (`in_place`). Then a change of a copy does not stop (`never_stops`).
+use Rattle.std.proofs.Common.{◌≡◌, ◌∙◌, ℕ, ◌+◌, ◌-◌, ◌++◌, List, [], ◌∷◌, length, take, drop, ap, append_assoc, arith, inl, inr, refl, subst, sym}
 use Rattle.std.specs.Prelude.{◌≢◌, ◌⊎◌, ◌<◌, nat_eq, false}
 use Rattle.std.proofs.lemmas.Bool.Decides.{nat_tests}
 use Rattle.std.proofs.Math.Seq.{drop-append_seam, take-append_seam}
@@ -21,7 +22,7 @@ use Rattle.fv_head.proofs.Laws.{first_lies, front_holds, one_front}
 use Rattle.fv_head.specs.Words.{BeginsVolume, HeadFields, head_checks}
 use Rattle.fv_head.specs.declared.extent.Extent.{Extent}
 use Rattle.fv_tree.specs.Words.{BeginsTiled, IsUnfixed, Unfixes, UnfixStops}
-use Rattle.fv_command.specs.Words.{IsFirstOfMarked, NotUnfixed, UnfixesTo}
+use Rattle.fv_tree.specs.Words.{IsFirstOfMarked, NotUnfixed, UnfixesTo}
 
 -- ---- 1. marks that are taken away
 
@@ -78,12 +79,12 @@ not_unfixed : (input : List ℕ) (f : Fault) → IsFirstOfMarked input f → ((o
 not_unfixed input f first none = record { none = none; first = first }
 
 -- the header has a fault
-bad_header : (input : List ℕ) (f : Fault) → IsFirstFault (head_checks input) f → NotUnfixed input f
+pub bad_header : (input : List ℕ) (f : Fault) → IsFirstFault (head_checks input) f → NotUnfixed input f
 bad_header input f first = not_unfixed input f (inl first) (λ o to.
     not_first (head_checks input) f first (none_faulty (head_checks input) (front_holds input to.1.0 to.1.1 to.1.2)))
 
 -- a cell has a fault, which is not that a file is fixed
-bad_cell : (input o : List ℕ) (f : Fault) → UnfixStops input o f → NotUnfixed input f
+pub bad_cell : (input o : List ℕ) (f : Fault) → UnfixStops input o f → NotUnfixed input f
 bad_cell input o f stops = not_unfixed input f (inr (inl (o, stops))) (λ x to.
     let unfixed = to.0 in
     let e = stops.0 in
@@ -113,3 +114,16 @@ bytes_follow input old new f h e same unfixed front other is =
 -- all of a vector was written
 pub whole_kept : (new items : List ℕ) (n : ℕ) → length new ≡ n → take n (new ++ drop (length new) items) ≡ new
 whole_kept new items n e = take_seam new (drop (length new) items) n e
+
+-- ---- 5. without a change
+
+-- the volume without the marks that a walk over its body finds
+pub in_place : (b body : List ℕ) (h : HeadFields) (e : Extent) (places : List ℕ) → BeginsVolume h e b
+    → Unmarks e.file_system e.polarity e.first places (field e.first (e.length - e.first) b) body
+    → Unfixes e b (take e.first b ++ (body ++ drop e.length b)) body
+in_place b body h e places front marks = record { head = h; front = front; places = places; marks = marks; text = refl }
+
+-- a change of a copy of an input whose marks can be taken away does not stop
+pub never_stops : (input old new o : List ℕ) (f : Fault) → UnfixesTo input o → old ≡ input
+    → (IsFirstFault (head_checks old) f × (new ≡ old)) ⊎ UnfixStops old new f → ⊥
+never_stops input old new o f to same stops = (stopped input old new f same stops).none o to

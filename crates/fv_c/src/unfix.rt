@@ -1,0 +1,64 @@
+//! A volume without the marks of its fixed files.
+
+ghost use Rattle.std.specs.Prelude.{◌≡◌, ◌≢◌, ◌<◌, ◌≤◌, ◌++◌, ℕ, List, length, drop};
+ghost use Rattle.fv_base.specs.Words.{fault_number};
+ghost use Rattle.fv_base.specs.declared.fault.Fault.{Fault};
+ghost use Rattle.fv_tree.specs.Words.{NotUnfixed, UnfixesTo};
+ghost use Rattle.fv_c.specs.Reports.{no_fault, reported_fault};
+
+use crate::reports::{BUFFER_TOO_SMALL, FvFault, NO_FAULT, refused};
+use fv_tree::{unfix, verify_unfixed};
+
+// Writes the input, which is a volume, without the marks of its fixed files to the start of the
+// buffer.
+fn put_unfixed(input: &[u8], buffer: &mut [u8])
+    requires volume { (o : List ℕ) × UnfixesTo input.now o }
+    requires room { length input.now ≤ length buffer.old }
+    ensures { (o : List ℕ) × UnfixesTo input.now o × (length o ≡ length input.now)
+        × (buffer.new ≡ o ++ drop (length o) buffer.old) }
+{
+    let (front, _) = buffer.split_at_mut(input.len());
+    front.copy_from_slice(input);
+    let _done = unfix(front);
+}
+
+/// Writes a volume, which is the whole input, without the marks of its fixed files to the start of
+/// the buffer: in the header of each such file, bit 0x04 of the attributes is cleared and 4 is added
+/// to the header checksum (modulo 256). All other bytes are those of the input, also those of
+/// volumes inside it. The result is as long as the input. Returns 0. Takes no memory. (PI
+/// specification, volume 3, section 3.2.3.1, `FFS_ATTRIB_FIXED`.)
+///
+/// # Errors
+///
+/// The number of the first fault, which is in `fault`: a fault of `verify_unfixed`. If there is
+/// none, 256 if the buffer is shorter than the input. The buffer is unchanged in all cases.
+#[unsafe(no_mangle)]
+pub extern "C" fn fv_unfix(input: &[u8], buffer: &mut [u8], fault: &mut FvFault) -> u32
+    // The buffer begins with the volume without the marks, and holds what it held after that.
+    ensures ok { result ≡ 0 → (o : List ℕ) × UnfixesTo input.now o × (length o ≡ length input.now)
+        × (buffer.new ≡ o ++ drop (length o) buffer.old) × (fault.new ≡ no_fault) }
+
+    ensures kept { result ≢ 0 → buffer.new ≡ buffer.old }
+
+    // Only for a volume whose marks can be taken away can the buffer be too small: if it is shorter.
+    ensures small { result ≡ 256 → ((o : List ℕ) × UnfixesTo input.now o) × (length buffer.old < length input.now)
+        × (fault.new ≡ no_fault) }
+    ensures room { length buffer.old < length input.now → result ≢ 0 }
+
+    // Any other fault is the first of the input.
+    ensures err { result ≢ 0 → result ≢ 256 → (f : Fault) × NotUnfixed input.now f
+        × (result ≡ fault_number f.kind) × (fault.new ≡ reported_fault f) }
+
+    // If the marks can be taken away, only the buffer can be too small.
+    ensures fits { (o : List ℕ) → UnfixesTo input.now o → result ≢ 0 → result ≡ 256 }
+{
+    if let Err(f) = verify_unfixed(input) {
+        return refused(f, fault);
+    }
+    *fault = NO_FAULT;
+    if buffer.len() < input.len() {
+        return BUFFER_TOO_SMALL;
+    }
+    put_unfixed(input, buffer);
+    0
+}

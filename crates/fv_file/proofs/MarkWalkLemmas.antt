@@ -1,0 +1,101 @@
+-- A walk over a body that has its marks: the body without the marks up to a place, and with the same bytes from there on.
+use Rattle.std.proofs.Common.{◌≡◌, ◌≤◌, ◌<◌, ℕ, ◌+◌, ◌%◌, List, [], length, take, drop, refl, sym, ap, ◌∙◌, subst, arith, inl, inr}
+use Rattle.std.specs.Prelude.{◌⊎◌, slice_index, slice_set, Ok, Err, ◌-◌}
+use Rattle.std.proofs.lemmas.List.{drop-drop, drop-set-lt}
+use Rattle.fv_base.specs.Words.{outer_fault, AllAre, erased_byte}
+use Rattle.fv_base.specs.declared.fault.Fault.{Fault}
+use Rattle.fv_base.specs.declared.flash.FileSystem.{FileSystem}
+use Rattle.fv_base.specs.declared.flash.Polarity.{Polarity}
+use Rattle.fv_base.specs.declared.fault.FaultKind.TheVariants as kinds
+use Rattle.fv_file.specs.Words.{CellForm, Tiles, cell_len, IsFirstCellFault, unmarked, Unmarks}
+use Rattle.fv_file.specs.inner.CellVerdicts.{cell_verdict}
+use Rattle.fv_file.specs.inner.MarkSteps.{OneMarkLess}
+use Rattle.fv_file.proofs.UnmarkLemmas.{Unmarked, one_less, one_further, stopped, at_end}
+use Rattle.fv_file.proofs.MarkedFileLemmas.{drop-unmarked}
+
+-- the marks up to a place are taken away in `less`, which has the same bytes as the body from there on
+pub record Walked (s : FileSystem) (p : Polarity) (first : ℕ) (body : List ℕ) (at : ℕ) : Type 0 where
+  pub less : List ℕ
+  pub so_far : Unmarked s p first body less at
+  pub same : drop at less ≡ drop at body
+
+pub walk_begins : (s : FileSystem) (p : Polarity) (first : ℕ) (body : List ℕ) → Walked s p first body 0
+walk_begins s p first body = record {
+  less = body;
+  so_far = record {
+    places = [];
+    marks = refl;
+    same_length = refl;
+    cells = [];
+    tiled = refl;
+    none_free = tt;
+    multiple = refl;
+    inside = omega arith;
+  };
+  same = refl;
+}
+
+module _ (s : FileSystem) (p : Polarity) (first : ℕ) (body : List ℕ) (at : ℕ) (k : Walked s p first body at) where
+  -- the end: the body's, or a free rest
+  pub walk_ends : AllAre (erased_byte p) (drop at body)
+      → (places : List ℕ) × (o : List ℕ) × Unmarks s p first places body o × ((cells : List CellForm) × Tiles s p first cells o)
+  walk_ends clean =
+      (k.so_far.places, k.less, k.so_far.marks, at_end s p first body k.less at k.so_far (subst (AllAre (erased_byte p)) (sym k.same) clean))
+
+  module _ (used : (at < length body) × (AllAre (erased_byte p) (drop at body) → ⊥)) (b : List ℕ)
+      (step : OneMarkLess s p (first + at) (drop at body) b) where
+    -- the body with one mark less, or as many
+    abbrev Step : List ℕ → Type 0
+    Step new =
+        (new ≡ k.less) ⊎ ((cell_verdict s p (first + at) (drop at k.less) ≡ Err (outer_fault kinds.Fixed (first + at + 19))) × (new ≡ unmarked at k.less))
+
+    stepped : OneMarkLess s p (first + at) (drop at body) b → (new : List ℕ) × Step new × (drop at new ≡ b)
+    stepped (inl e) = (k.less, inl refl, k.same ∙ sym e)
+    stepped (inr (is, e)) = (
+      unmarked at k.less,
+      inr (ap (cell_verdict s p (first + at)) k.same ∙ is, refl),
+      drop-unmarked at k.less ∙ ap (unmarked 0) k.same ∙ sym e,
+    )
+
+    abbrev new : List ℕ
+    new = (stepped step).0
+
+    used_still : (at < length k.less) × (AllAre (erased_byte p) (drop at k.less) → ⊥)
+    used_still = (omega (arith, used.0, k.so_far.same_length), λ all. used.1 (subst (AllAre (erased_byte p)) k.same all))
+
+    so_far : Unmarked s p first body new at
+    so_far = one_less s p first body k.less new at k.so_far used_still (stepped step).1
+
+    -- a cell further
+    pub walk_on : (len : ℕ) (c : CellForm) → length body % 8 ≡ 0 → cell_verdict s p (first + at) b ≡ Ok c → len ≡ cell_len c
+        → (b ≡ drop at body) ⊎ (19 < len) → Walked s p first body (at + len) × (0 < len) × (at + len ≤ length body)
+    walk_on len c in_eights is l past =
+        let on = one_further s p first body new at len c so_far (ap (λ (n : ℕ). n % 8) so_far.same_length ∙ in_eights)
+        (ap (cell_verdict s p (first + at)) (stepped step).2 ∙ is) l in (
+          record {
+            less = new;
+            so_far = on.0;
+            same = sym (drop-drop len at new) ∙ ap (drop len) (stepped step).2 ∙ behind step past ∙ drop-drop len at body;
+          },
+          on.1,
+          omega (arith, on.2, so_far.same_length),
+        )
+      where
+        behind : OneMarkLess s p (first + at) (drop at body) b → (b ≡ drop at body) ⊎ (19 < len) → drop len b ≡ drop len (drop at body)
+        behind (inl e) past = ap (drop len) e
+        behind step (inl e) = ap (drop len) e
+        behind (inr (fixed, e)) (inr more) =
+            let r : List ℕ = drop at body in
+            ap (drop len) e
+            ∙ drop-set-lt len (slice_set r 16 ((slice_index r 16 + 4) % 256)) 19 (slice_index r 19 - 4) more
+            ∙ drop-set-lt len r 16 ((slice_index r 16 + 4) % 256) (omega (arith, more))
+
+    -- a fault
+    pub walk_stops : (f : Fault) → cell_verdict s p (first + at) b ≡ Err f
+        → (places : List ℕ) × (o : List ℕ) × Unmarks s p first places body o × IsFirstCellFault s p first o f
+    walk_stops f is = (
+      so_far.places,
+      new,
+      so_far.marks,
+      stopped s p first body k.less new at f k.so_far used_still (stepped step).1 (ap (cell_verdict s p (first + at)) (stepped step).2 ∙ is),
+    )

@@ -1,0 +1,63 @@
+use Rattle.std.proofs.Common.{◌≡◌, ◌≤◌, ◌<◌, ◌+◌, ◌^◌, ◌∙◌, ap, arith, inl, inr, length, refl, rules, sym}
+use Rattle.fv_base.proofs.Laws.{err_is}
+use Rattle.fv_base.specs.contracts.fault.FaultKind.{the_type}
+use denote.Enum.Bare.{same_true}
+use Rattle.std.specs.Prelude.{Err}
+use Rattle.fv_base.specs.declared.fault.FaultKind.TheVariants as kinds
+use Rattle.fv_file.specs.FileChecks.{file_header_len_at, file_size_at}
+use Rattle.fv_file.proofs.MarkedFileLemmas.{cell_without, size_within, wrong_without}
+use Rattle.fv_file.proofs.UnmarkLemmas.{FixedThere, fixed_there}
+use Rattle.fv_file.proofs.unmark_check.span_unmarked.Goals.{Then-eq}
+use Rattle.fv_file.proofs.unmark_check.span_unmarked.Goals as goal
+
+-- the file is fixed
+record Known (c : Then-eq) : Type 0 where
+  pub kind : c.in-Err.fault.kind ≡ kinds.Fixed
+  pub there : FixedThere c.args.polarity c.args.at c.args.rest.now c.in-Err.fault
+
+known : (c : Then-eq) → Known c
+known c =
+    let kind : c.in-Err.fault.kind ≡ kinds.Fixed = same_true the_type (search rules) _ _ (sym c.if-eq.ensures) in
+    record { kind = kind; there = fixed_there _ _ _ _ _ c.in-Err.ensures.refused kind }
+
+within : (c : Then-eq) → (file_header_len_at c.args.rest.now ≤ file_size_at c.args.rest.now) × (file_size_at c.args.rest.now ≤ length c.args.rest.now)
+within c =
+    let k = known c in
+    size_within c.args.system c.args.polarity c.args.at c.args.rest.now _ k.there.long c.in-Err.ensures.refused k.kind k.there.fixed
+
+pub sound_size-requires-clause-least : goal.sound_size-requires-clause-least
+sound_size-requires-clause-least c = (known (goal.at.sound_size-requires-clause-least c).Then-eq).there.long
+
+pub sound_size-requires-clause-header : goal.sound_size-requires-clause-header
+sound_size-requires-clause-header c = (within (goal.at.sound_size-requires-clause-header c).Then-eq).0
+
+pub sound_size-requires-clause-size : goal.sound_size-requires-clause-size
+sound_size-requires-clause-size c = (within (goal.at.sound_size-requires-clause-size c).Then-eq).1
+
+pub returns-in_err-size-in-Err-clause-refused : goal.returns-in_err-size-in-Err-clause-refused
+returns-in_err-size-in-Err-clause-refused c =
+    let k = known (goal.at.returns-in_err-size-in-Err-clause-refused c).Then-eq in
+    let found = c.in_err-size-in-Err.ensures.wrong in
+    rw (err_is c.from_residual.ensures.1) (
+      _,
+      inr (c.in-Err.ensures.refused ∙ ap Err k.there.fault, refl),
+      wrong_without c.args.system c.args.polarity c.args.at c.args.rest.now _ k.there.long c.in-Err.ensures.refused k.kind k.there.fixed found.1
+          ∙ ap Err (sym found.0),
+      λ e. let bad : kinds.FileSum ≡ kinds.Fixed = sym (ap (λ f. f.kind) found.0) ∙ e in cc,
+    )
+
+pub up_to_8-requires : goal.up_to_8-requires
+up_to_8-requires c =
+    let size = (within (goal.at.up_to_8-requires c).Then-eq).1 in
+    omega (arith, c.in_ok-size-in-Err.ensures.right.0, size, c.requires.place)
+
+pub returns-then-eq-clause-found : goal.returns-then-eq-clause-found
+returns-then-eq-clause-found c =
+    let k = known (goal.at.returns-then-eq-clause-found c).Then-eq in
+    let right = c.in_ok-size-in-Err.ensures.right in
+    let cell = cell_without c.args.system c.args.polarity c.args.at c.args.rest.now _ k.there.long c.in-Err.ensures.refused k.kind k.there.fixed right.1 in (
+      _,
+      inr (c.in-Err.ensures.refused ∙ ap Err k.there.fault, refl),
+      (cell.0, cell.1, rw (c.up_to_8.ensures, right.0) (sym cell.2)),
+      inr (rw (c.up_to_8.ensures, right.0) cell.3),
+    )
