@@ -57,16 +57,17 @@ class Change:
 @dataclasses.dataclass(frozen=True)
 class Edit:
     """A wrong body: its changes, and the goal that has to stay open. `of` is the function of that goal, if the line
-    names it."""
+    names it. `also` are other goals of the function that the edit opens, which need not be tried."""
 
     path: pathlib.Path
     changes: tuple[Change, ...]
     goal: str
     of: str
+    also: tuple[str, ...] = ()
 
     @property
     def name(self) -> str:
-        """The name of the edit: the name of its file without the ending."""
+        """Returns the name of the edit: the name of its file without the ending."""
         return self.path.stem
 
 
@@ -82,22 +83,29 @@ class Open:
 
 @dataclasses.dataclass
 class Report:
-    """What a check says: the goals that it leaves open, the functions that it names, and for each that waits, what it
-    waits for. `broken` are the places in sources that do not compile, and `unknown` functions that the checker knows by
-    another name. `judged` says whether the check came to its end, and `said` is all that it says."""
+    """What a check says: the goals that it leaves open, what it says of each function that it names, and for each that
+    waits, what it waits for. `moved` are the functions whose edit takes away a goal that has an answer, so that an open
+    goal may be an old one under another name. `broken` are the places in sources that do not compile, and `unknown`
+    functions that the checker knows by another name. `judged` says whether the check came to its end, and `said` is all
+    that it says."""
 
     opens: list[Open]
-    named: set[str]
+    named: dict[str, str]
     waits: dict[str, set[str]]
+    moved: set[str]
     broken: list[tuple[str, int, str]]
     unknown: set[str]
     judged: bool
     said: str
 
+    def has_proved(self, function: str) -> bool:
+        """Tells whether the check says that a function is proved."""
+        return self.named.get(function, "").split(";")[0] in ("proved", "no holes")
+
 
 def read_edit(path: pathlib.Path) -> Edit:
     """Reads an edit. A line that belongs to no change is passed over, as `rt must-fail` does."""
-    file, old, goal, of, changes = "", "", "", "", []
+    file, old, goal, of, also, changes = "", "", "", "", "", list[Change]()
     for line in path.read_text(encoding="utf-8").split("\n"):
         if line.startswith("file: "):
             file = line[6:].strip()
@@ -107,7 +115,9 @@ def read_edit(path: pathlib.Path) -> Edit:
             changes.append(Change(file, old, line[4:].removeprefix(" ")))
         elif line.startswith("goal: "):
             of, _, goal = line[6:].rpartition(" ")
-    return Edit(path, tuple(changes), goal, of)
+        elif line.startswith("also: "):
+            also = line[6:]
+    return Edit(path, tuple(changes), goal, of, tuple(also.split()))
 
 
 def applied(changes: tuple[Change, ...], texts: dict[str, str]) -> dict[str, str] | None:
@@ -121,8 +131,9 @@ def applied(changes: tuple[Change, ...], texts: dict[str, str]) -> dict[str, str
 
 
 def holder_of(header: str) -> str:
-    """The name that the checker gives what an `impl` or a `trait` holds: `VecU8Collector` of
-    `impl Collector for Vec<u8>`. It has no lifetimes and no parameters."""
+    """Returns the name that the checker gives what an `impl` or a `trait` holds: `VecU8Collector` of
+    `impl Collector for Vec<u8>`, and `WordFaultFromIoError` of `impl From<io::Error> for WordFault`. It has no
+    lifetimes, and no parameters of the `impl`."""
     bare = re.split(r"\bwhere\b|\{", header.replace("->", ""))[0]
     depth, end = 0, 0
     for at, sign in enumerate(bare if re.match(r"(?:pub )?impl<", bare) else ""):
@@ -131,9 +142,11 @@ def holder_of(header: str) -> str:
             end = at + 1
             break
     parameters = {*re.findall(r"(?:<|, )(\w+)\b", bare[:end])}
-    rest = re.sub(r"\w+::|'\w+|\b(?:pub|impl|trait)\b", "", bare[end:])
+    rest = re.sub(r"'\w+|\b(?:pub|impl|trait)\b", "", bare[end:])
     trait, _, kind = re.split(r": ", rest)[0].rpartition(" for ")
-    words = [it for part in (kind, trait) for it in re.findall(r"\w+", part) if it not in parameters]
+    # The path of the type, or of the trait, is left out. A path among its parameters is not.
+    parts = [re.sub(r"^\s*(?:\w+::)+", "", it) for it in (kind, trait)]
+    words = [it for part in parts for it in re.findall(r"\w+", part) if it not in parameters]
     return "".join(it[0].upper() + it[1:] for it in words)
 
 
@@ -163,6 +176,13 @@ def last_of(lines: list[str], first: int, indent: str, in_trait: bool) -> int | 
     return None
 
 
+def calls_itself(name: str, body: list[str], in_type: bool) -> bool:
+    """Tells whether a body calls its own function. The checker proves such a function as a cycle, also if it has no
+    attribute."""
+    before = r"(?:(?<![\w.:])Self::|(?<![\w.])self\.)" if in_type else r"(?<![\w.:])"
+    return bool(re.search(rf"{before}{name}\(", "\n".join(line.partition("//")[0] for line in body)))
+
+
 def functions(file: str, text: str, types: dict[str, list[str]]) -> list[Function]:
     """The functions of a source that have bodies, in their order."""
     lines, found, holder, cycle, in_trait = text.split("\n"), [], "", "", False
@@ -176,9 +196,11 @@ def functions(file: str, text: str, types: dict[str, list[str]]) -> list[Functio
         cycle = is_cycle[1] if is_cycle else cycle
         last = last_of(lines, number, begins[1], in_trait) if begins else None
         if begins and last is not None:
-            inside = [*types.get(holder, parts), holder] if begins[1] and holder else parts
+            in_type = bool(begins[1] and holder)
+            inside = [*types.get(holder, parts), holder] if in_type else parts
             path = "::".join([*inside, begins[2]])
-            unit = "::".join([*parts, f"+{cycle}"]) if cycle else path
+            alone = f"+{begins[2]}" if calls_itself(begins[2], lines[number + 1 : last + 1], in_type) else begins[2]
+            unit = "::".join([*parts, f"+{cycle}"] if cycle else [*inside, alone])
             found.append(Function(number, last, path, unit))
             cycle = ""
     return found
@@ -219,12 +241,20 @@ def answers(text: str) -> dict[str, tuple[int, int]]:
 
 
 def without(text: str, name: str) -> str | None:
-    """A proof file without one of its declarations, or nothing if it has none of this name."""
+    """Returns a proof file without one of its declarations, or nothing if it has none of this name."""
     place = answers(text).get(name)
     if not place:
         return None
     lines = text.split("\n")
     return "\n".join(lines[: place[0]] + lines[place[1] :])
+
+
+def assumed(text: str, names: tuple[str, ...], module: str) -> str:
+    """Returns a proof file, of a function with this module, in which some goals are given and not proved."""
+    for name in names:
+        text = without(text, name) or text
+    text = text.rstrip("\n") or f"use {module}.Goals as goal"
+    return "\n\n".join([text, *(f"axiom pub {name} : goal.{name}" for name in names)]) + "\n"
 
 
 def resting(text: str, name: str) -> set[str]:
@@ -251,10 +281,15 @@ def items(said: str) -> list[str]:
     return found
 
 
+def unit_of(file: str) -> str:
+    """Returns the function, or the cycle, that a proof file belongs to."""
+    return os.path.dirname(file.removeprefix("proofs/")).replace("/", "::")
+
+
 def of_answer(file: str, text: str, proof: str) -> list[Open]:
     """The goals that an error in a proof file leaves open. Values at which a tactic fails are the goal's own only if
     the tactic is the whole answer."""
-    unit = os.path.dirname(file.removeprefix("proofs/")).replace("/", "::")
+    unit = unit_of(file)
     names = re.match(r"error: `([^`]+)`: ?(.*)", text, re.S)
     if not names or GONE.search(text):
         return []
@@ -272,6 +307,7 @@ def of_place(match: re.Match[str], text: str, texts: dict[str, str], report: Rep
     if file.startswith("proofs/"):
         if said.startswith("error: "):
             report.opens += of_answer(file, said, texts.get(file, ""))
+            report.moved |= {unit_of(file)} if GONE.search(said) else set()
         return
     if said.startswith("error"):
         report.broken.append((file, line, said.split("\n")[0]))
@@ -286,14 +322,14 @@ def of_place(match: re.Match[str], text: str, texts: dict[str, str], report: Rep
 def report_of(said: str, texts: dict[str, str]) -> Report:
     """Reads what a check says of sources and proof files with these texts."""
     unknown = {*re.findall(r"has no function `([^`]+)`", said)}
-    judged = bool(re.search(r"(?m)^(?:only=\d+ proved=|logic=)", said))
-    report = Report([], set(), {}, [], unknown, judged, said)
+    judged = bool(re.search(r"(?m)^(?:only=\d+ (?:proved|holes)=|logic=)", said))
+    report = Report([], {}, {}, set(), [], unknown, judged, said)
     for text in items(said):
         placed, function = PLACED.match(text), OF_FUNCTION.match(text)
         if placed:
             of_place(placed, text, texts, report)
         if function:
-            report.named.add(function[1])
+            report.named[function[1]] = function[2]
             calls = re.search(r"it calls (.*?),? which (?:is|are) not", function[2])
             if calls:
                 waits = {it.split("::", 1)[-1] for it in re.findall(r"`([^`]+)`", calls[1])}
