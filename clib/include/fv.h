@@ -331,7 +331,10 @@ uint32_t fv_extract(const uint8_t *input, size_t len, uint64_t file, uint64_t se
 /* What a row of fv_tree is: a volume, a file, or a section. */
 enum { FV_NODE_VOLUME = 1, FV_NODE_FILE = 2, FV_NODE_SECTION = 3 };
 
-/* What a volume's row holds. The rows of files and sections hold FV_HOLDS_BYTES to FV_HOLDS_VOLUME. */
+/* What a volume's row holds. The rows of files and sections hold FV_HOLDS_BYTES to FV_HOLDS_VOLUME. The type of a file
+ * decides what it holds: FV_HOLDS_SECTIONS for the types 0x02 and 0x04 to 0x0F, and FV_HOLDS_BYTES for all others, also
+ * for a security core (0x03). A file of these types, or a group, holds sections even if it has no bytes: then no row is
+ * below its row. */
 enum { FV_HOLDS_FILES = 0 };
 
 /* A volume, a file or a section of the tree of a volume. A field that it does not have is 0. */
@@ -340,7 +343,7 @@ typedef struct fv_node {
     uint64_t len;        /* the number of these bytes; for a volume FvLength */
     uint64_t parent;     /* the number of the row that holds it; FV_NO_PARENT for the first row */
     uint64_t depth;      /* the number of rows around it */
-    uint64_t number;     /* its number among the parts that its parent holds, from 0 */
+    uint64_t number;     /* its number among the parts that its parent holds, from 0; of a volume 0 */
     uint32_t what;       /* FV_NODE_VOLUME to FV_NODE_SECTION */
     uint32_t kind;       /* Type of a file or a section */
     uint32_t attributes; /* Attributes of a file without bit 0x01, FFS_ATTRIB_LARGE_FILE: header_len is 32 instead */

@@ -104,9 +104,9 @@ def normalise_image(data: Buffer, *, in_place: bool = False) -> bytes:
 
 
 def unfixed(data: Buffer, *, in_place: bool = False) -> bytes:
-    """Returns a copy of a volume in which no file is marked as fixed. The data must be exactly that volume, and the copy
-    has its length. The functions that read the files of a volume reject one with fixed files (fault 15), but read such a
-    copy. The files of nested volumes keep their marks. The copy must not be flashed."""
+    """Returns a copy of a volume in which no file is marked as fixed. The data must be exactly that volume, and the
+    copy has its length. The functions that read the files of a volume reject one with fixed files (fault 15), but read
+    such a copy. The files of nested volumes keep their marks. The copy must not be flashed."""
     return _image(lib.fv_unfix, data, in_place)
 
 

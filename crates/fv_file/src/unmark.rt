@@ -90,9 +90,9 @@ fn unmark_at(
 ///
 /// # Errors
 ///
-/// The first fault of a cell, as for `cells`, except Fixed. By then the fixed files before that cell
-/// have lost their marks, and so has the file of that cell if the fault is FileSum. All other bytes
-/// are as they were.
+/// The first fault of a cell, as for `cells`, except Fixed. By then the fixed files before that
+/// cell have lost their marks, and so has the file of that cell if the fault is FileSum. All other
+/// bytes are as they were.
 pub fn unmark_files(
     body: &mut [u8],
     first: u64,

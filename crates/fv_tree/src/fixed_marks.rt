@@ -19,10 +19,10 @@ use fv_head::verify_fv;
 ///
 /// # Errors
 ///
-/// The first fault of the header, as for `verify_fv`. Nothing was changed in that case. Otherwise the
-/// first fault of a cell, as for `cells`, except Fixed. By then the fixed files before that cell
-/// have lost their marks, and so has the file of that cell if the fault is FileSum. So a caller that
-/// needs the bytes as they were works on a copy.
+/// The first fault of the header, as for `verify_fv`. Nothing was changed in that case. Otherwise
+/// the first fault of a cell, as for `cells`, except Fixed. By then the fixed files before that
+/// cell have lost their marks, and so has the file of that cell if the fault is FileSum. So a
+/// caller that needs the bytes as they were works on a copy.
 pub fn unfix(bytes: &mut [u8]) -> Result<(), Fault>
     // The volume has no fixed file any more, and nothing but the marks was changed.
     ensures done { OnOk result (IsUnfixed bytes.old bytes.new) }
@@ -38,7 +38,8 @@ pub fn unfix(bytes: &mut [u8]) -> Result<(), Fault>
     ensures stops { IfErr result
         (λ f. (IsFirstFault (head_checks bytes.old) f × (bytes.new ≡ bytes.old)) ⊎ UnfixStops bytes.old bytes.new f) }
 
-    // If cells tile the body of the volume, none of its files is fixed, and nothing was changed.
+    // If cells tiled the body of the volume before, none of its files was fixed, and nothing was
+    // changed.
     ensures same { (e : Extent) (cells : List CellForm) → BeginsTiled e cells bytes.old → bytes.new ≡ bytes.old }
 {
     let extent = verify_fv(bytes)?;
