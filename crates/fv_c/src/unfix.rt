@@ -23,8 +23,8 @@ fn put_unfixed(input: &[u8], buffer: &mut [u8])
 }
 
 /// Writes a volume, which is the whole input, without the marks of its fixed files to the start of
-/// the buffer: in the header of each such file, bit 0x04 of the attributes is cleared and 4 is added
-/// to the header checksum (modulo 256). All other bytes are those of the input, also those of
+/// the buffer: in the header of each such file, bit 0x04 of the attributes is cleared and 4 is
+/// added to the header checksum (modulo 256). All other bytes are those of the input, also those of
 /// volumes inside it. The result is as long as the input. Returns 0. Takes no memory. (PI
 /// specification, volume 3, section 3.2.3.1, `FFS_ATTRIB_FIXED`.)
 ///
@@ -40,7 +40,8 @@ pub extern "C" fn fv_unfix(input: &[u8], buffer: &mut [u8], fault: &mut FvFault)
 
     ensures kept { result ≢ 0 → buffer.new ≡ buffer.old }
 
-    // Only for a volume whose marks can be taken away can the buffer be too small: if it is shorter.
+    // Only for a volume whose marks can be taken away can the buffer be too small: if it is
+    // shorter.
     ensures small { result ≡ 256 → ((o : List ℕ) × UnfixesTo input.now o) × (length buffer.old < length input.now)
         × (fault.new ≡ no_fault) }
     ensures room { length buffer.old < length input.now → result ≢ 0 }

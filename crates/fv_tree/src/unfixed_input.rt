@@ -13,8 +13,8 @@ use fv_head::verify_fv;
 ///
 /// # Errors
 ///
-/// The first fault: of the header, as for `verify_fv`; then of a cell, as for `cells`, except Fixed;
-/// then Length at FvLength if bytes follow the volume.
+/// The first fault: of the header, as for `verify_fv`; then of a cell, as for `cells`, except
+/// Fixed; then Length at FvLength if bytes follow the volume.
 pub fn verify_unfixed(input: &[u8]) -> Result<(), Fault>
     // The input is a volume that no bytes follow, and the marks of its fixed files can be taken
     // away.
