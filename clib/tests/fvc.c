@@ -477,8 +477,9 @@ static void vary_parts(const uint8_t *p, size_t n, uint32_t status)
     }
 }
 
-/* The input without the marks of its fixed files, in a buffer of as many bytes. Cells tile what was written, and it differs
- * from the input in the two bytes of each mark. The results of fv_cells and fv_unfix differ only where a file is fixed. */
+/* The input without the marks of its fixed files, in a buffer of as many bytes. Cells tile what was written, and it
+ * differs from the input in the two bytes of each mark. The results of fv_cells and fv_unfix differ only where a file
+ * is fixed, or bytes follow the volume. */
 static void vary_marks(const uint8_t *p, size_t n, uint8_t *buffer)
 {
     static fv_cell cells[512];
@@ -486,8 +487,9 @@ static void vary_marks(const uint8_t *p, size_t n, uint8_t *buffer)
     fv_fault fault, of_cells;
     uint32_t read = fv_cells(p, n, cells, 512, &count, &of_cells), status = fv_unfix(p, n, buffer, n, &fault);
     if (status != fault.number || status > FV_FREE_SPACE || status == FV_FIXED) abort();
-    if (status ? read != status && read != FV_FIXED && (read || status != FV_LENGTH) : read && read != FV_FIXED) abort();
+    if (status && read != status && read != FV_FIXED && (read || status != FV_LENGTH)) abort();
     if (status) return;
+    if (read && read != FV_FIXED) abort();
     if (fv_cells(buffer, n, cells, 512, &count, &fault)) abort();
     for (size_t i = 0, at = 0; i < n; i++) {
         while (at < count && i >= cells[at].offset + 24) at++;
@@ -571,7 +573,8 @@ int main(int argc, char **argv)
     const char *command = argv[1];
     struct bytes in = read_file(argv[2]);
     int status = 3;
-    if (!strcmp(command, "normalise") || !strcmp(command, "all") || !strcmp(command, "unfix")) status = rewrite(command, in);
+    if (!strcmp(command, "normalise") || !strcmp(command, "all")) status = rewrite(command, in);
+    if (!strcmp(command, "unfix")) status = rewrite(command, in);
     if (!strcmp(command, "check")) status = check(in);
     if (!strcmp(command, "checkall")) status = check_all(in);
     if (!strcmp(command, "digest")) status = digest(in);

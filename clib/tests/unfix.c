@@ -38,9 +38,9 @@ void rattle_dealloc(uint8_t *p)
 
 enum { MOST = 512, MORE = 24, A = 72 };
 
-/* A volume of `length` bytes: a header of 72 bytes, and then a body of bytes, of which NN*COUNT repeats one. Erased bytes
- * are FF. `after` more bytes follow it. The result is `fault` at `at`, or, if `fault` is 0, the input with other values of
- * the bytes that `changed` names, OFFSET VALUE (0 0: no more). */
+/* A volume of `length` bytes: a header of 72 bytes, and then a body of bytes, of which NN*COUNT repeats one. Erased
+ * bytes are FF. `after` more bytes follow it. The result is `fault` at `at`. If `fault` is 0, it is the input with
+ * other values of the bytes that `changed` names, as OFFSET VALUE (0 0: no more). */
 struct row {
     const char *name;
     unsigned length, after;
@@ -67,8 +67,8 @@ static const struct row rows[] = {
     {"a wrong file sum", 128, 0, "0a*16 43ab0104180000f8 ff*32", FV_FILE_SUM, A + 17, {{0, 0}}},
     {"a wrong file sum of data", 128, 0, "0a*16 02a70144190000f8 5a ff*31", FV_FILE_SUM, A + 17, {{0, 0}}},
     {"a wrong header sum", 128, 0, "0a*16 44aa0104180000f8 ff*32", FV_FILE_HEADER_SUM, A, {{0, 0}}},
-    {"a fault after a fixed file", 128, 0, "0a*16 43aa0104180000f8 0b*16 38aa0100180000f8 ff*8", FV_FILE_HEADER_SUM, A + 24,
-     {{0, 0}}},
+    {"a fault after a fixed file", 128, 0, "0a*16 43aa0104180000f8 0b*16 38aa0100180000f8 ff*8", FV_FILE_HEADER_SUM,
+     A + 24, {{0, 0}}},
     {"a wrong state", 128, 0, "0a*16 43aa0104180000f8 0b*16 37aa0100180000b8 ff*8", FV_FILE_STATE, A + 47, {{0, 0}}},
     {"a size past the end", 128, 0, "0a*16 22aa0104390000f8 ff*32", FV_FILE_SIZE, A + 20, {{0, 0}}},
     {"a large file in FFS2", 128, 0, "0a*16 5aaa0105000000f8 2000000000000000 ff*24", FV_LARGE_FILE, A + 19, {{0, 0}}},
@@ -125,7 +125,8 @@ static uint8_t *guarded_page(size_t page)
 }
 
 /* One call, with a buffer of this many bytes. */
-static void try_buffer(const struct row *it, const uint8_t *in, size_t n, uint8_t *buffer, size_t room, const uint8_t *wanted)
+static void try_buffer(const struct row *it, const uint8_t *in, size_t n, uint8_t *buffer, size_t room,
+                       const uint8_t *wanted)
 {
     fv_fault fault = {77, 77, 77};
     memset(buffer, 0xe7, room);

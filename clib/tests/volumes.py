@@ -137,8 +137,8 @@ def check_bodies(table):
 
 
 def check_unfixed(table, others):
-    """Each volume of a row of `unfix` loses its marks, or has the fault of the row. Each body of the other rows is written
-    as it is, or has the same fault as the cells, except that a file is fixed."""
+    """Each volume of a row of `unfix` loses its marks, or has the fault of the row. Each body of the other rows is
+    written as it is, or has the same fault as the cells, except that a file is fixed."""
     count = 0
     for name, words, result in map(rows.parts, table):
         if name != "unfix" or words.startswith("'"):  # a volume at an offset, or text that is no bytes

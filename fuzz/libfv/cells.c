@@ -74,9 +74,11 @@ static void read_cells(struct volume *v)
         check_untouched(less, "cells");
         count = 7;
     }
-    uint8_t *buffer = new_buffer(n * sizeof *cells, 8);
+    /* With room for one more, that one is left as it is. */
+    uint64_t room = n + (v->parameters[FILE_CHOICE] & 1);
+    uint8_t *buffer = new_buffer(room * sizeof *cells, 8);
     fault = unset_fault;
-    check_plain("cells", fv_cells(v->bytes, v->len, (fv_cell *)(void *)buffer, n, &count, &fault), FV_DONE, &fault);
+    check_plain("cells", fv_cells(v->bytes, v->len, (fv_cell *)(void *)buffer, room, &count, &fault), FV_DONE, &fault);
     CHECK(count == n, "cells: %lu, then %lu", n, count);
     check_written(buffer, n * sizeof *cells, "cells");
     memcpy(cells, buffer, n * sizeof *cells);
@@ -94,6 +96,10 @@ void try_cells(struct volume *v)
         check_result("cells", result, &fault, FV_FREE_SPACE, v->len);
         CHECK(count == UNTOUCHED_64, "cells has changed the count");
         CHECK(result == v->result && is_same_fault(&fault, &v->fault), "cells: %u, normalise: %u", result, v->result);
+        uint8_t *some = new_buffer(4 * sizeof(fv_cell), 8);
+        uint32_t again = fv_cells(v->bytes, v->len, (fv_cell *)(void *)some, 4, &count, &fault);
+        CHECK(again == result && count == UNTOUCHED_64, "cells: %u, then %u", result, again);
+        check_untouched(some, "cells of a volume that is rejected");
     } else {
         check_plain("cells", result, count ? FV_BUFFER_TOO_SMALL : FV_DONE, &fault);
         v->cell_count = count;
@@ -103,7 +109,11 @@ void try_cells(struct volume *v)
             saw(SEEN_CELLS, count > 20 ? 20 : (uint32_t)count, 0, 0);
         }
     }
+    bool has_room = result == FV_BUFFER_TOO_SMALL && count < MOST_ROWS && v->parameters[REFUSED + 1] & 1;
+    uint64_t room = has_room ? count : 0;
+    uint8_t *buffer = new_buffer(room * sizeof(fv_cell), 8);
     refuse_allocation(v->parameters[REFUSED + 2]);
-    uint32_t again = fv_cells(v->bytes, v->len, none, 0, &count, &fault);
-    check_refusal("cells", again, result, FV_OUT_OF_MEMORY, &fault);
+    uint32_t again = fv_cells(v->bytes, v->len, (fv_cell *)(void *)buffer, room, &count, &fault);
+    check_refusal("cells", again, has_room ? FV_DONE : result, FV_OUT_OF_MEMORY, &fault);
+    if (again) check_untouched(buffer, "cells without memory");
 }

@@ -20,6 +20,7 @@ enum {
     SEEN_OP,
     SEEN_LIST,
     SEEN_BLOCK,
+    SEEN_UNFIX,
     SEEN_PAIR,
     SEEN_DIFFERENCE
 };

@@ -53,9 +53,11 @@ static void read_files(struct volume *v)
         check_untouched(less, "files");
         count = 7;
     }
-    uint8_t *buffer = new_buffer(n * sizeof *files, 8);
+    /* With room for one more, that one is left as it is. */
+    uint64_t room = n + (v->parameters[SECTION_CHOICE] & 1);
+    uint8_t *buffer = new_buffer(room * sizeof *files, 8);
     fault = unset_fault;
-    check_plain("files", fv_files(v->bytes, v->len, (fv_file *)(void *)buffer, n, &count, &fault), FV_DONE, &fault);
+    check_plain("files", fv_files(v->bytes, v->len, (fv_file *)(void *)buffer, room, &count, &fault), FV_DONE, &fault);
     CHECK(count == n, "files: %lu, then %lu", n, count);
     check_written(buffer, n * sizeof *files, "files");
     memcpy(files, buffer, n * sizeof *files);
@@ -77,6 +79,25 @@ static void check_no_more_files(const struct volume *v)
     result = fv_sections(v->bytes, v->len, v->file_count, (fv_section *)(void *)none, 0, &len, &fault);
     check_plain("sections", result, FV_NOT_FOUND, &fault);
     CHECK(len == 77, "a call has changed the length of a part that is not there");
+}
+
+/* The calls for parts have the same fault, and write nothing. */
+static void check_rejected(const struct volume *v)
+{
+    uint64_t count = 77;
+    fv_fault fault = unset_fault;
+    uint8_t *some = new_buffer(4 * sizeof(fv_section), 8);
+    uint32_t result = fv_files(v->bytes, v->len, (fv_file *)(void *)some, 2, &count, &fault);
+    CHECK(result == v->unread && is_same_fault(&fault, &v->fault), "files: %u, with room %u", v->unread, result);
+    fault = unset_fault;
+    result = fv_sections(v->bytes, v->len, 0, (fv_section *)(void *)some, 4, &count, &fault);
+    CHECK(result == v->unread && is_same_fault(&fault, &v->fault), "sections: %u, files: %u", result, v->unread);
+    fault = unset_fault;
+    uint64_t section = v->parameters[SECTION_CHOICE] & 1 ? FV_WHOLE_FILE : 0;
+    result = fv_extract(v->bytes, v->len, 0, section, some, 4 * sizeof(fv_section), &count, &fault);
+    CHECK(result == v->unread && is_same_fault(&fault, &v->fault), "extract: %u, files: %u", result, v->unread);
+    CHECK(count == 77, "a call has changed the count of a volume that is rejected");
+    check_untouched(some, "a call for the parts of a volume that is rejected");
 }
 
 static void try_each_file(struct volume *v)
@@ -103,15 +124,20 @@ void try_files(struct volume *v)
         check_result("files", result, &fault, FV_DEPTH, v->len);
         CHECK(count == UNTOUCHED_64, "files has changed the count");
         CHECK(result == v->unread && is_same_fault(&fault, &v->fault), "files: %u, normalise: %u", result, v->result);
+        check_rejected(v);
     } else {
         CHECK(!v->unread, "files: %u, normalise: %u", result, v->result);
         check_plain("files", result, count ? FV_BUFFER_TOO_SMALL : FV_DONE, &fault);
         v->file_count = count;
         if (count < MOST_ROWS) try_each_file(v);
     }
+    bool has_room = result == FV_BUFFER_TOO_SMALL && count < MOST_ROWS && v->parameters[REFUSED] & 1;
+    uint64_t room = has_room ? count : 0;
+    uint8_t *buffer = new_buffer(room * sizeof(fv_file), 8);
     refuse_allocation(v->parameters[REFUSED + 1]);
-    uint32_t again = fv_files(v->bytes, v->len, none, 0, &count, &fault);
-    check_refusal("files", again, result, FV_OUT_OF_MEMORY, &fault);
+    uint32_t again = fv_files(v->bytes, v->len, (fv_file *)(void *)buffer, room, &count, &fault);
+    check_refusal("files", again, has_room ? FV_DONE : result, FV_OUT_OF_MEMORY, &fault);
+    if (again) check_untouched(buffer, "files without memory");
 }
 
 /* Each section is in a group that comes before it, one level up, or in none. */
@@ -158,9 +184,11 @@ static const fv_section *read_sections(const struct volume *v, uint64_t file, ui
         check_untouched(less, "sections");
         count = 7;
     }
-    uint8_t *buffer = new_buffer(n * sizeof *rows, 8);
+    /* With room for one more, that one is left as it is. */
+    uint64_t room = n + (v->parameters[SECTION_CHOICE] & 1);
+    uint8_t *buffer = new_buffer(room * sizeof *rows, 8);
     fault = unset_fault;
-    uint32_t result = fv_sections(v->bytes, v->len, file, (fv_section *)(void *)buffer, n, &count, &fault);
+    uint32_t result = fv_sections(v->bytes, v->len, file, (fv_section *)(void *)buffer, room, &count, &fault);
     check_plain("sections", result, FV_DONE, &fault);
     CHECK(count == n, "sections: %lu, then %lu", n, count);
     check_written(buffer, n * sizeof *rows, "sections");
@@ -182,7 +210,11 @@ void try_sections(const struct volume *v, uint64_t file)
         if (v->image) check_rows_of_image(v, file, rows, count);
         try_parts(v, file, rows, count);
     }
+    bool has_room = result == FV_BUFFER_TOO_SMALL && count < MOST_ROWS && v->parameters[REFUSED + 2] & 1;
+    uint64_t room = has_room ? count : 0;
+    uint8_t *buffer = new_buffer(room * sizeof(fv_section), 8);
     refuse_allocation(v->parameters[REFUSED]);
-    uint32_t again = fv_sections(v->bytes, v->len, file, none, 0, &count, &fault);
-    check_refusal("sections", again, result, FV_OUT_OF_MEMORY, &fault);
+    uint32_t again = fv_sections(v->bytes, v->len, file, (fv_section *)(void *)buffer, room, &count, &fault);
+    check_refusal("sections", again, has_room ? FV_DONE : result, FV_OUT_OF_MEMORY, &fault);
+    if (again) check_untouched(buffer, "sections without memory");
 }

@@ -28,7 +28,8 @@ static void check_block(const uint8_t *bytes, const fv_hob *block, uint64_t numb
     saw(SEEN_BLOCK, block->code, 0, 0);
 }
 
-static void check_blocks(const uint8_t *bytes, size_t len, uint64_t n)
+/* The buffer has room for `n` blocks and `more`. */
+static void check_blocks(const uint8_t *bytes, size_t len, uint64_t n, uint64_t more)
 {
     uint64_t count = 1, consumed = 2, at = 0;
     fv_fault fault = unset_fault;
@@ -38,9 +39,9 @@ static void check_blocks(const uint8_t *bytes, size_t len, uint64_t n)
     CHECK(count == n, "hobs: %lu, then %lu", n, count);
     check_untouched(less, "hobs");
     fault = unset_fault;
-    uint8_t *buffer = new_buffer(n * sizeof(fv_hob), 8);
+    uint8_t *buffer = new_buffer((n + more) * sizeof(fv_hob), 8);
     const fv_hob *blocks = (const fv_hob *)(const void *)buffer;
-    result = fv_hobs(bytes, len, (fv_hob *)(void *)buffer, n, &count, &consumed, &fault);
+    result = fv_hobs(bytes, len, (fv_hob *)(void *)buffer, n + more, &count, &consumed, &fault);
     check_plain("hobs", result, FV_DONE, &fault);
     CHECK(count == n, "hobs: %lu, then %lu", n, count);
     check_written(buffer, n * sizeof(fv_hob), "hobs");
@@ -64,13 +65,22 @@ void try_hand_off_list(const uint8_t *bytes, size_t len, const uint8_t *paramete
     if (result == FV_BUFFER_TOO_SMALL) {
         check_plain("hobs", result, FV_BUFFER_TOO_SMALL, &fault);
         CHECK(count, "hobs: no block, and no room for it");
-        if (count <= MOST_BLOCKS) check_blocks(bytes, len, count);
+        if (count <= MOST_BLOCKS) check_blocks(bytes, len, count, parameters[SECTION_CHOICE] & 1);
     } else {
         CHECK(result >= 1 && result <= NO_END && fault.number == result && fault.offset <= len && !fault.depth,
               "hobs: %u, and fault %u at %lu", result, fault.number, fault.offset);
         CHECK(count == UNTOUCHED_64 && consumed == UNTOUCHED_64, "hobs has changed the count");
+        uint8_t *some = new_buffer(4 * sizeof(fv_hob), 8);
+        uint32_t with_room = fv_hobs(bytes, len, (fv_hob *)(void *)some, 4, &count, &consumed, &fault);
+        CHECK(with_room == result && count == UNTOUCHED_64 && consumed == UNTOUCHED_64, "hobs: %u, then %u", result,
+              with_room);
+        check_untouched(some, "hobs of a list that is rejected");
     }
+    bool has_room = result == FV_BUFFER_TOO_SMALL && count <= MOST_BLOCKS && parameters[REFUSED + 1] & 1;
+    uint64_t room = has_room ? count : 0;
+    uint8_t *buffer = new_buffer(room * sizeof(fv_hob), 8);
     refuse_allocation(parameters[REFUSED]);
-    uint32_t again = fv_hobs(bytes, len, none, 0, &count, &consumed, &fault);
-    check_refusal("hobs", again, result, OUT_OF_MEMORY, &fault);
+    uint32_t again = fv_hobs(bytes, len, (fv_hob *)(void *)buffer, room, &count, &consumed, &fault);
+    check_refusal("hobs", again, has_room ? FV_DONE : result, OUT_OF_MEMORY, &fault);
+    if (again) check_untouched(buffer, "hobs without memory");
 }

@@ -22,7 +22,8 @@ static void check_none_between(const uint8_t *bytes, size_t len, uint64_t from, 
     }
 }
 
-static void read_offsets(const uint8_t *bytes, size_t len, uint64_t n)
+/* The buffer has room for `n` offsets and `more`. */
+static void read_offsets(const uint8_t *bytes, size_t len, uint64_t n, uint64_t more)
 {
     uint64_t count = 5;
     if (n) {
@@ -32,8 +33,8 @@ static void read_offsets(const uint8_t *bytes, size_t len, uint64_t n)
         check_untouched(less, "scan");
         count = 5;
     }
-    uint8_t *buffer = new_buffer(n * sizeof *offsets, 8);
-    uint32_t result = fv_scan(bytes, len, (uint64_t *)(void *)buffer, n, &count);
+    uint8_t *buffer = new_buffer((n + more) * sizeof *offsets, 8);
+    uint32_t result = fv_scan(bytes, len, (uint64_t *)(void *)buffer, n + more, &count);
     CHECK(result == FV_DONE && count == n, "scan: %u, %lu of %lu", result, count, n);
     check_written(buffer, n * sizeof *offsets, "scan");
     memcpy(offsets, buffer, n * sizeof *offsets);
@@ -92,6 +93,15 @@ static void try_normalise_image(const uint8_t *bytes, size_t len, uint64_t count
         CHECK(!memcmp(buffer, expected, len), "normalise_image: not the images of the volumes");
     }
     try_short_image(bytes, len, result, &fault);
+    /* With more room, what is behind the image is left as it is. */
+    size_t room = len + 1 + parameters[FILE_CHOICE] % 9;
+    buffer = new_buffer(room, 1);
+    uint32_t with_room = fv_normalise_image(bytes, len, buffer, room, &fault);
+    CHECK(with_room == result, "normalise_image: %u, and %u with more room", result, with_room);
+    if (result)
+        check_untouched(buffer, "normalise_image with more room");
+    else
+        check_written(buffer, len, "normalise_image with more room");
     buffer = new_buffer(len, 1);
     refuse_allocation(parameters[REFUSED]);
     uint32_t again = fv_normalise_image(bytes, len, buffer, len, &fault);
@@ -116,7 +126,8 @@ static void check_row(const uint8_t *bytes, size_t len, uint64_t number, const f
     saw(SEEN_CHECK, number > 3 ? 3 : (uint32_t)number, result, canonical);
 }
 
-static void read_checks(const uint8_t *bytes, size_t len, uint64_t n)
+/* The buffer has room for `n` rows and `more`. */
+static void read_checks(const uint8_t *bytes, size_t len, uint64_t n, uint64_t more)
 {
     static fv_volume_check rows[MOST_VOLUMES];
     uint64_t count = 5;
@@ -129,9 +140,9 @@ static void read_checks(const uint8_t *bytes, size_t len, uint64_t n)
         check_untouched(less, "check_image");
         count = 5;
     }
-    uint8_t *buffer = new_buffer(n * sizeof *rows, 8);
+    uint8_t *buffer = new_buffer((n + more) * sizeof *rows, 8);
     fault = unset_fault;
-    uint32_t result = fv_check_image(bytes, len, (fv_volume_check *)(void *)buffer, n, &count, &fault);
+    uint32_t result = fv_check_image(bytes, len, (fv_volume_check *)(void *)buffer, n + more, &count, &fault);
     check_no_block_is_kept("check_image");
     check_plain("check_image", result, FV_DONE, &fault);
     CHECK(count == n, "check_image: %lu of %lu", count, n);
@@ -142,15 +153,16 @@ static void read_checks(const uint8_t *bytes, size_t len, uint64_t n)
 
 static void try_check_image(const uint8_t *bytes, size_t len, uint64_t n, const uint8_t *parameters)
 {
-    read_checks(bytes, len, n);
-    uint64_t count = 5;
+    read_checks(bytes, len, n, parameters[SECTION_CHOICE] & 1);
+    uint64_t count = 5, room = parameters[REFUSED] & 1 ? n : 0;
     fv_fault fault = unset_fault;
-    fv_volume_check *none = (fv_volume_check *)(void *)new_buffer(0, 8);
+    uint8_t *buffer = new_buffer(room * sizeof(fv_volume_check), 8);
     refuse_allocation(parameters[REFUSED + 2]);
-    uint32_t result = fv_check_image(bytes, len, none, 0, &count, &fault);
-    uint32_t usual = n ? FV_BUFFER_TOO_SMALL : FV_DONE;
+    uint32_t result = fv_check_image(bytes, len, (fv_volume_check *)(void *)buffer, room, &count, &fault);
+    uint32_t usual = room < n ? FV_BUFFER_TOO_SMALL : FV_DONE;
     check_refusal("check_image", result, usual, FV_OUT_OF_MEMORY, &fault);
     CHECK(result == usual ? count == n : count == 5, "check_image: count %lu without memory", count);
+    if (result) check_untouched(buffer, "check_image without memory");
 }
 
 void try_image(const uint8_t *bytes, size_t len, const uint8_t *parameters)
@@ -161,13 +173,16 @@ void try_image(const uint8_t *bytes, size_t len, const uint8_t *parameters)
     check_no_block_is_kept("scan");
     CHECK(result == (count ? FV_BUFFER_TOO_SMALL : FV_DONE), "scan: %u, count %lu", result, count);
     if (count > MOST_VOLUMES) return;
-    read_offsets(bytes, len, count);
+    read_offsets(bytes, len, count, parameters[SECTION_CHOICE] & 1);
     saw(SEEN_SCAN, count > 9 ? 9 : (uint32_t)count, 0, 0);
     try_normalise_image(bytes, len, count, parameters);
     try_check_image(bytes, len, count, parameters);
-    uint64_t kept = 5;
+    uint64_t kept = 5, room = parameters[REFUSED + 2] & 1 ? count : 0;
+    uint8_t *buffer = new_buffer(room * sizeof *offsets, 8);
     refuse_allocation(parameters[REFUSED + 1]);
-    uint32_t again = fv_scan(bytes, len, none, 0, &kept);
-    check_refusal("scan", again, result, FV_OUT_OF_MEMORY, NULL);
-    CHECK(again == result ? kept == count : kept == 5, "scan: count %lu without memory", kept);
+    uint32_t again = fv_scan(bytes, len, (uint64_t *)(void *)buffer, room, &kept);
+    uint32_t usual = room < count ? FV_BUFFER_TOO_SMALL : FV_DONE;
+    check_refusal("scan", again, usual, FV_OUT_OF_MEMORY, NULL);
+    CHECK(again == usual ? kept == count : kept == 5, "scan: count %lu without memory", kept);
+    if (again) check_untouched(buffer, "scan without memory");
 }

@@ -40,7 +40,7 @@ static void check_digests(struct input a, struct input b, const fv_comparison *f
     if (found->same) CHECK(first == second, "compare: same, and the digests have %u and %u", first, second);
 }
 
-/* A buffer for the line that is one byte too short, and one that is as long as the line. */
+/* A buffer for the line that is one byte too short, one that is as long as the line, and one of a byte more. */
 static void try_buffers(struct input a, struct input b, uint64_t len)
 {
     fv_comparison found;
@@ -50,6 +50,9 @@ static void try_buffers(struct input a, struct input b, uint64_t len)
     check_untouched(line, "compare");
     line = new_buffer(len, 1);
     CHECK(compare(a, b, line, len, &found) == FV_DONE, "compare: a buffer that is as long as the line");
+    check_written(line, len, "compare");
+    line = new_buffer(len + 1, 1);
+    CHECK(compare(a, b, line, len + 1, &found) == FV_DONE, "compare: a buffer of a byte more than the line");
     check_written(line, len, "compare");
 }
 
@@ -89,9 +92,14 @@ void try_pair(const uint8_t *bytes, size_t len, const uint8_t *parameters)
         struct input of_fault = found.side == 1 ? a : b;
         CHECK(found.side == 1 || found.side == 2, "compare: side %u", found.side);
         check_result("compare", result, &found.fault, FV_DEPTH, of_fault.len);
+        uint8_t *some = new_buffer(MOST_LINE, 1);
+        CHECK(compare(a, b, some, MOST_LINE, &back) == result, "compare: %u, and then another", result);
+        check_untouched(some, "compare of a volume that is rejected");
     }
+    uint8_t *kept = new_buffer(MOST_LINE, 1);
     refuse_allocation(parameters[REFUSED]);
     memset(&back, 1, sizeof back);
-    uint32_t again = fv_compare(a.bytes, a.len, b.bytes, b.len, line, sizeof line, &back);
+    uint32_t again = fv_compare(a.bytes, a.len, b.bytes, b.len, (char *)kept, MOST_LINE, &back);
     check_refusal("compare", again, result, FV_OUT_OF_MEMORY, &back.fault);
+    if (again) check_untouched(kept, "compare without memory");
 }

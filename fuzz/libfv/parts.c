@@ -23,13 +23,21 @@ static void check_no_part(const struct volume *v, uint32_t result, const fv_faul
           v->result);
 }
 
-static void try_short_extract(const struct volume *v, uint64_t file, uint64_t section, uint64_t len)
+/* A buffer of a byte more, and one of a byte less. */
+static void try_other_rooms(const struct volume *v, uint64_t file, uint64_t section, uint64_t len)
 {
-    if (!len) return;
-    uint8_t *less = new_buffer(len - 1, 1);
     uint64_t reported = 9;
     fv_fault fault = unset_fault;
-    uint32_t result = fv_extract(v->bytes, v->len, file, section, less, len - 1, &reported, &fault);
+    uint8_t *more = new_buffer(len + 1, 1);
+    uint32_t result = fv_extract(v->bytes, v->len, file, section, more, len + 1, &reported, &fault);
+    check_plain("extract", result, FV_DONE, &fault);
+    CHECK(reported == len, "extract: %lu bytes, then %lu", len, reported);
+    check_written(more, len, "extract");
+    if (!len) return;
+    uint8_t *less = new_buffer(len - 1, 1);
+    reported = 9;
+    fault = unset_fault;
+    result = fv_extract(v->bytes, v->len, file, section, less, len - 1, &reported, &fault);
     check_plain("extract", result, FV_BUFFER_TOO_SMALL, &fault);
     CHECK(reported == len, "extract: %lu bytes, then %lu", len, reported);
     check_untouched(less, "extract");
@@ -67,7 +75,7 @@ static uint32_t try_data(const struct volume *v, uint64_t file)
         memcpy(whole, buffer, len);
         if (!row->sections && row->kind == 0x01)
             CHECK(!memcmp(whole, v->bytes + row->data_offset, len), "extract: the data are not those of the input");
-        try_short_extract(v, file, FV_WHOLE_FILE, len);
+        try_other_rooms(v, file, FV_WHOLE_FILE, len);
         if (v->image) check_data_of_image(v, file, len);
     }
     buffer = new_buffer(row->data_len, 1);
@@ -110,7 +118,7 @@ static void try_part(const struct volume *v, uint64_t file, const fv_section *ro
         check_written(buffer, len, "extract");
         memcpy(part, buffer, len);
         check_body(v, row, file, has_whole);
-        try_short_extract(v, file, section, len);
+        try_other_rooms(v, file, section, len);
     }
     buffer = new_buffer(row->len, 1);
     refuse_allocation(v->parameters[REFUSED + 2]);

@@ -3,6 +3,7 @@
 #include <stdlib.h>
 
 #undef fv_normalise
+#undef fv_unfix
 #undef fv_scan
 #undef fv_check_image
 #undef fv_tree
@@ -20,7 +21,10 @@ enum {
     NO_NOT,         /* a NOT at the third place, after FALSE, does nothing */
     UNMOVED_FILE,   /* the offset of a file in a nested volume counts from that volume */
     UNMOVED_FAULT,  /* the offset of the fault of a second volume counts from that volume */
-    SIXTH_SUM       /* the last byte of the last of exactly six sums is wrong, if there is such a sum */
+    SIXTH_SUM,      /* the last byte of the last of exactly six sums is wrong, if there is such a sum */
+    SECOND_MARK,    /* unfix leaves the last of several marks */
+    SUM_ON_FAULT,   /* list_sums writes to the buffer after a fault */
+    SUM_BEHIND      /* list_sums writes to the buffer behind its sums */
 };
 
 static int planted(void)
@@ -51,6 +55,19 @@ uint32_t planted_normalise(const uint8_t *input, size_t len, uint8_t *buffer, si
     if (plant == TWO_PADS && !result && pads_of(buffer, len) == 2) buffer[len - 1] ^= 1;
     if (plant == DEEP_FAULT && result && result != FV_BUFFER_TOO_SMALL && fault->depth == 3) fault->offset++;
     if (plant == WRITE_ON_TWINS && result == FV_DUPLICATE_NAME && buffer_len > 200) buffer[199] = 0;
+    return result;
+}
+
+uint32_t planted_unfix(const uint8_t *input, size_t len, uint8_t *buffer, size_t buffer_len, fv_fault *fault)
+{
+    uint32_t result = fv_unfix(input, len, buffer, buffer_len, fault);
+    if (planted() != SECOND_MARK || result) return result;
+    int changed = 0, kept = 2;
+    for (size_t i = 0; i < len; i++) changed += buffer[i] != input[i];
+    for (size_t i = len; changed > 2 && kept && i--;) {
+        kept -= buffer[i] != input[i];
+        buffer[i] = input[i];
+    }
     return result;
 }
 
@@ -89,7 +106,10 @@ uint32_t planted_list_sums(const uint8_t *input, size_t len, fv_sha256 *buffer, 
                            fv_fault *fault)
 {
     uint32_t result = fv_list_sums(input, len, buffer, buffer_count, count, fault);
-    if (planted() == SIXTH_SUM && !result && *count == 6 && buffer[5].bytes[0]) buffer[5].bytes[31] ^= 1;
+    int plant = planted();
+    if (plant == SIXTH_SUM && !result && *count == 6 && buffer[5].bytes[0]) buffer[5].bytes[31] ^= 1;
+    if (plant == SUM_ON_FAULT && result && result < FV_OUT_OF_MEMORY && buffer_count) buffer[0].bytes[0] ^= 1;
+    if (plant == SUM_BEHIND && !result && buffer_count > *count) buffer[*count].bytes[0] ^= 1;
     return result;
 }
 

@@ -21,9 +21,12 @@ static const fv_sha256 *read_sums(const struct volume *v, uint64_t n)
     CHECK(count == n, "list_sums: %lu, then %lu", n, count);
     check_untouched(less, "list_sums");
     count = 7;
-    uint8_t *buffer = new_buffer(n * sizeof *sums, 1);
+    /* With room for one more, that one is left as it is. */
+    uint64_t room = n + (v->parameters[FILE_CHOICE] & 1);
+    uint8_t *buffer = new_buffer(room * sizeof *sums, 1);
     fault = unset_fault;
-    check_plain("list_sums", fv_list_sums(v->bytes, v->len, (fv_sha256 *)buffer, n, &count, &fault), FV_DONE, &fault);
+    check_plain("list_sums", fv_list_sums(v->bytes, v->len, (fv_sha256 *)buffer, room, &count, &fault), FV_DONE,
+                &fault);
     CHECK(count == n, "list_sums: %lu, then %lu", n, count);
     check_written(buffer, n * sizeof *sums, "list_sums");
     return memcpy(sums, buffer, n * sizeof *sums);
@@ -61,13 +64,21 @@ void try_sums(const struct volume *v)
         CHECK(count == UNTOUCHED_64, "list_sums has changed the count");
         CHECK(result && result == v->result && is_same_fault(&fault, &v->fault), "list_sums: %u, normalise: %u", result,
               v->result);
+        uint8_t *some = new_buffer(4 * sizeof(fv_sha256), 1);
+        uint32_t again = fv_list_sums(v->bytes, v->len, (fv_sha256 *)some, 4, &count, &fault);
+        CHECK(again == result && count == UNTOUCHED_64, "list_sums: %u, then %u", result, again);
+        check_untouched(some, "list_sums of a volume that is rejected");
     } else {
         CHECK(v->image && count == v->node_count, "list_sums: %lu of %lu rows, normalise: %u", count, v->node_count,
               v->result);
         check_plain("list_sums", result, FV_BUFFER_TOO_SMALL, &fault);
         if (count < MOST_NODES) check_sums(v, read_sums(v, count), count);
     }
+    bool has_room = result == FV_BUFFER_TOO_SMALL && count < MOST_SUMS && v->parameters[REFUSED] & 1;
+    uint64_t room = has_room ? count : 0;
+    uint8_t *buffer = new_buffer(room * sizeof(fv_sha256), 1);
     refuse_allocation(v->parameters[REFUSED] ^ v->parameters[REFUSED + 2]);
-    uint32_t again = fv_list_sums(v->bytes, v->len, none, 0, &count, &fault);
-    check_refusal("list_sums", again, result, FV_OUT_OF_MEMORY, &fault);
+    uint32_t again = fv_list_sums(v->bytes, v->len, (fv_sha256 *)buffer, room, &count, &fault);
+    check_refusal("list_sums", again, has_room ? FV_DONE : result, FV_OUT_OF_MEMORY, &fault);
+    if (again) check_untouched(buffer, "list_sums without memory");
 }

@@ -148,9 +148,11 @@ static const fv_node *read_tree(const struct volume *v, uint64_t n)
     CHECK(count == n, "tree: %lu, then %lu", n, count);
     check_untouched(less, "tree");
     count = 7;
-    uint8_t *buffer = new_buffer(n * sizeof *nodes, 8);
+    /* With room for one more, that one is left as it is. */
+    uint64_t room = n + (v->parameters[FILE_CHOICE] & 1);
+    uint8_t *buffer = new_buffer(room * sizeof *nodes, 8);
     fault = unset_fault;
-    check_plain("tree", fv_tree(v->bytes, v->len, (fv_node *)(void *)buffer, n, &count, &fault), FV_DONE, &fault);
+    check_plain("tree", fv_tree(v->bytes, v->len, (fv_node *)(void *)buffer, room, &count, &fault), FV_DONE, &fault);
     CHECK(count == n, "tree: %lu, then %lu", n, count);
     check_written(buffer, n * sizeof *nodes, "tree");
     return memcpy(nodes, buffer, n * sizeof *nodes);
@@ -168,6 +170,10 @@ void try_tree(struct volume *v)
         CHECK(count == UNTOUCHED_64, "tree has changed the count");
         CHECK(result && result == v->unread && is_same_fault(&fault, &v->fault), "tree: %u, normalise: %u", result,
               v->result);
+        uint8_t *some = new_buffer(4 * sizeof(fv_node), 8);
+        uint32_t again = fv_tree(v->bytes, v->len, (fv_node *)(void *)some, 4, &count, &fault);
+        CHECK(again == result && count == UNTOUCHED_64, "tree: %u, then %u", result, again);
+        check_untouched(some, "tree of a volume that is rejected");
     } else {
         CHECK(!v->unread && count, "tree: %lu rows, normalise: %u", count, v->result);
         check_plain("tree", result, FV_BUFFER_TOO_SMALL, &fault);
@@ -180,7 +186,11 @@ void try_tree(struct volume *v)
             if (v->image) check_tree_of_image(v, nodes, count);
         }
     }
+    bool has_room = result == FV_BUFFER_TOO_SMALL && count < MOST_NODES && v->parameters[REFUSED + 2] & 1;
+    uint64_t room = has_room ? count : 0;
+    uint8_t *buffer = new_buffer(room * sizeof(fv_node), 8);
     refuse_allocation(v->parameters[REFUSED + 2]);
-    uint32_t again = fv_tree(v->bytes, v->len, none, 0, &count, &fault);
-    check_refusal("tree", again, result, FV_OUT_OF_MEMORY, &fault);
+    uint32_t again = fv_tree(v->bytes, v->len, (fv_node *)(void *)buffer, room, &count, &fault);
+    check_refusal("tree", again, has_room ? FV_DONE : result, FV_OUT_OF_MEMORY, &fault);
+    if (again) check_untouched(buffer, "tree without memory");
 }

@@ -46,6 +46,16 @@ static void try_normalise_again(const struct volume *v)
     uint32_t result = fv_normalise(v->bytes, v->len, buffer, v->len, &fault);
     CHECK(result == v->result && is_same_fault(&fault, &v->fault), "normalise: %u, then %u", v->result, result);
     CHECK(result || !memcmp(buffer, v->image, v->len), "normalise: two images");
+    /* With more room, what is behind the image is left as it is. */
+    size_t room = v->len + 1 + v->parameters[FILE_CHOICE] % 9;
+    buffer = new_buffer(room, 1);
+    result = fv_normalise(v->bytes, v->len, buffer, room, &fault);
+    CHECK(result == v->result && is_same_fault(&fault, &v->fault), "normalise: %u, and %u with more room", v->result,
+          result);
+    if (result)
+        check_untouched(buffer, "normalise with more room");
+    else
+        check_written(buffer, v->len, "normalise with more room");
     buffer = new_buffer(v->len, 1);
     refuse_allocation(v->parameters[REFUSED]);
     result = fv_normalise(v->bytes, v->len, buffer, v->len, &fault);
@@ -178,6 +188,7 @@ void try_volume(const uint8_t *bytes, size_t len, const uint8_t *parameters)
     try_files(&volume);
     try_tree(&volume);
     try_sums(&volume);
+    try_unfix(&volume);
     try_compare_with_itself(&volume);
     if (volume.image) try_image_of(&volume);
 }

@@ -35,5 +35,6 @@ void try_sections(const struct volume *volume, uint64_t file);
 void try_parts(const struct volume *volume, uint64_t file, const fv_section *sections, uint64_t count);
 void try_tree(struct volume *volume);
 void try_sums(const struct volume *volume);
+void try_unfix(const struct volume *volume);
 
 #endif
