@@ -29,7 +29,7 @@ def load() -> Any:
     try:
         import fv
 
-        fv.tree, fv.check_image  # an older package has neither
+        fv.tree, fv.check_image, fv.unfixed  # an older package lacks one of them
     except (ImportError, OSError, AttributeError) as error:
         fvlines.stop(f"{error}. {HELP}")
     return fv

@@ -24,6 +24,9 @@ MOST_OPENED = 1000  # sections of an image that are opened
 MOST_PARTS = 100_000  # volumes, files and sections of an image that are read
 MOST_MEMORY = 4 << 30  # that the process may take
 SECURITY_CORE = 0x03  # a type of files
+FIXED = 0x04  # the attribute of a file that may not be moved
+FIXED_FILE = 15  # the fault of a volume with such a file
+ATTRIBUTES = 19  # the offset of the attributes in the header of a file
 PE32, TE = 0x10, 0x12  # types of sections
 NAMES = Path(__file__).resolve().parent / "map" / "guids.txt"
 
@@ -71,8 +74,10 @@ SECTIONS = {
 @dataclass
 class Part:
     """A volume, a file or a section, and the parts inside it. The volume, the file's data or the section's body are the
-    `length` bytes at `offset` of `data`, which is the image or the contents of an opened section. A rejected volume has
-    its fault, and no parts. A packed section has its contents once it is opened, or the reason why it is not."""
+    `length` bytes at `offset` of `data`, which is the image or the contents of an opened section. All bytes and the
+    attributes of a file are as stored; a volume whose fixed files libfv rejects is read without their marks. A rejected
+    volume has its fault, and no parts. A packed section has its contents once it is opened, or the reason why it is
+    not."""
 
     what: str
     data: bytes
@@ -84,12 +89,29 @@ class Part:
     guid: uuid.UUID | None = None
     parts: list[Part] = field(default_factory=list)
     fault: Any = None
+    is_marked: bool = False
     opened: Opened | None = None
     closed: str = ""
 
     @property
     def body(self) -> bytes:
         return self.data[self.offset : self.offset + self.length]
+
+    @property
+    def plain(self) -> bytes:
+        """Returns the bytes of a volume without the marks of its fixed files, which libfv reads. Two bytes in the
+        header of each of these files are others; nothing moves."""
+        return bytes(fv.unfixed(self.body)) if self.is_marked else self.body
+
+    @property
+    def is_fixed(self) -> bool:
+        """Returns whether it is a file that is marked fixed."""
+        return self.what == "file" and bool(self.attributes & FIXED)
+
+    @property
+    def fixed(self) -> list[int]:
+        """Returns the offsets of the fixed files of a volume, from its first byte. (Superseded files are not parts.)"""
+        return [it.offset - it.header - self.offset for it in self.parts if it.is_fixed]
 
     @property
     def volume(self) -> Part | None:
@@ -180,6 +202,17 @@ def outside(data: bytes, start: int, volumes: list[Part]) -> list[Part]:
     return [Part("outside", data, at, end - at) for at, end in zip(starts, ends) if at < end]
 
 
+def tree_of(body: bytes) -> tuple[Any, bool]:
+    """Returns the tree of a volume, and whether the volume was read without the marks of its fixed files. Files of
+    nested volumes keep their marks, so a volume with such a file is rejected."""
+    try:
+        return fv.tree(body), False
+    except fv.Fault as fault:
+        if fault.number != FIXED_FILE or fault.depth:
+            raise
+    return fv.tree(fv.unfixed(body)), True
+
+
 def volume_guid(volume: Part) -> uuid.UUID | None:
     """Returns the name in the extended header of a volume, if it has one. Faults 1 to 9 are those of the headers."""
     if volume.fault and volume.fault.number < 10:
@@ -201,14 +234,16 @@ class Reader:
             raise Full(f"{most} bytes")
 
     def volumes(self, data: bytes | None = None, start: int = 0) -> list[Part]:
-        """Returns the volumes of the image, or of other data from an offset on."""
+        """Returns the volumes of the image, or of other data from an offset on. They may have fixed files."""
         data = self.image if data is None else data
-        return [self.volume(data, *place) for place in places(data, start)]
+        return [self.volume(data, *place, True) for place in places(data, start)]
 
-    def volume(self, data: bytes, offset: int, length: int) -> Part:
-        """Returns the volume at these bytes, with all parts inside it."""
+    def volume(self, data: bytes, offset: int, length: int, may_be_fixed: bool = False) -> Part:
+        """Returns the volume at these bytes, with all parts inside it. Unless its files may be fixed, a volume with
+        fixed files is rejected."""
+        body = data[offset : offset + length]
         try:
-            rows = fv.tree(data[offset : offset + length])
+            rows, is_marked = tree_of(body) if may_be_fixed else (fv.tree(body), False)
         except fv.Fault as fault:
             self.count(1)
             there = fv.Fault(fault.number, offset + fault.offset, fault.depth)
@@ -218,9 +253,13 @@ class Reader:
         for row in rows:
             what = fv.NodeWhat(row.what).name.lower()
             place = offset + row.offset, row.len
-            parts.append(Part(what, data, *place, row.kind, row.attributes, row.header_len, row.guid))
+            attributes = row.attributes
+            if what == "file":
+                attributes |= body[row.offset - row.header_len + ATTRIBUTES] & FIXED
+            parts.append(Part(what, data, *place, row.kind, attributes, row.header_len, row.guid))
             if row.parent is not None:
                 parts[row.parent].parts.append(parts[-1])
+        parts[0].is_marked = is_marked
         return parts[0]
 
     def core_sections(self, file: Part) -> list[Part]:

@@ -4,10 +4,11 @@
     fvmap.py IMAGE > map.html
     fvmap.py --against OLD IMAGE > map.html       also what came, went and changed since OLD
 
-The script runs `fvtool scan`, `list`, `cells`, `check` and `extract`, and needs only Python's standard library. The
-program opens no compressed section. The script opens LZMA data with Python's own module, and runs the program again on
-the contents. It is not proved. The texts of an image are not trusted: the page escapes them, and forbids scripts and
-anything from outside.
+The script runs `fvtool scan`, `list`, `cells`, `check`, `unfix` and `extract`, and needs only Python's standard
+library. The program opens no compressed section. The script opens LZMA data with Python's own module, and runs the
+program again on the contents. A volume with fixed files is drawn from the copy that `unfix` makes, and the page says
+how many files are fixed. The script is not proved. The texts of an image are not trusted: the page escapes them, and
+forbids scripts and anything from outside.
 
 Exit status 0: the page is written. 1: the program or a file cannot be used, or memory ran out, and nothing is written.
 3: the arguments are wrong."""
@@ -31,6 +32,7 @@ from pathlib import Path
 sys.dont_write_bytecode = True
 sys.path.insert(0, str(Path(__file__).resolve().parent.parent))
 
+import fvfixed  # noqa: E402
 import fvlines  # noqa: E402
 from fvlines import printable  # noqa: E402
 
@@ -105,6 +107,7 @@ SECTIONS = {
     0x1C: "MM depex",
 }
 # What a fault of a volume means. The header of a volume that is drawn has no fault, so faults 1 to 9 are of nested ones.
+# Fault 15 is too, since a volume's own fixed files are read.
 FAULTS = {
     1: "a nested volume is cut short",
     **dict.fromkeys(range(4, 9), "the header of a nested volume is damaged"),
@@ -114,7 +117,7 @@ FAULTS = {
     12: "the size of a file is wrong",
     13: "a large file in FFS2",
     14: "the data of a file are damaged",
-    15: "a file is marked fixed: it may not be moved",
+    15: "a file of a nested volume is marked fixed: it may not be moved",
     16: "its free space is not erased",
     17: "two files have the same name",
     18: "its volume top file is not at its end",
@@ -160,6 +163,11 @@ class File:
     mark: str = ""
     at: int | None = None
 
+    @property
+    def is_fixed(self) -> bool:
+        """Whether the file is marked fixed."""
+        return bool(int(self.attributes, 16) & fvfixed.FIXED)
+
 
 @dataclass
 class Inside:
@@ -201,6 +209,12 @@ class Volume:
     def sum_of(self, *whats: str) -> int:
         """The bytes of the cells of these kinds."""
         return sum(cell.length for cell in self.cells if cell.what in whats)
+
+    @property
+    def fixed(self) -> str:
+        """How many of the files are fixed, in words, or nothing if there are none."""
+        count = sum(file.is_fixed for file in self.files)
+        return f"{count} of {len(self.files)} files fixed" if count else ""
 
 
 @dataclass
@@ -290,16 +304,33 @@ def volumes_in(tool: Tool, data: bytes, depth: int = 0) -> list[Volume]:
     volumes = [Volume(at, length, number) for number, (at, length) in enumerate(places[:left])]
     tool.volumes += len(volumes)
     for volume in volumes:
-        read_volume(tool, path, volume, depth)
+        place = ["--at", str(volume.at)]
+        status, said = tool.text("cells", path, *place)
+        if status and said.startswith("fault 15 "):
+            read_fixed(tool, path, data, volume, depth)
+        else:
+            read_volume(tool, path, place, volume, depth, said if status == 0 else "")
     return volumes
 
 
-def read_volume(tool: Tool, path: str, volume: Volume, depth: int) -> None:
-    """Fills in what the program reports about a volume."""
-    place = ["--at", str(volume.at)]
-    status, said = tool.text("cells", path, *place)
-    if status == 0:
-        volume.cells = cells_of(said)
+def read_fixed(tool: Tool, path: str, data: bytes, volume: Volume, depth: int) -> None:
+    """Fills in what the program reports about a volume without the marks of its fixed files, and these marks."""
+    status, copy = tool.ask("unfix", path, "--at", str(volume.at))
+    if status:
+        volume.fault = copy.decode("ascii").rstrip("\n")
+        return
+    path = tool.keep(copy)
+    cells = tool.text("cells", path)[1]
+    read_volume(tool, path, [], volume, depth, cells)
+    fixed = fvfixed.names(data[volume.at : volume.at + volume.length], cells)
+    for file in volume.files:
+        if file.guid in fixed:
+            file.attributes = f"{int(file.attributes, 16) | fvfixed.FIXED:02x}"
+
+
+def read_volume(tool: Tool, path: str, place: list[str], volume: Volume, depth: int, cells: str) -> None:
+    """Fills in what the program reports about a volume. `cells` are the lines of `cells`, if it has them."""
+    volume.cells = cells_of(cells)
     status, said = tool.text("list", path, "--sums", *place)
     if status:  # without a canonical image there are no sums
         status, said = tool.text("list", path, *place)
@@ -680,11 +711,13 @@ class Page:
                     self.rows(inner, depth + 1)
 
     def verdict(self, volume: Volume) -> str:
-        """Returns the verdict on a volume: whether it is its own canonical image, or its fault."""
+        """Returns the verdict on a volume: whether it is its own canonical image, or its fault; and how many of its
+        files are fixed."""
         if volume.fault:
             return f'<span class="chip bad">{text(fault_of(volume.fault))}</span>'
         kind = "good" if volume.verdict == "canonical" else "fair"
-        return f'<span class="chip {kind}">{text(fault_of(volume.verdict))}</span>'
+        fixed = f' <span class="chip fair">{volume.fixed}</span>' if volume.fixed else ""
+        return f'<span class="chip {kind}">{text(fault_of(volume.verdict))}</span>{fixed}'
 
     def volume(self, volume: Volume, inside: str = "") -> None:
         """Adds a volume: its figures, where its parts are, how large its files are, and the volumes in them."""
@@ -769,7 +802,8 @@ class Page:
             mark = f' <span class="chip {file.mark}">{file.mark}</span>' if file.mark else ""
             bar = f'<i class="bar {self.color(color)}" style="width:{max(50 * file.size / most, 1):.0f}px"></i>'
             self.add(
-                f'<tr>{offset_cells(file.at)}<td class="name">{breakable(self.names.file(file))}{mark}<td>{text(kind)}'
+                f'<tr>{offset_cells(file.at)}<td class="name">{breakable(self.names.file(file))}{mark}'
+                f"<td>{text(kind)}{', fixed' * file.is_fixed}"
                 f'<td class="n" title="{file.size:,} bytes">{amount(file.size)}<td>{bar}'
                 f'<td class="long dim">{text(", ".join(parts))}<td class="mono dim">{text(file.guid)}</tr>'
             )
