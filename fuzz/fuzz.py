@@ -693,7 +693,7 @@ class Tool:
             status, out = self.start(words, files[0])
         else:
             status, out = self.start(words + files)
-        if is_text and status == 0 and command in ("normalise", "extract"):
+        if is_text and status == 0 and command in ("normalise", "unfix", "extract"):
             require(DIGITS.fullmatch(out), f"{words}: not lines of digits", out)
             out = bytes.fromhex(out.decode())
         return status, out
