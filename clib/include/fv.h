@@ -177,8 +177,8 @@ uint32_t fv_normalise_image(const uint8_t *image, size_t len, uint8_t *FV_RESTRI
 
 /* Writes the input volume to the first `len` bytes of the buffer, with none of its files marked as fixed. In the header
  * of each fixed file, bit 0x04 of the attributes is cleared, and 4 is added to the header checksum (modulo 256), so all
- * checksums stay right. Files that are marked for update are among these files. All other bytes are those of the input,
- * also those of pads, of deleted files and of nested volumes. A volume without fixed files is written as it is. The
+ * checksums stay right. Files that are marked for update are among these files. All other bytes are the same as in the
+ * input, also in pads, in deleted files and in nested volumes. A volume without fixed files is written as it is. The
  * calls that read the files of a volume reject one with fixed files (15), so pass them what this call writes. It is for
  * reading, comparing and archiving, and must not be flashed. Takes no memory.
  * Returns 0; the first fault of the header or of the cells, or 8 if bytes follow the volume: 1 to 16, but never 15;

@@ -140,7 +140,7 @@ def checks_have_faults(volume):
 
 
 def marks_are_taken_away(volume):
-    """A volume with a fixed file is read without the mark. What is returned is no part of what was passed."""
+    """A volume with a fixed file is read without the mark. The given bytes stay as they are."""
     at = 72
     marked = bytearray(volume)
     marked[at + 16], marked[at + 19] = (marked[at + 16] - 4) % 256, marked[at + 19] | 4

@@ -141,7 +141,7 @@ def check_unfixed(table, others):
     written as it is, or has the same fault as the cells, except that a file is fixed."""
     count = 0
     for name, words, result in map(rows.parts, table):
-        if name != "unfix" or words.startswith("'"):  # a volume at an offset, or text that is no bytes
+        if name != "unfix" or words.startswith("'"):  # a volume at an offset, or text that spells no bytes
             continue
         data, text = rows.spelled(words), result.partition(" ")[2]
         fault = re.fullmatch(r"fault (\d+) at (\d+)\|", text)

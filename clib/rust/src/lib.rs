@@ -265,7 +265,7 @@ pub fn normalise_image(image: &[u8]) -> Result<Vec<u8>, Fault> {
 /// the input.
 ///
 /// In the header of each fixed file, bit 0x04 of the attributes is cleared, and 4 is added to the
-/// header checksum (modulo 256). All other bytes are those of the input, so the files of nested
+/// header checksum (modulo 256). All other bytes are as in the input, so the files of nested
 /// volumes keep their marks. The functions that read the files of a volume reject one with fixed
 /// files, but read such a copy. The copy must not be flashed.
 ///
@@ -285,7 +285,7 @@ pub fn normalise_image(image: &[u8]) -> Result<Vec<u8>, Fault> {
 /// # Errors
 ///
 /// The first fault of the header or of the cells, or 8 if bytes follow the volume: 1 to 16, but
-/// never 15. 24 if there is no memory for the copy.
+/// never 15. 24 if memory for the copy ran out.
 pub fn unfixed(input: &[u8]) -> Result<Vec<u8>, Fault> {
     image(raw::fv_unfix, input)
 }

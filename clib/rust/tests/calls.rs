@@ -75,7 +75,7 @@ fn fixed_files_lose_their_marks() {
     let words = Words::new();
     for row in table("unfix", "") {
         let (name, given, wanted) = parts(&row);
-        // Other rows name a volume by its offset, or spell text that is no bytes.
+        // Other rows name a volume by its offset, or have text that spells no bytes.
         if name != "unfix" || given.starts_with('\'') {
             continue;
         }
