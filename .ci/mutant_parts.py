@@ -37,12 +37,15 @@ BY_TACTIC = re.compile(r"=\s*(?:λ[^.]*\.\s*)?(?:search|grind|omega|simp|cc)\b")
 @dataclasses.dataclass(frozen=True)
 class Function:
     """A function of a source: its lines, its path below the crate, and what is proved as one: itself, or the cycle that
-    it is in."""
+    it is in. `is_single` says whether a copy of it may stand beside it under another name: it is not in a cycle, nor in
+    a trait or an `impl` of a trait."""
 
+    file: str
     first: int
     last: int
     path: str
     unit: str
+    is_single: bool
 
 
 @dataclasses.dataclass(frozen=True)
@@ -185,14 +188,16 @@ def calls_itself(name: str, body: list[str], in_type: bool) -> bool:
 
 def functions(file: str, text: str, types: dict[str, list[str]]) -> list[Function]:
     """The functions of a source that have bodies, in their order."""
-    lines, found, holder, cycle, in_trait = text.split("\n"), [], "", "", False
+    lines, found, holder, cycle, in_trait, of_trait = text.split("\n"), [], "", "", False, False
     parts = module_of(file)
     for number, line in enumerate(lines):
         begins, is_cycle, holds = FUNCTION.match(line), CYCLE.match(line), HOLDER.match(line)
         if holds:
-            holder, in_trait = holder_of(" ".join(lines[number : number + 6])), holds[1] == "trait"
+            header = " ".join(lines[number : number + 6])
+            holder, in_trait = holder_of(header), holds[1] == "trait"
+            of_trait = in_trait or " for " in re.split(r"\bwhere\b|\{", header)[0]
         elif line.startswith("}"):
-            holder, in_trait = "", False
+            holder, in_trait, of_trait = "", False, False
         cycle = is_cycle[1] if is_cycle else cycle
         last = last_of(lines, number, begins[1], in_trait) if begins else None
         if begins and last is not None:
@@ -201,7 +206,8 @@ def functions(file: str, text: str, types: dict[str, list[str]]) -> list[Functio
             path = "::".join([*inside, begins[2]])
             alone = f"+{begins[2]}" if calls_itself(begins[2], lines[number + 1 : last + 1], in_type) else begins[2]
             unit = "::".join([*parts, f"+{cycle}"] if cycle else [*inside, alone])
-            found.append(Function(number, last, path, unit))
+            is_single = unit == path and not (begins[1] and of_trait)
+            found.append(Function(file, number, last, path, unit, is_single))
             cycle = ""
     return found
 
@@ -225,6 +231,55 @@ def changed(edit: Edit, texts: dict[str, str]) -> list[Function] | None:
             return None
         now = {**now, change.file: text.replace(change.old, change.new)}
     return list(found.values()) or None
+
+
+def copy_of(function: Function, suffix: str) -> Function:
+    """Returns the copy of a function whose name ends with a suffix."""
+    return dataclasses.replace(function, path=function.path + suffix, unit=function.unit + suffix)
+
+
+def with_copy(texts: dict[str, str], was: dict[str, str], function: Function, suffix: str, edit: Edit) -> dict[str, str]:
+    """Returns texts with a changed copy of a function behind it, under its name and a suffix, and with a copy of its
+    proof. The function is copied as it was, and imports are changed where they are."""
+    lines, name = was[function.file].split("\n"), function.path.rpartition("::")[2]
+    first = function.first
+    while first and lines[first - 1].strip().startswith("#["):
+        first -= 1
+    body, found = "\n".join(lines[first : function.last + 1]), dict(texts)
+    for change in edit.changes:
+        if change.file == function.file and change.old in body:
+            body = body.replace(change.old, change.new)
+        else:
+            found[change.file] = found[change.file].replace(change.old, change.new)
+    body = re.sub(rf"\bfn {name}\b", f"fn {name}{suffix}", body, count=1)
+    text = found[function.file]
+    here = next(it for it in functions(function.file, text, homes(was)) if it.path == function.path)
+    lines = text.split("\n")
+    found[function.file] = "\n".join([*lines[: here.last + 1], "", body, *lines[here.last + 1 :]])
+    folder = f"proofs/{function.unit.replace('::', '/')}"
+    module = re.compile(rf"(?<=\.proofs\.){re.escape(function.unit.replace('::', '.'))}(?![\w-])")
+    for file in [it for it in was if it.startswith(f"{folder}/")]:
+        found[folder + suffix + file.removeprefix(folder)] = module.sub(lambda it: it[0] + suffix, was[file])
+    return found
+
+
+def stubbed(texts: dict[str, str], units: set[str]) -> dict[str, str]:
+    """Returns texts in which the bodies of some functions do nothing. Such a function still has its contract, and its
+    theorem is given. A constant may need what a `const` function returns, and a cycle is known by its calls, so these
+    functions stay as they are."""
+    found = dict(texts)
+    for file in [it for it in texts if it.startswith("src/")]:
+        lines, text = texts[file].split("\n"), list[str]()
+        at = 0
+        for it in functions(file, texts[file], homes(texts)):
+            indent = " " * (len(lines[it.first]) - len(lines[it.first].lstrip()))
+            heads = [it.first, *(n for n in range(it.first, it.last) if lines[n].startswith((f"{indent}{{", f"{indent})")))]
+            begin = next((n for n in heads if lines[n].endswith("{")), it.last)
+            if it.unit in units and it.unit == it.path and begin < it.last and " const fn " not in f" {lines[it.first]}":
+                text += [*lines[at : begin + 1], f"{indent}    loop {{}}"]
+                at = it.last
+        found[file] = "\n".join([*text, *lines[at:]])
+    return found
 
 
 def answers(text: str) -> dict[str, tuple[int, int]]:
