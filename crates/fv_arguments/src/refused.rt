@@ -1,4 +1,4 @@
-//! What is wrong with rejected arguments, for a person.
+//! Explains to a person why arguments are rejected.
 
 ghost use Rattle.fv_arguments.specs.CommandLines.{AreRight};
 ghost use Rattle.std.specs.String.{string_bytes};
