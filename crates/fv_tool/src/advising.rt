@@ -48,7 +48,7 @@ fn explain_silence<P: Process>(alloc: Global, process: &P) {
 /// Explains to the person at the terminal, if there is one, how a run ended: the fault that stopped
 /// it, a failed write, what is wrong with its arguments, or that it found no volume.
 pub fn advise<P: Process>(alloc: Global, process: &P, ending: Ending, is_written: bool) {
-    if !process.is_heard() {
+    if !process.is_at_terminal() {
         return;
     }
     if let Some(refusal) = ending.refusal {

@@ -46,8 +46,8 @@ pub trait Process {
     fn standard_output(&self) -> Self::Writer
         ensures { is_output self.now result };
 
-    /// Returns whether a person at a terminal sees the messages of `advise`.
-    fn is_heard(&self) -> bool;
+    /// Returns whether standard error is a terminal, so that a person sees the messages.
+    fn is_at_terminal(&self) -> bool;
 
     /// Shows the message to the person at the terminal, if there is one. It is not part of the
     /// result of the run: if it cannot be shown, nothing changes.
@@ -61,9 +61,8 @@ pub trait Process {
     fn not_text(&self) -> Option<usize>;
 }
 
-// The environment of a runtime, in which the program's name, the first argument, is empty. The name
-// of the program is the only argument that its user does not choose, and it need not be UTF-8: it
-// may be a path through any folder.
+// The environment of a runtime, except that the first argument, the program's name, is empty. The
+// name may be a path through any folder, so it need not be UTF-8, and nothing depends on it.
 #[derive(Drop)]
 struct Unnamed<'r, R> {
     rt: &'r R,
@@ -185,7 +184,7 @@ impl<'r, R: Env + Print + AllocGlobal> Process for Host<'r, R> {
         Output::new(io::writer(self.rt), self.wrote)
     }
 
-    fn is_heard(&self) -> bool {
+    fn is_at_terminal(&self) -> bool {
         self.errors.is_terminal()
     }
 
