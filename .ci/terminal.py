@@ -16,6 +16,15 @@ from pathlib import Path
 PROGRAM = "crates/fv_tool/out/fv_tool"
 VOLUME = "crates/fv_tool/stdin"
 READING = "fvtool: reading standard input\n"
+MORE = """\
+man fvtool explains these commands
+fv-same A B: are two images the same firmware? fv-unpack IMAGE FOLDER: what is in an image?
+"""
+NO_VOLUME = """\
+fvtool: no volume was found (man fvtool)
+Byte 40 of a volume begins the text _FVH: if LC_ALL=C grep -abo _FVH FILE shows N:_FVH,
+try fvtool list --at M FILE, where M is N - 40
+"""
 
 
 @dataclasses.dataclass
@@ -42,17 +51,63 @@ def meaning(sentence: str) -> str:
     return f"fvtool: {sentence} (man fvtool)\n"
 
 
+def wrong(words: list[str], sentence: str) -> Case:
+    """The run of arguments that are wrong for the reason in the sentence."""
+    return Case(words, 3, "wrong words\n", f"fvtool: {sentence}\n{synopsis()}{MORE}")
+
+
+def wrong_cases() -> list[Case]:
+    """Runs with wrong arguments: each kind of argument and of value that can be wrong, and what is missing."""
+    guid = "0" * 32
+    return [
+        wrong(["lists"], "unknown command 'lists'"),
+        wrong(["normalize"], "unknown command 'normalize'"),
+        wrong(["--help"], "unknown command '--help'"),
+        wrong(["list", "--help"], "there is no help text"),
+        wrong(["list", "--sum"], "unexpected argument '--sum' found"),
+        wrong(["list", "a", "b"], "unexpected argument 'b' found"),
+        wrong(["list", "--at"], "a value is required for '--at <at>' but none was supplied"),
+        wrong(["list", "--at", "1", "--at=2"], "the argument '--at <at>' cannot be used multiple times"),
+        wrong(["list", "--hex=a"], "unexpected value 'a' for '--hex' found; no more were expected"),
+        wrong(["list", "--at", "0X10"], "invalid value '0X10' for '--at'"),
+        wrong(["list", "--at", "0x10", "--\x1b[31m\n\u202e"], r"unexpected argument '--\u{1b}[31m\n\u{202e}' found"),
+        wrong(["list", "--at", "\x1b[31m"], r"invalid value '\u{1b}[31m' for '--at'"),
+        wrong(["\x1b[31m"], r"unknown command '\u{1b}[31m'"),
+        wrong(["compare", "--other-at", "0x", "a", "b"], "invalid value '0x' for '--other-at'"),
+        wrong(["compare", "a"], "two files are needed"),
+        wrong(["extract"], "'--name' is missing"),
+        wrong(["extract", "--name", "a"], "invalid value 'a' for '--name'"),
+        wrong(["extract", "--name", guid, "--section", "0x10"], "invalid value '0x10' for '--section'"),
+        wrong(["extract", "--name", guid, "--instance", "0x1"], "invalid value '0x1' for '--instance'"),
+        wrong(["hobs", "--image", "a", "--base", "0x10"], "invalid value '0x10' for '--base'"),
+        wrong(["hobs", "--image", "a"], "'--image' and '--base' must be given together"),
+        wrong(["check", "--all", "--at", "0"], "'--all' and '--at' cannot be given together"),
+        wrong(["list", "\udcff"], "argument 2 is not UTF-8"),
+    ]
+
+
+def unopened(name: str) -> str:
+    return f"fvtool: {name}: cannot be opened\n"
+
+
 def cases(short: str) -> list[Case]:
     """The runs. `short` is the name of a file of three bytes."""
     cut, unread = "the bytes end before the volume does", "the input cannot be read, or is not hexadecimal text"
     listed = "volume ffs2 length 128 files 0\n"
     volume = Path(VOLUME).read_text(encoding="ascii")
     return [
-        Case(["lists"], 3, "wrong words\n", synopsis()),
-        Case(["--help"], 3, "wrong words\n", synopsis()),
+        *wrong_cases(),
         Case(["list", short], 2, "fault 1 at 3\n", meaning(cut)),
-        Case(["normalise", "/missing"], 2, "fault 25 at 0\n", meaning(unread)),
-        Case(["compare", "--hex", VOLUME, "/missing"], 2, "second fault 25 at 0\n", meaning(unread)),
+        Case(["normalise", "/missing"], 2, "fault 25 at 0\n", unopened("/missing") + meaning(unread)),
+        Case(["compare", "--hex", VOLUME, "/missing"], 2, "second fault 25 at 0\n", unopened("/missing") + meaning(unread)),
+        Case(["compare", "/missing", "/also"], 2, "first fault 25 at 0\n", unopened("/missing") + unopened("/also") + meaning(unread)),
+        Case(["list", "/\x1b[31m"], 2, "fault 25 at 0\n", unopened(r"/\u{1b}[31m") + meaning(unread)),
+        Case(["list", "/"], 2, "fault 25 at 0\n", "fvtool: /: is a folder\n" + meaning(unread)),
+        Case(["scan", short], 0, "", NO_VOLUME),
+        Case(["check", "--all", short], 0, "", NO_VOLUME),
+        Case(["scan"], 0, "", NO_VOLUME),
+        Case(["normalise", "--all", os.devnull], 0, "", ""),
+        Case(["scan", "--hex", VOLUME], 0, "volume at 0 length 128\n", ""),
         Case(["hobs", short], 2, "hob fault 1 at 0\n", meaning("a block is cut short")),
         Case(["list", "--hex", VOLUME], 0, listed, ""),
         Case(["extract", "--hex", "--name", "0" * 32, VOLUME], 1, "not found\n", ""),
@@ -155,7 +210,7 @@ def tries(short: str) -> list[tuple[str, object, object]]:
     """What is run, how it ends, and how it should."""
     found: list[tuple[str, object, object]] = []
     for case in cases(short):
-        name, bare = " ".join(case.words), (case.status, case.written)
+        name, bare = ascii(" ".join(case.words)), (case.status, case.written)
         found.append((f"{name}, at a terminal", run_at_terminal(case), (*bare, case.said)))
         found.append((f"{name}, with a pipe", run_elsewhere(case, True), (*bare, "")))
         found.append((f"{name}, with a file", run_elsewhere(case, False), (*bare, "")))
@@ -165,6 +220,7 @@ def tries(short: str) -> list[tuple[str, object, object]]:
     full = os.open("/dev/full", os.O_WRONLY)
     unwritten = (2, meaning("the output cannot be written"))
     found.append(("a full device", shown_of(["list", "--hex", VOLUME], full), unwritten))
+    found.append(("a fault, with a full device", shown_of(cut, full), (2, meaning("the bytes end before the volume does") + unwritten[1])))
     os.close(full)
     for is_gone in (True, False):
         found.append((f"a terminal that hears nothing, gone: {is_gone}", run_unheard(cut, is_gone), (2, "fault 1 at 3\n")))

@@ -49,7 +49,7 @@ fn file_of(
 }
 
 // Reads a decimal number, which may have a plus before it.
-fn decimal(text: &str) -> Result<u64, WordFault>
+pub(crate) fn decimal(text: &str) -> Result<u64, WordFault>
     ensures { Reads (IsNumberWord 64 text.now) result }
 {
     match text.parse() {
@@ -72,7 +72,7 @@ fn hexadecimal(digits: &str) -> Result<u64, WordFault>
 }
 
 // Reads the byte at which a volume begins: a decimal number, or `0x` and hexadecimal digits.
-fn place(text: &str) -> Result<u64, WordFault>
+pub(crate) fn place(text: &str) -> Result<u64, WordFault>
     ensures { Reads (IsPlaceWord text.now) result }
 {
     match text.strip_prefix("0x") {
@@ -181,7 +181,7 @@ fn hobs(alloc: Global, matches: &ArgMatches<'_>) -> Result<Command, WordFault>
 
 // Reads a section type: one or two hexadecimal digits, in upper or lower case. Returns None if the
 // text is anything else.
-fn section_type(text: &str) -> Option<u8>
+pub(crate) fn section_type(text: &str) -> Option<u8>
     ensures { SomeIff result (IsNumeral 16 text.now × (length text.now ≤ 2)) (digits_value 16 text.now) }
 {
     if text.len() > 2 || text.starts_with('+') {
@@ -207,7 +207,7 @@ fn section_of(text: Option<&str>) -> Result<Option<u8>, WordFault>
 }
 
 // Reads the name of a file, which is a GUID and must be given.
-fn name_of(text: Option<&str>) -> Result<Guid, WordFault>
+pub(crate) fn name_of(text: Option<&str>) -> Result<Guid, WordFault>
     ensures { Reads (λ name. option_and_then guid_read (option_map (λ s. s.now) text.entry) ≡ Some name) result }
 {
     let Some(text) = text else {
@@ -220,7 +220,7 @@ fn name_of(text: Option<&str>) -> Result<Guid, WordFault>
 }
 
 // Reads which of the sections with the same type is meant: the first if no number is given.
-fn instance_of(text: Option<&str>) -> Result<u32, WordFault>
+pub(crate) fn instance_of(text: Option<&str>) -> Result<u32, WordFault>
     ensures { Reads (IsInstanceWord (option_map (λ s. s.now) text.entry)) result }
 {
     let Some(text) = text else {

@@ -7,12 +7,17 @@ ghost use Rattle.std.specs.Vec.Iter.{into_iter_items};
 ghost use Rattle.std.specs.declared.io.ErrorKind.{ErrorKind};
 
 use crate::advice::Advice;
+use crate::output::Output;
 use fv_command::Opener;
-use std::env::Args;
+use std::cell::Cell;
+use std::env::{Args, FillError};
 use std::fs::OpenFile;
-use std::io::{IsTerminal, Printer, Stderr, Stdin, Write};
+use std::io::{IsTerminal, Stderr, Stdin, Write};
 use std::rt::{Env, Files};
-use std::{env, fs, io};
+use std::{env, fs, io, str};
+
+/// The directory that is opened only to occupy file descriptors, so that no message is about it.
+pub const HELD: &str = "/.";
 
 /// A process: its arguments and its standard output.
 pub trait Process {
@@ -28,11 +33,11 @@ pub trait Process {
     /// The writer is standard output.
     ghost is_output: { Self → Self.Writer → Type 0 };
 
-    /// Returns the arguments.
+    /// Returns the arguments. The first one, the program's name, may be replaced by another text.
     ///
     /// # Errors
     ///
-    /// OutOfMemory. Another error, if an argument is not UTF-8.
+    /// OutOfMemory. Another error, if an argument after the first is not UTF-8.
     fn arguments(&self) -> io::Result<Args>
         ensures ok { IfOk result (λ arguments. has_arguments self.now (into_iter_items arguments)) }
         ensures err { IfErr result (λ error. denies_arguments self.now (error_kind error)) };
@@ -41,30 +46,88 @@ pub trait Process {
     fn standard_output(&self) -> Self::Writer
         ensures { is_output self.now result };
 
+    /// Returns whether standard error is a terminal, so that a person sees the messages.
+    fn is_at_terminal(&self) -> bool;
+
     /// Shows the message to the person at the terminal, if there is one. It is not part of the
     /// result of the run: if it cannot be shown, nothing changes.
-    fn advise(&self, advice: Advice);
+    fn advise(&self, advice: Advice<'_>);
+
+    /// Returns whether standard output was asked to write any bytes. Only messages depend on it.
+    fn has_written(&self) -> bool;
+
+    /// Returns the number of the first argument that is not UTF-8, if it has at most 1024 bytes.
+    /// The program's name, which is not looked at, has the number 0. Only messages depend on it.
+    fn not_text(&self) -> Option<usize>;
+}
+
+// The environment of a runtime, except that the first argument, the program's name, is empty. The
+// name may be a path through any folder, so it need not be UTF-8, and nothing depends on it.
+#[derive(Drop)]
+struct Unnamed<'r, R> {
+    rt: &'r R,
+}
+
+impl<R: Env> Env for Unnamed<'_, R> {
+    fn arg(&self, i: usize, buf: &mut [u8]) -> Result<usize, FillError> {
+        if i == 0 {
+            return Ok(0);
+        }
+        self.rt.arg(i, buf)
+    }
+
+    fn var(&self, name: &str, buf: &mut [u8]) -> Result<usize, FillError> {
+        self.rt.var(name, buf)
+    }
+
+    fn var_at(&self, i: usize, buf: &mut [u8]) -> Result<usize, FillError> {
+        self.rt.var_at(i, buf)
+    }
 }
 
 /// The process of a runtime.
 #[derive(Drop)]
 pub struct Host<'r, R> {
     rt: &'r R,
+    wrote: &'r Cell<bool>,
     input: Stdin,
     errors: Stderr,
 }
 
 impl<'r, R> Host<'r, R> {
-    /// Returns the process of this runtime, with its standard input and standard error.
-    pub fn new(rt: &'r R, input: Stdin, errors: Stderr) -> Host<'r, R> {
-        Host { rt, input, errors }
+    /// Returns the process of this runtime, with its standard input and standard error, and a cell
+    /// for the mark of its standard output.
+    pub fn new(rt: &'r R, wrote: &'r Cell<bool>, input: Stdin, errors: Stderr) -> Host<'r, R> {
+        Host {
+            rt,
+            wrote,
+            input,
+            errors,
+        }
     }
 
     // Writes the message to standard error, if that is a terminal. If the message cannot be
     // written, nothing changes.
-    fn write_to_terminal(&self, advice: Advice) {
+    fn write_to_terminal(&self, advice: Advice<'_>) {
         if self.errors.is_terminal() {
             let _ = self.errors.eprintln(advice);
+        }
+    }
+}
+
+impl<'r, R: Files> Host<'r, R> {
+    // Names a file that cannot be opened, and a folder, which can be opened but not read.
+    fn explain_file(&self, path: &str, file: &Option<R::File>) {
+        if path == HELD {
+            return;
+        }
+        let Some(file) = file else {
+            self.write_to_terminal(Advice::NotOpened(path));
+            return;
+        };
+        match file.metadata() {
+            Ok(found) if found.is_dir() => self.write_to_terminal(Advice::IsFolder(path)),
+            _ => {}
         }
     }
 }
@@ -81,7 +144,9 @@ impl<'r, R: Files + Input> Opener for Host<'r, R> {
     ghost is_standard = { λ _ _. ⊤ };
 
     fn file_at(&self, path: &str) -> Option<R::File> {
-        fs::open(self.rt, path).ok()
+        let file = fs::open(self.rt, path).ok();
+        self.explain_file(path, &file);
+        file
     }
 
     fn standard_input(&self) -> R::Reader {
@@ -103,7 +168,7 @@ impl<'r, R: Files + Input> Opener for Host<'r, R> {
 /// The arguments and the standard output of the process. No clause says which they are, because the
 /// standard library states nothing about them. Each method only calls that library.
 impl<'r, R: Env + Print + AllocGlobal> Process for Host<'r, R> {
-    type Writer = Printer<'r, R>;
+    type Writer = Output<'r, R>;
 
     ghost has_arguments = { λ _ _. ⊤ };
 
@@ -112,14 +177,34 @@ impl<'r, R: Env + Print + AllocGlobal> Process for Host<'r, R> {
     ghost is_output = { λ _ _. ⊤ };
 
     fn arguments(&self) -> io::Result<Args> {
-        env::args(self.rt)
+        env::args(&(Unnamed { rt: self.rt }, self.rt.alloc()))
     }
 
-    fn standard_output(&self) -> Printer<'r, R> {
-        io::writer(self.rt)
+    fn standard_output(&self) -> Output<'r, R> {
+        Output::new(io::writer(self.rt), self.wrote)
     }
 
-    fn advise(&self, advice: Advice) {
+    fn is_at_terminal(&self) -> bool {
+        self.errors.is_terminal()
+    }
+
+    fn advise(&self, advice: Advice<'_>) {
         self.write_to_terminal(advice);
+    }
+
+    fn has_written(&self) -> bool {
+        self.wrote.get()
+    }
+
+    fn not_text(&self) -> Option<usize> {
+        let mut buf = [0u8; 1024];
+        for i in 1..usize::MAX {
+            match self.rt.arg(i, &mut buf) {
+                Ok(n) if str::from_utf8(&buf[..n]).is_err() => return Some(i),
+                Err(FillError::NotPresent) => return None,
+                _ => {}
+            }
+        }
+        None
     }
 }

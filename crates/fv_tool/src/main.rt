@@ -16,14 +16,17 @@ ghost use Rattle.std.specs.Process.{exit_status};
 ghost use Rattle.std.specs.Vec.Iter.{into_iter_items};
 
 mod advice;
+mod advising;
 mod host;
+mod output;
 
-use crate::advice::Advice;
-use crate::host::{Host, Process};
+use crate::advising::advise;
+use crate::host::{HELD, Host, Process};
 use fv_arguments::{WordFault, parse_words};
 use fv_base::{Fault, FaultKind, Port};
 use fv_command::{Ending, Opener, Refusal, Status, refuse, run_over, say};
 use std::alloc::Global;
+use std::cell::Cell;
 use std::env::Args;
 use std::io::Write;
 use std::process::ExitCode;
@@ -106,9 +109,9 @@ fn run_given<O: Opener, W: Write>(
 // directory fail, like reads and writes of a closed descriptor.
 fn hold_numbers<O: Opener>(opener: &O) -> (Option<O::File>, Option<O::File>, Option<O::File>) {
     (
-        opener.file_at("/"),
-        opener.file_at("/"),
-        opener.file_at("/"),
+        opener.file_at(HELD),
+        opener.file_at(HELD),
+        opener.file_at(HELD),
     )
 }
 
@@ -137,15 +140,8 @@ fn exit_with(status: Status) -> ExitCode
     ExitCode::from(status.code())
 }
 
-// Shows the message about how the run ended to the person at the terminal, if there is one.
-fn advise<P: Process>(process: &P, ending: Ending) {
-    if let Some(advice) = Advice::of(ending) {
-        process.advise(advice);
-    }
-}
-
-// Runs the plan that the arguments of a process ask for, and shows a message at a terminal about
-// how the run ended. Returns the exit code for the status with which the run ended, and the output.
+// Runs the plan that the arguments of a process ask for, and explains at a terminal how the run
+// ended. Returns the exit code for the status with which the run ended, and the output.
 // The last call to the output was a flush, unless the status is Refused and a call to the output
 // has failed. This holds for any process: whatever its arguments are, whatever opens its files, and
 // wherever it writes.
@@ -161,12 +157,16 @@ fn process<P: Opener + Process>(alloc: Global, process: &P) -> (ExitCode, Port<P
         × (has_erred result.1 ≡ false → is_flushed result.1 ≡ true) }
 {
     let (ending, output) = run_process(alloc, process);
-    advise(process, ending);
+    advise(alloc, process, ending, !output.erred());
     (exit_with(ending.status), output)
 }
 
 // Runs the plan that the arguments ask for, and ends with the exit code for the status. The
 // compiler accepts no clause on `main`, so it is a single expression.
 fn main(rt: HostRuntime) -> ExitCode {
-    process(rt.alloc(), &Host::new(&rt, rt.stdin(), rt.stderr())).0
+    process(
+        rt.alloc(),
+        &Host::new(&rt, &Cell::new(false), rt.stdin(), rt.stderr()),
+    )
+    .0
 }
