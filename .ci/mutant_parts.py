@@ -60,13 +60,15 @@ class Change:
 @dataclasses.dataclass(frozen=True)
 class Edit:
     """A wrong body: its changes, and the goal that has to stay open. `of` is the function of that goal, if the line
-    names it. `also` are other goals of the function that the edit opens, which need not be tried."""
+    names it. `also` are other goals of the function that the edit opens, which need not be tried. `is_bare` says that
+    the goal is tried without its answer."""
 
     path: pathlib.Path
     changes: tuple[Change, ...]
     goal: str
     of: str
     also: tuple[str, ...] = ()
+    is_bare: bool = False
 
     @property
     def name(self) -> str:
@@ -108,7 +110,7 @@ class Report:
 
 def read_edit(path: pathlib.Path) -> Edit:
     """Reads an edit. A line that belongs to no change is passed over, as `rt must-fail` does."""
-    file, old, goal, of, also, changes = "", "", "", "", "", list[Change]()
+    file, old, goal, of, also, is_bare, changes = "", "", "", "", "", False, list[Change]()
     for line in path.read_text(encoding="utf-8").split("\n"):
         if line.startswith("file: "):
             file = line[6:].strip()
@@ -120,7 +122,8 @@ def read_edit(path: pathlib.Path) -> Edit:
             of, _, goal = line[6:].rpartition(" ")
         elif line.startswith("also: "):
             also = line[6:]
-    return Edit(path, tuple(changes), goal, of, tuple(also.split()))
+        is_bare = is_bare or line == "answer: none"
+    return Edit(path, tuple(changes), goal, of, tuple(also.split()), is_bare)
 
 
 def applied(changes: tuple[Change, ...], texts: dict[str, str]) -> dict[str, str] | None:
