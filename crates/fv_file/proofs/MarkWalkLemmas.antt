@@ -10,7 +10,7 @@ use Rattle.fv_base.specs.declared.fault.FaultKind.TheVariants as kinds
 use Rattle.fv_file.specs.Words.{CellForm, Tiles, cell_len, IsFirstCellFault, unmarked, Unmarks}
 use Rattle.fv_file.specs.inner.CellVerdicts.{cell_verdict}
 use Rattle.fv_file.specs.inner.MarkSteps.{OneMarkLess}
-use Rattle.fv_file.proofs.UnmarkLemmas.{Unmarked, one_less, one_further, stopped, at_end}
+use Rattle.fv_file.proofs.UnmarkLemmas.{Unmarked, MarkStep, unmarked_begins, one_less, one_further, stopped, at_end}
 use Rattle.fv_file.proofs.MarkedFileLemmas.{drop-unmarked}
 
 -- the marks up to a place are taken away in `less`, which has the same bytes as the body from there on
@@ -22,16 +22,7 @@ pub record Walked (s : FileSystem) (p : Polarity) (first : ℕ) (body : List ℕ
 pub walk_begins : (s : FileSystem) (p : Polarity) (first : ℕ) (body : List ℕ) → Walked s p first body 0
 walk_begins s p first body = record {
   less = body;
-  so_far = record {
-    places = [];
-    marks = refl;
-    same_length = refl;
-    cells = [];
-    tiled = refl;
-    none_free = tt;
-    multiple = refl;
-    inside = omega arith;
-  };
+  so_far = unmarked_begins s p first body;
   same = refl;
 }
 
@@ -45,11 +36,7 @@ module _ (s : FileSystem) (p : Polarity) (first : ℕ) (body : List ℕ) (at : �
   module _ (used : (at < length body) × (AllAre (erased_byte p) (drop at body) → ⊥)) (b : List ℕ)
       (step : OneMarkLess s p (first + at) (drop at body) b) where
     -- the body with one mark less, or as many
-    abbrev Step : List ℕ → Type 0
-    Step new =
-        (new ≡ k.less) ⊎ ((cell_verdict s p (first + at) (drop at k.less) ≡ Err (outer_fault kinds.Fixed (first + at + 19))) × (new ≡ unmarked at k.less))
-
-    stepped : OneMarkLess s p (first + at) (drop at body) b → (new : List ℕ) × Step new × (drop at new ≡ b)
+    stepped : OneMarkLess s p (first + at) (drop at body) b → (new : List ℕ) × MarkStep s p first k.less new at × (drop at new ≡ b)
     stepped (inl e) = (k.less, inl refl, k.same ∙ sym e)
     stepped (inr (is, e)) = (
       unmarked at k.less,
