@@ -3,7 +3,7 @@ use Rattle.std.proofs.Common.{◌≡◌, ℕ, ◌+◌, ◌-◌, ◌≤◌, List,
 use Rattle.std.specs.Prelude.{◌≢◌, Option, None, Some}
 use Rattle.std.proofs.lemmas.List.{length-append, length-take-le, length-drop, take-append-drop, take-append-le, take_all}
 use Rattle.std.proofs.lemmas.List.{drop-drop, drop-take}
-use Rattle.fv_base.specs.Words.{First, IsFirstFault, field, le, le_at}
+use Rattle.fv_base.specs.Words.{First, field, le, le_at}
 use Rattle.fv_base.specs.declared.fault.Fault.{Fault}
 use Rattle.fv_base.specs.declared.fault.FaultKind.TheVariants as kinds
 use Rattle.fv_base.proofs.Laws.{take-take_le, field-take, none_faulty, not_first}
