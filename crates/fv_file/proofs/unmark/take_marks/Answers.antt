@@ -1,9 +1,9 @@
-use Rattle.std.proofs.Common.{◌≡◌, ◌+◌, ◌<◌, ◌≤◌, ◌∙◌, ap, arith, drop, length, subst, sym}
+use Rattle.std.proofs.Common.{◌≡◌, ◌+◌, ◌<◌, ◌≤◌, ◌∙◌, arith, drop, length, subst, sym}
 use Rattle.std.specs.Prelude.{Ok}
 use Rattle.fv_file.specs.Words.{CellForm}
 use Rattle.fv_file.specs.inner.CellVerdicts.{cell_verdict}
-use Rattle.fv_file.proofs.BodyLemmas.{rest_free, rest_used}
-use Rattle.fv_file.proofs.UnmarkLemmas.{Unmarked, at_end, cell_long, one_less, stepped_over, unmarked_begins, unmarked_cell}
+use Rattle.fv_file.proofs.BodyLemmas.{all_kept, rest_free, rest_used}
+use Rattle.fv_file.proofs.UnmarkLemmas.{Unmarked, cell_long, one_further, one_less, stands_unmarked, stride_len, unmarked_begins, unmarked_cell}
 use Rattle.fv_file.proofs.unmark.take_marks.Goals.{After-unmark_at, After-stride_at-at}
 use Rattle.fv_file.proofs.unmark.take_marks.Goals as goal
 
@@ -22,8 +22,10 @@ further : (c : After-stride_at-at)
     × (0 < c.stride_at-at.result) × (c.loop-system.at + c.stride_at-at.result ≤ length c.unmark_at.new.body)
 further c =
     let k = here (goal.at.loop-system-preserved c).After-unmark_at in
-    stepped_over _ _ _ _ c.unmark_at.new.body _ _ k.1.0 c.requires.multiple k.0 k.1.1
-    (λ x behind e is free. c.stride_at-at.ensures.cell _ _ x behind (c.bytes_from-in-loop-system.ensures ∙ e) is free)
+    let stands = stands_unmarked _ _ _ _ c.unmark_at.new.body _ _ c.requires.multiple k.0 k.1.1 in
+    one_further _ _ _ _ c.unmark_at.new.body _ _ _ k.0 stands
+    (stride_len _ _ _ _ _ _ stands (λ x behind e is free.
+    c.stride_at-at.ensures.cell _ _ x behind (c.bytes_from-in-loop-system.ensures ∙ e) is free))
 
 pub loop-system-init : goal.loop-system-init
 loop-system-init c = unmarked_begins _ _ _ _
@@ -47,6 +49,6 @@ returns c =
     let k = c.loop-system.invariant in (
       k.places,
       k.marks,
-      at_end _ _ _ _ _ _ k
+      all_kept _ _ _ _ _ _ k.upto
           (rest_free _ _ c.loop-system.body c.loop-system.at c.bytes_from.ensures (sym c.is_free.ensures ∙ c.loop-system-test.false)),
     )
