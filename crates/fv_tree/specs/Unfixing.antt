@@ -22,9 +22,8 @@ abbrev pub IsUnfixed : List ℕ → List ℕ → Type 0
 IsUnfixed b o =
     (e : Extent) × (body : List ℕ) × Unfixes e b o body × ((cells : List CellForm) × BeginsTiled e cells o)
 
--- the marks cannot be taken away from b, and this is the first fault: the first fault of the header; or the first fault
--- of the volume's body, which is not Fixed, after the marks of the fixed files whose fault Fixed came before it were taken
--- away
+-- because of this fault the marks of b cannot be taken away: it is the first fault of the header; or it is the first fault
+-- of the volume's body without the marks before it, and it is not Fixed
 abbrev pub UnfixStops : List ℕ → Fault → Type 0
 UnfixStops b f =
     IsFirstFault (head_checks b) f
