@@ -1,4 +1,4 @@
-use Rattle.std.proofs.Common.{◌∙◌, ap, subst, sym}
+use Rattle.std.proofs.Common.{◌∙◌, subst, sym}
 use Rattle.fv_tree.proofs.Laws.{whole_kept}
 use Rattle.fv_tree.specs.Words.{IsUnfixed}
 use Rattle.fv_command.proofs.unfix_run.unfixed.Goals as goal
