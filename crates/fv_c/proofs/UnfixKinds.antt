@@ -58,15 +58,15 @@ not_fixed f (inr fixed) other = absurd (other fixed)
 
 kept : (input : List ℕ) (f : Fault) → IsFirstOfMarked input f → IsKept f
 unfolding is_kept
-kept input f (inl head) = fails_among First IsKept (head_checks input) f (head_kinds input) head
-kept input f (inr (inl (o, (e, body, u, fault, other)))) =
+kept input f (inl (inl head)) = fails_among First IsKept (head_checks input) f (head_kinds input) head
+kept input f (inl (inr (e, o, body, u, fault, other))) =
     let r : List ℕ = drop fault.at body in
     not_fixed f
     (fails_among First IsOfCell (cell_checks e.file_system e.polarity (e.first + fault.at) r) f
     (cell_kinds e.file_system e.polarity (e.first + fault.at) r) fault.fails) other
-kept input f (inr (inr (unfixed, (h, e, front, less, is)))) = subst IsKept (sym is) refl
+kept input f (inr (unfixed, (h, e, front, less, is))) = subst IsKept (sym is) refl
 
--- the number is at most 16, and not that of Fixed
+-- the number is at most 16, and not 15, the number of Fixed
 pub kept_number : (input : List ℕ) (f : Fault) → IsFirstOfMarked input f → (fault_number f.kind ≤ 16) × (fault_number f.kind ≢ 15)
 unfolding is_kept
 kept_number input f first =

@@ -24,9 +24,9 @@ fn put_unfixed(input: &[u8], buffer: &mut [u8])
 
 /// Writes a volume, which is the whole input, without the marks of its fixed files to the start of
 /// the buffer: in the header of each such file, bit 0x04 of the attributes is cleared and 4 is
-/// added to the header checksum (modulo 256). All other bytes are those of the input, also those of
-/// volumes inside it. The result is as long as the input. Returns 0. Takes no memory. (PI
-/// specification, volume 3, section 3.2.3.1, `FFS_ATTRIB_FIXED`.)
+/// added to the header checksum (modulo 256). Each other byte is as in the input, also in volumes
+/// inside it. The result is as long as the input. Returns 0. Takes no memory. (PI specification,
+/// volume 3, section 3.2.3.1, `FFS_ATTRIB_FIXED`.)
 ///
 /// # Errors
 ///
@@ -50,7 +50,7 @@ pub extern "C" fn fv_unfix(input: &[u8], buffer: &mut [u8], fault: &mut FvFault)
     ensures err { result ≢ 0 → result ≢ 256 → (f : Fault) × NotUnfixed input.now f
         × (result ≡ fault_number f.kind) × (fault.new ≡ reported_fault f) }
 
-    // Its number is at most 16, and not that of Fixed.
+    // Its number is at most 16, and not 15, the number of Fixed.
     ensures number { result ≢ 0 → result ≢ 256 → (result ≤ 16) × (result ≢ 15) }
 
     // If the marks can be taken away, only the buffer can be too small.

@@ -6,28 +6,21 @@ ghost use Rattle.fv_tree.specs.Words.{NotUnfixed, UnfixesTo};
 ghost use Rattle.fv_command.specs.inner.RunSteps.{Performs};
 
 use crate::status::Status;
-use fv_base::{ByteList, Fault, FaultKind, Sink, check};
-use fv_head::verify_fv;
+use fv_base::{ByteList, Fault, Sink};
 use fv_plan::Task;
 use fv_text::put_shown;
-use fv_tree::unfix;
+use fv_tree::{unfix, verify_unfixed};
 use std::alloc::Global;
 
-// Returns a copy of the input, which is a volume, with none of its files marked as fixed. Faults of
-// the header come first, then faults of the cells, then Length at FvLength if bytes follow the
-// volume.
+// Returns a copy of the input, which is a volume, with none of its files marked as fixed. The faults
+// of `verify_unfixed` come first.
 fn unfixed(alloc: Global, input: &[u8]) -> Result<ByteList, Fault>
     ensures ok { IfOk result (UnfixesTo input.now) }
     ensures err { IfErr result (OrMemory (NotUnfixed input.now)) }
 {
-    let extent = verify_fv(input)?;
+    verify_unfixed(input)?;
     let mut bytes = Vec::from_slice(alloc, input)?;
     unfix(&mut bytes)?;
-    check(
-        extent.length == input.len() as u64,
-        FaultKind::Length,
-        extent.length,
-    )?;
     Ok(ByteList::from_vec(bytes))
 }
 
@@ -37,8 +30,7 @@ fn unfixed(alloc: Global, input: &[u8]) -> Result<ByteList, Fault>
 ///
 /// # Errors
 ///
-/// As for `fv_tree::unfix`; then Length at FvLength if bytes follow the volume. OutOfMemory.
-/// Nothing has been put in that case.
+/// As for `fv_tree::verify_unfixed`; then OutOfMemory. Nothing has been put in that case.
 pub fn put_unfixed<S: Sink>(
     alloc: Global,
     hex: bool,

@@ -1,12 +1,13 @@
 -- A body is tiled in one way, or there is a first place that has no cell. The steps:
--- 1. The cells that were read tile the body up to a place (`CellsKept`), also with one more (`stands_in`, `kept`).
+-- 1. The cells that were read tile the body up to a place (`Upto`), also with one more (`stands_here`, `one_on`).
 -- 2. The loop ends where the body does (`whole_kept`), where the rest is free (`free_kept`), or at the first fault (`first_here`).
 -- 3. A body is tiled in one way (`only_one`). A tiling goes on from each place that such cells reach (`goes_on`), so there is none where a
 --    check fails (`none_after`).
 use Rattle.std.proofs.lemmas.Grind.{common_steps}
-use Rattle.std.proofs.Common.{◌≡◌, ◌≤◌, ◌<◌, ℕ, ◌+◌, ◌-◌, ◌%◌, List, [], ◌∷◌, ◌++◌, length, take, drop, map, sym, ap, ◌∙◌, subst, arith}
+use Rattle.std.proofs.Common.{◌≡◌, ◌≤◌, ◌<◌, ℕ, ◌+◌, ◌-◌, ◌%◌, List, [], ◌∷◌, ◌++◌, length, take, drop, map, refl, sym, ap, ◌∙◌, subst, arith, inl, inr}
 use Rattle.std.proofs.Common.{true, false, length-drop, length-append}
-use Rattle.std.specs.Prelude.{Ok, Err}
+use Rattle.std.specs.Prelude.{◌⊎◌, Ok, Err}
+use Rattle.std.proofs.lemmas.Bool.{cases_lt}
 use Rattle.std.proofs.lemmas.List.{take-append-drop, length-take-le, map_push, take_all}
 use Rattle.std.proofs.Math.Seq.{take-add}
 use Rattle.fv_base.specs.Words.{Which, AllAre, erased_byte, all_are}
@@ -26,69 +27,91 @@ use Rattle.fv_file.proofs.TilingLemmas.{no_rest, one_tiling, cut, one_more, none
 
 -- ---- the loop
 
--- the cells that were read tile the body up to a place
-pub record CellsKept (s : FileSystem) (p : Polarity) (first : ℕ) (body : List ℕ) (items : List Cell) (at : ℕ) : Type 0 where
-  pub tiled : Tiles s p first (map cell_form items) (take at body)
-  pub none_free : NoneFree (map cell_form items)
-  pub multiple : at % 8 ≡ 0
-  pub inside : at ≤ length body
+module _ (s : FileSystem) (p : Polarity) (first : ℕ) (body : List ℕ) where
+  -- cells that are not free tile the body up to a place
+  pub record Upto (cs : List CellForm) (at : ℕ) : Type 0 where
+    pub tiled : Tiles s p first cs (take at body)
+    pub none_free : NoneFree cs
+    pub multiple : at % 8 ≡ 0
+    pub inside : at ≤ length body
 
-pub kept : (s : FileSystem) (p : Polarity) (first : ℕ) (body : List ℕ) (items new : List Cell) (cell : Cell) (at len : ℕ)
-    → CellsKept s p first body items at
-    → CellStandsAt s p (first + at) (cell_form cell) (drop at body) → len ≡ cell_len (cell_form cell) → new ≡ items ++ cell ∷ []
-    → CellsKept s p first body new (at + len)
-kept s p first body items new cell at len before stands l n =
-    let part : IsCell s p (cell_form cell) (take len (drop at body)) =
-    subst (λ k. IsCell s p (cell_form cell) (take k (drop at body))) (sym l) stands.cell in
-    let long : length (take at body) ≡ at = length-take-le at body before.inside in
-    let place : offset_of (cell_form cell) ≡ first + length (take at body) = omega (arith, stands.place, long) in
-    let more = one_more s p first (map cell_form items) (cell_form cell) (take at body) (take len (drop at body)) before.tiled
-    before.none_free part place in
-    let list : map cell_form new ≡ map cell_form items ++ cell_form cell ∷ [] =
-    ap (λ x. map cell_form x) n ∙ map_push cell_form items cell in
-    record {
-      tiled = subst (λ cs. Tiles s p first cs (take (at + len) body)) (sym list)
-          (subst (λ b. Tiles s p first (map cell_form items ++ cell_form cell ∷ []) b) (sym (take-add at len body)) more);
-      none_free = subst NoneFree (sym list) (none_more (map cell_form items) (cell_form cell) before.none_free stands.not_free);
-      multiple = eighth at len (cell_len (cell_form cell)) before.multiple l stands.multiple;
-      inside = omega (arith, l, stands.within, length-drop at body, before.inside);
+  pub upto_begins : Upto [] 0
+  upto_begins = record { tiled = refl; none_free = tt; multiple = refl; inside = omega arith }
+
+  module _ (cs : List CellForm) (at : ℕ) (before : Upto cs at) where
+    -- the cell at the place
+    pub stands_here : (c : CellForm) → length body % 8 ≡ 0 → cell_verdict s p (first + at) (drop at body) ≡ Ok c
+        → CellStandsAt s p (first + at) c (drop at body)
+    stands_here c in_eights is =
+        verdict_stands s p (first + at) (drop at body) c (eighth (length body) (length (drop at body)) in_eights (length-drop at body)) is
+      where
+        eighth : (a b : ℕ) → a % 8 ≡ 0 → b ≡ a - at → b % 8 ≡ 0
+        eighth a b h e = omega (arith, before.multiple, before.inside)
+
+    -- a cell further
+    pub one_on : (c : CellForm) (len : ℕ) → CellStandsAt s p (first + at) c (drop at body) → len ≡ cell_len c
+        → Upto (cs ++ c ∷ []) (at + len)
+    one_on c len stands l =
+        let long : length (take at body) ≡ at = length-take-le at body before.inside in
+        let part : IsCell s p c (take len (drop at body)) = subst (λ (n : ℕ). IsCell s p c (take n (drop at body))) (sym l) stands.cell in
+        let place : offset_of c ≡ first + length (take at body) = omega (arith, stands.place, long) in
+        let more = one_more s p first cs c (take at body) (take len (drop at body)) before.tiled before.none_free part place in
+        record {
+          tiled = subst (λ (b : List ℕ). Tiles s p first (cs ++ c ∷ []) b) (sym (take-add at len body)) more;
+          none_free = none_more cs c before.none_free stands.not_free;
+          multiple = eighth (cell_len c) stands.multiple l;
+          inside = omega (arith, l, stands.within, length-drop at body, before.inside);
+        }
+      where
+        eighth : (n : ℕ) → n % 8 ≡ 0 → len ≡ n → (at + len) % 8 ≡ 0
+        eighth n h e = omega (arith, before.multiple)
+
+    -- the body's end
+    pub whole_kept : length body ≤ at → Tiles s p first cs body
+    whole_kept l = subst (λ (b : List ℕ). Tiles s p first cs b) (take_all at body l) before.tiled
+
+    -- a free rest
+    pub free_kept : at < length body → AllAre (erased_byte p) (drop at body)
+        → Tiles s p first (cs ++ Free (first + at) (length body - at) ∷ []) body
+    free_kept some clean =
+        let c : CellForm = Free (first + at) (length body - at) in
+        let long : length (take at body) ≡ at = length-take-le at body before.inside in
+        let part : IsCell s p c (drop at body) = (omega (arith, some), clean, sym (length-drop at body)) in
+        let more = one_more s p first cs c (take at body) (drop at body) before.tiled before.none_free part (omega (arith, long)) in
+        subst (λ (b : List ℕ). Tiles s p first (cs ++ c ∷ []) b) (take-append-drop at body) more
+
+    -- the end: the body's end, or a free rest
+    pub all_kept : AllAre (erased_byte p) (drop at body) → (cells : List CellForm) × Tiles s p first cells body
+    all_kept clean = go (cases_lt at (length body)) where
+      go : (at < length body) ⊎ (length body ≤ at) → (cells : List CellForm) × Tiles s p first cells body
+      go (inl some) = (cs ++ Free (first + at) (length body - at) ∷ [], free_kept some clean)
+      go (inr all) = (cs, whole_kept all)
+
+    -- the place at which a check fails
+    pub first_here : (f : Fault) → (at < length body) × (AllAre (erased_byte p) (drop at body) → ⊥)
+        → cell_verdict s p (first + at) (drop at body) ≡ Err f → IsFirstCellFault s p first body f
+    first_here f used is = record {
+      cells = cs;
+      at = at;
+      tiled = before.tiled;
+      none_free = before.none_free;
+      inside = used.0;
+      not_erased = used.1;
+      fails = verdict_first s p (first + at) (drop at body) f is;
     }
-  where
-    eighth : (a b c : ℕ) → a % 8 ≡ 0 → b ≡ c → c % 8 ≡ 0 → (a + b) % 8 ≡ 0
-    eighth a b c h k l = omega arith
 
 -- the cell that the loop reads
-pub stands_in : {s : FileSystem} {p : Polarity} {first : ℕ} {body rest : List ℕ} {items : List Cell} {at : ℕ} {c : CellForm}
-    → CellsKept s p first body items at → length body % 8 ≡ 0 → rest ≡ drop at body → cell_verdict s p (first + at) rest ≡ Ok c
+pub stands_in : {s : FileSystem} {p : Polarity} {first : ℕ} {body rest : List ℕ} {cs : List CellForm} {at : ℕ} {c : CellForm}
+    → Upto s p first body cs at → length body % 8 ≡ 0 → rest ≡ drop at body → cell_verdict s p (first + at) rest ≡ Ok c
     → CellStandsAt s p (first + at) c (drop at body)
-stands_in {s} {p} {first} {body} {rest} {items} {at} {c} k in_eights behind is =
-    verdict_stands s p (first + at) (drop at body) c
-    (ap (λ (n : ℕ). n % 8) (length-drop at body) ∙ eighth (length body) at in_eights k.multiple k.inside)
-    (ap (cell_verdict s p (first + at)) (sym behind) ∙ is)
-  where
-    eighth : (a b : ℕ) → a % 8 ≡ 0 → b % 8 ≡ 0 → b ≤ a → (a - b) % 8 ≡ 0
-    eighth a b h k l = omega arith
+stands_in {s} {p} {first} {body} {rest} {cs} {at} {c} k in_eights behind is =
+    stands_here s p first body cs at k c in_eights (ap (cell_verdict s p (first + at)) (sym behind) ∙ is)
 
--- the loop ends at the body's end
-pub whole_kept : (s : FileSystem) (p : Polarity) (first : ℕ) (body : List ℕ) (items : List Cell) (at : ℕ)
-    → CellsKept s p first body items at → length body ≤ at
-    → Tiles s p first (map cell_form items) body
-whole_kept s p first body items at k l = subst (λ b. Tiles s p first (map cell_form items) b) (take_all at body l) k.tiled
-
--- the rest is free
-pub free_kept : (s : FileSystem) (p : Polarity) (first : ℕ) (body : List ℕ) (items new : List Cell) (cell : Cell) (at : ℕ)
-    → CellsKept s p first body items at → at < length body
-    → AllAre (erased_byte p) (drop at body) → cell_form cell ≡ Free (first + at) (length body - at) → new ≡ items ++ cell ∷ []
-    → Tiles s p first (map cell_form new) body
-free_kept s p first body items new cell at before some clean is n =
-    let long : length (take at body) ≡ at = length-take-le at body before.inside in
-    let part : IsCell s p (Free (first + at) (length body - at)) (drop at body) = (omega (arith, some), clean, sym (length-drop at body)) in
-    let more = one_more s p first (map cell_form items) (Free (first + at) (length body - at)) (take at body) (drop at body) before.tiled
-    before.none_free part (omega (arith, long)) in
-    let list : map cell_form new ≡ map cell_form items ++ Free (first + at) (length body - at) ∷ [] =
-    ap (λ x. map cell_form x) n ∙ map_push cell_form items cell ∙ ap (λ c. map cell_form items ++ c ∷ []) is in
-    subst (λ cs. Tiles s p first cs body) (sym list)
-    (subst (λ b. Tiles s p first (map cell_form items ++ Free (first + at) (length body - at) ∷ []) b) (take-append-drop at body) more)
+-- a list with a cell more
+pub more_read : (items new : List Cell) (cell : Cell) (c : CellForm) → cell_form cell ≡ c → new ≡ items ++ cell ∷ []
+    → map cell_form items ++ c ∷ [] ≡ map cell_form new
+more_read items new cell c is n =
+    sym (ap (λ (x : List Cell). map cell_form x) n ∙ map_push cell_form items cell ∙ ap (λ (d : CellForm). map cell_form items ++ d ∷ []) is)
 
 -- what the test at a place says of all that is left
 pub rest_free : (e : ℕ) (rest body : List ℕ) (at : ℕ) → rest ≡ drop at body → all_are e rest ≡ true → AllAre e (drop at body)
@@ -97,12 +120,6 @@ rest_free e rest body at behind is = all_are-true e (drop at body) (ap (all_are 
 pub rest_used : (e : ℕ) (rest body : List ℕ) (at : ℕ) → rest ≡ drop at body → all_are e rest ≡ false
     → (at < length body) × (AllAre e (drop at body) → ⊥)
 rest_used e rest body at behind is = grind (arith, common_steps, some_left, length-drop, not_erased)
-
--- the place at which the loop stops
-pub first_here : (s : FileSystem) (p : Polarity) (first : ℕ) (rest body : List ℕ) (items : List Cell) (at : ℕ) (f : Fault)
-    → CellsKept s p first body items at → (at < length body) × (AllAre (erased_byte p) (drop at body) → ⊥) → rest ≡ drop at body
-    → cell_verdict s p (first + at) rest ≡ Err f → IsFirstCellFault s p first body f
-first_here s p first rest body items at f k used behind is = grind (arith, common_steps, not_erased, verdict_first)
 
 -- ---- all tilings
 

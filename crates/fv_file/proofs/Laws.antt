@@ -16,7 +16,7 @@ pub use Rattle.fv_file.proofs.TilingLemmas.{OneCell, NotEmpty, one_tiling, one_m
 pub use Rattle.fv_file.proofs.TiledCellLemmas.{joined, cells_few}
 -- a cell's data are the part of the volume after its header
 pub use Rattle.fv_file.proofs.TiledCellLemmas.{IsPayloadIn, tiled_payloads, body_payloads}
--- what is known of each file of a tiling of bytes
+-- each file of a tiling of bytes
 pub use Rattle.fv_file.proofs.TiledCellLemmas.{IsRead, tiles_read}
 -- a cell at an index lies within the volume
 pub use Rattle.fv_file.proofs.TiledCellLemmas.{within_index}
@@ -48,7 +48,7 @@ pub use Rattle.fv_file.proofs.NewHeaderLemmas.{complement_small, file_written, p
 pub use Rattle.fv_file.proofs.NewHeaderLemmas.{only_written, only_file, only_pad}
 -- it is decided: one of the two holds
 pub use Rattle.fv_file.proofs.DecidedLemmas.{body_decided}
--- marks of fixed files that are taken away: no byte comes or goes, and where cells tile there is none
-pub use Rattle.fv_file.proofs.UnmarkLemmas.{length-unmarks, none_marked}
+-- taking marks of fixed files away does not change the number of bytes
+pub use Rattle.fv_file.proofs.UnmarkLemmas.{length-unmarks}
 -- all of them are taken away in one way
 pub use Rattle.fv_file.proofs.UnmarkLemmas.{NoneFixed, tiled_unfixed, fault_unfixed, one_unmarked}

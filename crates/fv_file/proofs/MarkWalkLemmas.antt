@@ -1,16 +1,16 @@
 -- A walk over a body that has its marks: the body without the marks up to a place, and with the same bytes from there on.
-use Rattle.std.proofs.Common.{◌≡◌, ◌≤◌, ◌<◌, ℕ, ◌+◌, ◌%◌, List, [], length, drop, refl, sym, ap, ◌∙◌, subst, arith, inl, inr}
+use Rattle.std.proofs.Common.{◌≡◌, ◌≤◌, ◌<◌, ℕ, ◌+◌, ◌%◌, List, length, drop, refl, sym, ap, ◌∙◌, subst, arith, inl, inr}
 use Rattle.std.specs.Prelude.{◌⊎◌, slice_index, slice_set, Ok, Err, ◌-◌}
 use Rattle.std.proofs.lemmas.List.{drop-drop, drop-set-lt}
-use Rattle.fv_base.specs.Words.{outer_fault, AllAre, erased_byte}
+use Rattle.fv_base.specs.Words.{AllAre, erased_byte}
 use Rattle.fv_base.specs.declared.fault.Fault.{Fault}
 use Rattle.fv_base.specs.declared.flash.FileSystem.{FileSystem}
 use Rattle.fv_base.specs.declared.flash.Polarity.{Polarity}
-use Rattle.fv_base.specs.declared.fault.FaultKind.TheVariants as kinds
 use Rattle.fv_file.specs.Words.{CellForm, Tiles, cell_len, IsFirstCellFault, unmarked, Unmarks}
 use Rattle.fv_file.specs.inner.CellVerdicts.{cell_verdict}
 use Rattle.fv_file.specs.inner.MarkSteps.{OneMarkLess}
-use Rattle.fv_file.proofs.UnmarkLemmas.{Unmarked, one_less, one_further, stopped, at_end}
+use Rattle.fv_file.proofs.UnmarkLemmas.{Unmarked, MarkStep, unmarked_begins, one_less, one_further, stands_unmarked, stopped}
+use Rattle.fv_file.proofs.BodyLemmas.{all_kept}
 use Rattle.fv_file.proofs.MarkedFileLemmas.{drop-unmarked}
 
 -- the marks up to a place are taken away in `less`, which has the same bytes as the body from there on
@@ -22,16 +22,7 @@ pub record Walked (s : FileSystem) (p : Polarity) (first : ℕ) (body : List ℕ
 pub walk_begins : (s : FileSystem) (p : Polarity) (first : ℕ) (body : List ℕ) → Walked s p first body 0
 walk_begins s p first body = record {
   less = body;
-  so_far = record {
-    places = [];
-    marks = refl;
-    same_length = refl;
-    cells = [];
-    tiled = refl;
-    none_free = tt;
-    multiple = refl;
-    inside = omega arith;
-  };
+  so_far = unmarked_begins s p first body;
   same = refl;
 }
 
@@ -40,16 +31,12 @@ module _ (s : FileSystem) (p : Polarity) (first : ℕ) (body : List ℕ) (at : �
   pub walk_ends : AllAre (erased_byte p) (drop at body)
       → (places : List ℕ) × (o : List ℕ) × Unmarks s p first places body o × ((cells : List CellForm) × Tiles s p first cells o)
   walk_ends clean =
-      (k.so_far.places, k.less, k.so_far.marks, at_end s p first body k.less at k.so_far (subst (AllAre (erased_byte p)) (sym k.same) clean))
+      (k.so_far.places, k.less, k.so_far.marks, all_kept s p first k.less k.so_far.cells at k.so_far.upto (subst (AllAre (erased_byte p)) (sym k.same) clean))
 
   module _ (used : (at < length body) × (AllAre (erased_byte p) (drop at body) → ⊥)) (b : List ℕ)
       (step : OneMarkLess s p (first + at) (drop at body) b) where
     -- the body with one mark less, or as many
-    abbrev Step : List ℕ → Type 0
-    Step new =
-        (new ≡ k.less) ⊎ ((cell_verdict s p (first + at) (drop at k.less) ≡ Err (outer_fault kinds.Fixed (first + at + 19))) × (new ≡ unmarked at k.less))
-
-    stepped : OneMarkLess s p (first + at) (drop at body) b → (new : List ℕ) × Step new × (drop at new ≡ b)
+    stepped : OneMarkLess s p (first + at) (drop at body) b → (new : List ℕ) × MarkStep s p first k.less new at × (drop at new ≡ b)
     stepped (inl e) = (k.less, inl refl, k.same ∙ sym e)
     stepped (inr (is, e)) = (
       unmarked at k.less,
@@ -70,8 +57,8 @@ module _ (s : FileSystem) (p : Polarity) (first : ℕ) (body : List ℕ) (at : �
     pub walk_on : (len : ℕ) (c : CellForm) → length body % 8 ≡ 0 → cell_verdict s p (first + at) b ≡ Ok c → len ≡ cell_len c
         → (b ≡ drop at body) ⊎ (19 < len) → Walked s p first body (at + len) × (0 < len) × (at + len ≤ length body)
     walk_on len c in_eights is l past =
-        let on = one_further s p first body new at len c so_far (ap (λ (n : ℕ). n % 8) so_far.same_length ∙ in_eights)
-        (ap (cell_verdict s p (first + at)) (stepped step).2 ∙ is) l in (
+        let stands = stands_unmarked s p first body new at c in_eights so_far (ap (cell_verdict s p (first + at)) (stepped step).2 ∙ is) in
+        let on = one_further s p first body new at len c so_far stands l in (
           record {
             less = new;
             so_far = on.0;

@@ -160,7 +160,7 @@ other_kind k at f is kind = sym (ap (λ (g : Fault). g.kind) is) ∙ kind
 same_fault : {A : Type 0} (x : Result A Fault) (f g : Fault) → x ≡ Err f → x ≡ Err g → g ≡ f
 same_fault x f g e h = cc
 
--- what is known of the header
+-- the header is right, and the data are checked
 pub record MarkedFile (s : FileSystem) (st : FileState) (r : List ℕ) : Type 0 where
   pub right : IsHeaderRight s r
   pub checked : skips_data (is_alive st) r ≡ false
@@ -195,7 +195,7 @@ module _ (s : FileSystem) (st : FileState) (at : ℕ) (r : List ℕ) (f : Fault)
 
 -- ---- 4. the file without its mark
 
--- the verdict on a file in a state is that of its checks
+-- the verdict on a valid file comes from its checks
 valid_verdict : (s : FileSystem) (p : Polarity) (st : FileState) (at : ℕ) (r : List ℕ) → 24 ≤ length r → state_of p (state_at r) ≡ Some st
     → sort_of st ≡ sorts.Valid → cell_verdict s p at r ≡ cell_with sorts.Valid at r (file_verdict s st at r)
 valid_verdict s p st at r long state sort = go (nat_lt (length r) 24) refl where
@@ -268,7 +268,7 @@ module _ (s : FileSystem) (p : Polarity) (at : ℕ) (r : List ℕ) (f : Fault) (
       valid_verdict s p marked.state at (unmarked 0 r) (omega (arith, long, length-unmarked 0 r))
       (ap (state_of p) (state_same r long fixed) ∙ marked.shown) marked.sort
 
-  -- the size is that of the header and the data
+  -- the size covers the header, and lies within the bytes
   pub size_within : (file_header_len_at r ≤ file_size_at r) × (file_size_at r ≤ length r)
   size_within = sizes _ _ _ _ marked.file.right.size
 

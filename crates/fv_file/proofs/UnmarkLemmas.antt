@@ -1,30 +1,29 @@
 -- The marks of fixed files. 1. Where a cell has the fault Fixed, its attributes are there and have the bit. 2. Without the mark the file
 -- has it no more, and the bytes before it are the same. 3. The marks are taken away one after another, and the cells before tile.
--- 4. All marks are taken away in one way (`one_unmarked`).
+-- 4. All marks are taken away in one way (`one_unmarked`). 5. If all can be taken away, a cell is at each place then (`unmarked_cell`).
 use Rattle.std.proofs.Common.{◌≡◌, ◌≤◌, ◌<◌, ℕ, ◌+◌, ◌-◌, ◌%◌, List, [], ◌∷◌, ◌++◌, length, take, drop, refl, sym, ap, ◌∙◌, subst, arith}
 use Rattle.std.proofs.Common.{Bool, true, false, length-drop, zero, suc, inl, inr}
-use Rattle.std.specs.Prelude.{◌≢◌, ◌⊎◌, ◌||◌, ◌&&◌, ◌==◌, not, nat_le, slice_index, slice_set, Option, None, Some, Ok, Err}
+use Rattle.std.specs.Prelude.{◌≢◌, ◌⊎◌, ◌||◌, ◌&&◌, ◌==◌, not, nat_le, slice_index, slice_set, nat_lt, Option, None, Some, Ok, Err, Result}
 use Rattle.std.specs.List.{AllByRecursion}
-use Rattle.std.proofs.lemmas.Bool.{cases_lt, leb-true, eq-eqb}
+use Rattle.std.proofs.lemmas.Bool.{leb-true, ltb-false, eq-eqb}
 use Rattle.std.proofs.lemmas.Bool.Decides.{nat_tests}
-use Rattle.std.proofs.lemmas.List.{get_or-drop, get_or-set_same, get_or-set_other, length-set, take-set-le, length-take-le, take-append-drop, take_all}
-use Rattle.std.proofs.Math.Seq.{take-add}
+use Rattle.std.proofs.lemmas.List.{get_or-drop, get_or-set_same, get_or-set_other, length-set, take-set-le, length-take-le, take-append-drop}
 use Rattle.fv_base.specs.Words.{First, Check, check, AllHold, outer_fault, AllAre, erased_byte}
 use Rattle.fv_base.specs.declared.fault.Fault.{Fault}
 use Rattle.fv_base.specs.declared.flash.FileSystem.{FileSystem}
 use Rattle.fv_base.specs.declared.flash.Polarity.{Polarity}
 use Rattle.fv_base.specs.declared.fault.FaultKind.TheVariants as kinds
 use Rattle.fv_base.proofs.Laws.{and_split, in_middle, up_is_not_down}
-use Rattle.fv_file.specs.Words.{CellForm, Free, offset_of, IsCell, Tiles, cell_len, NoneFree, IsFirstCellFault, cell_checks, file_checks}
+use Rattle.fv_file.specs.Words.{CellForm, is_free, IsCell, Tiles, cell_len, IsFirstCellFault, cell_checks, file_checks}
 use Rattle.fv_file.specs.Words.{state_checks, leading_count, attributes_at, is_fixed, bits_of, state_of, state_at, unmarked, Unmarks}
 use Rattle.fv_file.specs.declared.state.FileState.{FileState}
 use Rattle.fv_file.specs.declared.state.FileState.TheVariants as states
-use Rattle.fv_file.specs.inner.CellVerdicts.{cell_verdict}
-use Rattle.fv_file.proofs.CellVerdictLemmas.{verdict_first, verdict_stands, no_bits}
+use Rattle.fv_file.specs.inner.CellVerdicts.{cell_verdict, stray}
+use Rattle.fv_file.proofs.CellVerdictLemmas.{verdict_first, no_bits}
 use Rattle.fv_file.proofs.ErasedByteLemmas.{all_at}
-use Rattle.fv_file.proofs.BodyLemmas.{none_after}
+use Rattle.fv_file.proofs.BodyLemmas.{Upto, upto_begins, stands_here, one_on, first_here, none_after}
+use Rattle.fv_file.proofs.CellFoundLemmas.{CellStandsAt}
 use Rattle.fv_file.proofs.OneFaultLemmas.{one_cell_fault}
-use Rattle.fv_file.proofs.TilingLemmas.{one_more, none_more}
 
 -- ---- 1. the fault Fixed
 
@@ -56,7 +55,7 @@ module _ (at : ℕ) (r : List ℕ) where
   cell_marked : (s : FileSystem) (p : Polarity) → AllByRecursion Marked (cell_checks s p at r)
   cell_marked s p = (λ e h. cc, state_marked (state_of p (state_at r)) s)
 
--- what is known where the fault is Fixed
+-- the fault Fixed is at the attributes, and the bytes there have the bit
 pub record FixedThere (p : Polarity) (at : ℕ) (r : List ℕ) (f : Fault) : Type 0 where
   pub fault : f ≡ outer_fault kinds.Fixed (at + 19)
   pub fixed : is_fixed (attributes_at r) ≡ true
@@ -84,15 +83,6 @@ fixed_there s p at r f is kind =
 -- the bit is in a byte that is there
 pub fixed_least : (a : ℕ) → is_fixed a ≡ true → 4 ≤ a
 fixed_least a h = grind (arith, nat_tests)
-
-pub some_byte : (r : List ℕ) (i : ℕ) → 4 ≤ slice_index r i → i < length r
-some_byte [] i h = absurd (none i h)
-  where
-    none : (i : ℕ) → 4 ≤ slice_index [] i → ⊥
-    none zero h = omega (arith, h)
-    none (suc i) h = omega (arith, h)
-some_byte (x ∷ xs) zero h = omega arith
-some_byte (x ∷ xs) (suc i) h = let l = some_byte xs i h in omega (arith, l)
 
 -- ---- 2. without the mark
 
@@ -146,52 +136,49 @@ pub record Unmarked (s : FileSystem) (p : Polarity) (first : ℕ) (old body : Li
   pub marks : Unmarks s p first places old body
   pub same_length : length body ≡ length old
   pub cells : List CellForm
-  pub tiled : Tiles s p first cells (take at body)
-  pub none_free : NoneFree cells
-  pub multiple : at % 8 ≡ 0
-  pub inside : at ≤ length body
+  pub upto : Upto s p first body cells at
 
--- the place at which a check fails
-pub stops_here : (s : FileSystem) (p : Polarity) (first : ℕ) (old body : List ℕ) (at : ℕ) (f : Fault) → Unmarked s p first old body at
-    → (at < length body) × (AllAre (erased_byte p) (drop at body) → ⊥) → cell_verdict s p (first + at) (drop at body) ≡ Err f
-    → IsFirstCellFault s p first body f
-stops_here s p first old body at f k used is = record {
-  cells = k.cells;
-  at = at;
-  tiled = k.tiled;
-  none_free = k.none_free;
-  inside = used.0;
-  not_erased = used.1;
-  fails = verdict_first s p (first + at) (drop at body) f is;
-}
+-- the start
+pub unmarked_begins : (s : FileSystem) (p : Polarity) (first : ℕ) (body : List ℕ) → Unmarked s p first body body 0
+unmarked_begins s p first body =
+    record { places = []; marks = refl; same_length = refl; cells = []; upto = upto_begins s p first body }
+
+-- the body stays as it is; or the file at the place is fixed, and its mark is taken away
+abbrev pub MarkStep : FileSystem → Polarity → ℕ → List ℕ → List ℕ → ℕ → Type 0
+MarkStep s p first body new at =
+    (new ≡ body)
+    ⊎ ((cell_verdict s p (first + at) (drop at body) ≡ Err (outer_fault kinds.Fixed (first + at + 19))) × (new ≡ unmarked at body))
 
 -- one mark less, at the place
 pub one_less : (s : FileSystem) (p : Polarity) (first : ℕ) (old body new : List ℕ) (at : ℕ) → Unmarked s p first old body at
     → (at < length body) × (AllAre (erased_byte p) (drop at body) → ⊥)
-    → (new ≡ body) ⊎ ((cell_verdict s p (first + at) (drop at body) ≡ Err (outer_fault kinds.Fixed (first + at + 19))) × (new ≡ unmarked at body))
+    → MarkStep s p first body new at
     → Unmarked s p first old new at
 one_less s p first old body new at k used (inl same) = subst (λ (b : List ℕ). Unmarked s p first old b at) (sym same) k
 one_less s p first old body new at k used (inr (is, less)) =
     subst (λ (b : List ℕ). Unmarked s p first old b at) (sym less) (record {
       places = k.places ++ at ∷ [];
-      marks = marks_more s p first k.places at old body k.marks (stops_here s p first old body at _ k used is);
+      marks = marks_more s p first k.places at old body k.marks (first_here s p first body k.cells at k.upto _ used is);
       same_length = length-unmarked at body ∙ k.same_length;
       cells = k.cells;
-      tiled = subst (λ (b : List ℕ). Tiles s p first k.cells b) (sym (front_unmarked at body)) k.tiled;
-      none_free = k.none_free;
-      multiple = k.multiple;
-      inside = subst (λ (n : ℕ). at ≤ n) (sym (length-unmarked at body)) k.inside;
+      upto = record {
+        tiled = subst (λ (b : List ℕ). Tiles s p first k.cells b) (sym (front_unmarked at body)) k.upto.tiled;
+        none_free = k.upto.none_free;
+        multiple = k.upto.multiple;
+        inside = subst (λ (n : ℕ). at ≤ n) (sym (length-unmarked at body)) k.upto.inside;
+      };
     })
 
 -- the place at which a check fails, after the mark there was taken away
 pub stopped : (s : FileSystem) (p : Polarity) (first : ℕ) (old body new : List ℕ) (at : ℕ) (f : Fault) → Unmarked s p first old body at
     → (at < length body) × (AllAre (erased_byte p) (drop at body) → ⊥)
-    → (new ≡ body) ⊎ ((cell_verdict s p (first + at) (drop at body) ≡ Err (outer_fault kinds.Fixed (first + at + 19))) × (new ≡ unmarked at body))
+    → MarkStep s p first body new at
     → cell_verdict s p (first + at) (drop at new) ≡ Err f → IsFirstCellFault s p first new f
 stopped s p first old body new at f k used step is =
-    stops_here s p first old new at f (one_less s p first old body new at k used step) (used_still step) is
+    let less = one_less s p first old body new at k used step in
+    first_here s p first new less.cells at less.upto f (used_still step) is
   where
-    used_still : (new ≡ body) ⊎ ((cell_verdict s p (first + at) (drop at body) ≡ Err (outer_fault kinds.Fixed (first + at + 19))) × (new ≡ unmarked at body))
+    used_still : MarkStep s p first body new at
         → (at < length new) × (AllAre (erased_byte p) (drop at new) → ⊥)
     used_still (inl same) = subst (λ b. (at < length b) × (AllAre (erased_byte p) (drop at b) → ⊥)) (sym same) used
     used_still (inr (fixed, less)) =
@@ -206,63 +193,11 @@ stopped s p first old body new at f k used step is =
               up_is_not_down _ zero (not_up _ there.used),
         )
 
--- one cell more
-pub one_further : (s : FileSystem) (p : Polarity) (first : ℕ) (old body : List ℕ) (at len : ℕ) (c : CellForm)
-    → Unmarked s p first old body at → length body % 8 ≡ 0 → cell_verdict s p (first + at) (drop at body) ≡ Ok c → len ≡ cell_len c
-    → Unmarked s p first old body (at + len) × (0 < len) × (at + len ≤ length body)
-one_further s p first old body at len c k in_eights is l =
-    let stands = verdict_stands s p (first + at) (drop at body) c
-    (ap (λ (n : ℕ). n % 8) (length-drop at body) ∙ eighth (length body) at in_eights k.multiple k.inside) is in
-    let part : IsCell s p c (take len (drop at body)) = subst (λ n. IsCell s p c (take n (drop at body))) (sym l) stands.cell in
-    let long : length (take at body) ≡ at = length-take-le at body k.inside in
-    let place : offset_of c ≡ first + length (take at body) = omega (arith, stands.place, long) in
-    let more = one_more s p first k.cells c (take at body) (take len (drop at body)) k.tiled k.none_free part place in
-    let inside : at + len ≤ length body = omega (arith, l, stands.within, length-drop at body, k.inside) in (
-      record {
-        places = k.places;
-        marks = k.marks;
-        same_length = k.same_length;
-        cells = k.cells ++ c ∷ [];
-        tiled = subst (λ b. Tiles s p first (k.cells ++ c ∷ []) b) (sym (take-add at len body)) more;
-        none_free = none_more k.cells c k.none_free stands.not_free;
-        multiple = both at len (cell_len c) k.multiple l stands.multiple;
-        inside = inside;
-      },
-      omega (arith, l, stands.some),
-      inside,
-    )
-  where
-    eighth : (a b : ℕ) → a % 8 ≡ 0 → b % 8 ≡ 0 → b ≤ a → (a - b) % 8 ≡ 0
-    eighth a b h m n = omega arith
-
-    both : (a b c : ℕ) → a % 8 ≡ 0 → b ≡ c → c % 8 ≡ 0 → (a + b) % 8 ≡ 0
-    both a b c h e m = omega arith
-
--- the end: the body's, or a free rest
-pub at_end : (s : FileSystem) (p : Polarity) (first : ℕ) (old body : List ℕ) (at : ℕ) → Unmarked s p first old body at
-    → AllAre (erased_byte p) (drop at body) → (cells : List CellForm) × Tiles s p first cells body
-at_end s p first old body at k clean = go (cases_lt at (length body)) where
-  go : (at < length body) ⊎ (length body ≤ at) → (cells : List CellForm) × Tiles s p first cells body
-  go (inr all) = (k.cells, subst (λ b. Tiles s p first k.cells b) (take_all at body all) k.tiled)
-  go (inl some) =
-      let long : length (take at body) ≡ at = length-take-le at body k.inside in
-      let left : length (drop at body) ≡ length body - at = length-drop at body in
-      let free : IsCell s p (Free (first + at) (length body - at)) (drop at body) = (omega (arith, some), clean, sym left) in
-      let more = one_more s p first k.cells (Free (first + at) (length body - at)) (take at body) (drop at body) k.tiled k.none_free free
-      (omega (arith, long)) in
-      (k.cells ++ Free (first + at) (length body - at) ∷ [], subst (λ b. Tiles s p first (k.cells ++ Free (first + at) (length body - at) ∷ []) b) (take-append-drop at body) more)
-
 -- no byte comes or goes
 pub length-unmarks : (s : FileSystem) (p : Polarity) (first : ℕ) (ps : List ℕ) (b o : List ℕ) → Unmarks s p first ps b o
     → length o ≡ length b
 length-unmarks s p first [] b o same = ap length same
 length-unmarks s p first (q ∷ qs) b o marks = length-unmarks s p first qs (unmarked q b) o marks.1 ∙ length-unmarked q b
-
--- where cells tile, there is no mark
-pub none_marked : (s : FileSystem) (p : Polarity) (first : ℕ) (ps : List ℕ) (b o : List ℕ) (cs : List CellForm) → Unmarks s p first ps b o
-    → Tiles s p first cs b → o ≡ b
-none_marked s p first [] b o cs same tiles = same
-none_marked s p first (q ∷ qs) b o cs marks tiles = absurd (none_after First s p first b _ cs marks.0 tiles)
 
 -- ---- 4. in one way
 
@@ -298,3 +233,63 @@ one_unmarked s p first (q ∷ qs) (r ∷ rs) b o x marks end other end_x =
     let same : r ≡ q = one_place first r q (one_cell_fault s p first b _ _ other.0 marks.0) in
     one_unmarked s p first qs rs (unmarked q b) o x marks.1 end
     (subst (λ (n : ℕ). Unmarks s p first rs (unmarked n b) x) same other.1) end_x
+
+-- ---- 5. a body whose marks can be taken away
+
+-- the body without its marks
+abbrev pub Accepts : FileSystem → Polarity → ℕ → List ℕ → Type 0
+Accepts s p first b =
+    (places : List ℕ) × (o : List ℕ) × Unmarks s p first places b o × ((cells : List CellForm) × Tiles s p first cells o)
+
+-- it has no fault except Fixed while its marks are taken away
+no_other : (s : FileSystem) (p : Polarity) (first : ℕ) (old body : List ℕ) (at : ℕ) (f : Fault) → Accepts s p first old
+    → Unmarked s p first old body at → IsFirstCellFault s p first body f → f.kind ≢ kinds.Fixed → ⊥
+no_other s p first old body at f (places, o, marks, (cells, tiles)) k here kind =
+    let same : o ≡ body =
+    one_unmarked s p first k.places places old body o k.marks (fault_unfixed s p first body f here kind) marks
+    (tiled_unfixed s p first o cells tiles) in
+    none_after First s p first body f cells here (subst (Tiles s p first cells) same tiles)
+
+-- so a cell is at each place, after the mark there was taken away
+pub unmarked_cell : (s : FileSystem) (p : Polarity) (first : ℕ) (old body new : List ℕ) (at : ℕ) → Accepts s p first old
+    → Unmarked s p first old body at → (at < length body) × (AllAre (erased_byte p) (drop at body) → ⊥) → MarkStep s p first body new at
+    → ((f : Fault) → cell_verdict s p (first + at) (drop at new) ≡ Err f → f.kind ≢ kinds.Fixed)
+    → (c : CellForm) × (cell_verdict s p (first + at) (drop at new) ≡ Ok c)
+unmarked_cell s p first old body new at accepts k used step plain = go (cell_verdict s p (first + at) (drop at new)) refl where
+  go : (x : Result CellForm Fault) → cell_verdict s p (first + at) (drop at new) ≡ x
+      → (c : CellForm) × (cell_verdict s p (first + at) (drop at new) ≡ Ok c)
+  go (Ok c) is = (c, is)
+  go (Err f) is =
+      absurd (no_other s p first old new at f accepts (one_less s p first old body new at k used step)
+      (stopped s p first old body new at f k used step is) (plain f is))
+
+-- a cell has a header
+pub cell_long : (s : FileSystem) (p : Polarity) (at : ℕ) (r : List ℕ) (c : CellForm) → cell_verdict s p at r ≡ Ok c → 24 ≤ length r
+cell_long s p at r c is = go (nat_lt (length r) 24) refl where
+  go : (t : Bool) → nat_lt (length r) 24 ≡ t → 24 ≤ length r
+  go true l = let bad : Err (stray p at r) ≡ Ok c = sym (rw l refl) ∙ is in cc
+  go false l = ltb-false (length r) 24 l
+
+-- a cell further
+pub one_further : (s : FileSystem) (p : Polarity) (first : ℕ) (old body : List ℕ) (at len : ℕ) (c : CellForm) → Unmarked s p first old body at
+    → CellStandsAt s p (first + at) c (drop at body) → len ≡ cell_len c
+    → Unmarked s p first old body (at + len) × (0 < len) × (at + len ≤ length body)
+one_further s p first old body at len c k stands l =
+    let upto = one_on s p first body k.cells at k.upto c len stands l in (
+      record { places = k.places; marks = k.marks; same_length = k.same_length; cells = k.cells ++ c ∷ []; upto = upto },
+      omega (arith, l, stands.some),
+      upto.inside,
+    )
+
+-- the cell that the walk is at
+pub stands_unmarked : (s : FileSystem) (p : Polarity) (first : ℕ) (old body : List ℕ) (at : ℕ) (c : CellForm) → length old % 8 ≡ 0
+    → Unmarked s p first old body at → cell_verdict s p (first + at) (drop at body) ≡ Ok c → CellStandsAt s p (first + at) c (drop at body)
+stands_unmarked s p first old body at c in_eights k is =
+    stands_here s p first body k.cells at k.upto c (ap (λ (i : ℕ). i % 8) k.same_length ∙ in_eights) is
+
+-- the length of the cell is n, because n is so for each cell
+pub stride_len : (s : FileSystem) (p : Polarity) (at n : ℕ) (r : List ℕ) (c : CellForm) → CellStandsAt s p at c r
+    → ((x behind : List ℕ) → r ≡ x ++ behind → IsCell s p c x → is_free c ≡ false → n ≡ length x) → n ≡ cell_len c
+stride_len s p at n r c stands strides =
+    strides (take (cell_len c) r) (drop (cell_len c) r) (sym (take-append-drop (cell_len c) r)) stands.cell stands.not_free
+    ∙ length-take-le (cell_len c) r stands.within

@@ -129,7 +129,7 @@ fn is_unfinished(state: Option<FileState>) -> bool
 
 // Returns the number of bytes from the header here to the next cell. If a cell begins here, this is
 // the length that `cell_at` finds, but nothing is checked.
-fn stride_at(rest: &[u8], polarity: Polarity) -> usize
+pub(crate) fn stride_at(rest: &[u8], polarity: Polarity) -> usize
     requires { 24 ≤ length rest.now }
     ensures least { 24 ≤ result }
     ensures within { result ≤ length rest.now }

@@ -1,16 +1,17 @@
 //! Taking the marks of fixed files away from a volume's body.
 
 ghost use Rattle.std.specs.Prelude.{◌≡◌, ◌≢◌, ◌⊎◌, ℕ, ◌+◌, ◌<◌, ◌≤◌, ◌%◌, ◌^◌, List, length, drop, slice_index};
-ghost use Rattle.std.specs.Prelude.{Ok, Err, IfOk, IfErr, OnOk};
+ghost use Rattle.std.specs.Prelude.{Err, IfErr, OnOk};
 ghost use Rattle.fv_base.specs.Words.{outer_fault};
+ghost use Rattle.fv_base.specs.declared.fault.Fault.{Fault};
 ghost use Rattle.fv_file.specs.Cells.{CellForm, Tiles};
-ghost use Rattle.fv_file.specs.CellForms.{cell_len};
 ghost use Rattle.fv_file.specs.FileChecks.{IsFirstCellFault};
 ghost use Rattle.fv_file.specs.Unmarking.{unmarked, Unmarks};
 ghost use Rattle.fv_file.specs.inner.CellVerdicts.{cell_verdict};
 
-use crate::cell_walk::{cell_at, is_free, span_of};
+use crate::cell_walk::{cell_at, is_free, stride_at};
 use crate::offsets::{ATTRIBUTES_OFFSET, HEADER_SUM_OFFSET};
+use crate::unmark_check::verify_unmarked;
 use fv_base::field::bytes_from;
 use fv_base::{Fault, FaultKind, FileSystem, Polarity};
 
@@ -30,54 +31,38 @@ fn unmark(body: &mut [u8], at: usize)
     body[at + ATTRIBUTES_OFFSET] = attributes;
 }
 
-// Returns the length of the cell at the offset `at`, in bytes, where no free cell begins, or the
-// first fault there.
-pub(crate) fn span_at(
-    rest: &[u8],
-    at: u64,
-    system: FileSystem,
-    polarity: Polarity,
-) -> Result<u64, Fault>
-    requires place { at + length rest.now < 2 ^ 63 }
-    requires multiple { length rest.now % 8 ≡ 0 }
-    ensures found { IfOk result
-        (λ n. (c : CellForm) × (cell_verdict system polarity at rest.now ≡ Ok c) × (n ≡ cell_len c)) }
-    ensures refused { IfErr result (λ f. cell_verdict system polarity at rest.now ≡ Err f) }
-{
-    let cell = cell_at(rest, at, system, polarity)?;
-    Ok(span_of(&cell))
-}
-
-// Returns the length of the cell at the offset `at` of the body, in bytes, where no free cell
-// begins, or the first fault there. If the cell is a fixed file, takes its mark away first.
-fn unmark_at(
-    body: &mut [u8],
-    at: usize,
-    first: u64,
-    system: FileSystem,
-    polarity: Polarity,
-) -> Result<u64, Fault>
+// Takes the mark away from the file at the offset `at` of the body if the first fault there is
+// Fixed. After that, the first fault there is not Fixed.
+fn unmark_at(body: &mut [u8], at: usize, first: u64, system: FileSystem, polarity: Polarity)
     requires inside { at ≤ length body.old }
     requires place { first + length body.old < 2 ^ 63 }
-    requires multiple { (length body.old % 8 ≡ 0) × (at % 8 ≡ 0) }
-    ensures found { IfOk result
-        (λ n. (c : CellForm) × (cell_verdict system polarity (first + at) (drop at body.new) ≡ Ok c) × (n ≡ cell_len c)) }
-    ensures refused { IfErr result
-        (λ f. (cell_verdict system polarity (first + at) (drop at body.new) ≡ Err f) × (f.kind ≢ FaultKind.Fixed)) }
     ensures step { (body.new ≡ body.old)
         ⊎ ((cell_verdict system polarity (first + at) (drop at body.old) ≡ Err (outer_fault FaultKind.Fixed (first + at + 19)))
         × (body.new ≡ unmarked at body.old)) }
+    ensures plain { (f : Fault) → cell_verdict system polarity (first + at) (drop at body.new) ≡ Err f → f.kind ≢ FaultKind.Fixed }
 {
     let place = first + at as u64;
-    match span_at(bytes_from(body, at), place, system, polarity) {
-        Ok(span) => Ok(span),
-        Err(fault) => {
-            if fault.kind == FaultKind::Fixed {
-                unmark(body, at);
-                return span_at(bytes_from(body, at), place, system, polarity);
-            }
-            Err(fault)
-        }
+    let Err(fault) = cell_at(bytes_from(body, at), place, system, polarity) else {
+        return;
+    };
+    if fault.kind == FaultKind::Fixed {
+        unmark(body, at);
+    }
+}
+
+// Takes the marks away from all fixed files of a body that `verify_unmarked` accepts.
+fn take_marks(body: &mut [u8], first: u64, system: FileSystem, polarity: Polarity)
+    requires multiple { length body.old % 8 ≡ 0 }
+    requires place { first + length body.old < 2 ^ 63 }
+    requires accepted { (places : List ℕ) × (o : List ℕ) × Unmarks system polarity first places body.old o
+        × ((cells : List CellForm) × Tiles system polarity first cells o) }
+    ensures { (places : List ℕ) × Unmarks system polarity first places body.old body.new
+        × ((cells : List CellForm) × Tiles system polarity first cells body.new) }
+{
+    let mut at = 0;
+    while !is_free(bytes_from(body, at), polarity) {
+        unmark_at(body, at, first, system, polarity);
+        at += stride_at(bytes_from(body, at), polarity);
     }
 }
 
@@ -90,9 +75,7 @@ fn unmark_at(
 ///
 /// # Errors
 ///
-/// The first fault of a cell, as for `cells`, except Fixed. By then the fixed files before that
-/// cell have lost their marks, and so has the file of that cell if the fault is FileSum. All other
-/// bytes are as they were.
+/// The fault of `verify_unmarked`. Nothing was changed in that case.
 pub fn unmark_files(
     body: &mut [u8],
     first: u64,
@@ -102,21 +85,18 @@ pub fn unmark_files(
     requires multiple { length body.old % 8 ≡ 0 }
     requires place { first + length body.old < 2 ^ 63 }
 
-    // The marks were taken away from the files at some offsets of the body, each of which was
-    // fixed, and nothing else was changed. This holds after an error too.
-    ensures marks { (places : List ℕ) × Unmarks system polarity first places body.old body.new }
+    // After Ok, the marks were taken away from the files at some offsets of the body, each of which
+    // was fixed, and nothing else was changed. Cells tile the body, so none of its files is fixed.
+    ensures tiled { OnOk result ((places : List ℕ) × Unmarks system polarity first places body.old body.new
+        × ((cells : List CellForm) × Tiles system polarity first cells body.new)) }
 
-    // After Ok the body is tiled by cells, so none of its files is fixed.
-    ensures tiled { OnOk result ((cells : List CellForm) × Tiles system polarity first cells body.new) }
-
-    // The fault is the first one of the body as it is afterwards, and it is not Fixed.
-    ensures first { IfErr result
-        (λ f. IsFirstCellFault system polarity first body.new f × (f.kind ≢ FaultKind.Fixed)) }
+    // After an error, nothing was changed. The fault is the first one of the body without some of
+    // the marks, and it is not Fixed.
+    ensures kept { IfErr result (λ _. body.new ≡ body.old) }
+    ensures first { IfErr result (λ f. (places : List ℕ) × (o : List ℕ) × Unmarks system polarity first places body.old o
+        × IsFirstCellFault system polarity first o f × (f.kind ≢ FaultKind.Fixed)) }
 {
-    let mut at = 0;
-    while !is_free(bytes_from(body, at), polarity) {
-        let span = unmark_at(body, at, first, system, polarity)?;
-        at += span as usize;
-    }
+    verify_unmarked(body, first, system, polarity)?;
+    take_marks(body, first, system, polarity);
     Ok(())
 }

@@ -10,11 +10,10 @@ ghost use Rattle.fv_file.specs.Unmarking.{Unmarks};
 ghost use Rattle.fv_file.specs.inner.CellVerdicts.{cell_verdict};
 ghost use Rattle.fv_file.specs.inner.MarkSteps.{OneMarkLess};
 
-use crate::cell_walk::is_free;
+use crate::cell_walk::{cell_at, is_free, span_of};
 use crate::head::{has_file_sum, head_in};
 use crate::offsets::FILE_SUM_OFFSET;
 use crate::state::FileState;
-use crate::unmark::span_at;
 use fv_base::field::{bytes_from, up_to_8};
 use fv_base::{Fault, FaultKind, FileSystem, Polarity, check};
 
@@ -44,8 +43,8 @@ fn span_unmarked(rest: &[u8], at: u64, system: FileSystem, polarity: Polarity) -
     ensures refused { IfErr result (λ f. (b : List ℕ) × OneMarkLess system polarity at rest.now b
         × (cell_verdict system polarity at b ≡ Err f) × (f.kind ≢ FaultKind.Fixed)) }
 {
-    match span_at(rest, at, system, polarity) {
-        Ok(span) => Ok(span),
+    match cell_at(rest, at, system, polarity) {
+        Ok(cell) => Ok(span_of(&cell)),
         Err(fault) => {
             if fault.kind == FaultKind::Fixed {
                 let size = sound_size(rest, at)?;
@@ -62,7 +61,7 @@ fn span_unmarked(rest: &[u8], at: u64, system: FileSystem, polarity: Polarity) -
 ///
 /// # Errors
 ///
-/// The fault that `unmark_files` returns: the first fault of a cell, as for `cells`, except Fixed.
+/// The first fault of a cell, as for `cells`, except Fixed.
 pub fn verify_unmarked(
     body: &[u8],
     first: u64,

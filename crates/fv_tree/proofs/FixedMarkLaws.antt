@@ -1,18 +1,18 @@
 -- A volume whose fixed files are marked no more begins with the same header, and cells tile its body. It is the only one.
-use Rattle.std.proofs.Common.{◌≡◌, ℕ, ◌+◌, ◌-◌, ◌≤◌, List, ◌++◌, length, take, drop, sym, ap, ◌∙◌, subst, arith, append_assoc, [], ◌∷◌, zero, suc}
+use Rattle.std.proofs.Common.{◌≡◌, ℕ, ◌+◌, ◌-◌, ◌≤◌, List, ◌++◌, length, take, drop, sym, ap, ◌∙◌, subst, arith, append_assoc, [], ◌∷◌, zero, suc, inl, inr, refl}
 use Rattle.std.specs.Prelude.{◌≢◌, Option, None, Some}
 use Rattle.std.proofs.lemmas.List.{length-append, length-take-le, length-drop, take-append-drop, take-append-le, take_all}
 use Rattle.std.proofs.lemmas.List.{drop-drop, drop-take}
-use Rattle.fv_base.specs.Words.{First, IsFirstFault, field, le, le_at}
+use Rattle.fv_base.specs.Words.{First, field, le, le_at}
 use Rattle.fv_base.specs.declared.fault.Fault.{Fault}
 use Rattle.fv_base.specs.declared.fault.FaultKind.TheVariants as kinds
 use Rattle.fv_base.proofs.Laws.{take-take_le, field-take, none_faulty, not_first}
-use Rattle.fv_file.specs.Words.{CellForm, Tiles, IsFirstCellFault}
-use Rattle.fv_file.proofs.Laws.{length-unmarks, none_marked, none_after, NoneFixed, tiled_unfixed, fault_unfixed, one_unmarked}
+use Rattle.fv_file.specs.Words.{CellForm, Tiles, IsFirstCellFault, Unmarks}
+use Rattle.fv_file.proofs.Laws.{length-unmarks, none_after, NoneFixed, tiled_unfixed, fault_unfixed, one_unmarked}
 use Rattle.fv_head.specs.Words.{Extension, HasExt, HeadFields, IsHead, BeginsVolume, head_checks}
 use Rattle.fv_head.specs.declared.extent.Extent.{Extent}
 use Rattle.fv_head.proofs.Laws.{first_lies, front_lies, one_front, front_holds}
-use Rattle.fv_tree.specs.Words.{Unfixes, IsUnfixed, BeginsTiled}
+use Rattle.fv_tree.specs.Words.{Unfixes, IsUnfixed, UnfixStops, BeginsTiled}
 
 take-append_all : (xs ys : List ℕ) (n : ℕ) → length xs ≡ n → take n (xs ++ ys) ≡ xs
 take-append_all xs ys n e = take-append-le n xs ys (omega (arith, e)) ∙ take_all n xs (omega (arith, e))
@@ -96,6 +96,11 @@ tiled_there b o body e cells u tiles =
       tiles = subst (Tiles e.file_system e.polarity e.first cells) (sym k.body_is) tiles;
     }
 
+-- the cells of the volume tile its body
+body_tiled : (b o body : List ℕ) (e : Extent) (cells : List CellForm) → Unfixes e b o body → BeginsTiled e cells o
+    → Tiles e.file_system e.polarity e.first cells body
+body_tiled b o body e cells u tiled = subst (Tiles e.file_system e.polarity e.first cells) (kept b o body e u).body_is tiled.tiles
+
 -- ---- the bytes without the marks are the only ones
 
 -- other bytes without all marks have a body that cells tile, and they are the same
@@ -104,9 +109,7 @@ one_unfixed : (b o body : List ℕ) (e : Extent) → Unfixes e b o body → None
 one_unfixed b o body e u end x other =
     let one = (one_front b other.2.head u.head other.0 e other.2.front u.front).1 in
     let v : Unfixes e b x other.1 = subst (λ (y : Extent). Unfixes y b x other.1) one other.2 in
-    let there : BeginsTiled e other.3.0 x = subst (λ (y : Extent). BeginsTiled y other.3.0 x) one other.3.1 in
-    let tiles : Tiles e.file_system e.polarity e.first other.3.0 other.1 =
-    subst (Tiles e.file_system e.polarity e.first other.3.0) (kept b x other.1 e v).body_is there.tiles in
+    let tiles = body_tiled b x other.1 e other.3.0 v (subst (λ (y : Extent). BeginsTiled y other.3.0 x) one other.3.1) in
     let same : other.1 ≡ body =
     one_unmarked e.file_system e.polarity e.first u.places v.places (field e.first (e.length - e.first) b) body other.1
     u.marks end v.marks (tiled_unfixed e.file_system e.polarity e.first other.1 other.3.0 tiles) in (
@@ -114,38 +117,51 @@ one_unfixed b o body e u end x other =
       v.text ∙ ap (λ (y : List ℕ). take e.first b ++ (y ++ drop e.length b)) same ∙ sym u.text,
     )
 
--- where cells tile the body, there are no others
-pub only_unfixed : (b o body : List ℕ) (e : Extent) (cells : List CellForm) → Unfixes e b o body
-    → Tiles e.file_system e.polarity e.first cells body → (x : List ℕ) → IsUnfixed b x → x ≡ o
-only_unfixed b o body e cells u tiles x other =
-    (one_unfixed b o body e u (tiled_unfixed e.file_system e.polarity e.first body cells tiles) x other).1
+pub only_unfixed : (b o x : List ℕ) → IsUnfixed b o → IsUnfixed b x → x ≡ o
+only_unfixed b o x (e, body, u, (cells, tiled)) other =
+    (one_unfixed b o body e u (tiled_unfixed e.file_system e.polarity e.first body cells (body_tiled b o body e cells u tiled)) x other).1
 
--- where the body has another fault, there are none
-pub none_unfixed : (b o body : List ℕ) (e : Extent) (f : Fault) → Unfixes e b o body
-    → IsFirstCellFault e.file_system e.polarity e.first body f → f.kind ≢ kinds.Fixed → (x : List ℕ) → IsUnfixed b x → ⊥
-none_unfixed b o body e f u here kind x other =
+-- where the header or a cell has another fault, there are none
+pub none_unfixed : (b : List ℕ) (f : Fault) → UnfixStops b f → (x : List ℕ) → IsUnfixed b x → ⊥
+none_unfixed b f (inl first) x other =
+    not_first (head_checks b) f first (none_faulty (head_checks b) (front_holds b other.2.head other.0 other.2.front))
+none_unfixed b f (inr (e, o, body, u, here, kind)) x other =
     let one = one_unfixed b o body e u (fault_unfixed e.file_system e.polarity e.first body f here kind) x other in
     none_after First e.file_system e.polarity e.first body f one.0.0 here one.0.1
 
--- where the header has a fault, there are none
-pub none_headed : (b : List ℕ) (f : Fault) → IsFirstFault (head_checks b) f → (x : List ℕ) → IsUnfixed b x → ⊥
-none_headed b f first x other =
-    not_first (head_checks b) f first (none_faulty (head_checks b) (front_holds b other.2.head other.0 other.2.front))
+-- ---- the body is changed in its place
 
--- where cells tile the body already, nothing changes
-pub unchanged : (b o body : List ℕ) (e x : Extent) (cells : List CellForm) → Unfixes e b o body → BeginsTiled x cells b → o ≡ b
-unchanged b o body e x cells u has =
-    let one = (one_front b has.head u.head x e has.front u.front).1 in
-    let there : BeginsTiled e cells b = subst (λ (y : Extent). BeginsTiled y cells b) one has in
-    let end : e.first + (e.length - e.first) ≡ e.length = omega (arith, (first_lies b u.head e u.front).1) in
+module _ (b : List ℕ) (h : HeadFields) (e : Extent) (front : BeginsVolume h e b) where
+  rest_is : drop (e.length - e.first) (drop e.first b) ≡ drop e.length b
+  rest_is = drop-drop (e.length - e.first) e.first b ∙ ap (λ (n : ℕ). drop n b) (omega (arith, (first_lies b h e front).1))
+
+  -- the bytes with another body
+  abbrev pub with_body : List ℕ → List ℕ
+  with_body body = take e.first b ++ (body ++ drop (e.length - e.first) (drop e.first b))
+
+  -- the body as it is
+  pub same_body : with_body (field e.first (e.length - e.first) b) ≡ b
+  same_body =
+      ap (λ (y : List ℕ). take e.first b ++ y) (take-append-drop (e.length - e.first) (drop e.first b)) ∙ take-append-drop e.first b
+
+  module _ (body places : List ℕ) (marks : Unmarks e.file_system e.polarity e.first places (field e.first (e.length - e.first) b) body) where
+    in_place : Unfixes e b (with_body body) body
+    in_place = record { head = h; front = front; places = places; marks = marks; text = ap (λ (y : List ℕ). take e.first b ++ (body ++ y)) rest_is }
+
+    -- cells tile it without its marks
+    pub is_unfixed : (cells : List CellForm) → Tiles e.file_system e.polarity e.first cells body → IsUnfixed b (with_body body)
+    is_unfixed cells tiles = (e, body, in_place, (cells, tiled_there b (with_body body) body e cells in_place tiles))
+
+    -- it has another fault without some of its marks
+    pub stops_there : (f : Fault) → IsFirstCellFault e.file_system e.polarity e.first body f → f.kind ≢ kinds.Fixed → UnfixStops b f
+    stops_there f here kind = inr (e, with_body body, body, in_place, here, kind)
+
+-- a volume whose body cells tile has no marks
+pub unchanged : (b : List ℕ) (e : Extent) (cells : List CellForm) → BeginsTiled e cells b → IsUnfixed b b
+unchanged b e cells has =
     let part : drop e.first (take e.length b) ≡ field e.first (e.length - e.first) b =
-    ap (λ (n : ℕ). drop e.first (take n b)) (sym end) ∙ drop-take e.first (e.length - e.first) b in
-    let same : body ≡ field e.first (e.length - e.first) b =
-    none_marked e.file_system e.polarity e.first u.places (field e.first (e.length - e.first) b) body cells u.marks
-    (subst (Tiles e.file_system e.polarity e.first cells) part there.tiles) in
-    let rest : drop e.length b ≡ drop (e.length - e.first) (drop e.first b) =
-    ap (λ (n : ℕ). drop n b) (sym end) ∙ sym (drop-drop (e.length - e.first) e.first b) in
-    u.text ∙ ap (λ (y : List ℕ). take e.first b ++ (y ++ drop e.length b)) same
-    ∙ ap (λ (y : List ℕ). take e.first b ++ (field e.first (e.length - e.first) b ++ y)) rest
-    ∙ ap (λ (y : List ℕ). take e.first b ++ y) (take-append-drop (e.length - e.first) (drop e.first b))
-    ∙ take-append-drop e.first b
+    ap (λ (n : ℕ). drop e.first (take n b)) (omega (arith, (first_lies b has.head e has.front).1))
+    ∙ drop-take e.first (e.length - e.first) b in
+    subst (IsUnfixed b) (same_body b has.head e has.front)
+    (is_unfixed b has.head e has.front (field e.first (e.length - e.first) b) [] refl cells
+    (subst (Tiles e.file_system e.polarity e.first cells) part has.tiles))

@@ -50,8 +50,8 @@ pub use Rattle.fv_tree.proofs.LocatedLaws.{volume_files, one_files, begun_data}
 pub use Rattle.fv_tree.proofs.DecidedLaws.{volume_decided, input_decided}
 -- ---- the marks of fixed files
 
--- why those of an input cannot be taken away; all of a copy was changed
-pub use Rattle.fv_tree.proofs.UnfixedInputLaws.{stopped, never_stops, bytes_follow, whole_kept}
+-- all of a copy was changed
+pub use Rattle.fv_tree.proofs.UnfixedInputLaws.{whole_kept}
 -- ---- where two meanings first differ
 
 -- two meanings differ nowhere exactly where they are one

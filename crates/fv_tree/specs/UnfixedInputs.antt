@@ -1,10 +1,10 @@
 -- An input that is a volume, without the marks of its fixed files, and why they cannot be taken away (PI specification,
 -- volume 3, section 3.2.3.1, FFS_ATTRIB_FIXED).
 use Rattle.std.specs.Prelude.{◌≡◌, ◌<◌, ◌⊎◌, ℕ, List, length}
-use Rattle.fv_base.specs.Words.{IsFirstFault, outer_fault}
+use Rattle.fv_base.specs.Words.{outer_fault}
 use Rattle.fv_base.specs.declared.fault.Fault.{Fault}
 use Rattle.fv_base.specs.declared.fault.FaultKind.TheVariants as kinds
-use Rattle.fv_head.specs.Words.{HeadFields, BeginsVolume, head_checks}
+use Rattle.fv_head.specs.Words.{HeadFields, BeginsVolume}
 use Rattle.fv_head.specs.declared.extent.Extent.{Extent}
 use Rattle.fv_tree.specs.Unfixing.{IsUnfixed, UnfixStops}
 
@@ -22,12 +22,10 @@ GoesOnAfter input fault =
 abbrev pub UnfixesTo : List ℕ → List ℕ → Type 0
 UnfixesTo input o = IsUnfixed input o × EndsWithVolume input
 
--- the first fault of an input whose marks are to be taken away: the first fault of its header; the first fault of a cell
--- that is not Fixed, after the marks before it were taken away; or Length, because bytes follow the volume
+-- the first fault of an input whose marks are to be taken away: a fault of its header or of a cell (`UnfixStops`); or
+-- Length, because bytes follow the volume
 abbrev pub IsFirstOfMarked : List ℕ → Fault → Type 0
-IsFirstOfMarked input fault =
-    IsFirstFault (head_checks input) fault
-    ⊎ (((o : List ℕ) × UnfixStops input o fault) ⊎ (((o : List ℕ) × IsUnfixed input o) × GoesOnAfter input fault))
+IsFirstOfMarked input fault = UnfixStops input fault ⊎ (((o : List ℕ) × IsUnfixed input o) × GoesOnAfter input fault)
 
 -- the marks of the input cannot be taken away, and this is the first fault
 pub record NotUnfixed (input : List ℕ) (fault : Fault) : Type 0 where

@@ -1,10 +1,10 @@
 -- A volume without the marks of its fixed files (PI specification, volume 3, section 3.2.3.1, FFS_ATTRIB_FIXED).
-use Rattle.std.specs.Prelude.{◌≡◌, ◌≢◌, ◌-◌, ℕ, List, ◌++◌, take, drop}
+use Rattle.std.specs.Prelude.{◌≡◌, ◌≢◌, ◌⊎◌, ◌-◌, ℕ, List, ◌++◌, take, drop}
 use Rattle.fv_base.specs.declared.fault.Fault.{Fault}
-use Rattle.fv_base.specs.Words.{field}
+use Rattle.fv_base.specs.Words.{IsFirstFault, field}
 use Rattle.fv_base.specs.declared.fault.FaultKind.TheVariants as kinds
 use Rattle.fv_file.specs.Words.{CellForm, Unmarks, IsFirstCellFault}
-use Rattle.fv_head.specs.Words.{HeadFields, BeginsVolume}
+use Rattle.fv_head.specs.Words.{HeadFields, BeginsVolume, head_checks}
 use Rattle.fv_head.specs.declared.extent.Extent.{Extent}
 use Rattle.fv_tree.specs.LocatedFiles.{BeginsTiled}
 
@@ -22,9 +22,10 @@ abbrev pub IsUnfixed : List ℕ → List ℕ → Type 0
 IsUnfixed b o =
     (e : Extent) × (body : List ℕ) × Unfixes e b o body × ((cells : List CellForm) × BeginsTiled e cells o)
 
--- the first fault of the volume's body in o is this one, which is not Fixed. o is b after the marks of the fixed files
--- whose fault Fixed came before it were taken away
-abbrev pub UnfixStops : List ℕ → List ℕ → Fault → Type 0
-UnfixStops b o f =
-    (e : Extent) × (body : List ℕ) × Unfixes e b o body × IsFirstCellFault e.file_system e.polarity e.first body f
-    × (f.kind ≢ kinds.Fixed)
+-- because of this fault the marks of b cannot be taken away: it is the first fault of the header; or it is the first fault
+-- of the volume's body without the marks before it, and it is not Fixed
+abbrev pub UnfixStops : List ℕ → Fault → Type 0
+UnfixStops b f =
+    IsFirstFault (head_checks b) f
+    ⊎ ((e : Extent) × (o : List ℕ) × (body : List ℕ) × Unfixes e b o body
+    × IsFirstCellFault e.file_system e.polarity e.first body f × (f.kind ≢ kinds.Fixed))

@@ -1,9 +1,7 @@
 //! Taking the marks of fixed files away from a volume.
 
-ghost use Rattle.std.specs.Prelude.{◌≡◌, ◌⊎◌, ℕ, List, IfErr, OnOk};
-ghost use Rattle.fv_base.specs.Words.{IsFirstFault};
+ghost use Rattle.std.specs.Prelude.{◌≡◌, ℕ, List, IfErr, OnOk};
 ghost use Rattle.fv_file.specs.Words.{CellForm};
-ghost use Rattle.fv_head.specs.Words.{head_checks};
 ghost use Rattle.fv_head.specs.declared.extent.Extent.{Extent};
 ghost use Rattle.fv_tree.specs.LocatedFiles.{BeginsTiled};
 ghost use Rattle.fv_tree.specs.Unfixing.{IsUnfixed, UnfixStops};
@@ -14,15 +12,13 @@ use fv_head::verify_fv;
 
 /// Takes the marks away from all fixed files of the volume at the start of the bytes. For each such
 /// file, bit 0x04 of its attributes is cleared and 4 is added to its header checksum (modulo 256).
-/// All other bytes stay as they are, also those of volumes inside this volume and those that follow
-/// it. Takes no memory. (PI specification, volume 3, section 3.2.3.1, `FFS_ATTRIB_FIXED`.)
+/// All other bytes stay as they are, also the bytes of volumes inside this volume and the bytes that
+/// follow it. Takes no memory. (PI specification, volume 3, section 3.2.3.1, `FFS_ATTRIB_FIXED`.)
 ///
 /// # Errors
 ///
-/// The first fault of the header, as for `verify_fv`. Nothing was changed in that case. Otherwise
-/// the first fault of a cell, as for `cells`, except Fixed. By then the fixed files before that
-/// cell have lost their marks, and so has the file of that cell if the fault is FileSum. So a
-/// caller that needs the bytes as they were works on a copy.
+/// The first fault of the header, as for `verify_fv`; then the first fault of a cell, as for
+/// `cells`, except Fixed. Nothing was changed in these cases.
 pub fn unfix(bytes: &mut [u8]) -> Result<(), Fault>
     // The volume has no fixed file any more, and nothing but the marks was changed.
     ensures done { OnOk result (IsUnfixed bytes.old bytes.new) }
@@ -30,13 +26,13 @@ pub fn unfix(bytes: &mut [u8]) -> Result<(), Fault>
     // No other bytes are the given bytes without these marks.
     ensures only { OnOk result ((o : List ℕ) → IsUnfixed bytes.old o → o ≡ bytes.new) }
 
-    // After an error, no bytes are the given bytes without these marks.
+    // After an error, nothing was changed, and no bytes are the given bytes without these marks.
+    ensures kept { IfErr result (λ _. bytes.new ≡ bytes.old) }
     ensures none { IfErr result (λ _. (o : List ℕ) → IsUnfixed bytes.old o → ⊥) }
 
-    // Either the fault is the first one of the header, and nothing was changed; or it is the first
-    // one of the body without the marks before it, and it is not Fixed.
-    ensures stops { IfErr result
-        (λ f. (IsFirstFault (head_checks bytes.old) f × (bytes.new ≡ bytes.old)) ⊎ UnfixStops bytes.old bytes.new f) }
+    // The fault is the first one of the header; or it is the first one of the body without the
+    // marks before it, and it is not Fixed.
+    ensures stops { IfErr result (UnfixStops bytes.old) }
 
     // If cells tiled the body of the volume before, none of its files was fixed, and nothing was
     // changed.

@@ -5,7 +5,7 @@ use crate::spelling::spelled_bytes;
 use fv_tree::unfix;
 use std::alloc::Global;
 
-/// A volume, what it is without the marks, and the number of the fault and its offset, if there is
+/// A volume, the bytes that `unfix` leaves, and the number of the fault and its offset, if there is
 /// one.
 type UnfixRow = (&'static str, &'static str, Option<(u8, u64)>);
 
@@ -58,10 +58,10 @@ const ROWS: &[UnfixRow] = &[
         "00*16 78e58c8c3d8a1c4f9935896185c32dd30001 00*6 5f465648fffe04004800cef400000002010000000001 00*10 0a*16 79ea0b409c0000f884000017 00*16 78e58c8c3d8a1c4f9935896185c32dd380 00*7 5f465648fffe04004800cef5000000020100000080 00*11 0b*16 33aa0104180000f8 ff*60",
         None,
     ),
-    // A file checksum that is wrong.
+    // A file checksum that is wrong: the mark stays.
     (
         "00*16 78e58c8c3d8a1c4f9935896185c32dd380 00*7 5f465648fffe04004800cef5000000020100000080 00*11 0a*16 43ab0104180000f8 ff*32",
-        "00*16 78e58c8c3d8a1c4f9935896185c32dd380 00*7 5f465648fffe04004800cef5000000020100000080 00*11 0a*16 47ab0100180000f8 ff*32",
+        "00*16 78e58c8c3d8a1c4f9935896185c32dd380 00*7 5f465648fffe04004800cef5000000020100000080 00*11 0a*16 43ab0104180000f8 ff*32",
         Some((14, 89)),
     ),
     // Bytes after the volume.
@@ -130,10 +130,10 @@ const ROWS: &[UnfixRow] = &[
         "00*16 78e58c8c3d8a1c4f9935896185c32dd380 00*7 5f465648fffe04004800cef5000000020100000080 00*11 0a*16 44aa0104180000f8 ff*32",
         Some((11, 72)),
     ),
-    // A wrong file checksum of the second marked file.
+    // A wrong file checksum of the second marked file: both marks stay.
     (
         "00*16 78e58c8c3d8a1c4f9935896185c32dd380 00*7 5f465648fffe04004800cef5000000020100000080 00*11 0a*16 43aa0104180000f8 0b*16 33ab0104180000f8 ff*8",
-        "00*16 78e58c8c3d8a1c4f9935896185c32dd380 00*7 5f465648fffe04004800cef5000000020100000080 00*11 0a*16 47aa0100180000f8 0b*16 37ab0100180000f8 ff*8",
+        "00*16 78e58c8c3d8a1c4f9935896185c32dd380 00*7 5f465648fffe04004800cef5000000020100000080 00*11 0a*16 43aa0104180000f8 0b*16 33ab0104180000f8 ff*8",
         Some((14, 113)),
     ),
     // A fault before a marked file: the mark stays.
@@ -142,10 +142,10 @@ const ROWS: &[UnfixRow] = &[
         "00*16 78e58c8c3d8a1c4f9935896185c32dd380 00*7 5f465648fffe04004800cef5000000020100000080 00*11 0a*16 48aa0100180000f8 0b*16 33aa0104180000f8 ff*8",
         Some((11, 72)),
     ),
-    // A byte after a marked file that is not erased.
+    // A byte after a marked file that is not erased: the mark stays.
     (
         "00*16 78e58c8c3d8a1c4f9935896185c32dd380 00*7 5f465648fffe04004800cef5000000020100000080 00*11 0a*16 43aa0104180000f8 ff*31 7f",
-        "00*16 78e58c8c3d8a1c4f9935896185c32dd380 00*7 5f465648fffe04004800cef5000000020100000080 00*11 0a*16 47aa0100180000f8 ff*31 7f",
+        "00*16 78e58c8c3d8a1c4f9935896185c32dd380 00*7 5f465648fffe04004800cef5000000020100000080 00*11 0a*16 43aa0104180000f8 ff*31 7f",
         Some((16, 127)),
     ),
 ];

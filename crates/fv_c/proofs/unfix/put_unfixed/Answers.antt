@@ -1,25 +1,22 @@
 use Rattle.std.proofs.Common.{◌≡◌, ◌∙◌, ◌++◌, List, ℕ, ap, drop, length, subst, sym}
-use Rattle.std.specs.Prelude.{◌⊎◌, Err, IfErr, Ok, OnOk, Result}
+use Rattle.std.specs.Prelude.{Err, IfErr, Ok, OnOk, Result}
 use Rattle.std.proofs.lemmas.List.{drop_at}
-use Rattle.fv_base.specs.Words.{IsFirstFault}
 use Rattle.fv_base.specs.declared.fault.Fault.{Fault}
-use Rattle.fv_head.specs.Words.{head_checks}
-use Rattle.fv_tree.specs.Words.{IsUnfixed, UnfixesTo, UnfixStops}
-use Rattle.fv_tree.proofs.Laws.{never_stops}
+use Rattle.fv_tree.specs.Words.{IsUnfixed}
 use Rattle.fv_c.proofs.unfix.put_unfixed.Goals as goal
 
 -- the copy loses its marks
-unfixed : {A : Type 0} (r : Result A Fault) (input old new o : List ℕ) → UnfixesTo input o → old ≡ input → OnOk r (IsUnfixed old new)
-    → IfErr r (λ f. (IsFirstFault (head_checks old) f × (new ≡ old)) ⊎ UnfixStops old new f) → IsUnfixed input new
-unfixed (Ok x) input old new o to same done stops = subst (λ (b : List ℕ). IsUnfixed b new) same done
-unfixed (Err f) input old new o to same done stops = absurd (never_stops input old new o f to same stops)
+unfixed : {A : Type 0} (r : Result A Fault) (input old new o : List ℕ) → IsUnfixed input o → old ≡ input → OnOk r (IsUnfixed old new)
+    → IfErr r (λ _. (x : List ℕ) → IsUnfixed old x → ⊥) → IsUnfixed input new
+unfixed (Ok x) input old new o to same done none = subst (λ (b : List ℕ). IsUnfixed b new) same done
+unfixed (Err f) input old new o to same done none = absurd (none o (subst (λ (b : List ℕ). IsUnfixed b o) (sym same) to))
 
 pub returns : goal.returns
 returns c =
     let volume = c.requires.volume in
     let copied : c.copy_from_slice.new.self ≡ c.args.input.now = c.copy_from_slice.ensures.after in
-    let made = unfixed c.unfix-done.result c.args.input.now c.copy_from_slice.new.self c.unfix-done.new.bytes volume.0 volume.1 copied
-    c.unfix-done.ensures.done c.unfix-done.ensures.stops in
+    let made = unfixed c.unfix-done.result c.args.input.now c.copy_from_slice.new.self c.unfix-done.new.bytes volume.0 volume.1.0 copied
+    c.unfix-done.ensures.done c.unfix-done.ensures.none in
     let long : length c.unfix-done.new.bytes ≡ length c.args.input.now = c.unfix-done.auto.bytes ∙ ap length copied in
     let split = c.split_at_mut-front.ensures in
     let rest : drop (length c.unfix-done.new.bytes) c.args.buffer.now ≡ c.split_at_mut-front.result.1.now =

@@ -1,7 +1,6 @@
 use Rattle.std.proofs.Common.{◌≡◌, ◌+◌, ◌<◌, drop, sym, ap, ◌∙◌, inr, arith, rules, length, length-drop}
 use Rattle.std.specs.Prelude.{Err}
 use Rattle.std.proofs.lemmas.List.{get_or-drop}
-use Rattle.std.proofs.lemmas.Result.{IfErr-weaker}
 use denote.Enum.Bare.{same_true}
 use Rattle.fv_base.specs.contracts.fault.FaultKind.{the_type}
 use Rattle.fv_file.specs.Words.{is_fixed}
@@ -24,18 +23,13 @@ unmark-requires-clause-marked c =
     fixed_least _ (ap is_fixed (sym (get_or-drop c.args.at c.args.body.now 19 0))
     ∙ (fixed (goal.at.unmark-requires-clause-marked c).Then-eq).1.fixed)
 
-pub returns-then-eq-clause-refused : goal.returns-then-eq-clause-refused
-returns-then-eq-clause-refused c =
-    let there = (fixed (goal.at.returns-then-eq-clause-refused c).Then-eq).1 in
+pub returns-then-eq-clause-plain : goal.returns-then-eq-clause-plain
+returns-then-eq-clause-plain c =
+    let there = (fixed (goal.at.returns-then-eq-clause-plain c).Then-eq).1 in
     let long : c.args.at + 19 < length c.args.body.now = omega (arith, there.long, length-drop c.args.at c.args.body.now) in
     let bit = ap is_fixed (sym (get_or-drop c.args.at c.args.body.now 19 0)) ∙ there.fixed in
-    IfErr-weaker c.span_at-then-eq.result _ _ (λ f h.
-    let is = ap (cell_verdict c.args.system c.args.polarity (c.args.first + c.args.at)) (sym c.bytes_from-then-eq.ensures) ∙ h in (
-      is,
-      not_fixed_again _ _ _ c.args.at c.args.body.now f long bit
-          (ap (λ b. cell_verdict c.args.system c.args.polarity (c.args.first + c.args.at) (drop c.args.at b)) (sym c.unmark.ensures) ∙ is),
-    ))
-    c.span_at-then-eq.ensures.refused
+    λ f is. not_fixed_again _ _ _ c.args.at c.args.body.now f long bit
+    (ap (λ b. cell_verdict c.args.system c.args.polarity (c.args.first + c.args.at) (drop c.args.at b)) (sym c.unmark.ensures) ∙ is)
 
 pub returns-then-eq-clause-step : goal.returns-then-eq-clause-step
 returns-then-eq-clause-step c =

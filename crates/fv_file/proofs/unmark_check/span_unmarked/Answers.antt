@@ -5,6 +5,7 @@ use denote.Enum.Bare.{same_true}
 use Rattle.std.specs.Prelude.{Err}
 use Rattle.fv_base.specs.declared.fault.FaultKind.TheVariants as kinds
 use Rattle.fv_file.specs.FileChecks.{file_header_len_at, file_size_at}
+use Rattle.fv_file.proofs.CellVerdictLemmas.{verdict_stands}
 use Rattle.fv_file.proofs.MarkedFileLemmas.{cell_without, size_within, wrong_without}
 use Rattle.fv_file.proofs.UnmarkLemmas.{FixedThere, fixed_there}
 use Rattle.fv_file.proofs.unmark_check.span_unmarked.Goals.{Then-eq}
@@ -24,6 +25,14 @@ within : (c : Then-eq) → (file_header_len_at c.args.rest.now ≤ file_size_at 
 within c =
     let k = known c in
     size_within c.args.system c.args.polarity c.args.at c.args.rest.now _ k.there.long c.in-Err.ensures.refused k.kind k.there.fixed
+
+pub span_of-requires : goal.span_of-requires
+span_of-requires c =
+    omega (
+      arith,
+      (verdict_stands _ _ _ c.args.rest.now _ c.requires.multiple c.in-Ok.ensures.found).within,
+      c.requires.place,
+    )
 
 pub sound_size-requires-clause-least : goal.sound_size-requires-clause-least
 sound_size-requires-clause-least c = (known (goal.at.sound_size-requires-clause-least c).Then-eq).there.long

@@ -1,6 +1,6 @@
 use Rattle.std.proofs.Common.{◌-◌, length}
 use Rattle.fv_file.proofs.UnmarkLemmas.{Unmarked}
-use Rattle.fv_file.proofs.unmark.unmark_files.Given as goal
+use Rattle.fv_file.proofs.unmark.take_marks.Given as goal
 
 abbrev pub invariant-loop-system : goal.invariant-loop-system
 invariant-loop-system l = Unmarked l.fn.system l.fn.polarity l.fn.first l.initial.body l.body l.at

@@ -1,0 +1,54 @@
+use Rattle.std.proofs.Common.{◌≡◌, ◌+◌, ◌<◌, ◌≤◌, ◌∙◌, arith, drop, length, subst, sym}
+use Rattle.std.specs.Prelude.{Ok}
+use Rattle.fv_file.specs.Words.{CellForm}
+use Rattle.fv_file.specs.inner.CellVerdicts.{cell_verdict}
+use Rattle.fv_file.proofs.BodyLemmas.{all_kept, rest_free, rest_used}
+use Rattle.fv_file.proofs.UnmarkLemmas.{Unmarked, cell_long, one_further, one_less, stands_unmarked, stride_len, unmarked_begins, unmarked_cell}
+use Rattle.fv_file.proofs.unmark.take_marks.Goals.{After-unmark_at, After-stride_at-at}
+use Rattle.fv_file.proofs.unmark.take_marks.Goals as goal
+
+-- a cell is here, and is not fixed
+here : (c : After-unmark_at) → Unmarked c.args.system c.args.polarity c.args.first c.args.body.now c.unmark_at.new.body c.loop-system.at
+    × ((cell : CellForm) × (cell_verdict c.args.system c.args.polarity (c.args.first + c.loop-system.at) (drop c.loop-system.at c.unmark_at.new.body) ≡ Ok cell))
+here c =
+    let used = rest_used _ _ c.loop-system.body c.loop-system.at c.bytes_from.ensures (sym c.is_free.ensures ∙ c.loop-system-test.true) in (
+      one_less _ _ _ _ _ _ _ c.loop-system.invariant used c.unmark_at.ensures.step,
+      unmarked_cell _ _ _ _ _ _ _ c.requires.accepted c.loop-system.invariant used c.unmark_at.ensures.step c.unmark_at.ensures.plain,
+    )
+
+-- a cell further
+further : (c : After-stride_at-at)
+    → Unmarked c.args.system c.args.polarity c.args.first c.args.body.now c.unmark_at.new.body (c.loop-system.at + c.stride_at-at.result)
+    × (0 < c.stride_at-at.result) × (c.loop-system.at + c.stride_at-at.result ≤ length c.unmark_at.new.body)
+further c =
+    let k = here (goal.at.loop-system-preserved c).After-unmark_at in
+    let stands = stands_unmarked _ _ _ _ c.unmark_at.new.body _ _ c.requires.multiple k.0 k.1.1 in
+    one_further _ _ _ _ c.unmark_at.new.body _ _ _ k.0 stands
+    (stride_len _ _ _ _ _ _ stands (λ x behind e is free.
+    c.stride_at-at.ensures.cell _ _ x behind (c.bytes_from-in-loop-system.ensures ∙ e) is free))
+
+pub loop-system-init : goal.loop-system-init
+loop-system-init c = unmarked_begins _ _ _ _
+
+pub stride_at-at-requires : goal.stride_at-at-requires
+stride_at-at-requires c =
+    let k = here (goal.at.stride_at-at-requires c).After-unmark_at in
+    subst (λ b. 24 ≤ length b) (sym c.bytes_from-in-loop-system.ensures) (cell_long _ _ _ _ k.1.0 k.1.1)
+
+pub overflow_add-at : goal.overflow_add-at
+overflow_add-at c = let k = further c in omega (arith, k.2, k.0.same_length, c.requires.place)
+
+pub loop-system-smaller : goal.loop-system-smaller
+loop-system-smaller c = let k = further c in omega (arith, k.1, k.2, k.0.same_length, c.loop-system.invariant.same_length)
+
+pub loop-system-preserved : goal.loop-system-preserved
+loop-system-preserved c = (further c).0
+
+pub returns : goal.returns
+returns c =
+    let k = c.loop-system.invariant in (
+      k.places,
+      k.marks,
+      all_kept _ _ _ _ _ _ k.upto
+          (rest_free _ _ c.loop-system.body c.loop-system.at c.bytes_from.ensures (sym c.is_free.ensures ∙ c.loop-system-test.false)),
+    )
