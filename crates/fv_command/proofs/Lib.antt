@@ -1,3 +1,4 @@
+pub mod DigestLemmas
 pub mod CheckTextLemmas
 pub mod EndLemmas
 pub mod InputLemmas

@@ -1,5 +1,5 @@
 -- The text and the status of each task over one input, and the faults that stop a task.
-use Rattle.std.specs.Prelude.{◌≡◌, ◌↔◌, ℕ, Bool, true, List, ◌++◌, drop, Option, Some, ◌⊎◌, false, codes}
+use Rattle.std.specs.Prelude.{◌≡◌, ◌↔◌, ℕ, Bool, true, List, ◌++◌, drop, Option, Some, None, ◌⊎◌, false, codes}
 use Rattle.fv_base.specs.Words.{OrMemory, out_of_memory}
 use Rattle.fv_base.specs.declared.flash.Polarity.{Polarity}
 use Rattle.fv_base.specs.declared.fault.Fault.{Fault}
@@ -8,8 +8,9 @@ use Rattle.fv_file.specs.Words.{CellForm, Tiles}
 use Rattle.fv_head.specs.Words.{BeginsVolume}
 use Rattle.fv_head.specs.declared.extent.Extent.{Extent}
 use Rattle.fv_tree.specs.Words.{Accepted, Meaning, files_of, head_of, FileMeaning, content_of, NotRead, file_named}
-use Rattle.fv_tree.specs.Words.{NotTiled, NotUnfixed, UnfixesTo}
-use Rattle.fv_lines.specs.Words.{AreNotes, depex_lines, depexes_in, pad_notes, verdict_line, VolumeLines, ListText}
+use Rattle.fv_tree.specs.Words.{NotTiled, NotUnfixed, UnfixesTo, BodyMeaning, Leaf, Group, Nested, body_of}
+use Rattle.fv_lines.specs.Words.{AreNotes, depex_lines, depexes_in, pad_notes, verdict_line, RowsText, ListText}
+use Rattle.fv_rows.specs.Words.{NodeMeaning, VolumeNode, FileNode, SectionNode, tree_rows}
 use Rattle.fv_lines.specs.Words.{CellsText, ScanText}
 use Rattle.fv_lines.specs.declared.depex_notes.DepexNote.{DepexNote}
 use Rattle.sha2.specs.Sha256.{sha256}
@@ -56,13 +57,21 @@ VolumeDigest m digest = (image : List ℕ) × IsImage m image × (digest ≡ Som
 abbrev pub FileDigest : FileMeaning → Option (List ℕ) → Type 0
 FileDigest f digest = (bytes : List ℕ) × IsData (content_of f) bytes × (digest ≡ Some (sha256 bytes))
 
--- the digest of a leaf section: the SHA-256 of its body
-abbrev pub LeafDigest : List ℕ → Option (List ℕ) → Type 0
-LeafDigest b digest = digest ≡ Some (sha256 b)
+-- the digest of a section: the SHA-256 of its body if the section is a leaf, otherwise None
+abbrev pub BodyDigest : BodyMeaning → Option (List ℕ) → Type 0
+BodyDigest (Leaf b) digest = digest ≡ Some (sha256 b)
+BodyDigest (Group _ _) digest = digest ≡ None
+BodyDigest (Nested _) digest = digest ≡ None
+
+-- the digest at the end of the line of a volume, a file or a section, or None
+abbrev pub NodeDigest : NodeMeaning → Option (List ℕ) → Type 0
+NodeDigest (VolumeNode m) digest = VolumeDigest m digest
+NodeDigest (FileNode f) digest = FileDigest f digest
+NodeDigest (SectionNode s) digest = BodyDigest (body_of s) digest
 
 -- the text of `list --sums`: the text of `list`, with these digests
 abbrev pub SumsText : Meaning → List ℕ → Type 0
-SumsText m text = VolumeLines VolumeDigest FileDigest LeafDigest 0 m text
+SumsText m text = RowsText NodeDigest (tree_rows m) text
 
 -- the text and the status of an extraction: the bytes of the part, and Done; or `not found` or `not sectioned`, and
 -- Different

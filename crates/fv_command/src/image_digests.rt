@@ -1,19 +1,53 @@
 //! The digests of `list --sums`: the SHA-256 of each volume's canonical image, of each file's data
 //! as they are in that image, and of each leaf section's body.
 
-ghost use Rattle.std.specs.Prelude.{◌≡◌};
-ghost use Rattle.fv_command.specs.Tasks.{FileDigest, LeafDigest, VolumeDigest};
-ghost use Rattle.fv_command.specs.inner.Digests.{BeginWith, begin_with};
+ghost use Rattle.std.specs.Prelude.{◌≡◌, ℕ, List, Some};
+ghost use Rattle.fv_canon.specs.Words.{BeginsWithStarts};
+ghost use Rattle.fv_tree.specs.Words.{body_of, content_of, volumes_in, volumes_in_content};
+ghost use Rattle.fv_command.specs.Tasks.{BodyDigest, FileDigest, NodeDigest, VolumeDigest};
+ghost use Rattle.fv_command.specs.inner.Digests.{Covers};
 
 use fv_base::Sink;
 use fv_canon::{put_laid_data, put_laid_volume, starts_inside};
 use fv_lines::Digests;
+use fv_rows::{Part, Row};
 use fv_sinks::DigestSink;
-use fv_tree::{FileView, VolumeView};
+use fv_tree::{FileView, SectionView, VolumeView};
 
-/// The digests of the volumes that a walk visits, and of the files in them. Each digest is computed
-/// when it is needed: a walk puts the volume's canonical image, or the file's data as they are in
-/// that image, into a digest sink.
+// Returns the digest of a volume. The starts begin with the starts of this volume.
+fn volume_digest(volume: &VolumeView<'_>, starts: &[u64]) -> [u8; 32]
+    requires { BeginsWithStarts (volumes_in volume.now) starts.now }
+    ensures { VolumeDigest volume.now (Some result) }
+{
+    let mut out = DigestSink::new();
+    put_laid_volume(volume, starts, &mut out);
+    out.finish()
+}
+
+// Returns the digest of a file's data. The starts begin with the starts of the volumes in these
+// data.
+fn file_digest(file: &FileView<'_>, starts: &[u64]) -> [u8; 32]
+    requires { BeginsWithStarts (volumes_in_content (content_of file.now)) starts.now }
+    ensures { FileDigest file.now (Some result) }
+{
+    let mut out = DigestSink::new();
+    put_laid_data(file, starts, &mut out);
+    out.finish()
+}
+
+// Returns the digest of the body of a section, or None if the section is not a leaf.
+fn section_digest(section: &SectionView<'_>) -> Option<[u8; 32]>
+    ensures { BodyDigest (body_of section.now) result }
+{
+    let bytes = section.leaf()?;
+    let mut out = DigestSink::new();
+    out.put(bytes);
+    Some(out.finish())
+}
+
+/// The digests of the parts that a walk visits. Each digest is computed when it is needed: a walk
+/// puts the volume's canonical image, or the file's data as they are in that image, into a digest
+/// sink.
 #[derive(Clone, Copy)]
 pub struct ImageDigests<'s> {
     /// The starts of a layout that remain. The starts of the next volume come first.
@@ -30,35 +64,19 @@ impl<'s> ImageDigests<'s> {
 }
 
 impl<'s> Digests for ImageDigests<'s> {
-    ghost covers = { BeginWith (λ d. d.starts.now) };
+    ghost covers = { Covers (λ d. d.starts.now) };
 
-    ghost laws = { begin_with (λ d. d.starts.now) };
+    ghost of_node = { NodeDigest };
 
-    ghost of_volume = { VolumeDigest };
-
-    ghost of_file = { FileDigest };
-
-    ghost of_leaf = { LeafDigest };
-
-    fn volume_digest(&self, volume: &VolumeView<'_>) -> Option<[u8; 32]> {
-        let mut out = DigestSink::new();
-        put_laid_volume(volume, self.starts, &mut out);
-        Some(out.finish())
-    }
-
-    fn file_digest(&self, file: &FileView<'_>) -> Option<[u8; 32]> {
-        let mut out = DigestSink::new();
-        put_laid_data(file, self.starts, &mut out);
-        Some(out.finish())
-    }
-
-    fn leaf_digest(&self, body: &[u8]) -> Option<[u8; 32]> {
-        let mut out = DigestSink::new();
-        out.put(body);
-        Some(out.finish())
-    }
-
-    fn inside(self, volume: &VolumeView<'_>) -> ImageDigests<'s> {
-        ImageDigests::new(starts_inside(volume, self.starts))
+    fn next_digest(&mut self, row: &Row<'_, '_>) -> Option<[u8; 32]> {
+        let starts = self.starts;
+        match row.part {
+            Part::Volume(volume) => {
+                self.starts = starts_inside(volume, starts);
+                Some(volume_digest(volume, starts))
+            }
+            Part::File(file) => Some(file_digest(file, starts)),
+            Part::Section(section) => section_digest(section),
+        }
     }
 }

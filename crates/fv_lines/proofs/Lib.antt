@@ -1,5 +1,4 @@
 pub mod CellSumLemmas
-pub mod CoverLemmas
 pub mod DepexNoteLemmas
 pub mod HobLemmas
 pub mod ListTextLemmas

@@ -12,11 +12,10 @@ use Rattle.fv_base.specs.declared.flash.FileSystem.TheVariants.{Ffs2, Ffs3}
 use Rattle.fv_text.specs.Words.{four_digits, line_feed, two_digits}
 use Rattle.fv_head.specs.Words.{Extension}
 use Rattle.fv_section.specs.Words.{IsText, IsVersion, IsFreeform}
-use Rattle.fv_tree.specs.Words.{Meaning, Volume, FileMeanings, NoFiles, MoreFiles, FileMeaning, File, ContentMeaning}
-use Rattle.fv_tree.specs.Words.{Plain, Sectioned, SectionMeanings, NoSections, MoreSections, SectionMeaning, Section}
-use Rattle.fv_tree.specs.Words.{BodyMeaning, Leaf, Group, Nested, body_len, head_of, files_of, file_name_of}
-use Rattle.fv_tree.specs.Words.{attributes_of, data_len_of, file_kind_of, section_kind_of, section_is_extended, body_of}
-use Rattle.fv_tree.specs.Words.{Inside, deeper}
+use Rattle.fv_tree.specs.Words.{Meaning, FileMeaning, SectionMeaning, BodyMeaning, Leaf, Group, Nested}
+use Rattle.fv_tree.specs.Words.{body_len, head_of, files_of, file_name_of, attributes_of, data_len_of, file_kind_of}
+use Rattle.fv_tree.specs.Words.{section_kind_of, section_is_extended, body_of}
+use Rattle.fv_rows.specs.Words.{NodeMeaning, VolumeNode, FileNode, SectionNode, TreeRow, tree_rows}
 
 -- ---- what a leaf shows
 
@@ -106,85 +105,31 @@ section_text k j s shown digest =
     ++ (form_text (section_is_extended s) ++ (decimal (body_len (body_of s))
     ++ (shown ++ (digest_text digest ++ line_feed))))))))
 
--- ---- the walk
+-- ---- the rows
 
 -- a relation between a part and the digest that its line shows, or None
-abbrev pub DigestOf : Type 0 → Type 1
-DigestOf A = A → Option (List ℕ) → Type 0
+abbrev pub DigestOf : Type 1
+DigestOf = NodeMeaning → Option (List ℕ) → Type 0
 
 -- the line of this part shows no digest
-abbrev pub NoDigest : {A : Type 0} → DigestOf A
-NoDigest x digest = digest ≡ None
+abbrev pub NoDigest : DigestOf
+NoDigest node digest = digest ≡ None
 
--- the digest in the line of a section: the digest of its body if the section is a leaf, otherwise None
-abbrev pub BodyDigest : DigestOf (List ℕ) → DigestOf BodyMeaning
-BodyDigest of_leaf (Leaf b) digest = of_leaf b digest
-BodyDigest of_leaf (Group _ _) digest = digest ≡ None
-BodyDigest of_leaf (Nested _) digest = digest ≡ None
+-- the line of a volume, a file or a section, indented by this number of levels; the part is number i of its volume or
+-- stream
+abbrev pub NodeText : (depth i : ℕ) → NodeMeaning → Option (List ℕ) → List ℕ → Type 0
+NodeText depth i (VolumeNode v) digest text = text ≡ volume_text depth v digest
+NodeText depth i (FileNode f) digest text = text ≡ file_text depth i f digest
+NodeText depth i (SectionNode s) digest text =
+    (shown : List ℕ) × BodyShown (section_kind_of s) (body_of s) shown × (text ≡ section_text depth i s shown digest)
 
-abbrev mutual
-  -- the line of a volume, indented by k levels, and the lines of everything in it. The three relations say which digest
-  -- the line of a volume, a file or a leaf shows, if any
-  pub VolumeLines : DigestOf Meaning → DigestOf FileMeaning → DigestOf (List ℕ) → ℕ → Meaning
-      → List ℕ → Type 0
-  VolumeLines of_volume of_file of_leaf k (Volume head files) text =
-      (digest : Option (List ℕ)) × (rest : List ℕ) × of_volume (Volume head files) digest
-      × (text ≡ volume_text k (Volume head files) digest ++ rest) × FilesLines of_volume of_file of_leaf (k + 1) 0 files rest
-
-  -- the lines of some files and of everything in them; the first file is number i
-  pub FilesLines : DigestOf Meaning → DigestOf FileMeaning → DigestOf (List ℕ) → ℕ → ℕ
-      → FileMeanings → List ℕ → Type 0
-  FilesLines of_volume of_file of_leaf k i NoFiles text = text ≡ []
-  FilesLines of_volume of_file of_leaf k i (MoreFiles f files) text =
-      (here : List ℕ) × (rest : List ℕ) × (text ≡ here ++ rest) × FileLines of_volume of_file of_leaf k i f here
-      × FilesLines of_volume of_file of_leaf k (i + 1) files rest
-
-  -- the line of a file, and the lines of its sections if its data are sections
-  pub FileLines : DigestOf Meaning → DigestOf FileMeaning → DigestOf (List ℕ) → ℕ → ℕ
-      → FileMeaning → List ℕ → Type 0
-  FileLines of_volume of_file of_leaf k i (File name kind attributes content) text =
-      (digest : Option (List ℕ)) × (rest : List ℕ) × of_file (File name kind attributes content) digest
-      × (text ≡ file_text k i (File name kind attributes content) digest ++ rest)
-      × ContentLines of_volume of_file of_leaf (k + 1) content rest
-
-  pub ContentLines : DigestOf Meaning → DigestOf FileMeaning → DigestOf (List ℕ) → ℕ
-      → ContentMeaning → List ℕ → Type 0
-  ContentLines of_volume of_file of_leaf k (Plain b) text = text ≡ []
-  ContentLines of_volume of_file of_leaf k (Sectioned sections tail) text = SectionsLines of_volume of_file of_leaf k 0 sections text
-
-  -- the lines of some sections and of everything in them; the first section is number j
-  pub SectionsLines : DigestOf Meaning → DigestOf FileMeaning → DigestOf (List ℕ) → ℕ → ℕ
-      → SectionMeanings → List ℕ → Type 0
-  SectionsLines of_volume of_file of_leaf k j NoSections text = text ≡ []
-  SectionsLines of_volume of_file of_leaf k j (MoreSections s sections) text =
-      (here : List ℕ) × (rest : List ℕ) × (text ≡ here ++ rest) × SectionLines of_volume of_file of_leaf k j s here
-      × SectionsLines of_volume of_file of_leaf k (j + 1) sections rest
-
-  -- the line of a section, and the lines of its contents if it is not a leaf
-  pub SectionLines : DigestOf Meaning → DigestOf FileMeaning → DigestOf (List ℕ) → ℕ → ℕ
-      → SectionMeaning → List ℕ → Type 0
-  SectionLines of_volume of_file of_leaf k j (Section kind extended body) text =
-      (shown : List ℕ) × (digest : Option (List ℕ)) × (rest : List ℕ) × BodyShown kind body shown
-      × BodyDigest of_leaf body digest × (text ≡ section_text k j (Section kind extended body) shown digest ++ rest)
-      × BodyLines of_volume of_file of_leaf (k + 1) body rest
-
-  pub BodyLines : DigestOf Meaning → DigestOf FileMeaning → DigestOf (List ℕ) → ℕ → BodyMeaning
-      → List ℕ → Type 0
-  BodyLines of_volume of_file of_leaf k (Leaf b) text = text ≡ []
-  BodyLines of_volume of_file of_leaf k (Group sections tail) text = SectionsLines of_volume of_file of_leaf k 0 sections text
-  BodyLines of_volume of_file of_leaf k (Nested volume) text = VolumeLines of_volume of_file of_leaf k volume text
+-- the lines of some rows, one after the other. The relation says which digest the line of a part shows, if any
+abbrev pub RowsText : DigestOf → List TreeRow → List ℕ → Type 0
+RowsText of_node [] text = text ≡ []
+RowsText of_node (r ∷ rs) text =
+    (digest : Option (List ℕ)) × (here : List ℕ) × (rest : List ℕ) × of_node r.node digest
+    × NodeText r.depth r.number r.node digest here × (text ≡ here ++ rest) × RowsText of_node rs rest
 
 -- the text is the output of `list` for a volume with this meaning
 abbrev pub ListText : Meaning → List ℕ → Type 0
-ListText m text = VolumeLines NoDigest NoDigest NoDigest 0 m text
-
--- `covers d vs`: in the state d the digests of the volumes vs, and of the files in them, are available. Then the
--- digests of the first volumes in vs are available too. Nesting depths do not matter
-pub record CoverLaws {D : Type 0} (covers : D → List Inside → Type 0) : Type 0 where
-  pub first : (d : D) (vs ws : List Inside) → covers d (vs ++ ws) → covers d vs
-  pub higher : (d : D) (vs ws : List Inside) → covers d (deeper vs ++ ws) → covers d (vs ++ ws)
-
--- a walk goes from the state d, with the volumes vs to come, to the state e, with ws to come: if d covers vs and
--- further volumes, then e covers ws and the same further volumes
-abbrev pub Leaves : {D : Type 0} (covers : D → List Inside → Type 0) → D → List Inside → D → List Inside → Type 0
-Leaves covers d vs e ws = (more : List Inside) → covers d (vs ++ more) → covers e (ws ++ more)
+ListText m text = RowsText NoDigest (tree_rows m) text

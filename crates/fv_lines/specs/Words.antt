@@ -11,6 +11,4 @@ pub use Rattle.fv_lines.specs.Notes.{section_depex, sections_depexes, file_depex
 pub use Rattle.fv_lines.specs.Notes.{IsNoted, AreNotes, depex_line, depex_lines, verdict_line}
 pub use Rattle.fv_lines.specs.ListTexts.{is_plain, unit_text, Shows, VersionText, InterfaceText, SubtypeText, LeafText}
 pub use Rattle.fv_lines.specs.ListTexts.{BodyShown, spaces, digest_text, system_text, name_text, volume_text, file_text}
-pub use Rattle.fv_lines.specs.ListTexts.{form_text, section_text, VolumeLines, FilesLines, FileLines, ContentLines}
-pub use Rattle.fv_lines.specs.ListTexts.{SectionsLines, SectionLines, BodyLines, DigestOf, NoDigest, BodyDigest, ListText}
-pub use Rattle.fv_lines.specs.ListTexts.{CoverLaws, Leaves}
+pub use Rattle.fv_lines.specs.ListTexts.{form_text, section_text, DigestOf, NoDigest, NodeText, RowsText, ListText}

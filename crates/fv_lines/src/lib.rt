@@ -10,7 +10,6 @@ mod depex_notes;
 mod digest_text;
 mod digests;
 mod hob_text;
-mod indent;
 mod leaf_text;
 mod list_text;
 mod pad_notes;

@@ -14,7 +14,7 @@ pub use Rattle.fv_tree.proofs.SizeLaws.{file_content_falls}
 -- the volumes in a section and in a file
 pub use Rattle.fv_tree.proofs.DepthLaws.{in_section, in_file}
 -- what is inside something that was read nests one level less deep
-pub use Rattle.fv_tree.proofs.DepthLaws.{nests_files, nests_body, nests_group, nests_nested}
+pub use Rattle.fv_tree.proofs.DepthLaws.{nests_files, nests_content, nests_sections, nests_body, nests_group, nests_nested}
 -- ---- a volume
 
 -- a volume that bytes begin with has its header there

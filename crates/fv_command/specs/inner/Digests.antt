@@ -1,16 +1,10 @@
--- Which volumes a list of starts covers. The laws are proofs, which ghost members cite.
-use Rattle.std.proofs.Common.{ℕ, List}
+-- Which rows a list of starts covers.
+use Rattle.std.specs.Prelude.{ℕ, List}
 use Rattle.fv_canon.specs.Words.{BeginsWithStarts}
-use Rattle.fv_canon.proofs.Laws.{begins_first, begins_higher}
-use Rattle.fv_lines.specs.Words.{CoverLaws}
-use Rattle.fv_tree.specs.Words.{Inside}
+use Rattle.fv_rows.specs.Words.{TreeRow}
+use Rattle.fv_rows.specs.inner.RowVolumes.{Followed, volumes_of}
 
--- in this state of the walk, the starts begin with the starts of these volumes
-abbrev pub BeginWith : {D : Type 0} (starts : D → List ℕ) → D → List Inside → Type 0
-BeginWith starts d vs = BeginsWithStarts vs (starts d)
-
-pub begin_with : {D : Type 0} (starts : D → List ℕ) → CoverLaws (BeginWith starts)
-begin_with starts = record {
-  first = λ d vs ws begins. begins_first vs ws (starts d) begins;
-  higher = λ d vs ws begins. begins_higher vs ws (starts d) begins;
-}
+-- each of these rows is followed by the rows of its contents, and in this state of the walk, the starts begin with the
+-- starts of the volumes among these rows
+abbrev pub Covers : {D : Type 0} (starts : D → List ℕ) → D → List TreeRow → Type 0
+Covers starts d rows = Followed rows × BeginsWithStarts (volumes_of rows) (starts d)

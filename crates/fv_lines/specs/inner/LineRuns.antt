@@ -1,19 +1,14 @@
--- Definitions for the code that puts lines: indentation, cells and notes.
+-- Definitions for the code that puts lines: rows, cells and notes.
 use Rattle.std.specs.Prelude.{ℕ, ◌+◌, ◌≤◌, List}
-use Rattle.fv_lines.specs.declared.indent.Indent.{Indent}
-use Rattle.fv_lines.specs.declared.indent.Indent.TheVariants.{Margin, Inside'}
 use Rattle.std.specs.List.{AllByRecursion, sum_by}
 use Rattle.fv_base.specs.Words.{volume_limit}
 use Rattle.fv_file.specs.Words.{CellForm, offset_of, IsMadeUp, cell_len}
 use Rattle.fv_lines.specs.CellTexts.{dead_length, file_length, filler_length, free_length, pad_length}
 use Rattle.fv_lines.specs.declared.cell_text.LengthSums.{LengthSums}
+use Rattle.fv_rows.specs.Words.{TreeRow}
+use Rattle.fv_lines.specs.ListTexts.{DigestOf, RowsText}
 use Rattle.fv_lines.specs.Notes.{AreNotes, HeldDepex, depex_lines}
 use Rattle.fv_lines.specs.declared.depex_notes.DepexNote.{DepexNote}
-
--- the number of levels by which a line is indented
-abbrev pub levels : Indent → ℕ
-levels Margin = 0
-levels (Inside' p outer) = levels outer + 1
 
 -- a cell ends within the bytes that a volume may have, and its lengths agree (`IsMadeUp`)
 pub record Fits (c : CellForm) : Type 0 where
@@ -42,3 +37,7 @@ counted sums = sums.files + sums.pads + sums.deleted + sums.filler + sums.free
 -- the sink took the lines of the notes on these expressions
 abbrev pub PutsNotes : {S : Type 0} (takes : S → List ℕ → S → Type 0) → List HeldDepex → S → S → Type 0
 PutsNotes takes xs s t = (notes : List DepexNote) × AreNotes xs notes × takes s (depex_lines notes) t
+
+-- the sink took the lines of these rows
+abbrev pub PutsRows : {S : Type 0} (takes : S → List ℕ → S → Type 0) → DigestOf → List TreeRow → S → S → Type 0
+PutsRows takes of_node rows s t = (text : List ℕ) × RowsText of_node rows text × takes s text t

@@ -1,8 +1,10 @@
-use Rattle.std.proofs.Common.{[], append-nil, refl, subst, sym}
+use Rattle.std.proofs.Common.{refl, subst, sym}
 use Rattle.fv_base.proofs.Laws.{err_is}
 use Rattle.fv_canon.specs.Words.{BeginsWithStarts, LaysVolume}
 use Rattle.fv_command.proofs.RunLemmas.{sums_denied}
-use Rattle.fv_tree.specs.Words.{volumes_in}
+use Rattle.fv_rows.specs.Words.{tree_rows}
+use Rattle.fv_rows.specs.inner.RowVolumes.{Followed, volumes_of}
+use Rattle.fv_command.proofs.DigestLemmas.{all_begin}
 use Rattle.fv_command.proofs.task_run.list_sums.Goals as goal
 
 pub returns-in_err-places : goal.returns-in_err-places
@@ -15,7 +17,7 @@ put_list_with-requires g c =
     let starts = c.starts.result.now in
     let m = c.in_ok-volume.volume in
     let laid = subst (LaysVolume m) (sym c.starts.ensures) c.in_ok-places.ensures.layout.0 in
-    subst (BeginsWithStarts (volumes_in m)) (sym c.new.ensures) (starts, [], sym (append-nil starts), laid)
+    subst (λ xs. Followed (tree_rows m) × BeginsWithStarts (volumes_of (tree_rows m)) xs) (sym c.new.ensures) (all_begin m starts laid)
 
 pub returns : goal.returns
 returns g c =

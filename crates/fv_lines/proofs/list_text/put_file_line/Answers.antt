@@ -16,15 +16,12 @@ returns g c =
     let bits = subst (λ (n : ℕ). takes c.put-5.new.self (two_digits n) c.put_two_digits-2.new.out)
     (c.byte.ensures ∙ c.attributes.ensures) c.put_two_digits-2.ensures in
     let size = subst (λ (n : ℕ). takes c.put-6.new.self (decimal n) c.put_decimal-2.new.out) c.data_len.ensures
-    c.put_decimal-2.ensures.text in (
-      c.file_digest.result,
-      c.file_digest.ensures,
-      begun g.S.Sink.laws c.put_indent.ensures c.put.ensures c.put_decimal.ensures.text
-          (laws.joined c.put-2.ensures
-          (laws.joined name
-          (laws.joined c.put-4.ensures
-          (laws.joined kind
-          (laws.joined c.put-5.ensures
-          (laws.joined bits
-          (laws.joined c.put-6.ensures (laws.joined size (laws.joined c.put_digest.ensures c.put-7.ensures))))))))),
-    )
+    c.put_decimal-2.ensures.text in
+    begun g.S.Sink.laws c.put_indent.ensures c.put.ensures c.put_decimal.ensures.text
+    (laws.joined c.put-2.ensures
+    (laws.joined name
+    (laws.joined c.put-4.ensures
+    (laws.joined kind
+    (laws.joined c.put-5.ensures
+    (laws.joined bits
+    (laws.joined c.put-6.ensures (laws.joined size (laws.joined c.put_digest.ensures c.put-7.ensures)))))))))

@@ -16,9 +16,7 @@ returns g c =
     c.put_decimal-2.ensures.text in
     let shown = c.put_section_body.ensures in (
       shown.0,
-      c.section_digest.result,
       shown.1,
-      c.section_digest.ensures,
       begun g.S.Sink.laws c.put_indent.ensures c.put.ensures c.put_decimal.ensures.text
           (laws.joined c.put-2.ensures
           (laws.joined kind (laws.joined form (laws.joined size (laws.joined shown.2 (laws.joined c.put_digest.ensures c.put-4.ensures)))))),

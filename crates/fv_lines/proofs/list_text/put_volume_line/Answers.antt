@@ -16,10 +16,7 @@ returns g c =
     (c.length.ensures ∙ ap (λ (h : HeadFields). h.length) head) c.put_decimal.ensures.text in
     let count = subst (λ (n : ℕ). takes c.put-2.new.self (decimal n) c.put_decimal-2.new.out) (c.from.ensures ∙ c.file_count.ensures)
     c.put_decimal-2.ensures.text in
-    let name = subst (λ (h : HeadFields). takes c.put_decimal-2.new.out (name_text h.ext) c.put_name.new.out) head c.put_name.ensures in (
-      c.volume_digest.result,
-      c.volume_digest.ensures,
-      begun g.S.Sink.laws c.put_indent.ensures system size
-          (laws.joined c.put-2.ensures
-          (laws.joined count (laws.joined name (laws.joined c.put_digest.ensures c.put-3.ensures)))),
-    )
+    let name = subst (λ (h : HeadFields). takes c.put_decimal-2.new.out (name_text h.ext) c.put_name.new.out) head c.put_name.ensures in
+    begun g.S.Sink.laws c.put_indent.ensures system size
+    (laws.joined c.put-2.ensures
+    (laws.joined count (laws.joined name (laws.joined c.put_digest.ensures c.put-3.ensures))))

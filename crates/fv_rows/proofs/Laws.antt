@@ -1,0 +1,5 @@
+-- The laws of this crate that the crates above may cite.
+-- each row of a volume is followed by the rows of its contents
+pub use Rattle.fv_rows.proofs.RowVolumeLaws.{rows_followed}
+-- the volumes among the rows of a volume, of some files and of a file's data are the volumes in them
+pub use Rattle.fv_rows.proofs.RowVolumeLaws.{volume_volumes, files_volumes, content_volumes}

@@ -1,0 +1,3 @@
+pub mod RowWalkLaws
+pub mod RowVolumeLaws
+pub mod Laws

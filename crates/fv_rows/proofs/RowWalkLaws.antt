@@ -1,0 +1,165 @@
+-- The walk over the parts of a volume. The steps:
+-- 1. The rows of a list of parts are the rows of each part, one after the other (`files_rows`, `sections_rows`,
+--    `inside_rows`).
+-- 2. The parts in a part nest only as deep as their level allows (`inside_nests`).
+-- 3. The innermost level is split from the others (`left_more`, `levels_more`, `levels_less`).
+-- 4. An empty level is dropped (`none_left`), and the walk takes the next row (`next_left`, `next_are`).
+use Rattle.std.proofs.Common.{◌≡◌, ◌∙◌, ◌≤◌, ◌<◌, ◌+◌, ◌*◌, ◌^◌, ℕ, List, [], ◌∷◌, ◌++◌, length, refl, sym, ap, subst}
+use Rattle.std.proofs.Common.{append-nil, append_assoc, arith, length-append}
+use Rattle.std.proofs.lemmas.List.{length-map}
+use Rattle.std.specs.Prelude.{map}
+use Rattle.std.specs.List.{AllByRecursion}
+use Rattle.fv_section.specs.Words.{FrameForm}
+use Rattle.fv_tree.specs.Words.{FileForm, MeansFile, MeansSection, Stream, Meaning, Volume, FileMeanings, NoFiles, MoreFiles}
+use Rattle.fv_tree.specs.Words.{FileMeaning, File, Plain, Sectioned, SectionMeanings, NoSections, MoreSections, SectionMeaning}
+use Rattle.fv_tree.specs.Words.{Section, Leaf, Group, Nested, files_list, sections_from, sections_list}
+use Rattle.fv_tree.proofs.Laws.{nests_files, nests_content, nests_sections, nests_body, nests_group, nests_nested}
+use Rattle.fv_rows.specs.TreeRows.{NodeMeaning, VolumeNode, FileNode, SectionNode, rows_of_file}
+use Rattle.fv_rows.specs.TreeRows.{rows_of_files, rows_of_section, rows_of_sections, rows_of_volume}
+use Rattle.fv_rows.specs.inner.RowParts.{parts_in}
+use Rattle.fv_rows.specs.RowWalks.{nodes_of, rows_inside, rows_of_nodes, left_in, NestsAt, AreLevels}
+use Rattle.fv_rows.specs.declared.tree_walk.Level.{Level}
+
+-- ---- the rows of a list of parts
+
+pub sections_list_back : (ss : List SectionMeaning) → sections_list (sections_from ss) ≡ ss
+sections_list_back [] = refl
+sections_list_back (s ∷ ss) = ap (λ l. s ∷ l) (sections_list_back ss)
+
+-- a list of parts is as short as the list of its items
+pub few_nodes : {A : Type 0} (f : A → NodeMeaning) (xs : List A) → length xs < 2 ^ 63 → length (map f xs) < 2 ^ 63
+few_nodes f xs few = omega (arith, few, length-map xs f)
+
+files_rows : (depth number : ℕ) (fs : FileMeanings) → rows_of_files depth number fs ≡ rows_of_nodes depth number (map FileNode (files_list fs))
+files_rows depth number NoFiles = refl
+files_rows depth number (MoreFiles (File name kind attributes content) fs) =
+    ap (λ l. rows_of_file depth number (File name kind attributes content) ++ l) (files_rows depth (number + 1) fs)
+
+sections_rows : (depth number : ℕ) (ss : SectionMeanings)
+    → rows_of_sections depth number ss ≡ rows_of_nodes depth number (map SectionNode (sections_list ss))
+sections_rows depth number NoSections = refl
+sections_rows depth number (MoreSections (Section kind extended body) ss) =
+    ap (λ l. rows_of_section depth number (Section kind extended body) ++ l) (sections_rows depth (number + 1) ss)
+
+pub volume_rows : (depth : ℕ) (v : Meaning) → rows_of_volume depth v ≡ rows_of_nodes depth 0 (VolumeNode v ∷ [])
+volume_rows depth (Volume h files) = ap (λ l. record { depth = depth; number = 0; node = VolumeNode (Volume h files) } ∷ l)
+    (sym (append-nil (rows_of_files (depth + 1) 0 files)))
+
+-- the rows in a part are the rows of the parts that it contains
+inside_rows : (depth : ℕ) (node : NodeMeaning) → rows_inside depth node ≡ rows_of_nodes depth 0 (parts_in node)
+inside_rows depth (VolumeNode (Volume h files)) = files_rows depth 0 files
+inside_rows depth (FileNode (File name kind attributes (Plain b))) = refl
+inside_rows depth (FileNode (File name kind attributes (Sectioned ss tail))) = sections_rows depth 0 ss
+inside_rows depth (SectionNode (Section kind extended (Leaf b))) = refl
+inside_rows depth (SectionNode (Section kind extended (Group ss tail))) = sections_rows depth 0 ss
+inside_rows depth (SectionNode (Section kind extended (Nested v))) = volume_rows depth v
+
+-- ---- how deep parts nest
+
+files_nest : (depth n : ℕ) (fs : List FileMeaning) → depth + 3 * n ≤ 25
+    → AllByRecursion (λ m. (f : FileForm) × MeansFile (Stream n) f m) fs → AllByRecursion (NestsAt depth) (map FileNode fs)
+files_nest depth n [] fits h = tt
+files_nest depth n (f ∷ fs) fits ((form, means), more) = ((n, fits, form, means), files_nest depth n fs fits more)
+
+sections_nest : (depth n : ℕ) (ss : List SectionMeaning) → depth + 3 * n ≤ 26
+    → AllByRecursion (λ s. (f : FrameForm) × MeansSection n f s) ss → AllByRecursion (NestsAt depth) (map SectionNode ss)
+sections_nest depth n [] fits h = tt
+sections_nest depth n (s ∷ ss) fits ((f, means), more) = ((n, fits, f, means), sections_nest depth n ss fits more)
+
+inside_nests : (depth : ℕ) (node : NodeMeaning) → NestsAt depth node → AllByRecursion (NestsAt (depth + 1)) (parts_in node)
+inside_nests depth (VolumeNode (Volume h files)) (n, fits, b, d) =
+    files_nest (depth + 1) n (files_list files) (omega (arith, fits)) (nests_files h files n (b, d))
+inside_nests depth (FileNode (File name kind attributes (Plain b))) nests = tt
+inside_nests depth (FileNode (File name kind attributes (Sectioned ss tail))) (n, fits, f, means) =
+    sections_nest (depth + 1) n (sections_list ss) (omega (arith, fits))
+    (nests_sections ss tail n (nests_content (File name kind attributes (Sectioned ss tail)) n f means))
+inside_nests depth (SectionNode (Section kind extended (Leaf b))) nests = tt
+inside_nests depth (SectionNode (Section kind extended (Group ss tail))) (n, fits, f, means) =
+    let (k, less, inside) = nests_group ss tail n (nests_body (Section kind extended (Group ss tail)) n f means) in
+    sections_nest (depth + 1) k (sections_list ss) (omega (arith, fits, less)) inside
+inside_nests depth (SectionNode (Section kind extended (Nested v))) (n, fits, f, means) =
+    let (k, less, inside) = nests_nested v n (nests_body (Section kind extended (Nested v)) n f means) in
+    ((k, omega (arith, fits, less), inside.0, inside.1), tt)
+
+-- ---- the innermost level
+
+left_more : (depth at : ℕ) (levels : List Level) (l : Level) → at ≡ depth + length levels
+    → left_in depth (levels ++ l ∷ []) ≡ rows_of_nodes at l.number (nodes_of l.held) ++ left_in depth levels
+left_more depth at [] l is =
+    let same : depth ≡ at = omega (arith, is) in
+    subst (λ d. rows_of_nodes depth l.number (nodes_of l.held) ≡ rows_of_nodes d l.number (nodes_of l.held) ++ []) same
+    (sym (append-nil (rows_of_nodes depth l.number (nodes_of l.held))))
+left_more depth at (outer ∷ levels) l is =
+    ap (λ rows. rows ++ rows_of_nodes depth outer.number (nodes_of outer.held))
+    (left_more (depth + 1) at levels l (omega (arith, is)))
+    ∙ append_assoc (rows_of_nodes at l.number (nodes_of l.held)) (left_in (depth + 1) levels)
+    (rows_of_nodes depth outer.number (nodes_of outer.held))
+
+levels_more : (depth at : ℕ) (levels : List Level) (l : Level) → at ≡ depth + length levels
+    → AreLevels depth levels → AllByRecursion (NestsAt at) (nodes_of l.held) → l.number + length (nodes_of l.held) < 2 ^ 63
+    → AreLevels depth (levels ++ l ∷ [])
+levels_more depth at [] l is are nest small =
+    (subst (λ d. AllByRecursion (NestsAt d) (nodes_of l.held)) (omega (arith, is)) nest, small, tt)
+levels_more depth at (outer ∷ levels) l is (here, few, more) nest small =
+    (here, few, levels_more (depth + 1) at levels l (omega (arith, is)) more nest small)
+
+pub levels_less : (depth at : ℕ) (levels : List Level) (l : Level) → at ≡ depth + length levels
+    → AreLevels depth (levels ++ l ∷ [])
+    → AreLevels depth levels × AllByRecursion (NestsAt at) (nodes_of l.held) × (l.number + length (nodes_of l.held) < 2 ^ 63)
+levels_less depth at [] l is (here, few, none) =
+    (tt, subst (λ d. AllByRecursion (NestsAt d) (nodes_of l.held)) (omega (arith, is)) here, few)
+levels_less depth at (outer ∷ levels) l is (here, few, more) =
+    let rest = levels_less (depth + 1) at levels l (omega (arith, is)) more in ((here, few, rest.0), rest.1, rest.2)
+
+-- ---- the next row
+
+-- an innermost level without parts has no rows
+pub none_left : (levels : List Level) (l : Level) → nodes_of l.held ≡ [] → left_in 0 (levels ++ l ∷ []) ≡ left_in 0 levels
+none_left levels l is =
+    left_more 0 (length levels) levels l (omega arith)
+    ∙ ap (λ nodes. rows_of_nodes (length levels) l.number nodes ++ left_in 0 levels) is
+
+-- every part leaves room for one more level
+deep : (depth : ℕ) (node : NodeMeaning) → NestsAt depth node → depth ≤ 26
+deep depth (VolumeNode v) (n, fits, what, more) = omega (arith, fits)
+deep depth (FileNode f) (n, fits, what, more) = omega (arith, fits)
+deep depth (SectionNode s) (n, fits, what, more) = omega (arith, fits)
+
+module _ (levels : List Level) (l : Level) (node : NodeMeaning) (nodes : List NodeMeaning)
+    (is : nodes_of l.held ≡ node ∷ nodes) (are : AreLevels 0 (levels ++ l ∷ [])) where
+  apart : AreLevels 0 levels × AllByRecursion (NestsAt (length levels)) (node ∷ nodes) × (l.number + length (node ∷ nodes) < 2 ^ 63)
+  apart =
+      let (others, nest, few) = levels_less 0 (length levels) levels l (omega arith) are in
+      (others, subst (AllByRecursion (NestsAt (length levels))) is nest, omega (arith, few, ap length is))
+
+  -- there is room for one more level and one more number
+  pub next_fits : (length levels ≤ 26) × (l.number + 1 < 2 ^ 63)
+  next_fits = (deep (length levels) node apart.1.0, omega (arith, apart.2))
+
+  module _ (rest inside : Level) (number : rest.number ≡ l.number + 1) (others : nodes_of rest.held ≡ nodes)
+      (first : inside.number ≡ 0) (within : nodes_of inside.held ≡ parts_in node) where
+    -- the first part of the innermost level is the next row
+    pub next_left : left_in 0 (levels ++ l ∷ [])
+        ≡ record { depth = length levels; number = l.number; node = node } ∷ left_in 0 ((levels ++ rest ∷ []) ++ inside ∷ [])
+    next_left =
+        let depth = length levels in
+        left_more 0 depth levels l (omega arith) ∙ ap (λ ns. rows_of_nodes depth l.number ns ++ left_in 0 levels) is
+        ∙ ap (λ rows. record { depth = depth; number = l.number; node = node } ∷ rows)
+        (append_assoc (rows_inside (depth + 1) node) (rows_of_nodes depth (l.number + 1) nodes) (left_in 0 levels)
+        ∙ ap (λ rows. rows ++ (rows_of_nodes depth (l.number + 1) nodes ++ left_in 0 levels))
+        (inside_rows (depth + 1) node ∙ sym (ap (rows_of_nodes (depth + 1) 0) within)
+        ∙ sym (ap (λ k. rows_of_nodes (depth + 1) k (nodes_of inside.held)) first))
+        ∙ ap (λ rows. rows_of_nodes (depth + 1) inside.number (nodes_of inside.held) ++ rows)
+        (sym (ap (λ ns. rows_of_nodes depth (l.number + 1) ns ++ left_in 0 levels) others)
+        ∙ sym (ap (λ k. rows_of_nodes depth k (nodes_of rest.held) ++ left_in 0 levels) number)
+        ∙ sym (left_more 0 depth levels rest (omega arith)))
+        ∙ sym (left_more 0 (depth + 1) (levels ++ rest ∷ []) inside (omega (arith, length-append levels (rest ∷ [])))))
+
+    pub next_are : length (nodes_of inside.held) < 2 ^ 63 → AreLevels 0 ((levels ++ rest ∷ []) ++ inside ∷ [])
+    next_are short =
+        let few : rest.number + length (nodes_of rest.held) < 2 ^ 63 = omega (arith, number, ap length others, apart.2) in
+        let small : inside.number + length (nodes_of inside.held) < 2 ^ 63 = omega (arith, first, short) in
+        levels_more 0 (length levels + 1) (levels ++ rest ∷ []) inside (omega (arith, length-append levels (rest ∷ [])))
+        (levels_more 0 (length levels) levels rest (omega arith) apart.0
+        (subst (AllByRecursion (NestsAt (length levels))) (sym others) apart.1.1) few)
+        (subst (AllByRecursion (NestsAt (length levels + 1))) (sym within) (inside_nests (length levels) node apart.1.0)) small

@@ -1,0 +1,36 @@
+use Rattle.std.proofs.Common.{◌∙◌, ◌<◌, ◌^◌, length, sym, ap, rules}
+use Rattle.std.specs.Prelude.{map}
+use Rattle.fv_tree.specs.Words.{body_view, files_of, sections_list}
+use Rattle.fv_tree.proofs.Laws.{files_list_back}
+use Rattle.fv_rows.specs.TreeRows.{FileNode, SectionNode}
+use Rattle.fv_rows.specs.inner.RowParts.{parts_in, parts_in_body}
+use Rattle.fv_rows.specs.RowWalks.{part_node}
+use Rattle.fv_rows.proofs.RowWalkLaws.{few_nodes, sections_list_back}
+use Rattle.fv_rows.proofs.tree_walk.inside.Goals as goal
+
+pub returns-in-Volume : goal.returns-in-Volume
+returns-in-Volume c =
+    let short : length c.files-files.result.now < 2 ^ 63 = search rules in
+    record {
+      nodes = sym (ap (λ p. parts_in (part_node p)) c.in-Volume.is
+          ∙ ap (map FileNode) (ap files_of c.files-files.ensures ∙ files_list_back c.files-files.result.now));
+      few = few_nodes FileNode c.files-files.result.now short;
+    }
+
+pub returns-in-File : goal.returns-in-File
+returns-in-File c =
+    let short : length c.sections-sections.result.now < 2 ^ 63 = search rules in
+    record {
+      nodes = sym (ap (λ p. parts_in (part_node p)) c.in-File.is
+          ∙ ap (map SectionNode) (ap sections_list (sym c.sections-sections.ensures) ∙ sections_list_back c.sections-sections.result.now));
+      few = few_nodes SectionNode c.sections-sections.result.now short;
+    }
+
+pub returns-in-Group : goal.returns-in-Group
+returns-in-Group c =
+    let short : length c.in-Group.sections.now < 2 ^ 63 = search rules in
+    record {
+      nodes = sym (ap (λ p. parts_in (part_node p)) c.in-Section.is ∙ ap parts_in_body (sym c.body.ensures)
+          ∙ ap (λ b. parts_in_body (body_view b)) c.in-Group.is ∙ ap (map SectionNode) (sections_list_back c.in-Group.sections.now));
+      few = few_nodes SectionNode c.in-Group.sections.now short;
+    }

@@ -1,0 +1,62 @@
+-- The rows that a walk over a volume has left, level by level (PI specification, volume 3, sections 3.2.1, 3.2.3 and
+-- 3.2.4).
+use Rattle.std.specs.Prelude.{ℕ, ◌+◌, ◌*◌, ◌<◌, ◌≤◌, ◌^◌, List, [], ◌∷◌, ◌++◌, length, map}
+use Rattle.std.specs.List.{AllByRecursion}
+use Rattle.fv_section.specs.Words.{FrameForm}
+use Rattle.fv_tree.specs.Words.{FileForm, File, MeansFile, MeansSection, Section, Stream, Denotes, Volume}
+use Rattle.fv_rows.specs.TreeRows.{NodeMeaning, VolumeNode, FileNode, SectionNode, TreeRow, rows_in_body}
+use Rattle.fv_rows.specs.TreeRows.{rows_in_content, rows_of_files}
+use Rattle.fv_rows.specs.declared.tree_walk.Held.{Held}
+use Rattle.fv_rows.specs.declared.tree_walk.Held.TheVariants as helds
+use Rattle.fv_rows.specs.declared.tree_walk.Level.{Level}
+use Rattle.fv_rows.specs.declared.tree_walk.Part.{Part}
+use Rattle.fv_rows.specs.declared.tree_walk.Part.TheVariants as kinds
+use Rattle.fv_rows.specs.declared.tree_walk.Row.{Row}
+
+-- the meaning of a part
+abbrev pub part_node : Part → NodeMeaning
+part_node (kinds.Volume v) = VolumeNode v.now
+part_node (kinds.File f) = FileNode f.now
+part_node (kinds.Section s) = SectionNode s.now
+
+-- the row, with the meaning of its part
+abbrev pub row_of : Row → TreeRow
+row_of r = record { depth = r.depth; number = r.number; node = part_node r.part }
+
+-- the meanings of some parts, in order
+abbrev pub nodes_of : Held → List NodeMeaning
+nodes_of helds.Nothing = []
+nodes_of (helds.Volume v) = VolumeNode v.now ∷ []
+nodes_of (helds.Files fs) = map FileNode fs.now
+nodes_of (helds.Sections ss) = map SectionNode ss.now
+
+-- the rows of the contents of a part
+abbrev pub rows_inside : ℕ → NodeMeaning → List TreeRow
+rows_inside depth (VolumeNode (Volume h files)) = rows_of_files depth 0 files
+rows_inside depth (FileNode (File name kind attributes content)) = rows_in_content depth content
+rows_inside depth (SectionNode (Section kind extended body)) = rows_in_body depth body
+
+-- the rows of some parts at one depth, each with the rows of its contents; the first part has this number
+abbrev pub rows_of_nodes : (depth number : ℕ) → List NodeMeaning → List TreeRow
+rows_of_nodes depth number [] = []
+rows_of_nodes depth number (node ∷ nodes) =
+    record { depth = depth; number = number; node = node }
+    ∷ (rows_inside (depth + 1) node ++ rows_of_nodes depth (number + 1) nodes)
+
+-- the rows that are left in some levels, the first of which is at this depth. The last level is the innermost, and its
+-- rows come first
+abbrev pub left_in : ℕ → List Level → List TreeRow
+left_in depth [] = []
+left_in depth (l ∷ levels) = left_in (depth + 1) levels ++ rows_of_nodes depth l.number (nodes_of l.held)
+
+-- a part at this depth, whose groups and volumes nest so few levels deep that all rows in it are at a depth below 27
+abbrev pub NestsAt : ℕ → NodeMeaning → Type 0
+NestsAt depth (VolumeNode v) = (n : ℕ) × (depth + 3 * n ≤ 24) × (b : List ℕ) × Denotes n b v
+NestsAt depth (FileNode f) = (n : ℕ) × (depth + 3 * n ≤ 25) × (form : FileForm) × MeansFile (Stream n) form f
+NestsAt depth (SectionNode s) = (n : ℕ) × (depth + 3 * n ≤ 26) × (f : FrameForm) × MeansSection n f s
+
+-- the parts of the first level are at this depth, and the parts of each further level are one deeper
+abbrev pub AreLevels : ℕ → List Level → Type 0
+AreLevels depth [] = Unit {0}
+AreLevels depth (l ∷ levels) =
+    AllByRecursion (NestsAt depth) (nodes_of l.held) × (l.number + length (nodes_of l.held) < 2 ^ 63) × AreLevels (depth + 1) levels

@@ -1,0 +1,57 @@
+-- The rows of a volume: the volume, its files and their sections, and in the same way each volume that a section contains
+-- (PI specification, volume 3, sections 3.2.1, 3.2.3 and 3.2.4).
+use Rattle.std.specs.Prelude.{ℕ, ◌+◌, List, [], ◌∷◌, ◌++◌}
+use Rattle.fv_tree.specs.Words.{Meaning, Volume, FileMeanings, NoFiles, MoreFiles, FileMeaning, File, ContentMeaning}
+use Rattle.fv_tree.specs.Words.{Plain, Sectioned, SectionMeanings, NoSections, MoreSections, SectionMeaning, Section}
+use Rattle.fv_tree.specs.Words.{BodyMeaning, Leaf, Group, Nested}
+
+-- a part: a volume, a file or a section
+pub data NodeMeaning : Type 0 where
+  VolumeNode : Meaning → NodeMeaning
+  FileNode : FileMeaning → NodeMeaning
+  SectionNode : SectionMeaning → NodeMeaning
+
+-- a part in the tree: the number of parts around it, its number among the parts of the part that contains it (from 0), and
+-- the part
+pub record TreeRow : Type 0 where
+  pub depth : ℕ
+  pub number : ℕ
+  pub node : NodeMeaning
+
+-- the parts in preorder: each part is followed by its contents
+abbrev mutual
+  pub rows_of_volume : (depth : ℕ) → Meaning → List TreeRow
+  rows_of_volume depth (Volume h files) =
+      record { depth = depth; number = 0; node = VolumeNode (Volume h files) } ∷ rows_of_files (depth + 1) 0 files
+
+  pub rows_of_files : (depth number : ℕ) → FileMeanings → List TreeRow
+  rows_of_files depth number NoFiles = []
+  rows_of_files depth number (MoreFiles f fs) = rows_of_file depth number f ++ rows_of_files depth (number + 1) fs
+
+  pub rows_of_file : (depth number : ℕ) → FileMeaning → List TreeRow
+  rows_of_file depth number (File name kind attributes content) =
+      record { depth = depth; number = number; node = FileNode (File name kind attributes content) }
+      ∷ rows_in_content (depth + 1) content
+
+  pub rows_in_content : (depth : ℕ) → ContentMeaning → List TreeRow
+  rows_in_content depth (Plain b) = []
+  rows_in_content depth (Sectioned sections tail) = rows_of_sections depth 0 sections
+
+  pub rows_of_sections : (depth number : ℕ) → SectionMeanings → List TreeRow
+  rows_of_sections depth number NoSections = []
+  rows_of_sections depth number (MoreSections s ss) =
+      rows_of_section depth number s ++ rows_of_sections depth (number + 1) ss
+
+  pub rows_of_section : (depth number : ℕ) → SectionMeaning → List TreeRow
+  rows_of_section depth number (Section kind extended body) =
+      record { depth = depth; number = number; node = SectionNode (Section kind extended body) }
+      ∷ rows_in_body (depth + 1) body
+
+  pub rows_in_body : (depth : ℕ) → BodyMeaning → List TreeRow
+  rows_in_body depth (Leaf b) = []
+  rows_in_body depth (Group sections tail) = rows_of_sections depth 0 sections
+  rows_in_body depth (Nested volume) = rows_of_volume depth volume
+
+-- all rows of a volume; the first row is the volume itself
+abbrev pub tree_rows : Meaning → List TreeRow
+tree_rows m = rows_of_volume 0 m

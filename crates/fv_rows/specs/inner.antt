@@ -1,0 +1,4 @@
+-- Definitions that only private clauses cite: a reviewer does not need to read them.
+pub mod RowCodes
+pub mod RowParts
+pub mod RowVolumes
