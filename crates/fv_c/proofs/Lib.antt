@@ -7,7 +7,6 @@ pub mod MemoryLaws
 pub mod RowNumbers
 pub mod GroupLaws
 pub mod SectionCountLaws
-pub mod ImageLemmas
 pub mod TreeNesting
 pub mod TreePlaces
 pub mod TreeSiblings

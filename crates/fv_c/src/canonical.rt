@@ -6,18 +6,15 @@ ghost use Rattle.std.specs.Prelude.{◌≡◌, ◌≢◌, ◌⊎◌, ◌↔◌, 
 ghost use Rattle.sha2.specs.Sha256.{sha256};
 ghost use Rattle.fv_base.specs.Words.{OrMemory, fault_number, out_of_memory, volume_limit};
 ghost use Rattle.fv_base.specs.declared.fault.Fault.{Fault};
-ghost use Rattle.fv_canon.specs.Words.{NormalisesAll, RefusesAll, NormalisesTo, IsImage, IsLayout, Refuses};
+ghost use Rattle.fv_canon.specs.Words.{NormalisesAll, RefusesAll, NormalisesTo, IsImage, Refuses};
 ghost use Rattle.fv_flash.specs.Words.{IsPlace};
 ghost use Rattle.fv_tree.specs.Words.{NotRead, Accepted, Meaning};
 ghost use Rattle.fv_c.specs.Reports.{BeginsWithHeader, reported_fault, no_fault};
 
 use crate::reports::{BUFFER_TOO_SMALL, FvFault, NO_FAULT, flag, refused};
 use fv_base::Fault;
-use fv_canon::{
-    Layout, is_canonical, lay_out_image, layout, put_canonical, put_laid_image, whole_volume,
-};
+use fv_canon::{is_canonical, lay_out_image, lay_out_volume, put_canonical, put_laid_image};
 use fv_sinks::{BufferSink, DigestSink};
-use fv_tree::VolumeView;
 use std::alloc::Global;
 
 /// Checks whether the input is a volume that is its own canonical image. Returns 0 for every
@@ -57,25 +54,6 @@ pub extern "C" fn fv_is_canonical(
     }
 }
 
-// The volume that an input is, and where its files are placed.
-#[derive(Drop)]
-pub(crate) struct LaidVolume<'a> {
-    pub(crate) volume: VolumeView<'a>,
-    pub(crate) places: Layout,
-}
-
-// The volume that the input is, accepted and laid out.
-pub(crate) fn laid_volume(alloc: Global, input: &[u8]) -> Result<LaidVolume<'_>, Fault>
-    ensures ok { IfOk result (λ laid. Accepted input.now laid.volume × IsLayout laid.volume laid.places) }
-    ensures err { IfErr result (OrMemory (Refuses input.now)) }
-    ensures fits { (image : List ℕ) → NormalisesTo input.now image → IfErr result (λ f. f ≡ out_of_memory) }
-    ensures memory { IfErr result (λ f. f ≡ out_of_memory → BeginsWithHeader input.now) }
-{
-    let volume = whole_volume(alloc, input)?;
-    let places = layout(alloc, &volume)?;
-    Ok(LaidVolume { volume, places })
-}
-
 /// A SHA-256 digest.
 #[repr(C)]
 #[derive(Clone, Copy)]
@@ -91,9 +69,9 @@ fn digest_of(alloc: Global, input: &[u8]) -> Result<FvDigest, Fault>
     ensures fits { (image : List ℕ) → NormalisesTo input.now image → IfErr result (λ f. f ≡ out_of_memory) }
     ensures memory { IfErr result (λ f. f ≡ out_of_memory → BeginsWithHeader input.now) }
 {
-    let laid = laid_volume(alloc, input)?;
+    let laid = lay_out_volume(alloc, input)?;
     let mut digest = DigestSink::new();
-    put_canonical(&laid.volume, &laid.places, &mut digest);
+    put_canonical(laid.volume(), laid.layout(), &mut digest);
     Ok(FvDigest {
         bytes: digest.finish(),
     })
@@ -174,7 +152,7 @@ pub extern "C" fn fv_normalise(
     // If the input has an image, only memory or the buffer can be too small.
     ensures fits { (image : List ℕ) → NormalisesTo input.now image → result ≢ 0 → result ≢ 256 → result ≡ 24 }
 {
-    let laid = match laid_volume(alloc, input) {
+    let laid = match lay_out_volume(alloc, input) {
         Ok(laid) => laid,
         Err(f) => return refused(f, fault),
     };
@@ -183,7 +161,7 @@ pub extern "C" fn fv_normalise(
         return BUFFER_TOO_SMALL;
     }
     let mut out = BufferSink::new(buffer);
-    put_canonical(&laid.volume, &laid.places, &mut out);
+    put_canonical(laid.volume(), laid.layout(), &mut out);
     0
 }
 

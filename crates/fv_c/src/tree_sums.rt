@@ -15,10 +15,10 @@ ghost use Rattle.fv_c.specs.ReportedSums.{HasSums, IsSum};
 ghost use Rattle.fv_c.specs.inner.Sums.{AddsSums, LeavesStarts};
 
 use crate::buffer::put_found;
-use crate::canonical::{FvDigest, laid_volume};
+use crate::canonical::FvDigest;
 use crate::reports::{FvFault, refused};
 use fv_base::{Fault, Sink};
-use fv_canon::{put_laid_data, put_laid_volume, starts_inside};
+use fv_canon::{lay_out_volume, put_laid_data, put_laid_volume, starts_inside};
 use fv_sinks::DigestSink;
 use fv_tree::{Body, Content, FileView, SectionView, VolumeView};
 use std::alloc::{AllocError, Global};
@@ -177,9 +177,9 @@ fn sums_in(alloc: Global, input: &[u8]) -> Result<Vec<FvDigest>, Fault>
     ensures fits { (image : List ℕ) → NormalisesTo input.now image → IfErr result (λ f. f ≡ out_of_memory) }
     ensures memory { IfErr result (λ f. f ≡ out_of_memory → BeginsWithHeader input.now) }
 {
-    let laid = laid_volume(alloc, input)?;
+    let laid = lay_out_volume(alloc, input)?;
     let mut sums = Vec::new(alloc);
-    add_volume(&laid.volume, laid.places.starts(), &mut sums)?;
+    add_volume(laid.volume(), laid.layout().starts(), &mut sums)?;
     Ok(sums)
 }
 

@@ -9,18 +9,16 @@ use Rattle.std.proofs.Common.{refl, sym, ap, ◌∙◌, subst, arith, inl, inr}
 use Rattle.std.specs.List.{AllByRecursion}
 use Rattle.std.proofs.lemmas.List.{drop_more, get_or-map, length-drop, length-map, length-take-le, map-append, take-append-drop}
 use Rattle.std.proofs.lemmas.List.{take_all, take_more}
-use Rattle.fv_base.specs.Words.{out_of_memory, depth_limit, volume_limit, WalkLaws, field}
+use Rattle.fv_base.specs.Words.{out_of_memory, volume_limit, WalkLaws, field}
 use Rattle.fv_base.specs.declared.fault.Fault.{Fault}
 use Rattle.fv_base.proofs.Laws.{at_index, or_more, want_known}
 use Rattle.fv_flash.proofs.Laws.{at_within}
-use Rattle.fv_tree.specs.Words.{Accepted, IsMeaning, moved_fault, Meaning, head_of}
+use Rattle.fv_tree.specs.Words.{Accepted, moved_fault, Meaning, head_of}
 use Rattle.fv_flash.specs.Words.{Found, VolumeAt}
 use Rattle.fv_canon.specs.Words.{IsImage, NormalisesTo, Refuses, FirstRefused, HasImageAt, NormalisesAll, RefusedAt, AreLaid, IsLaid}
 use Rattle.fv_canon.specs.Words.{IsLaidOut, starts_of}
-use Rattle.fv_canon.specs.declared.flash_image.LaidVolume.{LaidVolume}
-use Rattle.fv_canon.specs.inner.ImageOf.{image_of}
+use Rattle.fv_canon.specs.declared.flash_image.LocatedVolume.{LocatedVolume}
 use Rattle.fv_canon.proofs.FlashImageLaws.{Puts, next_of, puts_all, puts_more, puts_none}
-use Rattle.fv_canon.proofs.ImageLaws.{image_is}
 
 -- ---- one volume
 
@@ -35,16 +33,8 @@ told_at b x p own f v is why told = or_more (want_known f) (λ other. elim why [
 ])
 
 -- one that is laid out has an image
-laid_image : (b : List ℕ) (v : LaidVolume) → IsLaid b v → (image : List ℕ) × IsImage v.view image
-laid_image b v (n, at, accepted, laid) =
-    let starts : List ℕ = v.places.own ++ v.places.inner in
-    let is : IsMeaning v.view = (depth_limit, omega arith, field v.start n b, accepted.0, accepted.1) in
-    (image_of v.view starts, image_is v.view starts is laid.0)
-
-has_image : (b : List ℕ) (v : LaidVolume) → IsLaid b v → HasImageAt b v.start
-has_image b v laid =
-    let image = laid_image b v laid in
-    (laid.0, image.0, laid.1, (v.view, laid.2, image.1))
+has_image : (b : List ℕ) (v : LocatedVolume) → IsLaid b v → HasImageAt b v.start
+has_image b v (n, at, accepted, image) = (n, image.0, at, (v.laid, accepted, image.1))
 
 -- and as many bytes as its header says
 laid_long : (b : List ℕ) (p n : ℕ) (m : Meaning) → VolumeAt b p n → Accepted (field p n b) m → n ≡ (head_of m).length
@@ -53,7 +43,7 @@ laid_long b p n m v accepted = grind (arith, common_steps, length-take-le, lengt
 -- ---- the volumes, laid out one after another
 
 -- those at the first i of the places are laid out
-abbrev pub LaysFirst : List ℕ → List ℕ → ℕ → List LaidVolume → Type 0
+abbrev pub LaysFirst : List ℕ → List ℕ → ℕ → List LocatedVolume → Type 0
 LaysFirst b places i volumes = AreLaid b (take i places) volumes
 
 -- one item more
@@ -62,23 +52,23 @@ all_push P [] x all h = (h, tt)
 all_push P (y ∷ ys) x all h = (all.0, all_push P ys x all.1 h)
 
 -- the next is laid out too
-pub lays_more : (b places : List ℕ) (i : ℕ) (volumes : List LaidVolume) (v : LaidVolume) → LaysFirst b places i volumes
+pub lays_more : (b places : List ℕ) (i : ℕ) (volumes : List LocatedVolume) (v : LocatedVolume) → LaysFirst b places i volumes
     → i < length places → v.start ≡ get_or places i 0 → IsLaid b v → LaysFirst b places (i + 1) (volumes ++ v ∷ [])
 lays_more b places i volumes v (same, all) less at laid = (
-  map-append (λ (w : LaidVolume). w.start) volumes (v ∷ [])
+  map-append (λ (w : LocatedVolume). w.start) volumes (v ∷ [])
       ∙ ap (λ (l : List ℕ). l ++ v.start ∷ []) same
       ∙ ap (λ (k : ℕ). take i places ++ k ∷ []) at ∙ sym (take_more places i 0 less),
   all_push (IsLaid b) volumes v all laid,
 )
 
 -- those that are laid out have images
-laid_images : (b : List ℕ) (volumes : List LaidVolume) → AllByRecursion (IsLaid b) volumes
+laid_images : (b : List ℕ) (volumes : List LocatedVolume) → AllByRecursion (IsLaid b) volumes
     → AllByRecursion (HasImageAt b) (starts_of volumes)
 laid_images b [] all = tt
 laid_images b (v ∷ vs) (h, all) = (has_image b v h, laid_images b vs all)
 
 -- the next is rejected
-pub lays_stop : (b places : List ℕ) (i : ℕ) (volumes : List LaidVolume) (f : Fault) → LaysFirst b places i volumes → i < length places
+pub lays_stop : (b places : List ℕ) (i : ℕ) (volumes : List LocatedVolume) (f : Fault) → LaysFirst b places i volumes → i < length places
     → (f ≡ out_of_memory) ⊎ RefusedAt b (get_or places i 0) f → (f ≡ out_of_memory) ⊎ FirstRefused b places f
 lays_stop b places i volumes f (same, all) less why = or_more why (λ refused. record {
   before = take i places;
@@ -90,61 +80,61 @@ lays_stop b places i volumes f (same, all) less why = or_more why (λ refused. r
 })
 
 -- all are laid out
-pub lays_all : (b places : List ℕ) (i : ℕ) (volumes : List LaidVolume) → LaysFirst b places i volumes → length places ≤ i
+pub lays_all : (b places : List ℕ) (i : ℕ) (volumes : List LocatedVolume) → LaysFirst b places i volumes → length places ≤ i
     → AreLaid b places volumes
 lays_all b places i volumes lays past = subst (λ (l : List ℕ). AreLaid b l volumes) (take_all i places past) lays
 
 -- ---- the loop over the volumes that are laid out
 
 -- the i-th of them
-laid_item : (b : List ℕ) (volumes : List LaidVolume) (i : ℕ) (v : LaidVolume) → AllByRecursion (IsLaid b) volumes → i < length volumes
+laid_item : (b : List ℕ) (volumes : List LocatedVolume) (i : ℕ) (v : LocatedVolume) → AllByRecursion (IsLaid b) volumes → i < length volumes
     → v ≡ get_or volumes i v → (get_or (starts_of volumes) i 0 ≡ v.start) × IsLaid b v
 laid_item b volumes i v all less is = (
-  get_or-map (λ (w : LaidVolume). w.start) volumes i v 0 less ∙ ap (λ (w : LaidVolume). w.start) (sym is),
+  get_or-map (λ (w : LocatedVolume). w.start) volumes i v 0 less ∙ ap (λ (w : LocatedVolume). w.start) (sym is),
   subst (IsLaid b) (sym is) (at_index (IsLaid b) volumes i v all less),
 )
 
 -- it ends within the limit
-pub laid_ends : (b : List ℕ) (volumes : List LaidVolume) (i : ℕ) (v : LaidVolume) → IsLaidOut b volumes → i < length volumes
-    → v ≡ get_or volumes i v → v.start + (head_of v.view).length ≤ volume_limit
+pub laid_ends : (b : List ℕ) (volumes : List LocatedVolume) (i : ℕ) (v : LocatedVolume) → IsLaidOut b volumes → i < length volumes
+    → v ≡ get_or volumes i v → v.start + (head_of v.laid).length ≤ volume_limit
 laid_ends b volumes i v (short, places, found, (same, all)) less is =
     let at = (laid_item b volumes i v all less is).1 in
-    let long : at.0 ≡ (head_of v.view).length = laid_long b v.start at.0 v.view at.1 at.2 in
+    let long : at.0 ≡ (head_of v.laid).length = laid_long b v.start at.0 v.laid at.1 at.2 in
     omega (arith, short, at_within b v.start at.0 at.1, long)
 
-module _ {S : Type 0} (takes : S → List ℕ → S → Type 0) (laws : WalkLaws takes) (s : S) (b : List ℕ) (volumes : List LaidVolume) where
+module _ {S : Type 0} (takes : S → List ℕ → S → Type 0) (laws : WalkLaws takes) (s : S) (b : List ℕ) (volumes : List LocatedVolume) where
   -- nothing is put
   pub laid_none : IsLaidOut b volumes → Puts takes s s b (starts_of volumes) 0 0
   laid_none (short, places, found, (same, all)) =
       puts_none takes laws s b (starts_of volumes) (subst (Found b) (sym same) found)
 
   -- the next volume begins after what is put, and lies within the bytes
-  pub laid_next : {t : S} (i from : ℕ) (v : LaidVolume) → IsLaidOut b volumes → Puts takes s t b (starts_of volumes) i from
+  pub laid_next : {t : S} (i from : ℕ) (v : LocatedVolume) → IsLaidOut b volumes → Puts takes s t b (starts_of volumes) i from
       → i < length volumes → v ≡ get_or volumes i v
       → (from ≤ v.start) × (v.start ≤ length b)
   laid_next i from v (short, places, found, (same, all)) puts less is =
       let item = laid_item b volumes i v all less is in
       let at = item.1 in
-      let counted : i < length (starts_of volumes) = omega (arith, length-map volumes (λ (w : LaidVolume). w.start), less) in
+      let counted : i < length (starts_of volumes) = omega (arith, length-map volumes (λ (w : LocatedVolume). w.start), less) in
       let next = next_of takes laws s b (starts_of volumes) i from puts counted in (
         omega (arith, next.0, item.0),
         omega (arith, at_within b v.start at.0 at.1),
       )
 
   -- the bytes up to it are put, and its image
-  pub laid_more : {t u w : S} (i from : ℕ) (v : LaidVolume) (gap image : List ℕ) → IsLaidOut b volumes
+  pub laid_more : {t u w : S} (i from : ℕ) (v : LocatedVolume) (gap image : List ℕ) → IsLaidOut b volumes
       → Puts takes s t b (starts_of volumes) i from → i < length volumes → v ≡ get_or volumes i v
-      → gap ≡ field from (v.start - from) b → takes t gap u → IsImage v.view image → takes u image w
-      → Puts takes s w b (starts_of volumes) (i + 1) (v.start + (head_of v.view).length)
+      → gap ≡ field from (v.start - from) b → takes t gap u → IsImage v.laid image → takes u image w
+      → Puts takes s w b (starts_of volumes) (i + 1) (v.start + (head_of v.laid).length)
   laid_more {t} {u} {w} i from v gap image (short, places, found, (same, all)) puts less is gap_is put is_image put' =
       let item = laid_item b volumes i v all less is in
       let at = item.1 in
       let n : ℕ = at.0 in
-      let counted : i < length (starts_of volumes) = omega (arith, length-map volumes (λ (w : LaidVolume). w.start), less) in
-      let long : n ≡ (head_of v.view).length = laid_long b v.start n v.view at.1 at.2 in
+      let counted : i < length (starts_of volumes) = omega (arith, length-map volumes (λ (w : LocatedVolume). w.start), less) in
+      let long : n ≡ (head_of v.laid).length = laid_long b v.start n v.laid at.1 at.2 in
       let volume : VolumeAt b (get_or (starts_of volumes) i 0) n = subst (λ (k : ℕ). VolumeAt b k n) (sym item.0) at.1 in
       let to : NormalisesTo (field (get_or (starts_of volumes) i 0) n b) image =
-      subst (λ (k : ℕ). NormalisesTo (field k n b) image) (sym item.0) (v.view, at.2, is_image) in
+      subst (λ (k : ℕ). NormalisesTo (field k n b) image) (sym item.0) (v.laid, at.2, is_image) in
       let gap_at : gap ≡ field from (get_or (starts_of volumes) i 0 - from) b =
       gap_is ∙ ap (λ (k : ℕ). field from (k - from) b) (sym item.0) in
       let more = puts_more takes laws s b (starts_of volumes) i from n gap image puts counted volume gap_at put to put' in
@@ -156,7 +146,7 @@ module _ {S : Type 0} (takes : S → List ℕ → S → Type 0) (laws : WalkLaws
       → (bytes : List ℕ) × NormalisesAll b bytes × takes s bytes u
   laid_all i from rest (short, places, found, (same, all)) puts past is put =
       let found' : Found b (starts_of volumes) = subst (Found b) (sym same) found in
-      let counted : length (starts_of volumes) ≤ i = omega (arith, length-map volumes (λ (w : LaidVolume). w.start), past) in
+      let counted : length (starts_of volumes) ≤ i = omega (arith, length-map volumes (λ (w : LocatedVolume). w.start), past) in
       let done = puts_all takes laws s b (starts_of volumes) i from rest found' puts counted is put in
       (done.0, (short, starts_of volumes, found', done.1), done.2)
 
@@ -178,23 +168,23 @@ nothing_by : WalkLaws nothing
 nothing_by = record { none = λ s. tt; joined = λ p q. tt }
 
 -- the first i volumes, put into it
-first_put : (b : List ℕ) (volumes : List LaidVolume) (i : ℕ) → IsLaidOut b volumes → i ≤ length volumes
+first_put : (b : List ℕ) (volumes : List LocatedVolume) (i : ℕ) → IsLaidOut b volumes → i ≤ length volumes
     → (from : ℕ) × Puts nothing tt tt b (starts_of volumes) i from
 first_put b volumes zero laid few = (0, laid_none nothing nothing_by tt b volumes laid)
 first_put b volumes (suc i) laid few =
     let less : i < length volumes = omega arith in
     let item = item_at volumes i less in
-    let v : LaidVolume = item.0 in
+    let v : LocatedVolume = item.0 in
     let before = first_put b volumes i laid (omega arith) in
-    let image = laid_image b v (laid_item b volumes i v laid.3.1 less item.1).1 in
+    let image = (laid_item b volumes i v laid.3.1 less item.1).1.3 in
     let more = laid_more nothing nothing_by tt b volumes i before.0 v (field before.0 (v.start - before.0) b) image.0 laid before.1 less
     item.1 refl tt image.1 tt in
-    let end : ℕ = v.start + (head_of v.view).length in
+    let end : ℕ = v.start + (head_of v.laid).length in
     let next : i + 1 ≡ suc i = omega arith in
     (end, subst (λ (k : ℕ). Puts nothing tt tt b (starts_of volumes) k end) next more)
 
 -- volumes that are laid out have images, and so has the whole
-pub laid_renewed : (b : List ℕ) (volumes : List LaidVolume) → IsLaidOut b volumes → (bytes : List ℕ) × NormalisesAll b bytes
+pub laid_renewed : (b : List ℕ) (volumes : List LocatedVolume) → IsLaidOut b volumes → (bytes : List ℕ) × NormalisesAll b bytes
 laid_renewed b volumes laid =
     let put = first_put b volumes (length volumes) laid (omega arith) in
     let whole = laid_all nothing nothing_by tt b volumes (length volumes) put.0 (drop put.0 b) laid put.1 (omega arith) refl tt in

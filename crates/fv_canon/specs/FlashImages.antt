@@ -7,9 +7,9 @@ use Rattle.fv_base.specs.declared.fault.FaultKind.TheVariants as kinds
 use Rattle.fv_tree.specs.Words.{moved_fault, Accepted}
 use Rattle.fv_flash.specs.Words.{Found, IsCovered, VolumeAt}
 use Rattle.fv_canon.specs.Headline.{NormalisesTo}
+use Rattle.fv_canon.specs.Image.{IsImage}
 use Rattle.fv_canon.specs.InputRefusals.{Refuses}
-use Rattle.fv_canon.specs.LayoutForms.{IsLayout}
-use Rattle.fv_canon.specs.declared.flash_image.LaidVolume.{LaidVolume}
+use Rattle.fv_canon.specs.declared.flash_image.LocatedVolume.{LocatedVolume}
 
 -- a volume begins at the offset p of b, and o contains its canonical image there
 abbrev pub IsRenewed : List ℕ → List ℕ → ℕ → Type 0
@@ -53,18 +53,19 @@ RefusesAll b fault =
     ((volume_limit < length b) × (fault ≡ outer_fault kinds.Length volume_limit))
     ⊎ ((length b ≤ volume_limit) × (places : List ℕ) × Found b places × FirstRefused b places fault)
 
--- a volume of b begins at the offset `v.start`, with the meaning `v.view` and the layout `v.places`
-abbrev pub IsLaid : List ℕ → LaidVolume → Type 0
-IsLaid b v = (n : ℕ) × VolumeAt b v.start n × Accepted (field v.start n b) v.view × IsLayout v.view v.places
+-- a volume of b begins at the offset `v.start`, with the meaning `v.laid`, which has a canonical image
+abbrev pub IsLaid : List ℕ → LocatedVolume → Type 0
+IsLaid b v =
+    (n : ℕ) × VolumeAt b v.start n × Accepted (field v.start n b) v.laid × ((image : List ℕ) × IsImage v.laid image)
 
 -- the offsets at which the volumes begin
-abbrev pub starts_of : List LaidVolume → List ℕ
+abbrev pub starts_of : List LocatedVolume → List ℕ
 starts_of volumes = map (λ v. v.start) volumes
 
--- these are the volumes that begin at these offsets of b, in order, each with its meaning and its layout
-abbrev pub AreLaid : List ℕ → List ℕ → List LaidVolume → Type 0
+-- these are the volumes that begin at these offsets of b, in order, each with its meaning
+abbrev pub AreLaid : List ℕ → List ℕ → List LocatedVolume → Type 0
 AreLaid b offsets volumes = (starts_of volumes ≡ offsets) × AllByRecursion (IsLaid b) volumes
 
--- b is within the limit, and these are all volumes that are found in it, in order, each with its meaning and its layout
-abbrev pub IsLaidOut : List ℕ → List LaidVolume → Type 0
+-- b is within the limit, and these are all volumes that are found in it, in order, each with its meaning
+abbrev pub IsLaidOut : List ℕ → List LocatedVolume → Type 0
 IsLaidOut b volumes = (length b ≤ volume_limit) × (offsets : List ℕ) × Found b offsets × AreLaid b offsets volumes

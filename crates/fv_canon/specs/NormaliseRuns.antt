@@ -1,10 +1,9 @@
 -- The reads and writes of a run over one input, and the faults that stop it.
 use Rattle.std.specs.Prelude.{ℕ, List, Option, ◌⊎◌}
 use Rattle.std.specs.Io.KnownBytes.{Appends, Keeps}
-use Rattle.fv_base.specs.Words.{OrMemory, ReadsWhole, ReadStops, WriteStops}
+use Rattle.fv_base.specs.Words.{ReadsWhole, ReadStops, WriteStops}
 use Rattle.fv_base.specs.declared.fault.Fault.{Fault}
 use Rattle.fv_tree.specs.Words.{MemoryRanOut}
-use Rattle.fv_canon.specs.FlashImages.{NormalisesAll, RefusesAll}
 use Rattle.fv_canon.specs.Headline.{NormalisesTo}
 use Rattle.fv_canon.specs.InputRefusals.{Refuses}
 
@@ -18,17 +17,6 @@ abbrev pub InputStops : List ℕ → Option (List ℕ) → Option (List ℕ) →
 InputStops input held holds fault =
     (Keeps held holds × (MemoryRanOut input fault ⊎ Refuses input fault))
     ⊎ ((image : List ℕ) × NormalisesTo input image × WriteStops held holds image fault)
-
--- the flash image b was written, with each of its volumes replaced by its canonical image
-abbrev pub ImageWrites : List ℕ → Option (List ℕ) → Option (List ℕ) → Type 0
-ImageWrites b held holds = (bytes : List ℕ) × NormalisesAll b bytes × Appends held holds bytes
-
--- either nothing was written, because memory ran out or because the flash image b is rejected; or the writer stopped
--- before the end of the new image
-abbrev pub ImageStops : List ℕ → Option (List ℕ) → Option (List ℕ) → Fault → Type 0
-ImageStops b held holds fault =
-    (Keeps held holds × OrMemory (RefusesAll b) fault)
-    ⊎ ((bytes : List ℕ) × NormalisesAll b bytes × WriteStops held holds bytes fault)
 
 -- a run read an input to its end, and wrote its canonical image
 abbrev pub RunWrites : Option (List ℕ) → Option (List ℕ) → Option (List ℕ) → Option (List ℕ) → Type 0

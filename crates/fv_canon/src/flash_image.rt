@@ -1,25 +1,18 @@
 //! Replaces each volume of a flash image by its canonical image.
 
-ghost use Rattle.std.specs.Prelude.{◌≡◌, ◌≢◌, ◌⊎◌, ◌-◌, ◌≤◌, ℕ, List, length, true};
-ghost use Rattle.std.specs.Prelude.{IfOk, IfErr, OnOk};
-ghost use Rattle.fv_base.specs.Words.{OrMemory, out_of_memory, volume_limit, inner_of, has_erred, field};
+ghost use Rattle.std.specs.Prelude.{◌≡◌, ◌≢◌, ◌⊎◌, ◌-◌, ◌≤◌, ℕ, List, length, IfOk, IfErr};
+ghost use Rattle.fv_base.specs.Words.{OrMemory, out_of_memory, volume_limit, field};
 ghost use Rattle.fv_canon.specs.FlashImages.{FirstRefused, NormalisesAll, RefusedAt, RefusesAll, AreLaid, IsLaid, IsLaidOut};
-ghost use Rattle.fv_canon.specs.LayoutForms.{IsLayout};
-ghost use Rattle.fv_canon.specs.NormaliseRuns.{ImageWrites, ImageStops};
-ghost use Rattle.fv_canon.specs.InputRefusals.{Refuses};
-ghost use Rattle.fv_tree.specs.Words.{Accepted};
 ghost use Rattle.fv_flash.specs.Words.{Found, IsPlace, VolumeAt};
 
 use crate::canonical_image::put_canonical;
-use crate::known_layout::Layout;
-use crate::layout_walk::layout;
+use crate::laid_volume::{LaidVolume, lay_out_volume};
 use fv_base::field::bytes_from;
 use fv_base::limits::VOLUME_LIMIT;
-use fv_base::{ByteList, Fault, FaultKind, ListSink, Place, Port, Sink, WriteSink, check};
+use fv_base::{ByteList, Fault, FaultKind, ListSink, Place, Sink, check};
 use fv_head::verify_fv;
-use fv_tree::{VolumeView, fault_within, scan, whole_volume};
+use fv_tree::{fault_within, scan};
 use std::alloc::Global;
-use std::io::Write;
 use std::marker::Model;
 
 // Returns the bytes from the offset `from` up to the offset `to`.
@@ -42,40 +35,23 @@ pub(crate) fn volume_at(image: &[u8], start: usize) -> &[u8]
     between(image, start, start + extent.length as usize)
 }
 
-// A volume of an image: the offset at which it begins, its view, and its layout.
+// A volume of an image, and the offset at which it begins.
 #[derive(Drop)]
-struct LaidVolume<'a> {
+struct LocatedVolume<'a> {
     start: u64,
-    view: VolumeView<'a>,
-    places: Layout,
-}
-
-// Reads these bytes as a volume, and lays it out. They begin at the offset `start` of an image.
-fn laid_volume(alloc: Global, start: u64, volume: &[u8]) -> Result<LaidVolume<'_>, Fault>
-    ensures start { IfOk result (λ v. v.start ≡ start) }
-    ensures ok { IfOk result (λ v. Accepted volume.now v.view × IsLayout v.view v.places) }
-    ensures err { IfErr result (OrMemory (Refuses volume.now)) }
-    ensures kind { IfErr result (λ f. (f.kind ≢ FaultKind.ReadFault) × (f.kind ≢ FaultKind.WriteFault)) }
-{
-    let view = whole_volume(alloc, volume)?;
-    let places = layout(alloc, &view)?;
-    Ok(LaidVolume {
-        start,
-        view,
-        places,
-    })
+    laid: LaidVolume<'a>,
 }
 
 // Reads the volume that begins at this offset of the image, and lays it out.
-fn laid_at(alloc: Global, image: &[u8], start: u64) -> Result<LaidVolume<'_>, Fault>
+fn laid_at(alloc: Global, image: &[u8], start: u64) -> Result<LocatedVolume<'_>, Fault>
     requires { (n : ℕ) × VolumeAt image.now start n }
     ensures start { IfOk result (λ v. v.start ≡ start) }
     ensures ok { IfOk result (IsLaid image.now) }
     ensures err { IfErr result (OrMemory (RefusedAt image.now start)) }
     ensures kind { IfErr result (λ f. (f.kind ≢ FaultKind.ReadFault) × (f.kind ≢ FaultKind.WriteFault)) }
 {
-    match laid_volume(alloc, start, volume_at(image, start as usize)) {
-        Ok(volume) => Ok(volume),
+    match lay_out_volume(alloc, volume_at(image, start as usize)) {
+        Ok(laid) => Ok(LocatedVolume { start, laid }),
         Err(fault) => {
             let place = Place {
                 offset: start,
@@ -91,7 +67,7 @@ fn laid_at_each<'a>(
     alloc: Global,
     image: &'a [u8],
     offsets: &[u64],
-) -> Result<Vec<LaidVolume<'a>>, Fault>
+) -> Result<Vec<LocatedVolume<'a>>, Fault>
     requires { Found image.now offsets.now }
     ensures ok { IfOk result (λ volumes. AreLaid image.now offsets.now volumes.items) }
     ensures err { IfErr result (OrMemory (FirstRefused image.now offsets.now)) }
@@ -109,7 +85,7 @@ fn laid_at_each<'a>(
 
 // Puts the image with each of its volumes replaced by its canonical image. `volumes` are all
 // volumes of the image.
-fn put_renewed<S: Sink>(image: &[u8], volumes: &[LaidVolume<'_>], out: &mut S)
+fn put_renewed<S: Sink>(image: &[u8], volumes: &[LocatedVolume<'_>], out: &mut S)
     requires { IsLaidOut image.now volumes.now }
     ensures { (bytes : List ℕ) × NormalisesAll image.now bytes × S.takes out.old bytes out.new }
 {
@@ -117,8 +93,9 @@ fn put_renewed<S: Sink>(image: &[u8], volumes: &[LaidVolume<'_>], out: &mut S)
     for volume in volumes {
         let start = volume.start as usize;
         out.put(between(image, from, start));
-        put_canonical(&volume.view, &volume.places, out);
-        from = start + volume.view.head().length() as usize;
+        let view = volume.laid.volume();
+        put_canonical(view, volume.laid.layout(), out);
+        from = start + view.head().length() as usize;
     }
     out.put(bytes_from(image, from));
 }
@@ -129,7 +106,7 @@ fn put_renewed<S: Sink>(image: &[u8], volumes: &[LaidVolume<'_>], out: &mut S)
 #[derive(Drop)]
 pub struct LaidImage<'a> {
     image: &'a [u8],
-    volumes: Vec<LaidVolume<'a>>,
+    volumes: Vec<LocatedVolume<'a>>,
 }
 
 impl<'a> Model for LaidImage<'a> {
@@ -215,42 +192,4 @@ pub fn normalise_image(alloc: Global, image: &[u8]) -> Result<ByteList, Fault>
     let mut out = ListSink::with_room(alloc, image.len())?;
     put_laid_image(&laid, &mut out);
     out.finish()
-}
-
-/// Writes the image with each volume that `scan` finds in it replaced by its canonical image. Every
-/// other byte is kept. Nothing is written before every volume is accepted and laid out. The new
-/// image is not kept in memory. (PI specification, volume 3, section 3.2.)
-///
-/// # Errors
-///
-/// The errors of `lay_out_image`, with nothing written. WriteFault at the number of bytes written;
-/// exactly that many bytes of the new image were written.
-pub fn write_normalised_image<W: Write>(
-    alloc: Global,
-    image: &[u8],
-    writer: &mut Port<W>,
-) -> Result<(), Fault>
-    // The new image was written.
-    ensures ok { OnOk result
-        (ImageWrites image.now (W.contents (inner_of writer.old)) (W.contents (inner_of writer.new))) }
-
-    // Either the error is one of `lay_out_image`, and nothing was written. Or it is WriteFault, and
-    // the first bytes of the new image were written, as many as its offset says.
-    ensures err { IfErr result
-        (ImageStops image.now (W.contents (inner_of writer.old)) (W.contents (inner_of writer.new))) }
-    ensures read { IfErr result (λ f. f.kind ≢ FaultKind.ReadFault) }
-
-    // Memory runs out only if the image is within the limit and a volume begins in it.
-    ensures memory { IfErr result (λ f. f ≡ out_of_memory
-        → (length image.now ≤ volume_limit) × ((place : ℕ) × IsPlace image.now place)) }
-
-    // If the result is Ok, the port's error flag is as it was before. If WriteFault is returned,
-    // the flag is set.
-    ensures fine { OnOk result (has_erred writer.new ≡ has_erred writer.old) }
-    ensures erred { IfErr result (λ f. f.kind ≡ FaultKind.WriteFault → has_erred writer.new ≡ true) }
-{
-    let laid = lay_out_image(alloc, image)?;
-    let mut out = WriteSink::new(writer);
-    put_laid_image(&laid, &mut out);
-    out.outcome()
 }

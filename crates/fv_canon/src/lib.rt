@@ -15,6 +15,7 @@ mod image_check;
 mod image_walk;
 mod known_layout;
 mod laid_parts;
+mod laid_volume;
 mod layout_walk;
 mod normalising;
 mod pads_and_headers;
@@ -25,15 +26,14 @@ mod summing_sink;
 
 pub use canonical_image::{canonical, put_canonical, write_canonical};
 pub use canonical_input::{is_canonical, is_canonical_image};
-pub use flash_image::{
-    LaidImage, lay_out_image, normalise_image, put_laid_image, write_normalised_image,
-};
+pub use flash_image::{LaidImage, lay_out_image, normalise_image, put_laid_image};
 pub use fv_compare::{Side, run_compare};
 pub use fv_tree::whole_volume;
 pub use image_check::{VolumeCheck, VolumeOutcome, check_image};
 pub use known_layout::Layout;
 pub use laid_parts::{put_laid_body, put_laid_data, put_laid_volume, starts_inside};
+pub use laid_volume::{LaidVolume, lay_out_volume};
 pub use layout_walk::layout;
-pub use normalising::{normalise, run_normalise, write_normalised};
+pub use normalising::{normalise, run_normalise};
 pub use part_bytes::{body_bytes, file_bytes};
 pub use part_layout::{lay_out_body, lay_out_data};

@@ -5,13 +5,12 @@ ghost use Rattle.fv_base.specs.Words.{OrMemory, out_of_memory, inner_of, has_err
 ghost use Rattle.fv_head.specs.Words.{BeginsWithHeader};
 ghost use Rattle.fv_canon.specs.Headline.{MeanSame, NormalisesTo};
 ghost use Rattle.fv_canon.specs.InputRefusals.{IsNoVolume, IsOfLayout, IsUnfit, NotPlaced, Refuses};
-ghost use Rattle.fv_canon.specs.NormaliseRuns.{InputWrites, InputStops, RunWrites, RunStops};
-ghost use Rattle.fv_tree.specs.Words.{Accepted};
+ghost use Rattle.fv_canon.specs.NormaliseRuns.{RunWrites, RunStops};
 
 use crate::canonical_image::{canonical, write_canonical};
-use crate::layout_walk::layout;
+use crate::laid_volume::lay_out_volume;
 use fv_base::{ByteList, Fault, FaultKind, Port, read_input};
-use fv_tree::{VolumeView, whole_volume};
+use fv_tree::whole_volume;
 use std::alloc::Global;
 use std::io::{Read, Write};
 
@@ -56,59 +55,6 @@ pub fn normalise(alloc: Global, input: &[u8]) -> Result<ByteList, Fault>
     canonical(alloc, &view)
 }
 
-/// Reads the input as a volume with no bytes after it, and writes its canonical image. Nothing is
-/// written before the whole input is accepted and laid out. The image is not kept in memory. (PI
-/// specification, volume 3, section 3.2.)
-///
-/// # Errors
-///
-/// The errors of `normalise`, with nothing written. WriteFault at the number of bytes written;
-/// exactly that many bytes of the image were written.
-pub fn write_normalised<W: Write>(
-    alloc: Global,
-    input: &[u8],
-    writer: &mut Port<W>,
-) -> Result<(), Fault>
-    // The image was written.
-    ensures ok { OnOk result
-        (InputWrites input.now (W.contents (inner_of writer.old)) (W.contents (inner_of writer.new))) }
-
-    // Either the error is one of `normalise`, and nothing was written. Or it is WriteFault, and the
-    // first bytes of the image were written, as many as its offset says.
-    ensures err { IfErr result
-        (InputStops input.now (W.contents (inner_of writer.old)) (W.contents (inner_of writer.new))) }
-    ensures read { IfErr result (λ f. f.kind ≢ FaultKind.ReadFault) }
-
-    // Memory runs out only if the input begins with the header of a volume.
-    ensures memory { IfErr result (λ f. f ≡ out_of_memory → BeginsWithHeader input.now) }
-
-    // If the result is Ok, the port's error flag is as it was before. If WriteFault is returned,
-    // the flag is set.
-    ensures fine { OnOk result (has_erred writer.new ≡ has_erred writer.old) }
-    ensures erred { IfErr result (λ f. f.kind ≡ FaultKind.WriteFault → has_erred writer.new ≡ true) }
-{
-    let view = whole_volume(alloc, input)?;
-    write_laid_out(alloc, &view, writer)
-}
-
-// Lays out a volume and writes its canonical image. Nothing is written before it is laid out.
-fn write_laid_out<W: Write>(
-    alloc: Global,
-    view: &VolumeView<'_>,
-    writer: &mut Port<W>,
-) -> Result<(), Fault>
-    ensures ok { (input : List ℕ) → Accepted input view.now → OnOk result
-        (InputWrites input (W.contents (inner_of writer.old)) (W.contents (inner_of writer.new))) }
-    ensures err { (input : List ℕ) → Accepted input view.now → IfErr result
-        (InputStops input (W.contents (inner_of writer.old)) (W.contents (inner_of writer.new))) }
-    ensures read { IfErr result (λ f. f.kind ≢ FaultKind.ReadFault) }
-    ensures fine { OnOk result (has_erred writer.new ≡ has_erred writer.old) }
-    ensures erred { IfErr result (λ f. f.kind ≡ FaultKind.WriteFault → has_erred writer.new ≡ true) }
-{
-    let places = layout(alloc, view)?;
-    write_canonical(view, &places, writer)
-}
-
 /// Reads an input to its end, as a volume with no bytes after it, and then writes its canonical
 /// image. The input and its view are kept in memory; the image is not. (PI specification, volume 3,
 /// section 3.2.)
@@ -140,5 +86,6 @@ pub fn run_normalise<R: Read, W: Write>(
     ensures writer_erred { IfErr result (λ f. f.kind ≡ FaultKind.WriteFault → has_erred writer.new ≡ true) }
 {
     let input = read_input(alloc, reader)?;
-    write_normalised(alloc, &input, writer)
+    let laid = lay_out_volume(alloc, &input)?;
+    write_canonical(laid.volume(), laid.layout(), writer)
 }

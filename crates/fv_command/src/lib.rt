@@ -14,7 +14,6 @@ mod fault_text;
 mod hob_run;
 mod image_check_run;
 mod image_digests;
-mod image_run;
 mod inputs;
 mod opener;
 mod pads;

@@ -1,9 +1,12 @@
-//! An image, put as it is or as lines of hexadecimal digits.
+//! An image, put as it is or as lines of hexadecimal digits: the canonical image of a volume, or a
+//! flash image in which each volume is replaced by its canonical image.
 
 ghost use Rattle.std.specs.Prelude.{ℕ, List};
+ghost use Rattle.fv_canon.specs.Words.{NormalisesAll, IsImage};
 ghost use Rattle.fv_text.specs.Words.{IsHexText, ShowsBytes};
 
 use fv_base::Sink;
+use fv_canon::{LaidImage, LaidVolume, put_canonical, put_laid_image};
 use fv_text::{HexSink, LentSink};
 
 /// An image that is not kept in memory, but can be put into a sink.
@@ -14,6 +17,22 @@ pub trait Image {
     /// Puts the image.
     fn put_into<S: Sink>(&self, out: &mut S)
         ensures { (bytes : List ℕ) × is self.now bytes × S.takes out.old bytes out.new };
+}
+
+impl<'a> Image for LaidVolume<'a> {
+    ghost is = { IsImage };
+
+    fn put_into<S: Sink>(&self, out: &mut S) {
+        put_canonical(self.volume(), self.layout(), out);
+    }
+}
+
+impl<'a> Image for LaidImage<'a> {
+    ghost is = { NormalisesAll };
+
+    fn put_into<S: Sink>(&self, out: &mut S) {
+        put_laid_image(self, out);
+    }
 }
 
 // Puts the image into the sink `below`, as lines of digits, and returns that sink.

@@ -7,7 +7,6 @@ use fv_base::{ByteList, Fault, FaultKind, Port};
 use fv_canon::{
     Layout, Side, VolumeCheck, VolumeOutcome, body_bytes, canonical, check_image, file_bytes,
     is_canonical, layout, normalise, normalise_image, run_compare, run_normalise, write_canonical,
-    write_normalised_image,
 };
 use fv_tree::{FileView, Item, Lookup, VolumeView, read_volume, section_by_type};
 use std::alloc::Global;
@@ -88,17 +87,6 @@ fn run_writes_all_or_nothing(alloc: Global, volume: &[u8], image: &[u8]) -> bool
     }
 }
 
-// Whether the image is written, or nothing if memory ran out.
-fn call_writes_all_or_nothing(alloc: Global, volume: &[u8], image: &[u8]) -> bool {
-    let mut taken = [0u8; 392];
-    let room = image.len().min(392);
-    let mut writer = Port::new(&mut taken[..room]);
-    match write_normalised_image(alloc, volume, &mut writer) {
-        Ok(()) => &taken[..room] == image,
-        Err(fault) => fault == out_of_memory() && taken == [0; 392],
-    }
-}
-
 // Whether the image of a view is made, or memory ran out.
 fn view_has_image_or_memory_ran_out(
     alloc: Global,
@@ -121,7 +109,6 @@ fn calls_are_right(alloc: Global, volume: &[u8], image: &[u8], starts: &str) -> 
     view_has_image_or_memory_ran_out(alloc, volume, image, starts)
         && is_made_or_memory_ran_out(normalise(alloc, volume), image)
         && is_made_or_memory_ran_out(normalise_image(alloc, volume), image)
-        && call_writes_all_or_nothing(alloc, volume, image)
         && is_judged_or_memory_ran_out(alloc, volume, false)
         && is_judged_or_memory_ran_out(alloc, image, true)
         && is_checked_or_memory_ran_out(alloc, volume, VolumeOutcome::NotCanonical)

@@ -3,7 +3,7 @@
 use crate::fakes::{FakeReader, FakeWriter};
 use crate::row_bytes::bytes_of;
 use fv_base::{Fault, FaultKind, Port};
-use fv_canon::{run_normalise, write_normalised_image};
+use fv_canon::run_normalise;
 use std::alloc::Global;
 
 /// Images with an extended header, a pad before an aligned file, and a volume inside.
@@ -46,18 +46,6 @@ fn writes_as_far_as_there_is_room(alloc: Global, image: &[u8], step: usize, room
     true
 }
 
-// Whether, of an image that is written as one of a flash, as many bytes are written as the writer
-// has room for.
-fn is_written_as_far_as_there_is_room(alloc: Global, image: &[u8], room: usize) -> bool {
-    let fault = Fault::outer(FaultKind::WriteFault, room as u64);
-    let mut writer = Port::new(FakeWriter::new(alloc, 7, room, true));
-    let returned = write_normalised_image(alloc, image, &mut writer);
-    returned == Err(fault)
-        && writer
-            .into_inner()
-            .took_only(&image[..room.min(image.len())])
-}
-
 // Whether the image is written, also if every second call of the reader is interrupted.
 fn is_written(alloc: Global, image: &[u8], step: usize) -> bool {
     for is_interrupted in [false, true] {
@@ -75,7 +63,6 @@ fn stops_at_each_byte(alloc: Global, image: &[u8], step: usize) -> bool {
     for count in 0..image.len() {
         if !writes_nothing_if_reading_fails(alloc, image, step, count)
             || !writes_as_far_as_there_is_room(alloc, image, step, count)
-            || !is_written_as_far_as_there_is_room(alloc, image, count)
         {
             return false;
         }

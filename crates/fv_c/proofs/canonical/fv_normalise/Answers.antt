@@ -4,7 +4,6 @@ use Rattle.fv_base.specs.declared.fault.Fault.{Fault}
 use Rattle.fv_canon.specs.Words.{NormalisesTo}
 use Rattle.fv_canon.proofs.Laws.{image_stays_long}
 use Rattle.fv_sinks.proofs.Laws.{filled_front}
-use Rattle.fv_c.proofs.ImageLemmas.{has_image}
 use Rattle.fv_c.proofs.canonical.fv_normalise.Goals as goal
 
 pub returns-in-Err-clause-fits : goal.returns-in-Err-clause-fits
@@ -13,16 +12,16 @@ returns-in-Err-clause-fits c = λ image to _ _.
 
 pub returns-then-buffer-input-clause-small : goal.returns-then-buffer-input-clause-small
 returns-then-buffer-input-clause-small c = λ _.
-    let found = c.in-Ok.ensures.ok in
-    let whole = has_image c.args.input.now c.in-Ok.laid.volume _ found.0 found.1.0 in
-    let long : length whole.0 ≡ length c.args.input.now = image_stays_long c.args.input.now whole.0 whole.1 in
-    (whole.0, whole.1, long, omega (arith, long, c.if-buffer-input.true), refl)
+    let image : List ℕ = c.in-Ok.ensures.image.0 in
+    let to : NormalisesTo c.args.input.now image = (c.in-Ok.laid, c.in-Ok.ensures.found, c.in-Ok.ensures.image.1) in
+    let long : length image ≡ length c.args.input.now = image_stays_long c.args.input.now image to in
+    (image, to, long, omega (arith, long, c.if-buffer-input.true), refl)
 
 pub returns-clause-ok : goal.returns-clause-ok
 returns-clause-ok c = λ _.
     let put = c.put_canonical.ensures in
     let image : List ℕ = put.0 in
-    let to : NormalisesTo c.args.input.now image = (c.in-Ok.laid.volume, c.in-Ok.ensures.ok.0, put.1) in
+    let to : NormalisesTo c.args.input.now image = (c.in-Ok.laid, c.in-Ok.ensures.found, rw c.volume.ensures at put.1) in
     let long : length image ≡ length c.args.input.now = image_stays_long c.args.input.now image to in
     let room : length image ≤ length c.args.buffer.now = omega (arith, long, c.if-buffer-input.false) in
     let filled = filled_front c.new-out.result c.put_canonical.new.out c.args.buffer.now image c.new-out.ensures.none c.new-out.ensures.all put.2 room in

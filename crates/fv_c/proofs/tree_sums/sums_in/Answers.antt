@@ -11,5 +11,5 @@ returns-in_err-add_volume-clause-err c = rw (err_is c.from_residual-in_err-add_v
 
 pub returns-clause-ok : goal.returns-clause-ok
 returns-clause-ok c =
-    has_sums c.args.input.now c.in_ok-laid.laid.volume c.new-sums.result.items c.add_volume.new.sums.items c.in_ok-laid.ensures.ok.0
+    has_sums c.args.input.now c.in_ok-laid.laid c.new-sums.result.items c.add_volume.new.sums.items c.in_ok-laid.ensures.found
     c.new-sums.ensures.items c.in_ok-add_volume.ensures.sums

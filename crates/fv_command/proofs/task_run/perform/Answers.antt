@@ -11,7 +11,7 @@ returns-in_err-lay_out_volume-in-Normalise g c =
 pub returns-in_ok-lay_out_volume-in-Normalise : goal.returns-in_ok-lay_out_volume-in-Normalise
 returns-in_ok-lay_out_volume-in-Normalise g c =
     let put = c.put_shown_image-in-Normalise.ensures in
-    rw c.in-Normalise.is (put.1, (put.0, (_, c.in_ok-lay_out_volume-in-Normalise.ensures.ok, put.2), put.3), put.4)
+    rw c.in-Normalise.is (put.1, (put.0, (_, c.in_ok-lay_out_volume-in-Normalise.ensures.found, put.2), put.3), put.4)
 
 -- a flash image with its volumes renewed
 pub returns-in_err-lay_out_image-in-NormaliseAll : goal.returns-in_err-lay_out_image-in-NormaliseAll
