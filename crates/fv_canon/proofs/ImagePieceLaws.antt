@@ -1,10 +1,6 @@
--- What a walk writes for a part of a volume is its image, and the list that takes it has it.
+-- What a walk writes for a part of a volume is its image.
 use Rattle.std.proofs.Common.{◌≡◌, ℕ, List, [], ◌++◌, refl, ◌∙◌, sym, subst, append-nil, drop, Bool, true}
-use Rattle.std.specs.Prelude.{Result, IfOk}
-use Rattle.std.proofs.lemmas.Result.{IfOk-weaker}
-use Rattle.fv_base.proofs.Laws.{bytes_drop, kept_whole}
-use Rattle.fv_base.specs.Words.{KeptLatched}
-use Rattle.fv_base.specs.declared.fault.Fault.{Fault}
+use Rattle.fv_base.proofs.Laws.{bytes_drop}
 use Rattle.fv_tree.specs.Words.{IsReadFile, IsReadSection, MeansSection, Stream, FileMeaning, File, SectionMeaning, Section, content_of}
 use Rattle.fv_tree.specs.Words.{body_of, volumes_in_body, volumes_in_content}
 use Rattle.fv_canon.specs.Words.{IsData, IsBodyImage, IsFrame, AreStarts, BeginsWithStarts, Laid}
@@ -32,14 +28,3 @@ body_is (Section kind extended body) starts (n, l, f, (b, small, most, stands), 
     sections_made n (Section kind extended body) f 0 starts [] inside.0 is
     (laid_deeper AreStarts (volumes_in_body body) starts laid) in
     subst (λ (xs : List ℕ). IsBodyImage body (body_image body xs)) (append-nil starts) frame.2
-
--- what a list has that took a text
-pub kept_text : {A : Type 0} (P : List ℕ → Type 0) (text : A → List ℕ → List ℕ) (x y : A) (xs ys s k : List ℕ) (a b : Bool)
-    (r : Result (List ℕ) Fault) → P (text y ys) → x ≡ y → xs ≡ ys → (s ≡ []) × (a ≡ true) → KeptLatched s a (text x xs) k b
-    → IfOk r (λ o. (b ≡ true) × (o ≡ k)) → IfOk r P
-kept_text P text x y xs ys s k a b r made is same begun taken got =
-    IfOk-weaker r (λ (o : List ℕ). o ≡ text x xs) P (λ o e. subst P (sym (e ∙ moved)) made)
-    (kept_whole s k (text x xs) a b r begun.0 begun.1 taken got)
-  where
-    moved : text x xs ≡ text y ys
-    moved = subst (λ z. text x xs ≡ text z ys) is (subst (λ zs. text x xs ≡ text x zs) same refl)

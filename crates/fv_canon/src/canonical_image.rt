@@ -9,9 +9,9 @@ ghost use Rattle.fv_canon.specs.LayoutFaults.{Unfit};
 ghost use Rattle.fv_canon.specs.LayoutForms.{IsLayout};
 ghost use Rattle.fv_tree.specs.Words.{Accepted, IsMeaning, Meaning};
 
-use crate::known_layout::Layout;
-use crate::laid_parts::put_laid_volume;
+use crate::laid_volume::Layout;
 use crate::layout_walk::layout;
+use crate::parts::put_laid_volume;
 use fv_base::{ByteList, Fault, ListSink, Port, Sink, WriteSink};
 use fv_tree::VolumeView;
 use std::alloc::Global;

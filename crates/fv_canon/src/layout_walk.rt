@@ -1,20 +1,22 @@
-//! The layout of a volume and of the volumes inside it.
+//! Walks over a volume and the volumes inside it: one that lays them out, and one that skips the
+//! starts of a part in a layout.
 
-ghost use Rattle.std.specs.Prelude.{◌≡◌, ◌≢◌, ◌<◌, ◌≤◌, ◌⊎◌, ◌+◌, ◌++◌, ℕ, List, [], All, Any, length, take, get_or, IfOk, IfErr, OnOk};
+ghost use Rattle.std.specs.Prelude.{◌≡◌, ◌≢◌, ◌<◌, ◌≤◌, ◌⊎◌, ◌+◌, ◌++◌, ℕ, List, [], All, Any, length, take, drop};
+ghost use Rattle.std.specs.Prelude.{get_or, IfOk, IfErr, OnOk};
 ghost use Rattle.fv_base.specs.Words.{OrMemory, out_of_memory};
 ghost use Rattle.fv_head.specs.Words.{first_edge};
 ghost use Rattle.fv_tree.specs.inner.NestingDepths.{NestsVolume, NestsFiles, NestsSections, NestsBody};
 ghost use Rattle.fv_canon.specs.inner.FileWalks.{Grew, Shallow};
-ghost use Rattle.fv_canon.specs.LayoutFaults.{layout_fault, AllFit, FirstUnfit, Unfit};
+ghost use Rattle.fv_canon.specs.LayoutFaults.{layout_fault, FirstUnfit, Unfit};
 ghost use Rattle.fv_canon.specs.Layouts.{layout_item, layout_items, AreStarts, Fits};
-ghost use Rattle.fv_canon.specs.LayoutForms.{Laid, LaysVolume, IsLayout};
+ghost use Rattle.fv_canon.specs.LayoutForms.{BeginsWithStarts, Laid, LaysVolume, IsLayout};
 ghost use Rattle.fv_tree.specs.Words.{volumes_in, volumes_in_files, volumes_in_sections, volumes_in_body, head_of};
 ghost use Rattle.fv_tree.specs.Words.{files_of, length_of, sections_from, files_from, body_view};
 ghost use Rattle.fv_canon.specs.inner.ImageOf.{starts_in};
 ghost use Rattle.fv_placement.specs.Words.{Placement, IsLawfulItem};
 
 use crate::data_body::data_body;
-use crate::known_layout::Layout;
+use crate::laid_volume::Layout;
 use crate::pads_and_headers::header_len_for;
 use fv_base::{Align, Fault, FaultKind, Place};
 use fv_head::first_edge;
@@ -70,7 +72,6 @@ pub(crate) fn layout_of_body(alloc: Global, body: Body<'_, '_>) -> Result<Vec<u6
     requires shallow { Shallow NestsBody (body_view body) 0 }
     ensures ok { IfOk result (λ starts. Laid AreStarts (volumes_in_body (body_view body.entry)) starts.items) }
     ensures err { IfErr result (OrMemory (FirstUnfit (volumes_in_body (body_view body.entry)) 0)) }
-    ensures fits { AllFit (volumes_in_body (body_view body.entry)) → IfErr result (λ f. f ≡ out_of_memory) }
     ensures memory { IfErr result (λ f. f ≡ out_of_memory
         → Any (λ v. files_of v.volume ≢ []) (volumes_in_body (body_view body.entry))) }
 {
@@ -204,4 +205,48 @@ fn layout_fault(kind: FaultKind, depth: u8) -> Fault
         kind,
         place: Place { offset: 0, depth },
     }
+}
+
+// Returns the starts that follow the starts of these sections.
+#[cycle(skip)]
+fn skip_sections<'s>(sections: &[SectionView<'_>], starts: &'s [u64]) -> &'s [u64]
+    requires laid { BeginsWithStarts (volumes_in_sections (sections_from sections.now)) starts.now }
+    ensures { result.now ≡ drop (starts_in (volumes_in_sections (sections_from sections.now))) starts.now }
+{
+    let mut rest = starts;
+    for section in sections {
+        rest = skip_body(section.body(), rest);
+    }
+    rest
+}
+
+// Returns the starts that follow the starts of a body.
+#[cycle(skip)]
+pub(crate) fn skip_body<'s>(body: Body<'_, '_>, starts: &'s [u64]) -> &'s [u64]
+    requires laid { BeginsWithStarts (volumes_in_body (body_view body)) starts.now }
+    ensures { result.now ≡ drop (starts_in (volumes_in_body (body_view body.entry))) starts.now }
+{
+    match body {
+        Body::Leaf(_) => starts,
+        Body::Group { sections, .. } => skip_sections(sections, starts),
+        Body::Nested(volume) => skip_volume(volume, starts),
+    }
+}
+
+// Returns the starts that follow the starts of a volume, which are the starts of its own files and
+// of the volumes in them.
+#[cycle(skip)]
+fn skip_volume<'s>(volume: &VolumeView<'_>, starts: &'s [u64]) -> &'s [u64]
+    requires laid { BeginsWithStarts (volumes_in volume.now) starts.now }
+    ensures { result.now ≡ drop (starts_in (volumes_in volume.now)) starts.now }
+{
+    // A volume that was read has a start for each of its files.
+    volume.known();
+    let files = volume.files();
+    let (_own, inner) = starts.split_at(files.len());
+    let mut rest = inner;
+    for file in files {
+        rest = skip_body(data_body(file), rest);
+    }
+    rest
 }

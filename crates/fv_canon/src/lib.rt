@@ -13,15 +13,11 @@ pub mod further_laws;
 pub mod headline;
 mod image_check;
 mod image_walk;
-mod known_layout;
-mod laid_parts;
 mod laid_volume;
 mod layout_walk;
 mod normalising;
 mod pads_and_headers;
-mod part_bytes;
-mod part_layout;
-mod start_walk;
+mod parts;
 mod summing_sink;
 
 pub use canonical_image::{canonical, put_canonical, write_canonical};
@@ -30,10 +26,10 @@ pub use flash_image::{LaidImage, lay_out_image, normalise_image, put_laid_image}
 pub use fv_compare::{Side, run_compare};
 pub use fv_tree::whole_volume;
 pub use image_check::{VolumeCheck, VolumeOutcome, check_image};
-pub use known_layout::Layout;
-pub use laid_parts::{put_laid_body, put_laid_data, put_laid_volume, starts_inside};
-pub use laid_volume::{LaidVolume, lay_out_volume};
+pub use laid_volume::{LaidVolume, Layout, lay_out_volume};
 pub use layout_walk::layout;
 pub use normalising::{normalise, run_normalise};
-pub use part_bytes::{body_bytes, file_bytes};
-pub use part_layout::{lay_out_body, lay_out_data};
+pub use parts::{
+    body_bytes, file_bytes, lay_out_body, lay_out_data, put_laid_body, put_laid_data, put_laid_volume,
+    starts_inside,
+};

@@ -1,13 +1,7 @@
-use Rattle.fv_base.proofs.Laws.{err_is, first_only}
+use Rattle.fv_base.proofs.Laws.{err_is}
 use Rattle.fv_tree.specs.Words.{body_view, volumes_in_body}
-use Rattle.fv_canon.proofs.FitLaws.{first_none}
 use Rattle.fv_canon.proofs.LayoutWalkLaws.{starts_need_some}
 use Rattle.fv_canon.proofs.layout_walk.layout_of_body.Goals as goal
-
-pub returns-in_err-lay_body-clause-fits : goal.returns-in_err-lay_body-clause-fits
-returns-in_err-lay_body-clause-fits c fit =
-    rw (err_is c.from_residual.ensures.1)
-    (first_only c.in_err-lay_body.ensures.err (λ unfit. first_none (volumes_in_body (body_view c.args.body)) 0 _ unfit fit))
 
 pub returns-in_err-lay_body-clause-memory : goal.returns-in_err-lay_body-clause-memory
 returns-in_err-lay_body-clause-memory c =

@@ -5,8 +5,8 @@ use Rattle.fv_canon.proofs.DataBodyLaws.{data_falls, data_volumes}
 use Rattle.fv_canon.proofs.LaidFileLaws.{file_passed, files_last}
 use Rattle.fv_canon.proofs.LaidSectionLaws.{section_passed, in_body, body_laid}
 use Rattle.fv_canon.proofs.VolumeWalks.{VolumeLaid, volume_seen, volume_rest}
-use Rattle.fv_canon.proofs.start_walk.+skip.Goals.{skip_volume-After-files-files}
-use Rattle.fv_canon.proofs.start_walk.+skip.Goals as goal
+use Rattle.fv_canon.proofs.layout_walk.+skip.Goals.{skip_volume-After-files-files}
+use Rattle.fv_canon.proofs.layout_walk.+skip.Goals as goal
 use Rattle.fv_tree.proofs.Laws.{section_body_falls}
 
 pub skip_sections-skip_body-rest-requires : goal.skip_sections-skip_body-rest-requires

@@ -2,7 +2,7 @@ use Rattle.fv_tree.specs.Words.{content_of}
 use Rattle.fv_canon.specs.inner.ImageOf.{data_of}
 use Rattle.fv_canon.proofs.DataBodyLaws.{data_held, data_image}
 use Rattle.fv_canon.proofs.ImagePieceLaws.{data_is}
-use Rattle.fv_canon.proofs.laid_parts.put_laid_data.Goals as goal
+use Rattle.fv_canon.proofs.parts.put_laid_data.Goals as goal
 
 pub put_body_image-requires : goal.put_body_image-requires
 put_body_image-requires g c = record { laid = rw (c.data_body.ensures, data_held c.args.file.now) c.requires }

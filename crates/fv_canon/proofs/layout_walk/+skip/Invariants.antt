@@ -3,7 +3,7 @@ use Rattle.fv_tree.specs.Words.{sections_from, files_from, body_view, volumes_in
 use Rattle.fv_tree.specs.inner.Sizes.{volume_size, sections_size, body_size}
 use Rattle.fv_canon.specs.inner.ImageOf.{starts_in}
 use Rattle.fv_canon.proofs.ImageParts.{ComesTo}
-use Rattle.fv_canon.proofs.start_walk.+skip.Given as goal
+use Rattle.fv_canon.proofs.layout_walk.+skip.Given as goal
 
 abbrev pub invariant-skip_sections-loop-section : goal.invariant-skip_sections-loop-section
 invariant-skip_sections-loop-section l =

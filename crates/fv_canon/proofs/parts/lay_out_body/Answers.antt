@@ -1,7 +1,7 @@
 use Rattle.std.proofs.lemmas.Result.{IfOk-weaker}
 use Rattle.fv_canon.proofs.LayoutWalkLaws.{shallow_body}
 use Rattle.fv_canon.proofs.PartLengthLaws.{body_long}
-use Rattle.fv_canon.proofs.part_layout.lay_out_body.Goals as goal
+use Rattle.fv_canon.proofs.parts.lay_out_body.Goals as goal
 
 pub layout_of_body-requires : goal.layout_of_body-requires
 layout_of_body-requires c = record { shallow = rw c.body.ensures (shallow_body c.args.section.now c.known.ensures) }

@@ -2,7 +2,7 @@ use Rattle.std.proofs.Common.{[], append-nil, subst, sym}
 use Rattle.fv_canon.specs.Words.{BeginsWithStarts}
 use Rattle.fv_canon.proofs.VolumeListLaws.{inside_begins}
 use Rattle.fv_tree.specs.Words.{volumes_in}
-use Rattle.fv_canon.proofs.laid_parts.starts_inside.Goals as goal
+use Rattle.fv_canon.proofs.parts.starts_inside.Goals as goal
 
 pub split_at-requires : goal.split_at-requires
 split_at-requires c =

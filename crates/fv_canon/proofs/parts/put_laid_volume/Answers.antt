@@ -1,6 +1,6 @@
 use Rattle.fv_canon.specs.inner.ImageOf.{image_of}
 use Rattle.fv_canon.proofs.ImageLaws.{image_begun}
-use Rattle.fv_canon.proofs.laid_parts.put_laid_volume.Goals as goal
+use Rattle.fv_canon.proofs.parts.put_laid_volume.Goals as goal
 
 pub put_image-requires : goal.put_image-requires
 put_image-requires g c = record { laid = c.requires }

@@ -2,7 +2,7 @@ use Rattle.std.proofs.lemmas.Result.{IfOk-weaker}
 use Rattle.fv_canon.proofs.DataBodyLaws.{data_held}
 use Rattle.fv_canon.proofs.LayoutWalkLaws.{shallow_data}
 use Rattle.fv_canon.proofs.PartLengthLaws.{begin_all, data_long}
-use Rattle.fv_canon.proofs.part_layout.lay_out_data.Goals as goal
+use Rattle.fv_canon.proofs.parts.lay_out_data.Goals as goal
 
 pub layout_of_body-requires : goal.layout_of_body-requires
 layout_of_body-requires c = record { shallow = rw c.data_body.ensures (shallow_data c.args.file.now c.known.ensures) }

@@ -2,7 +2,7 @@ use Rattle.fv_tree.specs.Words.{body_of}
 use Rattle.fv_canon.specs.inner.ImageOf.{body_image}
 use Rattle.fv_canon.proofs.ImagePieceLaws.{body_is}
 use Rattle.fv_canon.proofs.PartLengthLaws.{begin_all}
-use Rattle.fv_canon.proofs.laid_parts.put_laid_body.Goals as goal
+use Rattle.fv_canon.proofs.parts.put_laid_body.Goals as goal
 
 pub put_body_image-requires : goal.put_body_image-requires
 put_body_image-requires g c = record { laid = rw c.body.ensures (begin_all _ c.args.starts.now c.requires) }
