@@ -1,5 +1,5 @@
 -- What a walk writes for a part of a volume is its image.
-use Rattle.std.proofs.Common.{◌≡◌, ℕ, List, [], ◌++◌, refl, ◌∙◌, sym, subst, append-nil, drop, Bool, true}
+use Rattle.std.proofs.Common.{ℕ, List, [], ◌++◌, sym, subst, append-nil, drop}
 use Rattle.fv_base.proofs.Laws.{bytes_drop}
 use Rattle.fv_tree.specs.Words.{IsReadFile, IsReadSection, MeansSection, Stream, FileMeaning, File, SectionMeaning, Section, content_of}
 use Rattle.fv_tree.specs.Words.{body_of, volumes_in_body, volumes_in_content}

@@ -7,10 +7,6 @@ use Rattle.fv_tree.specs.Words.{MemoryRanOut}
 use Rattle.fv_canon.specs.Headline.{NormalisesTo}
 use Rattle.fv_canon.specs.InputRefusals.{Refuses}
 
--- the canonical image of the input was written
-abbrev pub InputWrites : List ℕ → Option (List ℕ) → Option (List ℕ) → Type 0
-InputWrites input held holds = (image : List ℕ) × NormalisesTo input image × Appends held holds image
-
 -- either nothing was written, because the input is rejected, or because memory ran out and the input begins with a
 -- volume header; or the writer stopped before the end of the image
 abbrev pub InputStops : List ℕ → Option (List ℕ) → Option (List ℕ) → Fault → Type 0
@@ -20,7 +16,8 @@ InputStops input held holds fault =
 
 -- a run read an input to its end, and wrote its canonical image
 abbrev pub RunWrites : Option (List ℕ) → Option (List ℕ) → Option (List ℕ) → Option (List ℕ) → Type 0
-RunWrites unread left held holds = (input : List ℕ) × ReadsWhole unread left input × InputWrites input held holds
+RunWrites unread left held holds =
+    (input : List ℕ) × (image : List ℕ) × ReadsWhole unread left input × NormalisesTo input image × Appends held holds image
 
 -- either a run stopped while it read, and nothing was written; or it stopped after it had read an input to its end
 abbrev pub RunStops : Option (List ℕ) → Option (List ℕ) → Option (List ℕ) → Option (List ℕ) → Fault → Type 0

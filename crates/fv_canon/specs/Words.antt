@@ -17,4 +17,4 @@ pub use Rattle.fv_canon.specs.FlashImages.{IsRenewed, Renewed, NormalisesAll, Ha
 pub use Rattle.fv_canon.specs.FlashImages.{RefusesAll, IsLaid, starts_of, AreLaid, IsLaidOut}
 pub use Rattle.fv_canon.specs.ImageChecks.{IsOtherThanImage, HasOutcome, IsChecked, AreChecked, ChecksImage, IsAboveLimit}
 pub use Rattle.fv_canon.specs.ImageChecks.{AreCanonical, CanonicalImagesStay}
-pub use Rattle.fv_canon.specs.NormaliseRuns.{InputWrites, InputStops, RunWrites, RunStops}
+pub use Rattle.fv_canon.specs.NormaliseRuns.{InputStops, RunWrites, RunStops}

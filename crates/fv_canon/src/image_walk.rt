@@ -15,10 +15,10 @@ ghost use Rattle.fv_canon.specs.inner.FileWalks.{ArePlaced};
 ghost use Rattle.fv_canon.specs.inner.SummingSinks.{ImageTakes, sums};
 
 use crate::data_body::data_body;
+use crate::layout_walk::skip_body;
 use crate::pads_and_headers::{
     filler_of, put_ext_pad, put_file_head, put_gap, put_section_head, put_state, size_for, used_end,
 };
-use crate::layout_walk::skip_body;
 use crate::summing_sink::SummingSink;
 use fv_base::field::up_to_8;
 use fv_base::{Polarity, Sink, fill};

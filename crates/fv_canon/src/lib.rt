@@ -30,6 +30,6 @@ pub use laid_volume::{LaidVolume, Layout, lay_out_volume};
 pub use layout_walk::layout;
 pub use normalising::{normalise, run_normalise};
 pub use parts::{
-    body_bytes, file_bytes, lay_out_body, lay_out_data, put_laid_body, put_laid_data, put_laid_volume,
-    starts_inside,
+    body_bytes, file_bytes, lay_out_body, lay_out_data, put_laid_body, put_laid_data,
+    put_laid_volume, starts_inside,
 };

@@ -1,10 +1,12 @@
-use Rattle.std.proofs.Common.{◌≡◌, List, ℕ, inr, rules, subst, sym, true}
-use Rattle.std.proofs.lemmas.Result.{IfErr-weaker, on_ok_weaker}
+use Rattle.std.proofs.Common.{◌≡◌, inl, inr, rules, sym, true}
+use Rattle.std.proofs.KnownBytes.{Keeps-refl}
+use Rattle.std.proofs.lemmas.Result.{IfErr-weaker}
 use Rattle.fv_base.proofs.Laws.{err_is}
-use Rattle.fv_base.specs.Words.{ReadsWhole, has_erred}
+use Rattle.fv_base.specs.Words.{has_erred}
 use Rattle.fv_base.specs.declared.fault.Fault.{Fault}
 use Rattle.fv_base.specs.declared.fault.FaultKind.TheVariants as kinds
-use Rattle.fv_canon.proofs.NormaliseRunLaws.{behind_stops, input_writes, of_some_kind, refused_stops, write_not_read, writer_stops}
+use Rattle.fv_tree.proofs.Laws.{ran_out}
+use Rattle.fv_canon.proofs.NormaliseRunLaws.{of_some_kind, run_writes, write_not_read, writer_stops}
 use Rattle.fv_canon.proofs.normalising.run_normalise.Goals as goal
 
 pub returns-in_err-input-clause-err : goal.returns-in_err-input-clause-err
@@ -14,19 +16,18 @@ pub returns-in_err-laid-clause-err : goal.returns-in_err-laid-clause-err
 returns-in_err-laid-clause-err g c =
     let why = rw c.deref.ensures.value at c.in_err-laid.ensures.err in
     let front = rw c.deref.ensures.value at c.in_err-laid.ensures.memory in
-    rw (err_is c.from_residual-in_err-laid.ensures.1) (inr (_, c.in_ok-input.ensures.ok, refused_stops _ _ _ why front))
+    rw (err_is c.from_residual-in_err-laid.ensures.1)
+    (inr (_, c.in_ok-input.ensures.ok, inl (Keeps-refl _, ran_out _ _ why front)))
 
 pub returns-clause-ok : goal.returns-clause-ok
 returns-clause-ok g c =
     let found = rw (sym c.volume.ensures, c.deref.ensures.value) at c.in_ok-laid.ensures.found in
-    on_ok_weaker c.write_canonical.result (λ wrote. (_, c.in_ok-input.ensures.ok, wrote))
-    (input_writes _ c.volume.result.now _ _ c.write_canonical.result found c.write_canonical.ensures.ok)
+    run_writes _ c.volume.result.now _ _ c.write_canonical.result c.in_ok-input.ensures.ok found c.write_canonical.ensures.ok
 
 pub returns-clause-err : goal.returns-clause-err
 returns-clause-err g c =
     let found = rw (sym c.volume.ensures, c.deref.ensures.value) at c.in_ok-laid.ensures.found in
-    behind_stops _ _ _ _ _ c.write_canonical.result c.in_ok-input.ensures.ok
-    (writer_stops _ c.volume.result.now _ _ c.write_canonical.result found c.write_canonical.ensures.err)
+    writer_stops _ c.volume.result.now _ _ c.write_canonical.result c.in_ok-input.ensures.ok found c.write_canonical.ensures.err
 
 pub returns-clause-reader_erred : goal.returns-clause-reader_erred
 returns-clause-reader_erred g c _ =
