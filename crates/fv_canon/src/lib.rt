@@ -20,7 +20,6 @@ mod normalising;
 mod pads_and_headers;
 mod part_bytes;
 mod part_layout;
-mod start_walk;
 mod summing_sink;
 
 pub use canonical_image::{canonical, put_canonical, write_canonical};

@@ -6,11 +6,11 @@ ghost use Rattle.fv_canon.specs.Image.{IsData, IsBodyImage};
 ghost use Rattle.fv_canon.specs.LayoutFaults.{AllFit, FirstUnfit};
 ghost use Rattle.fv_tree.specs.Words.{volumes_in_body, volumes_in_content, content_of, body_of};
 
-use crate::data_body::data_body;
 use crate::image_walk::put_body_image;
 use crate::laid_parts::put_laid_data;
-use crate::layout_walk::layout_of_body;
+use crate::layout_walk::starts_of;
 use fv_base::{ByteList, Fault, ListSink};
+use fv_rows::{Part, TreeWalk};
 use fv_tree::{FileView, SectionView};
 use std::alloc::Global;
 
@@ -35,9 +35,7 @@ pub fn file_bytes(alloc: Global, file: &FileView<'_>) -> Result<ByteList, Fault>
     // If all volumes in the data fit, the only error is OutOfMemory.
     ensures fits { AllFit (volumes_in_content (content_of file.now)) → IfErr result (λ f. f ≡ out_of_memory) }
 {
-    // In a file that was read, groups and volumes nest so little that a byte can count the levels.
-    file.known();
-    let starts = layout_of_body(alloc, data_body(file))?;
+    let starts = starts_of(alloc, TreeWalk::inside(Part::File(file)))?;
     let mut out = ListSink::with_room(alloc, file.data_len() as usize)?;
     put_laid_data(file, starts.as_slice(), &mut out);
     out.finish()
@@ -65,9 +63,8 @@ pub fn body_bytes(alloc: Global, section: &SectionView<'_>) -> Result<ByteList, 
 {
     // For a section that was read, the walk puts its body.
     section.known();
-    let body = section.body();
-    let starts = layout_of_body(alloc, body)?;
+    let starts = starts_of(alloc, TreeWalk::inside(Part::Section(section)))?;
     let mut out = ListSink::with_room(alloc, section.body_len() as usize)?;
-    put_body_image(&mut out, body, starts.as_slice());
+    put_body_image(&mut out, section.body(), starts.as_slice());
     out.finish()
 }
