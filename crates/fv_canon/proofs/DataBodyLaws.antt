@@ -26,10 +26,3 @@ data_size (File name kind attributes (Sectioned ss tail)) = refl
 pub data_falls : (fs : List FileMeaning) (i : ℕ) (m : FileMeaning) → i < length fs → m ≡ get_or fs i m
     → body_size (data_body m) + 2 ≤ files_size (files_from fs)
 data_falls fs i m l is = omega (arith, file_falls fs i m l is, data_size m)
-
--- sections in a file nest as deep as those of a group around them would, less one
-pub data_nests : (m : FileMeaning) (n : ℕ) (f : FileForm) → MeansFile (Stream n) f m → NestsBody (data_body m) (suc n)
-data_nests (File name kind attributes (Plain b)) n f is =
-    (record { offset = 0; kind = 0; extended = false; body = b }, 0, false, (refl, refl, (λ e. cc, λ e. cc, refl)))
-data_nests (File name kind attributes (Sectioned ss tail)) n f (a, b, c, (held, stream)) =
-    (record { offset = 0; kind = group_kind; extended = false; body = f.payload }, group_kind, false, (refl, refl, (refl, stream)))

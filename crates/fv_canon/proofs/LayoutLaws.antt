@@ -1,10 +1,9 @@
 -- A volume has one layout at most.
-use Rattle.std.proofs.Common.{◌≡◌, ◌≤◌, ℕ, List, [], ◌∷◌, ◌++◌, length, take, drop, sym, ap, ◌∙◌, subst, arith}
+use Rattle.std.proofs.Common.{◌≡◌, ◌≤◌, ℕ, List, [], ◌∷◌, ◌++◌, length, take, drop, refl, sym, ap, ◌∙◌, subst, arith}
 use Rattle.std.proofs.lemmas.List.{take-append-drop, length-take-le, take_at}
 use Rattle.fv_tree.proofs.Laws.{files_list_back}
 use Rattle.fv_tree.specs.Words.{Meaning, Volume, FileMeaning, files_list, files_of, head_of, files_from, Inside, volumes_in}
 use Rattle.fv_canon.specs.Words.{AreStarts, layout_items, Laid, LaysVolume, Places, IsLayout}
-use Rattle.fv_canon.specs.inner.FileWalks.{Grew}
 use Rattle.fv_placement.proofs.Laws.{starts_one}
 use Rattle.fv_canon.proofs.VolumeListLaws.{laid_count, own_count}
 
@@ -19,17 +18,16 @@ one_layout m a b p q = starts_same (volumes_in m) a b p q
 
 -- ---- a layout in its two parts
 
--- what a walk adds to no starts is a layout, in any two parts of which the first has as many starts as the volume has files
-pub layout_is : (m : Meaning) (fs : List FileMeaning) (old new : List ℕ) (l : Places) → m ≡ Volume (head_of m) (files_from fs) → old ≡ []
-    → Grew (volumes_in m) old new → l.own ≡ take (length fs) new → l.inner ≡ drop (length fs) new → IsLayout m l
-layout_is m fs old new l e none (laid, text, lays) own inner =
-    let starts : new ≡ laid = text ∙ ap (λ (xs : List ℕ). xs ++ laid) none in
+-- the starts of the volumes in a volume are a layout, in any two parts of which the first has as many starts as the volume has files
+pub layout_is : (m : Meaning) (fs : List FileMeaning) (new : List ℕ) (l : Places) → m ≡ Volume (head_of m) (files_from fs)
+    → LaysVolume m new → l.own ≡ take (length fs) new → l.inner ≡ drop (length fs) new → IsLayout m l
+layout_is m fs new l e lays own inner =
     let count : length (files_of m) ≡ length fs = ap length (ap files_of e ∙ files_list_back fs) in
     let whole : l.own ++ l.inner ≡ new =
     ap (λ (xs : List ℕ). xs ++ l.inner) own ∙ ap (λ (xs : List ℕ). take (length fs) new ++ xs) inner
     ∙ take-append-drop (length fs) new in (
-      subst (λ (xs : List ℕ). LaysVolume m xs) (sym (whole ∙ starts)) lays,
-      ap length own ∙ length-take-le (length fs) new (enough m laid lays (length fs) (length new) count (ap length starts)) ∙ sym count,
+      subst (λ (xs : List ℕ). LaysVolume m xs) (sym whole) lays,
+      ap length own ∙ length-take-le (length fs) new (enough m new lays (length fs) (length new) count refl) ∙ sym count,
     )
   where
     enough : (m : Meaning) (laid : List ℕ) → LaysVolume m laid → (n k : ℕ) → length (files_of m) ≡ n → k ≡ length laid → n ≤ k

@@ -1,124 +1,114 @@
--- The walk over a volume that adds the starts of the files in it: what it added, how deep it goes, and the fault that it passes on.
-use Rattle.std.proofs.lemmas.Grind.{common_steps}
-use Rattle.std.proofs.Common.{◌≡◌, ◌≢◌, ◌≤◌, ap, ◌<◌, ◌⊎◌, inr, ◌+◌, ℕ, suc, List, length, take, get_or, ◌++◌, append_assoc, refl, sym, subst, arith}
-use Rattle.std.proofs.Common.{[], ◌∷◌, ◌∙◌, true, false, true≢false}
+-- The loops over the rows of a part of a volume: one adds the starts of each volume among the rows, the other passes the
+-- starts of these volumes.
+use Rattle.std.proofs.Common.{◌≡◌, ◌≢◌, ◌<◌, ◌≤◌, ◌⊎◌, inl, inr, ◌+◌, ◌∙◌, ℕ, suc, List, [], ◌∷◌, ◌++◌, append_assoc, append-nil, length, drop}
+use Rattle.std.proofs.Common.{refl, sym, ap, subst, arith, true, false, true≢false, drop-drop, length-append}
 use Rattle.std.specs.List.{Any}
-use Rattle.fv_base.proofs.Laws.{or_more}
-use Rattle.fv_base.specs.Words.{out_of_memory}
+use Rattle.std.proofs.lemmas.List.{drop_at}
 use Rattle.fv_base.specs.declared.fault.Fault.{Fault}
-use Rattle.fv_head.specs.Words.{HeadFields}
-use Rattle.fv_section.specs.Words.{FrameForm}
-use Rattle.fv_tree.specs.Words.{IsMeaning, MeansFile, MeansSection, Stream, IsReadFile, IsReadSection, FileForm, Meaning, Volume, head_of}
-use Rattle.fv_tree.specs.Words.{FileMeanings, NoFiles, MoreFiles, files_of, FileMeaning, files_from, sections_from, body_of}
-use Rattle.fv_tree.specs.Words.{Inside, SectionMeanings, SectionMeaning, Group, Nested, volumes_in, volumes_in_files, volumes_in_file}
-use Rattle.fv_tree.specs.Words.{volumes_in_sections, volumes_in_section, volumes_in_body}
-use Rattle.fv_canon.specs.inner.ImageOf.{data_body, starts_in}
-use Rattle.fv_tree.specs.inner.NestingDepths.{NestsVolume, NestsFiles, NestsSections, NestsBody}
-use Rattle.fv_canon.specs.inner.FileWalks.{Grew, Shallow}
-use Rattle.fv_canon.specs.Words.{AreStarts, Laid, FirstUnfit, Unfit}
-use Rattle.fv_canon.proofs.DataBodyLaws.{data_nests, data_volumes}
-use Rattle.fv_tree.proofs.Laws.{nests_files, nests_body, nests_group, nests_nested}
-use Rattle.fv_canon.proofs.ItemLaws.{item_has}
-use Rattle.fv_tree.proofs.Laws.{in_section}
-use Rattle.fv_canon.proofs.VolumeListLaws.{count_deeper, item_count, item_grew, item_unfit, laid_deeper, unfit_deeper}
+use Rattle.fv_rows.proofs.Laws.{file_inside}
+use Rattle.fv_rows.specs.Words.{VolumeNode, FileNode, TreeRow, part_node, row_of, rows_inside}
+use Rattle.fv_rows.specs.declared.tree_walk.Part.{Part}
+use Rattle.fv_rows.specs.declared.tree_walk.Part.TheVariants as kinds
+use Rattle.fv_rows.specs.declared.tree_walk.Row.{Row}
+use Rattle.fv_rows.specs.inner.RowVolumes.{volume_at, volumes_of}
+use Rattle.fv_tree.specs.Words.{Meaning, Volume, NoFiles, MoreFiles, files_of, FileMeaning, Inside, volumes_in, volumes_in_file}
+use Rattle.fv_canon.specs.inner.ImageOf.{starts_in}
+use Rattle.fv_canon.specs.Words.{AreStarts, BeginsWithStarts, Laid, FirstUnfit, UnfitHere}
+use Rattle.fv_canon.proofs.DataBodyLaws.{data_held, data_volumes}
+use Rattle.fv_canon.proofs.ImageParts.{ComesTo}
+use Rattle.fv_canon.proofs.VolumeListLaws.{own_count}
 
--- ---- sections
+-- ---- the next row
 
--- one section more
-pub section_grew : (ss : List SectionMeaning) (i : ℕ) (s : SectionMeaning) (old now next : List ℕ) → i < length ss → s ≡ get_or ss i s
-    → Grew (volumes_in_sections (sections_from (take i ss))) old now → Grew (volumes_in_body (body_of s)) now next
-    → Grew (volumes_in_sections (sections_from (take (i + 1) ss))) old next
-section_grew ss i s old now next l is before (laid, text, lays) =
-    item_grew (λ xs. volumes_in_sections (sections_from xs)) volumes_in_section refl (λ x xs. refl) ss i s old now next l is before
-    (laid, text, subst (λ vs. Laid AreStarts vs laid) (sym (in_section s)) (laid_deeper AreStarts (volumes_in_body (body_of s)) laid lays))
+-- a row of a volume is the first of the volumes among the rows that are left
+volume_first : (left rest : List TreeRow) (r : Row) (v : Meaning) → left ≡ row_of r ∷ rest → part_node r.part ≡ VolumeNode v
+    → volumes_of left ≡ record { depth = r.nesting; volume = v } ∷ volumes_of rest
+volume_first left rest r v steps is = ap volumes_of steps ∙ ap (λ n. volume_at r.nesting n ++ volumes_of rest) is
 
--- the first section that is not laid out
-pub section_unfit : (ss : List SectionMeaning) (i : ℕ) (s : SectionMeaning) (old now : List ℕ) (depth : ℕ) (f : Fault) → i < length ss
-    → s ≡ get_or ss i s → Grew (volumes_in_sections (sections_from (take i ss))) old now
-    → FirstUnfit (volumes_in_body (body_of s)) (depth + 1) f → FirstUnfit (volumes_in_sections (sections_from ss)) depth f
-section_unfit ss i s old now depth f l is before unfit =
-    item_unfit (λ xs. volumes_in_sections (sections_from xs)) volumes_in_section refl (λ x xs. refl) ss i s old now depth f l is before
-    (subst (λ vs. FirstUnfit vs depth f) (sym (in_section s)) (unfit_deeper (volumes_in_body (body_of s)) depth f unfit))
+-- any other row is none of them
+other_part : (nesting : ℕ) (p : Part) → ((v : _) → p ≡ kinds.Volume v → ⊥) → volume_at nesting (part_node p) ≡ []
+other_part nesting (kinds.Volume v) not = absurd (not v refl)
+other_part nesting (kinds.File f) not = refl
+other_part nesting (kinds.Section s) not = refl
 
--- a section nests no deeper than those around it
-pub shallow_at : (ss : List SectionMeaning) (i : ℕ) (s : SectionMeaning) (depth : ℕ) → i < length ss → s ≡ get_or ss i s
-    → Shallow NestsSections (sections_from ss) depth → Shallow NestsBody (body_of s) depth
-shallow_at ss i s depth l is (k, fits, h) =
-    (k, fits, item_has (λ xs. NestsSections (sections_from xs) k) (λ x. NestsBody (body_of x) k) (λ x xs h. (one x h.0, h.1)) ss i s l is h)
-  where
-    one : (x : SectionMeaning) → (f : FrameForm) × MeansSection k f x → NestsBody (body_of x) k
-    one x (f, means) = nests_body x k f means
+pub other_first : (left rest : List TreeRow) (r : Row) → left ≡ row_of r ∷ rest → ((v : _) → r.part ≡ kinds.Volume v → ⊥)
+    → volumes_of left ≡ volumes_of rest
+other_first left rest r steps not = ap volumes_of steps ∙ ap (λ vs. vs ++ volumes_of rest) (other_part r.nesting r.part not)
 
--- ---- files
+-- ---- the starts of the volumes among the rows
 
--- one file more
-pub file_grew : (fs : List FileMeaning) (i : ℕ) (m : FileMeaning) (old now next : List ℕ) → i < length fs → m ≡ get_or fs i m
-    → Grew (volumes_in_files (files_from (take i fs))) old now → Grew (volumes_in_body (data_body m)) now next
-    → Grew (volumes_in_files (files_from (take (i + 1) fs))) old next
-file_grew fs i m old now next l is before here =
-    item_grew (λ xs. volumes_in_files (files_from xs)) volumes_in_file refl (λ x xs. refl) fs i m old now next l is before
-    (subst (λ vs. Grew vs now next) (data_volumes m) here)
+-- once the starts of the volumes among the rows that are left are added, the starts of all volumes are there; a volume
+-- among the rows that are left is the first that does not fit, if all volumes before it fit
+pub record Collects (rows left : List TreeRow) (starts : List ℕ) : Type 0 where
+  pub all : (laid : List ℕ) → Laid AreStarts (volumes_of left) laid → Laid AreStarts (volumes_of rows) (starts ++ laid)
+  pub unfit : (f : Fault) → FirstUnfit (volumes_of left) 0 f → FirstUnfit (volumes_of rows) 0 f
+  pub count : starts_in (volumes_of left) ≤ starts_in (volumes_of rows)
 
--- the first file that is not laid out
-pub file_unfit : (fs : List FileMeaning) (i : ℕ) (m : FileMeaning) (old now : List ℕ) (depth : ℕ) (f : Fault) → i < length fs
-    → m ≡ get_or fs i m → Grew (volumes_in_files (files_from (take i fs))) old now
-    → FirstUnfit (volumes_in_body (data_body m)) depth f → FirstUnfit (volumes_in_files (files_from fs)) depth f
-file_unfit fs i m old now depth f l is before unfit =
-    item_unfit (λ xs. volumes_in_files (files_from xs)) volumes_in_file refl (λ x xs. refl) fs i m old now depth f l is before
-    (subst (λ vs. FirstUnfit vs depth f) (data_volumes m) unfit)
+pub collects_begun : (rows left : List TreeRow) (starts : List ℕ) → left ≡ rows → starts ≡ [] → Collects rows left starts
+collects_begun rows left starts same none =
+    subst (λ l. Collects rows l starts) (sym same)
+    (subst (Collects rows rows) (sym none) (record { all = λ laid lays. lays; unfit = λ f un. un; count = omega arith }))
 
--- the data of a file nest no deeper than the files around it
-pub shallow_file_at : (fs : List FileMeaning) (i : ℕ) (m : FileMeaning) (depth : ℕ) → i < length fs → m ≡ get_or fs i m
-    → Shallow NestsFiles (files_from fs) (depth + 1) → Shallow NestsBody (data_body m) depth
-shallow_file_at fs i m depth l is (k, fits, h) = (
-  suc k,
-  omega (arith, fits),
-  item_has (λ xs. NestsFiles (files_from xs) k) (λ x. NestsBody (data_body x) (suc k)) (λ x xs h. (one x h.0, h.1)) fs i m l is h,
-)
-  where
-    one : (x : FileMeaning) → (f : FileForm) × MeansFile (Stream k) f x → NestsBody (data_body x) (suc k)
-    one x (f, means) = data_nests x k f means
+pub collects_done : (rows left : List TreeRow) (starts : List ℕ) → left ≡ [] → Collects rows left starts
+    → Laid AreStarts (volumes_of rows) starts
+collects_done rows left starts none before =
+    subst (Laid AreStarts (volumes_of rows)) (append-nil starts)
+    (before.all [] (subst (λ l. Laid AreStarts (volumes_of l) []) (sym none) refl))
 
--- ---- a volume
+pub collects_other : (rows left rest : List TreeRow) (starts : List ℕ) (r : Row) → left ≡ row_of r ∷ rest
+    → ((v : _) → r.part ≡ kinds.Volume v → ⊥) → Collects rows left starts → Collects rows rest starts
+collects_other rows left rest starts r steps not before =
+    let is = other_first left rest r steps not in
+    record {
+      all = λ laid lays. before.all laid (subst (λ vs. Laid AreStarts vs laid) (sym is) lays);
+      unfit = λ f un. before.unfit f (subst (λ vs. FirstUnfit vs 0 f) (sym is) un);
+      count = omega (arith, ap starts_in is, before.count);
+    }
 
--- its own files, and then those of the volumes in them
-pub volume_grew : (m : Meaning) (fs : List FileMeaning) (old own between new : List ℕ) → m ≡ Volume (head_of m) (files_from fs)
-    → AreStarts m own → between ≡ old ++ own → Grew (volumes_in_files (files_from fs)) between new → Grew (volumes_in m) old new
-volume_grew m fs old own between new is placed joined (laid, text, lays) = grind (arith, common_steps, append_assoc)
+module _ (rows left rest : List TreeRow) (starts : List ℕ) (r : Row) (v : Meaning) (steps : left ≡ row_of r ∷ rest)
+    (node : part_node r.part ≡ VolumeNode v) (before : Collects rows left starts) where
+  is : volumes_of left ≡ record { depth = r.nesting; volume = v } ∷ volumes_of rest
+  is = volume_first left rest r v steps node
 
--- a volume in its files is the first that is not laid out
-pub volume_unfit : (m : Meaning) (fs : List FileMeaning) (own : List ℕ) (depth : ℕ) (f : Fault) → m ≡ Volume (head_of m) (files_from fs)
-    → AreStarts m own → (f ≡ out_of_memory) ⊎ FirstUnfit (volumes_in_files (files_from fs)) depth f
-    → (f ≡ out_of_memory) ⊎ Unfit m depth f
-volume_unfit m fs own depth f is placed why =
-    or_more why (λ unfit. subst (λ (x : Meaning). Unfit x depth f) (sym is)
-    (inr ((own, subst (λ (x : Meaning). AreStarts x own) is placed), unfit)))
+  pub collects_volume : (own next : List ℕ) → AreStarts v own → next ≡ starts ++ own → Collects rows rest next
+  collects_volume own next placed joined = record {
+    all = λ laid lays. subst (Laid AreStarts (volumes_of rows)) (sym (ap (λ s. s ++ laid) joined ∙ append_assoc starts own laid))
+        (before.all (own ++ laid) (subst (λ vs. Laid AreStarts vs (own ++ laid)) (sym is) (own, laid, refl, placed, lays)));
+    unfit = λ f un. before.unfit f (subst (λ vs. FirstUnfit vs 0 f) (sym is) (inr ((own, placed), un)));
+    count = omega (arith, ap starts_in is, before.count);
+  }
 
--- ---- how deep it is
+  pub collects_unfit : (f : Fault) → UnfitHere v r.nesting f → FirstUnfit (volumes_of rows) 0 f
+  collects_unfit f here =
+      let same : r.nesting ≡ 0 + r.nesting = omega arith in
+      before.unfit f (subst (λ vs. FirstUnfit vs 0 f) (sym is) (inl (subst (λ d. UnfitHere v d f) same here)))
 
--- a volume, a file's data and a section's body that were read nest little
-pub shallow_volume : (m : Meaning) → IsMeaning m → Shallow NestsVolume m 1
-shallow_volume m (n, few, b, small, d) = (n, omega (arith, few), (b, d))
+  pub collects_some : 0 < length (files_of v) → 0 < starts_in (volumes_of rows)
+  collects_some some = omega (arith, ap starts_in is, before.count, some)
 
-pub shallow_data : (m : FileMeaning) → IsReadFile m → Shallow NestsBody (data_body m) 0
-shallow_data m (n, few, f, stored, is) = (suc n, omega (arith, few), data_nests m n f is)
+-- ---- the starts after them
 
-pub shallow_body : (s : SectionMeaning) → IsReadSection s → Shallow NestsBody (body_of s) 0
-shallow_body s (n, few, f, stored, is) = (n, omega (arith, few), nests_body s n f is)
+-- starts that begin with the starts of a volume begin, after the starts of its own files, with those of the volumes that
+-- follow
+pub passed_next : (left rest : List TreeRow) (r : Row) (v : Meaning) (count : ℕ) (starts last : List ℕ) → left ≡ row_of r ∷ rest
+    → part_node r.part ≡ VolumeNode v → length (files_of v) ≡ count → ComesTo (volumes_of left) starts last
+    → (count ≤ length starts) × ComesTo (volumes_of rest) (drop count starts) last
+passed_next left rest r v count starts last steps node many comes =
+    let begun = subst (λ vs. ComesTo vs starts last) (volume_first left rest r v steps node) comes in
+    let (laid, more, whole, (own, inner, text, placed, lays)) = begun.laid in
+    let here : length own ≡ count = own_count v own placed ∙ many in
+    let joined : starts ≡ own ++ (inner ++ more) = whole ∙ ap (λ xs. xs ++ more) text ∙ append_assoc own inner more in (
+      omega (arith, here, ap length joined, length-append own (inner ++ more)),
+      record {
+        laid = (inner, more, ap (drop count) joined ∙ drop_at own (inner ++ more) count here, lays);
+        left = drop-drop (starts_in (volumes_of rest)) count starts
+            ∙ ap (λ j. drop j starts) (ap (λ j. j + starts_in (volumes_of rest)) (sym many)) ∙ begun.left;
+      },
+    )
 
--- the files of a volume
-pub shallow_files : (h : HeadFields) (files : FileMeanings) (depth : ℕ) → Shallow NestsVolume (Volume h files) depth
-    → Shallow NestsFiles files depth
-shallow_files h files depth (k, fits, read) = (k, fits, nests_files h files k read)
-
--- the sections of a group, and the volume in a section: one level deeper
-pub shallow_group : (ss : SectionMeanings) (tail depth : ℕ) → Shallow NestsBody (Group ss tail) depth
-    → Shallow NestsSections ss (depth + 1)
-shallow_group ss tail depth (n, fits, read) =
-    let (k, is, inside) = nests_group ss tail n read in (k, omega (arith, fits, is), inside)
-
-pub shallow_nested : (m : Meaning) (depth : ℕ) → Shallow NestsBody (Nested m) depth → Shallow NestsVolume m (depth + 1)
-shallow_nested m depth (n, fits, read) = let (k, is, inside) = nests_nested m n read in (k, omega (arith, fits, is), inside)
+-- the volumes in a file are those among the rows of its contents
+pub file_volumes : (m : FileMeaning) → volumes_of (rows_inside 0 0 (FileNode m)) ≡ volumes_in_file m
+file_volumes m = file_inside m ∙ sym (data_held m) ∙ data_volumes m
 
 -- ---- where memory can run out
 
@@ -126,22 +116,6 @@ shallow_nested m depth (n, fits, read) = let (k, is, inside) = nests_nested m n 
 pub some_items : {A : Type 0} (xs : List A) → (length xs ≡ 0 → false ≡ true) → 0 < length xs
 some_items [] none = absurd (true≢false (sym (none refl)))
 some_items (x ∷ xs) none = omega arith
-
--- a section, a file and a volume's own files have no more starts than what they are in
-pub section_count : (ss : List SectionMeaning) (i : ℕ) (s : SectionMeaning) → i < length ss → s ≡ get_or ss i s
-    → starts_in (volumes_in_body (body_of s)) ≤ starts_in (volumes_in_sections (sections_from ss))
-section_count ss i s l is =
-    let here = item_count (λ xs. volumes_in_sections (sections_from xs)) volumes_in_section refl (λ x xs. refl) ss i s l is in
-    omega (arith, here, ap starts_in (in_section s), count_deeper (volumes_in_body (body_of s)))
-
-pub file_count : (fs : List FileMeaning) (i : ℕ) (m : FileMeaning) → i < length fs → m ≡ get_or fs i m
-    → starts_in (volumes_in_body (data_body m)) ≤ starts_in (volumes_in_files (files_from fs))
-file_count fs i m l is =
-    let here = item_count (λ xs. volumes_in_files (files_from xs)) volumes_in_file refl (λ x xs. refl) fs i m l is in
-    omega (arith, here, ap starts_in (data_volumes m))
-
-pub own_counted : (m : Meaning) → length (files_of m) ≤ starts_in (volumes_in m)
-own_counted (Volume h files) = omega arith
 
 -- a volume without files has no volumes in it, and so no starts
 pub starts_need_file : (m : Meaning) → 0 < starts_in (volumes_in m) → files_of m ≢ []

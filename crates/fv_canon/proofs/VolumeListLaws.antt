@@ -15,7 +15,6 @@ use Rattle.fv_tree.specs.Words.{Meaning, Volume, FileMeaning, files_of, head_of,
 use Rattle.fv_canon.specs.inner.ImageOf.{starts_in}
 use Rattle.fv_canon.proofs.ImageParts.{ComesTo}
 use Rattle.fv_canon.specs.Words.{BeginsWithStarts, Laid, AreStarts, IsPlaced, layout_item, layout_items, AllFit, FirstUnfit, UnfitHere}
-use Rattle.fv_canon.specs.inner.FileWalks.{Grew}
 use Rattle.fv_base.proofs.Laws.{item_at}
 use Rattle.fv_tree.proofs.Laws.{files_list_back}
 use Rattle.fv_placement.proofs.Laws.{follow_length}
@@ -135,14 +134,6 @@ pub unfit_behind : (vs ws : List Inside) (depth : ℕ) (f : Fault) → AllFit vs
 unfit_behind [] ws depth f fit un = un
 unfit_behind (v ∷ vs) ws depth f (placed, fit) un = inr (placed, unfit_behind vs ws depth f fit un)
 
-pub unfit_deeper : (vs : List Inside) (depth : ℕ) (f : Fault) → FirstUnfit vs (depth + 1) f → FirstUnfit (deeper vs) depth f
-unfit_deeper [] depth f un = un
-unfit_deeper (v ∷ vs) depth f (inl un) = inl (subst (λ (n : ℕ). UnfitHere v.volume n f) (same depth v.depth) un)
-  where
-    same : (n k : ℕ) → (n + 1) + k ≡ n + (k + 1)
-    same n k = omega arith
-unfit_deeper (v ∷ vs) depth f (inr (placed, un)) = inr (placed, unfit_deeper vs depth f un)
-
 -- ---- those of a list's items
 
 module _ {A : Type 0} (all : List A → List Inside) (one : A → List Inside) (none : all [] ≡ [])
@@ -162,24 +153,6 @@ module _ {A : Type 0} (all : List A → List Inside) (one : A → List Inside) (
   -- those from an item on
   pub item_first : (xs : List A) (i : ℕ) (x : A) → i < length xs → x ≡ get_or xs i x → all (drop i xs) ≡ one x ++ all (drop (i + 1) xs)
   item_first xs i x l is = ap all (item_at xs i x l is) ∙ more x (drop (i + 1) xs)
-
-  -- a walk adds the starts of an item after those that it added before
-  pub item_grew : (xs : List A) (i : ℕ) (x : A) (old now next : List ℕ) → i < length xs → x ≡ get_or xs i x
-      → Grew (all (take i xs)) old now → Grew (one x) now next → Grew (all (take (i + 1) xs)) old next
-  item_grew xs i x old now next l is (a, p, q) (b, r, s) = (
-    a ++ b,
-    r ∙ ap (λ (ys : List ℕ). ys ++ b) p ∙ append_assoc old a b,
-    subst (λ ws. Laid AreStarts ws (a ++ b)) (sym (pushed xs i x l is)) (laid_joined AreStarts (all (take i xs)) (one x) a b q s),
-  )
-
-  -- after items that are laid out an item does not fit
-  pub item_unfit : (xs : List A) (i : ℕ) (x : A) (old now : List ℕ) (depth : ℕ) (f : Fault) → i < length xs → x ≡ get_or xs i x
-      → Grew (all (take i xs)) old now → FirstUnfit (one x) depth f → FirstUnfit (all xs) depth f
-  item_unfit xs i x old now depth f l is (a, p, q) un =
-      subst (λ ws. FirstUnfit ws depth f) (sym (ap all (sym (take-append-drop i xs)) ∙ joined (take i xs) (drop i xs)
-      ∙ ap (λ ws. all (take i xs) ++ ws) (item_first xs i x l is)))
-      (unfit_behind (all (take i xs)) (one x ++ all (drop (i + 1) xs)) depth f (laid_fit (all (take i xs)) a q)
-      (unfit_front (one x) (all (drop (i + 1) xs)) depth f un))
 
   -- starts that begin with those of an item and of what is after it
   item_begins : (xs : List A) (i : ℕ) (x : A) (starts : List ℕ) → i < length xs → x ≡ get_or xs i x
@@ -219,10 +192,3 @@ module _ {A : Type 0} (all : List A → List Inside) (one : A → List Inside) (
   pub item_last : (xs : List A) (i : ℕ) (starts last : List ℕ) → length xs ≤ i → ComesTo (all (drop i xs)) starts last → starts ≡ last
   item_last xs i starts last end at =
       ap (λ vs. drop (starts_in vs) starts) (sym (ap all (drop_all i xs end) ∙ none)) ∙ at.left
-
-  -- an item has no more starts than all items
-  pub item_count : (xs : List A) (i : ℕ) (x : A) → i < length xs → x ≡ get_or xs i x → starts_in (one x) ≤ starts_in (all xs)
-  item_count xs i x l is =
-      let parts = ap starts_in (ap all (sym (take-append-drop i xs)) ∙ joined (take i xs) (drop i xs)
-      ∙ ap (λ ws. all (take i xs) ++ ws) (item_first xs i x l is)) in
-      omega (arith, parts, count_joined (all (take i xs)) (one x ++ all (drop (i + 1) xs)), count_joined (one x) (all (drop (i + 1) xs)))

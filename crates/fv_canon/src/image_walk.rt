@@ -15,7 +15,7 @@ ghost use Rattle.fv_canon.specs.inner.FileWalks.{ArePlaced};
 ghost use Rattle.fv_canon.specs.inner.SummingSinks.{ImageTakes, sums};
 
 use crate::data_body::data_body;
-use crate::layout_walk::skip_body;
+use crate::layout_walk::skip_starts;
 use crate::pads_and_headers::{
     filler_of, put_ext_pad, put_file_head, put_gap, put_section_head, put_state, size_for, used_end,
 };
@@ -24,6 +24,7 @@ use fv_base::field::up_to_8;
 use fv_base::{Polarity, Sink, fill};
 use fv_file::FIXED_CHECKSUM;
 use fv_head::{first_edge, put_head};
+use fv_rows::{Part, TreeWalk};
 use fv_tree::{Body, FileView, SectionView, VolumeView};
 
 // Returns the byte that, added to a sum of bytes, makes it 0 modulo 256.
@@ -118,7 +119,7 @@ fn put_file<'s, S: Sink>(
 {
     if out.is_summing() && file.attributes().is_summed() {
         put_state(out, polarity);
-        return skip_body(data_body(file), starts);
+        return skip_starts(TreeWalk::inside(Part::File(file)), starts);
     }
     // For a file that was read, the walk puts data of the same length.
     file.known();

@@ -16,8 +16,9 @@ ghost use Rattle.fv_tree.specs.Words.{volumes_in_body, volumes_in_content};
 
 use crate::data_body::data_body;
 use crate::image_walk::{put_body_image, put_image};
-use crate::layout_walk::layout_of_body;
+use crate::layout_walk::starts_of;
 use fv_base::{ByteList, Fault, ListSink, Sink};
+use fv_rows::{Part, TreeWalk};
 use fv_tree::{FileView, SectionView, VolumeView};
 use std::alloc::Global;
 
@@ -46,9 +47,9 @@ pub fn lay_out_data(alloc: Global, file: &FileView<'_>) -> Result<Vec<u64>, Faul
     ensures memory { IfErr result (λ f. f ≡ out_of_memory
         → Any (λ v. files_of v.volume ≢ []) (volumes_in_content (content_of file.now))) }
 {
-    // In a file that was read, groups and volumes nest so little that a byte can count the levels.
+    // For a file that was read, the walk with these starts puts data of the same length.
     file.known();
-    layout_of_body(alloc, data_body(file))
+    starts_of(alloc, TreeWalk::inside(Part::File(file)))
 }
 
 /// Returns the starts of the volumes in the body of a section, which `put_laid_body` needs to put
@@ -77,7 +78,7 @@ pub fn lay_out_body(alloc: Global, section: &SectionView<'_>) -> Result<Vec<u64>
 {
     // For a section that was read, the walk with these starts puts its body.
     section.known();
-    layout_of_body(alloc, section.body())
+    starts_of(alloc, TreeWalk::inside(Part::Section(section)))
 }
 
 /// Puts the canonical image of a volume into a sink, in one walk that takes no memory. `starts`

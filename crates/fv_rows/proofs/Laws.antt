@@ -2,4 +2,4 @@
 -- each row of a volume is followed by the rows of its contents
 pub use Rattle.fv_rows.proofs.RowVolumeLaws.{rows_followed}
 -- the volumes among the rows of a volume, of some files and of a file's data are the volumes in them
-pub use Rattle.fv_rows.proofs.RowVolumeLaws.{volume_volumes, files_volumes, content_volumes}
+pub use Rattle.fv_rows.proofs.RowVolumeLaws.{files_volumes, content_volumes, tree_volumes, file_inside, section_inside}

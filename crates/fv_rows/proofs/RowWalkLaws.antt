@@ -17,7 +17,7 @@ use Rattle.fv_tree.proofs.Laws.{nests_files, nests_content, nests_sections, nest
 use Rattle.fv_rows.specs.TreeRows.{NodeMeaning, VolumeNode, FileNode, SectionNode, rows_of_file}
 use Rattle.fv_rows.specs.TreeRows.{rows_of_files, rows_of_section, rows_of_sections, rows_of_volume}
 use Rattle.fv_rows.specs.inner.RowParts.{parts_in}
-use Rattle.fv_rows.specs.RowWalks.{nodes_of, rows_inside, rows_of_nodes, left_in, NestsAt, AreLevels}
+use Rattle.fv_rows.specs.RowWalks.{nodes_of, nesting_inside, rows_inside, rows_of_nodes, left_in, NestsAt, FitsAt, AreLevels}
 use Rattle.fv_rows.specs.declared.tree_walk.Level.{Level}
 
 -- ---- the rows of a list of parts
@@ -30,29 +30,30 @@ sections_list_back (s ∷ ss) = ap (λ l. s ∷ l) (sections_list_back ss)
 pub few_nodes : {A : Type 0} (f : A → NodeMeaning) (xs : List A) → length xs < 2 ^ 63 → length (map f xs) < 2 ^ 63
 few_nodes f xs few = omega (arith, few, length-map xs f)
 
-files_rows : (depth number : ℕ) (fs : FileMeanings) → rows_of_files depth number fs ≡ rows_of_nodes depth number (map FileNode (files_list fs))
-files_rows depth number NoFiles = refl
-files_rows depth number (MoreFiles (File name kind attributes content) fs) =
-    ap (λ l. rows_of_file depth number (File name kind attributes content) ++ l) (files_rows depth (number + 1) fs)
+files_rows : (depth nesting number : ℕ) (fs : FileMeanings)
+    → rows_of_files depth nesting number fs ≡ rows_of_nodes depth nesting number (map FileNode (files_list fs))
+files_rows depth nesting number NoFiles = refl
+files_rows depth nesting number (MoreFiles (File name kind attributes content) fs) =
+    ap (λ l. rows_of_file depth nesting number (File name kind attributes content) ++ l) (files_rows depth nesting (number + 1) fs)
 
-sections_rows : (depth number : ℕ) (ss : SectionMeanings)
-    → rows_of_sections depth number ss ≡ rows_of_nodes depth number (map SectionNode (sections_list ss))
-sections_rows depth number NoSections = refl
-sections_rows depth number (MoreSections (Section kind extended body) ss) =
-    ap (λ l. rows_of_section depth number (Section kind extended body) ++ l) (sections_rows depth (number + 1) ss)
+sections_rows : (depth nesting number : ℕ) (ss : SectionMeanings)
+    → rows_of_sections depth nesting number ss ≡ rows_of_nodes depth nesting number (map SectionNode (sections_list ss))
+sections_rows depth nesting number NoSections = refl
+sections_rows depth nesting number (MoreSections (Section kind extended body) ss) =
+    ap (λ l. rows_of_section depth nesting number (Section kind extended body) ++ l) (sections_rows depth nesting (number + 1) ss)
 
-pub volume_rows : (depth : ℕ) (v : Meaning) → rows_of_volume depth v ≡ rows_of_nodes depth 0 (VolumeNode v ∷ [])
-volume_rows depth (Volume h files) = ap (λ l. record { depth = depth; number = 0; node = VolumeNode (Volume h files) } ∷ l)
-    (sym (append-nil (rows_of_files (depth + 1) 0 files)))
+pub volume_rows : (depth nesting : ℕ) (v : Meaning) → rows_of_volume depth nesting v ≡ rows_of_nodes depth nesting 0 (VolumeNode v ∷ [])
+volume_rows depth nesting (Volume h files) = ap (λ l. record { depth = depth; nesting = nesting; number = 0; node = VolumeNode (Volume h files) } ∷ l)
+    (sym (append-nil (rows_of_files (depth + 1) nesting 0 files)))
 
 -- the rows in a part are the rows of the parts that it contains
-inside_rows : (depth : ℕ) (node : NodeMeaning) → rows_inside depth node ≡ rows_of_nodes depth 0 (parts_in node)
-inside_rows depth (VolumeNode (Volume h files)) = files_rows depth 0 files
-inside_rows depth (FileNode (File name kind attributes (Plain b))) = refl
-inside_rows depth (FileNode (File name kind attributes (Sectioned ss tail))) = sections_rows depth 0 ss
-inside_rows depth (SectionNode (Section kind extended (Leaf b))) = refl
-inside_rows depth (SectionNode (Section kind extended (Group ss tail))) = sections_rows depth 0 ss
-inside_rows depth (SectionNode (Section kind extended (Nested v))) = volume_rows depth v
+inside_rows : (depth nesting : ℕ) (node : NodeMeaning) → rows_inside depth nesting node ≡ rows_of_nodes depth nesting 0 (parts_in node)
+inside_rows depth nesting (VolumeNode (Volume h files)) = files_rows depth nesting 0 files
+inside_rows depth nesting (FileNode (File name kind attributes (Plain b))) = refl
+inside_rows depth nesting (FileNode (File name kind attributes (Sectioned ss tail))) = sections_rows depth nesting 0 ss
+inside_rows depth nesting (SectionNode (Section kind extended (Leaf b))) = refl
+inside_rows depth nesting (SectionNode (Section kind extended (Group ss tail))) = sections_rows depth nesting 0 ss
+inside_rows depth nesting (SectionNode (Section kind extended (Nested v))) = volume_rows depth nesting v
 
 -- ---- how deep parts nest
 
@@ -84,32 +85,27 @@ inside_nests depth (SectionNode (Section kind extended (Nested v))) (n, fits, f,
 -- ---- the innermost level
 
 left_more : (depth at : ℕ) (levels : List Level) (l : Level) → at ≡ depth + length levels
-    → left_in depth (levels ++ l ∷ []) ≡ rows_of_nodes at l.number (nodes_of l.held) ++ left_in depth levels
+    → left_in depth (levels ++ l ∷ []) ≡ rows_of_nodes at l.nesting l.number (nodes_of l.held) ++ left_in depth levels
 left_more depth at [] l is =
     let same : depth ≡ at = omega (arith, is) in
-    subst (λ d. rows_of_nodes depth l.number (nodes_of l.held) ≡ rows_of_nodes d l.number (nodes_of l.held) ++ []) same
-    (sym (append-nil (rows_of_nodes depth l.number (nodes_of l.held))))
+    subst (λ d. rows_of_nodes depth l.nesting l.number (nodes_of l.held) ≡ rows_of_nodes d l.nesting l.number (nodes_of l.held) ++ []) same
+    (sym (append-nil (rows_of_nodes depth l.nesting l.number (nodes_of l.held))))
 left_more depth at (outer ∷ levels) l is =
-    ap (λ rows. rows ++ rows_of_nodes depth outer.number (nodes_of outer.held))
+    ap (λ rows. rows ++ rows_of_nodes depth outer.nesting outer.number (nodes_of outer.held))
     (left_more (depth + 1) at levels l (omega (arith, is)))
-    ∙ append_assoc (rows_of_nodes at l.number (nodes_of l.held)) (left_in (depth + 1) levels)
-    (rows_of_nodes depth outer.number (nodes_of outer.held))
+    ∙ append_assoc (rows_of_nodes at l.nesting l.number (nodes_of l.held)) (left_in (depth + 1) levels)
+    (rows_of_nodes depth outer.nesting outer.number (nodes_of outer.held))
 
-levels_more : (depth at : ℕ) (levels : List Level) (l : Level) → at ≡ depth + length levels
-    → AreLevels depth levels → AllByRecursion (NestsAt at) (nodes_of l.held) → l.number + length (nodes_of l.held) < 2 ^ 63
+levels_more : (depth at : ℕ) (levels : List Level) (l : Level) → at ≡ depth + length levels → AreLevels depth levels → FitsAt at l
     → AreLevels depth (levels ++ l ∷ [])
-levels_more depth at [] l is are nest small =
-    (subst (λ d. AllByRecursion (NestsAt d) (nodes_of l.held)) (omega (arith, is)) nest, small, tt)
-levels_more depth at (outer ∷ levels) l is (here, few, more) nest small =
-    (here, few, levels_more (depth + 1) at levels l (omega (arith, is)) more nest small)
+levels_more depth at [] l is are fits = (subst (λ d. FitsAt d l) (omega (arith, is)) fits, tt)
+levels_more depth at (outer ∷ levels) l is (here, more) fits = (here, levels_more (depth + 1) at levels l (omega (arith, is)) more fits)
 
-pub levels_less : (depth at : ℕ) (levels : List Level) (l : Level) → at ≡ depth + length levels
-    → AreLevels depth (levels ++ l ∷ [])
-    → AreLevels depth levels × AllByRecursion (NestsAt at) (nodes_of l.held) × (l.number + length (nodes_of l.held) < 2 ^ 63)
-levels_less depth at [] l is (here, few, none) =
-    (tt, subst (λ d. AllByRecursion (NestsAt d) (nodes_of l.held)) (omega (arith, is)) here, few)
-levels_less depth at (outer ∷ levels) l is (here, few, more) =
-    let rest = levels_less (depth + 1) at levels l (omega (arith, is)) more in ((here, few, rest.0), rest.1, rest.2)
+pub levels_less : (depth at : ℕ) (levels : List Level) (l : Level) → at ≡ depth + length levels → AreLevels depth (levels ++ l ∷ [])
+    → AreLevels depth levels × FitsAt at l
+levels_less depth at [] l is (here, none) = (tt, subst (λ d. FitsAt d l) (omega (arith, is)) here)
+levels_less depth at (outer ∷ levels) l is (here, more) =
+    let rest = levels_less (depth + 1) at levels l (omega (arith, is)) more in ((here, rest.0), rest.1)
 
 -- ---- the next row
 
@@ -117,7 +113,7 @@ levels_less depth at (outer ∷ levels) l is (here, few, more) =
 pub none_left : (levels : List Level) (l : Level) → nodes_of l.held ≡ [] → left_in 0 (levels ++ l ∷ []) ≡ left_in 0 levels
 none_left levels l is =
     left_more 0 (length levels) levels l (omega arith)
-    ∙ ap (λ nodes. rows_of_nodes (length levels) l.number nodes ++ left_in 0 levels) is
+    ∙ ap (λ nodes. rows_of_nodes (length levels) l.nesting l.number nodes ++ left_in 0 levels) is
 
 -- every part leaves room for one more level
 deep : (depth : ℕ) (node : NodeMeaning) → NestsAt depth node → depth ≤ 26
@@ -125,33 +121,43 @@ deep depth (VolumeNode v) (n, fits, what, more) = omega (arith, fits)
 deep depth (FileNode f) (n, fits, what, more) = omega (arith, fits)
 deep depth (SectionNode s) (n, fits, what, more) = omega (arith, fits)
 
+nesting_small : (depth nesting : ℕ) (node : NodeMeaning) → nesting ≤ depth → nesting_inside nesting node ≤ depth + 1
+nesting_small depth nesting (VolumeNode v) small = omega (arith, small)
+nesting_small depth nesting (FileNode f) small = omega (arith, small)
+nesting_small depth nesting (SectionNode s) small = omega (arith, small)
+
 module _ (levels : List Level) (l : Level) (node : NodeMeaning) (nodes : List NodeMeaning)
     (is : nodes_of l.held ≡ node ∷ nodes) (are : AreLevels 0 (levels ++ l ∷ [])) where
   apart : AreLevels 0 levels × AllByRecursion (NestsAt (length levels)) (node ∷ nodes) × (l.number + length (node ∷ nodes) < 2 ^ 63)
+      × (l.nesting ≤ length levels)
   apart =
-      let (others, nest, few) = levels_less 0 (length levels) levels l (omega arith) are in
-      (others, subst (AllByRecursion (NestsAt (length levels))) is nest, omega (arith, few, ap length is))
+      let (others, (nest, few, small)) = levels_less 0 (length levels) levels l (omega arith) are in
+      (others, subst (AllByRecursion (NestsAt (length levels))) is nest, omega (arith, few, ap length is), small)
 
-  -- there is room for one more level and one more number
-  pub next_fits : (length levels ≤ 26) × (l.number + 1 < 2 ^ 63)
-  next_fits = (deep (length levels) node apart.1.0, omega (arith, apart.2))
+  -- there is room for one more level, one more number and one more section
+  pub next_fits : (length levels ≤ 26) × (l.number + 1 < 2 ^ 63) × (l.nesting ≤ 26)
+  next_fits =
+      let room = deep (length levels) node apart.1.0 in (room, omega (arith, apart.2), omega (arith, room, apart.3))
 
-  module _ (rest inside : Level) (number : rest.number ≡ l.number + 1) (others : nodes_of rest.held ≡ nodes)
-      (first : inside.number ≡ 0) (within : nodes_of inside.held ≡ parts_in node) where
+  module _ (rest inside : Level) (number : rest.number ≡ l.number + 1) (same : rest.nesting ≡ l.nesting) (others : nodes_of rest.held ≡ nodes)
+      (first : inside.number ≡ 0) (below : inside.nesting ≡ nesting_inside l.nesting node) (within : nodes_of inside.held ≡ parts_in node) where
     -- the first part of the innermost level is the next row
     pub next_left : left_in 0 (levels ++ l ∷ [])
-        ≡ record { depth = length levels; number = l.number; node = node } ∷ left_in 0 ((levels ++ rest ∷ []) ++ inside ∷ [])
+        ≡ record { depth = length levels; nesting = l.nesting; number = l.number; node = node } ∷ left_in 0 ((levels ++ rest ∷ []) ++ inside ∷ [])
     next_left =
         let depth = length levels in
-        left_more 0 depth levels l (omega arith) ∙ ap (λ ns. rows_of_nodes depth l.number ns ++ left_in 0 levels) is
-        ∙ ap (λ rows. record { depth = depth; number = l.number; node = node } ∷ rows)
-        (append_assoc (rows_inside (depth + 1) node) (rows_of_nodes depth (l.number + 1) nodes) (left_in 0 levels)
-        ∙ ap (λ rows. rows ++ (rows_of_nodes depth (l.number + 1) nodes ++ left_in 0 levels))
-        (inside_rows (depth + 1) node ∙ sym (ap (rows_of_nodes (depth + 1) 0) within)
-        ∙ sym (ap (λ k. rows_of_nodes (depth + 1) k (nodes_of inside.held)) first))
-        ∙ ap (λ rows. rows_of_nodes (depth + 1) inside.number (nodes_of inside.held) ++ rows)
-        (sym (ap (λ ns. rows_of_nodes depth (l.number + 1) ns ++ left_in 0 levels) others)
-        ∙ sym (ap (λ k. rows_of_nodes depth k (nodes_of rest.held) ++ left_in 0 levels) number)
+        let n = nesting_inside l.nesting node in
+        left_more 0 depth levels l (omega arith) ∙ ap (λ ns. rows_of_nodes depth l.nesting l.number ns ++ left_in 0 levels) is
+        ∙ ap (λ rows. record { depth = depth; nesting = l.nesting; number = l.number; node = node } ∷ rows)
+        (append_assoc (rows_inside (depth + 1) n node) (rows_of_nodes depth l.nesting (l.number + 1) nodes) (left_in 0 levels)
+        ∙ ap (λ rows. rows ++ (rows_of_nodes depth l.nesting (l.number + 1) nodes ++ left_in 0 levels))
+        (inside_rows (depth + 1) n node ∙ sym (ap (rows_of_nodes (depth + 1) n 0) within)
+        ∙ sym (ap (λ k. rows_of_nodes (depth + 1) n k (nodes_of inside.held)) first)
+        ∙ sym (ap (λ k. rows_of_nodes (depth + 1) k inside.number (nodes_of inside.held)) below))
+        ∙ ap (λ rows. rows_of_nodes (depth + 1) inside.nesting inside.number (nodes_of inside.held) ++ rows)
+        (sym (ap (λ ns. rows_of_nodes depth l.nesting (l.number + 1) ns ++ left_in 0 levels) others)
+        ∙ sym (ap (λ k. rows_of_nodes depth l.nesting k (nodes_of rest.held) ++ left_in 0 levels) number)
+        ∙ sym (ap (λ k. rows_of_nodes depth k rest.number (nodes_of rest.held) ++ left_in 0 levels) same)
         ∙ sym (left_more 0 depth levels rest (omega arith)))
         ∙ sym (left_more 0 (depth + 1) (levels ++ rest ∷ []) inside (omega (arith, length-append levels (rest ∷ [])))))
 
@@ -161,5 +167,35 @@ module _ (levels : List Level) (l : Level) (node : NodeMeaning) (nodes : List No
         let small : inside.number + length (nodes_of inside.held) < 2 ^ 63 = omega (arith, first, short) in
         levels_more 0 (length levels + 1) (levels ++ rest ∷ []) inside (omega (arith, length-append levels (rest ∷ [])))
         (levels_more 0 (length levels) levels rest (omega arith) apart.0
-        (subst (AllByRecursion (NestsAt (length levels))) (sym others) apart.1.1) few)
-        (subst (AllByRecursion (NestsAt (length levels + 1))) (sym within) (inside_nests (length levels) node apart.1.0)) small
+        (subst (AllByRecursion (NestsAt (length levels))) (sym others) apart.1.1, few, omega (arith, same, apart.3))) (
+          subst (AllByRecursion (NestsAt (length levels + 1))) (sym within) (inside_nests (length levels) node apart.1.0),
+          small,
+          omega (arith, below, nesting_small (length levels) l.nesting node apart.3),
+        )
+
+-- ---- a walk over the contents of a part
+
+nests_less : (depth : ℕ) (node : NodeMeaning) → NestsAt (depth + 1) node → NestsAt depth node
+nests_less depth (VolumeNode v) (n, fits, what, more) = (n, omega (arith, fits), what, more)
+nests_less depth (FileNode f) (n, fits, what, more) = (n, omega (arith, fits), what, more)
+nests_less depth (SectionNode s) (n, fits, what, more) = (n, omega (arith, fits), what, more)
+
+nest_less : (depth : ℕ) (nodes : List NodeMeaning) → AllByRecursion (NestsAt (depth + 1)) nodes → AllByRecursion (NestsAt depth) nodes
+nest_less depth [] nest = tt
+nest_less depth (node ∷ nodes) (here, more) = (nests_less depth node here, nest_less depth nodes more)
+
+-- the contents of a part that nests little are all that is left at first
+pub inside_begun : (node : NodeMeaning) (l : Level) → NestsAt 0 node → nodes_of l.held ≡ parts_in node → l.number ≡ 0 → l.nesting ≡ 0
+    → length (nodes_of l.held) < 2 ^ 63 → (left_in 0 (l ∷ []) ≡ rows_inside 0 0 node) × AreLevels 0 (l ∷ [])
+inside_begun node l nests is first none few = (
+  ap (rows_of_nodes 0 l.nesting l.number) is ∙ ap (λ k. rows_of_nodes 0 l.nesting k (parts_in node)) first
+      ∙ ap (λ k. rows_of_nodes 0 k 0 (parts_in node)) none ∙ sym (inside_rows 0 0 node),
+  (
+    (
+      subst (AllByRecursion (NestsAt 0)) (sym is) (nest_less 0 (parts_in node) (inside_nests 0 node nests)),
+      omega (arith, first, few),
+      omega (arith, none),
+    ),
+    tt,
+  ),
+)

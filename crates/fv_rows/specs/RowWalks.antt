@@ -21,7 +21,7 @@ part_node (kinds.Section s) = SectionNode s.now
 
 -- the row, with the meaning of its part
 abbrev pub row_of : Row → TreeRow
-row_of r = record { depth = r.depth; number = r.number; node = part_node r.part }
+row_of r = record { depth = r.depth; nesting = r.nesting; number = r.number; node = part_node r.part }
 
 -- the meanings of some parts, in order
 abbrev pub nodes_of : Held → List NodeMeaning
@@ -30,24 +30,30 @@ nodes_of (helds.Volume v) = VolumeNode v.now ∷ []
 nodes_of (helds.Files fs) = map FileNode fs.now
 nodes_of (helds.Sections ss) = map SectionNode ss.now
 
--- the rows of the contents of a part
-abbrev pub rows_inside : ℕ → NodeMeaning → List TreeRow
-rows_inside depth (VolumeNode (Volume h files)) = rows_of_files depth 0 files
-rows_inside depth (FileNode (File name kind attributes content)) = rows_in_content depth content
-rows_inside depth (SectionNode (Section kind extended body)) = rows_in_body depth body
+-- the number of sections around the contents of a part that has this number of sections around it
+abbrev pub nesting_inside : ℕ → NodeMeaning → ℕ
+nesting_inside nesting (VolumeNode v) = nesting
+nesting_inside nesting (FileNode f) = nesting
+nesting_inside nesting (SectionNode s) = nesting + 1
 
--- the rows of some parts at one depth, each with the rows of its contents; the first part has this number
-abbrev pub rows_of_nodes : (depth number : ℕ) → List NodeMeaning → List TreeRow
-rows_of_nodes depth number [] = []
-rows_of_nodes depth number (node ∷ nodes) =
-    record { depth = depth; number = number; node = node }
-    ∷ (rows_inside (depth + 1) node ++ rows_of_nodes depth (number + 1) nodes)
+-- the rows of the contents of a part
+abbrev pub rows_inside : (depth nesting : ℕ) → NodeMeaning → List TreeRow
+rows_inside depth nesting (VolumeNode (Volume h files)) = rows_of_files depth nesting 0 files
+rows_inside depth nesting (FileNode (File name kind attributes content)) = rows_in_content depth nesting content
+rows_inside depth nesting (SectionNode (Section kind extended body)) = rows_in_body depth nesting body
+
+-- the rows of some parts in the same part, each with the rows of its contents; the first part has this number
+abbrev pub rows_of_nodes : (depth nesting number : ℕ) → List NodeMeaning → List TreeRow
+rows_of_nodes depth nesting number [] = []
+rows_of_nodes depth nesting number (node ∷ nodes) =
+    record { depth = depth; nesting = nesting; number = number; node = node }
+    ∷ (rows_inside (depth + 1) (nesting_inside nesting node) node ++ rows_of_nodes depth nesting (number + 1) nodes)
 
 -- the rows that are left in some levels, the first of which is at this depth. The last level is the innermost, and its
 -- rows come first
 abbrev pub left_in : ℕ → List Level → List TreeRow
 left_in depth [] = []
-left_in depth (l ∷ levels) = left_in (depth + 1) levels ++ rows_of_nodes depth l.number (nodes_of l.held)
+left_in depth (l ∷ levels) = left_in (depth + 1) levels ++ rows_of_nodes depth l.nesting l.number (nodes_of l.held)
 
 -- a part at this depth, whose groups and volumes nest so few levels deep that all rows in it are at a depth below 27
 abbrev pub NestsAt : ℕ → NodeMeaning → Type 0
@@ -55,8 +61,13 @@ NestsAt depth (VolumeNode v) = (n : ℕ) × (depth + 3 * n ≤ 24) × (b : List 
 NestsAt depth (FileNode f) = (n : ℕ) × (depth + 3 * n ≤ 25) × (form : FileForm) × MeansFile (Stream n) form f
 NestsAt depth (SectionNode s) = (n : ℕ) × (depth + 3 * n ≤ 26) × (f : FrameForm) × MeansSection n f s
 
--- the parts of the first level are at this depth, and the parts of each further level are one deeper
+-- the parts of a level are at this depth, so few that their numbers fit, and have at most this number of sections around
+-- them
+abbrev pub FitsAt : ℕ → Level → Type 0
+FitsAt depth l =
+    AllByRecursion (NestsAt depth) (nodes_of l.held) × (l.number + length (nodes_of l.held) < 2 ^ 63) × (l.nesting ≤ depth)
+
+-- the first level is at this depth, and each further level is one deeper
 abbrev pub AreLevels : ℕ → List Level → Type 0
 AreLevels depth [] = Unit {0}
-AreLevels depth (l ∷ levels) =
-    AllByRecursion (NestsAt depth) (nodes_of l.held) × (l.number + length (nodes_of l.held) < 2 ^ 63) × AreLevels (depth + 1) levels
+AreLevels depth (l ∷ levels) = FitsAt depth l × AreLevels (depth + 1) levels

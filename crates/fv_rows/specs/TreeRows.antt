@@ -11,47 +11,50 @@ pub data NodeMeaning : Type 0 where
   FileNode : FileMeaning → NodeMeaning
   SectionNode : SectionMeaning → NodeMeaning
 
--- a part in the tree: the number of parts around it, its number among the parts of the part that contains it (from 0), and
--- the part
+-- a part in the tree: the number of parts around it, the number of sections among these, its number among the parts of
+-- the part that contains it (from 0), and the part
 pub record TreeRow : Type 0 where
   pub depth : ℕ
+  pub nesting : ℕ
   pub number : ℕ
   pub node : NodeMeaning
 
 -- the parts in preorder: each part is followed by its contents
 abbrev mutual
-  pub rows_of_volume : (depth : ℕ) → Meaning → List TreeRow
-  rows_of_volume depth (Volume h files) =
-      record { depth = depth; number = 0; node = VolumeNode (Volume h files) } ∷ rows_of_files (depth + 1) 0 files
+  pub rows_of_volume : (depth nesting : ℕ) → Meaning → List TreeRow
+  rows_of_volume depth nesting (Volume h files) =
+      record { depth = depth; nesting = nesting; number = 0; node = VolumeNode (Volume h files) }
+      ∷ rows_of_files (depth + 1) nesting 0 files
 
-  pub rows_of_files : (depth number : ℕ) → FileMeanings → List TreeRow
-  rows_of_files depth number NoFiles = []
-  rows_of_files depth number (MoreFiles f fs) = rows_of_file depth number f ++ rows_of_files depth (number + 1) fs
+  pub rows_of_files : (depth nesting number : ℕ) → FileMeanings → List TreeRow
+  rows_of_files depth nesting number NoFiles = []
+  rows_of_files depth nesting number (MoreFiles f fs) =
+      rows_of_file depth nesting number f ++ rows_of_files depth nesting (number + 1) fs
 
-  pub rows_of_file : (depth number : ℕ) → FileMeaning → List TreeRow
-  rows_of_file depth number (File name kind attributes content) =
-      record { depth = depth; number = number; node = FileNode (File name kind attributes content) }
-      ∷ rows_in_content (depth + 1) content
+  pub rows_of_file : (depth nesting number : ℕ) → FileMeaning → List TreeRow
+  rows_of_file depth nesting number (File name kind attributes content) =
+      record { depth = depth; nesting = nesting; number = number; node = FileNode (File name kind attributes content) }
+      ∷ rows_in_content (depth + 1) nesting content
 
-  pub rows_in_content : (depth : ℕ) → ContentMeaning → List TreeRow
-  rows_in_content depth (Plain b) = []
-  rows_in_content depth (Sectioned sections tail) = rows_of_sections depth 0 sections
+  pub rows_in_content : (depth nesting : ℕ) → ContentMeaning → List TreeRow
+  rows_in_content depth nesting (Plain b) = []
+  rows_in_content depth nesting (Sectioned sections tail) = rows_of_sections depth nesting 0 sections
 
-  pub rows_of_sections : (depth number : ℕ) → SectionMeanings → List TreeRow
-  rows_of_sections depth number NoSections = []
-  rows_of_sections depth number (MoreSections s ss) =
-      rows_of_section depth number s ++ rows_of_sections depth (number + 1) ss
+  pub rows_of_sections : (depth nesting number : ℕ) → SectionMeanings → List TreeRow
+  rows_of_sections depth nesting number NoSections = []
+  rows_of_sections depth nesting number (MoreSections s ss) =
+      rows_of_section depth nesting number s ++ rows_of_sections depth nesting (number + 1) ss
 
-  pub rows_of_section : (depth number : ℕ) → SectionMeaning → List TreeRow
-  rows_of_section depth number (Section kind extended body) =
-      record { depth = depth; number = number; node = SectionNode (Section kind extended body) }
-      ∷ rows_in_body (depth + 1) body
+  pub rows_of_section : (depth nesting number : ℕ) → SectionMeaning → List TreeRow
+  rows_of_section depth nesting number (Section kind extended body) =
+      record { depth = depth; nesting = nesting; number = number; node = SectionNode (Section kind extended body) }
+      ∷ rows_in_body (depth + 1) (nesting + 1) body
 
-  pub rows_in_body : (depth : ℕ) → BodyMeaning → List TreeRow
-  rows_in_body depth (Leaf b) = []
-  rows_in_body depth (Group sections tail) = rows_of_sections depth 0 sections
-  rows_in_body depth (Nested volume) = rows_of_volume depth volume
+  pub rows_in_body : (depth nesting : ℕ) → BodyMeaning → List TreeRow
+  rows_in_body depth nesting (Leaf b) = []
+  rows_in_body depth nesting (Group sections tail) = rows_of_sections depth nesting 0 sections
+  rows_in_body depth nesting (Nested volume) = rows_of_volume depth nesting volume
 
 -- all rows of a volume; the first row is the volume itself
 abbrev pub tree_rows : Meaning → List TreeRow
-tree_rows m = rows_of_volume 0 m
+tree_rows m = rows_of_volume 0 0 m

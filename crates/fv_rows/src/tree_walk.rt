@@ -3,7 +3,7 @@
 ghost use Rattle.std.specs.Prelude.{◌≡◌, ◌<◌, ◌^◌, [], ◌∷◌, ◌++◌, List, length, IfSome, IfNone};
 ghost use Rattle.std.specs.Iterator.{YieldsFirstBy, item_count};
 ghost use Rattle.fv_rows.specs.TreeRows.{tree_rows};
-ghost use Rattle.fv_rows.specs.RowWalks.{part_node, nodes_of, row_of};
+ghost use Rattle.fv_rows.specs.RowWalks.{part_node, nesting_inside, nodes_of, row_of, rows_inside, NestsAt};
 ghost use Rattle.fv_rows.specs.inner.RowParts.{parts_in};
 
 use fv_tree::{Body, FileView, SectionView, VolumeView};
@@ -79,11 +79,13 @@ pub enum Part<'v, 'a> {
     Section(&'v SectionView<'a>),
 }
 
-/// A part of a volume, with its depth and its number.
+/// A part of a volume, with its place in the tree of the parts.
 #[derive(Clone, Copy)]
 pub struct Row<'v, 'a> {
     /// The number of parts around it.
     pub depth: usize,
+    /// The number of sections around it.
+    pub nesting: u8,
     /// The number of this part in the part that contains it, counted from 0.
     pub number: u64,
     /// The part.
@@ -99,10 +101,12 @@ enum Held<'v, 'a> {
     Sections(&'v [SectionView<'a>]),
 }
 
-// The parts that are left at one depth, and the number of the first of them.
+// The parts that are left at one depth, the number of the first of them, and the number of sections
+// around them.
 #[derive(Clone, Copy)]
 struct Level<'v, 'a> {
     number: u64,
+    nesting: u8,
     held: Held<'v, 'a>,
 }
 
@@ -126,7 +130,7 @@ fn split<'v, 'a>(held: Held<'v, 'a>) -> Option<(Part<'v, 'a>, Held<'v, 'a>)>
 }
 
 // Returns the parts that a part contains.
-fn inside<'v, 'a>(part: Part<'v, 'a>) -> Held<'v, 'a>
+fn parts_in<'v, 'a>(part: Part<'v, 'a>) -> Held<'v, 'a>
     ensures nodes { nodes_of result ≡ parts_in (part_node part.entry) }
     ensures few { length (nodes_of result) < 2 ^ 63 }
 {
@@ -144,6 +148,30 @@ fn inside<'v, 'a>(part: Part<'v, 'a>) -> Held<'v, 'a>
             Body::Group { sections, .. } => Held::Sections(sections),
             Body::Nested(volume) => Held::Volume(volume),
         },
+    }
+}
+
+// Gives the fact that in a part, which was read, groups and volumes nest so little that a stack of 28
+// levels has room for a walk.
+fn known(part: Part<'_, '_>)
+    ensures { NestsAt 0 (part_node part.entry) }
+{
+    match part {
+        Part::Volume(volume) => volume.known(),
+        Part::File(file) => file.known(),
+        Part::Section(section) => section.known(),
+    }
+}
+
+// Returns the number of sections around the contents of a part that has `nesting` sections around
+// it.
+fn nesting_inside(nesting: u8, part: Part<'_, '_>) -> u8
+    requires { nesting < 255 }
+    ensures { result ≡ nesting_inside nesting (part_node part.entry) }
+{
+    match part {
+        Part::Section(_) => nesting + 1,
+        _ => nesting,
     }
 }
 
@@ -180,11 +208,29 @@ impl<'v, 'a> TreeWalk<'v, 'a> {
     pub fn of(volume: &'v VolumeView<'a>) -> TreeWalk<'v, 'a>
         ensures { result ≡ tree_rows volume.now }
     {
-        volume.known();
+        known(Part::Volume(volume));
         TreeWalk {
             levels: Stack::of(Level {
                 number: 0,
+                nesting: 0,
                 held: Held::Volume(volume),
+            }),
+        }
+    }
+
+    /// Returns a walk over the contents of a part: the parts that it contains, each followed by its
+    /// own contents. `depth` and `nesting` are counted from the part's contents, so they are 0 for
+    /// the parts that it contains itself. Allocates no memory. (PI specification, volume 3, section
+    /// 3.2.)
+    pub fn inside(part: Part<'v, 'a>) -> TreeWalk<'v, 'a>
+        ensures { result ≡ rows_inside 0 0 (part_node part.entry) }
+    {
+        known(part);
+        TreeWalk {
+            levels: Stack::of(Level {
+                number: 0,
+                nesting: 0,
+                held: parts_in(part),
             }),
         }
     }
@@ -203,17 +249,24 @@ impl<'v, 'a> Iterator for TreeWalk<'v, 'a> {
         while let Some(level) = self.levels.pop() {
             if let Some((part, rest)) = split(level.held) {
                 let depth = self.levels.len();
-                let number = level.number;
+                let Level {
+                    number,
+                    nesting,
+                    ..
+                } = level;
                 self.levels.push(Level {
                     number: number + 1,
+                    nesting,
                     held: rest,
                 });
                 self.levels.push(Level {
                     number: 0,
-                    held: inside(part),
+                    nesting: nesting_inside(nesting, part),
+                    held: parts_in(part),
                 });
                 return Some(Row {
                     depth,
+                    nesting,
                     number,
                     part,
                 });

@@ -1,5 +1,4 @@
--- Conditions of a walk over the files of a volume (how deep groups and volumes nest, and where the files lie), and the
--- starts that it adds to a list.
+-- Where the files of a volume lie, for the walk that puts them.
 use Rattle.std.specs.Prelude.{ℕ, List, ◌≡◌, ◌+◌, ◌≤◌, ◌++◌, ◌%◌, [], ◌∷◌, map}
 use Rattle.fv_base.specs.Words.{volume_limit}
 use Rattle.fv_tree.specs.Words.{FileMeaning, data_len_of, Inside}
@@ -7,14 +6,6 @@ use Rattle.fv_canon.specs.LayoutForms.{Laid}
 use Rattle.fv_canon.specs.Layouts.{AreStarts, layout_item}
 use Rattle.fv_placement.specs.Words.{StartsFollow}
 use Rattle.fv_canon.specs.StoredFiles.{size_for}
-
--- the new list is the old list, followed by the starts of these volumes
-abbrev pub Grew : List Inside → List ℕ → List ℕ → Type 0
-Grew vs old new = (laid : List ℕ) × (new ≡ old ++ laid) × Laid AreStarts vs laid
-
--- groups and volumes nest so little that every depth fits in a byte
-abbrev pub Shallow : {M : Type 0} → (M → ℕ → Type 0) → M → ℕ → Type 0
-Shallow nests m depth = (k : ℕ) × (depth + k ≤ 255) × nests m k
 
 -- the files can be placed at these starts, from the edge e on, in a volume of `total` bytes
 pub record ArePlaced (total e : ℕ) (files : List FileMeaning) (starts : List ℕ) : Type 0 where

@@ -29,5 +29,6 @@ node_code =
 
 abbrev pub row_code : Coded TreeRow
 row_code =
-    code_by (ℕ × (ℕ × NodeMeaning)) (coded× coded_ℕ (coded× coded_ℕ node_code))
-    (λ r. (r.depth, (r.number, r.node))) (λ p. record { depth = p.0; number = p.1.0; node = p.1.1 }) (λ _. refl)
+    code_by (ℕ × (ℕ × (ℕ × NodeMeaning))) (coded× coded_ℕ (coded× coded_ℕ (coded× coded_ℕ node_code)))
+    (λ r. (r.depth, (r.nesting, (r.number, r.node))))
+    (λ p. record { depth = p.0; nesting = p.1.0; number = p.1.1.0; node = p.1.1.1 }) (λ _. refl)

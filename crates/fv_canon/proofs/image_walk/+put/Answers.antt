@@ -10,6 +10,8 @@ use Rattle.fv_canon.specs.Words.{size_for, BeginsWithStarts}
 use Rattle.fv_canon.specs.inner.ImageOf.{image_of, starts_in}
 use Rattle.fv_canon.specs.inner.SummingSinks.{ImageTakes, image_by, sums}
 use Rattle.fv_canon.proofs.DataBodyLaws.{data_image, data_size, data_volumes}
+use Rattle.fv_rows.specs.inner.RowVolumes.{volumes_of}
+use Rattle.fv_canon.proofs.LayoutWalkLaws.{file_volumes}
 use Rattle.fv_canon.proofs.LaidFileLaws.{file_long, stored_is, size_is, at_file, file_passed, files_end, walk_goes, placed_on}
 use Rattle.fv_canon.proofs.LaidSectionLaws.{section_known, section_passed, in_body, body_laid, goes_on, front_more, front_end, front_none}
 use Rattle.fv_canon.proofs.LaidSectionLaws.{walk_ended}
@@ -103,7 +105,7 @@ put_file-returns-clause-bytes g t c =
     rw (stored_is c.args.polarity c.args.file.now c.args.starts.now long)
     (laws.joined {s = c.args.out.now} {t = c.put_file_head.new.out} {u = c.put_body.new.out}
     (laws.joined {s = c.args.out.now} {t = c.file_sum-sum.new.out} {u = c.put_file_head.new.out} c.file_sum-sum.ensures.none
-    (rw c.file_sum-sum.ensures.value at head)) (rw (c.data_body-2.ensures, data_image c.args.file.now c.args.starts.now) at payload))
+    (rw c.file_sum-sum.ensures.value at head)) (rw (c.data_body.ensures, data_image c.args.file.now c.args.starts.now) at payload))
 
 pub put_files-overflow_sub-start : goal.put_files-overflow_sub-start
 put_files-overflow_sub-start g t c = (at_file _ _ _ _ _ _ c.loop-i-test.true c.index-files-i.is c.loop-i.invariant.placed).here.low
@@ -212,13 +214,19 @@ put_files-returns-clause-bytes g t c =
 
 pub put_file-returns-clause-rest : goal.put_file-returns-clause-rest
 put_file-returns-clause-rest g t c =
-    c.put_body.ensures.rest ∙ ap (λ (b : BodyMeaning). drop (starts_in (volumes_in_body b)) c.args.starts.now) c.data_body-2.ensures
+    c.put_body.ensures.rest ∙ ap (λ (b : BodyMeaning). drop (starts_in (volumes_in_body b)) c.args.starts.now) c.data_body.ensures
     ∙ ap (λ (vs : List Inside). drop (starts_in vs) c.args.starts.now) (data_volumes c.args.file.now)
+
+pub put_file-skip_starts-requires : goal.put_file-skip_starts-requires
+put_file-skip_starts-requires g t c = record {
+  laid = subst (λ vs. BeginsWithStarts vs c.args.starts.now) (sym (ap volumes_of c.inside.ensures ∙ file_volumes c.args.file.now))
+      c.requires.laid;
+}
 
 pub put_file-returns-then-is_summed-clause-rest : goal.put_file-returns-then-is_summed-clause-rest
 put_file-returns-then-is_summed-clause-rest g t c =
-    c.skip_body.ensures ∙ ap (λ (b : BodyMeaning). drop (starts_in (volumes_in_body b)) c.args.starts.now) c.data_body.ensures
-    ∙ ap (λ (vs : List Inside). drop (starts_in vs) c.args.starts.now) (data_volumes c.args.file.now)
+    c.skip_starts.ensures
+    ∙ ap (λ (vs : List Inside). drop (starts_in vs) c.args.starts.now) (ap volumes_of c.inside.ensures ∙ file_volumes c.args.file.now)
 
 pub put_sections-returns-else-not-is_empty-clause-bytes : goal.put_sections-returns-else-not-is_empty-clause-bytes
 put_sections-returns-else-not-is_empty-clause-bytes g t c =

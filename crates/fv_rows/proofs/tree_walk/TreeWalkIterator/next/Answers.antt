@@ -1,4 +1,4 @@
-use Rattle.std.proofs.Common.{◌∙◌, ℕ, ◌<◌, ◌+◌, ◌^◌, ◌∷◌, ◌++◌, [], length, length-append, refl, sym, ap, subst, arith, rules}
+use Rattle.std.proofs.Common.{◌∙◌, ℕ, ◌<◌, ◌≤◌, ◌+◌, ◌^◌, ◌∷◌, ◌++◌, [], length, length-append, refl, sym, ap, subst, arith, rules}
 use Rattle.fv_rows.specs.RowWalks.{AreLevels, left_in, part_node}
 use Rattle.fv_rows.specs.declared.tree_walk.Level.{Level}
 use Rattle.fv_rows.proofs.RowWalkLaws.{levels_less, next_are, next_fits, next_left, none_left}
@@ -10,6 +10,12 @@ overflow_add-number c =
     let fits = next_fits c.pop.new.self c.in-Some.level _ _ c.in-Some-split.ensures.some are in
     let few : c.in-Some.level.number + 1 < 2 ^ 63 = fits.1 in search rules
 
+pub nesting_inside-requires : goal.nesting_inside-requires
+nesting_inside-requires c =
+    let are = subst (AreLevels 0) c.in-Some.ensures.some c.loop-level.invariant.levels in
+    let fits = next_fits c.pop.new.self c.in-Some.level _ _ c.in-Some-split.ensures.some are in
+    let small : c.in-Some.level.nesting ≤ 26 = fits.2 in omega (arith, small)
+
 pub push-requires : goal.push-requires
 push-requires c =
     let are = subst (AreLevels 0) c.in-Some.ensures.some c.loop-level.invariant.levels in
@@ -20,28 +26,30 @@ pub push-requires-in-Some-split : goal.push-requires-in-Some-split
 push-requires-in-Some-split c =
     let are = subst (AreLevels 0) c.in-Some.ensures.some c.loop-level.invariant.levels in
     let fits = next_fits c.pop.new.self c.in-Some.level _ _ c.in-Some-split.ensures.some are in
-    let rest : Level = record { number = c.in-Some.level.number + 1; held = c.in-Some-split.rest } in
+    let rest : Level = record { number = c.in-Some.level.number + 1; nesting = c.in-Some.level.nesting; held = c.in-Some-split.rest } in
     (omega arith, omega (arith, fits.0, ap length c.push.ensures, length-append c.pop.new.self (rest ∷ [])))
 
 pub invariant_of-self : goal.invariant_of-self
 invariant_of-self c =
     let are = subst (AreLevels 0) c.in-Some.ensures.some c.loop-level.invariant.levels in
-    let pushed = c.push-in-Some-split.ensures ∙ ap (λ l. l ++ record { number = 0; held = c.inside.result } ∷ []) c.push.ensures in
+    let pushed = c.push-in-Some-split.ensures ∙ ap (λ l. l ++ record { number = 0; nesting = c.nesting_inside.result; held = c.parts_in.result } ∷ []) c.push.ensures in
     subst (AreLevels 0) (sym pushed)
-    (next_are c.pop.new.self c.in-Some.level _ _ c.in-Some-split.ensures.some are _ _ refl refl refl c.inside.ensures.nodes c.inside.ensures.few)
+    (next_are c.pop.new.self c.in-Some.level _ _ c.in-Some-split.ensures.some are _ _ refl refl refl refl c.nesting_inside.ensures
+    c.parts_in.ensures.nodes c.parts_in.ensures.few)
 
 pub returns-in-Some-split : goal.returns-in-Some-split
 returns-in-Some-split c =
     let are = subst (AreLevels 0) c.in-Some.ensures.some c.loop-level.invariant.levels in
-    let pushed = c.push-in-Some-split.ensures ∙ ap (λ l. l ++ record { number = 0; held = c.inside.result } ∷ []) c.push.ensures in
-    let rest : Level = record { number = c.in-Some.level.number + 1; held = c.in-Some-split.rest } in
-    let inside : Level = record { number = 0; held = c.inside.result } in
+    let pushed = c.push-in-Some-split.ensures ∙ ap (λ l. l ++ record { number = 0; nesting = c.nesting_inside.result; held = c.parts_in.result } ∷ []) c.push.ensures in
+    let rest : Level = record { number = c.in-Some.level.number + 1; nesting = c.in-Some.level.nesting; held = c.in-Some-split.rest } in
+    let inside : Level = record { number = 0; nesting = c.nesting_inside.result; held = c.parts_in.result } in
     let node = part_node c.in-Some-split.part in
     let left = left_in 0 ((c.pop.new.self ++ rest ∷ []) ++ inside ∷ []) in
     let steps = sym c.self.view_is ∙ c.loop-level.invariant.left ∙ ap (left_in 0) c.in-Some.ensures.some
-    ∙ next_left c.pop.new.self c.in-Some.level node _ c.in-Some-split.ensures.some are rest inside refl refl refl c.inside.ensures.nodes
-    ∙ ap (λ (d : ℕ). record { depth = d; number = c.in-Some.level.number; node = node } ∷ left) (sym c.len-depth.ensures)
-    ∙ ap (λ l. record { depth = c.len-depth.result; number = c.in-Some.level.number; node = node } ∷ left_in 0 l) (sym pushed) in
+    ∙ next_left c.pop.new.self c.in-Some.level node _ c.in-Some-split.ensures.some are rest inside refl refl refl refl
+    c.nesting_inside.ensures c.parts_in.ensures.nodes
+    ∙ ap (λ (d : ℕ). record { depth = d; nesting = c.in-Some.level.nesting; number = c.in-Some.level.number; node = node } ∷ left) (sym c.len-depth.ensures)
+    ∙ ap (λ l. record { depth = c.len-depth.result; nesting = c.in-Some.level.nesting; number = c.in-Some.level.number; node = node } ∷ left_in 0 l) (sym pushed) in
     let shorter = ap length steps in
     record { steps = steps; goes = search rules }
 

@@ -6,7 +6,7 @@ use Rattle.fv_rows.specs.TreeRows.{FileNode, SectionNode}
 use Rattle.fv_rows.specs.inner.RowParts.{parts_in, parts_in_body}
 use Rattle.fv_rows.specs.RowWalks.{part_node}
 use Rattle.fv_rows.proofs.RowWalkLaws.{few_nodes, sections_list_back}
-use Rattle.fv_rows.proofs.tree_walk.inside.Goals as goal
+use Rattle.fv_rows.proofs.tree_walk.parts_in.Goals as goal
 
 pub returns-in-Volume : goal.returns-in-Volume
 returns-in-Volume c =
