@@ -2,5 +2,7 @@
 
 -- the volumes in some bytes begin at one list of places, and each of them is within the bytes
 pub use Rattle.fv_flash.proofs.ScanLaws.{one_found, found_within, found_walk}
+-- they are one list, and where there is one, a volume begins at a place
+pub use Rattle.fv_flash.proofs.ScanLaws.{one_are, some_place}
 -- a volume at a place has one length, 64 at least and a multiple of 8, and is within the bytes
 pub use Rattle.fv_flash.proofs.ScanLaws.{one_length, at_least, at_multiple, at_within}
