@@ -2,7 +2,7 @@
 
 -- the volumes in some bytes begin at one list of places, and each of them is within the bytes
 pub use Rattle.fv_flash.proofs.ScanLaws.{one_found, found_within, found_walk}
--- they are one list, and where there is one, a volume begins at a place
-pub use Rattle.fv_flash.proofs.ScanLaws.{one_are, some_place}
+-- some bytes have one list of volumes. Where there is a volume, a volume begins at a place. The offsets of volumes, one after another
+pub use Rattle.fv_flash.proofs.ScanLaws.{one_are, some_place, offsets_more}
 -- a volume at a place has one length, 64 at least and a multiple of 8, and is within the bytes
 pub use Rattle.fv_flash.proofs.ScanLaws.{one_length, at_least, at_multiple, at_within}

@@ -155,9 +155,9 @@ pub fn scan(alloc: Global, bytes: &[u8]) -> Result<Offsets, Fault>
     ensures memory { IfErr result (λ _. (place : ℕ) × IsPlace bytes.now place) }
 {
     let found = volumes(alloc, bytes)?;
-    let mut list = Vec::new(alloc);
+    let mut offsets = Vec::new(alloc);
     for volume in found.as_slice() {
-        list.push(volume.offset)?;
+        offsets.push(volume.offset)?;
     }
-    Ok(Offsets { list })
+    Ok(Offsets { list: offsets })
 }

@@ -18,4 +18,4 @@ pub returns-clause-found : goal.returns-clause-found
 returns-clause-found c = grind (arith, common_steps, take_all)
 
 pub returns-clause-only : goal.returns-clause-only
-returns-clause-only c = λ p f. one_found c.args.bytes.now p c.loop-volume.list.items f (returns-clause-found c)
+returns-clause-only c = λ p f. one_found c.args.bytes.now p c.loop-volume.offsets.items f (returns-clause-found c)
