@@ -3,7 +3,7 @@
 --    (`checks_one`).
 -- 2. What reads a volume rejects it, or memory ran out (`ran_out_only`, `is_rejected`).
 -- 3. The volumes are all canonical exactly if the image stays as it is (`canonical_images_stay`).
-use Rattle.std.proofs.Common.{◌≡◌, ◌≢◌, ◌⊎◌, ◌≤◌, ◌<◌, ◌+◌, ℕ, List, [], ◌∷◌, ◌++◌, length, take, get_or, map, refl, sym, ap}
+use Rattle.std.proofs.Common.{◌≡◌, ◌≢◌, ◌⊎◌, ℕ, List, [], ◌∷◌, map, refl, sym, ap}
 use Rattle.std.proofs.Common.{◌∙◌, subst, arith, inl, inr}
 use Rattle.std.specs.List.{AllByRecursion}
 use Rattle.fv_base.specs.Words.{out_of_memory, outer_fault, depth_limit, field}

@@ -3,16 +3,16 @@
 -- 2. A search that goes from place to place passes no volume (`reached_first`, `reached_joined`, `reached_more`, `none_unsigned`).
 -- 3. One list of places is that of a walk (`one_walk`). A walk finds the volumes of the bytes (`walk_found`), and what is found is the
 --    list of a walk (`found_walk`).
--- 4. So the volumes of some bytes begin at one list of places (`one_found`), are within the bytes (`found_within`), and have one list of
---    places with lengths (`one_are`).
+-- 4. So the volumes of some bytes begin at one list of places (`one_found`), and have one list of places with lengths
+--    (`one_are`).
 use Rattle.std.proofs.lemmas.Grind.{common_steps}
-use Rattle.std.proofs.Common.{◌≡◌, ℕ, ◌+◌, ◌%◌, ◌<◌, ◌≤◌, List, [], ◌∷◌, length, drop, take, get_or, ◌++◌, refl, sym, ap, ◌∙◌}
+use Rattle.std.proofs.Common.{◌≡◌, ℕ, ◌+◌, ◌%◌, ◌<◌, ◌≤◌, List, [], ◌∷◌, length, drop, take, refl, sym, ap, ◌∙◌}
 use Rattle.std.proofs.Common.{subst, drop-drop, arith, true, false, inl, inr}
 use Rattle.std.specs.Prelude.{◌⊎◌}
 use Rattle.std.specs.List.{AllByRecursion, Contains}
 use Rattle.std.specs.Str.{bytes_eq}
 use Rattle.std.proofs.lemmas.Bool.{cases_lt}
-use Rattle.std.proofs.lemmas.List.{length-drop, map-append, take_more}
+use Rattle.std.proofs.lemmas.List.{length-drop}
 use Rattle.std.proofs.lemmas.List.Elements.{All-contains, All-from_recursion, All-weaker, recursion_from_All}
 use Rattle.fv_base.proofs.Laws.{first_or_behind, one_behind}
 use Rattle.fv_head.specs.Words.{HeadFields, BeginsVolume, signature_bytes, has_signature}
@@ -196,16 +196,6 @@ found_walk b os f =
 -- the volumes of some bytes begin at one list of places
 pub one_found : (b xs ys : List ℕ) → Found b xs → Found b ys → xs ≡ ys
 one_found b xs ys f g = one_walk 0 b xs ys (found_walk b xs f) (found_walk b ys g)
-
--- each of them lies within the bytes
-pub found_within : (b os : List ℕ) → Found b os → AllByRecursion (λ o. (n : ℕ) × VolumeAt b o n × (o + n ≤ length b)) os
-found_within b os f =
-    weaker (IsPlace b) (λ o. (n : ℕ) × VolumeAt b o n × (o + n ≤ length b)) (λ p h. (h.1.0, h.1.1, at_within b p h.1.0 h.1.1)) os f.places
-
--- the offsets of the first volumes, and of the next
-pub offsets_more : (volumes : List FoundVolume) (i : ℕ) (v : FoundVolume) → i < length volumes → v ≡ get_or volumes i v
-    → offsets_of (take (i + 1) volumes) ≡ offsets_of (take i volumes) ++ v.offset ∷ []
-offsets_more volumes i v less is = grind (arith, common_steps, map-append, take_more)
 
 -- where there is a volume, a volume begins at a place
 pub some_place : (b : List ℕ) (volumes : List FoundVolume) (i : ℕ) → AreFound b volumes → i < length volumes → (place : ℕ) × IsPlace b place
