@@ -16,12 +16,12 @@ use Rattle.std.proofs.Math.ListN.{drop_of_length-le}
 use Rattle.std.proofs.Math.Seq.{drop-append_seam, take-append_seam}
 use Rattle.fv_base.specs.Words.{out_of_memory, WalkLaws, field, depth_limit}
 use Rattle.fv_base.specs.declared.fault.Fault.{Fault}
-use Rattle.fv_flash.specs.Words.{Found, IsCovered, IsPlace, VolumeAt}
+use Rattle.fv_flash.specs.Words.{Found, IsCovered, VolumeAt}
 use Rattle.fv_flash.specs.inner.FoundWalks.{FoundFrom}
 use Rattle.fv_tree.specs.Words.{Meaning}
 use Rattle.fv_flash.proofs.Laws.{at_within, found_walk, one_found, one_length}
 use Rattle.fv_tree.proofs.Laws.{one_meaning}
-use Rattle.fv_base.proofs.Laws.{at_index, first_or_behind, in_middle, one_behind, first_only}
+use Rattle.fv_base.proofs.Laws.{first_or_behind, in_middle, one_behind, first_only}
 use Rattle.fv_canon.specs.Words.{IsImage, NormalisesTo, Refuses, FirstRefused, IsRenewed, NormalisesAll, Renewed}
 use Rattle.fv_canon.proofs.FaultPlaces.{refused_within}
 use Rattle.fv_canon.proofs.FitLaws.{unfit_none}
@@ -61,16 +61,12 @@ refused_never b image f (inr (v, a, unfit)) to =
 -- ---- one volume
 
 -- its fault has a place in the image
-pub place_fits : (b x : List ℕ) (p : ℕ) (f : Fault) → VolumeAt b p (length x) → length b < 2 ^ 63 → (f ≡ out_of_memory) ⊎ Refuses x f
+pub place_fits : (b x : List ℕ) (p n : ℕ) (f : Fault) → VolumeAt b p n → length x ≡ n → length b < 2 ^ 63 → (f ≡ out_of_memory) ⊎ Refuses x f
     → p + f.place.offset < 2 ^ 64
-place_fits b x p f v small (inl want) =
+place_fits b x p n f v long small (inl want) =
     let none : f.place.offset ≡ 0 = ap (λ (g : Fault). g.place.offset) want in
-    omega (arith, none, at_within b p (length x) v, small)
-place_fits b x p f v small (inr refused) = omega (arith, refused_within x f refused, at_within b p (length x) v, small)
-
--- at each of the offsets that are found a volume begins
-pub place_at : (b places : List ℕ) (i : ℕ) → Found b places → i < length places → (place : ℕ) × IsPlace b place
-place_at b places i found less = (get_or places i 0, at_index (IsPlace b) places i 0 found.places less)
+    omega (arith, none, at_within b p n v, small)
+place_fits b x p n f v long small (inr refused) = omega (arith, refused_within x f refused, long, at_within b p n v, small)
 
 -- ---- 1. the walk
 

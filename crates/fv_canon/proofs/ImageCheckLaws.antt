@@ -2,12 +2,10 @@
 -- 1. An input has one first fault (`one_first`), so bytes have one outcome (`one_outcome`), and an image one list of checks
 --    (`checks_one`).
 -- 2. What reads a volume rejects it, or memory ran out (`ran_out_only`, `is_rejected`).
--- 3. The volumes at the first places are checked: one more (`checks_more`), or all (`checks_all`).
--- 4. They are all canonical exactly if the image stays as it is (`canonical_images_stay`).
-use Rattle.std.proofs.Common.{◌≡◌, ◌≢◌, ◌⊎◌, ◌≤◌, ◌<◌, ◌+◌, ℕ, List, [], ◌∷◌, ◌++◌, length, take, get_or, map, refl, sym, ap}
+-- 3. The volumes are all canonical exactly if the image stays as it is (`canonical_images_stay`).
+use Rattle.std.proofs.Common.{◌≡◌, ◌≢◌, ◌⊎◌, ℕ, List, [], ◌∷◌, map, refl, sym, ap}
 use Rattle.std.proofs.Common.{◌∙◌, subst, arith, inl, inr}
 use Rattle.std.specs.List.{AllByRecursion}
-use Rattle.std.proofs.lemmas.List.{map-append, take_all, take_more}
 use Rattle.fv_base.specs.Words.{out_of_memory, outer_fault, depth_limit, field}
 use Rattle.fv_base.specs.declared.fault.Fault.{Fault}
 use Rattle.fv_base.specs.declared.fault.FaultKind.TheVariants as kinds
@@ -24,7 +22,6 @@ use Rattle.fv_canon.specs.Words.{IsImage, IsRenewed, NormalisesTo}
 use Rattle.fv_canon.specs.declared.image_check.VolumeCheck.{VolumeCheck}
 use Rattle.fv_canon.specs.declared.image_check.VolumeOutcome.{VolumeOutcome}
 use Rattle.fv_canon.specs.declared.image_check.VolumeOutcome.TheVariants.{Canonical, NotCanonical, Rejected}
-use Rattle.fv_canon.proofs.LaidVolumeLaws.{all_push}
 
 -- ---- 1. one outcome
 
@@ -123,24 +120,7 @@ is_rejected at b own f why other moved kind =
     let memory : f ≢ out_of_memory = λ want. other (sym kind ∙ ap (λ (g : Fault). g.kind) want) in
     (own, is_not_read b own why other, (moved memory).1)
 
--- ---- 3. the volumes, checked one after another
-
--- the next is checked too
-pub checks_more : (b places : List ℕ) (i : ℕ) (checks : List VolumeCheck) (c : VolumeCheck) → AreChecked b (take i places) checks
-    → i < length places → c.offset ≡ get_or places i 0 → IsChecked b c → AreChecked b (take (i + 1) places) (checks ++ c ∷ [])
-checks_more b places i checks c (same, all) less at is = (
-  map-append (λ (d : VolumeCheck). d.offset) checks (c ∷ [])
-      ∙ ap (λ (l : List ℕ). l ++ c.offset ∷ []) same
-      ∙ ap (λ (k : ℕ). take i places ++ k ∷ []) at ∙ sym (take_more places i 0 less),
-  all_push (IsChecked b) checks c all is,
-)
-
--- all are checked
-pub checks_all : (b places : List ℕ) (i : ℕ) (checks : List VolumeCheck) → AreChecked b (take i places) checks → length places ≤ i
-    → AreChecked b places checks
-checks_all b places i checks are past = subst (λ (l : List ℕ). AreChecked b l checks) (take_all i places past) are
-
--- ---- 4. an image whose volumes are all canonical
+-- ---- 3. an image whose volumes are all canonical
 
 -- each of them is renewed where the image is as it was
 renewed_own : (b offsets : List ℕ) (checks : List VolumeCheck) → AreChecked b offsets checks → AreCanonical checks

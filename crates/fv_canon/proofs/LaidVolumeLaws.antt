@@ -1,6 +1,6 @@
 -- The volumes of a flash image that are laid out, and then put one after another. The steps:
 -- 1. The fault of a volume is at its place in the image (`told_at`). A volume that is laid out has an image (`has_image`).
--- 2. The volumes at the first places are laid out: one more (`lays_more`), or one that is rejected (`lays_stop`), or all (`lays_all`).
+-- 2. The first volumes are laid out, and the next is rejected (`lays_stop`).
 -- 3. They are put with the bytes between them: none, the next, and all (`laid_none`, `laid_next`, `laid_more`, `laid_all`).
 -- 4. So what is laid out has an image (`laid_renewed`).
 use Rattle.std.proofs.lemmas.Grind.{common_steps}
@@ -8,13 +8,13 @@ use Rattle.std.proofs.Common.{◌≡◌, ◌≢◌, ◌⊎◌, ◌≤◌, ◌<�
 use Rattle.std.proofs.Common.{refl, sym, ap, ◌∙◌, subst, arith, inl, inr}
 use Rattle.std.specs.List.{AllByRecursion}
 use Rattle.std.proofs.lemmas.List.{drop_more, get_or-map, length-drop, length-map, length-take-le, map-append, take-append-drop}
-use Rattle.std.proofs.lemmas.List.{take_all, take_more}
 use Rattle.fv_base.specs.Words.{out_of_memory, volume_limit, WalkLaws, field}
 use Rattle.fv_base.specs.declared.fault.Fault.{Fault}
 use Rattle.fv_base.proofs.Laws.{at_index, or_more, want_known}
 use Rattle.fv_flash.proofs.Laws.{at_within}
 use Rattle.fv_tree.specs.Words.{Accepted, moved_fault, Meaning, head_of}
-use Rattle.fv_flash.specs.Words.{Found, VolumeAt}
+use Rattle.fv_flash.specs.Words.{Found, VolumeAt, offsets_of}
+use Rattle.fv_flash.specs.declared.scanner.FoundVolume.{FoundVolume}
 use Rattle.fv_canon.specs.Words.{IsImage, NormalisesTo, Refuses, FirstRefused, HasImageAt, NormalisesAll, RefusedAt, AreLaid, IsLaid}
 use Rattle.fv_canon.specs.Words.{IsLaidOut, starts_of}
 use Rattle.fv_canon.specs.declared.flash_image.LocatedVolume.{LocatedVolume}
@@ -23,13 +23,13 @@ use Rattle.fv_canon.proofs.FlashImageLaws.{Puts, next_of, puts_all, puts_more, p
 -- ---- one volume
 
 -- its fault is at its place, or memory ran out
-pub told_at : (b x : List ℕ) (p : ℕ) (own f : Fault) → VolumeAt b p (length x) → x ≡ field p (length x) b
+pub told_at : (b x : List ℕ) (p n : ℕ) (own f : Fault) → VolumeAt b p n → x ≡ field p n b
     → (own ≡ out_of_memory) ⊎ Refuses x own
     → (f ≢ out_of_memory → (own ≢ out_of_memory) × (f ≡ moved_fault p own.place.depth own))
     → (f ≡ out_of_memory) ⊎ RefusedAt b p f
-told_at b x p own f v is why told = or_more (want_known f) (λ other. elim why [
+told_at b x p n own f v is why told = or_more (want_known f) (λ other. elim why [
   | inl want ↦ absurd ((told other).0 want)
-  | inr refused ↦ (length x, v, own, subst (λ (l : List ℕ). Refuses l own) is refused, (told other).1)
+  | inr refused ↦ (n, v, own, subst (λ (l : List ℕ). Refuses l own) is refused, (told other).1)
 ])
 
 -- one that is laid out has an image
@@ -42,25 +42,6 @@ laid_long b p n m v accepted = grind (arith, common_steps, length-take-le, lengt
 
 -- ---- the volumes, laid out one after another
 
--- those at the first i of the places are laid out
-abbrev pub LaysFirst : List ℕ → List ℕ → ℕ → List LocatedVolume → Type 0
-LaysFirst b places i volumes = AreLaid b (take i places) volumes
-
--- one item more
-pub all_push : {X : Type 0} (P : X → Type 0) (xs : List X) (x : X) → AllByRecursion P xs → P x → AllByRecursion P (xs ++ x ∷ [])
-all_push P [] x all h = (h, tt)
-all_push P (y ∷ ys) x all h = (all.0, all_push P ys x all.1 h)
-
--- the next is laid out too
-pub lays_more : (b places : List ℕ) (i : ℕ) (volumes : List LocatedVolume) (v : LocatedVolume) → LaysFirst b places i volumes
-    → i < length places → v.start ≡ get_or places i 0 → IsLaid b v → LaysFirst b places (i + 1) (volumes ++ v ∷ [])
-lays_more b places i volumes v (same, all) less at laid = (
-  map-append (λ (w : LocatedVolume). w.start) volumes (v ∷ [])
-      ∙ ap (λ (l : List ℕ). l ++ v.start ∷ []) same
-      ∙ ap (λ (k : ℕ). take i places ++ k ∷ []) at ∙ sym (take_more places i 0 less),
-  all_push (IsLaid b) volumes v all laid,
-)
-
 -- those that are laid out have images
 laid_images : (b : List ℕ) (volumes : List LocatedVolume) → AllByRecursion (IsLaid b) volumes
     → AllByRecursion (HasImageAt b) (starts_of volumes)
@@ -68,21 +49,18 @@ laid_images b [] all = tt
 laid_images b (v ∷ vs) (h, all) = (has_image b v h, laid_images b vs all)
 
 -- the next is rejected
-pub lays_stop : (b places : List ℕ) (i : ℕ) (volumes : List LocatedVolume) (f : Fault) → LaysFirst b places i volumes → i < length places
-    → (f ≡ out_of_memory) ⊎ RefusedAt b (get_or places i 0) f → (f ≡ out_of_memory) ⊎ FirstRefused b places f
-lays_stop b places i volumes f (same, all) less why = or_more why (λ refused. record {
-  before = take i places;
-  place = get_or places i 0;
-  behind = drop (i + 1) places;
-  split = sym (take-append-drop i places) ∙ ap (λ (l : List ℕ). take i places ++ l) (drop_more places i 0 less);
+pub lays_stop : (b : List ℕ) (found : List FoundVolume) (i : ℕ) (d : FoundVolume) (volumes : List LocatedVolume) (f : Fault)
+    → AreLaid b (offsets_of (take i found)) volumes → i < length found → (f ≡ out_of_memory) ⊎ RefusedAt b (get_or found i d).offset f
+    → (f ≡ out_of_memory) ⊎ FirstRefused b (offsets_of found) f
+lays_stop b found i d volumes f (same, all) less why = or_more why (λ refused. record {
+  before = offsets_of (take i found);
+  place = (get_or found i d).offset;
+  behind = offsets_of (drop (i + 1) found);
+  split = ap offsets_of (sym (take-append-drop i found) ∙ ap (λ (l : List FoundVolume). take i found ++ l) (drop_more found i d less))
+      ∙ map-append (λ (v : FoundVolume). v.offset) (take i found) (get_or found i d ∷ drop (i + 1) found);
   images = subst (AllByRecursion (HasImageAt b)) same (laid_images b volumes all);
   refused = refused;
 })
-
--- all are laid out
-pub lays_all : (b places : List ℕ) (i : ℕ) (volumes : List LocatedVolume) → LaysFirst b places i volumes → length places ≤ i
-    → AreLaid b places volumes
-lays_all b places i volumes lays past = subst (λ (l : List ℕ). AreLaid b l volumes) (take_all i places past) lays
 
 -- ---- the loop over the volumes that are laid out
 

@@ -3,15 +3,14 @@
 ghost use Rattle.std.specs.Prelude.{◌≡◌, ◌≢◌, ◌⊎◌, ◌-◌, ◌≤◌, ℕ, List, length, IfOk, IfErr};
 ghost use Rattle.fv_base.specs.Words.{OrMemory, out_of_memory, volume_limit, field};
 ghost use Rattle.fv_canon.specs.FlashImages.{FirstRefused, NormalisesAll, RefusedAt, RefusesAll, AreLaid, IsLaid, IsLaidOut};
-ghost use Rattle.fv_flash.specs.Words.{Found, IsPlace, VolumeAt};
+ghost use Rattle.fv_flash.specs.Words.{AreFound, IsPlace, VolumeAt, offsets_of};
 
 use crate::canonical_image::put_canonical;
 use crate::laid_volume::{LaidVolume, lay_out_volume};
 use fv_base::field::bytes_from;
 use fv_base::limits::VOLUME_LIMIT;
 use fv_base::{ByteList, Fault, FaultKind, ListSink, Place, Sink, check};
-use fv_head::verify_fv;
-use fv_tree::{fault_within, scan};
+use fv_tree::{FoundVolume, fault_within, volumes};
 use std::alloc::Global;
 use std::marker::Model;
 
@@ -23,18 +22,6 @@ fn between(image: &[u8], from: usize, to: usize) -> &[u8]
     &image[from..to]
 }
 
-// Returns the bytes of the volume that begins at this offset.
-pub(crate) fn volume_at(image: &[u8], start: usize) -> &[u8]
-    requires { (n : ℕ) × VolumeAt image.now start n }
-    ensures volume { VolumeAt image.now start (length result.now) }
-    ensures bytes { result.now ≡ field start (length result.now) image.now }
-{
-    let Ok(extent) = verify_fv(bytes_from(image, start)) else {
-        unreachable!()
-    };
-    between(image, start, start + extent.length as usize)
-}
-
 // A volume of an image, and the offset at which it begins.
 #[derive(Drop)]
 struct LocatedVolume<'a> {
@@ -42,19 +29,22 @@ struct LocatedVolume<'a> {
     laid: LaidVolume<'a>,
 }
 
-// Reads the volume that begins at this offset of the image, and lays it out.
-fn laid_at(alloc: Global, image: &[u8], start: u64) -> Result<LocatedVolume<'_>, Fault>
-    requires { (n : ℕ) × VolumeAt image.now start n }
-    ensures start { IfOk result (λ v. v.start ≡ start) }
+// Reads a volume of the image, and lays it out.
+fn laid_at(alloc: Global, image: &[u8], volume: FoundVolume) -> Result<LocatedVolume<'_>, Fault>
+    requires { VolumeAt image.now volume.offset volume.length }
+    ensures start { IfOk result (λ v. v.start ≡ volume.offset) }
     ensures ok { IfOk result (IsLaid image.now) }
-    ensures err { IfErr result (OrMemory (RefusedAt image.now start)) }
+    ensures err { IfErr result (OrMemory (RefusedAt image.now volume.offset)) }
     ensures kind { IfErr result (λ f. (f.kind ≢ FaultKind.ReadFault) × (f.kind ≢ FaultKind.WriteFault)) }
 {
-    match lay_out_volume(alloc, volume_at(image, start as usize)) {
-        Ok(laid) => Ok(LocatedVolume { start, laid }),
+    match lay_out_volume(alloc, volume.bytes(image)) {
+        Ok(laid) => Ok(LocatedVolume {
+            start: volume.offset,
+            laid,
+        }),
         Err(fault) => {
             let place = Place {
-                offset: start,
+                offset: volume.offset,
                 depth: fault.place.depth,
             };
             Err(fault_within(fault, place))
@@ -62,23 +52,23 @@ fn laid_at(alloc: Global, image: &[u8], start: u64) -> Result<LocatedVolume<'_>,
     }
 }
 
-// Reads and lays out each volume of the image. `offsets` are the offsets at which they begin.
+// Reads and lays out each volume of the image.
 fn laid_at_each<'a>(
     alloc: Global,
     image: &'a [u8],
-    offsets: &[u64],
+    found: &[FoundVolume],
 ) -> Result<Vec<LocatedVolume<'a>>, Fault>
-    requires { Found image.now offsets.now }
-    ensures ok { IfOk result (λ volumes. AreLaid image.now offsets.now volumes.items) }
-    ensures err { IfErr result (OrMemory (FirstRefused image.now offsets.now)) }
+    requires { AreFound image.now found.now }
+    ensures ok { IfOk result (λ volumes. AreLaid image.now (offsets_of found.now) volumes.items) }
+    ensures err { IfErr result (OrMemory (FirstRefused image.now (offsets_of found.now))) }
 
     // It fails only if there is a volume.
     ensures some { IfErr result (λ _. (place : ℕ) × IsPlace image.now place) }
     ensures kind { IfErr result (λ f. (f.kind ≢ FaultKind.ReadFault) × (f.kind ≢ FaultKind.WriteFault)) }
 {
-    let mut volumes = Vec::with_capacity(alloc, offsets.len())?;
-    for offset in offsets {
-        volumes.push(laid_at(alloc, image, *offset)?)?;
+    let mut volumes = Vec::with_capacity(alloc, found.len())?;
+    for volume in found {
+        volumes.push(laid_at(alloc, image, *volume)?)?;
     }
     Ok(volumes)
 }
@@ -120,7 +110,7 @@ impl<'a> Model for LaidImage<'a> {
     ghost invariant = { λ l. IsLaidOut l.image.now l.volumes.items };
 }
 
-/// Reads and lays out each volume that `scan` finds in the image. (PI specification, volume 3,
+/// Reads and lays out each volume that `volumes` finds in the image. (PI specification, volume 3,
 /// section 3.2.)
 ///
 /// # Errors
@@ -149,12 +139,12 @@ pub fn lay_out_image(alloc: Global, image: &[u8]) -> Result<LaidImage<'_>, Fault
 {
     let total = image.len() as u64;
     check(total <= VOLUME_LIMIT, FaultKind::Length, VOLUME_LIMIT)?;
-    let offsets = scan(alloc, image)?;
-    let volumes = laid_at_each(alloc, image, offsets.as_slice())?;
+    let found = volumes(alloc, image)?;
+    let volumes = laid_at_each(alloc, image, found.as_slice())?;
     Ok(LaidImage { image, volumes })
 }
 
-/// Puts the image into a sink, with each volume that `scan` finds in it replaced by its canonical
+/// Puts the image into a sink, with each volume that `volumes` finds in it replaced by its canonical
 /// image. Every other byte is kept. The walk takes no memory. (PI specification, volume 3, section
 /// 3.2.)
 pub fn put_laid_image<S: Sink>(laid: &LaidImage<'_>, out: &mut S)
@@ -163,7 +153,7 @@ pub fn put_laid_image<S: Sink>(laid: &LaidImage<'_>, out: &mut S)
     put_renewed(laid.image, laid.volumes.as_slice(), out);
 }
 
-/// Returns the image with each volume that `scan` finds in it replaced by its canonical image.
+/// Returns the image with each volume that `volumes` finds in it replaced by its canonical image.
 /// Every other byte is kept. Memory for the full length is reserved once. (PI specification, volume
 /// 3, section 3.2.)
 ///

@@ -4,13 +4,12 @@
 ghost use Rattle.std.specs.Prelude.{◌≡◌, ◌⊎◌, ◌+◌, ◌<◌, ◌≤◌, ◌^◌, ℕ, List, length, IfOk, IfErr};
 ghost use Rattle.fv_base.specs.Words.{OrMemory, out_of_memory, volume_limit};
 ghost use Rattle.fv_canon.specs.ImageChecks.{AreChecked, ChecksImage, HasOutcome, IsAboveLimit, IsChecked};
-ghost use Rattle.fv_flash.specs.Words.{Found, IsPlace, VolumeAt};
+ghost use Rattle.fv_flash.specs.Words.{AreFound, IsPlace, VolumeAt, offsets_of};
 
 use crate::canonical_input::is_canonical;
-use crate::flash_image::volume_at;
 use fv_base::limits::VOLUME_LIMIT;
 use fv_base::{Fault, FaultKind, Place, check};
-use fv_tree::{fault_within, scan};
+use fv_tree::{FoundVolume, fault_within, volumes};
 use std::alloc::Global;
 
 /// The result of checking a volume of a flash image.
@@ -60,40 +59,42 @@ fn outcome_of(alloc: Global, start: u64, volume: &[u8]) -> Result<VolumeOutcome,
     }
 }
 
-// Checks the volume that begins at this offset of the image.
-fn check_at(alloc: Global, image: &[u8], start: u64) -> Result<VolumeCheck, Fault>
-    requires { (n : ℕ) × VolumeAt image.now start n }
-    ensures start { IfOk result (λ c. c.offset ≡ start) }
+// Checks a volume of the image.
+fn check_at(alloc: Global, image: &[u8], volume: FoundVolume) -> Result<VolumeCheck, Fault>
+    requires { VolumeAt image.now volume.offset volume.length }
+    ensures start { IfOk result (λ c. c.offset ≡ volume.offset) }
     ensures ok { IfOk result (IsChecked image.now) }
     ensures err { IfErr result (λ f. f ≡ out_of_memory) }
 {
-    let volume = volume_at(image, start as usize);
-    let outcome = outcome_of(alloc, start, volume)?;
     Ok(VolumeCheck {
-        offset: start,
-        length: volume.len() as u64,
-        outcome,
+        offset: volume.offset,
+        length: volume.length,
+        outcome: outcome_of(alloc, volume.offset, volume.bytes(image))?,
     })
 }
 
-// Checks each volume of the image. `offsets` are the offsets at which they begin.
-fn check_each(alloc: Global, image: &[u8], offsets: &[u64]) -> Result<Vec<VolumeCheck>, Fault>
-    requires { Found image.now offsets.now }
-    ensures ok { IfOk result (λ checks. AreChecked image.now offsets.now checks.items) }
+// Checks each volume of the image.
+fn check_each(
+    alloc: Global,
+    image: &[u8],
+    volumes: &[FoundVolume],
+) -> Result<Vec<VolumeCheck>, Fault>
+    requires { AreFound image.now volumes.now }
+    ensures ok { IfOk result (λ checks. AreChecked image.now (offsets_of volumes.now) checks.items) }
     ensures err { IfErr result (λ f. f ≡ out_of_memory) }
 
     // Memory runs out only if there is a volume.
     ensures memory { IfErr result (λ _. (place : ℕ) × IsPlace image.now place) }
 {
     let mut checks = Vec::new(alloc);
-    for offset in offsets {
-        checks.push(check_at(alloc, image, *offset)?)?;
+    for volume in volumes {
+        checks.push(check_at(alloc, image, *volume)?)?;
     }
     Ok(checks)
 }
 
-/// Checks each volume that `scan` finds in the image, and returns the results in the order of the
-/// volumes. A volume that is rejected does not stop the check of the other volumes. `scan` walks
+/// Checks each volume that `volumes` finds in the image, and returns the results in the order of the
+/// volumes. A volume that is rejected does not stop the check of the other volumes. `volumes` walks
 /// the image once, and each volume is read once. (PI specification, volume 3, section 3.2.)
 ///
 /// # Errors
@@ -120,6 +121,6 @@ pub fn check_image(alloc: Global, image: &[u8]) -> Result<Vec<VolumeCheck>, Faul
 {
     let total = image.len() as u64;
     check(total <= VOLUME_LIMIT, FaultKind::Length, VOLUME_LIMIT)?;
-    let offsets = scan(alloc, image)?;
-    check_each(alloc, image, offsets.as_slice())
+    let found = volumes(alloc, image)?;
+    check_each(alloc, image, found.as_slice())
 }

@@ -1,5 +1,6 @@
 -- The text and the status of each task over one input, and the faults that stop a task.
 use Rattle.std.specs.Prelude.{◌≡◌, ◌↔◌, ℕ, Bool, true, List, ◌++◌, drop, Option, Some, None, ◌⊎◌, false, codes}
+use Rattle.std.specs.List.{flat_map}
 use Rattle.fv_base.specs.Words.{OrMemory, out_of_memory}
 use Rattle.fv_base.specs.declared.flash.Polarity.{Polarity}
 use Rattle.fv_base.specs.declared.fault.Fault.{Fault}
@@ -11,10 +12,11 @@ use Rattle.fv_tree.specs.Words.{Accepted, Meaning, files_of, head_of, FileMeanin
 use Rattle.fv_tree.specs.Words.{NotTiled, NotUnfixed, UnfixesTo, BodyMeaning, Leaf, Group, Nested, body_of}
 use Rattle.fv_lines.specs.Words.{AreNotes, depex_lines, depexes_in, pad_notes, verdict_line, RowsText, ListText}
 use Rattle.fv_rows.specs.Words.{NodeMeaning, VolumeNode, FileNode, SectionNode, tree_rows}
-use Rattle.fv_lines.specs.Words.{CellsText, ScanText}
+use Rattle.fv_lines.specs.Words.{CellsText, volume_line}
 use Rattle.fv_lines.specs.declared.depex_notes.DepexNote.{DepexNote}
 use Rattle.sha2.specs.Sha256.{sha256}
-use Rattle.fv_flash.specs.Words.{Found}
+use Rattle.fv_flash.specs.Words.{AreFound}
+use Rattle.fv_flash.specs.declared.scanner.FoundVolume.{FoundVolume}
 use Rattle.fv_text.specs.Words.{ShowsBytes, Change}
 use Rattle.fv_command.specs.RunInputs.{BeginsWith, BeginsNone, GivesAt, GivingStops}
 use Rattle.fv_command.specs.Extractions.{IsPart, StopsPart}
@@ -105,7 +107,7 @@ Says Check hex input Different text = CheckText input false text
 Says CheckAll hex input status text = ChecksText input status text
 Says Cells hex input Done text = CellsText input text
 Says Unfix hex input Done text = (o : List ℕ) × UnfixesTo input o × ShowsBytes hex o text
-Says Scan hex input Done text = (offsets : List ℕ) × Found input offsets × ScanText input offsets text
+Says Scan hex input Done text = (volumes : List FoundVolume) × AreFound input volumes × (text ≡ flat_map volume_line volumes)
 Says task hex input status text = ⊥
 
 -- why a task writes nothing for its input: memory ran out, or one of these reasons:

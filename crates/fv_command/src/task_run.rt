@@ -112,12 +112,12 @@ fn cells<S: Sink>(alloc: Global, input: &[u8], out: &mut S) -> Result<Status, Fa
     Ok(Status::Done)
 }
 
-// Puts the lines of `scan`: where volumes begin in the input.
+// Puts the lines of `scan`: the places and the lengths of the volumes in the input.
 fn scan<S: Sink>(alloc: Global, input: &[u8], out: &mut S) -> Result<Status, Fault>
     ensures { (hex : Bool) → Performs S.takes Task.Scan hex input.now out.old out.new result }
 {
-    let offsets = fv_tree::scan(alloc, input)?;
-    put_volumes(out, input, offsets.as_slice());
+    let volumes = fv_tree::volumes(alloc, input)?;
+    put_volumes(out, volumes.as_slice());
     Ok(Status::Done)
 }
 

@@ -3,7 +3,8 @@
 -- 2. A search that goes from place to place passes no volume (`reached_first`, `reached_joined`, `reached_more`, `none_unsigned`).
 -- 3. One list of places is that of a walk (`one_walk`). A walk finds the volumes of the bytes (`walk_found`), and what is found is the
 --    list of a walk (`found_walk`).
--- 4. So the volumes of some bytes begin at one list of places (`one_found`), and are within the bytes (`found_within`).
+-- 4. So the volumes of some bytes begin at one list of places (`one_found`), and have one list of places with lengths
+--    (`one_are`).
 use Rattle.std.proofs.lemmas.Grind.{common_steps}
 use Rattle.std.proofs.Common.{◌≡◌, ℕ, ◌+◌, ◌%◌, ◌<◌, ◌≤◌, List, [], ◌∷◌, length, drop, take, refl, sym, ap, ◌∙◌}
 use Rattle.std.proofs.Common.{subst, drop-drop, arith, true, false, inl, inr}
@@ -17,7 +18,8 @@ use Rattle.fv_base.proofs.Laws.{first_or_behind, one_behind}
 use Rattle.fv_head.specs.Words.{HeadFields, BeginsVolume, signature_bytes, has_signature}
 use Rattle.fv_head.specs.declared.extent.Extent.{Extent}
 use Rattle.fv_head.proofs.Laws.{front_holds, one_front}
-use Rattle.fv_flash.specs.Words.{VolumeAt, IsPlace, LiesBehind, Apart, IsCovered, Found}
+use Rattle.fv_flash.specs.Words.{VolumeAt, IsPlace, LiesBehind, Apart, IsCovered, Found, AreFound, offsets_of}
+use Rattle.fv_flash.specs.declared.scanner.FoundVolume.{FoundVolume}
 use Rattle.fv_flash.specs.inner.FoundWalks.{NoneBetween, NoneFrom, IsReached, FoundFrom}
 
 -- ---- a volume
@@ -195,7 +197,25 @@ found_walk b os f =
 pub one_found : (b xs ys : List ℕ) → Found b xs → Found b ys → xs ≡ ys
 one_found b xs ys f g = one_walk 0 b xs ys (found_walk b xs f) (found_walk b ys g)
 
--- each of them lies within the bytes
-pub found_within : (b os : List ℕ) → Found b os → AllByRecursion (λ o. (n : ℕ) × VolumeAt b o n × (o + n ≤ length b)) os
-found_within b os f =
-    weaker (IsPlace b) (λ o. (n : ℕ) × VolumeAt b o n × (o + n ≤ length b)) (λ p h. (h.1.0, h.1.1, at_within b p h.1.0 h.1.1)) os f.places
+-- where there is a volume, a volume begins at a place
+pub some_place : (b : List ℕ) (volumes : List FoundVolume) (i : ℕ) → AreFound b volumes → i < length volumes → (place : ℕ) × IsPlace b place
+some_place b [] i found less = absurd (omega (arith, less))
+some_place b (v ∷ vs) i found less = (v.offset, found.0.places.0)
+
+-- volumes at the same places are the same
+same_volumes : (b : List ℕ) (xs ys : List FoundVolume) → offsets_of xs ≡ offsets_of ys
+    → AllByRecursion (λ v. VolumeAt b v.offset v.length) xs → AllByRecursion (λ v. VolumeAt b v.offset v.length) ys → xs ≡ ys
+same_volumes b [] [] same all all' = refl
+same_volumes b [] (y ∷ ys) same all all' = let bad : [] ≡ y.offset ∷ offsets_of ys = same in cc
+same_volumes b (x ∷ xs) [] same all all' = let bad : x.offset ∷ offsets_of xs ≡ [] = same in cc
+same_volumes b (x ∷ xs) (y ∷ ys) same (v, all) (w, all') =
+    let first : x.offset ≡ y.offset = cc in
+    let rest : offsets_of xs ≡ offsets_of ys = cc in
+    let long : x.length ≡ y.length = one_length b y.offset x.length y.length (subst (λ k. VolumeAt b k x.length) first v) w in
+    let made : ℕ → ℕ → FoundVolume = λ o n. record { offset = o; length = n } in
+    let is : x ≡ y = ap (λ o. made o x.length) first ∙ ap (λ n. made y.offset n) long in
+    ap (λ v. v ∷ xs) is ∙ ap (λ l. y ∷ l) (same_volumes b xs ys rest all all')
+
+-- some bytes have one list of volumes
+pub one_are : (b : List ℕ) (xs ys : List FoundVolume) → AreFound b xs → AreFound b ys → xs ≡ ys
+one_are b xs ys f g = same_volumes b xs ys (one_found b (offsets_of xs) (offsets_of ys) f.0 g.0) f.1 g.1

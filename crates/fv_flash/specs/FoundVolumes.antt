@@ -1,8 +1,9 @@
 -- The volumes in some bytes (PI specification, volume 3, section 3.2.1.1).
-use Rattle.std.specs.Prelude.{◌≡◌, ℕ, ◌+◌, ◌%◌, ◌≤◌, ◌<◌, List, [], ◌∷◌, drop}
+use Rattle.std.specs.Prelude.{◌≡◌, ℕ, ◌+◌, ◌%◌, ◌≤◌, ◌<◌, List, [], ◌∷◌, drop, map}
 use Rattle.std.specs.List.{AllByRecursion, Contains}
 use Rattle.fv_head.specs.Words.{HeadFields, BeginsVolume}
 use Rattle.fv_head.specs.declared.extent.Extent.{Extent}
+use Rattle.fv_flash.specs.declared.scanner.FoundVolume.{FoundVolume}
 
 -- a volume of n bytes begins at the offset k of b
 abbrev pub VolumeAt : List ℕ → ℕ → ℕ → Type 0
@@ -31,3 +32,11 @@ pub record Found (b os : List ℕ) : Type 0 where
   pub places : AllByRecursion (IsPlace b) os
   pub apart : Apart b os
   pub all : (k n : ℕ) → k % 8 ≡ 0 → VolumeAt b k n → IsCovered b os k
+
+-- the offsets of these volumes
+abbrev pub offsets_of : List FoundVolume → List ℕ
+offsets_of volumes = map (λ v. v.offset) volumes
+
+-- these are all volumes that are found in b, in the order of their offsets, each with its length
+abbrev pub AreFound : List ℕ → List FoundVolume → Type 0
+AreFound b volumes = Found b (offsets_of volumes) × AllByRecursion (λ v. VolumeAt b v.offset v.length) volumes

@@ -1,6 +1,6 @@
-//! Finding where firmware volumes begin in some bytes. Only `scan` allocates memory.
+//! Finding firmware volumes in some bytes. Only `volumes` and `scan` allocate memory.
 #![tactic(auto)]
 
 mod scanner;
 
-pub use scanner::{Offsets, scan};
+pub use scanner::{FoundVolume, Offsets, scan, volumes};

@@ -3,5 +3,4 @@ pub mod DepexNoteLemmas
 pub mod HobLemmas
 pub mod ListTextLemmas
 pub mod PadNoteLemmas
-pub mod ScanLemmas
 pub mod StandingLemmas

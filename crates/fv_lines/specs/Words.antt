@@ -1,5 +1,5 @@
 -- The door of this crate: all definitions of its `specs/` that other crates may import.
-pub use Rattle.fv_lines.specs.ScanLines.{volume_place, volume_line, ScanText}
+pub use Rattle.fv_lines.specs.ScanLines.{volume_place, volume_line}
 pub use Rattle.fv_lines.specs.HobLines.{IsMapped, bytes_in_span, IsWholeVolume, IsStanding, MappedForm, held_image}
 pub use Rattle.fv_lines.specs.HobLines.{image_form, hob_line, consumed_line, standing_word, IsSpanWord, IsWord}
 pub use Rattle.fv_lines.specs.HobLines.{HobLines, HobsText}

@@ -1,12 +1,10 @@
 //! The lines of `scan`, and the place of a volume in an image.
 
-ghost use Rattle.std.specs.Prelude.{ℕ, List};
-ghost use Rattle.fv_flash.specs.Words.{Found};
-ghost use Rattle.fv_lines.specs.ScanLines.{ScanText, volume_line, volume_place};
+ghost use Rattle.std.specs.List.{flat_map};
+ghost use Rattle.fv_lines.specs.ScanLines.{volume_line, volume_place};
 
 use fv_base::Sink;
-use fv_base::field::bytes_from;
-use fv_head::verify_fv;
+use fv_flash::FoundVolume;
 use fv_text::put_decimal;
 
 /// Puts the place of a volume: its offset in bytes from the first byte of the image, and its length
@@ -20,24 +18,19 @@ pub fn put_volume_place<S: Sink>(out: &mut S, offset: u64, length: u64)
     put_decimal(out, length);
 }
 
-// Puts the line of a volume that the scan found.
-fn put_found<S: Sink>(out: &mut S, offset: u64, length: u64)
-    ensures { S.takes out.old (volume_line offset length) out.new }
+// Puts the line of a volume.
+fn put_volume<S: Sink>(out: &mut S, volume: FoundVolume)
+    ensures { S.takes out.old (volume_line volume) out.new }
 {
-    put_volume_place(out, offset, length);
+    put_volume_place(out, volume.offset, volume.length);
     out.put(b"\n");
 }
 
-/// Puts a line for each volume that the scan found in the input. `offsets` must be the result of
-/// the scan: the offsets at which the volumes begin.
-pub fn put_volumes<S: Sink>(out: &mut S, input: &[u8], offsets: &[u64])
-    requires { Found input.now offsets.now }
-    ensures { (text : List ℕ) × ScanText input.now offsets.now text × S.takes out.old text out.new }
+/// Puts a line for each of the volumes.
+pub fn put_volumes<S: Sink>(out: &mut S, volumes: &[FoundVolume])
+    ensures { S.takes out.old (flat_map volume_line volumes.now) out.new }
 {
-    for offset in offsets {
-        let Ok(extent) = verify_fv(bytes_from(input, *offset as usize)) else {
-            unreachable!()
-        };
-        put_found(out, *offset, extent.length);
+    for volume in volumes {
+        put_volume(out, *volume);
     }
 }

@@ -1,7 +1,7 @@
 //! The meaning of a firmware volume, read as a view of its bytes. The definitions recur on how many
-//! more levels of groups and opened volumes may nest. `scan` and `Offsets` come from fv_flash. Only
-//! `read_volume`, `whole_volume`, `whole_volume_with_files`, `located_files`, `volume_cells`,
-//! `first_difference` and `scan` take memory.
+//! more levels of groups and opened volumes may nest. `scan`, `volumes`, `Offsets` and `FoundVolume`
+//! come from fv_flash. Only `read_volume`, `whole_volume`, `whole_volume_with_files`,
+//! `located_files`, `volume_cells`, `first_difference`, `scan` and `volumes` take memory.
 //!
 //! `plain` and `leaf` return slices of the input, and `Content::Plain` and `Body::Leaf` hold them.
 //! These slices outlive the view. So a program that uses one after the view is gone compiles, but a
@@ -28,7 +28,7 @@ pub use body_cells::volume_cells;
 pub use difference::{Difference, Step, Word, first_difference};
 pub use fault_place::fault_within;
 pub use fixed_marks::unfix;
-pub use fv_flash::{Offsets, scan};
+pub use fv_flash::{FoundVolume, Offsets, scan, volumes};
 pub use lookup::{Item, Lookup, file_by_name, file_by_type, next_file, section_by_type};
 pub use read::read_volume;
 pub use section_walk::SectionWalk;

@@ -1,6 +1,8 @@
 -- The findings of a search for volumes that goes through some bytes from offset to offset.
 use Rattle.std.specs.Prelude.{◌≡◌, ℕ, ◌+◌, ◌%◌, ◌≤◌, ◌<◌, List, [], ◌∷◌, length}
-use Rattle.fv_flash.specs.FoundVolumes.{VolumeAt}
+use Rattle.std.specs.List.{AllByRecursion}
+use Rattle.fv_flash.specs.FoundVolumes.{VolumeAt, offsets_of}
+use Rattle.fv_flash.specs.declared.scanner.FoundVolume.{FoundVolume}
 
 -- no volume begins at a multiple of 8 that is at least `from` and below `to`
 abbrev pub NoneBetween : List ℕ → ℕ → ℕ → Type 0
@@ -26,3 +28,7 @@ IsNext b from at n = (from ≤ at) × (at % 8 ≡ 0) × NoneBetween b from at ×
 abbrev pub FoundFrom : ℕ → List ℕ → List ℕ → Type 0
 FoundFrom from b [] = NoneFrom b from
 FoundFrom from b (o ∷ os) = (n : ℕ) × IsNext b from o n × FoundFrom (o + n) b os
+
+-- from the offset `from` on, these are the volumes of b, each with its length
+abbrev pub VolumesFrom : ℕ → List ℕ → List FoundVolume → Type 0
+VolumesFrom from b vs = FoundFrom from b (offsets_of vs) × AllByRecursion (λ v. VolumeAt b v.offset v.length) vs

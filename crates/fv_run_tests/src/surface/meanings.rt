@@ -8,9 +8,9 @@ use fv_canon::{
 use fv_command::{Status, run_plan};
 use fv_plan::Plan;
 use fv_tree::{
-    Body, Content, Difference, FileView, Item, Lookup, Offsets, SectionView, Step, VolumeView,
-    Word, file_by_name, file_by_type, first_difference, next_file, read_volume, scan,
-    section_by_type,
+    Body, Content, Difference, FileView, FoundVolume, Item, Lookup, Offsets, SectionView, Step,
+    VolumeView, Word, file_by_name, file_by_type, first_difference, next_file, read_volume, scan,
+    section_by_type, volumes,
 };
 
 // Names the contents of a file, and the bodies of a section.
@@ -69,13 +69,14 @@ fn name_difference(step: Step, word: Word) {
 /// Names what fv_tree has.
 pub(super) fn name_tree() {
     let _ = (read_volume, next_file, file_by_name, file_by_type);
-    let _ = (section_by_type, scan, first_difference);
+    let _ = (section_by_type, scan, volumes, first_difference);
     let _ = (VolumeView::head, VolumeView::file_count, VolumeView::file);
     let _ = (FileView::name, FileView::kind, FileView::attributes);
     let _ = (FileView::content, FileView::plain, FileView::data_len);
     let _ = (SectionView::kind, SectionView::extended, SectionView::leaf);
     let _ = (SectionView::body_len, SectionView::body);
-    let _ = (Offsets::as_slice, Difference::steps, Difference::word);
+    let _ = (Offsets::as_slice, FoundVolume::bytes);
+    let _ = (Difference::steps, Difference::word);
     name_parts(&Content::Plain(b""), Body::Leaf(b""));
     name_lookup(Lookup::Absent);
     name_difference(Step::File(0), Word::Name);

@@ -6,10 +6,10 @@ use Rattle.fv_canon.proofs.flash_image.laid_at.Goals as goal
 pub fault_within-requires : goal.fault_within-requires
 fault_within-requires c =
     let small : length c.args.image.now < 2 ^ 63 = search rules in
-    place_fits c.args.image.now c.volume_at.result.now c.args.start c.in-Err.fault c.volume_at.ensures.volume small c.in-Err.ensures.err
+    place_fits c.args.image.now c.bytes.result.now c.args.volume.offset c.args.volume.length c.in-Err.fault c.requires c.bytes.ensures.length
+    small c.in-Err.ensures.err
 
 pub returns-in-Err-clause-err : goal.returns-in-Err-clause-err
 returns-in-Err-clause-err c =
-    let v = c.volume_at in
-    told_at c.args.image.now v.result.now c.args.start c.in-Err.fault c.fault_within.result v.ensures.volume v.ensures.bytes c.in-Err.ensures.err
-    c.fault_within.ensures.moved
+    told_at c.args.image.now c.bytes.result.now c.args.volume.offset c.args.volume.length c.in-Err.fault c.fault_within.result c.requires
+    c.bytes.ensures.bytes c.in-Err.ensures.err c.fault_within.ensures.moved

@@ -1,6 +1,7 @@
 use Rattle.std.proofs.Common.{take}
+use Rattle.fv_flash.specs.Words.{offsets_of}
 use Rattle.fv_canon.specs.Words.{AreChecked}
 use Rattle.fv_canon.proofs.image_check.check_each.Given as goal
 
-abbrev pub invariant-loop-offset : goal.invariant-loop-offset
-invariant-loop-offset l = AreChecked l.image (take l.offset-index l.offsets) l.checks.items
+abbrev pub invariant-loop-volume : goal.invariant-loop-volume
+invariant-loop-volume l = AreChecked l.image (offsets_of (take l.volume-index l.volumes)) l.checks.items

@@ -1,6 +1,7 @@
-use Rattle.fv_lines.specs.Words.{ScanText}
-use Rattle.fv_text.proofs.Laws.{Tells}
+use Rattle.std.proofs.Common.{take}
+use Rattle.std.specs.List.{flat_map}
+use Rattle.fv_lines.specs.Words.{volume_line}
 use Rattle.fv_lines.proofs.scan_text.put_volumes.Given as goal
 
-abbrev pub invariant-loop-offset : goal.invariant-loop-offset
-invariant-loop-offset g l = Tells g.S.Sink.takes (λ _. ScanText l.input) l.offsets l.offset-index l.initial.out l.out
+abbrev pub invariant-loop-volume : goal.invariant-loop-volume
+invariant-loop-volume g l = g.S.Sink.takes l.initial.out (flat_map volume_line (take l.volume-index l.volumes)) l.out
