@@ -16,8 +16,6 @@ pub use Rattle.fv_canon.proofs.ImageFits.{image_fits, data_fits, body_fits}
 pub use Rattle.fv_canon.proofs.FitLaws.{laid_fits, fits_laid, unfit_none}
 -- a flash image with all its volumes laid out has its image
 pub use Rattle.fv_canon.proofs.LaidVolumeLaws.{laid_renewed}
--- starts that begin with those of some volumes begin with those of the first of them, and of the same volumes one level higher
-pub use Rattle.fv_canon.proofs.VolumeListLaws.{begins_first, begins_higher}
 -- the starts of some volumes, with none after them, begin with those of the volumes
 pub use Rattle.fv_canon.proofs.PartLengthLaws.{begin_all}
 -- an input that is no volume, or one that does not fit, is rejected; one that has an image is neither
@@ -29,3 +27,5 @@ pub use Rattle.fv_canon.proofs.UnfitKinds.{unfit_is}
 pub use Rattle.fv_canon.proofs.RejectedInputLaws.{unfit_kind}
 -- what a run wrote, or what stopped it, by what is known of the meaning
 pub use Rattle.fv_canon.proofs.NormaliseRunLaws.{input_writes, writer_stops, refused_stops, behind_stops, of_some_kind}
+-- the digests by the starts of a layout cover all rows of its volume
+pub use Rattle.fv_canon.proofs.DigestLemmas.{layout_covers}

@@ -12,6 +12,7 @@ mod flash_image;
 pub mod further_laws;
 pub mod headline;
 mod image_check;
+mod image_digests;
 mod image_walk;
 mod known_layout;
 mod laid_parts;
@@ -31,8 +32,9 @@ pub use flash_image::{
 pub use fv_compare::{Side, run_compare};
 pub use fv_tree::whole_volume;
 pub use image_check::{VolumeCheck, VolumeOutcome, check_image};
+pub use image_digests::ImageDigests;
 pub use known_layout::Layout;
-pub use laid_parts::{put_laid_body, put_laid_data, put_laid_volume, starts_inside};
+pub use laid_parts::{put_laid_body, put_laid_data, put_laid_volume};
 pub use layout_walk::layout;
 pub use normalising::{normalise, run_normalise, write_normalised};
 pub use part_bytes::{body_bytes, file_bytes};

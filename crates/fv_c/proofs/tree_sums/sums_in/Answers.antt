@@ -1,15 +1,20 @@
-use Rattle.std.proofs.Common.{inl, refl}
+use Rattle.std.proofs.Common.{inl, refl, subst, sym}
 use Rattle.fv_base.proofs.Laws.{err_is}
-use Rattle.fv_c.proofs.SumWalks.{has_sums}
+use Rattle.fv_canon.specs.Words.{LaysVolume}
 use Rattle.fv_c.proofs.tree_sums.sums_in.Goals as goal
+
+pub sums_of-requires : goal.sums_of-requires
+sums_of-requires c = subst (LaysVolume c.in_ok-laid.laid.volume) (sym c.starts.ensures) c.in_ok-laid.ensures.ok.1.0
 
 pub returns-in_err-laid-clause-fits : goal.returns-in_err-laid-clause-fits
 returns-in_err-laid-clause-fits c = rw (err_is c.from_residual.ensures.1) (λ image to. c.in_err-laid.ensures.fits image to)
 
-pub returns-in_err-add_volume-clause-err : goal.returns-in_err-add_volume-clause-err
-returns-in_err-add_volume-clause-err c = rw (err_is c.from_residual-in_err-add_volume.ensures.1) (inl refl)
+pub returns-in_err-sums-clause-err : goal.returns-in_err-sums-clause-err
+returns-in_err-sums-clause-err c = rw (err_is c.from_residual-in_err-sums.ensures.1) (inl refl)
 
 pub returns-clause-ok : goal.returns-clause-ok
-returns-clause-ok c =
-    has_sums c.args.input.now c.in_ok-laid.laid.volume c.new-sums.result.items c.add_volume.new.sums.items c.in_ok-laid.ensures.ok.0
-    c.new-sums.ensures.items c.in_ok-add_volume.ensures.sums
+returns-clause-ok c = record {
+  meaning = c.in_ok-laid.laid.volume;
+  volume = c.in_ok-laid.ensures.ok.0;
+  digests = c.in_ok-sums.ensures;
+}

@@ -1,9 +1,13 @@
 -- In the walk over the rows of a volume, the starts begin with the starts of the volumes that are left.
 use Rattle.std.proofs.Common.{◌≡◌, ◌∙◌, ◌+◌, ℕ, List, [], ◌∷◌, ◌++◌, append-nil, drop, sym, ap, subst}
-use Rattle.fv_canon.specs.Words.{AreStarts, BeginsWithStarts, Laid, LaysVolume}
-use Rattle.fv_canon.proofs.Laws.{begins_first}
-use Rattle.fv_tree.specs.Words.{Inside, Meaning, Volume, FileMeaning, File, SectionMeaning, content_of, volumes_in, volumes_in_content, volumes_in_files}
-use Rattle.fv_rows.specs.Words.{NodeMeaning, VolumeNode, FileNode, SectionNode, TreeRow, tree_rows}
+use Rattle.fv_canon.specs.LayoutForms.{BeginsWithStarts, Laid, LaysVolume}
+use Rattle.fv_canon.specs.Layouts.{AreStarts}
+use Rattle.fv_canon.proofs.PartLengthLaws.{begin_all}
+use Rattle.fv_canon.proofs.VolumeListLaws.{begins_first}
+use Rattle.fv_tree.specs.Words.{Inside, Meaning, Volume, FileMeaning, File, content_of, volumes_in, volumes_in_content, volumes_in_files}
+use Rattle.fv_canon.specs.declared.image_digests.ImageDigests.{ImageDigests}
+use Rattle.fv_canon.specs.inner.Digests.{Covers}
+use Rattle.fv_rows.specs.Words.{NodeMeaning, VolumeNode, FileNode, TreeRow, tree_rows}
 use Rattle.fv_rows.specs.inner.RowVolumes.{Followed, flat, volumes_of}
 use Rattle.fv_rows.proofs.Laws.{files_volumes, content_volumes, rows_followed, volume_volumes}
 
@@ -61,17 +65,15 @@ file_next d i node (File name kind attributes content) rest starts is followed b
       all,
     )
 
-pub section_next : (d i : ℕ) (node : NodeMeaning) (s : SectionMeaning) (rest : List TreeRow) (starts : List ℕ) → node ≡ SectionNode s
-    → BeginsWithStarts (volumes_of (row d i node ∷ rest)) starts → BeginsWithStarts (volumes_of rest) starts
-section_next d i node s rest starts is begins = subst (λ n. BeginsWithStarts (volumes_of (row d i n ∷ rest)) starts) is begins
-
 -- ---- all rows
 
--- the starts of a layout are the starts of the volumes among all rows
-pub all_begin : (m : Meaning) (starts : List ℕ) → LaysVolume m starts
-    → Followed (tree_rows m) × BeginsWithStarts (volumes_of (tree_rows m)) starts
-all_begin m starts laid =
+-- the digests by the starts of a layout cover all rows of its volume
+pub layout_covers : (m : Meaning) (starts : List ℕ) (d : ImageDigests) → d.starts.now ≡ starts → LaysVolume m starts
+    → Covers (λ (e : ImageDigests). e.starts.now) d (tree_rows m)
+layout_covers m starts d is laid =
     let volumes = ap volumes_of (sym (append-nil (tree_rows m))) ∙ volume_volumes 0 m [] in
-    let begins : BeginsWithStarts (volumes_in m ++ []) starts =
-    (starts, [], sym (append-nil starts), subst (λ vs. Laid AreStarts vs starts) (sym (append-nil (volumes_in m))) laid) in
-    (rows_followed m, subst (λ vs. BeginsWithStarts vs starts) (sym volumes) (begins_flat (volumes_in m) [] starts begins))
+    let begins = begin_all (volumes_in m ++ []) starts (subst (λ vs. Laid AreStarts vs starts) (sym (append-nil (volumes_in m))) laid) in (
+      rows_followed m,
+      subst (λ xs. BeginsWithStarts (volumes_of (tree_rows m)) xs) (sym is)
+          (subst (λ vs. BeginsWithStarts vs starts) (sym volumes) (begins_flat (volumes_in m) [] starts begins)),
+    )
