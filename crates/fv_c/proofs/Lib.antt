@@ -14,5 +14,5 @@ pub mod TreeGrowth
 pub mod TreeRows
 pub mod TreeParents
 pub mod TreeBytes
-pub mod SumWalks
+pub mod SumRows
 pub mod UnfixKinds

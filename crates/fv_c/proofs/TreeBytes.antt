@@ -4,7 +4,8 @@ use Rattle.fv_base.specs.Words.{depth_limit}
 use Rattle.fv_section.specs.Words.{FrameForm}
 use Rattle.fv_tree.specs.Words.{Accepted, FileForm, FileMeaning, File, Plain, Sectioned, Meaning, MeansFile, MeansSection, SectionMeaning}
 use Rattle.fv_tree.specs.Words.{Section, Leaf, Group, Nested, Stream, body_of, content_of, leaf_of, plain_of}
-use Rattle.fv_c.specs.TreeParts.{TreeRow, NodeMeaning, VolumeNode, FileNode, SectionNode}
+use Rattle.fv_rows.specs.Words.{NodeMeaning, VolumeNode, FileNode, SectionNode}
+use Rattle.fv_c.specs.TreeParts.{TreeRow}
 use Rattle.fv_c.specs.ReportedTree.{IsNodeIn, IsPlaced, bytes_at}
 use Rattle.fv_c.specs.declared.tree.FvNode.{FvNode}
 

@@ -7,7 +7,8 @@ use Rattle.std.proofs.Common.{append-nil, append_assoc, length-append}
 use Rattle.std.specs.Prelude.{slice_get}
 use Rattle.std.proofs.lemmas.List.{drop_all}
 use Rattle.fv_tree.specs.Words.{Pairwise}
-use Rattle.fv_c.specs.TreeParts.{TreeRow, NodeMeaning, VolumeNode, FileNode, SectionNode}
+use Rattle.fv_rows.specs.Words.{NodeMeaning, VolumeNode, FileNode, SectionNode}
+use Rattle.fv_c.specs.TreeParts.{TreeRow}
 use Rattle.fv_c.specs.ReportedTree.{Held, IsNodeIn, IsPlaced}
 use Rattle.fv_c.specs.declared.tree.FvNode.{FvNode}
 use Rattle.fv_c.specs.declared.tree.Holder.{Holder}

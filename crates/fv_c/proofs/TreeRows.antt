@@ -20,13 +20,12 @@ use Rattle.fv_tree.specs.Words.{sections_from, sections_list, MeansContent, Cont
 use Rattle.fv_tree.specs.declared.volume_files.LocatedFile.{LocatedFile}
 use Rattle.fv_tree.proofs.Laws.{body_long, content_long}
 use Rattle.fv_c.specs.ReportedFiles.{no_parent}
-use Rattle.fv_c.specs.TreeParts.{TreeRow, NodeMeaning, VolumeNode, FileNode, SectionNode, tree_of_files, tree_of_volume}
-use Rattle.fv_c.specs.TreeParts.{tree_rows}
+use Rattle.fv_rows.specs.Words.{NodeMeaning, VolumeNode, FileNode, SectionNode}
+use Rattle.fv_c.specs.TreeParts.{TreeRow, tree_of_files, tree_of_volume, tree_rows}
 use Rattle.fv_c.specs.ReportedTree.{Held, HasTreeRows, IsFileIn, IsNodeIn, IsPlaced, IsSectionIn, bytes_at, node_header_len, node_len, reported_node}
 use Rattle.fv_c.specs.declared.tree.FvNode.{FvNode}
 use Rattle.fv_c.specs.declared.tree.Holder.{Holder}
-use Rattle.fv_c.specs.inner.Sums.{TreeRows}
-use Rattle.fv_c.specs.inner.Trees.{Grows, IsAdded, IsHolder, HoldsFiles, HoldsContent, HoldsSections, HoldsBody}
+use Rattle.fv_c.specs.inner.Trees.{Grows, IsAdded, IsHolder, HoldsFiles, HoldsContent, HoldsSections, HoldsBody, TreeRows}
 use Rattle.fv_c.proofs.FileRowLaws.{files_long}
 use Rattle.fv_c.proofs.TreeGrowth.{get_last, get_later, grow_more, grow_one}
 use Rattle.fv_c.proofs.TreeNesting.{in_group, in_nested}

@@ -3,8 +3,9 @@ use Rattle.std.proofs.Common.{◌≡◌, ◌∙◌, ℕ, ◌+◌, ◌<◌, List,
 use Rattle.fv_base.proofs.Laws.{item_at}
 use Rattle.fv_tree.specs.Words.{FileMeaning, File, ContentMeaning, SectionMeaning, Section, BodyMeaning, files_from, sections_from}
 use Rattle.fv_tree.specs.Words.{body_of, content_of}
-use Rattle.fv_c.specs.TreeParts.{NodeMeaning, FileNode, SectionNode, tree_of_files, tree_in_content, tree_of_sections, tree_in_body}
-use Rattle.fv_c.specs.inner.Sums.{TreeRows}
+use Rattle.fv_rows.specs.Words.{NodeMeaning, FileNode, SectionNode}
+use Rattle.fv_c.specs.TreeParts.{tree_of_files, tree_in_content, tree_of_sections, tree_in_body}
+use Rattle.fv_c.specs.inner.Trees.{TreeRows}
 
 -- the rows of a part: its own, and then those of what it holds
 abbrev pub part_rows : NodeMeaning → TreeRows → TreeRows

@@ -9,7 +9,8 @@ use Rattle.fv_tree.specs.Words.{FileForm, BeginWithFiles, MeansFile, MeansSectio
 use Rattle.fv_tree.specs.Words.{body_of, content_of, data_len_of, length_of, head_of, file_kind_of, file_name_of}
 use Rattle.fv_tree.specs.Words.{attributes_of, section_kind_of, section_is_extended}
 use Rattle.fv_c.specs.ReportedFiles.{held_number}
-use Rattle.fv_c.specs.TreeParts.{NodeMeaning, VolumeNode, FileNode, SectionNode, TreeRow, tree_rows}
+use Rattle.fv_rows.specs.Words.{NodeMeaning, VolumeNode, FileNode, SectionNode}
+use Rattle.fv_c.specs.TreeParts.{TreeRow, tree_rows}
 use Rattle.fv_c.specs.declared.tree.FvNode.{FvNode}
 
 -- ---- a row

@@ -1,17 +1,11 @@
 -- The tree of a volume: the volume, its files and their sections, and in the same way each volume that a section holds (PI
 -- specification, volume 3, sections 3.2.1, 3.2.3 and 3.2.4).
-use Rattle.std.specs.Prelude.{ℕ, ◌+◌, ◌==◌, ◌&&◌, not, Bool, List, [], ◌∷◌, ◌++◌, length, map, Option, Some, None}
+use Rattle.std.specs.Prelude.{ℕ, ◌+◌, ◌==◌, ◌&&◌, not, Bool, List, [], ◌∷◌, ◌++◌, length, Option, Some, None}
 use Rattle.fv_tree.specs.Words.{Meaning, Volume, FileMeanings, NoFiles, MoreFiles, FileMeaning, File, ContentMeaning}
 use Rattle.fv_tree.specs.Words.{Plain, Sectioned, SectionMeanings, NoSections, MoreSections, SectionMeaning, Section}
-use Rattle.fv_tree.specs.Words.{BodyMeaning, Leaf, Group, Nested, body_of, content_of, files_of, sections_list}
-use Rattle.fv_tree.specs.Words.{sections_in_data}
+use Rattle.fv_tree.specs.Words.{BodyMeaning, Leaf, Group, Nested}
+use Rattle.fv_rows.specs.Words.{NodeMeaning, VolumeNode, FileNode, SectionNode, parts_in}
 use Rattle.fv_c.specs.ReportedFiles.{no_parent}
-
--- a part of the tree: a volume, a file or a section
-pub data NodeMeaning : Type 0 where
-  VolumeNode : Meaning → NodeMeaning
-  FileNode : FileMeaning → NodeMeaning
-  SectionNode : SectionMeaning → NodeMeaning
 
 -- a part in the tree: the number of the row that holds it, the number of rows around it, its place among the parts that
 -- this row holds, from 0, and the part
@@ -64,17 +58,6 @@ abbrev pub tree_rows : Meaning → List TreeRow
 tree_rows m = tree_of_volume 0 no_parent 0 m
 
 -- ---- what holds what
-
--- the parts that a part holds, in order
-abbrev pub parts_in_body : BodyMeaning → List NodeMeaning
-parts_in_body (Leaf _) = []
-parts_in_body (Group sections _) = map SectionNode (sections_list sections)
-parts_in_body (Nested volume) = VolumeNode volume ∷ []
-
-abbrev pub parts_in : NodeMeaning → List NodeMeaning
-parts_in (VolumeNode m) = map FileNode (files_of m)
-parts_in (FileNode f) = map SectionNode (sections_list (sections_in_data (content_of f)))
-parts_in (SectionNode s) = parts_in_body (body_of s)
 
 -- the rows of some parts that one row holds, without what these hold
 abbrev pub rows_of_parts : (parent depth number : ℕ) → List NodeMeaning → List TreeRow

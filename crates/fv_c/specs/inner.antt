@@ -1,4 +1,3 @@
 -- Definitions that serve only private clauses: there is nothing to believe here.
 pub mod Rows
 pub mod Trees
-pub mod Sums

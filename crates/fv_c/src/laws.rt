@@ -5,8 +5,8 @@ ghost use Rattle.std.specs.List.{filter};
 ghost use Rattle.fv_tree.specs.Words.{preorder, ContentMeaning, FileMeaning, Meaning, SectionMeaning, SectionMeanings};
 ghost use Rattle.fv_tree.specs.Words.{Sectioned, sections_in_data, Accepted, plain_of, content_of, leaf_of, body_of};
 ghost use Rattle.fv_c.specs.ReportedFiles.{is_in, is_root, no_parent, rows_under, rows_under_row, section_rows};
-ghost use Rattle.fv_c.specs.TreeParts.{VolumeNode, FileNode, SectionNode, TreeRow, is_first, is_held_by, rows_held};
-ghost use Rattle.fv_c.specs.TreeParts.{rows_of_parts, tree_rows};
+ghost use Rattle.fv_rows.specs.Words.{VolumeNode, FileNode, SectionNode};
+ghost use Rattle.fv_c.specs.TreeParts.{TreeRow, is_first, is_held_by, rows_held, rows_of_parts, tree_rows};
 ghost use Rattle.fv_c.specs.ReportedTree.{IsNodeIn, bytes_at};
 ghost use Rattle.fv_c.specs.declared.tree.FvNode.{FvNode};
 

@@ -9,8 +9,8 @@ ghost use Rattle.fv_section.specs.Words as framed;
 ghost use Rattle.fv_tree.specs.Words.{NotRead, data_place, body_place, file_form, content_of, body_of};
 ghost use Rattle.fv_tree.specs.Words.{body_len, files_from, sections_from};
 ghost use Rattle.fv_c.specs.Reports.{BeginsWithHeader, reported_fault, no_fault};
-ghost use Rattle.fv_c.specs.TreeParts.{VolumeNode, FileNode, SectionNode, tree_of_files, tree_in_content};
-ghost use Rattle.fv_c.specs.TreeParts.{tree_of_sections, tree_in_body};
+ghost use Rattle.fv_rows.specs.Words.{VolumeNode, FileNode, SectionNode};
+ghost use Rattle.fv_c.specs.TreeParts.{tree_of_files, tree_in_content, tree_of_sections, tree_in_body};
 ghost use Rattle.fv_c.specs.ReportedTree.{HasTreeRows, reported_node, bytes_at, content_number};
 ghost use Rattle.fv_c.specs.inner.Trees.{Grows, IsAdded, IsHolder, HoldsFiles, HoldsContent, HoldsSections, HoldsBody};
 

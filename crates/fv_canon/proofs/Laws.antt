@@ -11,11 +11,11 @@ pub use Rattle.fv_canon.proofs.OneImageLaws.{data_one, body_one}
 pub use Rattle.fv_canon.proofs.HeadlineLaws.{accepted}
 -- a flash image with all its volumes laid out has its image
 pub use Rattle.fv_canon.proofs.LaidVolumeLaws.{laid_renewed}
--- starts that begin with those of some volumes begin with those of the first of them, and of the same volumes one level higher
-pub use Rattle.fv_canon.proofs.VolumeListLaws.{begins_first, begins_higher}
 -- the starts of some volumes, with none after them, begin with those of the volumes
 pub use Rattle.fv_canon.proofs.PartLengthLaws.{begin_all}
 -- an input that does not fit is rejected
 pub use Rattle.fv_canon.proofs.RejectedInputLaws.{not_placed}
 -- the data of a file that was read are shorter than a volume may be
 pub use Rattle.fv_canon.proofs.PartBytesLaws.{data_short}
+-- the digests by the starts of a layout cover all rows of its volume
+pub use Rattle.fv_canon.proofs.DigestLemmas.{layout_covers}

@@ -3,6 +3,7 @@ pub mod BytesLaws
 pub mod CellLaws
 pub mod CurrentFileLaws
 pub mod DataBodyLaws
+pub mod DigestLemmas
 pub mod Examples
 pub mod FaultPlaces
 pub mod FitLaws

@@ -91,13 +91,6 @@ begins_first vs ws starts (laid, more, whole, lays) =
     let parts = laid_split AreStarts vs ws laid lays in
     (parts.0, parts.1 ++ more, whole ∙ ap (λ (xs : List ℕ). xs ++ more) parts.2 ∙ append_assoc parts.0 parts.1 more, parts.3)
 
--- and with those of the same volumes one level higher
-pub begins_higher : (vs ws : List Inside) (starts : List ℕ) → BeginsWithStarts (deeper vs ++ ws) starts → BeginsWithStarts (vs ++ ws) starts
-begins_higher vs ws starts (laid, more, whole, lays) =
-    let parts = laid_split AreStarts (deeper vs) ws laid lays in
-    let higher = laid_joined AreStarts vs ws parts.0 parts.1 (laid_higher AreStarts vs parts.0 parts.3) parts.4 in
-    (laid, more, whole, subst (Laid AreStarts (vs ++ ws)) (sym parts.2) higher)
-
 -- ---- which fit
 
 pub each_joined : (P : Inside → Type 0) (vs ws : List Inside) → AllByRecursion P vs → AllByRecursion P ws → AllByRecursion P (vs ++ ws)

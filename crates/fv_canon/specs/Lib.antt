@@ -11,5 +11,6 @@ pub mod LayoutForms
 pub mod FlashImages
 pub mod ImageChecks
 pub mod NormaliseRuns
+pub mod PartDigests
 pub mod Words
 pub mod inner

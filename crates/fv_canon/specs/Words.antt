@@ -18,3 +18,4 @@ pub use Rattle.fv_canon.specs.FlashImages.{RefusesAll, IsLaid, starts_of, AreLai
 pub use Rattle.fv_canon.specs.ImageChecks.{IsOtherThanImage, HasOutcome, IsChecked, AreChecked, ChecksImage, IsAboveLimit}
 pub use Rattle.fv_canon.specs.ImageChecks.{AreCanonical, CanonicalImagesStay}
 pub use Rattle.fv_canon.specs.NormaliseRuns.{InputStops, RunWrites, RunStops}
+pub use Rattle.fv_canon.specs.PartDigests.{VolumeDigest, FileDigest, BodyDigest, NodeDigest}

@@ -12,6 +12,7 @@ mod flash_image;
 pub mod further_laws;
 pub mod headline;
 mod image_check;
+mod image_digests;
 mod image_walk;
 mod laid_volume;
 mod layout_walk;
@@ -26,10 +27,11 @@ pub use flash_image::{LaidImage, lay_out_image, normalise_image, put_laid_image}
 pub use fv_compare::{Side, run_compare};
 pub use fv_tree::whole_volume;
 pub use image_check::{VolumeCheck, VolumeOutcome, check_image};
+pub use image_digests::ImageDigests;
 pub use laid_volume::{LaidVolume, Layout, lay_out_volume};
 pub use layout_walk::layout;
 pub use normalising::{normalise, run_normalise};
 pub use parts::{
     body_bytes, file_bytes, lay_out_body, lay_out_data, put_laid_body, put_laid_data,
-    put_laid_volume, starts_inside,
+    put_laid_volume,
 };

@@ -116,10 +116,10 @@ pub fn put_laid_body<S: Sink>(section: &SectionView<'_>, starts: &[u64], out: &m
     put_body_image(out, section.body(), starts);
 }
 
-/// Returns the starts after the starts of the volume's own files. If `starts` begins with the
-/// starts of the volume, the result begins with the starts of the volumes in its files. (PI
-/// specification, volume 3, section 3.2.3.1.)
-pub fn starts_inside<'s>(volume: &VolumeView<'_>, starts: &'s [u64]) -> &'s [u64]
+// Returns the starts after the starts of the volume's own files. If `starts` begins with the starts
+// of the volume, the result begins with the starts of the volumes in its files. (PI specification,
+// volume 3, section 3.2.3.1.)
+pub(crate) fn starts_inside<'s>(volume: &VolumeView<'_>, starts: &'s [u64]) -> &'s [u64]
     requires { BeginsWithStarts (volumes_in volume.now) starts.now }
 
     // If the starts of more volumes follow in `starts`, they follow in the result too.

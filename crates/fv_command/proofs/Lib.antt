@@ -1,4 +1,3 @@
-pub mod DigestLemmas
 pub mod CheckTextLemmas
 pub mod EndLemmas
 pub mod InputLemmas

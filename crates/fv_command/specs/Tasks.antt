@@ -1,20 +1,19 @@
 -- The text and the status of each task over one input, and the faults that stop a task.
-use Rattle.std.specs.Prelude.{◌≡◌, ◌↔◌, ℕ, Bool, true, List, ◌++◌, drop, Option, Some, None, ◌⊎◌, false, codes}
+use Rattle.std.specs.Prelude.{◌≡◌, ◌↔◌, ℕ, Bool, true, List, ◌++◌, drop, Option, ◌⊎◌, false, codes}
 use Rattle.std.specs.List.{flat_map}
 use Rattle.fv_base.specs.Words.{OrMemory, out_of_memory}
 use Rattle.fv_base.specs.declared.flash.Polarity.{Polarity}
 use Rattle.fv_base.specs.declared.fault.Fault.{Fault}
-use Rattle.fv_canon.specs.Words.{IsImage, IsData, NormalisesTo, Unfit, Refuses, NormalisesAll, RefusesAll, IsAboveLimit}
+use Rattle.fv_canon.specs.Words.{IsImage, NodeDigest, NormalisesTo, Unfit, Refuses, NormalisesAll, RefusesAll, IsAboveLimit}
 use Rattle.fv_file.specs.Words.{CellForm, Tiles}
 use Rattle.fv_head.specs.Words.{BeginsVolume}
 use Rattle.fv_head.specs.declared.extent.Extent.{Extent}
-use Rattle.fv_tree.specs.Words.{Accepted, Meaning, files_of, head_of, FileMeaning, content_of, NotRead, file_named}
-use Rattle.fv_tree.specs.Words.{NotTiled, NotUnfixed, UnfixesTo, BodyMeaning, Leaf, Group, Nested, body_of}
+use Rattle.fv_tree.specs.Words.{Accepted, Meaning, files_of, head_of, NotRead, file_named}
+use Rattle.fv_tree.specs.Words.{NotTiled, NotUnfixed, UnfixesTo}
 use Rattle.fv_lines.specs.Words.{AreNotes, depex_lines, depexes_in, pad_notes, verdict_line, RowsText, ListText}
-use Rattle.fv_rows.specs.Words.{NodeMeaning, VolumeNode, FileNode, SectionNode, tree_rows}
+use Rattle.fv_rows.specs.Words.{tree_rows}
 use Rattle.fv_lines.specs.Words.{CellsText, volume_line}
 use Rattle.fv_lines.specs.declared.depex_notes.DepexNote.{DepexNote}
-use Rattle.sha2.specs.Sha256.{sha256}
 use Rattle.fv_flash.specs.Words.{AreFound}
 use Rattle.fv_flash.specs.declared.scanner.FoundVolume.{FoundVolume}
 use Rattle.fv_text.specs.Words.{ShowsBytes, Change}
@@ -50,26 +49,6 @@ pub record CheckText (input : List ℕ) (same : Bool) (text : List ℕ) : Type 0
   pub are_notes : AreNotes (depexes_in (files_of meaning)) notes
   pub text_is : text ≡ pad_notes polarity cells ++ (depex_lines notes ++ verdict_line same)
   pub same_is : (same ≡ true) ↔ IsImage meaning input
-
--- the digest of a volume: the SHA-256 of its canonical image
-abbrev pub VolumeDigest : Meaning → Option (List ℕ) → Type 0
-VolumeDigest m digest = (image : List ℕ) × IsImage m image × (digest ≡ Some (sha256 image))
-
--- the digest of a file: the SHA-256 of its data, as they are in the canonical image of its volume
-abbrev pub FileDigest : FileMeaning → Option (List ℕ) → Type 0
-FileDigest f digest = (bytes : List ℕ) × IsData (content_of f) bytes × (digest ≡ Some (sha256 bytes))
-
--- the digest of a section: the SHA-256 of its body if the section is a leaf, otherwise None
-abbrev pub BodyDigest : BodyMeaning → Option (List ℕ) → Type 0
-BodyDigest (Leaf b) digest = digest ≡ Some (sha256 b)
-BodyDigest (Group _ _) digest = digest ≡ None
-BodyDigest (Nested _) digest = digest ≡ None
-
--- the digest at the end of the line of a volume, a file or a section, or None
-abbrev pub NodeDigest : NodeMeaning → Option (List ℕ) → Type 0
-NodeDigest (VolumeNode m) digest = VolumeDigest m digest
-NodeDigest (FileNode f) digest = FileDigest f digest
-NodeDigest (SectionNode s) digest = BodyDigest (body_of s) digest
 
 -- the text of `list --sums`: the text of `list`, with these digests
 abbrev pub SumsText : Meaning → List ℕ → Type 0

@@ -8,7 +8,6 @@ pub use Rattle.fv_command.specs.PairRuns.{GivesImage, HobImageStops, ListsHobs, 
 pub use Rattle.fv_command.specs.PairRuns.{StopsHobs, GivesVolume, VolumeInputStops, SideStops, IsVerdict}
 pub use Rattle.fv_command.specs.PairRuns.{SaysComparison}
 pub use Rattle.fv_command.specs.ImageChecks.{outcome_line, checked_line, is_rejected, is_another, checks_status, ChecksText}
-pub use Rattle.fv_command.specs.Tasks.{AreCells, CheckText, VolumeDigest, FileDigest, BodyDigest, NodeDigest, SumsText, PartText, Says, Denies}
-pub use Rattle.fv_command.specs.Tasks.{StopsTask, SaysTask}
+pub use Rattle.fv_command.specs.Tasks.{AreCells, CheckText, SumsText, PartText, Says, Denies, StopsTask, SaysTask}
 pub use Rattle.fv_command.specs.PlanRuns.{unread, IsOpened, IsFirstSource, IsSecondSource, SaysCommand, StopsCommand}
 pub use Rattle.fv_command.specs.PlanRuns.{HasText, Runs, fresh, RunsOver}

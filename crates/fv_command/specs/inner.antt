@@ -1,4 +1,3 @@
 -- Definitions that only private clauses cite: a reviewer does not need to read them.
 pub mod CheckRuns
-pub mod Digests
 pub mod RunSteps

@@ -13,7 +13,6 @@ mod extracting;
 mod fault_text;
 mod hob_run;
 mod image_check_run;
-mod image_digests;
 mod inputs;
 mod opener;
 mod pads;

@@ -8,7 +8,6 @@ mod cell_run;
 mod cell_text;
 mod depex_notes;
 mod digest_text;
-mod digests;
 mod hob_text;
 mod leaf_text;
 mod list_text;
@@ -18,7 +17,6 @@ mod verdict_text;
 
 pub use cell_run::put_cells;
 pub use depex_notes::{DepexNote, put_depex_notes};
-pub use digests::{Digests, NoDigests};
 pub use hob_text::{MappedImage, Standing, put_hobs, standing_of};
 pub use list_text::{put_list, put_list_with};
 pub use pad_notes::put_pad_notes;

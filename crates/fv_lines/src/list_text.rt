@@ -4,14 +4,13 @@ ghost use Rattle.std.specs.Prelude.{◌≡◌, ℕ, List, Option};
 ghost use Rattle.fv_tree.specs.Words.{section_kind_of, body_of};
 ghost use Rattle.fv_rows.specs.Words.{part_node, tree_rows};
 ghost use Rattle.fv_lines.specs.ListTexts.{form_text, system_text, name_text, volume_text, file_text, section_text};
-ghost use Rattle.fv_lines.specs.ListTexts.{BodyShown, NodeText, RowsText, ListText, spaces};
+ghost use Rattle.fv_lines.specs.ListTexts.{BodyShown, NodeText, NoDigest, RowsText, ListText, spaces};
 
 use crate::digest_text::put_digest;
-use crate::digests::{Digests, NoDigests};
 use crate::leaf_text::put_section_body;
 use fv_base::{FileSystem, Sink};
 use fv_head::VolumeHead;
-use fv_rows::{Part, Row, TreeWalk};
+use fv_rows::{Digests, Part, Row, TreeWalk};
 use fv_text::{put_decimal, put_two_digits};
 use fv_tree::{FileView, SectionView, VolumeView};
 
@@ -152,6 +151,21 @@ pub fn put_list_with<S: Sink, D: Digests>(volume: &VolumeView<'_>, digests: D, o
     for row in TreeWalk::of(volume) {
         let digest = left.next_digest(&row);
         put_row(out, &row, digest);
+    }
+}
+
+// Shows no digests.
+#[derive(Clone, Copy)]
+struct NoDigests;
+
+// Covers all rows, and shows no digest.
+impl Digests for NoDigests {
+    ghost covers = { λ _ _. Unit {0} };
+
+    ghost of_node = { NoDigest };
+
+    fn next_digest(&mut self, _row: &Row<'_, '_>) -> Option<[u8; 32]> {
+        None
     }
 }
 

@@ -16,7 +16,7 @@ use Rattle.fv_tree.specs.Words.{Section, Leaf, Group, Nested, files_list, sectio
 use Rattle.fv_tree.proofs.Laws.{nests_files, nests_content, nests_sections, nests_body, nests_group, nests_nested}
 use Rattle.fv_rows.specs.TreeRows.{NodeMeaning, VolumeNode, FileNode, SectionNode, rows_of_file}
 use Rattle.fv_rows.specs.TreeRows.{rows_of_files, rows_of_section, rows_of_sections, rows_of_volume}
-use Rattle.fv_rows.specs.inner.RowParts.{parts_in}
+use Rattle.fv_rows.specs.TreeRows.{parts_in}
 use Rattle.fv_rows.specs.RowWalks.{nodes_of, nesting_inside, rows_inside, rows_of_nodes, left_in, NestsAt, FitsAt, AreLevels}
 use Rattle.fv_rows.specs.declared.tree_walk.Level.{Level}
 

@@ -1,9 +1,10 @@
 -- The rows of a volume: the volume, its files and their sections, and in the same way each volume that a section contains
 -- (PI specification, volume 3, sections 3.2.1, 3.2.3 and 3.2.4).
-use Rattle.std.specs.Prelude.{ℕ, ◌+◌, List, [], ◌∷◌, ◌++◌}
+use Rattle.std.specs.Prelude.{ℕ, ◌+◌, List, [], ◌∷◌, ◌++◌, map}
 use Rattle.fv_tree.specs.Words.{Meaning, Volume, FileMeanings, NoFiles, MoreFiles, FileMeaning, File, ContentMeaning}
 use Rattle.fv_tree.specs.Words.{Plain, Sectioned, SectionMeanings, NoSections, MoreSections, SectionMeaning, Section}
-use Rattle.fv_tree.specs.Words.{BodyMeaning, Leaf, Group, Nested}
+use Rattle.fv_tree.specs.Words.{BodyMeaning, Leaf, Group, Nested, body_of, content_of, files_of, sections_list}
+use Rattle.fv_tree.specs.Words.{sections_in_data}
 
 -- a part: a volume, a file or a section
 pub data NodeMeaning : Type 0 where
@@ -58,3 +59,14 @@ abbrev mutual
 -- all rows of a volume; the first row is the volume itself
 abbrev pub tree_rows : Meaning → List TreeRow
 tree_rows m = rows_of_volume 0 0 m
+
+-- the parts that a part contains, in order
+abbrev pub parts_in_body : BodyMeaning → List NodeMeaning
+parts_in_body (Leaf _) = []
+parts_in_body (Group sections _) = map SectionNode (sections_list sections)
+parts_in_body (Nested volume) = VolumeNode volume ∷ []
+
+abbrev pub parts_in : NodeMeaning → List NodeMeaning
+parts_in (VolumeNode m) = map FileNode (files_of m)
+parts_in (FileNode f) = map SectionNode (sections_list (sections_in_data (content_of f)))
+parts_in (SectionNode s) = parts_in_body (body_of s)

@@ -1,4 +1,3 @@
 -- Definitions that only private clauses cite: a reviewer does not need to read them.
 pub mod RowCodes
-pub mod RowParts
 pub mod RowVolumes

@@ -2,9 +2,8 @@
 
 ghost use Rattle.std.specs.Prelude.{◌≡◌, ◌<◌, ◌^◌, [], ◌∷◌, ◌++◌, List, length, IfSome, IfNone};
 ghost use Rattle.std.specs.Iterator.{YieldsFirstBy, item_count};
-ghost use Rattle.fv_rows.specs.TreeRows.{tree_rows};
+ghost use Rattle.fv_rows.specs.TreeRows.{parts_in, tree_rows};
 ghost use Rattle.fv_rows.specs.RowWalks.{part_node, nesting_inside, nodes_of, row_of, rows_inside, NestsAt};
-ghost use Rattle.fv_rows.specs.inner.RowParts.{parts_in};
 
 use fv_tree::{Body, FileView, SectionView, VolumeView};
 use std::marker::Model;

@@ -10,6 +10,11 @@ use Rattle.fv_c.specs.ReportedTree.{IsNodeIn}
 use Rattle.fv_c.specs.declared.tree.FvNode.{FvNode}
 use Rattle.fv_c.specs.declared.tree.Holder.{Holder}
 
+-- the rows of some parts, by the number of the first row, that of the row around them, its depth plus 1, and the place of
+-- the first part
+abbrev pub TreeRows : Type 0
+TreeRows = (n parent depth number : ℕ) → List TreeRow
+
 -- news are olds, and then rows of these parts
 pub record Grows (input : List ℕ) (olds news : List FvNode) (tree : List TreeRow) : Type 0 where
   pub added : List FvNode

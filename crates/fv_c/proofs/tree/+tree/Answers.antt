@@ -8,7 +8,8 @@ use Rattle.fv_tree.specs.Words.{sections_from}
 use Rattle.fv_tree.specs.declared.volume_files.LocatedFile.{LocatedFile}
 use Rattle.fv_tree.specs.inner.Sizes.{body_size, content_size, volume_size}
 use Rattle.fv_tree.proofs.Laws.{file_content_falls, section_body_falls}
-use Rattle.fv_c.specs.TreeParts.{FileNode, SectionNode, tree_in_content, tree_in_body}
+use Rattle.fv_rows.specs.Words.{FileNode, SectionNode}
+use Rattle.fv_c.specs.TreeParts.{tree_in_content, tree_in_body}
 use Rattle.fv_c.specs.ReportedTree.{bytes_at}
 use Rattle.fv_c.specs.inner.Trees.{Grows, HoldsFiles, IsHolder}
 use Rattle.fv_c.proofs.FileRowLaws.{files_held, files_long, only_memory}

@@ -1,10 +1,8 @@
 use Rattle.std.proofs.Common.{refl, subst, sym}
 use Rattle.fv_base.proofs.Laws.{err_is}
-use Rattle.fv_canon.specs.Words.{BeginsWithStarts, LaysVolume}
+use Rattle.fv_canon.specs.Words.{LaysVolume}
+use Rattle.fv_canon.proofs.Laws.{layout_covers}
 use Rattle.fv_command.proofs.RunLemmas.{sums_denied}
-use Rattle.fv_rows.specs.Words.{tree_rows}
-use Rattle.fv_rows.specs.inner.RowVolumes.{Followed, volumes_of}
-use Rattle.fv_command.proofs.DigestLemmas.{all_begin}
 use Rattle.fv_command.proofs.task_run.list_sums.Goals as goal
 
 pub returns-in_err-places : goal.returns-in_err-places
@@ -14,10 +12,9 @@ returns-in_err-places g c =
 
 pub put_list_with-requires : goal.put_list_with-requires
 put_list_with-requires g c =
-    let starts = c.starts.result.now in
     let m = c.in_ok-volume.volume in
     let laid = subst (LaysVolume m) (sym c.starts.ensures) c.in_ok-places.ensures.layout.0 in
-    subst (λ xs. Followed (tree_rows m) × BeginsWithStarts (volumes_of (tree_rows m)) xs) (sym c.new.ensures) (all_begin m starts laid)
+    layout_covers m c.starts.result.now c.new.result c.new.ensures laid
 
 pub returns : goal.returns
 returns g c =

@@ -2,8 +2,7 @@ use Rattle.std.proofs.Common.{◌∙◌, ◌<◌, ◌^◌, length, sym, ap, rule
 use Rattle.std.specs.Prelude.{map}
 use Rattle.fv_tree.specs.Words.{body_view, files_of, sections_list}
 use Rattle.fv_tree.proofs.Laws.{files_list_back}
-use Rattle.fv_rows.specs.TreeRows.{FileNode, SectionNode}
-use Rattle.fv_rows.specs.inner.RowParts.{parts_in, parts_in_body}
+use Rattle.fv_rows.specs.TreeRows.{FileNode, SectionNode, parts_in, parts_in_body}
 use Rattle.fv_rows.specs.RowWalks.{part_node}
 use Rattle.fv_rows.proofs.RowWalkLaws.{few_nodes, sections_list_back}
 use Rattle.fv_rows.proofs.tree_walk.parts_in.Goals as goal

@@ -1,9 +1,13 @@
 -- In the walk over the rows of a volume, the starts begin with the starts of the volumes that are left.
 use Rattle.std.proofs.Common.{◌≡◌, ◌∙◌, ◌+◌, ℕ, List, [], ◌∷◌, ◌++◌, append-nil, drop, sym, ap, subst}
-use Rattle.fv_canon.specs.Words.{AreStarts, BeginsWithStarts, Laid, LaysVolume}
-use Rattle.fv_canon.proofs.Laws.{begins_first}
-use Rattle.fv_tree.specs.Words.{Inside, Meaning, Volume, FileMeaning, File, SectionMeaning, content_of, volumes_in, volumes_in_content, volumes_in_files}
-use Rattle.fv_rows.specs.Words.{NodeMeaning, VolumeNode, FileNode, SectionNode, TreeRow, tree_rows}
+use Rattle.fv_canon.specs.LayoutForms.{BeginsWithStarts, Laid, LaysVolume}
+use Rattle.fv_canon.specs.Layouts.{AreStarts}
+use Rattle.fv_canon.proofs.PartLengthLaws.{begin_all}
+use Rattle.fv_canon.proofs.VolumeListLaws.{begins_first}
+use Rattle.fv_tree.specs.Words.{Inside, Meaning, Volume, FileMeaning, File, content_of, volumes_in, volumes_in_content, volumes_in_files}
+use Rattle.fv_canon.specs.declared.image_digests.ImageDigests.{ImageDigests}
+use Rattle.fv_canon.specs.inner.Digests.{Covers}
+use Rattle.fv_rows.specs.Words.{NodeMeaning, VolumeNode, FileNode, TreeRow, tree_rows}
 use Rattle.fv_rows.specs.inner.RowVolumes.{Followed, deeper_by, volumes_of}
 use Rattle.fv_rows.proofs.Laws.{files_volumes, content_volumes, rows_followed, tree_volumes}
 
@@ -63,14 +67,13 @@ file_next d n i node (File name kind attributes content) rest starts is followed
       all,
     )
 
-pub section_next : (d n i : ℕ) (node : NodeMeaning) (s : SectionMeaning) (rest : List TreeRow) (starts : List ℕ) → node ≡ SectionNode s
-    → BeginsWithStarts (volumes_of (row d n i node ∷ rest)) starts → BeginsWithStarts (volumes_of rest) starts
-section_next d n i node s rest starts is begins = subst (λ m. BeginsWithStarts (volumes_of (row d n i m ∷ rest)) starts) is begins
-
 -- ---- all rows
 
--- the starts of a layout are the starts of the volumes among all rows
-pub all_begin : (m : Meaning) (starts : List ℕ) → LaysVolume m starts
-    → Followed (tree_rows m) × BeginsWithStarts (volumes_of (tree_rows m)) starts
-all_begin m starts laid =
-    (rows_followed m, subst (λ vs. BeginsWithStarts vs starts) (sym (tree_volumes m)) (starts, [], sym (append-nil starts), laid))
+-- the digests by the starts of a layout cover all rows of its volume
+pub layout_covers : (m : Meaning) (starts : List ℕ) (d : ImageDigests) → d.starts.now ≡ starts → LaysVolume m starts
+    → Covers (λ (e : ImageDigests). e.starts.now) d (tree_rows m)
+layout_covers m starts d is laid = (
+  rows_followed m,
+  subst (λ xs. BeginsWithStarts (volumes_of (tree_rows m)) xs) (sym is)
+      (subst (λ vs. BeginsWithStarts vs starts) (sym (tree_volumes m)) (begin_all (volumes_in m) starts laid)),
+)

@@ -2,15 +2,14 @@
 //! as they are in that image, and of each leaf section's body.
 
 ghost use Rattle.std.specs.Prelude.{◌≡◌, ℕ, List, Some};
-ghost use Rattle.fv_canon.specs.Words.{BeginsWithStarts};
 ghost use Rattle.fv_tree.specs.Words.{body_of, content_of, volumes_in, volumes_in_content};
-ghost use Rattle.fv_command.specs.Tasks.{BodyDigest, FileDigest, NodeDigest, VolumeDigest};
-ghost use Rattle.fv_command.specs.inner.Digests.{Covers};
+ghost use Rattle.fv_canon.specs.LayoutForms.{BeginsWithStarts};
+ghost use Rattle.fv_canon.specs.PartDigests.{BodyDigest, FileDigest, NodeDigest, VolumeDigest};
+ghost use Rattle.fv_canon.specs.inner.Digests.{Covers};
 
+use crate::parts::{put_laid_data, put_laid_volume, starts_inside};
 use fv_base::Sink;
-use fv_canon::{put_laid_data, put_laid_volume, starts_inside};
-use fv_lines::Digests;
-use fv_rows::{Part, Row};
+use fv_rows::{Digests, Part, Row};
 use fv_sinks::DigestSink;
 use fv_tree::{FileView, SectionView, VolumeView};
 

@@ -1,6 +1,6 @@
 -- Which rows a list of starts covers.
 use Rattle.std.specs.Prelude.{ℕ, List}
-use Rattle.fv_canon.specs.Words.{BeginsWithStarts}
+use Rattle.fv_canon.specs.LayoutForms.{BeginsWithStarts}
 use Rattle.fv_rows.specs.Words.{TreeRow}
 use Rattle.fv_rows.specs.inner.RowVolumes.{Followed, volumes_of}
 

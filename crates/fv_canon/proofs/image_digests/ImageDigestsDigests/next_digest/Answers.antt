@@ -1,9 +1,9 @@
 use Rattle.std.proofs.Common.{ap}
-use Rattle.fv_canon.proofs.Laws.{begins_first}
+use Rattle.fv_canon.proofs.VolumeListLaws.{begins_first}
 use Rattle.fv_tree.specs.Words.{volumes_in}
 use Rattle.fv_rows.specs.Words.{part_node}
-use Rattle.fv_command.proofs.DigestLemmas.{file_next, volume_next}
-use Rattle.fv_command.proofs.image_digests.ImageDigestsDigests.next_digest.Goals as goal
+use Rattle.fv_canon.proofs.DigestLemmas.{file_next, volume_next}
+use Rattle.fv_canon.proofs.image_digests.ImageDigestsDigests.next_digest.Goals as goal
 
 pub starts_inside-self-requires : goal.starts_inside-self-requires
 starts_inside-self-requires c =
