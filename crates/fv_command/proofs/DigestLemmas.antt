@@ -61,10 +61,6 @@ file_next d i node (File name kind attributes content) rest starts is followed b
       all,
     )
 
-pub section_next : (d i : ℕ) (node : NodeMeaning) (s : SectionMeaning) (rest : List TreeRow) (starts : List ℕ) → node ≡ SectionNode s
-    → BeginsWithStarts (volumes_of (row d i node ∷ rest)) starts → BeginsWithStarts (volumes_of rest) starts
-section_next d i node s rest starts is begins = subst (λ n. BeginsWithStarts (volumes_of (row d i n ∷ rest)) starts) is begins
-
 -- ---- all rows
 
 -- the starts of a layout are the starts of the volumes among all rows
