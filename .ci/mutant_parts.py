@@ -147,7 +147,7 @@ def holder_of(header: str) -> str:
         if sign == ">" and not depth:
             end = at + 1
             break
-    parameters = {*re.findall(r"(?:<|, )(\w+)\b", bare[:end])}
+    parameters = {*re.findall(r"(?:<|, )(?:const )?(\w+)\b", bare[:end])}
     rest = re.sub(r"'\w+|\b(?:pub|impl|trait)\b", "", bare[end:])
     trait, _, kind = re.split(r": ", rest)[0].rpartition(" for ")
     # The path of the type, or of the trait, is left out. A path among its parameters is not.

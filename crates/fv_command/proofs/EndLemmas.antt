@@ -38,16 +38,3 @@ pub refused : (whole : Bool) (text : List ℕ) (before old new : Shown) (ran : S
 refused false text before old new ran same e stops =
     inr (refl, inl (subst (λ (s : Shown). Written false text before s) (rw same refl) stops))
 refused true text before old new ran same e wrote = let bad : true ≡ false = e in cc
-
--- and after the flush
-pub flush_failed : (whole : Bool) (text : List ℕ) (before old new : Shown) (ran : Status) → whole ≡ true → Keeps old.bytes new.bytes
-    → new.erred ≡ true → Written whole text before old → Ends ran text (record { old = before; new = new }) Refused
-flush_failed true text before old new ran e keeps erred wrote =
-    inr (refl, inr (Appends-kept before.bytes old.bytes new.bytes text wrote.0 keeps, erred))
-flush_failed false text before old new ran e keeps erred stops = let bad : false ≡ true = e in cc
-
-pub flush_done : (whole : Bool) (text : List ℕ) (before old new : Shown) (ran : Status) → whole ≡ true → Keeps old.bytes new.bytes
-    → new.erred ≡ old.erred → Written whole text before old → Ends ran text (record { old = before; new = new }) ran
-flush_done true text before old new ran e keeps same wrote =
-    inl (refl, (Appends-kept before.bytes old.bytes new.bytes text wrote.0 keeps, same ∙ wrote.1))
-flush_done false text before old new ran e keeps same stops = let bad : false ≡ true = e in cc

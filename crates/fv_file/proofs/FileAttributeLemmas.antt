@@ -59,9 +59,3 @@ with_large_small false a h l = l
 -- bits without bit 0x01 are left as they are
 pub without_short : (a : ℕ) → is_large a ≡ false → without_large a ≡ a
 without_short a h = grind (arith, common_steps, small_even)
-
-pub without_with : (l : Bool) (a : ℕ) → is_large a ≡ false → without_large (with_large l a) ≡ a
-without_with false a h = without_short a h
-without_with true a h = same a (small_even a h) where
-  same : (a : ℕ) → a % 2 ≡ 0 → (a + 1) / 2 * 2 ≡ a
-  same a e = omega arith

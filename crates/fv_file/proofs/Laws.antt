@@ -18,8 +18,6 @@ pub use Rattle.fv_file.proofs.TiledCellLemmas.{joined, cells_few}
 pub use Rattle.fv_file.proofs.TiledCellLemmas.{IsPayloadIn, tiled_payloads, body_payloads}
 -- each file of a tiling of bytes
 pub use Rattle.fv_file.proofs.TiledCellLemmas.{IsRead, tiles_read}
--- a cell at an index lies within the volume
-pub use Rattle.fv_file.proofs.TiledCellLemmas.{within_index}
 -- ---- a file
 
 -- the data are after the header; what is known of a file in bytes
@@ -36,8 +34,6 @@ pub use Rattle.fv_file.proofs.NewHeaderLemmas.{with_large_is}
 pub use Rattle.fv_file.proofs.FileAttributeLemmas.{fixed_with, summed_with, alignment_with, with_large_small}
 -- the other bits stay where bit 0x01 is cleared
 pub use Rattle.fv_file.proofs.FileAttributeLemmas.{without_short}
--- one undoes the other
-pub use Rattle.fv_file.proofs.FileAttributeLemmas.{without_with}
 -- ---- headers that are written
 
 -- they are so many bytes

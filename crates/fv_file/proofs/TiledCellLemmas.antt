@@ -2,15 +2,15 @@
 -- 1. Cells, none of them free, and more cells tile the join (`joined`). There are no more cells than bytes (`cells_few`).
 -- 2. A cell's data are the part of the volume after its header (`cell_payload`), for all cells of a tiling (`tiled_payloads`).
 -- 3. In a tiling of bytes each file was read (`tiles_read`).
-use Rattle.std.proofs.Common.{◌≡◌, ◌≤◌, ◌<◌, ◌+◌, ◌-◌, ◌*◌, ◌/◌, ℕ, zero, suc, true, false, List, [], ◌∷◌, ◌++◌, length, take, drop}
-use Rattle.std.proofs.Common.{get_or, refl, sym, ap, ◌∙◌, subst, arith, length-append, append_assoc, drop-drop}
+use Rattle.std.proofs.Common.{◌≡◌, ◌≤◌, ◌+◌, ◌-◌, ◌*◌, ◌/◌, ℕ, true, false, List, [], ◌∷◌, ◌++◌, length, take, drop}
+use Rattle.std.proofs.Common.{refl, sym, ap, ◌∙◌, subst, arith, length-append, append_assoc, drop-drop}
 use Rattle.std.specs.List.{AllByRecursion}
 use Rattle.std.proofs.lemmas.List.{drop_at}
 use Rattle.fv_base.specs.Words.{IsBytes, up_to_8}
 use Rattle.fv_base.specs.declared.flash.FileSystem.{FileSystem}
 use Rattle.fv_base.specs.declared.flash.Polarity.{Polarity}
 use Rattle.fv_base.proofs.Laws.{bytes_back, bytes_front, field-append_front}
-use Rattle.fv_file.specs.Words.{CellForm, Valid, Pad, Dead, Stub, Free, IsCell, IsFilled, Tiles, offset_of, CellsWithin, cell_len, NoneFree}
+use Rattle.fv_file.specs.Words.{CellForm, Valid, Pad, Dead, Stub, Free, IsCell, IsFilled, Tiles, offset_of, cell_len, NoneFree}
 use Rattle.fv_file.specs.declared.head.FileHead.{FileHead}
 use Rattle.fv_file.proofs.CellPartLemmas.{cell_span, made_up, not_empty}
 use Rattle.fv_file.proofs.FileReadLemmas.{FileRead, cell_read_in, payload_behind}
@@ -118,11 +118,3 @@ tiles_read system p limit at (c ∷ cs) b small most (x, rest, text, is, o, free
       one_read system p limit c x (bytes_front x rest parts) (omega (arith, lens, most)) is,
       tiles_read system p limit (at + length x) cs rest (bytes_back x rest parts) (omega (arith, lens, most)) more,
     )
-
--- ---- by index
-
-pub within_index : (end : ℕ) (cs : List CellForm) (i : ℕ) (d : CellForm) → CellsWithin end cs → i < length cs
-    → offset_of (get_or cs i d) + cell_len (get_or cs i d) ≤ end
-within_index end [] i d all l = omega arith
-within_index end (c ∷ cs) zero d all l = all.0
-within_index end (c ∷ cs) (suc i) d all l = within_index end cs i d all.2 (omega arith)

@@ -2,7 +2,7 @@
 -- has it no more, and the bytes before it are the same. 3. The marks are taken away one after another, and the cells before tile.
 -- 4. All marks are taken away in one way (`one_unmarked`). 5. If all can be taken away, a cell is at each place then (`unmarked_cell`).
 use Rattle.std.proofs.Common.{◌≡◌, ◌≤◌, ◌<◌, ℕ, ◌+◌, ◌-◌, ◌%◌, List, [], ◌∷◌, ◌++◌, length, take, drop, refl, sym, ap, ◌∙◌, subst, arith}
-use Rattle.std.proofs.Common.{Bool, true, false, length-drop, zero, suc, inl, inr}
+use Rattle.std.proofs.Common.{Bool, true, false, length-drop, inl, inr}
 use Rattle.std.specs.Prelude.{◌≢◌, ◌⊎◌, ◌||◌, ◌&&◌, ◌==◌, not, nat_le, slice_index, slice_set, nat_lt, Option, None, Some, Ok, Err, Result}
 use Rattle.std.specs.List.{AllByRecursion}
 use Rattle.std.proofs.lemmas.Bool.{leb-true, ltb-false, eq-eqb}

@@ -1,16 +1,14 @@
 //! The index of the names of some files.
 
-ghost use Rattle.std.specs.Prelude.{◌≡◌, ◌<◌, ◌≤◌, ◌+◌, ◌*◌, ◌/◌, ◌%◌, ◌^◌, List, length, map, take, get_or, true};
-ghost use Rattle.std.specs.Prelude.{IsSorted, IsTrue, IfOk, IfErr};
-ghost use Rattle.std.specs.List.{AllByRecursion, list_any, position};
-ghost use Rattle.std.specs.List.Sorted.{IsPermutation};
-ghost use Rattle.std.specs.Ordering.{nat_cmp};
+ghost use Rattle.std.specs.Prelude.{◌≡◌, ◌<◌, ◌≤◌, ◌^◌, List, length, map, take, get_or, true, IsSorted, IsTrue, IfOk};
+ghost use Rattle.std.specs.Prelude.{IfErr};
+ghost use Rattle.std.specs.List.{list_any, position};
 ghost use Rattle.fv_base.specs.Words.{out_of_memory};
 ghost use Rattle.fv_base.specs.declared.guid.Guid.{Guid};
 ghost use Rattle.fv_names.specs.NamedFiles.{NamedFile, NoTwins, is_name, is_twin, names_in, replaced_by};
 ghost use Rattle.fv_names.specs.NameIndexes.{AllApart, Entry, IsIndex, IsName, IsSixteenBytes, entries_of, entry_cmp};
-ghost use Rattle.fv_names.specs.NameIndexes.{halves_in, halves_of, numbered};
-ghost use Rattle.fv_names.specs.inner.NameOrders.{AreTwins, IsTwinAt, SharesItsName, key_of, mark_at};
+ghost use Rattle.fv_names.specs.NameIndexes.{halves_in, halves_of};
+ghost use Rattle.fv_names.specs.inner.NameOrders.{AreTwins, IsTwinAt, SharesItsName, mark_at};
 
 use crate::named::Named;
 use fv_base::{Fault, Guid};
@@ -45,73 +43,6 @@ fn halves(name: Guid) -> (u64, u64)
     ensures whole { IsName name }
 {
     numbers_in(name.to_bytes())
-}
-
-// How a key is packed: the low `bits` bits are the number of a file, and the bits above them are
-// the high bits of the first half of the file's name. Keys sort fast. Names rarely agree in these
-// high bits, so the order of the keys is mostly the order of the names.
-#[derive(Clone, Copy)]
-struct Packing {
-    bits: u32,
-}
-
-impl Packing {
-    // Returns the packing that has room for the numbers of `count` files.
-    fn of(count: usize) -> Packing
-        requires { count < 2 ^ 32 }
-        ensures room { count ≤ 2 ^ result.bits }
-        ensures bits { result.bits < 64 }
-    {
-        Packing {
-            bits: (count + 1).ilog2() + 1,
-        }
-    }
-
-    // Returns the key of the file with this number, whose name has this first half.
-    fn pack(self, front: u64, number: u64) -> u64
-        requires room { number < 2 ^ self.bits }
-        requires bits { self.bits < 64 }
-        ensures { result ≡ front / 2 ^ self.bits * 2 ^ self.bits + number }
-    {
-        front >> self.bits << self.bits | number
-    }
-
-    // Returns the number in a key.
-    fn number(self, key: u64) -> u64
-        requires { self.bits < 64 }
-        ensures { result ≡ key % 2 ^ self.bits }
-    {
-        key % (1u64 << self.bits)
-    }
-}
-
-// Returns the keys of the files, sorted.
-fn sorted_keys<F: Named>(alloc: Global, files: &[F], packing: Packing) -> Result<Vec<u64>, Fault>
-    requires room { length files.now ≤ 2 ^ packing.bits }
-    requires bits { packing.bits < 64 }
-    ensures keys { IfOk result
-        (λ keys. IsPermutation (map (key_of packing.bits) (numbered 0 (names_in (map F.named files.now)))) keys.items) }
-    ensures sorted { IfOk result (λ keys. IsSorted nat_cmp keys.items) }
-    ensures whole { IfOk result (λ _. AllByRecursion IsName (names_in (map F.named files.now))) }
-    ensures err { IfErr result (λ f. f ≡ out_of_memory) }
-    ensures some { IfErr result (λ _. 0 < length files.now) }
-{
-    let mut keys = Vec::with_capacity(alloc, files.len())?;
-    for file in files {
-        let number = keys.len() as u64;
-        keys.push(packing.pack(halves(file.name()).0, number))?;
-    }
-    keys.sort_unstable();
-    Ok(keys)
-}
-
-// Returns the entry of the file with this number.
-fn entry_at<F: Named>(files: &[F], number: u64) -> NumberedName
-    requires small { length files.now < 2 ^ 32 }
-    requires within { number < length files.now }
-    ensures { (d : NamedFile) → result ≡ (halves_of (get_or (map F.named files.now) number d).name, number) }
-{
-    (halves(files[number as usize].name()), number as u32)
 }
 
 // Returns whether the file with this number is marked for update.
@@ -149,12 +80,10 @@ impl NameIndex {
         ensures err { IfErr result (λ f. f ≡ out_of_memory) }
         ensures some { IfErr result (λ _. 0 < length files.now) }
     {
-        let packing = Packing::of(files.len());
         let mut sorted = Vec::with_capacity(alloc, files.len())?;
-        let keys = sorted_keys(alloc, files, packing)?;
-        for key in &keys {
-            let number = packing.number(*key);
-            sorted.push(entry_at(files, number))?;
+        for file in files {
+            let number = sorted.len() as u32;
+            sorted.push((halves(file.name()), number))?;
         }
         sorted.sort_unstable();
         Ok(NameIndex { sorted })

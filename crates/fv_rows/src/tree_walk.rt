@@ -1,71 +1,13 @@
 //! The walk over the parts of a volume, row by row.
 
-ghost use Rattle.std.specs.Prelude.{◌≡◌, ◌<◌, ◌^◌, [], ◌∷◌, ◌++◌, List, length, IfSome, IfNone};
+ghost use Rattle.std.specs.Prelude.{◌≡◌, ◌<◌, ◌^◌, [], ◌∷◌, length, IfSome, IfNone};
 ghost use Rattle.std.specs.Iterator.{YieldsFirstBy, item_count};
 ghost use Rattle.fv_rows.specs.TreeRows.{parts_in, tree_rows};
 ghost use Rattle.fv_rows.specs.RowWalks.{part_node, nesting_inside, nodes_of, row_of, rows_inside, NestsAt};
 
+use fv_base::Stack;
 use fv_tree::{Body, FileView, SectionView, VolumeView};
 use std::marker::Model;
-
-// A stack of at most 28 items.
-#[derive(Drop)]
-struct Stack<T: Copy> {
-    items: [T; 28],
-    count: usize,
-}
-
-impl<T: Copy> Model for Stack<T> {
-    ghost use Rattle.std.specs.Prelude.{◌≤◌, List, take};
-
-    ghost Value = { List T };
-
-    ghost view = { λ s. take s.count s.items };
-
-    ghost invariant = { λ s. s.count ≤ 28 };
-}
-
-impl<T: Copy> Stack<T> {
-    // Returns a stack of one item.
-    fn of(item: T) -> Stack<T>
-        ensures { result ≡ item ∷ [] }
-    {
-        Stack {
-            items: [item; 28],
-            count: 1,
-        }
-    }
-
-    // Returns the number of items.
-    fn len(&self) -> usize
-        ensures { result ≡ length self.now }
-    {
-        self.items[..self.count].len()
-    }
-
-    // Adds an item at the end.
-    fn push(&mut self, item: T)
-        requires { length self.old < 28 }
-        ensures { self.new ≡ self.old ++ item ∷ [] }
-    {
-        let count = self.count;
-        self.items[count] = item;
-        self.count = count + 1;
-    }
-
-    // Removes the last item, and returns it.
-    fn pop(&mut self) -> Option<T>
-        ensures some { IfSome result (λ item. self.old ≡ self.new ++ item ∷ []) }
-        ensures none { IfNone result ((self.old ≡ []) × (self.new ≡ [])) }
-    {
-        if self.count == 0 {
-            return None;
-        }
-        let last = self.count - 1;
-        self.count = last;
-        Some(self.items[last])
-    }
-}
 
 /// A part of a volume: a volume, a file or a section.
 #[derive(Clone, Copy)]
@@ -181,7 +123,7 @@ fn nesting_inside(nesting: u8, part: Part<'_, '_>) -> u8
 #[derive(Drop)]
 pub struct TreeWalk<'v, 'a> {
     // The parts that are left at each depth. The innermost level is the last.
-    levels: Stack<Level<'v, 'a>>,
+    levels: Stack<Level<'v, 'a>, 28>,
 }
 
 impl<'v, 'a> Model for TreeWalk<'v, 'a> {

@@ -16,6 +16,6 @@ is_named name f = bytes_eq (bytes_of name) (bytes_of (file_name_of f))
 abbrev pub file_named : Guid → List FileMeaning → Option FileMeaning
 file_named name fs = find (is_named name) fs
 
--- `numbers` is the index of the names of these files
-abbrev pub HasNumbers : NameIndex → List FileMeaning → Type 0
-HasNumbers numbers fs = IsIndex (map file_name_of fs) (entries_of numbers)
+-- `index` is the index of the names of these files
+abbrev pub HasIndex : NameIndex → List FileMeaning → Type 0
+HasIndex index fs = IsIndex (map file_name_of fs) (entries_of index)

@@ -5,9 +5,10 @@ ghost use Rattle.fv_file.specs.Words.{CellForm};
 ghost use Rattle.fv_head.specs.declared.extent.Extent.{Extent};
 ghost use Rattle.fv_tree.specs.LocatedFiles.{BeginsTiled};
 ghost use Rattle.fv_tree.specs.Unfixing.{IsUnfixed, UnfixStops};
+ghost use Rattle.fv_tree.specs.UnfixedInputs.{NotUnfixed, UnfixesTo};
 
-use fv_base::Fault;
-use fv_file::unmark_files;
+use fv_base::{Fault, FaultKind, check};
+use fv_file::{unmark_files, verify_unmarked};
 use fv_head::verify_fv;
 
 /// Takes the marks away from all fixed files of the volume at the start of the bytes. For each such
@@ -41,4 +42,31 @@ pub fn unfix(bytes: &mut [u8]) -> Result<(), Fault>
     let extent = verify_fv(bytes)?;
     let body = &mut bytes[extent.first as usize..extent.length as usize];
     unmark_files(body, extent.first, extent.file_system, extent.polarity)
+}
+
+/// Checks whether the input is a volume of which `unfix` can make one without fixed files. Changes
+/// nothing, and takes no memory. (PI specification, volume 3, section 3.2.3.1,
+/// `FFS_ATTRIB_FIXED`.)
+///
+/// # Errors
+///
+/// The first fault: of the header, as for `verify_fv`; then of a cell, as for `cells`, except
+/// Fixed; then Length at FvLength if bytes follow the volume.
+pub fn verify_unfixed(input: &[u8]) -> Result<(), Fault>
+    // The input is a volume that no bytes follow, and the marks of its fixed files can be taken
+    // away.
+    ensures ok { OnOk result ((o : List ℕ) × UnfixesTo input.now o) }
+
+    // They cannot, and this is the first fault.
+    ensures err { IfErr result (NotUnfixed input.now) }
+{
+    let extent = verify_fv(input)?;
+    let body = &input[extent.first as usize..extent.length as usize];
+    verify_unmarked(body, extent.first, extent.file_system, extent.polarity)?;
+    check(
+        extent.length == input.len() as u64,
+        FaultKind::Length,
+        extent.length,
+    )?;
+    Ok(())
 }

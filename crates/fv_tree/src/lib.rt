@@ -8,32 +8,25 @@
 //! program that uses one after the input is gone does not.
 #![tactic(auto)]
 
-mod body_cells;
 mod difference;
 mod fault_place;
 mod fixed_marks;
 mod head_difference;
 mod lookup;
-mod named_files;
 mod read;
 mod section_walk;
 mod shape;
 mod stored_files;
-mod unfixed_input;
 mod view;
 mod volume_files;
-mod whole_input;
 
-pub use body_cells::volume_cells;
 pub use difference::{Difference, Step, Word, first_difference};
 pub use fault_place::fault_within;
-pub use fixed_marks::unfix;
+pub use fixed_marks::{unfix, verify_unfixed};
 pub use fv_flash::{FoundVolume, Offsets, scan, volumes};
 pub use lookup::{Item, Lookup, file_by_name, file_by_type, next_file, section_by_type};
-pub use read::read_volume;
+pub use read::{read_volume, whole_volume, whole_volume_with_files};
 pub use section_walk::SectionWalk;
-pub use stored_files::located_files;
-pub use unfixed_input::verify_unfixed;
+pub use stored_files::{located_files, volume_cells};
 pub use view::{Body, Content, FileView, SectionView, VolumeView};
 pub use volume_files::{LocatedFile, VOLUME_TOP_FILE};
-pub use whole_input::{whole_volume, whole_volume_with_files};

@@ -1,19 +1,21 @@
-//! Reading a volume.
+//! Reading a volume, at the start of the bytes or as a whole input.
 
 ghost use Rattle.std.specs.Prelude.{◌≡◌, ◌≢◌, ◌≤◌, ◌<◌, ◌+◌, ◌^◌, ℕ, length, take, map, IfOk, IfErr};
-ghost use Rattle.fv_base.specs.Words.{First, outer_fault, out_of_memory, depth_limit, volume_limit};
+ghost use Rattle.fv_base.specs.Words.{First, outer_fault, out_of_memory, depth_limit, volume_limit, OrMemory};
 ghost use Rattle.fv_base.specs.declared.fault.Fault.{Fault};
 ghost use Rattle.fv_head.specs.Words.{BeginsWithHeader};
 ghost use Rattle.fv_section.specs.Words.{frame_len};
-ghost use Rattle.fv_section.specs.StreamReads as framed;
 ghost use Rattle.fv_tree.specs.Meaning.{Meaning, length_of};
 ghost use Rattle.fv_tree.specs.Denotes.{Pairwise, MeansContent, MeansFile, MeansSection, Stream, Denotes, Accepted};
 ghost use Rattle.fv_tree.specs.ReadParts.{IsStoredFile, IsStoredFrame};
-ghost use Rattle.fv_tree.specs.FirstFault.{moved_fault, InSection, InStream, InVolume};
-ghost use Rattle.fv_tree.specs.FirstFault.{OneOf, FileFault, IsFirstOfVolume, FaultStands, body_place, data_place};
+ghost use Rattle.fv_tree.specs.FirstFault.{moved_fault, InSection, InStream, InVolume, OneOf, FileFault};
+ghost use Rattle.fv_tree.specs.FirstFault.{IsFirstOfVolume, FaultStands, body_place, data_place};
 ghost use Rattle.fv_tree.specs.inner.ReadingParts.{Reads, AllStored};
 ghost use Rattle.fv_tree.specs.Views.{content_view};
-ghost use Rattle.fv_tree.specs.LocatedFiles.{BeginWithFiles, file_form};
+ghost use Rattle.fv_tree.specs.LocatedFiles.{BeginWithFiles, file_form, HasDataIn};
+ghost use Rattle.std.specs.List.{AllByRecursion};
+ghost use Rattle.fv_tree.specs.InputFaults.{FaultStandsInInput, NotRead};
+ghost use Rattle.fv_section.specs.StreamReads as framed;
 
 use crate::fault_place::fault_within;
 use crate::shape::{Shape, holds_sections, shape_of};
@@ -21,21 +23,21 @@ use crate::stored_files::files_in_body;
 use crate::view::{Content, FileView, SectionView, VolumeView};
 use crate::volume_files::LocatedFile;
 use fv_base::limits::DEPTH_LIMIT;
-use fv_base::{Fault, FaultKind, Place};
+use fv_base::{Fault, FaultKind, Place, check};
 use fv_head::read_head;
 use fv_section::{Frame, FrameWalk, section_header_len};
 use std::alloc::Global;
 
-/// Where some bytes begin in the bytes that were passed to the call, and how many levels may still
-/// nest in them.
+// Where some bytes begin in the bytes that were passed to the call, and how many levels may still
+// nest in them.
 #[derive(Clone, Copy)]
-pub(crate) struct Level {
+struct Level {
     place: Place,
     left: u8,
 }
 
-/// The level of the bytes that were passed to the call.
-pub(crate) const OUTERMOST: Level = Level {
+// The level of the bytes that were passed to the call.
+const OUTERMOST: Level = Level {
     place: Place {
         offset: 0,
         depth: 0,
@@ -190,7 +192,7 @@ fn read_files<'a>(
 // Reads the volume at the start of the bytes. Returns its view, its length in bytes, and its files
 // as they are stored.
 #[cycle(read)]
-pub(crate) fn read_with_files(
+fn read_with_files(
     alloc: Global,
     bytes: &[u8],
     at: Level,
@@ -208,9 +210,9 @@ pub(crate) fn read_with_files(
         Err(fault) => return Err(fault_within(fault, at.place)),
     };
     let volume = &bytes[..extent.length as usize];
-    let (files, numbers) = files_in_body(alloc, volume, extent, at.place)?;
+    let (files, index) = files_in_body(alloc, volume, extent, at.place)?;
     let views = read_files(alloc, files.as_slice(), at)?;
-    Ok((VolumeView::new(head, views, numbers), extent.length, files))
+    Ok((VolumeView::new(head, views, index), extent.length, files))
 }
 
 // Reads the volume at the start of the bytes. Returns its view and its length in bytes.
@@ -275,4 +277,70 @@ pub fn read_volume(alloc: Global, bytes: &[u8]) -> Result<(VolumeView<'_>, u64),
     ensures memory { IfErr result (λ f. f ≡ out_of_memory → BeginsWithHeader bytes.now) }
 {
     read_at(alloc, bytes, OUTERMOST)
+}
+
+/// Returns the volume that is the whole input, and its files as they are stored in it: each with
+/// the offset of its header, its header and its data. The files are in the order of
+/// `VolumeView::files`. (PI specification, volume 3, sections 3.2.2 and 3.2.3.)
+///
+/// # Errors
+///
+/// The errors of `whole_volume`.
+pub fn whole_volume_with_files(
+    alloc: Global,
+    input: &[u8],
+) -> Result<(VolumeView<'_>, Vec<LocatedFile<'_>>), Fault>
+    // The input is a volume with this meaning, and with no other.
+    ensures found { IfOk result (λ r. Accepted input.now r.0) }
+    ensures only { IfOk result (λ r. (m : Meaning) → Accepted input.now m → m ≡ r.0) }
+
+    // These are the files of the volume, and the input contains each file's data, at the data's
+    // offset.
+    ensures files { IfOk result (λ r. BeginWithFiles input.now (map file_form r.1.items)) }
+    ensures data { IfOk result (λ r. AllByRecursion (HasDataIn input.now) (map file_form r.1.items)) }
+
+    // An error other than OutOfMemory means that the input is not a volume, and is its first fault.
+    ensures refused { IfErr result (OrMemory (NotRead input.now)) }
+
+    // The condition of such an error holds in the input at its offset.
+    ensures stands { IfErr result (λ f. f ≢ out_of_memory → FaultStandsInInput input.now f) }
+
+    // Memory runs out only if the input begins with a volume header.
+    ensures memory { IfErr result (λ f. f ≡ out_of_memory → BeginsWithHeader input.now) }
+
+    // ReadFault and WriteFault are never returned.
+    ensures kind { IfErr result (λ f. (f.kind ≢ FaultKind.ReadFault) × (f.kind ≢ FaultKind.WriteFault)) }
+{
+    let (view, length, files) = read_with_files(alloc, input, OUTERMOST)?;
+    check(length == input.len() as u64, FaultKind::Length, length)?;
+    Ok((view, files))
+}
+
+/// Returns the volume that is the whole input. (PI specification, volume 3, section 3.2.)
+///
+/// # Errors
+///
+/// The errors of `read_volume`, OutOfMemory included; then Length at FvLength if bytes follow the
+/// volume.
+pub fn whole_volume(alloc: Global, input: &[u8]) -> Result<VolumeView<'_>, Fault>
+    // The input is a volume with this meaning, and with no other.
+    ensures found { IfOk result (λ view. Accepted input.now view) }
+    ensures only { IfOk result (λ view. (m : Meaning) → Accepted input.now m → m ≡ view) }
+
+    // An error other than OutOfMemory means that the input is not a volume, and is its first fault.
+    ensures refused { IfErr result (OrMemory (NotRead input.now)) }
+
+    // The condition of such an error holds in the input at its offset.
+    ensures stands { IfErr result (λ f. f ≢ out_of_memory → FaultStandsInInput input.now f) }
+
+    // Memory runs out only if the input begins with a volume header.
+    ensures memory { IfErr result (λ f. f ≡ out_of_memory → BeginsWithHeader input.now) }
+
+    // ReadFault and WriteFault are never returned.
+    ensures kind { IfErr result (λ f. (f.kind ≢ FaultKind.ReadFault) × (f.kind ≢ FaultKind.WriteFault)) }
+{
+    match whole_volume_with_files(alloc, input) {
+        Ok((view, _)) => Ok(view),
+        Err(fault) => Err(fault),
+    }
 }

@@ -1,65 +1,14 @@
 //! A walk over the sections of a file.
 
-ghost use Rattle.std.specs.Prelude.{◌≡◌, ◌<◌, [], ◌∷◌, ◌++◌, length, IfSome, IfNone};
+ghost use Rattle.std.specs.Prelude.{◌≡◌};
 ghost use Rattle.std.specs.Iterator.{YieldsFirstRef, item_count};
 ghost use Rattle.fv_tree.specs.LookupInstances.{preorder};
 ghost use Rattle.fv_tree.specs.Meaning.{content_of};
 ghost use Rattle.fv_tree.specs.MeaningParts.{sections_in_data};
 
 use crate::view::{FileView, SectionView};
+use fv_base::Stack;
 use std::marker::Model;
-
-// A stack of at most ten items.
-#[derive(Drop)]
-struct Stack<T: Copy> {
-    items: [T; 10],
-    count: usize,
-}
-
-impl<T: Copy> Model for Stack<T> {
-    ghost use Rattle.std.specs.Prelude.{◌≤◌, List, take};
-
-    ghost Value = { List T };
-
-    ghost view = { λ s. take s.count s.items };
-
-    ghost invariant = { λ s. s.count ≤ 10 };
-}
-
-impl<T: Copy> Stack<T> {
-    // Returns a stack with one item.
-    fn of(item: T) -> Stack<T>
-        ensures { result ≡ item ∷ [] }
-    {
-        Stack {
-            items: [item; 10],
-            count: 1,
-        }
-    }
-
-    // Adds an item at the end.
-    fn push(&mut self, item: T)
-        requires { length self.old < 10 }
-        ensures { self.new ≡ self.old ++ item ∷ [] }
-    {
-        let count = self.count;
-        self.items[count] = item;
-        self.count = count + 1;
-    }
-
-    // Removes and returns the last item.
-    fn pop(&mut self) -> Option<T>
-        ensures some { IfSome result (λ item. self.old ≡ self.new ++ item ∷ []) }
-        ensures none { IfNone result ((self.old ≡ []) × (self.new ≡ [])) }
-    {
-        if self.count == 0 {
-            return None;
-        }
-        let last = self.count - 1;
-        self.count = last;
-        Some(self.items[last])
-    }
-}
 
 /// A walk over the sections of a file in preorder: a group is followed by the sections in it. The
 /// sections of a nested volume are not visited. Contracts see the list of the sections that are
@@ -69,7 +18,7 @@ pub struct SectionWalk<'v, 'a> {
     // The sections that are left at each level: first the sections of the file, then the sections
     // of each group that the walk is in. Groups nest at most eight deep. The tenth level holds the
     // sections of the innermost sections, and is always empty.
-    levels: Stack<&'v [SectionView<'a>]>,
+    levels: Stack<&'v [SectionView<'a>], 10>,
 }
 
 impl<'v, 'a> Model for SectionWalk<'v, 'a> {

@@ -1,10 +1,9 @@
 //! The files of a volume: which of the valid files in its body are part of it.
 
-ghost use Rattle.std.specs.Prelude.{◌≡◌, ◌≢◌, ◌≤◌, ◌<◌, ◌^◌, ◌==◌, ◌&&◌, ◌||◌, not, [], ◌∷◌, map};
-ghost use Rattle.std.specs.Prelude.{length as length_of, IsTrue, IfOk, IfErr, OnOk, IfSome, IfNone, true};
+ghost use Rattle.std.specs.Prelude.{◌≡◌, ◌≢◌, ◌≤◌, ◌<◌, ◌^◌, ◌==◌, ◌&&◌, ◌||◌, not, [], ◌∷◌, map, length as length_of};
+ghost use Rattle.std.specs.Prelude.{IsTrue, IfOk, IfErr, OnOk, IfSome, IfNone, true};
 ghost use Rattle.std.specs.List.{All, AllByRecursion, list_any};
 ghost use Rattle.fv_base.specs.Words.{First, outer_fault, out_of_memory};
-ghost use Rattle.fv_file.specs.CellForms as cellular;
 ghost use Rattle.fv_tree.specs.FirstFault.{HasTwin, TopElsewhere, NamesFault};
 ghost use Rattle.fv_tree.specs.VolumeFiles.{FileForm, NoTwins, TopAtEnd, AreCurrent, files_in, current_in, is_marked};
 ghost use Rattle.fv_tree.specs.VolumeFiles.{is_top, end_of, replaced_by};
@@ -12,11 +11,12 @@ ghost use Rattle.fv_tree.specs.inner.NameForms.{named_file};
 ghost use Rattle.fv_names.specs.Words.{names_in, IsIndex, entries_of};
 ghost use Rattle.fv_tree.specs.LocatedFiles.{file_form, state_by};
 ghost use Rattle.fv_tree.specs.inner.ReadingParts.{IsSmallCell, is_noted, mark_of};
+ghost use Rattle.fv_file.specs.CellForms as cellular;
 
 use fv_base::{Fault, FaultKind, Guid, check};
 use fv_file::offsets::{HEADER_LEN, LARGE_HEADER_LEN};
 use fv_file::{Cell, FileAttributes, FileState};
-use fv_names::NameIndex;
+use fv_names::{NameIndex, Named};
 use std::alloc::Global;
 
 /// The bytes of the name of the volume top file, `EFI_FFS_VOLUME_TOP_FILE_GUID`,
@@ -167,13 +167,13 @@ pub(crate) fn files_of<'a>(alloc: Global, cells: &[Cell<'a>]) -> Result<Vec<Loca
 
 // Checks that no two of the files are twins. The fault is DuplicateName at the first file that has
 // an earlier twin.
-fn check_twins(files: &[LocatedFile], numbers: &NameIndex) -> Result<(), Fault>
-    requires { IsIndex (names_in (map named_file files.now)) (entries_of numbers.now) }
+fn check_twins(files: &[LocatedFile], index: &NameIndex) -> Result<(), Fault>
+    requires { IsIndex (names_in (map named_file files.now)) (entries_of index.now) }
     ensures found { OnOk result (NoTwins (map file_form files.now)) }
     ensures first { IfErr result (λ e. (f : FileForm) × HasTwin First f (map file_form files.now)
         × (e ≡ outer_fault FaultKind.DuplicateName f.offset)) }
 {
-    let first = numbers.first_twin(files);
+    let first = index.first_twin(files);
     if first < files.len() {
         let offset = u64::from(files[first].offset);
         return Err(Fault::outer(FaultKind::DuplicateName, offset));
@@ -182,27 +182,27 @@ fn check_twins(files: &[LocatedFile], numbers: &NameIndex) -> Result<(), Fault>
 }
 
 // Notes in each file's mark whether one of the other files replaces it.
-fn set_replaced(files: &mut [LocatedFile], numbers: &NameIndex)
-    requires index { IsIndex (names_in (map named_file files.old)) (entries_of numbers.now) }
+fn set_replaced(files: &mut [LocatedFile], index: &NameIndex)
+    requires index { IsIndex (names_in (map named_file files.old)) (entries_of index.now) }
     requires apart { NoTwins (map file_form files.old) }
     ensures same { map file_form files.new ≡ map file_form files.old }
     ensures replaced { All (λ s. is_noted s.mark ≡ list_any (replaced_by (file_form s)) (map file_form files.new))
         files.new }
 {
-    for place in 0..numbers.len() {
-        let number = numbers.number_at(place) as usize;
-        let replaced = numbers.is_replaced(files, place);
+    for place in 0..index.len() {
+        let number = index.number_at(place) as usize;
+        let replaced = index.is_replaced(files, place);
         files[number].mark = files[number].mark.with_replaced(replaced);
     }
 }
 
 // Keeps only the files that no other file replaces.
-fn keep_current(files: &mut Vec<LocatedFile>, numbers: &NameIndex)
-    requires index { IsIndex (names_in (map named_file files.old.items)) (entries_of numbers.now) }
+fn keep_current(files: &mut Vec<LocatedFile>, index: &NameIndex)
+    requires index { IsIndex (names_in (map named_file files.old.items)) (entries_of index.now) }
     requires apart { NoTwins (map file_form files.old.items) }
     ensures { map file_form files.new.items ≡ current_in (map file_form files.old.items) }
 {
-    set_replaced(files.as_mut_slice(), numbers);
+    set_replaced(files.as_mut_slice(), index);
     files.retain(|file| !file.mark.is_replaced());
 }
 
@@ -245,25 +245,25 @@ fn check_top(files: &[LocatedFile], length: u64) -> Result<(), Fault>
 fn apart_files<'a>(
     alloc: Global,
     files: Vec<LocatedFile<'a>>,
-    numbers: NameIndex,
+    index: NameIndex,
     length: u64,
 ) -> Result<(Vec<LocatedFile<'a>>, NameIndex), Fault>
     requires within { AllByRecursion (λ f. f.offset ≤ length) (map file_form files.items) }
     requires few { length_of files.items < 2 ^ 32 }
-    requires index { IsIndex (names_in (map named_file files.items)) (entries_of numbers) }
+    requires index { IsIndex (names_in (map named_file files.items)) (entries_of index) }
     ensures found { IfOk result (λ r. AreCurrent length (map file_form files.entry.items) (map file_form r.0.items)) }
-    ensures numbers { IfOk result (λ r. IsIndex (names_in (map named_file r.0.items)) (entries_of r.1)) }
+    ensures index { IfOk result (λ r. IsIndex (names_in (map named_file r.0.items)) (entries_of r.1)) }
     ensures first { IfErr result
         (λ f. f ≢ out_of_memory → NamesFault First length (map file_form files.entry.items) f) }
     ensures bound { IfErr result (λ f. f.place.offset ≤ length) }
 {
-    check_twins(files.as_slice(), &numbers)?;
+    check_twins(files.as_slice(), &index)?;
     let mut current = files;
-    keep_current(&mut current, &numbers);
-    drop(numbers);
+    keep_current(&mut current, &index);
+    drop(index);
     check_top(current.as_slice(), length)?;
-    let numbers = NameIndex::of(alloc, current.as_slice())?;
-    Ok((current, numbers))
+    let index = NameIndex::of(alloc, current.as_slice())?;
+    Ok((current, index))
 }
 
 // Returns the files that are part of a volume of this length, out of the valid files in it, with
@@ -276,17 +276,30 @@ pub(crate) fn current_files<'a>(
     requires within { AllByRecursion (λ f. f.offset ≤ length) (map file_form files.items) }
     requires few { length_of files.items < 2 ^ 32 }
     ensures found { IfOk result (λ r. AreCurrent length (map file_form files.entry.items) (map file_form r.0.items)) }
-    ensures numbers { IfOk result (λ r. IsIndex (names_in (map named_file r.0.items)) (entries_of r.1)) }
+    ensures index { IfOk result (λ r. IsIndex (names_in (map named_file r.0.items)) (entries_of r.1)) }
     ensures first { IfErr result
         (λ f. f ≢ out_of_memory → NamesFault First length (map file_form files.entry.items) f) }
     ensures bound { IfErr result (λ f. f.place.offset ≤ length) }
 {
-    let numbers = NameIndex::of(alloc, files.as_slice())?;
-    if !numbers.are_distinct() {
-        return apart_files(alloc, files, numbers, length);
+    let index = NameIndex::of(alloc, files.as_slice())?;
+    if !index.are_distinct() {
+        return apart_files(alloc, files, index, length);
     }
     // Twins and updates share a name with another file. So if all names differ, there are no twins,
     // no file is dropped, and the index of all files is the index of the files that are kept.
     check_top(files.as_slice(), length)?;
-    Ok((files, numbers))
+    Ok((files, index))
+}
+
+/// Gives `NameIndex` the file's name, and whether the file is marked for update.
+impl<'a> Named for LocatedFile<'a> {
+    ghost named = { named_file };
+
+    fn name(&self) -> Guid {
+        self.name
+    }
+
+    fn is_marked(&self) -> bool {
+        self.mark.is_marked()
+    }
 }

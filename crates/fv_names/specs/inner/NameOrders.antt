@@ -1,13 +1,8 @@
--- Definitions for looking up names: the keys by which names are first sorted; and facts that adjacent entries, in the
--- order of names and numbers, show about their files. `d` and `e` are the values of a read past the last file and past
--- the last entry.
-use Rattle.std.specs.Prelude.{◌≡◌, ℕ, ◌+◌, ◌*◌, ◌/◌, ◌^◌, ◌-◌, ◌<◌, ◌⊎◌, Bool, List, length, get_or}
+-- Facts that adjacent entries, in the order of names and numbers, show about their files. `d` and `e` are the values of a
+-- read past the last file and past the last entry.
+use Rattle.std.specs.Prelude.{◌≡◌, ℕ, ◌+◌, ◌-◌, ◌<◌, ◌⊎◌, Bool, List, length, get_or}
 use Rattle.fv_names.specs.NameIndexes.{Entry}
 use Rattle.fv_names.specs.NamedFiles.{NamedFile}
-
--- the key of an entry: its number in the low `bits` bits, and the high bits of the first half of its name above them
-abbrev pub key_of : ℕ → Entry → ℕ
-key_of bits e = e.0.0 / 2 ^ bits * 2 ^ bits + e.1
 
 -- whether the file with this number is marked for update
 abbrev pub mark_at : List NamedFile → NamedFile → ℕ → Bool

@@ -5,7 +5,7 @@ ghost use Rattle.std.specs.List.{position};
 ghost use Rattle.fv_tree.specs.Denotes.{IsMeaning};
 ghost use Rattle.fv_tree.specs.Meaning.{Volume, head_of, files_of};
 ghost use Rattle.fv_tree.specs.MeaningParts.{files_from};
-ghost use Rattle.fv_tree.specs.FileNames.{HasNumbers, is_named};
+ghost use Rattle.fv_tree.specs.FileNames.{HasIndex, is_named};
 
 use super::{FileView, VolumeView};
 use fv_base::Guid;
@@ -17,17 +17,13 @@ impl<'a> VolumeView<'a> {
     pub(crate) fn new(
         head: VolumeHead<'a>,
         files: Vec<FileView<'a>>,
-        numbers: NameIndex,
+        index: NameIndex,
     ) -> VolumeView<'a>
         requires meaning { IsMeaning (Volume head (files_from files.items)) }
-        requires numbers { HasNumbers numbers files.items }
+        requires index { HasIndex index files.items }
         ensures { result ≡ Volume head.entry (files_from files.entry.items) }
     {
-        VolumeView {
-            head,
-            files,
-            numbers,
-        }
+        VolumeView { head, files, index }
     }
 
     /// Returns the volume header, with the extended header if there is one. (PI specification,
@@ -80,6 +76,6 @@ impl<'a> VolumeView<'a> {
     pub(crate) fn number_of(&self, name: &Guid) -> Option<u32>
         ensures { result ≡ position (is_named name.now) (files_of self.now) }
     {
-        self.numbers.get(name)
+        self.index.get(name)
     }
 }

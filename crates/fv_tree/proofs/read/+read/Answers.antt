@@ -207,12 +207,12 @@ read_with_files-new-requires-clause-meaning t c =
     let made = volume_made t (goal.at.read_with_files-new-requires-clause-meaning t c).In_ok-views in
     (c.args.at.left, omega arith, bytes, bytes_take c.in-Ok.read.1.length c.args.bytes.now small, made)
 
-pub read_with_files-new-requires-clause-numbers : goal.read_with_files-new-requires-clause-numbers
-read_with_files-new-requires-clause-numbers t c =
+pub read_with_files-new-requires-clause-index : goal.read_with_files-new-requires-clause-index
+read_with_files-new-requires-clause-index t c =
     let pairs = rw c.as_slice.ensures.value at c.in_ok-views.ensures in
-    subst (λ (ns : List Guid). IsIndex ns (entries_of c.in_ok-files.numbers))
+    subst (λ (ns : List Guid). IsIndex ns (entries_of c.in_ok-files.index))
     (sym (read_names (Stream c.args.at.left) c.in_ok-files.files.items c.in_ok-views.views.items pairs))
-    c.in_ok-files.ensures.numbers
+    c.in_ok-files.ensures.index
 
 pub read_with_files-returns-clause-read : goal.read_with_files-returns-clause-read
 read_with_files-returns-clause-read t c = rw c.new.ensures (volume_made t (goal.at.read_with_files-returns-clause-read t c).In_ok-views)

@@ -14,9 +14,9 @@ use Rattle.fv_tree.proofs.volume_files.current_files.Goals as goal
 pub returns-in_err-check_top-clause-first : goal.returns-in_err-check_top-clause-first
 returns-in_err-check_top-clause-first c =
     let files : List LocatedFile = c.args.files.items in
-    let es : List Entry = entries_of c.in_ok-numbers.numbers in
+    let es : List Entry = entries_of c.in_ok-index.index in
     let index : IsIndex (names_in (map named_file files)) es =
-    subst (λ (l : List LocatedFile). IsIndex (names_in (map named_file l)) es) c.as_slice.ensures.value c.in_ok-numbers.ensures.found in
+    subst (λ (l : List LocatedFile). IsIndex (names_in (map named_file l)) es) c.as_slice.ensures.value c.in_ok-index.ensures.found in
     let distinct = c.are_distinct.ensures.distinct (subst IsTrue (sym c.if-not-are_distinct.false) refl) in
     let same = ap (map file_form) c.as_slice-2.ensures.value ∙ sym (all_current files es index distinct) in
     let first =
@@ -36,9 +36,9 @@ returns-in_err-check_top-clause-bound c =
 pub returns-clause-found : goal.returns-clause-found
 returns-clause-found c =
     let files : List LocatedFile = c.args.files.items in
-    let es : List Entry = entries_of c.in_ok-numbers.numbers in
+    let es : List Entry = entries_of c.in_ok-index.index in
     let index : IsIndex (names_in (map named_file files)) es =
-    subst (λ (l : List LocatedFile). IsIndex (names_in (map named_file l)) es) c.as_slice.ensures.value c.in_ok-numbers.ensures.found in
+    subst (λ (l : List LocatedFile). IsIndex (names_in (map named_file l)) es) c.as_slice.ensures.value c.in_ok-index.ensures.found in
     let distinct = c.are_distinct.ensures.distinct (subst IsTrue (sym c.if-not-are_distinct.false) refl) in
     record {
       no_twins = without_twins files es index distinct;

@@ -66,7 +66,7 @@ noted_more fs es files place n m inside l number is old s d e p below = go (case
 
 pub is_replaced-replaced-requires-clause-index : goal.is_replaced-replaced-requires-clause-index
 is_replaced-replaced-requires-clause-index c =
-    subst (λ (fs : List NamedFile). IsIndex (names_in fs) (entries_of c.args.numbers.now))
+    subst (λ (fs : List NamedFile). IsIndex (names_in fs) (entries_of c.args.index.now))
     (sym (same_named c.loop-place.files c.args.files.now c.loop-place.invariant.same)) c.requires.index
 
 pub is_replaced-replaced-requires-clause-apart : goal.is_replaced-replaced-requires-clause-apart
@@ -75,12 +75,12 @@ is_replaced-replaced-requires-clause-apart c =
 
 pub bounds-files-number : goal.bounds-files-number
 bounds-files-number c =
-    file_within c.args.files.now c.loop-place.files (entries_of c.args.numbers.now) c.requires.index c.loop-place.invariant.same
+    file_within c.args.files.now c.loop-place.files (entries_of c.args.index.now) c.requires.index c.loop-place.invariant.same
     c.number_at-number.result c.loop-place.place (omega arith) c.number_at-number.ensures
 
 pub bounds-files-number-in-loop-place : goal.bounds-files-number-in-loop-place
 bounds-files-number-in-loop-place c =
-    file_within c.args.files.now c.loop-place.files (entries_of c.args.numbers.now) c.requires.index c.loop-place.invariant.same
+    file_within c.args.files.now c.loop-place.files (entries_of c.args.index.now) c.requires.index c.loop-place.invariant.same
     c.number_at-number.result c.loop-place.place (omega arith) c.number_at-number.ensures
 
 -- what the index says of the file of an entry
@@ -108,7 +108,7 @@ pub with_replaced-requires : goal.with_replaced-requires
 with_replaced-requires c = λ yes.
     let old : List LocatedFile = c.args.files.now in
     let files : List LocatedFile = c.loop-place.files in
-    let es : List Entry = entries_of c.args.numbers.now in
+    let es : List Entry = entries_of c.args.index.now in
     let n : ℕ = c.number_at-number.result in
     let place : ℕ = c.loop-place.place in
     let same : map file_form files ≡ map file_form old = c.loop-place.invariant.same in
@@ -121,7 +121,7 @@ pub loop-place-preserved : goal.loop-place-preserved
 loop-place-preserved c =
     let old : List LocatedFile = c.args.files.now in
     let fs : List FileForm = map file_form old in
-    let es : List Entry = entries_of c.args.numbers.now in
+    let es : List Entry = entries_of c.args.index.now in
     let files : List LocatedFile = c.loop-place.files in
     let place : ℕ = c.loop-place.place in
     let n : ℕ = c.number_at-number.result in
@@ -142,7 +142,7 @@ pub returns-clause-replaced : goal.returns-clause-replaced
 returns-clause-replaced c = λ k s l.
     let old : List LocatedFile = c.args.files.now in
     let fs : List FileForm = map file_form old in
-    let es : List Entry = entries_of c.args.numbers.now in
+    let es : List Entry = entries_of c.args.index.now in
     let files : List LocatedFile = c.loop-place.files in
     let d : FileForm = file_form no_file in
     let same : map file_form files ≡ fs = c.loop-place.invariant.same in

@@ -10,6 +10,6 @@ abbrev pub invariant-loop-place : goal.invariant-loop-place
 invariant-loop-place l = record {
   same : map file_form l.files ≡ map file_form l.fn.files;
   noted : (s : LocatedFile) (d : FileForm) (e : Entry) (p : ℕ) → p < l.place
-      → is_noted (get_or l.files (get_or (entries_of l.numbers) p e).1 s).mark
-      ≡ list_any (replaced_by (get_or (map file_form l.fn.files) (get_or (entries_of l.numbers) p e).1 d)) (map file_form l.fn.files);
+      → is_noted (get_or l.files (get_or (entries_of l.index) p e).1 s).mark
+      ≡ list_any (replaced_by (get_or (map file_form l.fn.files) (get_or (entries_of l.index) p e).1 d)) (map file_form l.fn.files);
 }

@@ -1,72 +1,70 @@
-use Rattle.std.proofs.Common.{◌≡◌, ◌<◌, ◌≤◌, ◌%◌, ◌^◌, ℕ, [], ◌∷◌, ◌++◌, get_or, length, List, map, sym, ap, ◌∙◌, subst, arith}
-use Rattle.std.proofs.Common.{Result, Ok, Err, IfErr}
+use Rattle.std.proofs.Common.{◌≡◌, ◌<◌, ℕ, ◌+◌, [], ◌∷◌, ◌++◌, get_or, length, List, map, take, sym, ap, ◌∙◌, subst, arith}
+use Rattle.std.specs.List.{All, AllWithin}
 use Rattle.std.specs.List.Sorted.{IsPermutation}
-use Rattle.std.proofs.lemmas.List.{length-map, map_more, take_all}
-use Rattle.std.proofs.lemmas.List.Sorted.{IsPermutation-trans}
-use Rattle.fv_names.specs.Words.{NamedFile, names_in, Entry, numbered}
-use Rattle.fv_names.specs.inner.NameOrders.{key_of}
-use Rattle.fv_names.proofs.IndexLaws.{no_named}
-use Rattle.fv_names.proofs.KeyLaws.{entry_at, key_within, keyed_all}
+use Rattle.std.proofs.lemmas.List.{get_or-map, length-map, length-take-le, take_all, take_more}
+use Rattle.std.proofs.lemmas.List.Elements.{All-from_all_within, All-map, AllWithin-more, AllWithin-none, recursion_from_All}
+use Rattle.fv_base.specs.declared.guid.Guid.{Guid}
+use Rattle.fv_names.specs.Words.{NamedFile, names_in, Entry, Halves, IsName, halves_of, numbered}
+use Rattle.fv_names.proofs.IndexLaws.{no_entry, no_named}
+use Rattle.fv_names.proofs.NumberedLaws.{numbered_at, numbered_length}
 use Rattle.fv_names.proofs.name_index.NameIndex.of.Goals as goal
 
-pub loop-key-init : goal.loop-key-init
-loop-key-init g c = c.in_ok-sorted.ensures.items
+abbrev HasName : NamedFile → Type 0
+HasName f = IsName f.name
 
-within : (files : List NamedFile) (bits : ℕ) → length files ≤ 2 ^ bits → (keys stored : List ℕ) → keys ≡ stored
-    → IsPermutation (map (key_of bits) (numbered 0 (names_in files))) stored → (i : ℕ) → i < length keys
-    → get_or keys i 0 % 2 ^ bits < length files
-within files bits room keys stored same all i l =
-    key_within files bits room keys (subst (IsPermutation (map (key_of bits) (numbered 0 (names_in files)))) (sym same) all) i l
+entry_count : (fs : List NamedFile) → length (numbered 0 (names_in fs)) ≡ length fs
+entry_count fs = numbered_length 0 (names_in fs) ∙ length-map fs (λ (f : NamedFile). f.name)
 
-pub entry_at-requires-clause-within : goal.entry_at-requires-clause-within
-entry_at-requires-clause-within g c =
+-- one entry more
+entry_more : (fs : List NamedFile) (i : ℕ) → i < length fs
+    → take (i + 1) (numbered 0 (names_in fs)) ≡ take i (numbered 0 (names_in fs)) ++ (halves_of (get_or fs i no_named).name, i) ∷ []
+entry_more fs i l =
+    let name : NamedFile → Guid = λ f. f.name in
+    let entries : List Entry = numbered 0 (names_in fs) in
+    let number : 0 + i ≡ i = omega arith in
+    take_more entries i no_entry (omega (arith, l, entry_count fs))
+    ∙ ap (λ (e : Entry). take i entries ++ e ∷ [])
+    (numbered_at 0 (names_in fs) i no_named.name no_entry (omega (arith, l, length-map fs name))
+    ∙ ap (λ (g : Guid). (halves_of g, 0 + i)) (get_or-map name fs i no_named no_named.name l)
+    ∙ ap (λ (n : ℕ). (halves_of (get_or fs i no_named).name, n)) number)
+
+pub loop-file-init : goal.loop-file-init
+loop-file-init g c = record {
+  items = c.in_ok-sorted.ensures.items;
+  whole = AllWithin-none HasName (map g.F.Named.named c.args.files.now) 0;
+}
+
+pub loop-file-preserved : goal.loop-file-preserved
+loop-file-preserved g c =
     let files : List NamedFile = map g.F.Named.named c.args.files.now in
-    let count = length-map c.args.files.now g.F.Named.named in
-    let keys : List ℕ = c.deref-key-items.result.now in
-    let of_files = within files c.of-packing.result.bits (omega (arith, count, c.of-packing.ensures.room)) keys c.in_ok-keys.keys.items
-    c.deref-key-items.ensures.value c.in_ok-keys.ensures.keys c.loop-key.key-index c.loop-key-test.true in
-    omega (arith, of_files, count, c.number-number.ensures)
-
-pub loop-key-preserved : goal.loop-key-preserved
-loop-key-preserved g c =
-    let files : List NamedFile = map g.F.Named.named c.args.files.now in
-    let bits : ℕ = c.of-packing.result.bits in
-    let keys : List ℕ = c.deref-key-items.result.now in
-    let i : ℕ = c.loop-key.key-index in
-    let old : List Entry = c.loop-key.sorted.items in
-    let f : ℕ → Entry = λ key. entry_at files (key % 2 ^ bits) in
-    c.in_ok-push.ensures.items ∙ ap (λ (e : Entry). old ++ e ∷ []) (c.entry_at.ensures no_named)
-    ∙ ap (λ (n : ℕ). old ++ entry_at files n ∷ []) c.number-number.ensures
-    ∙ ap (λ (es : List Entry). es ++ f (get_or keys i 0) ∷ []) c.loop-key.invariant ∙ sym (map_more f keys i 0 c.loop-key-test.true)
-
--- what holds anyway holds if there is an error
-of_error : {A E : Type 0} (r : Result A E) (P : Type 0) → P → IfErr r (λ _. P)
-of_error (Ok a) P p = tt
-of_error (Err e) P p = p
-
-pub returns-in_err-push-clause-some : goal.returns-in_err-push-clause-some
-returns-in_err-push-clause-some g c =
-    let files : List NamedFile = map g.F.Named.named c.args.files.now in
-    let count = length-map c.args.files.now g.F.Named.named in
-    let of_files = within files c.of-packing.result.bits (omega (arith, count, c.of-packing.ensures.room)) c.deref-key-items.result.now
-    c.in_ok-keys.keys.items c.deref-key-items.ensures.value c.in_ok-keys.ensures.keys c.loop-key.key-index c.loop-key-test.true in
-    of_error c.from_residual-in_err-push.result _ (omega (arith, of_files, count))
+    let i : ℕ = c.loop-file.file-index in
+    let old : List Entry = c.loop-file.sorted.items in
+    let l : i < length files = omega (arith, c.loop-file-test.true, length-map c.args.files.now g.F.Named.named) in
+    let count : length old ≡ i =
+    ap length c.loop-file.invariant.items ∙ length-take-le i (numbered 0 (names_in files)) (omega (arith, l, entry_count files)) in
+    let number : c.len-number.result ≡ i = omega (arith, count, c.len-number.ensures) in
+    let here : (d : NamedFile) → c.name.result ≡ (get_or files i d).name = λ d.
+    c.name.ensures ∙ ap (λ (f : NamedFile). f.name) (ap g.F.Named.named c.file-item.is
+    ∙ sym (get_or-map g.F.Named.named c.args.files.now i _ d c.loop-file-test.true)) in
+    record {
+      items = c.in_ok-push.ensures.items ∙ ap (λ (es : List Entry). es ++ (c.halves.result, c.len-number.result) ∷ []) c.loop-file.invariant.items
+          ∙ ap (λ (n : ℕ). take i (numbered 0 (names_in files)) ++ (c.halves.result, n) ∷ []) number
+          ∙ ap (λ (h : Halves). take i (numbered 0 (names_in files)) ++ (h, i) ∷ []) (c.halves.ensures.is ∙ ap halves_of (here no_named))
+          ∙ sym (entry_more files i l);
+      whole = AllWithin-more HasName files 0 i c.loop-file.invariant.whole (λ d. subst IsName (here d) c.halves.ensures.whole);
+    }
 
 pub returns-clause-found : goal.returns-clause-found
 returns-clause-found g c =
     let files : List NamedFile = map g.F.Named.named c.args.files.now in
-    let bits : ℕ = c.of-packing.result.bits in
-    let keys : List ℕ = c.deref-key-items.result.now in
-    let f : ℕ → Entry = λ key. entry_at files (key % 2 ^ bits) in
-    let names = numbered 0 (names_in files) in
-    let room : length files ≤ 2 ^ bits = omega (arith, length-map c.args.files.now g.F.Named.named, c.of-packing.ensures.room) in
-    let all : IsPermutation (map (key_of bits) names) keys =
-    subst (IsPermutation (map (key_of bits) names)) (sym c.deref-key-items.ensures.value) c.in_ok-keys.ensures.keys in
-    let whole : c.loop-key.sorted.items ≡ map f keys =
-    c.loop-key.invariant ∙ ap (map f) (take_all c.loop-key.key-index keys (omega arith)) in
+    let entries : List Entry = numbered 0 (names_in files) in
+    let i : ℕ = c.loop-file.file-index in
+    let all : i ≡ length files = omega (arith, length-map c.args.files.now g.F.Named.named) in
+    let whole : All HasName files = All-from_all_within HasName files (subst (AllWithin HasName files 0) all c.loop-file.invariant.whole) in
+    let items : c.loop-file.sorted.items ≡ entries =
+    c.loop-file.invariant.items ∙ take_all i entries (omega (arith, all, entry_count files)) in
     record {
       ordered = c.sort_unstable.ensures.sorted;
-      all = IsPermutation-trans names c.loop-key.sorted.items c.sort_unstable.new.self.items
-          (subst (IsPermutation names) (sym whole) (keyed_all files bits room keys all)) c.sort_unstable.ensures.permutation;
-      whole = c.in_ok-keys.ensures.whole;
+      all = subst (λ es. IsPermutation es c.sort_unstable.new.self.items) items c.sort_unstable.ensures.permutation;
+      whole = recursion_from_All IsName (names_in files) (All-map IsName (λ (f : NamedFile). f.name) files whole);
     }

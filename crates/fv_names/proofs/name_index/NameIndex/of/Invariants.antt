@@ -1,7 +1,10 @@
-use Rattle.std.proofs.Common.{◌≡◌, ◌%◌, ◌^◌, ℕ, map, take}
-use Rattle.fv_names.proofs.KeyLaws.{entry_at}
+use Rattle.std.proofs.Common.{◌≡◌, map, take}
+use Rattle.std.specs.List.{AllWithin}
+use Rattle.fv_names.specs.Words.{NamedFile, IsName, names_in, numbered}
 use Rattle.fv_names.proofs.name_index.NameIndex.of.Given as goal
 
-abbrev pub invariant-loop-key : goal.invariant-loop-key
-invariant-loop-key g l =
-    l.sorted.items ≡ map (λ (key : ℕ). entry_at (map g.F.Named.named l.files) (key % 2 ^ l.packing.bits)) (take l.key-index l.key-items)
+abbrev pub invariant-loop-file : goal.invariant-loop-file
+invariant-loop-file g l = record {
+  items : l.sorted.items ≡ take l.file-index (numbered 0 (names_in (map g.F.Named.named l.files)));
+  whole : AllWithin (λ (f : NamedFile). IsName f.name) (map g.F.Named.named l.files) 0 l.file-index;
+}

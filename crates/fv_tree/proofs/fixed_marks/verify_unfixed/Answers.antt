@@ -4,8 +4,8 @@ use Rattle.fv_base.proofs.Laws.{err_is}
 use Rattle.fv_tree.specs.Words.{IsUnfixed}
 use Rattle.fv_tree.proofs.FixedMarkLaws.{is_unfixed, stops_there}
 use Rattle.fv_tree.proofs.UnfixedInputLaws.{bytes_follow, stopped}
-use Rattle.fv_tree.proofs.unfixed_input.verify_unfixed.Goals.{In_ok-verify_unmarked}
-use Rattle.fv_tree.proofs.unfixed_input.verify_unfixed.Goals as goal
+use Rattle.fv_tree.proofs.fixed_marks.verify_unfixed.Goals.{In_ok-verify_unmarked}
+use Rattle.fv_tree.proofs.fixed_marks.verify_unfixed.Goals as goal
 
 -- the volume without its marks
 made : (c : In_ok-verify_unmarked) → (o : List ℕ) × IsUnfixed c.args.input.now o

@@ -8,7 +8,7 @@ use Rattle.fv_tree.proofs.FirstLaws.{only_answer}
 use Rattle.fv_tree.proofs.LocatedLaws.{begun_data}
 use Rattle.fv_tree.proofs.VolumePartLaws.{front_of}
 use Rattle.fv_tree.proofs.WholeInputLaws.{volume_refused, goes_on, end_refused, end_found, end_only, stood_kind}
-use Rattle.fv_tree.proofs.whole_input.whole_volume_with_files.Goals as goal
+use Rattle.fv_tree.proofs.read.whole_volume_with_files.Goals as goal
 
 pub returns-in_err-view-clause-refused : goal.returns-in_err-view-clause-refused
 returns-in_err-view-clause-refused c = rw (err_is c.from_residual.ensures.1) (volume_refused c.args.input.now _ c.in_err-view.ensures.read)
