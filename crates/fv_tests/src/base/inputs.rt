@@ -30,14 +30,15 @@ impl Read for CountingReader {
     }
 }
 
-// A reader of `left` bytes, which counts.
-fn counting_reader(left: usize, ends: bool) -> Port<CountingReader> {
-    Port::new(CountingReader {
+// A reader of `left` bytes, which counts, in a port of this room.
+fn counting_reader(left: usize, ends: bool, room: usize) -> Port<CountingReader> {
+    let reader = CountingReader {
         left,
         ends,
         calls: 0,
         largest: 0,
-    })
+    };
+    Port::with_room(reader, room)
 }
 
 // Writes bytes that all differ from their neighbours.
@@ -71,7 +72,7 @@ fn are_read(alloc: Global, length: usize, room: usize) -> bool {
 #[test]
 fn inputs_are_read_to_their_end(rt: HostRuntime) {
     for length in [0, 1, 1000, 65_536, 200_000] {
-        for room in [0, 1, 1000, 65_536, 200_000, usize::MAX] {
+        for room in [0, 1, 1000, 65_536, 200_000, 500_000, usize::MAX] {
             assert!(rt; are_read(rt.alloc(), length, room), "{length} {room}");
         }
     }
@@ -133,27 +134,36 @@ fn read_count(alloc: Global, reader: &mut Port<CountingReader>) -> Result<usize,
     }
 }
 
-// Whether reading has this outcome after this many calls, of which each asks for 65,536 bytes.
+// Whether reading has this outcome after this many calls, of which the largest asks for this many
+// bytes.
 fn is_read_in(
     alloc: Global,
-    left: usize,
-    ends: bool,
+    mut reader: Port<CountingReader>,
     want: Result<usize, Fault>,
     calls: u64,
+    largest: usize,
 ) -> bool {
-    let mut reader = counting_reader(left, ends);
     let outcome = read_count(alloc, &mut reader);
     let reader = reader.into_inner();
-    outcome == want && reader.calls == calls && reader.largest == 65_536
+    outcome == want && reader.calls == calls && reader.largest == largest
 }
 
-// Each call asks for 65,536 bytes, and there are no more calls than the bytes and the end need.
+// Each call asks for a sixteenth of the port's room, but for at least 16,384 and at most 65,536
+// bytes. There are no more calls than the bytes and the end need.
 #[test]
-fn each_read_asks_for_65536_bytes(rt: HostRuntime) {
-    for (bytes, calls) in [(0usize, 1u64), (65_536, 2), (65_537, 3), (200_000, 5)] {
+fn each_read_asks_for_a_sixteenth_of_the_room(rt: HostRuntime) {
+    for (room, asked, bytes, calls) in [
+        (0usize, 16_384usize, 0usize, 1u64),
+        (1, 16_384, 16_384, 2),
+        (262_159, 16_384, 16_385, 3),
+        (262_160, 16_385, 200_000, 14),
+        (1_048_575, 65_535, 65_536, 3),
+        (usize::MAX, 65_536, 65_536, 2),
+    ] {
+        let reader = counting_reader(bytes, true, room);
         assert!(rt;
-            is_read_in(rt.alloc(), bytes, true, Ok(bytes), calls),
-            "{bytes}"
+            is_read_in(rt.alloc(), reader, Ok(bytes), calls, asked),
+            "{room} {bytes}"
         );
     }
 }
@@ -162,15 +172,18 @@ fn each_read_asks_for_65536_bytes(rt: HostRuntime) {
 #[test]
 fn an_input_longer_than_the_limit_is_rejected(rt: HostRuntime) {
     let limit = 268_435_456;
+    let whole = counting_reader(limit, true, limit);
+    let long = counting_reader(limit + 1, true, 0);
     let fault = Fault::outer(FaultKind::Length, 268_435_456);
-    assert!(rt; is_read_in(rt.alloc(), limit, true, Ok(limit), 4097));
-    assert!(rt; is_read_in(rt.alloc(), limit + 1, true, Err(fault), 4097));
+    assert!(rt; is_read_in(rt.alloc(), whole, Ok(limit), 4097, 65_536));
+    assert!(rt; is_read_in(rt.alloc(), long, Err(fault), 16_385, 16_384));
 }
 
 // Reading stops if the reader is interrupted for ever. (So many calls take a second or two when
 // built, and too long under `rt try`.)
 #[test]
 fn reading_ends_if_every_call_is_interrupted(rt: HostRuntime) {
+    let reader = counting_reader(10, false, 0);
     let fault = Fault::outer(FaultKind::ReadFault, 10);
-    assert!(rt; is_read_in(rt.alloc(), 10, false, Err(fault), 268_435_458));
+    assert!(rt; is_read_in(rt.alloc(), reader, Err(fault), 268_435_458, 16_384));
 }
