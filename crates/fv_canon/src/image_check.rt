@@ -3,8 +3,8 @@
 
 ghost use Rattle.std.specs.Prelude.{◌≡◌, ◌⊎◌, ◌+◌, ◌<◌, ◌≤◌, ◌^◌, ℕ, List, length, IfOk, IfErr};
 ghost use Rattle.fv_base.specs.Words.{OrMemory, out_of_memory, volume_limit};
-ghost use Rattle.fv_canon.specs.ImageChecks.{AreChecked, ChecksImage, HasOutcome, IsAboveLimit, IsChecked};
-ghost use Rattle.fv_flash.specs.Words.{AreFound, IsPlace, VolumeAt, offsets_of};
+ghost use Rattle.fv_canon.specs.ImageChecks.{ChecksImage, HasOutcome, IsAboveLimit, IsChecked};
+ghost use Rattle.fv_flash.specs.Words.{IsPlace, VolumeAt};
 
 use crate::canonical_input::is_canonical;
 use fv_base::limits::VOLUME_LIMIT;
@@ -73,26 +73,6 @@ fn check_at(alloc: Global, image: &[u8], volume: FoundVolume) -> Result<VolumeCh
     })
 }
 
-// Checks each volume of the image.
-fn check_each(
-    alloc: Global,
-    image: &[u8],
-    volumes: &[FoundVolume],
-) -> Result<Vec<VolumeCheck>, Fault>
-    requires { AreFound image.now volumes.now }
-    ensures ok { IfOk result (λ checks. AreChecked image.now (offsets_of volumes.now) checks.items) }
-    ensures err { IfErr result (λ f. f ≡ out_of_memory) }
-
-    // Memory runs out only if there is a volume.
-    ensures memory { IfErr result (λ _. (place : ℕ) × IsPlace image.now place) }
-{
-    let mut checks = Vec::new(alloc);
-    for volume in volumes {
-        checks.push(check_at(alloc, image, *volume)?)?;
-    }
-    Ok(checks)
-}
-
 /// Checks each volume that `volumes` finds in the image, and returns the results in the order of the
 /// volumes. A volume that is rejected does not stop the check of the other volumes. `volumes` walks
 /// the image once, and each volume is read once. (PI specification, volume 3, section 3.2.)
@@ -122,5 +102,9 @@ pub fn check_image(alloc: Global, image: &[u8]) -> Result<Vec<VolumeCheck>, Faul
     let total = image.len() as u64;
     check(total <= VOLUME_LIMIT, FaultKind::Length, VOLUME_LIMIT)?;
     let found = volumes(alloc, image)?;
-    check_each(alloc, image, found.as_slice())
+    let mut checks = Vec::new(alloc);
+    for volume in found.as_slice() {
+        checks.push(check_at(alloc, image, *volume)?)?;
+    }
+    Ok(checks)
 }

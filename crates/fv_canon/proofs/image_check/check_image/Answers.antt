@@ -1,12 +1,18 @@
-use Rattle.std.proofs.Common.{◌≡◌, ◌≤◌, ◌∙◌, ℕ, List, ap, length, rules, sym, subst}
-use Rattle.std.proofs.lemmas.Result.{IfOk-weaker}
-use Rattle.fv_base.proofs.Laws.{err_is}
+use Rattle.std.proofs.Common.{◌≡◌, ◌≤◌, ◌∙◌, ap, arith, length, rules, sym, subst}
+use Rattle.std.proofs.lemmas.Grind.{common_steps}
+use Rattle.fv_base.proofs.Laws.{at_index, err_is}
 use Rattle.fv_base.specs.Words.{volume_limit}
 use Rattle.fv_base.specs.declared.fault.Fault.{Fault}
 use Rattle.fv_base.specs.declared.fault.FaultKind.TheVariants as kinds
-use Rattle.fv_flash.specs.Words.{AreFound, offsets_of}
+use Rattle.fv_flash.specs.Words.{AreFound, VolumeAt, offsets_of}
+use Rattle.fv_flash.proofs.Laws.{some_place}
 use Rattle.fv_canon.proofs.ImageCheckLaws.{checks_one}
 use Rattle.fv_canon.proofs.image_check.check_image.Goals as goal
+
+pub check_at-requires : goal.check_at-requires
+check_at-requires c =
+    at_index (λ v. VolumeAt c.args.image.now v.offset v.length) c.as_slice-volume-items.result.now c.loop-volume.volume-index _
+    (subst (AreFound c.args.image.now) (sym c.as_slice-volume-items.ensures.value) c.in_ok-found.ensures.found).1 c.loop-volume-test.true
 
 pub returns-in_err-check-clause-memory : goal.returns-in_err-check-clause-memory
 returns-in_err-check-clause-memory c =
@@ -14,10 +20,26 @@ returns-in_err-check-clause-memory c =
     (λ want. let bad : kinds.Length ≡ kinds.OutOfMemory =
     sym (ap (λ (f : Fault). f.kind) c.in_err-check.ensures.err.1) ∙ ap (λ (f : Fault). f.kind) want in cc)
 
+pub returns-in_err-check_at-clause-memory : goal.returns-in_err-check_at-clause-memory
+returns-in_err-check_at-clause-memory c =
+    let short : length c.args.image.now ≤ volume_limit = search rules in
+    rw (err_is c.from_residual-in_err-check_at.ensures.1) (λ want. (
+      short,
+      some_place c.args.image.now c.in_ok-found.found.items
+          c.loop-volume.volume-index c.in_ok-found.ensures.found (rw (← c.as_slice-volume-items.ensures.value) c.loop-volume-test.true),
+    ))
+
+pub returns-in_err-push-clause-memory : goal.returns-in_err-push-clause-memory
+returns-in_err-push-clause-memory c =
+    let short : length c.args.image.now ≤ volume_limit = search rules in
+    rw (err_is c.from_residual-in_err-push.ensures.1) (λ want. (
+      short,
+      some_place c.args.image.now c.in_ok-found.found.items
+          c.loop-volume.volume-index c.in_ok-found.ensures.found (rw (← c.as_slice-volume-items.ensures.value) c.loop-volume-test.true),
+    ))
+
+pub returns-clause-found : goal.returns-clause-found
+returns-clause-found c = grind (arith, common_steps)
+
 pub returns-clause-only : goal.returns-clause-only
-returns-clause-only c =
-    let b : List ℕ = c.args.image.now in
-    let short : length b ≤ volume_limit = search rules in
-    let found : AreFound b c.as_slice.result.now = subst (AreFound b) (sym c.as_slice.ensures.value) c.in_ok-found.ensures.found in
-    IfOk-weaker c.check_each.result _ _
-    (λ v are other to. checks_one b other v.items to (short, offsets_of c.as_slice.result.now, found.0, are)) c.check_each.ensures.ok
+returns-clause-only c = λ other to. checks_one c.args.image.now other c.loop-volume.checks.items to (returns-clause-found c)
