@@ -1,8 +1,9 @@
-//! Reading a volume, at the start of the bytes or as a whole input.
+//! Reading a volume at the start of some bytes, its cells, and a volume that is a whole input.
 
 ghost use Rattle.std.specs.Prelude.{◌≡◌, ◌≢◌, ◌≤◌, ◌<◌, ◌+◌, ◌^◌, ℕ, length, take, map, IfOk, IfErr};
 ghost use Rattle.fv_base.specs.Words.{First, outer_fault, out_of_memory, depth_limit, volume_limit, OrMemory};
 ghost use Rattle.fv_base.specs.declared.fault.Fault.{Fault};
+ghost use Rattle.fv_file.specs.Words.{CellsWithin};
 ghost use Rattle.fv_head.specs.Words.{BeginsWithHeader};
 ghost use Rattle.fv_section.specs.Words.{frame_len};
 ghost use Rattle.fv_tree.specs.Meaning.{Meaning, length_of};
@@ -12,7 +13,7 @@ ghost use Rattle.fv_tree.specs.FirstFault.{moved_fault, InSection, InStream, InV
 ghost use Rattle.fv_tree.specs.FirstFault.{IsFirstOfVolume, FaultStands, body_place, data_place};
 ghost use Rattle.fv_tree.specs.inner.ReadingParts.{Reads, AllStored};
 ghost use Rattle.fv_tree.specs.Views.{content_view};
-ghost use Rattle.fv_tree.specs.LocatedFiles.{BeginWithFiles, file_form, HasDataIn};
+ghost use Rattle.fv_tree.specs.LocatedFiles.{BeginWithFiles, BeginsTiled, HasDataIn, NotTiled, file_form};
 ghost use Rattle.std.specs.List.{AllByRecursion};
 ghost use Rattle.fv_tree.specs.InputFaults.{FaultStandsInInput, NotRead};
 ghost use Rattle.fv_section.specs.StreamReads as framed;
@@ -24,7 +25,8 @@ use crate::view::{Content, FileView, SectionView, VolumeView};
 use crate::volume_files::LocatedFile;
 use fv_base::limits::DEPTH_LIMIT;
 use fv_base::{Fault, FaultKind, Place, check};
-use fv_head::read_head;
+use fv_file::{Cells, cells};
+use fv_head::{Extent, read_head, verify_fv};
 use fv_section::{Frame, FrameWalk, section_header_len};
 use std::alloc::Global;
 
@@ -279,6 +281,40 @@ pub fn read_volume(alloc: Global, bytes: &[u8]) -> Result<(VolumeView<'_>, u64),
     read_at(alloc, bytes, OUTERMOST)
 }
 
+/// Returns the extent of the volume at the start of the bytes, and the cells of its body. Does not
+/// check sections, duplicate names or the volume top file. (PI specification, volume 3, sections
+/// 3.2.1 to 3.2.3.)
+///
+/// # Errors
+///
+/// The first fault. Faults of the header come first, as for `verify_fv`, then faults of the body,
+/// as for `cells`. OutOfMemory at 0, only if the bytes begin with a volume header.
+pub fn volume_cells(alloc: Global, bytes: &[u8]) -> Result<(Extent, Cells<'_>), Fault>
+    // The bytes begin with a volume of this extent, and these cells tile its body.
+    ensures found { IfOk result (λ r. BeginsTiled r.0 r.1 bytes.now) }
+
+    // Every cell lies within the volume.
+    ensures lies { IfOk result (λ r. CellsWithin (length (take r.0.length bytes.now)) r.1) }
+
+    // If an error other than OutOfMemory is returned, the bytes do not begin with such a volume,
+    // and the error is the first fault.
+    ensures err { IfErr result (λ f. f ≢ out_of_memory → NotTiled bytes.now f) }
+
+    // Memory runs out only if the bytes begin with a volume header.
+    ensures memory { IfErr result (λ f. f ≡ out_of_memory → BeginsWithHeader bytes.now) }
+{
+    let extent = verify_fv(bytes)?;
+    let volume = &bytes[..extent.length as usize];
+    let list = cells(
+        alloc,
+        volume,
+        extent.first,
+        extent.file_system,
+        extent.polarity,
+    )?;
+    Ok((extent, list))
+}
+
 /// Returns the volume that is the whole input, and its files as they are stored in it: each with
 /// the offset of its header, its header and its data. The files are in the order of
 /// `VolumeView::files`. (PI specification, volume 3, sections 3.2.2 and 3.2.3.)
@@ -341,6 +377,6 @@ pub fn whole_volume(alloc: Global, input: &[u8]) -> Result<VolumeView<'_>, Fault
 {
     match whole_volume_with_files(alloc, input) {
         Ok((view, _)) => Ok(view),
-        Err(fault) => Err(fault),
+        Err(first) => Err(first),
     }
 }

@@ -150,7 +150,7 @@ fn file_of<'a>(cell: &Cell<'a>) -> Option<LocatedFile<'a>>
 }
 
 // Returns the files in some cells, in order.
-pub(crate) fn files_of<'a>(alloc: Global, cells: &[Cell<'a>]) -> Result<Vec<LocatedFile<'a>>, Fault>
+pub(crate) fn files_in<'a>(alloc: Global, cells: &[Cell<'a>]) -> Result<Vec<LocatedFile<'a>>, Fault>
     requires { AllByRecursion IsSmallCell (map cellular.cell_form cells.now) }
     ensures found { IfOk result (λ fs. map file_form fs.items ≡ files_in (map cellular.cell_form cells.now)) }
     ensures err { IfErr result (λ f. f ≡ out_of_memory) }

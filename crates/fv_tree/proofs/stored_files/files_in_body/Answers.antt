@@ -14,8 +14,8 @@ use Rattle.fv_base.proofs.Laws.{bytes_drop}
 use Rattle.fv_tree.proofs.SmallCellLaws.{small_cells}
 use Rattle.fv_tree.proofs.stored_files.files_in_body.Goals as goal
 
-pub files_of-requires : goal.files_of-requires
-files_of-requires c =
+pub files_in-requires : goal.files_in-requires
+files_in-requires c =
     let e : Extent = c.args.extent in
     let small : IsBytes c.args.volume.now = search rules in
     subst (AllByRecursion IsSmallCell) (sym c.as_slice.ensures)

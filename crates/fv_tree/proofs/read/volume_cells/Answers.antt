@@ -4,7 +4,7 @@ use Rattle.fv_base.proofs.Laws.{err_is}
 use Rattle.fv_base.specs.declared.fault.Fault.{Fault}
 use Rattle.fv_head.proofs.Laws.{fault_known, first_lies}
 use Rattle.fv_tree.proofs.VolumeCellLaws.{bad_cell, bad_header}
-use Rattle.fv_tree.proofs.stored_files.volume_cells.Goals as goal
+use Rattle.fv_tree.proofs.read.volume_cells.Goals as goal
 
 pub returns-in_err-extent-clause-err : goal.returns-in_err-extent-clause-err
 returns-in_err-extent-clause-err c =

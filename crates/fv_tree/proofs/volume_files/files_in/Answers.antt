@@ -7,7 +7,7 @@ use Rattle.fv_tree.specs.Words.{file_form, files_in}
 use Rattle.fv_tree.specs.inner.ReadingParts.{IsSmallCell}
 use Rattle.fv_tree.proofs.NameLaws.{files_in_items}
 use Rattle.fv_tree.proofs.SmallCellLaws.{no_cell}
-use Rattle.fv_tree.proofs.volume_files.files_of.Goals as goal
+use Rattle.fv_tree.proofs.volume_files.files_in.Goals as goal
 
 pub file_of-requires : goal.file_of-requires
 file_of-requires c =
