@@ -60,14 +60,12 @@ class Change:
 @dataclasses.dataclass(frozen=True)
 class Edit:
     """A wrong body: its changes, and the goal that has to stay open. `of` is the function of that goal, if the line
-    names it. `also` are other goals of the function that the edit opens, which need not be tried. `is_bare` says that
-    the goal is tried without its answer."""
+    names it. `is_bare` says that the goal is tried without its answer."""
 
     path: pathlib.Path
     changes: tuple[Change, ...]
     goal: str
     of: str
-    also: tuple[str, ...] = ()
     is_bare: bool = False
 
     @property
@@ -88,13 +86,14 @@ class Open:
 
 @dataclasses.dataclass
 class Report:
-    """What a check says: the goals that it leaves open, what it says of each function that it names, and for each that
-    waits, what it waits for. `moved` are the functions whose edit takes away a goal that has an answer, so that an open
-    goal may be an old one under another name. `broken` are the places in sources that do not compile, and `unknown`
-    functions that the checker knows by another name. `judged` says whether the check came to its end, and `said` is all
-    that it says."""
+    """What a check says: the goals that it leaves open; by what they belong to, those of them that have no answer; what
+    it says of each function that it names; and for each that waits, what it waits for. `moved` are the functions whose
+    edit takes away a goal that has an answer, so that an open goal may be an old one under another name. `broken` are
+    the places in sources that do not compile, and `unknown` functions that the checker knows by another name. `judged`
+    says whether the check came to its end, and `said` is all that it says."""
 
     opens: list[Open]
+    listed: dict[str, set[str]]
     named: dict[str, str]
     waits: dict[str, set[str]]
     moved: set[str]
@@ -110,7 +109,7 @@ class Report:
 
 def read_edit(path: pathlib.Path) -> Edit:
     """Reads an edit. A line that belongs to no change is passed over, as `rt must-fail` does."""
-    file, old, goal, of, also, is_bare, changes = "", "", "", "", "", False, list[Change]()
+    file, old, goal, of, is_bare, changes = "", "", "", "", False, list[Change]()
     for line in path.read_text(encoding="utf-8").split("\n"):
         if line.startswith("file: "):
             file = line[6:].strip()
@@ -120,10 +119,8 @@ def read_edit(path: pathlib.Path) -> Edit:
             changes.append(Change(file, old, line[4:].removeprefix(" ")))
         elif line.startswith("goal: "):
             of, _, goal = line[6:].rpartition(" ")
-        elif line.startswith("also: "):
-            also = line[6:]
         is_bare = is_bare or line == "answer: none"
-    return Edit(path, tuple(changes), goal, of, tuple(also.split()), is_bare)
+    return Edit(path, tuple(changes), goal, of, is_bare)
 
 
 def applied(changes: tuple[Change, ...], texts: dict[str, str]) -> dict[str, str] | None:
@@ -375,13 +372,14 @@ def of_place(match: re.Match[str], text: str, texts: dict[str, str], report: Rep
     function = next(after, None)
     if goal and function:
         report.opens.append(Open(function.unit, goal[1], FALSE if VALUES.search(said) else NO_PROOF))
+        report.listed.setdefault(function.unit, set()).add(goal[1])
 
 
 def report_of(said: str, texts: dict[str, str]) -> Report:
     """Reads what a check says of sources and proof files with these texts."""
     unknown = {*re.findall(r"has no function `([^`]+)`", said)}
     judged = bool(re.search(r"(?m)^(?:only=\d+ (?:proved|holes)=|logic=)", said))
-    report = Report([], {}, {}, set(), [], unknown, judged, said)
+    report = Report([], {}, {}, {}, set(), [], unknown, judged, said)
     for text in items(said):
         placed, function = PLACED.match(text), OF_FUNCTION.match(text)
         if placed:
