@@ -11,9 +11,6 @@ use crate::port::Port;
 use std::alloc::{AllocError, Global};
 use std::io::{ErrorKind, Read};
 
-/// The minimum number of bytes that a single read asks for.
-const LEAST_READ: usize = 16_384;
-
 /// Collects an input, piece after piece.
 pub trait Collector {
     /// Its state is the result of collecting exactly these bytes.
@@ -57,12 +54,25 @@ fn zeros(alloc: Global, count: usize) -> Result<Vec<u8>, AllocError>
     vec![in alloc; 0u8; count]
 }
 
+// Returns how many bytes a read asks for if its reader is expected to give `room` bytes: a sixteenth
+// of them, but at least 16,384 and at most 65,536. If no number is known, a read asks for 65,536
+// bytes, because short reads of a pipe take more time.
+fn read_len(room: usize) -> usize
+    ensures some { 0 < result }
+    ensures most { result ≤ read_limit }
+{
+    match room {
+        0 => READ_LIMIT,
+        _ => (room / 16).clamp(16_384, READ_LIMIT),
+    }
+}
+
 /// Reads a reader to its end and passes its bytes to the collector, up to `limit` bytes. The
-/// collector must hold no bytes at first. Each read asks for a sixteenth of the port's `room`, but
-/// for at least 16,384 and at most 65,536 bytes. A read that returns `Interrupted` is repeated.
-/// There are at most `limit` + 2 reads. A reader that gives one byte per call needs `limit` + 1 of
-/// them: the last finds the end, or gives one byte too many. The other read is spare, so the reads
-/// run out only if one of them was interrupted. How often `read` is called is only tested.
+/// collector must hold no bytes at first. A read asks for at most 65,536 bytes, and for fewer if the
+/// port's `room` is small. A read that returns `Interrupted` is repeated. There are at most
+/// `limit` + 2 reads. A reader that gives one byte per call needs `limit` + 1 of them: the last
+/// finds the end, or gives one byte too many. The other read is spare, so the reads run out only if
+/// one of them was interrupted. How often `read` is called is only tested.
 ///
 /// # Errors
 ///
@@ -94,7 +104,7 @@ pub fn read_to_end<R: Read, C: Collector>(
         × GaveCount (R.remaining (inner_of reader.old)) (R.remaining (inner_of reader.new)) count
         × ((count ≡ 0) ⊎ C.lacks collector.old count))) }
 {
-    let mut store = zeros(alloc, (reader.room() / 16).clamp(LEAST_READ, READ_LIMIT))?;
+    let mut store = zeros(alloc, read_len(reader.room()))?;
     let chunk = store.as_mut_slice();
     let mut count = 0;
     for _turn in 0..u64::from(limit) + 2 {

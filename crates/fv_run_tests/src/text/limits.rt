@@ -11,8 +11,8 @@ fn spaces_are_too_long(alloc: Global) -> bool {
     let fault = read_hex(alloc, &mut port).err();
     let reader = port.into_inner();
     fault == Some(Fault::outer(FaultKind::Length, 268_435_456))
-        && reader.calls == 65_537
-        && reader.most == 16_384
+        && reader.calls == 16_385
+        && reader.most == 65_536
 }
 
 // Whether the reading stops if its reader is always interrupted.
@@ -22,7 +22,7 @@ fn stops_if_always_interrupted(alloc: Global) -> bool {
     fault == Some(Fault::outer(FaultKind::ReadFault, 2)) && port.into_inner().calls == 1_073_741_826
 }
 
-// The limit is 1,073,741,824 bytes of text, and a read asks for 16,384.
+// The limit is 1,073,741,824 bytes of text, and a read asks for 65,536.
 #[test]
 fn text_without_end_is_too_long(rt: HostRuntime) {
     assert!(rt; spaces_are_too_long(rt.alloc()));

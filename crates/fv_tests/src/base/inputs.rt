@@ -149,16 +149,18 @@ fn is_read_in(
 }
 
 // Each call asks for a sixteenth of the port's room, but for at least 16,384 and at most 65,536
-// bytes. There are no more calls than the bytes and the end need.
+// bytes, and for 65,536 if the room is 0. There are no more calls than the bytes and the end need.
 #[test]
 fn each_read_asks_for_a_sixteenth_of_the_room(rt: HostRuntime) {
     for (room, asked, bytes, calls) in [
-        (0usize, 16_384usize, 0usize, 1u64),
-        (1, 16_384, 16_384, 2),
+        (0usize, 65_536usize, 65_536usize, 2u64),
+        (0, 65_536, 65_537, 3),
+        (1, 16_384, 0, 1),
+        (16_384, 16_384, 16_384, 2),
         (262_159, 16_384, 16_385, 3),
         (262_160, 16_385, 200_000, 14),
         (1_048_575, 65_535, 65_536, 3),
-        (usize::MAX, 65_536, 65_536, 2),
+        (usize::MAX, 65_536, 200_000, 5),
     ] {
         let reader = counting_reader(bytes, true, room);
         assert!(rt;
@@ -172,8 +174,8 @@ fn each_read_asks_for_a_sixteenth_of_the_room(rt: HostRuntime) {
 #[test]
 fn an_input_longer_than_the_limit_is_rejected(rt: HostRuntime) {
     let limit = 268_435_456;
-    let whole = counting_reader(limit, true, limit);
-    let long = counting_reader(limit + 1, true, 0);
+    let whole = counting_reader(limit, true, 0);
+    let long = counting_reader(limit + 1, true, 1);
     let fault = Fault::outer(FaultKind::Length, 268_435_456);
     assert!(rt; is_read_in(rt.alloc(), whole, Ok(limit), 4097, 65_536));
     assert!(rt; is_read_in(rt.alloc(), long, Err(fault), 16_385, 16_384));
@@ -185,5 +187,5 @@ fn an_input_longer_than_the_limit_is_rejected(rt: HostRuntime) {
 fn reading_ends_if_every_call_is_interrupted(rt: HostRuntime) {
     let reader = counting_reader(10, false, 0);
     let fault = Fault::outer(FaultKind::ReadFault, 10);
-    assert!(rt; is_read_in(rt.alloc(), reader, Err(fault), 268_435_458, 16_384));
+    assert!(rt; is_read_in(rt.alloc(), reader, Err(fault), 268_435_458, 65_536));
 }
