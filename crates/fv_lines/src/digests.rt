@@ -1,9 +1,12 @@
-//! The digests that `list` shows of volumes, files and leaf sections, if it shows any.
+//! The digests that `list` shows of volumes, files and leaf sections, if it shows any, and the text
+//! of a digest.
 
-ghost use Rattle.std.specs.Prelude.{ℕ, List, Option, ◌∷◌};
-ghost use Rattle.fv_lines.specs.ListTexts.{NoDigest};
+ghost use Rattle.std.specs.Prelude.{ℕ, List, Option, ◌∷◌, ◌++◌, codes};
+ghost use Rattle.fv_lines.specs.ListTexts.{NoDigest, digest_text};
 ghost use Rattle.fv_rows.specs.Words.{NodeMeaning, TreeRow, part_node, row_of};
+ghost use Rattle.hex.specs.Hex.{encode_lower};
 
+use fv_base::Sink;
 use fv_rows::Row;
 
 /// The digests at the end of the lines of volumes, files and leaf sections, for a walk that visits
@@ -37,5 +40,28 @@ impl Digests for NoDigests {
 
     fn next_digest(&mut self, _row: &Row<'_, '_>) -> Option<[u8; 32]> {
         None
+    }
+}
+
+// Puts a digest as it appears at the end of a line: in lower-case hexadecimal digits.
+fn put_sum<S: Sink>(out: &mut S, sum: &[u8; 32])
+    ensures { S.takes out.old (codes " sha256 " ++ encode_lower sum.now) out.new }
+{
+    let mut text = [0u8; 64];
+    let Ok(()) = hex::encode_to_slice(&sum[..], &mut text) else {
+        unreachable!()
+    };
+    out.put(b" sha256 ");
+    out.put(&text);
+}
+
+/// Puts the digest at the end of the line of a volume, a file or a section. Puts nothing if there
+/// is no digest.
+pub fn put_digest<S: Sink>(out: &mut S, digest: Option<[u8; 32]>)
+    ensures { S.takes out.old (digest_text digest) out.new }
+{
+    match digest {
+        Some(sum) => put_sum(out, &sum),
+        None => {}
     }
 }

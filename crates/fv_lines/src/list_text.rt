@@ -6,8 +6,7 @@ ghost use Rattle.fv_rows.specs.Words.{part_node, tree_rows};
 ghost use Rattle.fv_lines.specs.ListTexts.{form_text, system_text, name_text, volume_text, file_text, section_text};
 ghost use Rattle.fv_lines.specs.ListTexts.{BodyShown, NodeText, RowsText, ListText, spaces};
 
-use crate::digest_text::put_digest;
-use crate::digests::{Digests, NoDigests};
+use crate::digests::{Digests, NoDigests, put_digest};
 use crate::leaf_text::put_section_body;
 use fv_base::{FileSystem, Sink};
 use fv_head::VolumeHead;

@@ -1,5 +1,5 @@
 use Rattle.std.proofs.Common.{◌++◌, ℕ, List, codes, subst}
-use Rattle.fv_lines.proofs.digest_text.put_sum.Goals as goal
+use Rattle.fv_lines.proofs.digests.put_sum.Goals as goal
 
 pub returns : goal.returns
 returns g c =
