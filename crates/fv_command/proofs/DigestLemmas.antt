@@ -2,8 +2,8 @@
 use Rattle.std.proofs.Common.{◌≡◌, ◌∙◌, ◌+◌, ℕ, List, [], ◌∷◌, ◌++◌, append-nil, drop, sym, ap, subst}
 use Rattle.fv_canon.specs.Words.{AreStarts, BeginsWithStarts, Laid, LaysVolume}
 use Rattle.fv_canon.proofs.Laws.{begins_first}
-use Rattle.fv_tree.specs.Words.{Inside, Meaning, Volume, FileMeaning, File, SectionMeaning, content_of, volumes_in, volumes_in_content, volumes_in_files}
-use Rattle.fv_rows.specs.Words.{NodeMeaning, VolumeNode, FileNode, SectionNode, TreeRow, tree_rows}
+use Rattle.fv_tree.specs.Words.{Inside, Meaning, Volume, FileMeaning, File, content_of, volumes_in, volumes_in_content, volumes_in_files}
+use Rattle.fv_rows.specs.Words.{NodeMeaning, VolumeNode, FileNode, TreeRow, tree_rows}
 use Rattle.fv_rows.specs.inner.RowVolumes.{Followed, flat, volumes_of}
 use Rattle.fv_rows.proofs.Laws.{files_volumes, content_volumes, rows_followed, volume_volumes}
 
