@@ -1,7 +1,5 @@
 -- The end of a run: what was written, and with which status it ends.
-use Rattle.std.proofs.Common.{◌≡◌, ◌∙◌, ℕ, Bool, true, false, List, inl, inr, refl, subst}
-use Rattle.std.proofs.KnownBytes.{Appends-kept}
-use Rattle.std.specs.Io.KnownBytes.{Keeps}
+use Rattle.std.proofs.Common.{◌≡◌, ℕ, Bool, true, false, List, inl, inr, refl, subst}
 use Rattle.std.specs.Prelude.{Option}
 use Rattle.fv_base.specs.Words.{has_erred, inner_of, LatchedWrites, PortShows, is_writing, port_of, written_count}
 use Rattle.fv_base.specs.declared.port.Port.{Port}

@@ -1,18 +1,21 @@
-//! The lines of `cells`: a line for the header of a volume, a line for each cell, and a last line
+//! The command `cells`: a line for the header of a volume, a line for each cell, and a last line
 //! with the sums of the cells' lengths.
 
-ghost use Rattle.std.specs.Prelude.{◌≡◌, ◌≤◌, ◌+◌, ◌-◌, ◌<◌, ◌^◌, length, map};
+ghost use Rattle.std.specs.Prelude.{◌≡◌, ◌≤◌, ◌+◌, ◌-◌, ◌<◌, ◌^◌, length, map, ℕ, List, IfErr, OnErr, OnOk};
 ghost use Rattle.std.specs.List.{flat_map, sum_by};
-ghost use Rattle.fv_base.specs.Words.{up_to_8};
+ghost use Rattle.fv_base.specs.Words.{up_to_8, OrMemory};
 ghost use Rattle.fv_file.specs.Words.{cell_form, cell_len};
 ghost use Rattle.fv_lines.specs.CellTexts.{cell_line, cell_lines, dead_name, file_line, span_line, span_text};
-ghost use Rattle.fv_lines.specs.CellTexts.{sums_line, sums_of};
+ghost use Rattle.fv_lines.specs.CellTexts.{sums_line, sums_of, CellsText};
 ghost use Rattle.fv_lines.specs.inner.LineRuns.{FitTogether, Fits, counted, sums_with};
+ghost use Rattle.fv_tree.specs.Words.{NotTiled};
 
-use fv_base::Sink;
 use fv_base::field::up_to_8;
+use fv_base::{Fault, Sink};
 use fv_file::{Cell, FileHead, FileState};
 use fv_text::{put_decimal, put_two_digits};
+use fv_tree::volume_cells;
+use std::alloc::Global;
 
 /// The number of bytes in the cells of a volume, by kind.
 #[derive(Clone, Copy)]
@@ -173,13 +176,35 @@ fn put_sums<S: Sink>(out: &mut S, sums: LengthSums)
     out.put(b"\n");
 }
 
-/// Puts a line for the header of a volume, which ends at the offset `first`, a line for each cell,
-/// and a line with the sums of their lengths. The cells must fit into a volume.
-pub fn put_lines<S: Sink>(out: &mut S, first: u64, list: &[Cell<'_>])
+// Puts a line for the header of a volume, which ends at the offset `first`, a line for each cell,
+// and a line with the sums of their lengths. The cells must fit into a volume.
+fn put_cell_lines<S: Sink>(out: &mut S, first: u64, list: &[Cell<'_>])
     requires { FitTogether (map cell_form list.now) }
     ensures { S.takes out.old (cell_lines first (map cell_form list.now)) out.new }
 {
     put_span_line(out, b"header", 0, first);
     put_list(out, list);
     put_sums(out, sums_of(list));
+}
+
+/// Puts where each part of the volume at the start of the input lies: a line for its header, a line
+/// for each cell, and a last line with the sums of the cells' lengths. Nothing is put before all
+/// cells have been read.
+///
+/// # Errors
+///
+/// As for `fv_tree::volume_cells`. Nothing has been put in that case.
+pub fn put_cells<S: Sink>(alloc: Global, input: &[u8], out: &mut S) -> Result<(), Fault>
+    // The sink has taken the text of `cells` for this input.
+    ensures ok { OnOk result ((text : List ℕ) × CellsText input.now text × S.takes out.old text out.new) }
+
+    // Any error except OutOfMemory is the first fault of the header or of a cell.
+    ensures err { IfErr result (OrMemory (NotTiled input.now)) }
+
+    // After an error the sink is unchanged.
+    ensures untouched { OnErr result (out.new ≡ out.old) }
+{
+    let (extent, list) = volume_cells(alloc, input)?;
+    put_cell_lines(out, extent.first, list.as_slice());
+    Ok(())
 }

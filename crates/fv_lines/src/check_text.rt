@@ -1,8 +1,8 @@
-//! The notes of `check` on pads whose data bytes are not all erased.
+//! The notes of `check` on pads whose data bytes are not all erased, and its last line.
 
 ghost use Rattle.std.specs.Prelude.{◌≡◌, map};
 ghost use Rattle.fv_file.specs.Words.{cell_form};
-ghost use Rattle.fv_lines.specs.Notes.{written_in, pad_line, pad_note, pad_notes};
+ghost use Rattle.fv_lines.specs.Notes.{written_in, pad_line, pad_note, pad_notes, verdict_line};
 
 use fv_base::{Polarity, Sink};
 use fv_file::Cell;
@@ -24,7 +24,7 @@ fn written_in(bytes: &[u8], polarity: Polarity) -> u64
 }
 
 // Puts the note on a pad with `count` data bytes that are not erased, unless `count` is 0.
-fn put_pad<S: Sink>(out: &mut S, offset: u64, count: u64)
+fn put_pad_note<S: Sink>(out: &mut S, offset: u64, count: u64)
     ensures { S.takes out.old (pad_line offset count) out.new }
 {
     if count == 0 {
@@ -46,7 +46,7 @@ fn put_cell<S: Sink>(out: &mut S, cell: &Cell<'_>, polarity: Polarity)
             offset,
             payload,
             ..
-        } => put_pad(out, offset, written_in(payload, polarity)),
+        } => put_pad_note(out, offset, written_in(payload, polarity)),
         _ => {}
     }
 }
@@ -58,5 +58,17 @@ pub fn put_pad_notes<S: Sink>(out: &mut S, list: &[Cell<'_>], polarity: Polarity
 {
     for cell in list {
         put_cell(out, cell, polarity);
+    }
+}
+
+/// Puts the line that says whether a volume is its own canonical image. (PI specification, volume
+/// 3, section 3.2.)
+pub fn put_verdict<S: Sink>(out: &mut S, is_same: bool)
+    ensures { S.takes out.old (verdict_line is_same) out.new }
+{
+    if is_same {
+        out.put(b"canonical\n");
+    } else {
+        out.put(b"not canonical\n");
     }
 }

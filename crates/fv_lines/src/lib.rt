@@ -1,24 +1,21 @@
 //! The lines of `scan`, `hobs`, `cells`, `list` and `check`, which are put into a sink.
 //!
-//! `.._text` modules put the lines of a command, and `.._notes` modules put the notes of `check`.
-//! `cell_run` is the command `cells`: it reads the cells of a volume and puts their lines.
+//! `.._text` modules put the lines of a command, and `depex_notes` puts the notes of `check` on
+//! dependency expressions. `put_cells` also reads the cells that it shows.
 #![tactic(auto)]
 
-mod cell_run;
 mod cell_text;
+mod check_text;
 mod depex_notes;
 mod digest_text;
 mod hob_text;
 mod leaf_text;
 mod list_text;
-mod pad_notes;
 mod scan_text;
-mod verdict_text;
 
-pub use cell_run::put_cells;
+pub use cell_text::put_cells;
+pub use check_text::{put_pad_notes, put_verdict};
 pub use depex_notes::{DepexNote, put_depex_notes};
 pub use hob_text::{MappedImage, Standing, put_hobs, standing_of};
 pub use list_text::{put_list, put_list_with};
-pub use pad_notes::put_pad_notes;
 pub use scan_text::{put_volume_place, put_volumes};
-pub use verdict_text::put_verdict;

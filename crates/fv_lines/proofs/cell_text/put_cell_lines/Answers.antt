@@ -1,7 +1,7 @@
 use Rattle.std.proofs.Common.{arith, subst}
 use Rattle.fv_lines.specs.Words.{sums_line}
 use Rattle.fv_lines.specs.declared.cell_text.LengthSums.{LengthSums}
-use Rattle.fv_lines.proofs.cell_text.put_lines.Goals as goal
+use Rattle.fv_lines.proofs.cell_text.put_cell_lines.Goals as goal
 
 pub sums_of-requires : goal.sums_of-requires
 sums_of-requires g c = omega (arith, c.requires.together)

@@ -1,6 +1,6 @@
 use Rattle.std.proofs.Common.{List, ℕ, subst}
 use Rattle.fv_lines.proofs.PadNoteLemmas.{pad_told}
-use Rattle.fv_lines.proofs.pad_notes.put_pad.Goals as goal
+use Rattle.fv_lines.proofs.check_text.put_pad_note.Goals as goal
 
 pub returns : goal.returns
 returns g c =

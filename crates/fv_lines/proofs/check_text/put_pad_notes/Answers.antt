@@ -4,7 +4,7 @@ use Rattle.fv_file.specs.Words.{cell_form}
 use Rattle.fv_file.specs.declared.cell.Cell.{Cell}
 use Rattle.fv_lines.specs.Words.{pad_note, pad_notes}
 use Rattle.fv_text.proofs.Laws.{seen_next}
-use Rattle.fv_lines.proofs.pad_notes.put_pad_notes.Goals as goal
+use Rattle.fv_lines.proofs.check_text.put_pad_notes.Goals as goal
 
 pub loop-cell-init : goal.loop-cell-init
 loop-cell-init g c = g.S.Sink.laws.none c.args.out.now

@@ -1,6 +1,6 @@
 use Rattle.std.proofs.Common.{◌∙◌, ◌+◌, ℕ, ap, sym}
 use Rattle.fv_lines.proofs.PadNoteLemmas.{erased_next, written_next}
-use Rattle.fv_lines.proofs.pad_notes.written_in.Goals as goal
+use Rattle.fv_lines.proofs.check_text.written_in.Goals as goal
 
 pub loop-byte-preserved-then-byte-erased : goal.loop-byte-preserved-then-byte-erased
 loop-byte-preserved-then-byte-erased c =
