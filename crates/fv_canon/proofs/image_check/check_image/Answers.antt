@@ -4,7 +4,7 @@ use Rattle.fv_base.proofs.Laws.{at_index, err_is}
 use Rattle.fv_base.specs.Words.{volume_limit}
 use Rattle.fv_base.specs.declared.fault.Fault.{Fault}
 use Rattle.fv_base.specs.declared.fault.FaultKind.TheVariants as kinds
-use Rattle.fv_flash.specs.Words.{AreFound, VolumeAt, offsets_of}
+use Rattle.fv_flash.specs.Words.{AreFound, VolumeAt}
 use Rattle.fv_flash.proofs.Laws.{some_place}
 use Rattle.fv_canon.proofs.ImageCheckLaws.{checks_one}
 use Rattle.fv_canon.proofs.image_check.check_image.Goals as goal
