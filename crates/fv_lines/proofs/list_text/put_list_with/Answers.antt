@@ -1,4 +1,5 @@
 use Rattle.std.proofs.Common.{◌∙◌, sym, subst}
+use Rattle.fv_rows.specs.Words.{row_of}
 use Rattle.fv_lines.specs.inner.LineRuns.{PutsRows}
 use Rattle.fv_lines.proofs.ListTextLemmas.{puts_next, puts_none}
 use Rattle.fv_lines.proofs.list_text.put_list_with.Goals as goal
@@ -21,7 +22,7 @@ loop-row-preserved g c =
       c.next_digest-digest.ensures.left _ covered,
       λ end puts. c.loop-row.invariant.3 end
           (subst (λ rows. PutsRows takes of_node rows c.loop-row.out end) (sym c.in-Some.ensures.steps)
-          (puts_next g.S.Sink.laws of_node _ _ _ c.next_digest-digest.ensures.shown c.put_row.ensures puts)),
+          (puts_next g.S.Sink.laws of_node (row_of c.in-Some.row) _ _ c.next_digest-digest.ensures.shown c.put_row.ensures puts)),
     )
 
 pub returns : goal.returns
