@@ -1,11 +1,10 @@
 -- The data of a file, as a body: the same volumes, the same bytes, as many values, and as deep.
-use Rattle.std.proofs.Common.{◌≡◌, ◌<◌, ◌≤◌, ◌+◌, ℕ, suc, false, List, length, get_or, refl, arith}
-use Rattle.fv_tree.specs.Words.{MeansFile, Stream, group_kind, FileMeaning, File, Plain, Sectioned, content_of, files_from, FileForm}
+use Rattle.std.proofs.Common.{◌≡◌, ◌<◌, ◌≤◌, ◌+◌, ℕ, List, length, get_or, refl, arith}
+use Rattle.fv_tree.specs.Words.{FileMeaning, File, Plain, Sectioned, content_of, files_from}
 use Rattle.fv_tree.specs.Words.{volumes_in_body, volumes_in_content, volumes_in_file}
 use Rattle.fv_tree.specs.inner.Sizes.{body_size, file_size, files_size}
 use Rattle.fv_tree.proofs.Laws.{file_falls}
 use Rattle.fv_canon.specs.inner.ImageOf.{data_body, body_image, data_of}
-use Rattle.fv_tree.specs.inner.NestingDepths.{NestsBody}
 
 pub data_volumes : (m : FileMeaning) → volumes_in_body (data_body m) ≡ volumes_in_file m
 data_volumes (File name kind attributes (Plain b)) = refl

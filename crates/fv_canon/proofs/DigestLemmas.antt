@@ -1,5 +1,5 @@
 -- In the walk over the rows of a volume, the starts begin with the starts of the volumes that are left.
-use Rattle.std.proofs.Common.{◌≡◌, ◌∙◌, ◌+◌, ℕ, List, [], ◌∷◌, ◌++◌, append-nil, drop, sym, ap, subst}
+use Rattle.std.proofs.Common.{◌≡◌, ◌∙◌, ◌+◌, ℕ, List, [], ◌∷◌, ◌++◌, drop, sym, ap, subst}
 use Rattle.fv_canon.specs.LayoutForms.{BeginsWithStarts, Laid, LaysVolume}
 use Rattle.fv_canon.specs.Layouts.{AreStarts}
 use Rattle.fv_canon.proofs.PartLengthLaws.{begin_all}

@@ -1,6 +1,6 @@
 -- The loops over the rows of a part of a volume: one adds the starts of each volume among the rows, the other passes the
 -- starts of these volumes.
-use Rattle.std.proofs.Common.{◌≡◌, ◌≢◌, ◌<◌, ◌≤◌, ◌⊎◌, inl, inr, ◌+◌, ◌∙◌, ℕ, suc, List, [], ◌∷◌, ◌++◌, append_assoc, append-nil, length, drop}
+use Rattle.std.proofs.Common.{◌≡◌, ◌≢◌, ◌<◌, ◌≤◌, inl, inr, ◌+◌, ◌∙◌, ℕ, suc, List, [], ◌∷◌, ◌++◌, append_assoc, append-nil, length, drop}
 use Rattle.std.proofs.Common.{refl, sym, ap, subst, arith, true, false, true≢false, drop-drop, length-append}
 use Rattle.std.specs.List.{Any}
 use Rattle.std.proofs.lemmas.List.{drop_at}
@@ -13,7 +13,7 @@ use Rattle.fv_rows.specs.declared.tree_walk.Row.{Row}
 use Rattle.fv_rows.specs.inner.RowVolumes.{volume_at, volumes_of}
 use Rattle.fv_tree.specs.Words.{Meaning, Volume, NoFiles, MoreFiles, files_of, FileMeaning, Inside, volumes_in, volumes_in_file}
 use Rattle.fv_canon.specs.inner.ImageOf.{starts_in}
-use Rattle.fv_canon.specs.Words.{AreStarts, BeginsWithStarts, Laid, FirstUnfit, UnfitHere}
+use Rattle.fv_canon.specs.Words.{AreStarts, Laid, FirstUnfit, UnfitHere}
 use Rattle.fv_canon.proofs.DataBodyLaws.{data_held, data_volumes}
 use Rattle.fv_canon.proofs.ImageParts.{ComesTo}
 use Rattle.fv_canon.proofs.VolumeListLaws.{own_count}

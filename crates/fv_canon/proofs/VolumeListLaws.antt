@@ -8,13 +8,13 @@
 use Rattle.std.proofs.Common.{◌≡◌, ◌≤◌, ◌<◌, inl, inr, ◌+◌, ℕ, List, [], ◌∷◌, ◌++◌, length, take, drop, get_or, refl, sym, ap, ◌∙◌, subst, arith}
 use Rattle.std.proofs.Common.{append_assoc, append-nil, length-append, drop-drop}
 use Rattle.std.specs.List.{AllByRecursion}
-use Rattle.std.proofs.lemmas.List.{length-map, take-append-drop, take_more, drop_all, drop_at}
+use Rattle.std.proofs.lemmas.List.{length-map, take_more, drop_all, drop_at}
 use Rattle.fv_base.specs.declared.fault.Fault.{Fault}
 use Rattle.fv_head.specs.Words.{HeadFields}
 use Rattle.fv_tree.specs.Words.{Meaning, Volume, FileMeaning, files_of, head_of, files_from, Inside, deeper, volumes_in, volumes_in_files}
 use Rattle.fv_canon.specs.inner.ImageOf.{starts_in}
 use Rattle.fv_canon.proofs.ImageParts.{ComesTo}
-use Rattle.fv_canon.specs.Words.{BeginsWithStarts, Laid, AreStarts, IsPlaced, layout_item, layout_items, AllFit, FirstUnfit, UnfitHere}
+use Rattle.fv_canon.specs.Words.{BeginsWithStarts, Laid, AreStarts, IsPlaced, layout_item, layout_items, AllFit, FirstUnfit}
 use Rattle.fv_base.proofs.Laws.{item_at}
 use Rattle.fv_tree.proofs.Laws.{files_list_back}
 use Rattle.fv_placement.proofs.Laws.{follow_length}

@@ -1,9 +1,8 @@
 -- Where the files of a volume lie, for the walk that puts them.
-use Rattle.std.specs.Prelude.{ℕ, List, ◌≡◌, ◌+◌, ◌≤◌, ◌++◌, ◌%◌, [], ◌∷◌, map}
+use Rattle.std.specs.Prelude.{ℕ, List, ◌≡◌, ◌+◌, ◌≤◌, ◌%◌, [], ◌∷◌, map}
 use Rattle.fv_base.specs.Words.{volume_limit}
-use Rattle.fv_tree.specs.Words.{FileMeaning, data_len_of, Inside}
-use Rattle.fv_canon.specs.LayoutForms.{Laid}
-use Rattle.fv_canon.specs.Layouts.{AreStarts, layout_item}
+use Rattle.fv_tree.specs.Words.{FileMeaning, data_len_of}
+use Rattle.fv_canon.specs.Layouts.{layout_item}
 use Rattle.fv_placement.specs.Words.{StartsFollow}
 use Rattle.fv_canon.specs.StoredFiles.{size_for}
 

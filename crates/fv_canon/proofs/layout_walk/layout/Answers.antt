@@ -1,4 +1,3 @@
-use Rattle.std.proofs.Common.{◌∙◌, ap, subst}
 use Rattle.fv_base.proofs.Laws.{err_is, first_only}
 use Rattle.fv_rows.proofs.Laws.{tree_volumes}
 use Rattle.fv_canon.specs.Words.{LaysVolume}

@@ -1,4 +1,4 @@
-use Rattle.std.proofs.Common.{◌∙◌, ◌≤◌, length, drop, refl, sym, ap, subst}
+use Rattle.std.proofs.Common.{◌∙◌, length, drop, refl, sym, ap, subst}
 use Rattle.fv_rows.specs.Words.{part_node}
 use Rattle.fv_rows.specs.inner.RowVolumes.{volumes_of}
 use Rattle.fv_tree.specs.Words.{files_of}

@@ -1,6 +1,5 @@
-use Rattle.std.proofs.Common.{◌≡◌, ◌∙◌, ◌∷◌, [], sym, ap, subst, refl}
-use Rattle.fv_rows.specs.RowWalks.{AreLevels, left_in, part_node, rows_inside}
-use Rattle.fv_rows.specs.declared.tree_walk.Level.{Level}
+use Rattle.std.proofs.Common.{◌∙◌, sym, ap, subst, refl}
+use Rattle.fv_rows.specs.RowWalks.{AreLevels, left_in}
 use Rattle.fv_rows.proofs.RowWalkLaws.{inside_begun}
 use Rattle.fv_rows.proofs.tree_walk.TreeWalk.inside.Goals as goal
 
