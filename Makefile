@@ -34,13 +34,10 @@ ARCHIVE ?= $(BUILT_ARCHIVE)
 # With the folders, so that a file that is removed counts too.
 SOURCES := crates.txt $(shell find crates/fv_*/src crates/fv_*/specs crates/fv_*/proofs)
 DOCUMENTS := CHANGELOG.md SECURITY.md docs/PROGRAM.md docs/FAULTS.md packaging/copyright
-PAGES := $(notdir $(wildcard man/*.1))
-# The tools: recipes and what they import. DATADIR has them, the program and the library where this folder has them, so
-# that they find each other there as here. COMMANDS are links in BINDIR: NAME=RECIPE.
-RECIPES := $(notdir $(wildcard recipes/fv*.py)) repro/fv-same unpack/fv-unpack open-ovmf/open-firmware git/fv-textconv \
-    git/fv-diff map/fvmap.py map/guids.txt
-COMMANDS := fv-same=repro/fv-same fv-unpack=unpack/fv-unpack fvmap=map/fvmap.py
-FOLDERS := $(sort $(dir $(addprefix recipes/,$(RECIPES))))
+# The commands of the Python package are links to LAUNCHER in BINDIR. DATADIR has it, the package and the library where
+# this folder has them, so that they find each other there as here. fvmap is the name of fv-map in 1.0.
+LAUNCHER := clib/python/bin/run
+COMMANDS := fv-same fv-unpack fv-map fvmap fv-sbom fv-check fv-text fv-diff
 # clib/Makefile with the variables of this run. It has PREFIX, INCLUDEDIR, LIBDIR and PYTHONDIR. `-tools` is of what the
 # tools need of it.
 CLIB := $(MAKE) --no-print-directory -f clib/Makefile PREFIX="$(PREFIX)" DESTDIR="$(DESTDIR)" LIBFV="$(ARCHIVE)" \
@@ -74,25 +71,26 @@ try: $(OUT)/fvtool
 check: try
 	MAKEFLAGS= .ci/quick
 
-# Installs a text, with the folders of this run in place of those of a package.
-text = sed 's|/usr/share/doc/fvtool|$(DOCDIR)|g;s|/usr/share/fvtool|$(DATADIR)|g' $(1) > $(2) && chmod 644 $(2)
+# Installs a text, with the folders of this run in place of those of a package. A link that is in the way is replaced.
+text = rm -f $(2) && python3 -c 'import re, sys; places = "/usr/share/doc/fvtool", "/usr/share/fvtool", "/usr/bin/"; \
+    of = dict(zip(places, sys.argv[3:])); text = open(sys.argv[1], encoding="utf-8").read(); \
+    open(sys.argv[2], "w", encoding="utf-8").write(re.sub("|".join(of), lambda it: of[it[0]], text))' \
+    $(1) $(2) "$(DOCDIR)" "$(DATADIR)" "$(BINDIR)/" && chmod 644 $(2)
 
 install:
 	@if [ "$(PROGRAM)" = "$(BUILT)" ]; then packaging/prove --is-made fv_tool; fi
 	@if [ "$(ARCHIVE)" = "$(BUILT_ARCHIVE)" ]; then packaging/prove --is-made fv_c; fi
 	$(INSTALL) -d "$(DESTDIR)$(BINDIR)" "$(DESTDIR)$(MANDIR)/man1" "$(DESTDIR)$(DOCDIR)"
-	$(INSTALL) -d "$(DESTDIR)$(BASHDIR)" "$(DESTDIR)$(ZSHDIR)" $(foreach it,$(FOLDERS),"$(DESTDIR)$(DATADIR)/$(it)")
+	$(INSTALL) -d "$(DESTDIR)$(BASHDIR)" "$(DESTDIR)$(ZSHDIR)" "$(DESTDIR)$(DATADIR)"
 	+room=$$(mktemp -d) && $(call shipped,"$$room") && $(INSTALL) -m 755 "$$room/fvtool" "$(DESTDIR)$(BINDIR)/fvtool" && \
 	    $(CLIB) OUT="$$room" install-tools; status=$$?; rm -rf "$$room"; exit $$status
-	for it in $(RECIPES); do \
-	    mode=644; [ ! -x recipes/$$it ] || mode=755; \
-	    $(INSTALL) -m $$mode recipes/$$it "$(DESTDIR)$(DATADIR)/recipes/$$it" || exit; done
-	for it in $(COMMANDS); do ln -srf "$(DESTDIR)$(DATADIR)/recipes/$${it#*=}" "$(DESTDIR)$(BINDIR)/$${it%=*}" || exit; done
-	ln -srf "$(DESTDIR)$(BINDIR)/fvtool" "$(DESTDIR)$(DATADIR)/fvtool"
+	$(INSTALL) -D -m 755 $(LAUNCHER) "$(DESTDIR)$(DATADIR)/$(LAUNCHER)"
+	for it in $(COMMANDS); do ln -srf "$(DESTDIR)$(DATADIR)/$(LAUNCHER)" "$(DESTDIR)$(BINDIR)/$$it" || exit; done
 	$(INSTALL) -m 644 $(DOCUMENTS) "$(DESTDIR)$(DOCDIR)"
 	$(call text,packaging/installed.md,"$(DESTDIR)$(DOCDIR)/README.md")
 	$(call text,packaging/gitconfig,"$(DESTDIR)$(DATADIR)/gitconfig")
-	for it in $(PAGES); do $(call text,man/$$it,"$(DESTDIR)$(MANDIR)/man1/$$it") || exit; done
+	$(call text,man/fvtool.1,"$(DESTDIR)$(MANDIR)/man1/fvtool.1")
+	python3 -B clib/python/manual.py "$(DESTDIR)$(MANDIR)/man1"
 	$(INSTALL) -m 644 packaging/completion.bash "$(DESTDIR)$(BASHDIR)/fvtool"
 	$(INSTALL) -m 644 packaging/completion.zsh "$(DESTDIR)$(ZSHDIR)/_fvtool"
 
@@ -102,23 +100,23 @@ install-lib:
 
 # The folders may be shared, so only the files that were installed go, and then those folders of fvtool that are empty.
 uninstall:
-	rm -f "$(DESTDIR)$(BINDIR)/fvtool" $(foreach it,$(COMMANDS),"$(DESTDIR)$(BINDIR)/$(firstword $(subst =, ,$(it)))")
-	rm -f "$(DESTDIR)$(BASHDIR)/fvtool" "$(DESTDIR)$(ZSHDIR)/_fvtool" $(foreach it,$(PAGES),"$(DESTDIR)$(MANDIR)/man1/$(it)")
+	rm -f $(foreach it,fvtool $(COMMANDS),"$(DESTDIR)$(BINDIR)/$(it)")
+	rm -f "$(DESTDIR)$(BASHDIR)/fvtool" "$(DESTDIR)$(ZSHDIR)/_fvtool"
+	rm -f $(foreach it,fvtool $(COMMANDS),"$(DESTDIR)$(MANDIR)/man1/$(it).1")
 	rm -f $(foreach it,README.md $(notdir $(DOCUMENTS)),"$(DESTDIR)$(DOCDIR)/$(it)")
+	rm -f $(foreach it,gitconfig $(LAUNCHER),"$(DESTDIR)$(DATADIR)/$(it)")
+	[ ! -d "$(DESTDIR)$(DATADIR)/$(dir $(LAUNCHER))" ] || rmdir --ignore-fail-on-non-empty "$(DESTDIR)$(DATADIR)/$(dir $(LAUNCHER))"
 	+$(CLIB) uninstall uninstall-tools
-	rm -f $(foreach it,fvtool gitconfig $(addprefix recipes/,$(RECIPES)),"$(DESTDIR)$(DATADIR)/$(it)")
-	for it in $(foreach it,$(FOLDERS) recipes,"$(DESTDIR)$(DATADIR)/$(it)") "$(DESTDIR)$(DATADIR)" "$(DESTDIR)$(DOCDIR)"; do \
+	for it in "$(DESTDIR)$(DATADIR)" "$(DESTDIR)$(DOCDIR)"; do \
 	    [ ! -d "$$it" ] || rmdir --ignore-fail-on-non-empty "$$it"; done
 
 dist:
 	mkdir -p "$(OUT)"
 	git archive --format=tar.gz --prefix=capstanolive-$(VERSION)/ --output="$(OUT)/capstanolive-$(VERSION).tar.gz" HEAD
 
+# Python and Debian write a version under development in their own ways: packaging/version knows them.
 version:
-	sed -i 's/^#define FV_VERSION .*/#define FV_VERSION "$(VERSION)"/' clib/include/fv.h
-	sed -i 's/^__version__ = .*/__version__ = "$(VERSION)"/' clib/python/fv/__init__.py
-	sed -i '/^name = "fv"$$/{n;s/^version = .*/version = "$(VERSION)"/}' clib/rust/Cargo.toml clib/rust/Cargo.lock
-	sed -i '1s/"Capstanolive [^"]*"/"Capstanolive $(VERSION)"/' man/*.1
+	packaging/version --write
 
 clean:
 	rm -rf "$(OUT)" clib/out

@@ -1,43 +1,61 @@
-"""Reads the definitions of specs/ and the contracts of src/, with their comments, and finds which definitions the contracts reach."""
+"""Reads the definitions of specs/ and the contracts of src/, with their comments, and finds the definitions that the
+contracts reach."""
+
+from __future__ import annotations
 
 import functools
 import glob
 import os
 import re
-from typing import NamedTuple
+from collections.abc import Iterable, Iterator
+from dataclasses import dataclass
+
+from checks import read
+
+# A file of definitions: its crate, and its module in specs/. A definition: its file, and its name there.
+Place = tuple[str, str]
+Key = tuple[str, str, str]
 
 NAME = r"[^\W\d][\w\-']*"
 INNER = "inner."
-# The module by which a crate passes its words on.
+# The module by which a crate passes its definitions on.
 DOOR = "Words"
 IMPORT = re.compile(
-    r"(?m)^[ \t]*(?:ghost |pub |unfoldable )*use\s+Rattle\.(fv_\w+)\.specs\.([\w.+\-]+?)(?:\.\{([^}]*)\}|\s+as\s+([^\s;]+))(?=;|\s*$)"
+    r"(?m)^[ \t]*(?:ghost |pub |unfoldable )*use\s+Rattle\.(fv_\w+)\.specs\.([\w.+\-]+?)"
+    r"(?:\.\{([^}]*)\}|\s+as\s+([^\s;]+))(?=;|\s*$)"
 )
-# The lines that define a word: at the left margin, of a mutual block two spaces in, a constructor of a data type further in.
+# The lines that begin a definition: at the left margin; two spaces in, in a mutual block; further in, for a constructor
+# of a data type.
 DEFINES = re.compile(rf"(?:(?:abbrev|unfoldable|opaque) )*(?:pub )?(?:record |data )?({NAME})(?=[ ({{:])")
 IN_MUTUAL = re.compile(rf"  pub (?:record |data )?({NAME})(?=[ ({{:])")
 CONSTRUCTOR = re.compile(r"(?:  ){1,2}([A-Z]\w*) :")
-# What a type or a trait shows of itself; the other ghost members are measures and proofs.
+# The ghost members that a type or a trait shows of itself. Its other ghost members are measures and proofs.
 SHOWN = {"Value", "view", "invariant", "takes", "remaining"}
 NO_WORDS = {"abbrev", "pub", "record", "data", "unfoldable", "opaque", "mutual", "where", "use"}
 
-# What a function has before its first clause or its body; a clause, with what is before it; and the beginning of a function.
+# The text of a function up to its first clause or its body; a clause, with the text before it; and the beginning of a
+# function.
 SIGNATURE = re.compile(r"(?:[^{;\[]|\[[^\]]*\])*")
 CLAUSE = re.compile(r"(?:[^{;\[]|\[[^\]]*\])*?\b(requires|ensures)\b([^\n{;]*)\{")
 FUNCTION = re.compile(r'(?m)^([ \t]*)(pub(?:\([a-z]+\))? )?(?:const )?(extern "C" )?fn (\w+)')
 
 
-class Clause(NamedTuple):
-    """A clause of a function. The comment of one that begins a block is that of the others in the block too."""
+@dataclass(frozen=True)
+class Clause:
+    """A clause of a function, which is an `ensures` or a `requires`. The comment of a clause that begins a block is
+    also the comment of the block's other clauses."""
 
     name: str
     comment: str
     begins: bool
     text: str
+    is_ensured: bool
 
 
-class Call(NamedTuple):
-    """A function: where its line begins, its type or trait, whether it is for C, and its clauses. An inner one is a private method."""
+@dataclass(frozen=True)
+class Call:
+    """A function: its file, the offset of its line, its type or trait, its name, whether it is a private method,
+    whether it is for C, and its clauses."""
 
     path: str
     start: int
@@ -45,31 +63,68 @@ class Call(NamedTuple):
     name: str
     is_inner: bool
     is_of_c: bool
-    clauses: list
+    clauses: list[Clause]
+
+
+@dataclass(frozen=True)
+class Imports:
+    """The meaning of the names that a file imports: of its definitions, and of its modules."""
+
+    names: dict[str, Key]
+    modules: dict[str, Place]
+
+
+@dataclass(frozen=True)
+class Entry:
+    """Definitions under one comment, and the comment."""
+
+    words: list[str]
+    comment: str
+
+
+@dataclass(frozen=True)
+class Group:
+    """Definitions in one paragraph, and the paragraph without its comments."""
+
+    words: list[str]
+    text: str
+
+
+@dataclass(frozen=True)
+class Source:
+    """A file of a crate's code: its path, its module, its text, the names that the crate exports, and whether the
+    module is public."""
+
+    path: str
+    module: str
+    text: str
+    exported: set[str]
+    is_public: bool
 
 
 @functools.cache
-def door(crate):
-    """Where the words are defined that a crate passes on by its Words."""
+def door(crate: str) -> dict[str, Key]:
+    """Returns the definitions that a crate passes on by its Words, by their names there."""
     path = f"crates/{crate}/specs/{DOOR}.antt"
-    return imports(read(path))[0] if os.path.exists(path) else {}
+    return imports(read(path)).names if os.path.exists(path) else {}
 
 
-def imports(text):
-    """What a file's names mean, and what the names of modules do."""
-    names, modules = {}, {}
+def imports(text: str) -> Imports:
+    """Returns the meaning of the names that a file with this text imports."""
+    found = Imports({}, {})
     for crate, module, listed, alias in IMPORT.findall(text):
         if alias:
-            modules[alias] = (crate, module)
+            found.modules[alias] = (crate, module)
         for part in filter(None, map(str.strip, listed.split(","))):
             word, _, other = map(str.strip, part.partition(" as "))
-            names[other or word] = door(crate).get(word, (crate, module, word)) if module == DOOR else (crate, module, word)
-    return names, modules
+            key = (crate, module, word)
+            found.names[other or word] = door(crate).get(word, key) if module == DOOR else key
+    return found
 
 
-def paragraphs(text):
-    """The definitions of a specs file, each with its comment; a mutual block is one."""
-    found = []
+def paragraphs(text: str) -> list[str]:
+    """Returns the definitions of a specs file, each with its comment. A mutual block is one paragraph."""
+    found: list[str] = []
     for part in text.rstrip("\n").split("\n\n"):
         if found and part.startswith("  "):
             found[-1] += "\n\n" + part
@@ -78,36 +133,42 @@ def paragraphs(text):
     return found
 
 
-def entries(paragraph):
-    """The words that a paragraph defines, those under one comment together, with the comment."""
+def entries(paragraph: str) -> list[Entry]:
+    """Returns the definitions of a paragraph, grouped by their comments."""
     is_mutual = re.search(r"(?m)^(?:\w+ )?mutual", paragraph)
     is_data = re.search(r"(?m)^ *(?:pub )?data ", paragraph)
-    groups, comment = [], []
+    found: list[Entry] = []
+    comment: list[str] = []
     for line in paragraph.split("\n"):
         note = re.match(r"\s*-- (?!----)(.*)", line)
         if note:
             comment.append(note[1])
         if re.match(r"\s*(?:--|(?:pub )?use |(?:\w+ )?mutual)", line):
             continue
-        match = DEFINES.match(line) or (is_mutual and IN_MUTUAL.match(line)) or (is_data and CONSTRUCTOR.match(line))
-        if match and match.group(1) not in NO_WORDS and not any(match.group(1) in words for words, _ in groups):
-            if comment or not groups:
-                groups.append(([], " ".join(comment)))
-            groups[-1][0].append(match.group(1))
+        match = DEFINES.match(line)
+        match = match or (IN_MUTUAL.match(line) if is_mutual else None)
+        match = match or (CONSTRUCTOR.match(line) if is_data else None)
+        if match and match[1] not in NO_WORDS and not any(match[1] in entry.words for entry in found):
+            if comment or not found:
+                found.append(Entry([], " ".join(comment)))
+            found[-1].words.append(match[1])
         comment = []
-    return groups
+    return found
 
 
-def defined(paragraph):
-    """The words that a paragraph defines."""
-    return [word for words, _ in entries(paragraph) for word in words]
+def defined(paragraph: str) -> list[str]:
+    """Returns the names of the definitions in a paragraph."""
+    return [word for entry in entries(paragraph) for word in entry.words]
 
 
 class Words:
-    """The words of all crates, and what each leads to."""
+    """The definitions of all crates, and the definitions that each of them leads to."""
 
-    def __init__(self):
-        self.groups, self.imports, self.private = {}, {}, set()
+    def __init__(self) -> None:
+        """Reads all files of definitions."""
+        self.groups: dict[Key, Group] = {}
+        self.imports: dict[Place, Imports] = {}
+        self.private: set[Place] = set()
         for path in sorted(glob.glob("crates/*/specs/**/*.antt", recursive=True)):
             crate, module = path.split("/")[1], path.split("/specs/")[1][:-5].replace("/", ".")
             if module in ("Lib", "inner", DOOR):
@@ -119,42 +180,41 @@ class Words:
             for paragraph in paragraphs(text):
                 words = defined(paragraph)
                 for word in words:
-                    self.groups[crate, module, word] = (words, re.sub(r"(?m)--.*$", "", paragraph))
+                    self.groups[crate, module, word] = Group(words, re.sub(r"(?m)--.*$", "", paragraph))
 
-    def cited(self, text, names, modules, own=None):
-        """The words that a text cites, by the imports of its file. The names of a record's fields are no words."""
-        found, text = set(), re.sub(rf"(?m)^(\s+)pub {NAME} :", r"\1:", text)
+    def cited(self, text: str, known: Imports, own: Place | None = None) -> set[Key]:
+        """Returns the definitions that a text cites, by the imports of its file, and by the definitions of that file if
+        it is a file of definitions. A field's name in a record is not taken for a definition."""
+        found: set[Key] = set()
+        text = re.sub(rf"(?m)^(\s+)pub {NAME} :", r"\1:", text)
         for word in re.findall(rf"(?<![\w\-'◌.]){NAME}", text):
-            for key in (own and (*own, word), names.get(word)):
-                if key in self.groups:
-                    found.add(key)
+            if own and (*own, word) in self.groups:
+                found.add((*own, word))
+            if word in known.names and known.names[word] in self.groups:
+                found.add(known.names[word])
         for alias, word in re.findall(rf"(?<![\w\-'◌.])(\w+)\.({NAME})", text):
-            if alias in modules and (*modules[alias], word) in self.groups:
-                found.add((*modules[alias], word))
+            if alias in known.modules and (*known.modules[alias], word) in self.groups:
+                found.add((*known.modules[alias], word))
         return found
 
-    def closure(self, roots):
-        """What some words lead to."""
-        reached, left = set(), list(roots)
+    def closure(self, first: Iterable[Key]) -> set[Key]:
+        """Returns some definitions, and all definitions that they lead to."""
+        reached: set[Key] = set()
+        left = list(first)
         while left:
             key = left.pop()
             if key in reached:
                 continue
             reached.add(key)
             crate, module, _ = key
-            words, text = self.groups[key]
-            left += [(crate, module, word) for word in words]
-            left += self.cited(text, *self.imports[crate, module], (crate, module))
+            group = self.groups[key]
+            left += [(crate, module, word) for word in group.words]
+            left += self.cited(group.text, self.imports[crate, module], (crate, module))
         return reached
 
 
-def read(path):
-    with open(path, encoding="utf-8") as file:
-        return file.read()
-
-
-def block(text, start):
-    """Where the block ends whose brace is before `start`."""
+def block(text: str, start: int) -> int:
+    """Returns the offset after the block whose opening brace is just before `start`."""
     depth = 1
     while depth and start < len(text):
         depth += {"{": 1, "}": -1}.get(text[start], 0)
@@ -162,71 +222,75 @@ def block(text, start):
     return start
 
 
-def contract(text, code, start):
-    """The clauses of the function whose name ends at `start`: up to its body. `code` is the text with its comments blank."""
-    found = []
+def contract(text: str, code: str, start: int) -> list[Clause]:
+    """Returns the clauses of the function whose name ends at `start`. `code` is the text with blanks for its
+    comments."""
+    found: list[Clause] = []
     while True:
-        body = SIGNATURE.match(code, start).end()
-        match = CLAUSE.match(code, start)
-        if not match or match.end() > body + 1:
+        signature, match = SIGNATURE.match(code, start), CLAUSE.match(code, start)
+        if not match or not signature or match.end() > signature.end() + 1:
             return found
         end = block(code, match.end())
         before = text[start : match.start(1)]
         comment = " ".join(re.findall(r"(?m)^\s*// (.*)$", before))
         begins = not found or "\n\n" in before or bool(comment)
-        found.append(Clause(match[2].strip(), comment, begins, code[match.end() : end - 1]))
+        clause = code[match.end() : end - 1]
+        found.append(Clause(match[2].strip(), comment, begins, clause, match[1] == "ensures"))
         start = end
 
 
-def owner(code, start):
-    """The type or the trait whose block a place in some code lies in, and whether it is the block of a trait."""
+def owner(code: str, start: int) -> tuple[str, bool]:
+    """Returns the type or the trait whose block contains a place of some code, and whether it is the block of a
+    trait."""
     heads = re.findall(r"(?m)^(?:impl\b(?:<[^\n]*?>)?(?:( [^\n]*?) for)? (\w+)|pub trait (\w+))", code[:start])
     trait, name, own_trait = heads[-1] if heads else ("", "", "")
     return name or own_trait, bool(trait or own_trait)
 
 
-def blank(text):
-    """The code of a file: the text with blanks for its comments."""
+def blank(text: str) -> str:
+    """Returns the code of a file: its text with blanks for its comments."""
     return re.sub(r"//[^\n]*", lambda match: " " * len(match[0]), text)
 
 
-def sources(crate):
-    """The files of a crate's code: of each its path, its module, its text, and what it exports."""
+def sources(crate: str) -> Iterator[Source]:
+    """Returns the files of a crate's code, without its tests."""
     root = read(f"crates/{crate}/src/lib.rt") if crate != "fv_tool" else ""
     exported = set(re.findall(r"\w+", " ".join(re.findall(r"(?ms)^pub use ([^;]*);", root))))
     for path in sorted(glob.glob(f"crates/{crate}/src/**/*.rt", recursive=True)):
         module = path.split("/src/")[1][:-3]
         if "/tests" not in path:
-            yield path, module, read(path), exported, bool(re.search(rf"(?m)^pub mod {module};", root))
+            yield Source(path, module, read(path), exported, bool(re.search(rf"(?m)^pub mod {module};", root)))
 
 
-def calls(crate):
-    """The public functions of a crate, in the order of its files. The program's are all public."""
-    for path, module, text, exported, is_public in sources(crate):
-        code = blank(re.sub(r"(?m)^[ \t]*(?:ghost )?use [^;]*;", lambda match: re.sub(r"[^\n]", " ", match[0]), text))
+def calls(crate: str) -> Iterator[Call]:
+    """Returns the public functions of a crate, in the order of its files. The program's are all public."""
+    for source in sources(crate):
+        uses = r"(?m)^[ \t]*(?:ghost )?use [^;]*;"
+        code = blank(re.sub(uses, lambda match: re.sub(r"[^\n]", " ", match[0]), source.text))
         for match in FUNCTION.finditer(code):
-            indent, visibility, is_call_of_c, name = match.groups()
+            indent, visibility, is_of_c, name = match.groups()
             own, is_of_trait = owner(code, match.start()) if indent else ("", False)
             if indent:
-                is_shown = visibility in (None, "pub ") and own in exported
+                is_shown = visibility in (None, "pub ") and own in source.exported
             else:
-                is_shown = visibility == "pub " and (is_public or is_call_of_c or name in exported)
-            if is_shown or crate == "fv_tool" and (visibility or module == "main"):
+                is_shown = visibility == "pub " and bool(source.is_public or is_of_c or name in source.exported)
+            if is_shown or crate == "fv_tool" and (visibility or source.module == "main"):
                 is_inner = bool(indent) and not visibility and not is_of_trait
-                yield Call(path, match.start(), own, name, is_inner, bool(is_call_of_c), contract(text, code, match.end()))
+                clauses = contract(source.text, code, match.end())
+                yield Call(source.path, match.start(), own, name, is_inner, bool(is_of_c), clauses)
 
 
-def roots(words):
-    """The words that the clauses of public functions, and the models of public types, cite."""
-    found = set()
+def roots(words: Words) -> set[Key]:
+    """Returns the definitions that the clauses of public functions, and the models of public types, cite."""
+    found: set[Key] = set()
     for crate in sorted(os.listdir("crates")):
         for call in calls(crate):
             for clause in call.clauses:
-                found |= words.cited(clause.text, *imports(read(call.path)))
-        for path, _, text, exported, _ in sources(crate):
-            code = blank(text)
+                found |= words.cited(clause.text, imports(read(call.path)))
+        for source in sources(crate):
+            code = blank(source.text)
             for match in re.finditer(r"(?m)^[ \t]*ghost (\w+)\s*([=:])\s*\{", code):
-                is_shown = match.group(1) in SHOWN or match.group(2) == ":"
-                if is_shown and owner(code, match.start())[0] in exported:
-                    found |= words.cited(code[match.end() : block(code, match.end())], *imports(text))
+                is_shown = match[1] in SHOWN or match[2] == ":"
+                if is_shown and owner(code, match.start())[0] in source.exported:
+                    found |= words.cited(code[match.end() : block(code, match.end())], imports(source.text))
     return found

@@ -17,7 +17,7 @@ CYCLE = re.compile(r"\s*#\[cycle\((\w+)\)\]")
 HOLDER = re.compile(r"(?:pub(?:\([^)]*\))? )?(impl|trait)\b")
 TYPE = re.compile(r"(?m)^(?:pub(?:\([^)]*\))? )?(?:struct|enum) (\w+)")
 IMPORT = re.compile(r"\s*(?:pub(?:\([^)]*\))? )?use ")
-# The line that begins a declaration in a proof file, and what else begins a part of such a file.
+# The line that begins a declaration in a proof file, and the other lines that begin a part of such a file.
 DECLARES = re.compile(r"(?:pub )?(\S+) : ")
 APART = re.compile(r"use |--|mutual\b|mod |pub mod ")
 # A line of a check that has a place, and one that is of a function.
@@ -25,11 +25,11 @@ PLACED = re.compile(r"(?:note: )?(?:\./)?((?:src|specs|proofs)/\S+?):(\d+):\d+: 
 OF_FUNCTION = re.compile(r"fn \w+?::(\S+): (.*)")
 OF_FILE = re.compile(r"note: `([^`]+)` of (?:\./)?proofs/(\S+)/\w+\.antt may be false")
 NOT_TRIED = re.compile(r"note: `search` has not tried the goals of `\w+?::([^`]+)`")
-# What the checker says of a goal that its tactics do not prove, and of values at which a goal is false.
+# The words of the checker about a goal that its tactics do not prove, and about values at which a goal is false.
 TACTIC = r"`?\b(?:search|grind|omega|simp|cc)\b`?"
 UNFOUND = re.compile(rf"{TACTIC}(?::| broke| stopped| met| found| gave)|give the call less to do|no proof of ")
 VALUES = re.compile(r"the goal fails,? at|this goal is false")
-# What it says of an answer whose goal the edit has taken away, and of one that it did not check.
+# Its words about an answer whose goal the edit has taken away, and about one that it did not check.
 GONE = re.compile(r"module `[^`]*\.Goals` has no|(?:was|were) rejected, (?:was|were) not checked")
 BY_TACTIC = re.compile(r"=\s*(?:λ[^.]*\.\s*)?(?:search|grind|omega|simp|cc)\b")
 
@@ -37,8 +37,8 @@ BY_TACTIC = re.compile(r"=\s*(?:λ[^.]*\.\s*)?(?:search|grind|omega|simp|cc)\b")
 @dataclasses.dataclass(frozen=True)
 class Function:
     """A function of a source: its lines, its path below the crate, and what is proved as one: itself, or the cycle that
-    it is in. `is_single` says whether a copy of it may stand beside it under another name: it is not in a cycle, nor in
-    a trait or an `impl` of a trait."""
+    it is in. `is_single` says whether a copy of it may be put beside it under another name: it is not in a cycle, nor
+    in a trait or an `impl` of a trait."""
 
     file: str
     first: int
@@ -103,12 +103,12 @@ class Report:
     said: str
 
     def has_proved(self, function: str) -> bool:
-        """Tells whether the check says that a function is proved."""
+        """Returns whether the check says that a function is proved."""
         return self.named.get(function, "").split(";")[0] in ("proved", "no holes")
 
 
 def read_edit(path: pathlib.Path) -> Edit:
-    """Reads an edit. A line that belongs to no change is passed over, as `rt must-fail` does."""
+    """Reads an edit. A line that belongs to no change is ignored, as in `rt must-fail`."""
     file, old, goal, of, is_bare, changes = "", "", "", "", False, list[Change]()
     for line in path.read_text(encoding="utf-8").split("\n"):
         if line.startswith("file: "):
@@ -124,7 +124,7 @@ def read_edit(path: pathlib.Path) -> Edit:
 
 
 def applied(changes: tuple[Change, ...], texts: dict[str, str]) -> dict[str, str] | None:
-    """The texts after some changes, or nothing if an old text is not there exactly once."""
+    """Returns the texts after some changes, or nothing if an old text is not there exactly once."""
     found = dict(texts)
     for change in changes:
         if not change.old or found.get(change.file, "").count(change.old) != 1:
@@ -154,19 +154,20 @@ def holder_of(header: str) -> str:
 
 
 def module_of(file: str) -> list[str]:
-    """The module of a source, as a path of at most one part."""
+    """Returns the module of a source, as a path of at most one part."""
     module = re.sub(r"^src/|\.rt$", "", file).removesuffix("/mod").replace("/", "::")
     return [] if module in ("lib", "main") else [module]
 
 
 def homes(texts: dict[str, str]) -> dict[str, list[str]]:
-    """The modules of the types of a crate. The checker names a method by the module of its type."""
+    """Returns the modules of the types of a crate. The checker names a method by the module of its type."""
     sources = {file: text for file, text in texts.items() if file.startswith("src/")}
     return {name: module_of(file) for file, text in sources.items() for name in TYPE.findall(text)}
 
 
 def last_of(lines: list[str], first: int, indent: str, in_trait: bool) -> int | None:
-    """The last line of the function that begins at a line, or nothing if it has no body, as only one of a trait."""
+    """Returns the last line of the function that begins at a line, or nothing if it is a trait's function without a
+    body."""
     opened = False
     for number in range(first, len(lines)):
         line = lines[number]
@@ -180,14 +181,14 @@ def last_of(lines: list[str], first: int, indent: str, in_trait: bool) -> int | 
 
 
 def calls_itself(name: str, body: list[str], in_type: bool) -> bool:
-    """Tells whether a body calls its own function. The checker proves such a function as a cycle, also if it has no
+    """Returns whether a body calls its own function. The checker proves such a function as a cycle, also if it has no
     attribute."""
     before = r"(?:(?<![\w.:])Self::|(?<![\w.])self\.)" if in_type else r"(?<![\w.:])"
     return bool(re.search(rf"{before}{name}\(", "\n".join(line.partition("//")[0] for line in body)))
 
 
 def functions(file: str, text: str, types: dict[str, list[str]]) -> list[Function]:
-    """The functions of a source that have bodies, in their order."""
+    """Returns the functions of a source that have bodies, in their order."""
     lines, found, holder, cycle, in_trait, of_trait = text.split("\n"), [], "", "", False, False
     parts = module_of(file)
     for number, line in enumerate(lines):
@@ -213,12 +214,13 @@ def functions(file: str, text: str, types: dict[str, list[str]]) -> list[Functio
 
 
 def around(file: str, texts: dict[str, str], line: int) -> Function | None:
-    """The function that a line of a source is in. Attributes and comments above a function are not in it."""
+    """Returns the function that a line of a source is in. Attributes and comments above a function are not in it."""
     return next((it for it in functions(file, texts.get(file, ""), homes(texts)) if it.first <= line <= it.last), None)
 
 
 def changed(edit: Edit, texts: dict[str, str]) -> list[Function] | None:
-    """The functions that an edit changes, or nothing if it changes what is outside of a function and is no import."""
+    """Returns the functions that an edit changes, or nothing if it changes something outside of functions and
+    imports."""
     found: dict[str, Function] = {}
     now = texts
     for change in edit.changes:
@@ -238,9 +240,11 @@ def copy_of(function: Function, suffix: str) -> Function:
     return dataclasses.replace(function, path=function.path + suffix, unit=function.unit + suffix)
 
 
-def with_copy(texts: dict[str, str], was: dict[str, str], function: Function, suffix: str, edit: Edit) -> dict[str, str]:
-    """Returns texts with a changed copy of a function behind it, under its name and a suffix, and with a copy of its
-    proof. The function is copied as it was, and imports are changed where they are."""
+def with_copy(
+    texts: dict[str, str], was: dict[str, str], function: Function, suffix: str, edit: Edit
+) -> dict[str, str]:
+    """Returns texts with a changed copy of a function after it, under its name and a suffix, and with a copy of its
+    proof. The function is copied as it was, and imports are changed in place."""
     lines, name = was[function.file].split("\n"), function.path.rpartition("::")[2]
     first = function.first
     while first and lines[first - 1].strip().startswith("#["):
@@ -273,9 +277,11 @@ def stubbed(texts: dict[str, str], units: set[str]) -> dict[str, str]:
         at = 0
         for it in functions(file, texts[file], homes(texts)):
             indent = " " * (len(lines[it.first]) - len(lines[it.first].lstrip()))
-            heads = [it.first, *(n for n in range(it.first, it.last) if lines[n].startswith((f"{indent}{{", f"{indent})")))]
+            ends = (f"{indent}{{", f"{indent})")
+            heads = [it.first, *(n for n in range(it.first, it.last) if lines[n].startswith(ends))]
             begin = next((n for n in heads if lines[n].endswith("{")), it.last)
-            if it.unit in units and it.unit == it.path and begin < it.last and " const fn " not in f" {lines[it.first]}":
+            is_plain = it.unit == it.path and " const fn " not in f" {lines[it.first]}"
+            if it.unit in units and is_plain and begin < it.last:
                 text += [*lines[at : begin + 1], f"{indent}    loop {{}}"]
                 at = it.last
         found[file] = "\n".join([*text, *lines[at:]])
@@ -283,7 +289,7 @@ def stubbed(texts: dict[str, str], units: set[str]) -> dict[str, str]:
 
 
 def answers(text: str) -> dict[str, tuple[int, int]]:
-    """The declarations of a proof file: the lines of each, from its first up to the next declaration."""
+    """Returns the declarations of a proof file: the lines of each, from its first up to the next declaration."""
     lines, begins, ends = text.split("\n"), {}, []
     for number, line in enumerate(lines):
         declares = DECLARES.match(line)
@@ -313,7 +319,7 @@ def assumed(text: str, names: tuple[str, ...], module: str) -> str:
 
 
 def resting(text: str, name: str) -> set[str]:
-    """The declarations of a proof file that rest on one of them, itself among them."""
+    """Returns the declarations of a proof file that rest on one of them, and this one."""
     lines = text.split("\n")
     bodies = {it: "\n".join(lines[at:end]) for it, (at, end) in answers(text).items()}
     found = {name}
@@ -326,7 +332,7 @@ def resting(text: str, name: str) -> set[str]:
 
 
 def items(said: str) -> list[str]:
-    """The lines of a check, each with the lines below it that go on with it."""
+    """Returns the lines of a check, each with the lines below it that continue it."""
     found: list[str] = []
     for line in said.split("\n"):
         if line.startswith("  ") and found:
@@ -342,8 +348,8 @@ def unit_of(file: str) -> str:
 
 
 def of_answer(file: str, text: str, proof: str) -> list[Open]:
-    """The goals that an error in a proof file leaves open. Values at which a tactic fails are the goal's own only if
-    the tactic is the whole answer."""
+    """Returns the goals that an error in a proof file leaves open. Values at which a tactic fails are the goal's own
+    only if the tactic is the whole answer."""
     unit = unit_of(file)
     names = re.match(r"error: `([^`]+)`: ?(.*)", text, re.S)
     if not names or GONE.search(text):
@@ -357,7 +363,7 @@ def of_answer(file: str, text: str, proof: str) -> list[Open]:
 
 
 def of_place(match: re.Match[str], text: str, texts: dict[str, str], report: Report) -> None:
-    """Adds what an item with a place says to a report."""
+    """Adds an item with a place to a report."""
     file, line, said = match[1], int(match[2]) - 1, text[match.start(3) :]
     if file.startswith("proofs/"):
         if said.startswith("error: "):
@@ -376,7 +382,7 @@ def of_place(match: re.Match[str], text: str, texts: dict[str, str], report: Rep
 
 
 def report_of(said: str, texts: dict[str, str]) -> Report:
-    """Reads what a check says of sources and proof files with these texts."""
+    """Reads the output of a check of sources and proof files with these texts."""
     unknown = {*re.findall(r"has no function `([^`]+)`", said)}
     judged = bool(re.search(r"(?m)^(?:only=\d+ (?:proved|holes)=|logic=)", said))
     report = Report([], {}, {}, {}, set(), [], unknown, judged, said)

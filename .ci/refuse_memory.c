@@ -1,6 +1,7 @@
-/* Loaded before a program: refuses its allocation of the number REFUSE_AT, counted from 1, and says so by a byte on descriptor 9. If
-   descriptor 8 is open, as the program ends four numbers are written there: the most bytes that it held at one time, how many
-   allocations it asked for, and of how many bytes the two after the refused one are. */
+/* Loaded before a program: refuses its allocation with the number REFUSE_AT, counted from 1, and reports this by a byte
+   on descriptor 9. If descriptor 8 is open when the program ends, four numbers are written there: the most bytes that it
+   held at one time, the number of allocations that it asked for, and the sizes of the two allocations after the refused
+   one. */
 #include <malloc.h>
 #include <stddef.h>
 #include <stdlib.h>
@@ -30,7 +31,8 @@ static int is_refused(size_t size)
     return write(9, "x", 1) == 1;
 }
 
-/* Counts a new block, or one in place of an old one of so many bytes. Both are held for a moment, wherever the C library puts the new. */
+/* Counts a new block, or a block that takes the place of an old one with this many bytes. Both are held for a moment,
+   wherever the C library puts the new one. */
 static void *counted(void *block, size_t old)
 {
     if (block != NULL) {

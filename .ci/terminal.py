@@ -1,5 +1,5 @@
-"""Runs the built program at a terminal, for .ci/streams: what standard error says there, and that it says nothing to a file or a pipe. Standard
-output and the status are the same in all three."""
+"""Runs the built program at a terminal, for .ci/streams. Checks what standard error says there, and that it says
+nothing to a file or a pipe. Standard output and the status are the same in all three."""
 
 from __future__ import annotations
 
@@ -12,6 +12,10 @@ import sys
 import tempfile
 import termios
 from pathlib import Path
+
+sys.dont_write_bytecode = True  # no folder beside the scripts
+
+from checks import read, report
 
 PROGRAM = "crates/fv_tool/out/fv_tool"
 VOLUME = "crates/fv_tool/stdin"
@@ -27,10 +31,10 @@ try fvtool list --at M FILE, where M is N - 40
 """
 
 
-@dataclasses.dataclass
+@dataclasses.dataclass(frozen=True)
 class Case:
-    """A run: its arguments, its status, what it writes, and what it says at a terminal. What is typed is its standard input, at a terminal
-    too; else that is a file."""
+    """A run: its arguments, its status, its output, and what it says at a terminal. If a text is typed, standard input
+    is a terminal. Otherwise it is the file."""
 
     words: list[str]
     status: int
@@ -40,24 +44,34 @@ class Case:
     file: str = os.devnull
 
 
+@dataclasses.dataclass(frozen=True)
+class Try:
+    """A run that was made: its name, its result, and the result that it should have."""
+
+    name: str
+    seen: tuple[object, ...]
+    wanted: tuple[object, ...]
+
+
 def synopsis() -> str:
-    """The lines at the top of the page of the program, its first indented block."""
-    blocks = Path("docs/PROGRAM.md").read_text(encoding="utf-8").split("\n\n")
+    """Returns the lines at the top of the program's page: its first indented block."""
+    blocks = read("docs/PROGRAM.md").split("\n\n")
     block = next(it for it in blocks if it.startswith("    fvtool\n"))
     return "".join(line[4:] + "\n" for line in block.split("\n"))
 
 
 def meaning(sentence: str) -> str:
+    """Returns the line of standard error that explains a fault."""
     return f"fvtool: {sentence} (man fvtool)\n"
 
 
 def wrong(words: list[str], sentence: str) -> Case:
-    """The run of arguments that are wrong for the reason in the sentence."""
+    """Returns a run with arguments that are wrong for the reason in the sentence."""
     return Case(words, 3, "wrong words\n", f"fvtool: {sentence}\n{synopsis()}{MORE}")
 
 
 def wrong_cases() -> list[Case]:
-    """Runs with wrong arguments: each kind of argument and of value that can be wrong, and what is missing."""
+    """Returns runs with wrong arguments: each kind of argument and of value that can be wrong or missing."""
     guid = "0" * 32
     return [
         wrong(["lists"], "unknown command 'lists'"),
@@ -87,22 +101,24 @@ def wrong_cases() -> list[Case]:
 
 
 def unopened(name: str) -> str:
+    """Returns the line of standard error on a file that cannot be opened."""
     return f"fvtool: {name}: cannot be opened\n"
 
 
 def cases(short: str) -> list[Case]:
-    """The runs. `short` is the name of a file of three bytes."""
+    """Returns the runs. `short` is the name of a file of three bytes."""
     cut, unread = "the bytes end before the volume does", "the input cannot be read, or is not hexadecimal text"
-    listed = "volume ffs2 length 128 files 0\n"
+    listed, fault = "volume ffs2 length 128 files 0\n", "fault 25 at 0\n"
+    missing, also = unopened("/missing"), unopened("/also")
     volume = Path(VOLUME).read_text(encoding="ascii")
     return [
         *wrong_cases(),
         Case(["list", short], 2, "fault 1 at 3\n", meaning(cut)),
-        Case(["normalise", "/missing"], 2, "fault 25 at 0\n", unopened("/missing") + meaning(unread)),
-        Case(["compare", "--hex", VOLUME, "/missing"], 2, "second fault 25 at 0\n", unopened("/missing") + meaning(unread)),
-        Case(["compare", "/missing", "/also"], 2, "first fault 25 at 0\n", unopened("/missing") + unopened("/also") + meaning(unread)),
-        Case(["list", "/\x1b[31m"], 2, "fault 25 at 0\n", unopened(r"/\u{1b}[31m") + meaning(unread)),
-        Case(["list", "/"], 2, "fault 25 at 0\n", "fvtool: /: is a folder\n" + meaning(unread)),
+        Case(["normalise", "/missing"], 2, fault, missing + meaning(unread)),
+        Case(["compare", "--hex", VOLUME, "/missing"], 2, f"second {fault}", missing + meaning(unread)),
+        Case(["compare", "/missing", "/also"], 2, f"first {fault}", missing + also + meaning(unread)),
+        Case(["list", "/\x1b[31m"], 2, fault, unopened(r"/\u{1b}[31m") + meaning(unread)),
+        Case(["list", "/"], 2, fault, "fvtool: /: is a folder\n" + meaning(unread)),
         Case(["scan", short], 0, "", NO_VOLUME),
         Case(["check", "--all", short], 0, "", NO_VOLUME),
         Case(["scan"], 0, "", NO_VOLUME),
@@ -113,12 +129,12 @@ def cases(short: str) -> list[Case]:
         Case(["extract", "--hex", "--name", "0" * 32, VOLUME], 1, "not found\n", ""),
         Case(["list", "--hex"], 0, listed, "", file=VOLUME),
         Case(["list", "--hex"], 0, listed, READING, typed=volume),
-        Case(["list", "--hex"], 2, "fault 25 at 0\n", READING + meaning(unread), typed="xyz\n"),
+        Case(["list", "--hex"], 2, fault, READING + meaning(unread), typed="xyz\n"),
     ]
 
 
 def new_terminal() -> tuple[int, int]:
-    """The two ends of a terminal that shows what is written to it, and not what is typed."""
+    """Returns the two ends of a terminal that shows what is written to it, but not what is typed."""
     ours, theirs = pty.openpty()
     modes = termios.tcgetattr(theirs)
     modes[1] &= ~termios.OPOST
@@ -128,7 +144,7 @@ def new_terminal() -> tuple[int, int]:
 
 
 def read_until(ours: int, ends: bytes | None) -> bytes:
-    """What a terminal shows: all of it, after its other end is closed, or up to a text."""
+    """Returns what a terminal shows: everything until its other end is closed, or up to a text."""
     shown = b""
     while ends is None or not shown.endswith(ends):
         try:
@@ -142,11 +158,12 @@ def read_until(ours: int, ends: bytes | None) -> bytes:
 
 
 def run_at_terminal(case: Case) -> tuple[int, str, str]:
-    """The status of a run whose standard error is a terminal, what it writes, and what it says. What is typed is typed after the program has
-    said that it reads."""
+    """Returns the status of a run whose standard error is a terminal, its output, and what it says. A text is typed
+    after the program has said that it reads."""
     ours, theirs = new_terminal()
     with tempfile.TemporaryFile() as output, open(case.file, "rb") as file:
-        child = subprocess.Popen([PROGRAM, *case.words], stdin=file if case.typed is None else theirs, stdout=output, stderr=theirs)
+        given = file.fileno() if case.typed is None else theirs
+        child = subprocess.Popen([PROGRAM, *case.words], stdin=given, stdout=output, stderr=theirs)
         os.close(theirs)
         shown = b""
         if case.typed is not None:
@@ -160,7 +177,8 @@ def run_at_terminal(case: Case) -> tuple[int, str, str]:
 
 
 def run_elsewhere(case: Case, is_pipe: bool) -> tuple[int, str, str]:
-    """The same of a run whose standard error is a pipe or a file. Its standard input is a terminal if something is typed."""
+    """Returns the same for a run whose standard error is a pipe or a file. Its standard input is a terminal if a text
+    is typed."""
     ours, theirs = new_terminal()
     if case.typed is not None:
         os.write(ours, case.typed.encode() + b"\x04")
@@ -180,11 +198,14 @@ def run_elsewhere(case: Case, is_pipe: bool) -> tuple[int, str, str]:
 
 
 def run_with(words: list[str], output: int, error: int) -> int:
-    return subprocess.run([PROGRAM, *words], stdin=subprocess.DEVNULL, stdout=output, stderr=error, check=False).returncode
+    """Returns the status of a run without input, with these files as its output and its standard error."""
+    run = subprocess.run([PROGRAM, *words], stdin=subprocess.DEVNULL, stdout=output, stderr=error, check=False)
+    return run.returncode
 
 
 def shown_of(words: list[str], output: int | None) -> tuple[int, str]:
-    """The status of a run, and what a terminal shows that is its standard error, and its standard output if none is given."""
+    """Returns the status of a run, and what its terminal shows. The terminal is its standard error, and also its
+    standard output if no other is given."""
     ours, theirs = new_terminal()
     status = run_with(words, theirs if output is None else output, theirs)
     os.close(theirs)
@@ -194,8 +215,8 @@ def shown_of(words: list[str], output: int | None) -> tuple[int, str]:
 
 
 def run_unheard(words: list[str], is_gone: bool) -> tuple[int, str]:
-    """The status of a run, and what it writes, if nothing can be written to the terminal that is its standard error: the terminal is gone, or
-    it was opened for reading only."""
+    """Returns the status and the output of a run that cannot write to its standard error, because the terminal is gone,
+    or was opened for reading only."""
     ours, theirs = new_terminal()
     deaf = theirs if is_gone else os.open(os.ttyname(theirs), os.O_RDONLY | os.O_NOCTTY)
     if is_gone:
@@ -206,28 +227,29 @@ def run_unheard(words: list[str], is_gone: bool) -> tuple[int, str]:
         return status, output.read().decode()
 
 
-def tries(short: str) -> list[tuple[str, object, object]]:
-    """What is run, how it ends, and how it should."""
-    found: list[tuple[str, object, object]] = []
+def tries(short: str) -> list[Try]:
+    """Makes all runs. `short` is the name of a file of three bytes."""
+    found: list[Try] = []
     for case in cases(short):
         name, bare = ascii(" ".join(case.words)), (case.status, case.written)
-        found.append((f"{name}, at a terminal", run_at_terminal(case), (*bare, case.said)))
-        found.append((f"{name}, with a pipe", run_elsewhere(case, True), (*bare, "")))
-        found.append((f"{name}, with a file", run_elsewhere(case, False), (*bare, "")))
-    cut = ["list", short]
-    both = "fault 1 at 3\n" + meaning("the bytes end before the volume does")
-    found.append(("a fault, with both streams at a terminal", shown_of(cut, None), (2, both)))
-    full = os.open("/dev/full", os.O_WRONLY)
-    unwritten = (2, meaning("the output cannot be written"))
-    found.append(("a full device", shown_of(["list", "--hex", VOLUME], full), unwritten))
-    found.append(("a fault, with a full device", shown_of(cut, full), (2, meaning("the bytes end before the volume does") + unwritten[1])))
+        found.append(Try(f"{name}, at a terminal", run_at_terminal(case), (*bare, case.said)))
+        found.append(Try(f"{name}, with a pipe", run_elsewhere(case, True), (*bare, "")))
+        found.append(Try(f"{name}, with a file", run_elsewhere(case, False), (*bare, "")))
+    cut, explained = ["list", short], meaning("the bytes end before the volume does")
+    both = "fault 1 at 3\n" + explained
+    found.append(Try("a fault, with both streams at a terminal", shown_of(cut, None), (2, both)))
+    full, unwritten = os.open("/dev/full", os.O_WRONLY), meaning("the output cannot be written")
+    found.append(Try("a full device", shown_of(["list", "--hex", VOLUME], full), (2, unwritten)))
+    found.append(Try("a fault, with a full device", shown_of(cut, full), (2, explained + unwritten)))
     os.close(full)
     for is_gone in (True, False):
-        found.append((f"a terminal that hears nothing, gone: {is_gone}", run_unheard(cut, is_gone), (2, "fault 1 at 3\n")))
+        name = f"a terminal that hears nothing, gone: {is_gone}"
+        found.append(Try(name, run_unheard(cut, is_gone), (2, "fault 1 at 3\n")))
     return found
 
 
 def main() -> int:
+    """Makes all runs, and compares their results. Returns the exit status."""
     signal.alarm(60)
     try:
         for end in new_terminal():
@@ -239,11 +261,8 @@ def main() -> int:
         short.write(b"abc")
         short.flush()
         found = tries(short.name)
-    wrong = [f"{name}: {seen}, not {wanted}" for name, seen, wanted in found if seen != wanted]
-    for line in wrong:
-        print(f"terminal: {line}")
-    print(f"terminal: {len(found)} runs, {len(wrong)} end otherwise")
-    return 1 if wrong else 0
+    wrong = [f"{it.name}: {it.seen}, not {it.wanted}" for it in found if it.seen != it.wanted]
+    return report("terminal", wrong, f"{len(found)} runs, {len(wrong)} end otherwise")
 
 
 if __name__ == "__main__":

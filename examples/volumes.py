@@ -2,29 +2,46 @@
 """An example for Python programs: lists the volumes of a flash image with their files and bytes of data, and reports
 whether all of the volumes are canonical.
 
-    LIBFV=clib/out/libfv.so.0 PYTHONPATH=clib/python examples/volumes.py IMAGE"""
+    LIBFV=clib/out/libfv.so.2 PYTHONPATH=clib/python examples/volumes.py IMAGE"""
+
+from __future__ import annotations
 
 import sys
 
 import fv
 
-if len(sys.argv) != 2:
-    sys.exit(print("usage: volumes IMAGE", file=sys.stderr) or 2)
-try:
-    with open(sys.argv[1], "rb") as file:
-        image = bytearray(file.read())
-except OSError:
-    sys.exit(print(f"volumes: cannot read {sys.argv[1]}", file=sys.stderr) or 2)
-# Nothing writes to the image while a call runs, so its slices need not be copied: in_place=True.
-view = memoryview(image)
-for at in fv.scan(view, in_place=True):
-    volume = view[at : at + fv.verify(view[at:], in_place=True).length]
+
+def show(image: bytes) -> None:
+    """Prints a line for each volume of a flash image, and a line that says whether all of them are canonical."""
+    view = memoryview(image)  # libfv reads its slices in place
+    for header in fv.image_scan(image):
+        try:
+            nodes = fv.volume_tree(view[header.offset : header.offset + header.length])
+        except fv.FaultError as error:
+            print(f"volume at {header.offset}: {error.fault.text}")
+        else:
+            sizes = [node.length for node in nodes if node.depth == 1]  # of the files of the volume
+            print(f"volume at {header.offset}: {len(sizes)} files, {sum(sizes)} bytes of data")
     try:
-        files = fv.files(volume, in_place=True)
-        print(f"volume at {at}: {len(files)} files, {sum(file.data_len for file in files)} bytes of data")
-    except fv.Fault as fault:
-        print(f"volume at {at}: {fault.text}")
-try:
-    print("canonical" if fv.normalise_image(image, in_place=True) == image else "not canonical")
-except fv.Fault as fault:
-    print(fault.text)
+        print("canonical" if fv.image_normalise(image) == image else "not canonical")
+    except fv.FaultError as error:
+        print(error.fault.text)
+
+
+def main() -> int:
+    """Reads the image that the arguments name, and returns the exit status."""
+    if len(sys.argv) != 2:
+        print("usage: volumes IMAGE", file=sys.stderr)
+        return 2
+    try:
+        with open(sys.argv[1], "rb") as file:
+            image = file.read()
+    except OSError:
+        print(f"volumes: cannot read {sys.argv[1]}", file=sys.stderr)
+        return 2
+    show(image)
+    return 0
+
+
+if __name__ == "__main__":
+    sys.exit(main())

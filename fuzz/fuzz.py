@@ -2,9 +2,12 @@
 """Writes firmware volumes, flash images and hand-off lists, valid, nearly valid and broken, runs the built program over
 them, and looks from outside whether it keeps what docs/PROGRAM.md promises. README.md in this folder says more."""
 
+from __future__ import annotations
+
 import argparse
 import collections
 import concurrent.futures
+import dataclasses
 import hashlib
 import itertools
 import os
@@ -17,6 +20,8 @@ import tempfile
 import threading
 import time
 import uuid
+from collections.abc import Callable, Iterable, Iterator, Sequence
+from dataclasses import dataclass, field
 from pathlib import Path
 
 ROOT = Path(__file__).resolve().parent.parent
@@ -24,49 +29,163 @@ FFS2 = uuid.UUID("8c8ce578-8a3d-4f1c-9935-896185c32dd3").bytes_le
 FFS3 = uuid.UUID("5473c07a-3dcb-4dca-bd6f-1e9689e7349a").bytes_le
 TOP_FILE = uuid.UUID("1ba0062e-c779-4582-8566-336ae8f78f09").bytes_le
 DEEPEST = 8  # groups and nested volumes
-GROUP, VOLUME = 0x03, 0x17  # types of sections that hold others
+GROUP, VOLUME = 0x03, 0x17  # types of sections that contain others
 DXE_DEPEX, VERSION, TEXT, SUBTYPE, PEI_DEPEX, MM_DEPEX = 0x13, 0x14, 0x15, 0x18, 0x1B, 0x1C
 LEAVES = (0x01, 0x02, 0x10, DXE_DEPEX, VERSION, TEXT, VOLUME, SUBTYPE, 0x19, 0x19, PEI_DEPEX, MM_DEPEX, 0x00, 0xFF)
-STREAMS = (0x02, *range(0x04, 0x10))  # types of files that hold sections
+STREAMS = (0x02, *range(0x04, 0x10))  # types of files that contain sections
 PLAIN = (0x01, 0x01, 0x03, 0x00, 0x10, 0xC0, 0xF1, 0xFF)
 PAD = 0xF0
 LARGE, SECOND_TABLE, FIXED, SUMMED = 0x01, 0x02, 0x04, 0x40  # attributes of files
 CONSTRUCTION, HEADER_VALID, DATA_VALID, MARKED, DELETED, HEADER_INVALID = 0x01, 0x02, 0x04, 0x08, 0x10, 0x20
 ALIGNMENTS = [1 << bits for bits in (0, 4, 7, 9, 10, 12, 15, 16, 17, 18, 19, 20, 21, 22, 23, 24)]
 
-Form = collections.namedtuple("Form", "is_ffs3 erased")
-Span = collections.namedtuple("Span", "start header end")
+
+@dataclass(frozen=True)
+class Form:
+    """The form of a volume: its file system, and the value of an erased byte."""
+
+    is_ffs3: bool
+    erased: int
 
 
-def guid_text(guid):
+@dataclass(frozen=True)
+class Span:
+    """The place of a file in a volume: where it starts, the length of its header, and where it ends."""
+
+    start: int
+    header: int
+    end: int
+
+
+@dataclass(frozen=True)
+class Part:
+    """The bytes of a part, and the lines that `list` writes of it."""
+
+    data: bytes
+    lines: list[str]
+
+
+@dataclass
+class Body:
+    """The body of a volume that is being written: the form of the volume, the offset of the body, the groups and
+    volumes around its files, its bytes up to now, and the lines of each file."""
+
+    form: Form
+    first: int
+    depth: int
+    data: bytearray = field(default_factory=bytearray)
+    files: list[list[str]] = field(default_factory=list)
+
+    @property
+    def end(self) -> int:
+        """The offset in the volume at which the body ends up to now."""
+        return self.first + len(self.data)
+
+
+@dataclass
+class Front:
+    """The part of a volume between its header and its first cell: the bytes, the offset of the extended header, or 0,
+    and its name."""
+
+    data: bytes = b""
+    place: int = 0
+    name: str | None = None
+
+
+@dataclass
+class Header:
+    """The fields of a volume header, in their order."""
+
+    zero: bytes
+    system: bytes
+    length: int
+    attributes: int
+    header_length: int
+    place: int = 0
+    reserved: int = 0
+    signature: bytes = b"_FVH"
+    revision: int = 2
+
+    def packed(self, block_map: bytes, change: int = 0) -> bytes:
+        """Returns the header with its block map. Its checksum is right if `change`, which is added by exclusive or, is
+        zero."""
+        first = (self.zero, self.system, self.length, self.signature, self.attributes, self.header_length)
+        head = struct.pack("<16s16sQ4sIHHHBB", *first, 0, self.place, self.reserved, self.revision) + block_map
+        return head[:50] + struct.pack("<H", sum16(head) ^ change) + head[52:]
+
+
+@dataclass(frozen=True)
+class Extent:
+    """The offset and the length of a volume in an image, or its address and its length in a block."""
+
+    offset: int
+    length: int
+
+
+@dataclass(frozen=True)
+class Image:
+    """A flash image, and where its volumes are."""
+
+    data: bytes
+    places: list[Extent]
+
+
+@dataclass(frozen=True)
+class Block:
+    """A block of a hand-off list: its type, the bytes after its header, and the word that `hobs` writes of its
+    volume."""
+
+    kind: int
+    payload: bytes
+    word: str = ""
+
+
+@dataclass(frozen=True)
+class Case:
+    """An input: its kind, its bytes, the lines that are to be written of it if it is valid, a volume of the same
+    meaning, and the image of a hand-off list with the address of its first byte."""
+
+    kind: str
+    data: bytes
+    lines: list[str] | None = None
+    twin: bytes | None = None
+    image: bytes | None = None
+    base: int = 0
+
+
+def guid_text(guid: bytes) -> str:
+    """Returns a GUID as the program writes it."""
     return str(uuid.UUID(bytes_le=guid))
 
 
-def sum8(data):
-    """What makes the sum of the bytes zero."""
+def sum8(data: bytes | bytearray) -> int:
+    """Returns the byte that makes the sum of the bytes zero."""
     return -sum(data) & 0xFF
 
 
-def sum16(data):
-    """What makes the sum of the 16-bit words zero."""
+def sum16(data: bytes | bytearray) -> int:
+    """Returns the 16-bit word that makes the sum of the 16-bit words zero."""
     return -(sum(data[::2]) + (sum(data[1::2]) << 8)) & 0xFFFF
 
 
-def bytes_of(source, count):
+def bytes_of(source: random.Random, count: int) -> bytes:
+    """Returns this many random bytes."""
     return source.getrandbits(8 * count).to_bytes(count, "little") if count else b""
 
 
-def indented(lines):
+def indented(lines: Iterable[str]) -> list[str]:
+    """Returns the lines two spaces further in."""
     return ["  " + line for line in lines]
 
 
-def is_text(body):
+def is_text(body: bytes) -> bool:
+    """Returns whether the bytes are 16-bit units that end with their only zero."""
     units = [int.from_bytes(body[at : at + 2], "little") for at in range(0, len(body), 2)]
     return len(body) % 2 == 0 and units[-1:] == [0] and 0 not in units[:-1]
 
 
-def leaf_note(kind, body):
-    """What `list` writes after the line of a leaf."""
+def leaf_note(kind: int, body: bytes) -> str:
+    """Returns the text that `list` writes at the end of the line of a leaf."""
     if kind == VERSION and is_text(body[2:]):
         return f" version {int.from_bytes(body[:2], 'little')}"
     if kind == TEXT and is_text(body):
@@ -78,76 +197,82 @@ def leaf_note(kind, body):
     return ""
 
 
-def file_line(number, name, kind, attributes, data):
-    """What `list` writes of a file."""
+def file_line(number: int, name: bytes, kind: int, attributes: int, data: bytes) -> str:
+    """Returns the line that `list` writes of a file."""
     return f"file {number} {guid_text(name)} type {kind:02x} attributes {attributes & ~LARGE:02x} data {len(data)}"
 
 
 class Maker:
-    """Writes inputs by docs/FORMAT.md. `pick` chooses what they mean and where it is, `dust` the bytes that are no
-    part of a meaning: two makers of one seed and of different dust write two volumes of one meaning. `slips` is at how
-    many places at most the format is left, and `made` at how many it was."""
+    """Writes inputs by docs/FORMAT.md. `pick` chooses the meaning of an input and the places of its parts, and `dust`
+    chooses the bytes that are not part of a meaning: two makers with the same seed and different dust write two volumes
+    with the same meaning. `slips` is the most places at which the rules of the format are broken, and `made` the number
+    of these places up to now."""
 
-    def __init__(self, seed, dust=0, slips=0):
+    def __init__(self, seed: str, dust: int = 0, slips: int = 0) -> None:
+        """Prepares a maker. Makers with the same arguments write the same inputs."""
         self.pick = random.Random(seed)
         self.dust = random.Random(f"{seed} {dust}")
         self.slips = slips
         self.made = 0
-        self.parts = self.pick.choice((4, 12, 30))  # how many cells and sections are still made
+        self.parts: int = self.pick.choice((4, 12, 30))  # how many cells and sections are still made
         # How deep the first parts nest.
-        self.chain = self.pick.choice((0, 0, 0, 0, 0, 0, 2, 4, DEEPEST, DEEPEST + (slips > 0)))
-        self.spans = []  # the files of the volume that was written last
+        self.chain: int = self.pick.choice((0, 0, 0, 0, 0, 0, 2, 4, DEEPEST, DEEPEST + (slips > 0)))
+        self.spans: list[Span] = []  # the files of the volume that was written last
 
-    def slips_here(self, odds=12):
+    def slips_here(self, odds: int = 12) -> bool:
+        """Returns whether a rule is broken at this place, and counts it."""
         if self.made < self.slips and self.pick.randrange(odds) == 0:
             self.made += 1
             return True
         return False
 
-    def happens(self, share):
+    def happens(self, share: float) -> bool:
+        """Returns true in this share of the calls."""
         return self.pick.random() < share
 
-    def few(self, most):
-        """A small number, and none where enough parts were made."""
+    def few(self, most: int) -> int:
+        """Returns a small number, which is zero if enough parts were made."""
         count = min(self.pick.randrange(most + 1), self.parts)
         self.parts -= count
         return count
 
-    def name(self):
+    def name(self) -> bytes:
+        """Returns a GUID."""
         return bytes_of(self.pick, 16)
 
-    def payload(self):
-        """Bytes of a file or a leaf."""
+    def payload(self) -> bytes:
+        """Returns bytes for a file or a leaf."""
         return bytes_of(self.pick, self.pick.choice((0, 1, 4, 8, 8, 24, self.pick.randrange(100), 256)))
 
-    def filler(self, count, usual):
-        """Bytes that are no part of a meaning, as the canonical image has them or not."""
+    def filler(self, count: int, usual: int) -> bytes:
+        """Returns bytes that are not part of a meaning: the bytes of the canonical image, or others."""
         return bytes([usual]) * count if self.dust.random() < 0.5 else bytes_of(self.dust, count)
 
-    def kept_whole(self, make):
-        """What `make` writes, all its bytes part of the meaning."""
+    def kept_whole(self, make: Callable[[int], Part]) -> bytes:
+        """Returns the bytes that `make` writes, which all are part of the meaning."""
         dust, self.dust = self.dust, random.Random(self.pick.getrandbits(64))
-        data = make(DEEPEST)[0]
+        data = make(DEEPEST).data
         self.dust = dust
         return data
 
     # Sections
 
-    def text(self):
+    def text(self) -> bytes:
+        """Returns a text in UTF-16 that ends with a zero."""
         ranges = [self.pick.choice(((0x20, 0x7F), (1, 1 << 16))) for _ in range(self.pick.randrange(7))]
         units = [self.pick.randrange(*it) for it in ranges]
         return struct.pack(f"<{len(units) + 1}H", *units, 0)
 
-    def value(self, height):
-        """Ops that leave one value on the stack."""
+    def value(self, height: int) -> bytes:
+        """Returns ops that leave one value on the stack."""
         if height == 0:
             return self.pick.choice((b"\x02" + self.name(), b"\x06", b"\x07"))
         if self.happens(0.3):
             return self.value(height - 1) + b"\x05"
         return self.value(height - 1) + self.value(0) + self.pick.choice((b"\x03", b"\x04"))
 
-    def expression(self):
-        """A dependency expression, often a wrong one: no volume is refused for it."""
+    def expression(self) -> bytes:
+        """Returns a dependency expression, which is often wrong: no volume is rejected for a wrong expression."""
         ops = self.value(self.pick.randrange(4))
         if self.happens(0.2):
             ops = b"\x09" + ops
@@ -159,7 +284,8 @@ class Maker:
             ops = ops[:at] + bytes_of(self.pick, self.pick.randrange(2)) + ops[at + 1 :]
         return ops
 
-    def leaf_body(self, kind):
+    def leaf_body(self, kind: int) -> bytes:
+        """Returns the body of a leaf of this type."""
         if kind == TEXT:
             body = self.text()
         elif kind == VERSION:
@@ -172,20 +298,21 @@ class Maker:
             body = self.payload()
         return body[:-1] if body and kind != VOLUME and self.happens(0.1) else body
 
-    def section(self, number, depth):
-        """A section, and the lines that `list` writes of it."""
-        lines = []
+    def section(self, number: int, depth: int) -> Part:
+        """Returns a section."""
+        inner = Part(b"", [])
         must_nest = depth < self.chain
         if must_nest and depth + 1 == self.chain:
             self.chain = 0
         if (must_nest or self.happens(0.15)) and (depth < DEEPEST or self.slips_here(1 + 9 * (not must_nest))):
             kind = self.pick.choice((GROUP, VOLUME))
-            body, lines = self.stream(depth + 1) if kind == GROUP else self.volume(depth + 1)
+            inner = self.stream(depth + 1) if kind == GROUP else self.volume(depth + 1)
+            body = inner.data
         else:
             kind = self.pick.choice(LEAVES)
             body = self.leaf_body(kind)
         extended = self.happens(0.2) or len(body) > 0xFFFFFE - 4
-        size = len(body) + (8 if extended else 4)
+        size: int = len(body) + (8 if extended else 4)
         note = leaf_note(kind, body)
         about = f"section {number} type {kind:02x} {'extended' if extended else 'short'} body {len(body)}{note}"
         if self.slips_here():
@@ -194,32 +321,32 @@ class Maker:
             head = b"\xff\xff\xff" + bytes([kind]) + struct.pack("<I", size)
         else:
             head = (size & 0xFFFFFF).to_bytes(3, "little") + bytes([kind])
-        return head + body, [about, *indented(lines)]
+        return Part(head + body, [about, *indented(inner.lines)])
 
-    def stream(self, depth):
-        """The sections of a file or a group, and their lines."""
-        data, lines = b"", []
+    def stream(self, depth: int) -> Part:
+        """Returns the sections of a file or a group."""
+        data, lines = b"", list[str]()
         for number in range(max(self.few(4), depth < self.chain)):
             data += self.filler(-len(data) % 4, 0)
-            part, about = self.section(number, depth)
-            data += part
-            lines += about
+            part = self.section(number, depth)
+            data += part.data
+            lines += part.lines
         if data:
             data += self.filler(self.pick.randrange(-len(data) % 4 + 1), 0)
         if self.slips_here():
             data += self.filler(self.pick.randrange(1, 4), 0)
-        return data, lines
+        return Part(data, lines)
 
     # Files and the other cells of a body
 
-    def state(self, bit):
-        """A state byte, not inverted: the state's bit, and any of the bits below it."""
+    def state(self, bit: int) -> int:
+        """Returns a state byte before it is inverted: the state's bit, and any of the lower bits."""
         byte = bit | self.dust.getrandbits(8) & (bit - 1)
         return self.pick.choice((0, byte | 0x40, byte | 0x80)) if self.slips_here(40) else byte
 
-    def file(self, form, name, kind, attributes, data, bit):
-        """A file with right sums, its header large if it has attribute 01."""
-        size = len(data) + (32 if attributes & LARGE else 24)
+    def file(self, form: Form, name: bytes, kind: int, attributes: int, data: bytes, bit: int) -> bytes:
+        """Returns a file with right checksums. Its header is large if it has attribute 01."""
+        size: int = len(data) + (32 if attributes & LARGE else 24)
         file_sum = sum8(data) if attributes & SUMMED else 0xAA
         short_size = 0 if attributes & LARGE else size
         if self.slips_here(40):
@@ -234,47 +361,49 @@ class Maker:
         state = self.state(bit) ^ form.erased
         return head[:16] + bytes([head_sum, file_sum]) + head[18:23] + bytes([state]) + head[24:] + data
 
-    def passed_over(self, form, size, kind, bit):
-        """A cell of which the header sum and the size alone are looked at."""
+    def passed_over(self, form: Form, size: int, kind: int, bit: int) -> bytes:
+        """Returns a cell of which only the header checksum and the size are read."""
         large = LARGE if form.is_ffs3 and size >= 32 and self.happens(0.2) else 0
         name = self.dust.choice((b"\xff" * 16, bytes_of(self.dust, 16)))
         attributes = self.dust.choice((0, 0, FIXED, SUMMED | 0x38)) | large
         cell = self.file(form, name, kind, attributes, self.filler(size - (32 if large else 24), form.erased), bit)
         return cell[:17] + self.filler(1, 0xAA) + cell[18:]
 
-    def pad(self, form, size):
+    def pad(self, form: Form, size: int) -> bytes:
+        """Returns a pad file of this size."""
         return self.passed_over(form, size, PAD, self.dust.choice((DATA_VALID, MARKED)))
 
-    def dead(self, form):
-        """A deleted file, or one whose data are not valid."""
+    def dead(self, form: Form) -> bytes:
+        """Returns a deleted file, or a file whose data are not valid."""
         bit = self.pick.choice((HEADER_VALID, DELETED))
         return self.passed_over(form, 24 + self.pick.randrange(60), self.dust.choice((0x01, 0x02, PAD)), bit)
 
-    def stub(self, form):
-        """A header under construction, or an invalid one."""
+    def stub(self, form: Form) -> bytes:
+        """Returns a header under construction, or an invalid header."""
         large = self.pick.randrange(2)
         stub = bytearray(bytes_of(self.dust, 32 if large else 24))
         stub[19] = stub[19] & 0xFE | large
         stub[23] = self.state(self.pick.choice((CONSTRUCTION, HEADER_INVALID))) ^ form.erased
         return bytes(stub)
 
-    def attributes(self, form):
-        """Attributes of a valid file."""
+    def attributes(self, form: Form) -> int:
+        """Returns attributes of a valid file."""
         attributes = SUMMED * self.happens(0.5) | 0x80 * self.happens(0.1) | SECOND_TABLE * self.happens(0.01)
         attributes |= self.pick.choice((1, 1, 1, 2, 2, 3, 3, 4, 4, 5, 6, 7)) * 8 * self.happens(0.35)
         attributes |= LARGE if (form.is_ffs3 and self.happens(0.2)) or self.slips_here(30) else 0
         return attributes | FIXED * self.slips_here(30)
 
-    def content(self, kind, depth):
-        """The data of a file of this type, and the lines of its sections."""
+    def content(self, kind: int, depth: int) -> Part:
+        """Returns the data of a file of this type."""
         if kind in STREAMS:
             return self.stream(depth)
         if kind == 0x03 and self.happens(0.5):
-            return self.kept_whole(self.stream), []  # a security core may hold sections, which are not looked at
-        return self.payload(), []
+            # A security core may contain sections, which are not read.
+            return Part(self.kept_whole(self.stream), [])
+        return Part(self.payload(), [])
 
-    def gap_before(self, place, attributes):
-        """How many bytes bring the data of a file with these attributes to their alignment."""
+    def gap_before(self, place: int, attributes: int) -> int:
+        """Returns how many bytes bring the data of a file with these attributes to their alignment."""
         alignment = ALIGNMENTS[(attributes >> 3 & 7) + (8 if attributes & SECOND_TABLE else 0)]
         if alignment > 4096 and self.happens(0.9) or self.happens(0.2):
             return 0
@@ -283,72 +412,80 @@ class Maker:
             gap += alignment
         return gap if gap < 300000 else 0
 
-    def valid_file(self, form, first, body, name, files, depth, bit=DATA_VALID):
-        """Adds a file that is part of the volume, with a pad before it where that aligns it, and its lines."""
+    def fill(self, body: Body) -> None:
+        """Fills a body up to the next multiple of 8."""
+        body.data += self.filler(-len(body.data) % 8, body.form.erased)
+
+    def valid_file(self, body: Body, name: bytes, depth: int, bit: int = DATA_VALID) -> None:
+        """Adds a file that is part of the volume, and before it a pad if the file needs one for its alignment."""
         must_nest = depth < self.chain
         kind = self.pick.choice(STREAMS if must_nest or self.happens(0.6) else PLAIN)
-        attributes = self.attributes(form)
-        data, lines = self.content(kind, depth)
-        if name == TOP_FILE and (kind in STREAMS or len(data) % 8):
-            kind, data, lines = 0x01, bytes_of(self.pick, self.pick.choice((0, 8, 40))), []
-        gap = self.gap_before(first + len(body), attributes)
+        attributes = self.attributes(body.form)
+        content = self.content(kind, depth)
+        if name == TOP_FILE and (kind in STREAMS or len(content.data) % 8):
+            kind, content = 0x01, Part(bytes_of(self.pick, self.pick.choice((0, 8, 40))), [])
+        gap = self.gap_before(body.end, attributes)
         if gap:
-            body += self.pad(form, gap)
-        self.spans.append(Span(first + len(body), 32 if attributes & LARGE else 24, 0))
-        body += self.file(form, name, kind, attributes, data, bit)
-        self.spans[-1] = self.spans[-1]._replace(end=first + len(body))
-        files.append([file_line(len(files), name, kind, attributes, data), *indented(lines)])
+            body.data += self.pad(body.form, gap)
+        start = body.end
+        body.data += self.file(body.form, name, kind, attributes, content.data, bit)
+        self.spans.append(Span(start, 32 if attributes & LARGE else 24, body.end))
+        about = file_line(len(body.files), name, kind, attributes, content.data)
+        body.files.append([about, *indented(content.lines)])
 
-    def superseded(self, form, name):
-        """A file marked for update, whose name another has; of its data the sum alone is looked at."""
+    def superseded(self, form: Form, name: bytes) -> bytes:
+        """Returns a file marked for update, whose name another file has. Only the checksum of its data is read."""
         kind = self.pick.choice(STREAMS + PLAIN)
         attributes = self.attributes(form)
         return self.file(form, name, kind, attributes, bytes_of(self.dust, self.pick.randrange(40)), MARKED)
 
-    def replaced_file(self, form, first, body, name, files, depth):
-        """A superseded file before or after the one that replaces it."""
+    def replaced_file(self, body: Body, name: bytes) -> None:
+        """Adds a superseded file, before or after the file that replaces it."""
+        form = body.form
         is_before = self.happens(0.5) or name == TOP_FILE
         old = self.superseded(form, name)
-        body += old if is_before else b""
-        body += self.filler(-len(body) % 8, form.erased)
-        start = len(body)
+        body.data += old if is_before else b""
+        self.fill(body)
+        start = body.end
         data = self.payload()
-        body += self.file(form, name, 0x01, SUMMED, data, DATA_VALID)
-        self.spans.append(Span(first + start, 24, first + len(body)))
-        body += self.filler(-len(body) % 8, form.erased) + (b"" if is_before else old)
-        files.append([file_line(len(files), name, 0x01, SUMMED, data)])
+        body.data += self.file(form, name, 0x01, SUMMED, data, DATA_VALID)
+        self.spans.append(Span(start, 24, body.end))
+        self.fill(body)
+        body.data += b"" if is_before else old
+        body.files.append([file_line(len(body.files), name, 0x01, SUMMED, data)])
 
-    def cell(self, form, first, body, files, depth):
+    def cell(self, body: Body) -> None:
         """Adds a cell to a body, or a few."""
-        if depth < self.chain or self.happens(0.6):
+        form = body.form
+        if body.depth < self.chain or self.happens(0.6):
             bit = MARKED if self.happens(0.1) else DATA_VALID
-            self.valid_file(form, first, body, self.name(), files, depth, bit)
+            self.valid_file(body, self.name(), body.depth, bit)
         elif self.happens(0.3):
-            body += self.pad(form, 24 + self.pick.choice((0, 1, 8, self.pick.randrange(80))))
+            body.data += self.pad(form, 24 + self.pick.choice((0, 1, 8, self.pick.randrange(80))))
         elif self.happens(0.3):
-            self.replaced_file(form, first, body, self.name(), files, depth)
+            self.replaced_file(body, self.name())
         elif self.happens(0.6):
-            body += self.dead(form)
+            body.data += self.dead(form)
         else:
-            body += self.stub(form)
-        if files and self.slips_here(30):
-            body += self.filler(-len(body) % 8, form.erased)
-            name = uuid.UUID(files[-1][0].split()[2]).bytes_le
-            self.valid_file(form, first, body, name, files, depth)
+            body.data += self.stub(form)
+        if body.files and self.slips_here(30):
+            self.fill(body)
+            name = uuid.UUID(body.files[-1][0].split()[2]).bytes_le
+            self.valid_file(body, name, body.depth)
 
-    def body(self, form, first, depth):
-        """The cells of a volume that begin at this place, and the lines of its files."""
-        body, files, self.spans = bytearray(), [], []
+    def body(self, form: Form, first: int, depth: int) -> Body:
+        """Returns the body of a volume, whose cells begin at this offset."""
+        body, self.spans = Body(form, first, depth), []
         spans = self.spans
         for _ in range(max(self.few(6), depth < self.chain)):
-            self.cell(form, first, body, files, depth)
+            self.cell(body)
             self.spans = spans  # volumes inside have their own
-            body += self.filler(-len(body) % 8, form.erased)
+            self.fill(body)
         if self.happens(0.15):
             if self.happens(0.2):
-                body += self.superseded(form, TOP_FILE)
-                body += self.filler(-len(body) % 8, form.erased)
-            self.valid_file(form, first, body, TOP_FILE, files, DEEPEST)
+                body.data += self.superseded(form, TOP_FILE)
+                self.fill(body)
+            self.valid_file(body, TOP_FILE, DEEPEST)
             self.spans = spans
             room = 8 * self.slips_here(4)
         else:
@@ -356,20 +493,22 @@ class Maker:
         free = bytearray([form.erased]) * room
         if free and self.slips_here(15):
             free[self.pick.randrange(room)] ^= 1 + self.pick.randrange(255)
-        return bytes(body + free), files
+        body.data += free
+        return body
 
     # Volumes
 
-    def block_pair(self, product):
-        """A number of blocks and a length, not both zero, of this product."""
+    def block_pair(self, product: int) -> tuple[int, int]:
+        """Returns a number of blocks and their length, not both zero, with this product."""
         if product == 0:
             return self.pick.choice(((0, self.pick.randrange(1, 1 << 32)), (self.pick.randrange(1, 1 << 32), 0)))
         number = self.pick.choice([it for it in (1, 2, 8, 64, product) if product % it == 0])
         return number, product // number
 
-    def block_map(self, entries, length):
-        """Pairs whose products sum to the length, and the pair of zeros."""
-        pairs, left = [], length
+    def block_map(self, entries: int, length: int) -> bytes:
+        """Returns pairs whose products add up to the length, and the pair of zeros."""
+        pairs: list[tuple[int, int]] = []
+        left = length
         for _ in range(entries - 1):
             pairs.append(self.block_pair(self.pick.choice((0, min(8, left), self.pick.randrange(left + 1)))))
             left -= pairs[-1][0] * pairs[-1][1]
@@ -378,7 +517,8 @@ class Maker:
             pairs[:3] = (0xFFFFFFFF, 0xFFFFFFFF), (2, 0xFFFFFFFF), (1, length + 1)
         return b"".join(struct.pack("<II", *pair) for pair in [*pairs, (0, 0)])
 
-    def ext_entry(self):
+    def ext_entry(self) -> bytes:
+        """Returns an entry of an extended header."""
         kind = self.pick.choice((1, 2, 3, 3, self.pick.getrandbits(16)))
         if kind == 3 and self.happens(0.7):
             payload = self.filler(4, 0)  # the value of a used size
@@ -386,8 +526,8 @@ class Maker:
             payload = bytes_of(self.pick, self.pick.choice((0, 3, 5, 16, self.pick.randrange(40))))
         return struct.pack("<HH", 4 + len(payload), kind) + payload
 
-    def ext_header(self):
-        """An extended header: its name, its entries, and a tail, which may begin further entries."""
+    def ext_header(self) -> bytes:
+        """Returns an extended header: its name, its entries, and a tail, which may begin further entries."""
         rest = b"".join(self.ext_entry() for _ in range(self.pick.randrange(4)))
         rest += bytes_of(self.pick, self.pick.choice((0, 0, 1, 3, 5, self.pick.randrange(30))))
         if self.happens(0.005):
@@ -397,20 +537,19 @@ class Maker:
             size = self.pick.choice((0, 19, 65535, 65536, size + 4096, (1 << 32) - 1))
         return self.name() + struct.pack("<I", size) + rest
 
-    def front(self, header_length):
-        """What is between the volume header and the first cell: the bytes, the place of the extended header, or 0,
-        and its name."""
+    def front(self, header_length: int) -> Front:
+        """Returns the part of a volume between its header and its first cell."""
         if self.happens(0.6):
-            return b"", 0, None
+            return Front()
         ext = self.ext_header()
         before = self.filler(self.pick.choice((0, 24, 24, self.pick.randrange(50))), 0xFF)
         place = header_length + len(before)
-        return before + ext + self.filler(-(place + len(ext)) % 8, 0xFF), place, guid_text(ext[:16])
+        return Front(before + ext + self.filler(-(place + len(ext)) % 8, 0xFF), place, guid_text(ext[:16]))
 
-    def slip_of_header(self, fields):
-        """Leaves the format in one field of the volume header."""
-        length, header_length = fields["length"], fields["header_length"]
-        values = {
+    def slip_of_header(self, header: Header) -> None:
+        """Breaks a rule in one field of the volume header."""
+        length, header_length = header.length, header.header_length
+        values: dict[str, tuple[bytes | int, ...]] = {
             "system": (FFS2[::-1], bytes(16), FFS2[:15] + FFS3[15:]),
             "length": (0, 8, length - 8, length + 8, length - 1, (1 << 28) + 8, (1 << 64) - 8),
             "signature": (b"_FVI", b"_HVF", bytes(4)),
@@ -418,37 +557,35 @@ class Maker:
             "place": (1, 56, header_length - 1, length & 0xFFFF, 0xFFFF),
             "revision": (0, 1, 3, 0xFF),
         }
-        field = self.pick.choice(list(values))
-        fields[field] = self.pick.choice(values[field])
+        name = self.pick.choice(list(values))
+        setattr(header, name, self.pick.choice(values[name]))
 
-    def volume(self, depth):
-        """A volume round which there are `depth` groups and volumes, and the lines that `list` writes of it."""
+    def volume(self, depth: int) -> Part:
+        """Returns a volume that is nested in `depth` groups and volumes."""
         pick = self.pick
         form = Form(self.happens(0.5), 0xFF if self.happens(0.7) else 0)
         entries = pick.randrange(1, 257) if self.happens(0.02) else pick.choice((1, 1, 1, 2, 3, 5))
         header_length = 64 + 8 * entries
-        front, place, name = self.front(header_length)
-        first = header_length + len(front)
-        body, files = self.body(form, first, depth)
+        front = self.front(header_length)
+        body = self.body(form, header_length + len(front.data), depth)
         attributes = pick.getrandbits(32) & ~0x800 | (0x800 if form.erased else 0)
-        fields = {
-            "zero": pick.choice((bytes(16), self.name())), "system": FFS3 if form.is_ffs3 else FFS2,
-            "length": first + len(body), "signature": b"_FVH", "attributes": attributes, "header_length": header_length,
-            "sum": 0, "place": place, "reserved": pick.choice((0, pick.getrandbits(8))), "revision": 2,
-        }  # fmt: skip
-        lines = [f"volume ffs{3 if form.is_ffs3 else 2} length {fields['length']} files {len(files)}"]
-        lines[0] += f" name {name}" if name else ""
-        block_map = self.block_map(entries, fields["length"])
+        zero = pick.choice((bytes(16), self.name()))
+        reserved = pick.choice((0, pick.getrandbits(8)))
+        system = FFS3 if form.is_ffs3 else FFS2
+        header = Header(zero, system, body.end, attributes, header_length, front.place, reserved)
+        about = f"volume ffs{3 if form.is_ffs3 else 2} length {header.length} files {len(body.files)}"
+        about += f" name {front.name}" if front.name else ""
+        block_map = self.block_map(entries, header.length)
         if self.slips_here():
-            self.slip_of_header(fields)
-        head = struct.pack("<16s16sQ4sIHHHBB", *fields.values()) + block_map
-        head = head[:50] + struct.pack("<H", sum16(head) ^ self.slips_here(40)) + head[52:]
-        return head + front + body, lines + indented(itertools.chain.from_iterable(files))
+            self.slip_of_header(header)
+        head = header.packed(block_map, self.slips_here(40))
+        lines = [about, *indented(itertools.chain.from_iterable(body.files))]
+        return Part(head + front.data + bytes(body.data), lines)
 
-    # Large ones
+    # Large volumes
 
-    def wide_volume(self):
-        """A volume of more than 16 MiB: a large file, or a gap that takes more than one pad."""
+    def wide_volume(self) -> bytes:
+        """Returns a volume of more than 16 MiB, with a large file, or with a gap that takes more than one pad."""
         form = Form(True, 0xFF)
         size = self.pick.choice((0xFFFFFF, 0x1000000, 0xFFFFE8 + 24, 0xFFFFF8, 0x1000010)) + 8 * self.pick.randrange(3)
         data = bytes([self.pick.getrandbits(8)]) * size
@@ -461,91 +598,94 @@ class Maker:
             data = data[: len(data) & ~7]
             body += self.file(form, self.name(), PAD, LARGE, data, DATA_VALID)
             body += self.file(form, TOP_FILE, 0x01, 0, bytes(8), DATA_VALID)
-        length = 72 + len(body)
-        head = struct.pack("<16s16sQ4sIHHHBB", bytes(16), FFS3, length, b"_FVH", 0x800, 72, 0, 0, 0, 2)
-        head += struct.pack("<IIQ", 1, length, 0)
-        return head[:50] + struct.pack("<H", sum16(head)) + head[52:] + body, None
+        header = Header(bytes(16), FFS3, 72 + len(body), 0x800, 72)
+        return header.packed(struct.pack("<IIQ", 1, header.length, 0)) + body
 
     # Flash images and hand-off lists
 
-    def image(self):
-        """Volumes with erased bytes between them, and where they are: offsets and lengths."""
-        image, places = b"", []
+    def image(self) -> Image:
+        """Returns an image of volumes with erased bytes between them."""
+        image, places = b"", list[Extent]()
         for _ in range(self.pick.randrange(4)):
             image += bytes([self.pick.choice((0, 0xFF))]) * (8 * self.pick.randrange(12))
             self.parts = 4
-            volume = self.volume(0)[0]
-            places.append((len(image), len(volume)))
+            volume = self.volume(0).data
+            places.append(Extent(len(image), len(volume)))
             image += volume
-        return image + b"\xff" * self.pick.randrange(60), places
+        return Image(image + b"\xff" * self.pick.randrange(60), places)
 
-    def span(self, base, image, places):
-        """Where a block says that a volume is: at one, beside one, or anywhere."""
+    def span(self, base: int, image: Image) -> Extent:
+        """Returns the place that a block gives for a volume: the place of a volume, one near it, or any place."""
         pick = self.pick
-        offset, length = pick.choice(places) if places else (0, len(image))
+        at = pick.choice(image.places) if image.places else Extent(0, len(image.data))
+        offset, length = at.offset, at.length
         way = pick.randrange(6)
         if way == 1:
             offset += pick.choice((-8, 8, 1))
         elif way == 2:
             length += pick.choice((-8, 8, -length))
         elif way == 3:
-            offset, length = pick.randrange(len(image) + 1), pick.randrange(len(image) + 1)
+            offset, length = pick.randrange(len(image.data) + 1), pick.randrange(len(image.data) + 1)
         elif way == 4:
-            return pick.getrandbits(64), pick.getrandbits(64)
+            return Extent(pick.getrandbits(64), pick.getrandbits(64))
         elif way == 5:
-            offset, length = len(image) - length, pick.choice((length, length + 1))
-        return (base + offset) & (1 << 64) - 1, length & (1 << 64) - 1
+            offset, length = len(image.data) - length, pick.choice((length, length + 1))
+        return Extent((base + offset) & (1 << 64) - 1, length & (1 << 64) - 1)
 
-    def block(self, kind, payload):
-        length = 8 + len(payload)
+    def block(self, block: Block) -> bytes:
+        """Returns a block with its header."""
+        length = 8 + len(block.payload)
         if self.slips_here(15):
             length = self.pick.choice((0, 4, 7, 8, 12, length + 8, length + 4, length - 8, 0xFFF8, 0xFFFF)) & 0xFFFF
-        return struct.pack("<HHI", kind, length, self.pick.choice((0, self.pick.getrandbits(32)))) + payload
+        reserved = self.pick.choice((0, self.pick.getrandbits(32)))
+        return struct.pack("<HHI", block.kind, length, reserved) + block.payload
 
-    def other_block(self):
-        """A block that names no volume: its type and what follows its header."""
+    def other_block(self) -> Block:
+        """Returns a block that names no volume."""
         pick = self.pick
         more = 8 * pick.choice((0, 1, 2, pick.randrange(40), 8190 if self.happens(0.01) else 3))
         lengths = {0x1: 48, 0x2: 40 + more % 4096, 0x3: 40, 0x4: 16 + more % 4096, 0x6: 8, 0x7: 0, 0xB: 16}
         lengths |= {0xC: more, 0xFFFE: more}
         kind = pick.choice((*lengths, pick.choice((0, 8, 10, pick.randrange(13, 0xFFFE)))))
-        return kind, bytes_of(pick, lengths.get(kind, more))
+        return Block(kind, bytes_of(pick, lengths.get(kind, more)))
 
-    def hand_off(self):
-        """A hand-off list, an image with the address of its first byte, or none, and the lines of `hobs`."""
+    def hand_off(self) -> Case:
+        """Returns a hand-off list, with or without an image."""
         pick = self.pick
-        image, places = self.image() if self.happens(0.5) else (None, [])
-        size = len(image or b"")
+        image = self.image() if self.happens(0.5) else None
+        given = image or Image(b"", [])
+        size = len(given.data)
         base = pick.choice((0, 0xFF0000, (1 << 64) - 1, (1 << 64) - size & (1 << 64) - 1, pick.getrandbits(64)))
-        blocks = [(0x1, bytes_of(pick, 48), "")]
+        blocks = [Block(0x1, bytes_of(pick, 48))]
         for _ in range(pick.randrange(8)):
             if self.happens(0.4):
-                start, length = self.span(base, image or b"", places)
+                at = self.span(base, given)
                 kind = pick.choice((0x5, 0x9))
-                is_inside = base <= start and start + length <= base + size
-                found = "volume" if (start - base, length) in places else "absent"
+                is_inside = base <= at.offset and at.offset + at.length <= base + size
+                found = "volume" if Extent(at.offset - base, at.length) in given.places else "absent"
                 word = "" if image is None else f" {found}" if is_inside else " outside"
-                blocks.append((kind, struct.pack("<QQ", start, length) + bytes_of(pick, 32 * (kind == 0x9)), word))
+                payload = struct.pack("<QQ", at.offset, at.length) + bytes_of(pick, 32 * (kind == 0x9))
+                blocks.append(Block(kind, payload, word))
             else:
-                blocks.append((*self.other_block(), ""))
+                blocks.append(self.other_block())
         if self.slips_here():
             del blocks[0]
-        blocks.append((0xFFFF, b"", ""))
-        listed = b"".join(self.block(kind, payload) for kind, payload, _ in blocks)
-        lines = [f"hob {kind:04x} length {8 + len(payload)}{word}" for kind, payload, word in blocks]
+        blocks.append(Block(0xFFFF, b""))
+        listed = b"".join(map(self.block, blocks))
+        lines = [f"hob {it.kind:04x} length {8 + len(it.payload)}{it.word}" for it in blocks]
         lines.append(f"consumed {len(listed)}")
         if self.slips_here(4):
             listed = listed[: -8 * pick.choice((1, 2))]
         elif self.happens(0.3):
             listed += bytes_of(pick, pick.randrange(20))
-        return listed, image, base, lines
+        return Case("list", listed, lines, None, image.data if image else None, base)
 
 
 # Breaking
 
 
-def changed(pick, data):
-    """The bytes with one thing done to them."""
+def changed(pick: random.Random, data: bytes) -> bytes:
+    """Returns the bytes with one change."""
     at = pick.randrange(len(data) + 1)
     at = pick.choice((at, min(at, 120)))
     way = pick.randrange(8)
@@ -564,24 +704,26 @@ def changed(pick, data):
     return data[:at] + data[at : at + count] + data[at + pick.choice((0, count)) :]
 
 
-def mended(data, spans):
-    """The bytes with right sums in the volume header and in the files that stood at these places."""
-    data = bytearray(data)
-    for start, header, end in spans:
-        if end <= len(data):
-            data[start + 16 : start + 18] = bytes(2)
-            state, data[start + 23] = data[start + 23], 0
-            data[start + 16] = sum8(data[start : start + header])
-            data[start + 17] = sum8(data[start + header : end]) if data[start + 19] & SUMMED else 0xAA
-            data[start + 23] = state
-    if len(data) >= 64:
-        data[50:52] = bytes(2)
-        length = int.from_bytes(data[48:50], "little")
-        data[50:52] = struct.pack("<H", sum16(data[: min(length, len(data)) & ~1]))
-    return bytes(data)
+def mended(data: bytes, spans: Iterable[Span]) -> bytes:
+    """Returns the bytes with right checksums in the volume header, and in the files that were at these places."""
+    found = bytearray(data)
+    for span in spans:
+        start, after = span.start, span.start + span.header
+        if span.end <= len(found):
+            found[start + 16 : start + 18] = bytes(2)
+            state, found[start + 23] = found[start + 23], 0
+            found[start + 16] = sum8(found[start:after])
+            found[start + 17] = sum8(found[after : span.end]) if found[start + 19] & SUMMED else 0xAA
+            found[start + 23] = state
+    if len(found) >= 64:
+        found[50:52] = bytes(2)
+        length = int.from_bytes(found[48:50], "little")
+        found[50:52] = struct.pack("<H", sum16(found[: min(length, len(found)) & ~1]))
+    return bytes(found)
 
 
-def broken(pick, data, spans=()):
+def broken(pick: random.Random, data: bytes, spans: Sequence[Span] = ()) -> bytes:
+    """Returns the bytes with a few changes, and often with right checksums after them."""
     for _ in range(pick.choice((1, 1, 1, 2, 5))):
         data = changed(pick, data)
     return mended(data, spans) if spans and pick.random() < 0.6 else data
@@ -589,46 +731,45 @@ def broken(pick, data, spans=()):
 
 # Inputs by their numbers
 
-Case = collections.namedtuple("Case", "kind data lines twin image base")
 
-
-def volume_case(name, pick):
+def volume_case(name: str, pick: random.Random) -> Case:
+    """Returns an input that is a volume, or nearly a volume."""
     grade = pick.random()
     if grade < 0.0004:
-        return Case("volume", *Maker(name).wide_volume(), Maker(name, 1).wide_volume()[0], None, 0)
+        return Case("volume", Maker(name).wide_volume(), None, Maker(name, 1).wide_volume())
     if grade < 0.45:
-        return Case("volume", *Maker(name).volume(0), Maker(name, 1).volume(0)[0], None, 0)
+        part = Maker(name).volume(0)
+        return Case("volume", part.data, part.lines, Maker(name, 1).volume(0).data)
     if grade < 0.75:
         maker = Maker(name, slips=pick.choice((1, 1, 2, 6)))
-        data, lines = maker.volume(0)
-        return Case("volume", data, None if maker.made else lines, None, None, 0)
+        part = maker.volume(0)
+        return Case("volume", part.data, None if maker.made else part.lines)
     if grade < 0.97:
         maker = Maker(name)
-        data = maker.volume(0)[0]
-        return Case("volume", broken(pick, data, maker.spans), None, None, None, 0)
-    return Case("volume", bytes_of(pick, pick.randrange(300)), None, None, None, 0)
+        data = maker.volume(0).data
+        return Case("volume", broken(pick, data, maker.spans))
+    return Case("volume", bytes_of(pick, pick.randrange(300)))
 
 
-def make_case(seed, index):
-    """The input of this number: what it is, its bytes, the lines that are to be written of it where it is valid, a
-    volume of the same meaning, and the image of a hand-off list with the address of its first byte."""
+def make_case(seed: int, index: int) -> Case:
+    """Returns the input with this number."""
     name = f"{seed}/{index}"
     pick = random.Random(f"{name} case")
     kind = pick.random()
     if kind < 0.78:
         return volume_case(name, pick)
     if kind < 0.86:
-        data, places = Maker(name).image()
+        image = Maker(name).image()
         if pick.random() < 0.3:
-            return Case("image", broken(pick, data), None, None, None, 0)
-        return Case("image", data, [f"volume at {offset} length {length}" for offset, length in places], None, None, 0)
+            return Case("image", broken(pick, image.data))
+        return Case("image", image.data, [f"volume at {it.offset} length {it.length}" for it in image.places])
     if kind < 0.97:
         maker = Maker(name, slips=pick.choice((0, 0, 1, 2)))
-        data, image, base, lines = maker.hand_off()
+        case = maker.hand_off()
         if pick.random() < 0.2:
-            return Case("list", broken(pick, data), None, None, image, base)
-        return Case("list", data, None if maker.made else lines, None, image, base)
-    return Case("words", b"", None, None, None, 0)
+            return dataclasses.replace(case, data=broken(pick, case.data), lines=None)
+        return dataclasses.replace(case, lines=None if maker.made else case.lines)
+    return Case("words", b"")
 
 
 # Running
@@ -638,17 +779,27 @@ class Wrong(Exception):
     """A promise that was not kept."""
 
 
-def require(holds, *what):
+def require(holds: object, *what: object) -> None:
+    """Raises Wrong with these texts if a promise is not kept."""
     if not holds:
         raise Wrong("; ".join(str(it)[:2000] for it in what))
 
 
+def matched(found: re.Match[bytes] | None, *what: object) -> re.Match[bytes]:
+    """Returns the match, and raises Wrong with these texts if there is none."""
+    require(found, *what)
+    assert found
+    return found
+
+
 REFUSALS = {"compare": rb"(?:first|second) fault (\d+) at (\d+)\n", "hobs": rb"hob fault (\d+) at (\d+)\n"}
 DIGITS = re.compile(rb"(?:[0-9a-f]{64}\n)*(?:(?:[0-9a-f]{2}){1,32}\n)?")
+# The exit status of a run, and its output.
+Answer = tuple[int, bytes]
 
 
-def spelled(pick, data):
-    """Hexadecimal text of the bytes."""
+def spelled(pick: random.Random, data: bytes) -> bytes:
+    """Returns hexadecimal text of the bytes."""
     text = data.hex()
     text = text.upper() if pick.randrange(3) == 0 else text
     step = pick.choice((1 << 30, 64, 7)) if len(text) < 100000 else 64
@@ -658,33 +809,57 @@ def spelled(pick, data):
 class Tool:
     """The program, run with files in a folder of its own."""
 
-    def __init__(self, program, seconds, folder, pick):
+    def __init__(self, program: str, seconds: float, folder: str, pick: random.Random) -> None:
+        """Prepares runs of the program, each of which may take this many seconds."""
         self.program = program
         self.seconds = seconds
         self.folder = folder
         self.pick = pick
         self.calls = 0
 
-    def put(self, name, data):
+    def put(self, name: str, data: bytes) -> str:
+        """Writes a file into the folder, and returns its path."""
         path = os.path.join(self.folder, name)
         with open(path, "wb") as file:
             file.write(data)
         return path
 
-    def start(self, words, given=os.devnull):
-        """Runs the program: its status, and what it wrote to standard output and standard error."""
+    def start(self, words: list[str], given: str = os.devnull) -> Answer:
+        """Runs the program. Its answer includes what it wrote to standard error."""
         self.calls += 1
+        nothing: dict[str, str] = {}
         with open(given, "rb") as stdin:
-            how = {"stdin": stdin, "stdout": subprocess.PIPE, "stderr": subprocess.STDOUT}
             try:
-                done = subprocess.run([self.program, *words], timeout=self.seconds, close_fds=False, env={}, **how)
+                done = subprocess.run(
+                    [self.program, *words],
+                    stdin=stdin,
+                    stdout=subprocess.PIPE,
+                    stderr=subprocess.STDOUT,
+                    timeout=self.seconds,
+                    close_fds=False,
+                    env=nothing,
+                    check=False,
+                )
             except subprocess.TimeoutExpired:
                 raise Wrong(f"{words}: no end within {self.seconds} seconds") from None
         require(0 <= done.returncode <= 3, f"{words}: status {done.returncode}", done.stdout)
         return done.returncode, done.stdout
 
-    def once(self, command, inputs, options, image, base, is_text):
-        shape = (lambda data: spelled(self.pick, data)) if is_text else bytes
+    def once(
+        self,
+        command: str,
+        inputs: Sequence[bytes],
+        options: Sequence[str] = (),
+        image: bytes | None = None,
+        base: int = 0,
+        is_text: bool = False,
+    ) -> Answer:
+        """Runs a command over these inputs, as bytes or as hexadecimal text. The answer is in bytes."""
+
+        def shape(data: bytes) -> bytes:
+            """Returns an input as the program is to read it."""
+            return spelled(self.pick, data) if is_text else data
+
         words = [command, *options, *["--hex"] * is_text]
         files = [self.put(f"input{number}", shape(data)) for number, data in enumerate(inputs)]
         if image is not None:
@@ -698,14 +873,16 @@ class Tool:
             out = bytes.fromhex(out.decode())
         return status, out
 
-    def ask(self, command, *inputs, options=(), image=None, base=0):
-        """The status and the output of a command over these inputs, which are its to read."""
-        status, out = self.once(command, inputs, options, image, base, False)
+    def ask(
+        self, command: str, *inputs: bytes, options: Sequence[str] = (), image: bytes | None = None, base: int = 0
+    ) -> Answer:
+        """Returns the answer of a command over these inputs, and checks its form."""
+        status, out = self.once(command, inputs, options, image, base)
         require(status < 3, f"{command} {options}: status 3", out)
         require(status != 1 or command in ("compare", "check", "extract"), f"{command}: status 1", out)
         if status == 2:
-            found = re.fullmatch(REFUSALS.get(command, rb"fault (\d+) at (\d+)\n"), out)
-            require(found, f"{command}: a refusal with other text", out)
+            form = REFUSALS.get(command, rb"fault (\d+) at (\d+)\n")
+            found = matched(re.fullmatch(form, out), f"{command}: a refusal with other text", out)
             number, offset = map(int, found.groups())
             require(1 <= number <= (5 if command == "hobs" else 23), f"{command}: a fault out of place", out)
             require(offset <= max(map(len, inputs)), f"{command}: a fault past the input", out)
@@ -715,18 +892,21 @@ class Tool:
         return status, out
 
 
-# What is looked at
+# Checks
 
 
-def line(text):
+def line(text: str) -> bytes:
+    """Returns a line of output."""
     return text.encode() + b"\n"
 
 
-def joined(lines):
+def joined(lines: Iterable[str]) -> bytes:
+    """Returns the output that consists of these lines."""
     return b"".join(map(line, lines))
 
 
-def depex_notes(text):
+def depex_notes(text: bytes) -> list[bytes]:
+    """Returns the notes of `check` on dependency expressions."""
     return [it for it in text.splitlines() if it.startswith(b"note depex ")]
 
 
@@ -736,8 +916,8 @@ DEPEX_NOTE = rb"note depex in " + GUID + rb" fault [1-5] at \d+\n"
 NOTES = re.compile(rb"(?:" + PAD_NOTE + rb")*(?:" + DEPEX_NOTE + rb")*(?:not )?canonical\n")
 
 
-def check_own(tool, case, image):
-    """`check` tells whether the volume is its image, and of the expressions what it tells of the image's."""
+def check_own(tool: Tool, case: Case, image: bytes) -> None:
+    """Checks that `check` reports whether the volume is its image, and the same notes on expressions for both."""
     status, text = tool.ask("check", case.data)
     is_own = case.data == image
     require((status == 0) == is_own, f"check: status {status}, and the volume is its image: {is_own}")
@@ -746,21 +926,23 @@ def check_own(tool, case, image):
     require(depex_notes(text) == depex_notes(of_image), "check: other notes of the image", text, of_image)
 
 
-def check_listed(tool, case, image):
-    """`list` writes the same of the volume and of its image."""
+def check_listed(tool: Tool, case: Case, image: bytes) -> None:
+    """Checks that `list` writes the same lines for the volume and for its image."""
     status, text = tool.ask("list", case.data)
     require(status == 0 and (status, text) == tool.ask("list", image), "list: another text of the image", text)
-    head = re.match(rb"volume ffs[23] length (\d+) files (\d+)(?: name " + GUID + rb")?\n", text)
-    require(head and int(head[1]) == len(case.data), "list: another first line", text)
+    first = re.match(rb"volume ffs[23] length (\d+) files (\d+)(?: name " + GUID + rb")?\n", text)
+    head = matched(first, "list: another first line", text)
+    require(int(head[1]) == len(case.data), "list: another first line", text)
     require(len(re.findall(rb"(?m)^  file ", text)) == int(head[2]), "list: another count of files", text)
 
 
-def check_scanned(tool, case, _image):
+def check_scanned(tool: Tool, case: Case, _image: bytes) -> None:
+    """Checks that `scan` finds the volume."""
     require(tool.ask("scan", case.data) == (0, line(f"volume at 0 length {len(case.data)}")), "scan: another place")
 
 
-def check_after(tool, case, image):
-    """Bytes after the volume are passed over, or refused."""
+def check_after(tool: Tool, case: Case, image: bytes) -> None:
+    """Checks that `list` ignores bytes after the volume, and that other commands reject them."""
     more = case.data + bytes_of(tool.pick, 1 + tool.pick.randrange(40))
     require(tool.ask("list", more) == tool.ask("list", case.data), "list: another text with bytes after it")
     refusal = f"fault 8 at {len(case.data)}"
@@ -769,8 +951,8 @@ def check_after(tool, case, image):
     require(tool.ask("compare", image, more) == (2, line("second " + refusal)), f"compare: not second {refusal}")
 
 
-def check_placed(tool, case, image):
-    """With `--at` the volume may be anywhere in the input."""
+def check_placed(tool: Tool, case: Case, image: bytes) -> None:
+    """Checks that `--at` finds the volume anywhere in the input."""
     front, other = bytes_of(tool.pick, tool.pick.randrange(80)), bytes_of(tool.pick, tool.pick.randrange(80))
     more = front + case.data + bytes_of(tool.pick, tool.pick.randrange(40))
     at = ["--at", str(len(front))]
@@ -785,8 +967,8 @@ def check_placed(tool, case, image):
     require(answer == (2, line("fault 1 at 0")), f"{command}: --at {past} is past the end", answer)
 
 
-def is_large(data, at):
-    """Whether the header of the file there is large."""
+def is_large(data: bytes, at: int) -> bool:
+    """Returns whether the file at this offset has a large header."""
     return bool(data[at + 19] & LARGE)
 
 
@@ -796,13 +978,13 @@ CELL = re.compile(
 )
 
 
-def check_cells(tool, case, _image):
-    """The lines of `cells` come one after the other, and hold the files that `list` shows, and their data."""
+def check_cells(tool: Tool, case: Case, _image: bytes) -> None:
+    """Checks that the lines of `cells` follow one another, and that they include the files that `list` shows."""
     status, text = tool.ask("cells", case.data + bytes_of(tool.pick, tool.pick.choice((0, 0, 5))))
     head, *cells, last = text.splitlines()
     require(status == 0 and re.fullmatch(rb"header at 0 length \d+", head), "cells: another first line", text)
     require(all(map(CELL.fullmatch, cells)), "cells: another line", text)
-    end, sums = int(head.split()[-1]), collections.Counter()
+    end, sums = int(head.split()[-1]), collections.Counter[str]()
     for it in cells:
         words = it.split()
         kind, at, length = words[0].decode(), int(words[2]), int(words[4])
@@ -825,19 +1007,19 @@ def check_cells(tool, case, _image):
     require(set(listed) <= set(names), "cells: a file that is listed is missing", text, *listed)
 
 
-def has_sums(lines):
-    """Whether exactly the lines of volumes, files and leaf sections end with a digest."""
+def has_sums(lines: list[str]) -> bool:
+    """Returns whether the lines of volumes, files and leaf sections end with a digest, and no other lines do."""
     indents = [len(it) - len(it.lstrip()) for it in lines] + [0]
-    for at, line in enumerate(lines):
-        what, *words = line.split()
+    for at, shown in enumerate(lines):
+        what, *words = shown.split()
         is_leaf = what != "section" or (int(words[2], 16) != GROUP and indents[at + 1] <= indents[at])
-        if is_leaf != bool(re.search(r" sha256 [0-9a-f]{64}$", line)):
+        if is_leaf != bool(re.search(r" sha256 [0-9a-f]{64}$", shown)):
             return False
     return True
 
 
-def check_unfixed(tool, case, _image):
-    """`unfix` takes the marks away from fixed files, and changes nothing else."""
+def check_unfixed(tool: Tool, case: Case, _image: bytes) -> None:
+    """Checks that `unfix` removes the marks of fixed files, and changes nothing else."""
     places = [int(it) for it in re.findall(rb"(?m)^file at (\d+) ", tool.ask("cells", case.data)[1])]
     marked = bytearray(case.data)
     chosen = sorted(tool.pick.sample(places, tool.pick.randrange(len(places) + 1)))
@@ -846,13 +1028,15 @@ def check_unfixed(tool, case, _image):
         marked[at + 19] |= FIXED
     require(tool.ask("unfix", bytes(marked)) == (0, case.data), "unfix: another volume", *map(str, chosen))
     if chosen:
-        require(tool.ask("list", bytes(marked)) == (2, b"fault 15 at %d\n" % (chosen[0] + 19)), "list: a fixed file", str(chosen[0]))
+        refusal = 2, b"fault 15 at %d\n" % (chosen[0] + 19)
+        require(tool.ask("list", bytes(marked)) == refusal, "list: a fixed file", str(chosen[0]))
     status, text = tool.ask("unfix", bytes(marked) + b"\0")
     require((status, text) == (2, b"fault 8 at %d\n" % len(marked)), "unfix: bytes after the volume", text)
 
 
-def check_sums(tool, case, image):
-    """`list --sums` has the lines of `list`, and the digests of the image and of the parts that `extract` writes."""
+def check_sums(tool: Tool, case: Case, image: bytes) -> None:
+    """Checks that `list --sums` writes the lines of `list`, with the digests of the image and of the parts that
+    `extract` writes."""
     status, text = tool.ask("list", case.data, options=["--sums"])
     plain = re.sub(rb"(?m)( sha256 [0-9a-f]{64})$", b"", text)
     require((status, plain) == tool.ask("list", case.data), "list --sums: other lines", text)
@@ -866,17 +1050,25 @@ def check_sums(tool, case, image):
         require(hashlib.sha256(part).hexdigest().encode() == digest, f"list --sums: {name}", text)
 
 
-def check_prefix(tool, case, _image):
-    """No proper prefix of a volume is one."""
+def check_prefix(tool: Tool, case: Case, _image: bytes) -> None:
+    """Checks that a proper prefix of a volume is rejected."""
     count = tool.pick.randrange(len(case.data))
     command = tool.pick.choice(("normalise", "list", "check"))
     require(tool.ask(command, case.data[:count]) == (2, line(f"fault 1 at {count}")), f"{command}: a prefix of {count}")
 
 
-def sections_below(lines):
-    """Type, length and digest, if it is a leaf, of each section in the lines of a file, through groups and not into
-    volumes."""
-    hidden = None
+@dataclass(frozen=True)
+class Listed:
+    """A section as `list --sums` shows it: its type, its length, and its digest if it is a leaf."""
+
+    kind: str
+    length: int
+    digest: str | None
+
+
+def sections_below(lines: Iterable[str]) -> Iterator[Listed]:
+    """Returns the sections in the lines of a file: those in its groups too, but not those in its volumes."""
+    hidden: int | None = None
     for it in lines:
         indent = len(it) - len(it.lstrip())
         if hidden is not None and indent >= hidden:
@@ -884,14 +1076,14 @@ def sections_below(lines):
         words = it.split()
         hidden = indent if words[0] == "volume" else None
         if hidden is None:
-            yield words[3], int(words[6]), words[-1] if words[-2] == "sha256" else None
+            yield Listed(words[3], int(words[6]), words[-1] if words[-2] == "sha256" else None)
 
 
-def check_section(tool, image, name, kind, sections):
-    """`extract` writes a section of a file, or tells that there is none."""
-    wanted = tool.pick.choice([found for found, _, _ in sections] + ["19"])
+def check_section(tool: Tool, image: bytes, name: str, kind: str, sections: list[Listed]) -> None:
+    """Checks that `extract` writes a section of a file, or reports that there is none."""
+    wanted = tool.pick.choice([it.kind for it in sections] + ["19"])
     instance = tool.pick.randrange(4)
-    parts = [it for it in sections if it[0] == wanted]
+    parts = [it for it in sections if it.kind == wanted]
     options = ["--name", name, "--section", wanted, "--instance", str(instance)]
     status, out = tool.ask("extract", image, options=options)
     if kind == "03":
@@ -899,15 +1091,15 @@ def check_section(tool, image, name, kind, sections):
     elif int(kind, 16) not in STREAMS:
         require((status, out) == (1, b"not sectioned\n"), f"extract {options}", out)
     elif 1 <= instance <= len(parts):
-        _, length, digest = parts[instance - 1]
-        require(status == 0 and len(out) == length and out in image, f"extract {options}", out)
-        require(digest in (None, hashlib.sha256(out).hexdigest()), f"list --sums: {options}", out)
+        part = parts[instance - 1]
+        require(status == 0 and len(out) == part.length and out in image, f"extract {options}", out)
+        require(part.digest in (None, hashlib.sha256(out).hexdigest()), f"list --sums: {options}", out)
     else:
         require((status, out) == (1, b"not found\n"), f"extract {options}", out)
 
 
-def check_parts(tool, case, image):
-    """`extract` writes the parts that `list` tells of, as the image has them."""
+def check_parts(tool: Tool, case: Case, image: bytes) -> None:
+    """Checks that `extract` writes the parts that `list` shows, as the image contains them."""
     lines = tool.ask("list", image, options=["--sums"])[1].decode().splitlines()
     starts = [at for at, it in enumerate(lines) if it.startswith("  file ")]
     strange = str(uuid.UUID(bytes=bytes_of(tool.pick, 16)))
@@ -921,7 +1113,15 @@ def check_parts(tool, case, image):
         check_section(tool, image, name, kind, list(sections_below(below[1:])))
 
 
-def check_accepted(tool, case, image):
+# The further checks of an accepted volume.
+WAYS: tuple[Callable[[Tool, Case, bytes], None], ...] = (
+    *(check_own, check_listed, check_scanned, check_after, check_placed),
+    *(check_cells, check_unfixed, check_sums, check_prefix, check_parts),
+)
+
+
+def check_accepted(tool: Tool, case: Case, image: bytes) -> None:
+    """Checks an accepted volume and its image."""
     require(len(image) == len(case.data), f"normalise: {len(image)} bytes of {len(case.data)}")
     status, text = tool.ask("check", image)
     require(status == 0 and NOTES.fullmatch(text) and b"note pad" not in text, "check of the image", text)
@@ -931,14 +1131,14 @@ def check_accepted(tool, case, image):
         require(tool.ask("list", case.data) == (0, joined(case.lines)), "list: other lines", *case.lines)
     if case.twin and tool.pick.randrange(4) == 0:
         require(tool.ask("normalise", case.twin) == (0, image), "normalise: another image of the same meaning")
-    ways = (check_own, check_listed, check_scanned, check_after, check_placed, check_cells, check_unfixed, check_sums, check_prefix, check_parts)
     if tool.pick.randrange(2):
-        tool.pick.choice(ways)(tool, case, image)
+        tool.pick.choice(WAYS)(tool, case, image)
 
 
-def check_refused(tool, case, refusal):
-    """Other commands write the same refusal; what has no layout has a meaning all the same."""
-    number, offset = map(int, re.findall(rb"\d+", refusal))
+def check_refused(tool: Tool, case: Case, refusal: bytes) -> None:
+    """Checks that other commands reject the volume with the same fault. (A volume without a layout has a meaning all
+    the same.)"""
+    number, offset = (int(it) for it in re.findall(rb"\d+", refusal))
     require(case.lines is None or number in (22, 23), "a volume of the format is refused", refusal)
     command = tool.pick.choice(("check", "list", "compare", "scan"))
     status, text = tool.ask(command, *[case.data] * (2 if command == "compare" else 1))
@@ -962,50 +1162,61 @@ def check_refused(tool, case, refusal):
             require(placed == (2, refusal), f"check: --at {len(front)} is another refusal", placed, refusal)
 
 
-def check_volume(tool, case):
+def check_volume(tool: Tool, case: Case) -> str:
+    """Checks the program over a volume, or over nearly a volume. Returns the outcome."""
     status, out = tool.ask("normalise", case.data)
     if status == 2:
         check_refused(tool, case, out)
-        return f"refused {int(re.search(rb'[0-9]+', out)[0])}"
+        return f"refused {int(re.findall(rb'[0-9]+', out)[0])}"
     check_accepted(tool, case, out)
     return "accepted"
 
 
-def check_places(tool, case, text):
-    """What `scan` writes: volumes at multiples of 8, one after another, each found on its own too."""
+def places_in(text: bytes) -> list[Extent]:
+    """Returns the places of the volumes in the output of `scan`."""
+    return [Extent(int(offset), int(length)) for offset, length in re.findall(rb"at (\d+) length (\d+)", text)]
+
+
+def check_places(tool: Tool, case: Case, text: bytes) -> None:
+    """Checks the output of `scan`: volumes at multiples of 8, one after another, each of which is also found on its
+    own."""
     require(re.fullmatch(rb"(?:volume at \d+ length \d+\n)*", text), "scan: other text", text)
-    places = [tuple(map(int, it)) for it in re.findall(rb"at (\d+) length (\d+)", text)]
+    places = places_in(text)
     end = 0
-    for offset, length in places:
-        require(offset >= end and offset % 8 == 0, "scan: a place", text)
-        end = offset + length
+    for place in places:
+        require(place.offset >= end and place.offset % 8 == 0, "scan: a place", text)
+        end = place.offset + place.length
     require(end <= len(case.data), "scan: a volume past the end", text)
     if places:
-        offset, length = tool.pick.choice(places)
+        place = tool.pick.choice(places)
+        offset, length = place.offset, place.length
         alone = tool.ask("scan", case.data[offset : offset + length])
         require(alone == (0, line(f"volume at 0 length {length}")), f"scan: not alone what is at {offset}", alone)
         placed = tool.ask("list", case.data, options=["--at", str(offset)])
         require(placed == tool.ask("list", case.data[offset : offset + length]), f"list: --at {offset}", placed)
 
 
-def check_all(tool, case, text):
-    """`check --all` says of each volume what `check` says of its bytes. A fault is at its place in the image."""
-    places = [tuple(map(int, it)) for it in re.findall(rb"at (\d+) length (\d+)", text)]
+def check_all(tool: Tool, case: Case, text: bytes) -> None:
+    """Checks that `check --all` reports of each volume what `check` reports of its bytes, with the offset of a fault in
+    the image."""
+    places = places_in(text)
     if len(places) > 8:
         return
     worst, wanted = 0, b""
-    for offset, length in places:
+    for place in places:
+        offset, length = place.offset, place.length
         status, said = tool.ask("check", case.data[offset : offset + length])
         last = said.splitlines()[-1].decode()
         if status == 2:
-            number, place = map(int, re.findall(r"\d+", last))
-            last = f"fault {number} at {offset + place}"
+            number, at = map(int, re.findall(r"\d+", last))
+            last = f"fault {number} at {offset + at}"
         worst, wanted = max(worst, status), wanted + line(f"volume at {offset} length {length} {last}")
-    found = tool.once("check", (case.data,), ["--all"], None, 0, False)
+    found = tool.once("check", (case.data,), ["--all"])
     require(found == (worst, wanted), "check --all: other lines", found, (worst, wanted))
 
 
-def check_image(tool, case):
+def check_image(tool: Tool, case: Case) -> str:
+    """Checks the program over a flash image. Returns the outcome."""
     status, text = tool.ask("scan", case.data)
     require(status == 0, "scan: refused", text)
     require(case.lines is None or text == joined(case.lines), "scan: other volumes", text, case.lines)
@@ -1014,7 +1225,8 @@ def check_image(tool, case):
     return "scanned"
 
 
-def check_list(tool, case):
+def check_list(tool: Tool, case: Case) -> str:
+    """Checks the program over a hand-off list. Returns the outcome."""
     status, text = tool.ask("hobs", case.data, image=case.image, base=case.base)
     is_kept = case.lines is None or (status, text) == (0, joined(case.lines))
     require(is_kept, "hobs: other blocks", text, case.lines)
@@ -1039,13 +1251,15 @@ compare a b c|check --hex=1|scan a b|extract|extract a|extract --name|extract --
 extract --name NAME --section 100 a|extract --name NAME --section 0x1 a|extract --name NAME --section +1 a|
 extract --name NAME --section g a|extract --name NAME --instance -1 a|extract --name NAME --instance 4294967296 a|
 extract --name NAME --instance x a|hobs --image a b|hobs --base 1 b|hobs --image a --base -1 b|list -x|hobs a b|
-list --at|list --sums --sums|check --sums a|cells a b|cells --all a|unfix a b|unfix --all a|list --at x a|list --at=-1 a|list --at 0x a|list --at 0x+1 a|list --at 18446744073709551616 a|scan --at 8 a|
+list --at|list --sums --sums|check --sums a|cells a b|cells --all a|unfix a b|unfix --all a|list --at x a|
+list --at=-1 a|list --at 0x a|list --at 0x+1 a|list --at 18446744073709551616 a|scan --at 8 a|
 hobs --at 8 a|normalise --all --at 8 a|check --all --at 8 a|list --other-at 8 a|compare a b --other-at x|
 hobs --image a --base 0x10 b|hobs --image a --base 18446744073709551616 b|list --name NAME a"""
 
 
-def check_words(tool, _case):
-    """Words that name no command, a file that is not there, and text that spells no bytes."""
+def check_words(tool: Tool, _case: Case) -> str:
+    """Checks the program with wrong arguments, with a file that does not exist, or with text that is not hexadecimal.
+    Returns the outcome."""
     command = tool.pick.choice(("normalise", "list", "check", "scan", "hobs", "extract"))
     way = tool.pick.randrange(3)
     if way == 0:
@@ -1064,14 +1278,19 @@ def check_words(tool, _case):
     return "words"
 
 
-CHECKS = {"volume": check_volume, "image": check_image, "list": check_list, "words": check_words}
+CHECKS: dict[str, Callable[[Tool, Case], str]] = {
+    "volume": check_volume,
+    "image": check_image,
+    "list": check_list,
+    "words": check_words,
+}
 
 
-# The whole run
+# One call of the script
 
 
-def write_case(options, index, case):
-    """Writes an input, its twin and its image to the folder for findings: the names that they begin with."""
+def write_case(options: argparse.Namespace, index: int, case: Case) -> str:
+    """Writes an input, its twin and its image to the folder for findings. Returns the path without the ending."""
     os.makedirs(options.keep, exist_ok=True)
     stem = os.path.join(options.keep, f"{options.seed}-{index}")
     for end, data in (("input", case.data), ("twin", case.twin), ("image", case.image)):
@@ -1083,15 +1302,16 @@ def write_case(options, index, case):
 class Run:
     """The inputs of one call of this script, tried with files in the folder `room`."""
 
-    def __init__(self, options, room):
+    def __init__(self, options: argparse.Namespace, room: str) -> None:
+        """Prepares the call."""
         self.options = options
         self.room = room
-        self.outcomes = collections.Counter()
+        self.outcomes = collections.Counter[str]()
         self.calls = 0
         self.lock = threading.Lock()
 
-    def try_one(self, index):
-        """Makes one input and looks at what the program does with it."""
+    def try_one(self, index: int) -> None:
+        """Makes one input, and checks the program over it."""
         options = self.options
         case = make_case(options.seed, index)
         folder = os.path.join(self.room, str(threading.get_ident()))
@@ -1106,14 +1326,15 @@ class Run:
             self.outcomes[outcome] += 1
             self.calls += tool.calls
 
-    def keep(self, index, case, what):
-        """Keeps an input of which a promise is not kept."""
+    def keep(self, index: int, case: Case, what: str) -> None:
+        """Keeps an input for which a promise is not kept."""
         stem = write_case(self.options, index, case)
         again = f"fuzz.py --seed {self.options.seed} --first {index} --count 1"
         Path(f"{stem}.txt").write_text(f"{case.kind}: {what}\nbase {case.base}\nagain: {again}\n")
         print(f"FINDING {index} ({case.kind}): {what}\n  kept as {stem}.*; again: {again}", flush=True)
 
-    def summary(self, took):
+    def summary(self, took: float) -> str:
+        """Returns the line of figures after this many seconds."""
         faults = sorted((int(it.split()[1]), count) for it, count in self.outcomes.items() if it.startswith("refused"))
         refused = sum(count for _, count in faults)
         by_number = ", ".join(f"{number}: {count}" for number, count in faults)
@@ -1124,7 +1345,8 @@ class Run:
             f"runs {self.calls}, seconds {took:.0f}, findings {self.outcomes['finding']}"
         )
 
-    def go(self):
+    def go(self) -> int:
+        """Tries the inputs. Returns the exit status."""
         start = time.monotonic()
         last = self.options.first + self.options.count if self.options.count else None
         numbers = itertools.count(self.options.first) if last is None else iter(range(self.options.first, last))
@@ -1140,8 +1362,8 @@ class Run:
         return 1 if self.outcomes["finding"] else 0
 
 
-def show(options):
-    """Writes inputs as files, and runs nothing."""
+def show(options: argparse.Namespace) -> int:
+    """Writes inputs as files, and runs nothing. Returns the exit status."""
     for index in range(options.first, options.first + options.count):
         case = make_case(options.seed, index)
         stem = write_case(options, index, case)
@@ -1149,7 +1371,8 @@ def show(options):
     return 0
 
 
-def main():
+def main() -> int:
+    """Reads the arguments, and tries or writes the inputs. Returns the exit status."""
     reader = argparse.ArgumentParser(description=__doc__)
     reader.add_argument("--count", type=int, default=1000, help="how many inputs; 0: until it is interrupted")
     reader.add_argument("--seed", type=int, default=int(time.time()), help="a number; by default the time")

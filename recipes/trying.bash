@@ -5,6 +5,8 @@
 set -euo pipefail
 recipes=$(cd "$(dirname "${BASH_SOURCE[0]}")" && pwd)
 export FVTOOL=${FVTOOL:-$recipes/../crates/fv_tool/out/fv_tool} PYTHONDONTWRITEBYTECODE=1 LC_ALL=C
+# The commands of the Python package fv, from the sources. The tests import the package, and images.py of this folder.
+export PATH=$recipes/../clib/python/bin:$PATH PYTHONPATH=$recipes/../clib/python:$recipes${PYTHONPATH:+:$PYTHONPATH}
 if ! command -v "$FVTOOL" > /dev/null; then
     echo "$FVTOOL is not there: ./fvtool < crates/fv_tool/stdin builds it" >&2
     exit 1
@@ -33,6 +35,17 @@ expect() { # STATUS TEXT COMMAND..
     fi
 }
 
+# Checks that a command refuses its arguments: status 3, nothing on standard output, and a line of usage.
+refuses() { # WHAT COMMAND..
+    local said status=0
+    said=$("${@:2}" 2>&1 > said) || status=$?
+    tries=$((tries + 1))
+    if [[ $status != 3 || -s said || $said != "usage: "* || $said != *"$1"* ]]; then
+        failed "${*:2}"
+        printf 'status %s: %s\n' "$status" "$said"
+    fi
+}
+
 # Checks that a text has a line.
 has() { # TEXT LINE
     tries=$((tries + 1))
@@ -44,7 +57,7 @@ has() { # TEXT LINE
 
 # Returns whether the library is built, which some recipes use.
 has_library() {
-    export LIBFV=${LIBFV:-$recipes/../clib/out/libfv.so.0}
+    export LIBFV=${LIBFV:-$recipes/../clib/out/libfv.so.2}
     if [[ ! -e $LIBFV ]]; then
         skipped libfv
         return 1

@@ -1,7 +1,7 @@
 """Makes the wheel and the source archive of the package for pip, as PEP 517 defines, with Python's standard library
 only: without network, without setuptools, without a compiler. Both contain the library, since only the kit can build
-it: the one that LIBFV names, otherwise fv/libfv.so.0 (which an unpacked source archive contains), otherwise
-clib/out/libfv.so.0 (which clib/build makes). Two runs make the same bytes."""
+it: the one that LIBFV names, otherwise fv/libfv.so.2 (which an unpacked source archive contains), otherwise
+clib/out/libfv.so.2 (which clib/build makes). Two runs make the same bytes."""
 
 from __future__ import annotations
 
@@ -16,8 +16,7 @@ import zipfile
 from pathlib import Path
 
 HERE = Path(__file__).resolve().parent
-# The library runs on Linux on x86-64, with any Python 3.
-TAG = "py3-none-linux_x86_64"
+LIBRARY = "libfv.so.2"
 # The date of all files: the earliest that a zip archive can hold.
 DATE = (1980, 1, 1, 0, 0, 0)
 
@@ -33,19 +32,58 @@ def first_of(what: str, *places: Path) -> bytes:
 def sources() -> dict[str, bytes]:
     """Returns the files of the package and its licences, by their names."""
     named = os.environ.get("LIBFV")
-    places = [Path(named)] if named else [HERE / "fv/libfv.so.0", HERE.parent / "out/libfv.so.0"]
+    places = [Path(named)] if named else [HERE / "fv" / LIBRARY, HERE.parent / "out" / LIBRARY]
     found = {f"fv/{it.name}": it.read_bytes() for it in sorted((HERE / "fv").glob("*.py"))}
-    found["fv/py.typed"] = b""
-    found["fv/libfv.so.0"] = first_of("libfv.so.0", *places)
+    found.update({f"fv/{it}": (HERE / "fv" / it).read_bytes() for it in ("guids.txt", "py.typed")})
+    found[f"fv/{LIBRARY}"] = first_of(LIBRARY, *places)
     found["copyright"] = first_of("copyright", HERE / "copyright", HERE.parents[1] / "packaging/copyright")
     return found
 
 
+def tag(library: bytes) -> str:
+    """Returns the tag of a wheel with the library: any Python 3 on Linux on x86-64, with the C library of the newest
+    version that the library's symbols have (objdump -T shows them), but at least 2.5, the first one with a tag."""
+    versions = re.findall(rb"\0GLIBC_2\.(\d+)[.\d]*(?=\0)", library)
+    return f"py3-none-manylinux_2_{max(5, *map(int, versions))}_x86_64"
+
+
+def project() -> str:
+    """Returns the part of pyproject.toml that is about the project."""
+    text = (HERE / "pyproject.toml").read_text(encoding="utf-8")
+    return text.partition("\n[project]\n")[2].partition("\n[tool.")[0]
+
+
 def field(name: str) -> str:
-    """Returns a text field of pyproject.toml."""
-    match = re.search(rf'(?m)^{name} = "(.*)"$', (HERE / "pyproject.toml").read_text(encoding="utf-8"))
+    """Returns a text field of the project."""
+    match = re.search(rf'(?m)^{name} = "(.*)"$', project())
     assert match, name
     return match[1]
+
+
+def texts(name: str) -> list[str]:
+    """Returns the texts of a list of the project, which has one in each line."""
+    match = re.search(rf"(?ms)^{name} = \[$(.*?)^\]$", project())
+    assert match, name
+    return re.findall(r'(?m)^    "(.*)",$', match[1])
+
+
+def commands() -> dict[str, str]:
+    """Returns the modules of the commands, by the names of the commands."""
+    text = (HERE / "pyproject.toml").read_text(encoding="utf-8")
+    section = text.partition("\n[project.scripts]\n")[2].partition("\n[")[0]
+    return dict(re.findall(r'(?m)^(\S+) = "(.*):main"$', section))
+
+
+def entry_points() -> bytes:
+    """Returns the file entry_points.txt of a wheel, which lists the commands."""
+    return "".join(["[console_scripts]\n", *(f"{name} = {it}:main\n" for name, it in commands().items())]).encode()
+
+
+def author() -> str:
+    """Returns the author of the project, as a header of metadata has it."""
+    match = re.search(r'(?m)^authors = \[\{ name = "(.*)", email = "(.*)" \}\]$', project())
+    assert match, "no author"
+    return f"{match[1]} <{match[2]}>"
 
 
 def version() -> str:
@@ -62,9 +100,11 @@ def title() -> str:
 
 def metadata() -> bytes:
     """Returns the file METADATA of a wheel, which is also PKG-INFO of a source archive."""
-    lines = ["Metadata-Version: 2.1", f"Name: {field('name')}", f"Version: {version()}"]
-    lines += [f"Summary: {field('description')}", f"Requires-Python: {field('requires-python')}"]
-    lines += ["License-File: copyright", "Description-Content-Type: text/markdown", ""]
+    lines = ["Metadata-Version: 2.4", f"Name: {field('name')}", f"Version: {version()}"]
+    lines += [f"Summary: {field('description')}", f"Author-email: {author()}"]
+    lines += [f"Keywords: {','.join(texts('keywords'))}", *(f"Classifier: {it}" for it in texts("classifiers"))]
+    lines += [f"Requires-Python: {field('requires-python')}", "License-File: copyright"]
+    lines += ["Description-Content-Type: text/markdown", ""]
     return "\n".join(lines).encode() + b"\n" + (HERE / "README.md").read_bytes()
 
 
@@ -80,11 +120,13 @@ def record(files: dict[str, bytes], name: str) -> bytes:
 def build_wheel(wheel_directory: str, config_settings: object = None, metadata_directory: object = None) -> str:
     """Writes the wheel to a folder, and returns its name."""
     about, files = f"{title()}.dist-info", sources()
+    tagged = tag(files[f"fv/{LIBRARY}"])
     files[f"{about}/licenses/copyright"] = files.pop("copyright")
     files[f"{about}/METADATA"] = metadata()
-    files[f"{about}/WHEEL"] = f"Wheel-Version: 1.0\nGenerator: libfv\nRoot-Is-Purelib: false\nTag: {TAG}\n".encode()
+    files[f"{about}/WHEEL"] = f"Wheel-Version: 1.0\nGenerator: libfv\nRoot-Is-Purelib: false\nTag: {tagged}\n".encode()
+    files[f"{about}/entry_points.txt"] = entry_points()
     files[f"{about}/RECORD"] = record(files, f"{about}/RECORD")
-    name = f"{title()}-{TAG}.whl"
+    name = f"{title()}-{tagged}.whl"
     with zipfile.ZipFile(Path(wheel_directory, name), "w", zipfile.ZIP_DEFLATED) as wheel:
         for path, data in files.items():
             entry = zipfile.ZipInfo(path, DATE)

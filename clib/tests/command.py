@@ -1,33 +1,30 @@
 #!/usr/bin/env python3
 """command.py [--program PROGRAM] FILE..: `python3 -m fv` over each FILE: its lines are what the calls of the package
-return, with --json too; with the program also what `check`, `cells`, `list` and `list --sums` write. Then wrong
-arguments, a file that is not there, and outputs that are full or closed."""
+return, with --json too; with the program also what `scan`, `check`, `cells`, `list` and `list --sums` write. Then
+wrong arguments, a file that is not there, and outputs that are full or closed."""
 
 import argparse
+import dataclasses
 import enum
-import hashlib
 import json
 import os
+import signal
 import subprocess
 import sys
 import uuid
 from pathlib import Path
+from typing import Any
 
 ROOT = Path(__file__).resolve().parents[2]
 # A copy that is installed, or that PYTHONPATH names, comes first.
 sys.path.append(str(ROOT / "clib/python"))
 import fv
 
-COMMANDS = ("files", "tree", "cells", "check", "sums")
-# The fields that the text of a node has, beside its place in the tree.
-NODE_FIELDS = {
-    "volume": ("offset", "len", "header_len", "guid"),
-    "file": ("offset", "len", "header_len", "kind", "attributes", "holds", "guid"),
-    "section": ("offset", "len", "header_len", "kind", "holds"),
-}
+Line = dict[str, Any]
+COMMANDS = ("scan", "tree", "cells", "check", "digests")
 
 
-def ran(*arguments, **named):
+def ran(*arguments: str, **named: Any) -> tuple[int, str, str]:
     """The status, the output and the messages of a run."""
     named = {"stdout": subprocess.PIPE, "stderr": subprocess.PIPE, **named}
     env = {**os.environ, "PYTHONPATH": str(Path(fv.__file__).parents[1])}
@@ -35,68 +32,57 @@ def ran(*arguments, **named):
     return run.returncode, (run.stdout or b"").decode(), run.stderr.decode()
 
 
-def volumes_of(data):
+def volumes_of(data: bytes) -> list[tuple[int, bytes]]:
     """The volumes of an image, or all of it."""
-    places = fv.scan(data)
-    return [(at, data[at : at + fv.verify(data[at:]).length]) for at in places] if places else [(0, data)]
+    headers = fv.image_scan(data)
+    return [(it.offset, data[it.offset : it.offset + it.length]) for it in headers] if headers else [(0, data)]
 
 
-def wanted(command, data):
-    """The lines of a volume, without the ones that its data have to themselves."""
+def wanted(command: str, data: bytes) -> list[Line]:
+    """The lines of a volume, without its offset."""
     if command == "check":
-        return [{"canonical": fv.is_canonical(data)}]
-    if command == "sums":
-        return [*sums_of(data)]
+        return [{"canonical": fv.volume_is_canonical(data)}]
+    if command == "scan":
+        return [{name: it for name, it in fields_of(fv.header_read(data)).items() if name != "offset"}]
+    if command == "cells":
+        return [fields_of(cell) for cell in fv.volume_cells(data)]
+    nodes = [{"row": row, **fields_of(node)} for row, node in enumerate(fv.volume_tree(data))]
     if command == "tree":
-        return [{"row": number, **fields_of(node)} for number, node in enumerate(fv.tree(data))]
-    if command == "files":
-        return [{"file": number, **fields_of(file)} for number, file in enumerate(fv.files(data))]
-    places = ("offset", "len", "what")
-    rows = [(cell.what in (fv.FILE, fv.PAD), fields_of(cell)) for cell in fv.cells(data)]
-    return [row if has_header else {name: row[name] for name in places} for has_header, row in rows]
+        return nodes
+    kept = ("row", "kind", "efi_type", "guid")
+    parts = zip(nodes, fv.volume_tree_digests(data))
+    return [{**{name: it[name] for name in kept}, "sha256": digest.hex()} for it, digest in parts if digest]
 
 
-def sums_of(data):
-    """The sums of a volume, of its files, and of what is below these and is no section that holds others."""
-    image, file = fv.normalise(data), 0
-    for row, node in enumerate(fv.tree(image)):
-        part, place = image[node.offset : node.offset + node.len], {}
-        if node.depth == 1:
-            file, part = node.number, fv.extract(data, node.number)
-            place = {"file": file, "name": str(node.guid)}
-        if node.depth > 1:
-            name = {"guid": str(node.guid)} if node.what == fv.NODE_FILE else {}
-            place = {"file": file, "row": row, "what": node.what.name.lower(), "kind": node.kind, **name}
-        if node.what != fv.NODE_SECTION or node.holds == fv.BYTES:
-            yield {**place, "sha256": hashlib.sha256(part).hexdigest()}
-
-
-def fields_of(row):
+def fields_of(row: Any) -> Line:
     """The fields of a row, as JSON has them."""
-    return {name: json_of(value) for name, value in vars(row).items()}
+    return {it.name: json_of(getattr(row, it.name)) for it in dataclasses.fields(row)}
 
 
-def json_of(value):
+def json_of(value: Any) -> Any:
     """A value of a field, as JSON has it."""
     return value.name.lower() if isinstance(value, enum.Enum) else str(value) if isinstance(value, uuid.UUID) else value
 
 
-def node_text(line):
+def node_text(line: Line) -> str:
     """The text of a node of a tree: an indent in place of its depth, and the fields that it has."""
-    text = " ".join(f"{name} {line[name]}" for name in NODE_FIELDS[line["what"]])
-    return f"volume {line['volume']} {'  ' * line['depth']}{line['what']} {line['number']} {text}"
+    names = ("offset", "length", "content", "efi_type", "attributes", "header_length", "guid", "file_system")
+    text = " ".join(f"{name} {line[name]}" for name in names if line[name] is not None)
+    return f"volume {line['volume']} {'  ' * line['depth']}{line['kind']} {line['index']} {text}"
 
 
-def check_lines(command, path, data):
+def check_lines(command: str, path: str, data: bytes) -> list[Line]:
     """Each line is what the calls say, as JSON and as text."""
     status, text, _ = ran(command, path, "--json")
-    lines, expected = [json.loads(line) for line in text.splitlines()], []
+    lines: list[Line] = [json.loads(line) for line in text.splitlines()]
+    expected: list[Line] = []
     for at, volume in volumes_of(data):
         try:
             expected += [{"volume": at, **line} for line in wanted(command, volume)]
-        except fv.Fault as fault:
-            place = {"offset": fault.offset, "depth": fault.depth}
-            expected.append({"volume": at, "fault": fault.number, **place, "text": fault.text})
+        except fv.FaultError as error:
+            fault = error.fault
+            place: Line = {"volume": at, "fault": fault.number, "offset": fault.offset, "depth": fault.depth}
+            expected.append(place | {"text": fault.text})
     assert lines == expected, (command, path)
     rejected, other = any("fault" in line for line in lines), any(line.get("canonical") is False for line in lines)
     assert status == (2 if rejected else 1 if other else 0), (command, path)
@@ -105,60 +91,63 @@ def check_lines(command, path, data):
     return lines
 
 
-def text_of(command, line):
+def text_of(command: str, line: Line) -> str:
     """A line as text has it."""
     if command == "tree" and "fault" not in line:
         return node_text(line)
-    return " ".join(f"{name} {shown(value)}" for name, value in line.items())
+    return " ".join(f"{name} {shown(value)}" for name, value in line.items() if value is not None)
 
 
-def shown(value):
+def shown(value: Any) -> str:
     """A value of a field, as text has it."""
     return str(value).lower() if isinstance(value, bool) else str(value)
 
 
-def check_program(program, path, lines):
+def check_program(program: str, path: str, lines: dict[str, list[Line]]) -> None:
     """What the program writes of each volume."""
 
-    def said(*arguments):
-        return subprocess.run([program, *arguments, path], capture_output=True, check=False).stdout.decode().splitlines()
+    def said(*arguments: str) -> list[str]:
+        run = subprocess.run([program, *arguments, path], capture_output=True, check=False)
+        return run.stdout.decode().splitlines()
 
+    found = [f"volume at {line['volume']} length {line['length']}" for line in lines["scan"] if "fault" not in line]
+    assert said("scan") == found, path
     for line in lines["check"]:
         verdict = said("check", "--at", str(line["volume"]))[-1]
-        judged = {True: "canonical", False: "not canonical"}.get(line.get("canonical"))
+        judged = {True: "canonical", False: "not canonical", None: ""}[line.get("canonical")]
         assert verdict == (judged or f"fault {line['fault']} at {line['offset']}"), (path, line)
-    for at in {line["volume"] for line in lines["sums"] if "fault" not in line}:
-        sums = [line["sha256"] for line in lines["sums"] if line["volume"] == at]
+    for at in {line["volume"] for line in lines["digests"] if "fault" not in line}:
+        sums = [line["sha256"] for line in lines["digests"] if line["volume"] == at]
         listed = said("list", "--sums", "--at", str(at))
         assert [line.rpartition(" sha256 ")[2] for line in listed if " sha256 " in line] == sums, (path, at)
     for at in {line["volume"] for line in lines["tree"] if "fault" not in line}:
         nodes = [line for line in lines["tree"] if line["volume"] == at]
-        listed = [line.split(" ") for line in said("list", "--at", str(at))]
+        listed = said("list", "--at", str(at))
         assert len(listed) == len(nodes), (path, at)
-        for words, node in zip(listed, nodes):
+        for words, node in zip((line.split(" ") for line in listed), nodes):
             assert words[: 2 * node["depth"]] == [""] * (2 * node["depth"]), (path, words, node)
-            assert words[2 * node["depth"]] == node["what"], (path, words, node)
+            assert words[2 * node["depth"]] == node["kind"], (path, words, node)
     for at in {line["volume"] for line in lines["cells"] if "fault" not in line}:
-        cells = [line["what"] for line in lines["cells"] if line["volume"] == at]
+        cells = [line["kind"] for line in lines["cells"] if line["volume"] == at]
         assert [line.split()[0] for line in said("cells", "--at", str(at))[1:-1]] == cells, (path, at)
 
 
-def check_refusals(path):
+def check_refusals(path: str) -> None:
     """What is no run."""
-    for arguments in ((), ("files",), ("tell", path), ("files", path, path), ("files", path, "--sums")):
+    for arguments in ((), ("tree",), ("files", path), ("tree", path, path), ("tree", path, "--sums")):
         status, text, message = ran(*arguments)
         assert (status, text) == (3, "") and message.startswith("usage: python3 -m fv"), arguments
-    status, text, message = ran("files", f"{path}.missing")
-    assert (status, text) == (2, "") and message.startswith("fv: "), message
+    status, text, message = ran("tree", f"{path}.missing")
+    assert (status, text) == (2, "") and message.startswith("python3 -m fv: "), message
     with open("/dev/full", "wb") as full:
-        assert ran("check", path, stdout=full)[0] == 2
-    closed = subprocess.Popen(["true"], stdin=subprocess.PIPE)
-    closed.wait()
-    assert ran("check", path, stdout=closed.stdin)[::2] == (2, "")
-    closed.stdin.close()
+        assert ran("check", path, stdout=full)[0] == 4
+    reader, writer = os.pipe()
+    os.close(reader)
+    assert ran("check", path, stdout=writer)[::2] == (-signal.SIGPIPE, "")
+    os.close(writer)
 
 
-def main():
+def main() -> None:
     parser = argparse.ArgumentParser()
     parser.add_argument("--program")
     parser.add_argument("files", nargs="+")

@@ -26,19 +26,23 @@ int main(void)
     memcpy(and + 18, &both[1], 16);
     and[34] = 3;
     and[35] = 8;
-    for (uint32_t phase = 0; phase < 2; phase++) {
-        EXPECT(fv_depex(and, 36, phase, both, 2, &v, &f) == 0 && v == 1 && f.number == 0);
-        EXPECT(fv_depex(and, 36, phase, both, 1, &v, &f) == 0 && v == 0);
-        EXPECT(fv_depex(and, 36, phase, both, 0, &v, &f) == 0 && v == 0);
-        EXPECT(fv_depex(and, 30, phase, both, 2, &v, &f) == 1 && f.number == 1 && f.offset == 17 && v == 0);
-        EXPECT(fv_depex(and, 34, phase, both, 2, &v, &f) == 4 && f.offset == 34);
+    for (uint32_t phase = FV_PHASE_PEI; phase <= FV_PHASE_DXE; phase++) {
+        EXPECT(fv_depex_evaluate(and, 36, phase, both, 2, &v, &f) == FV_OK && v == FV_DEPEX_TRUE && f.result == FV_OK);
+        EXPECT(fv_depex_evaluate(and, 36, phase, both, 1, &v, &f) == FV_OK && v == FV_DEPEX_FALSE);
+        EXPECT(fv_depex_evaluate(and, 36, phase, NULL, 0, &v, NULL) == FV_OK && v == FV_DEPEX_FALSE);
+        EXPECT(fv_depex_evaluate(and, 30, phase, both, 2, &v, &f) == FV_FAULT_DEPEX_SHORT);
+        EXPECT(f.result == FV_FAULT_DEPEX_SHORT && f.offset == 17 && f.depth == 0 && v == FV_DEPEX_FALSE);
+        EXPECT(fv_depex_evaluate(and, 34, phase, both, 2, &v, &f) == FV_FAULT_DEPEX_NO_END && f.offset == 34);
+        EXPECT(fv_depex_evaluate(NULL, 0, phase, NULL, 0, &v, &f) == FV_FAULT_DEPEX_NO_END && f.offset == 0);
     }
     and[34] = 0x77;
-    EXPECT(fv_depex(and, 36, 1, both, 2, &v, &f) == 2 && f.offset == 34);
+    EXPECT(fv_depex_evaluate(and, 36, FV_PHASE_DXE, both, 2, &v, &f) == FV_FAULT_DEPEX_OPCODE && f.offset == 34);
     memcpy(before + 1, &both[0], 16);
     before[17] = 8;
-    EXPECT(fv_depex(before, 18, 1, both, 2, &v, &f) == 0 && v == 2);
-    EXPECT(fv_depex(before, 18, 0, both, 2, &v, &f) == 2 && f.offset == 0); /* PEI has no BEFORE */
+    EXPECT(fv_depex_evaluate(before, 18, FV_PHASE_DXE, both, 2, &v, &f) == FV_OK && v == FV_DEPEX_ORDER);
+    /* PEI has no BEFORE */
+    EXPECT(fv_depex_evaluate(before, 18, FV_PHASE_PEI, both, 2, &v, &f) == FV_FAULT_DEPEX_OPCODE);
+    EXPECT(f.offset == 0 && v == FV_DEPEX_ORDER);
     puts("depex: as it should be");
     return 0;
 }

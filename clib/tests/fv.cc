@@ -1,5 +1,5 @@
-// The library from C++, with a vector for each buffer: the image of a volume, that it is its own image, and its files
-// with their data.
+// The library from C++, with a vector for each buffer: the image of a volume, that it is its own image, and the data of
+// its files. A vector of no elements may have a null pointer.
 #include <fv.h>
 #include <algorithm>
 #include <cstdio>
@@ -10,26 +10,33 @@
 int main(int, char **argv)
 {
     std::ifstream f(argv[1], std::ios::binary);
-    std::vector<uint8_t> in{std::istreambuf_iterator<char>(f), {}}, image(in.size() + 1);
+    std::vector<uint8_t> in{std::istreambuf_iterator<char>(f), {}}, image(in.size()), data;
+    std::vector<fv_node> tree;
     fv_fault fault{};
     uint32_t canonical = 0;
-    if (uint32_t status = fv_normalise(in.data(), in.size(), image.data(), in.size(), &fault)) {
-        std::printf("fault %u at %llu\n", status, static_cast<unsigned long long>(fault.offset));
+    if (fv_result result = fv_volume_normalise(in.data(), in.size(), image.data(), image.size(), &fault)) {
+        std::printf("fault %u at %llu\n", result, static_cast<unsigned long long>(fault.offset));
         return 2;
     }
-    if (fv_is_canonical(image.data(), in.size(), &canonical, &fault) || canonical != 1) return 1;
-    std::vector<fv_file> files(in.size() / 24 + 1);
-    std::vector<uint8_t> data(in.size() + 1);
-    uint64_t count = 0, len = 0;
-    if (fv_files(image.data(), in.size(), files.data(), files.size(), &count, &fault)) return 1;
-    for (uint64_t i = 0; i < count; i++) {
-        if (fv_extract(image.data(), in.size(), i, FV_WHOLE_FILE, data.data(), data.size(), &len, &fault)) return 1;
-        if (len != files[i].data_len || !std::equal(&data[0], &data[len], &image[files[i].data_offset])) return 1;
+    if (fv_volume_is_canonical(image.data(), image.size(), &canonical, &fault) || canonical != 1) return 1;
+    size_t count = 0, length = 0;
+    if (fv_volume_tree(image.data(), image.size(), tree.data(), tree.size(), &count, &fault) != FV_BUFFER_TOO_SMALL)
+        return 1;
+    tree.resize(count);
+    if (fv_volume_tree(image.data(), image.size(), tree.data(), tree.size(), &count, &fault)) return 1;
+    if (tree[0].length != image.size()) return 1;
+    int files = 0;
+    for (size_t row = 0; row < count; row++) {
+        if (tree[row].depth != 1) continue;
+        data.resize(tree[row].length);
+        if (fv_volume_extract(in.data(), in.size(), row, data.data(), data.size(), &length, &fault)) return 1;
+        auto stored = image.begin() + static_cast<std::ptrdiff_t>(tree[row].offset);
+        if (length != data.size() || !std::equal(data.begin(), data.end(), stored)) return 1;
+        files++;
     }
-    std::vector<fv_node> tree(in.size() / 4 + 1);
-    if (fv_tree(image.data(), in.size(), tree.data(), tree.size(), &len, &fault) || tree[0].len != in.size()) return 1;
-    auto is_file = [](const fv_node &node) { return node.depth == 1; };
-    if (std::count_if(tree.begin(), tree.begin() + static_cast<long>(len), is_file) != static_cast<long>(count)) return 1;
-    std::printf("C++: the image is its own image, and has the data of its %d files\n", static_cast<int>(count));
+    const std::vector<uint8_t> nothing;
+    std::vector<fv_header> none;
+    if (fv_image_scan(nothing.data(), nothing.size(), none.data(), none.size(), &count, nullptr) || count) return 1;
+    std::printf("C++: the image is its own image, and has the data of its %d files\n", files);
     return 0;
 }

@@ -1,9 +1,11 @@
 /* The commands of the program by the library, so that a script can compare their output; and runs for a sanitizer.
- *   fvc normalise|all|unfix|check|checkall|scan|cells|list|tree|sums|hobs|digest|flips|prefixes FILE
+ *   fvc normalise|all|unfix|check|checkall|scan|cells|list|sums|hobs|digest|parts|flips|prefixes FILE
+ *   fvc extract FILE ROW
  *   fvc compare FIRST SECOND
- * The status is that of the program. */
+ * The status is that of the program. `parts` extracts each row of the tree, and finds it in the canonical image. */
 #include <fv.h>
 #include <inttypes.h>
+#include <stdbool.h>
 #include <stdio.h>
 #include <stdlib.h>
 #include <string.h>
@@ -13,11 +15,18 @@ struct bytes {
     size_t n;
 };
 
+static void *allocate(size_t count, size_t size)
+{
+    void *made = calloc(count ? count : 1, size);
+    if (!made) abort();
+    return made;
+}
+
 /* The bytes of a file, in a block of exactly their number: then a sanitizer sees a read past the end. */
 static struct bytes read_file(const char *path)
 {
     FILE *f = fopen(path, "rb");
-    struct bytes b = {malloc(1), 0};
+    struct bytes b = {allocate(1, 1), 0};
     size_t got, held = 1;
     static uint8_t chunk[65536];
     if (!f) {
@@ -30,16 +39,34 @@ static struct bytes read_file(const char *path)
         b.n += got;
     }
     fclose(f);
-    uint8_t *exact = malloc(b.n ? b.n : 1);
+    uint8_t *exact = allocate(b.n, 1);
     memcpy(exact, b.p, b.n);
     free(b.p);
     b.p = exact;
     return b;
 }
 
-static int refuse(const char *before, fv_fault f)
+/* Asks a call for the number of its rows, without a buffer, and then for the rows, in a block of exactly their size. */
+#define READ_ROWS(result, call, bytes, size, rows, count, fault)        \
+    do {                                                                \
+        result = call(bytes, size, NULL, 0, count, fault);              \
+        if (result == FV_OK && *(count)) abort();                       \
+        if (result == FV_BUFFER_TOO_SMALL) {                            \
+            if (!*(count) || !is_clear(fault)) abort();                 \
+            rows = allocate(*(count), sizeof *rows);                    \
+            result = call(bytes, size, rows, *(count), count, fault);   \
+        }                                                               \
+    } while (0)
+
+static bool is_clear(const fv_fault *f)
 {
-    printf("%sfault %" PRIu32 " at %" PRIu64 "\n", before, f.number, f.offset);
+    return !f->offset && !f->result && !f->depth && !f->input && !f->reserved;
+}
+
+/* The line of a fault. The number is the one in docs/FAULTS.md, which is the low byte of the result. */
+static int refuse(const char *before, const fv_fault *f)
+{
+    printf("%sfault %" PRIu32 " at %" PRIu64 "\n", before, f->result & 0xff, f->offset);
     return 2;
 }
 
@@ -47,49 +74,46 @@ static int refuse(const char *before, fv_fault f)
 static int rewrite(const char *command, struct bytes in)
 {
     fv_fault fault;
-    uint8_t *buffer = malloc(in.n ? in.n : 1);
-    uint32_t status = command[0] == 'n'   ? fv_normalise(in.p, in.n, buffer, in.n, &fault)
-                      : command[0] == 'u' ? fv_unfix(in.p, in.n, buffer, in.n, &fault)
-                                          : fv_normalise_image(in.p, in.n, buffer, in.n, &fault);
-    if (!status) fwrite(buffer, 1, in.n, stdout);
+    uint8_t *buffer = allocate(in.n, 1);
+    fv_result result = command[0] == 'n'   ? fv_volume_normalise(in.p, in.n, buffer, in.n, &fault)
+                       : command[0] == 'u' ? fv_volume_unfix(in.p, in.n, buffer, in.n, &fault)
+                                           : fv_image_normalise(in.p, in.n, buffer, in.n, &fault);
+    if (!result) fwrite(buffer, 1, in.n, stdout);
     free(buffer);
-    return status ? refuse("", fault) : 0;
+    return result ? refuse("", &fault) : 0;
 }
 
 static int check(struct bytes in)
 {
     fv_fault fault;
     uint32_t canonical;
-    if (fv_is_canonical(in.p, in.n, &canonical, &fault)) return refuse("", fault);
+    if (fv_volume_is_canonical(in.p, in.n, &canonical, &fault)) return refuse("", &fault);
     puts(canonical ? "canonical" : "not canonical");
     return !canonical;
 }
 
 static int check_all(struct bytes in)
 {
-    uint64_t count = 0;
-    fv_volume_check none, *checks = &none;
+    size_t count = 0;
+    fv_volume_check *checks = NULL;
     fv_fault fault;
+    fv_result result;
     int worst = 0;
-    uint32_t status = fv_check_image(in.p, in.n, checks, 0, &count, &fault);
-    if (status == FV_BUFFER_TOO_SMALL) {
-        checks = malloc(count * sizeof *checks);
-        status = fv_check_image(in.p, in.n, checks, count, &count, &fault);
-    }
-    if (status) return refuse("", fault);
-    for (uint64_t i = 0; i < count; i++) {
-        fv_volume_check it = checks[i];
-        int found = it.fault.number ? 2 : !it.canonical;
-        if (it.reserved || it.canonical > 1 || (it.canonical && it.fault.number)) abort();
-        if (!it.fault.number && (it.fault.offset || it.fault.depth)) abort();
-        printf("volume at %" PRIu64 " length %" PRIu64 " ", it.offset, it.length);
-        if (it.fault.number)
-            refuse("", it.fault);
+    READ_ROWS(result, fv_image_check, in.p, in.n, checks, &count, &fault);
+    if (result) return refuse("", &fault);
+    for (size_t i = 0; i < count; i++) {
+        const fv_volume_check *it = &checks[i];
+        int found = it->fault.result ? 2 : !it->canonical;
+        if (it->reserved || it->canonical > 1 || (it->canonical && it->fault.result)) abort();
+        if (!it->fault.result && !is_clear(&it->fault)) abort();
+        printf("volume at %" PRIu64 " length %" PRIu64 " ", it->offset, it->length);
+        if (it->fault.result)
+            refuse("", &it->fault);
         else
-            puts(it.canonical ? "canonical" : "not canonical");
+            puts(it->canonical ? "canonical" : "not canonical");
         if (found > worst) worst = found;
     }
-    if (checks != &none) free(checks);
+    free(checks);
     return worst;
 }
 
@@ -102,26 +126,36 @@ static int digest(struct bytes in)
 {
     fv_fault fault;
     fv_sha256 sum;
-    if (fv_digest(in.p, in.n, &sum, &fault)) return refuse("", fault);
+    if (fv_volume_digest(in.p, in.n, &sum, &fault)) return refuse("", &fault);
     print_sum(&sum);
     puts("");
     return 0;
 }
 
+/* A row of fv_image_scan is what fv_header_read finds at its offset. */
+static void check_header(struct bytes in, const fv_header *row)
+{
+    fv_header own;
+    fv_fault fault;
+    if (fv_header_read(in.p + row->offset, in.n - row->offset, &own, &fault) || !is_clear(&fault)) abort();
+    if (own.offset || own.length > in.n - row->offset) abort();
+    own.offset = row->offset;
+    if (memcmp(&own, row, sizeof own)) abort();
+}
+
 static int scan(struct bytes in)
 {
-    uint64_t none, count = 0, *offsets = &none;
+    size_t count = 0;
+    fv_header *rows = NULL;
     fv_fault fault;
-    fv_extent extent;
-    if (fv_scan(in.p, in.n, offsets, 0, &count) == FV_BUFFER_TOO_SMALL) {
-        offsets = malloc(count * sizeof *offsets);
-        if (fv_scan(in.p, in.n, offsets, count, &count)) abort();
+    fv_result result;
+    READ_ROWS(result, fv_image_scan, in.p, in.n, rows, &count, &fault);
+    if (result) return refuse("", &fault);
+    for (size_t i = 0; i < count; i++) {
+        check_header(in, &rows[i]);
+        printf("volume at %" PRIu64 " length %" PRIu64 "\n", rows[i].offset, rows[i].length);
     }
-    for (uint64_t i = 0; i < count; i++) {
-        if (fv_verify(in.p + offsets[i], in.n - offsets[i], &extent, &fault)) abort();
-        printf("volume at %" PRIu64 " length %" PRIu64 "\n", offsets[i], extent.length);
-    }
-    if (offsets != &none) free(offsets);
+    free(rows);
     return 0;
 }
 
@@ -130,8 +164,9 @@ static uint64_t up_to_8(uint64_t n)
     return (n + 7) / 8 * 8;
 }
 
-static void print_guid(const uint8_t *g)
+static void print_guid(const fv_guid *guid)
 {
+    const uint8_t *g = guid->bytes;
     printf("%02x%02x%02x%02x-%02x%02x-%02x%02x-", g[3], g[2], g[1], g[0], g[5], g[4], g[7], g[6]);
     printf("%02x%02x-", g[8], g[9]);
     for (int i = 10; i < 16; i++) printf("%02x", g[i]);
@@ -140,269 +175,199 @@ static void print_guid(const uint8_t *g)
 static int cells(struct bytes in)
 {
     static const char *const names[] = {"", "file", "pad", "deleted", "unfinished", "free"};
-    uint64_t count = 0, filler = 0, sums[6] = {0};
-    fv_cell none, *cells = &none;
+    size_t count = 0;
+    uint64_t filler = 0, sums[6] = {0};
+    fv_cell *cells = NULL;
     fv_fault fault;
-    fv_extent extent;
-    uint32_t status = fv_cells(in.p, in.n, cells, 0, &count, &fault);
-    if (status == FV_BUFFER_TOO_SMALL) {
-        cells = malloc(count * sizeof *cells);
-        status = fv_cells(in.p, in.n, cells, count, &count, &fault);
-    }
-    if (status) return refuse("", fault);
-    if (fv_verify(in.p, in.n, &extent, &fault)) abort();
-    printf("header at 0 length %" PRIu64 "\n", extent.first);
-    for (uint64_t i = 0; i < count; i++) {
-        fv_cell c = cells[i];
-        int has_filler = c.what == FV_CELL_FILE || c.what == FV_CELL_PAD;
-        printf("%s at %" PRIu64 " length %" PRIu64, names[c.what], c.offset, has_filler ? up_to_8(c.len) : c.len);
-        if (c.what == FV_CELL_FILE) {
+    fv_header header;
+    fv_result result;
+    READ_ROWS(result, fv_volume_cells, in.p, in.n, cells, &count, &fault);
+    if (result) return refuse("", &fault);
+    if (fv_header_read(in.p, in.n, &header, &fault)) abort();
+    printf("header at 0 length %" PRIu64 "\n", header.first_file);
+    for (size_t i = 0; i < count; i++) {
+        const fv_cell *c = &cells[i];
+        bool has_filler = c->kind == FV_CELL_FILE || c->kind == FV_CELL_PAD;
+        if (c->kind < FV_CELL_FILE || c->kind > FV_CELL_FREE || c->reserved) abort();
+        uint64_t length = has_filler ? up_to_8(c->length) : c->length;
+        printf("%s at %" PRIu64 " length %" PRIu64, names[c->kind], c->offset, length);
+        if (c->kind == FV_CELL_FILE) {
             putchar(' ');
-            print_guid(c.name);
-            printf(" type %02x attributes %02x data at %" PRIu64 " length %" PRIu64, c.kind, c.attributes,
-                   c.offset + c.header_len, c.len - c.header_len);
+            print_guid(&c->name);
+            printf(" type %02x attributes %02x data at %" PRIu64 " length %" PRIu64, c->efi_type, c->attributes,
+                   c->offset + c->header_length, c->length - c->header_length);
         }
         puts("");
-        if (has_filler) filler += up_to_8(c.len) - c.len;
-        sums[c.what] += c.len;
+        filler += length - c->length;
+        sums[c->kind] += c->length;
     }
     printf("sums files %" PRIu64 " pads %" PRIu64, sums[FV_CELL_FILE], sums[FV_CELL_PAD]);
     printf(" deleted %" PRIu64, sums[FV_CELL_DELETED] + sums[FV_CELL_UNFINISHED]);
     printf(" filler %" PRIu64 " free %" PRIu64 "\n", filler, sums[FV_CELL_FREE]);
-    if (cells != &none) free(cells);
-    return 0;
-}
-
-/* The number of a section among those of its group, or of its file. */
-static uint64_t place_of(const fv_section *sections, uint64_t number)
-{
-    uint64_t place = 0;
-    for (uint64_t i = 0; i < number; i++) place += sections[i].parent == sections[number].parent;
-    return place;
-}
-
-static void list_sections(struct bytes in, uint64_t file, uint64_t wanted)
-{
-    uint64_t count = 0;
-    fv_section *sections = malloc((wanted + 1) * sizeof *sections);
-    fv_fault fault;
-    if (fv_sections(in.p, in.n, file, sections, wanted, &count, &fault) || count != wanted) abort();
-    for (uint64_t i = 0; i < count; i++) {
-        fv_section s = sections[i];
-        if (s.parent != FV_NO_PARENT && sections[s.parent].holds != FV_HOLDS_SECTIONS) abort();
-        printf("%*s", 4 + 2 * (int)s.depth, "");
-        printf("section %" PRIu64 " type %02" PRIx32 " %s", place_of(sections, i), s.kind,
-               s.header_len == 8 ? "extended" : "short");
-        printf(" body %" PRIu64 "\n", s.len);
-    }
-    free(sections);
-}
-
-/* The lines of the program's `list` for files and sections, without those of nested volumes. */
-static int list(struct bytes in)
-{
-    uint64_t count = 0;
-    fv_file none, *files = &none;
-    fv_fault fault;
-    uint32_t status = fv_files(in.p, in.n, files, 0, &count, &fault);
-    if (status == FV_BUFFER_TOO_SMALL) {
-        files = malloc(count * sizeof *files);
-        status = fv_files(in.p, in.n, files, count, &count, &fault);
-    }
-    if (status) return refuse("", fault);
-    for (uint64_t i = 0; i < count; i++) {
-        if (files[i].data_offset + files[i].data_len > in.n) abort();
-        printf("  file %" PRIu64 " ", i);
-        print_guid(files[i].name);
-        printf(" type %02" PRIx32 " attributes %02" PRIx32, files[i].kind, files[i].attributes & ~1u);
-        printf(" data %" PRIu64 "\n", files[i].data_len);
-        list_sections(in, i, files[i].sections);
-    }
-    if (files != &none) free(files);
+    free(cells);
     return 0;
 }
 
 static int hobs(struct bytes in)
 {
-    uint64_t count = 0, consumed;
-    fv_hob none, *list = &none;
+    size_t count = 0, list_length = 0;
+    fv_hob *list = NULL;
     fv_fault fault;
-    uint32_t status = fv_hobs(in.p, in.n, list, 0, &count, &consumed, &fault);
-    if (status == FV_BUFFER_TOO_SMALL) {
-        list = malloc(count * sizeof *list);
-        status = fv_hobs(in.p, in.n, list, count, &count, &consumed, &fault);
+    fv_result result = fv_hobs_read(in.p, in.n, NULL, 0, &count, &list_length, &fault);
+    if (result == FV_BUFFER_TOO_SMALL) {
+        list = allocate(count, sizeof *list);
+        result = fv_hobs_read(in.p, in.n, list, count, &count, &list_length, &fault);
     }
-    if (status) return refuse("hob ", fault);
-    for (uint64_t i = 0; i < count; i++)
-        printf("hob %04" PRIx32 " length %" PRIu32 "\n", list[i].code, list[i].hob_length);
-    printf("consumed %" PRIu64 "\n", consumed);
-    if (list != &none) free(list);
+    if (result) return refuse("hob ", &fault);
+    for (size_t i = 0; i < count; i++) {
+        if (list[i].reserved) abort();
+        printf("hob %04" PRIx32 " length %" PRIu32 "\n", list[i].hob_type, list[i].hob_length);
+    }
+    printf("consumed %zu\n", list_length);
+    free(list);
     return 0;
 }
 
 static int compare(struct bytes in, struct bytes other)
 {
     fv_comparison found;
-    char line[553];
-    if (fv_compare(in.p, in.n, other.p, other.n, line, sizeof line, &found))
-        return refuse(found.side == 1 ? "first " : "second ", found.fault);
-    fwrite(line, 1, found.line_len, stdout);
+    fv_fault fault;
+    char text[FV_DIFFERENCE_SIZE];
+    if (fv_volume_compare(in.p, in.n, other.p, other.n, text, sizeof text, &found, &fault))
+        return refuse(fault.input ? "second " : "first ", &fault);
+    if (strlen(text) != found.text_length || found.same != !strcmp(text, "same") || found.reserved) abort();
+    puts(text);
     return !found.same;
 }
 
-static uint64_t same_sections(const uint8_t *p, size_t n, const fv_node *nodes, uint64_t at, uint64_t file);
-
-/* The rows of the tree of an input are those of fv_files and fv_sections. Returns the number of rows. */
-static uint64_t same_tree(const uint8_t *p, size_t n, const fv_node *nodes)
+/* A row lies in the row that holds it, one level below it, after what that row has held before, and its header is
+ * before its bytes. */
+static void check_row(const uint8_t *p, const fv_node *nodes, size_t row, uint64_t held)
 {
-    fv_fault fault;
-    fv_file none, *files = &none;
-    uint64_t count = 0, at = 1;
-    if (fv_files(p, n, files, 0, &count, &fault) == FV_BUFFER_TOO_SMALL) {
-        files = malloc(count * sizeof *files);
-        if (fv_files(p, n, files, count, &count, &fault)) abort();
+    const fv_node *it = &nodes[row], *parent = &nodes[it->parent];
+    const uint8_t *header = p + it->offset - it->header_length;
+    if (it->parent >= row || it->depth != parent->depth + 1 || it->index != held) abort();
+    if (it->reserved[0] || it->reserved[1] || it->reserved[2]) abort();
+    if (it->offset < parent->offset || it->offset + it->length > parent->offset + parent->length) abort();
+    switch (it->kind) {
+    case FV_NODE_VOLUME:
+        if (parent->content != FV_CONTENT_VOLUME || it->content != FV_CONTENT_FILES || it->efi_type) abort();
+        if (it->offset != parent->offset || it->length != parent->length) abort();
+        return;
+    case FV_NODE_FILE:
+        if (parent->kind != FV_NODE_VOLUME || it->header_length != (header[19] & 1 ? 32 : 24)) abort();
+        if (memcmp(it->guid.bytes, header, 16) || it->efi_type != header[18] || it->file_system) abort();
+        if (it->attributes != (header[19] & ~1u)) abort();
+        if (it->content != FV_CONTENT_BYTES && it->content != FV_CONTENT_SECTIONS) abort();
+        return;
+    case FV_NODE_SECTION:
+        if (parent->content != FV_CONTENT_SECTIONS || it->efi_type != header[3]) abort();
+        if (it->header_length != (header[0] + header[1] + header[2] == 3 * 255 ? 8 : 4)) abort();
+        if (it->attributes || it->file_system || it->content < FV_CONTENT_BYTES) abort();
+        if (it->content > FV_CONTENT_VOLUME) abort();
+        return;
+    default: abort();
     }
-    for (uint64_t i = 0; i < count; i++) {
-        fv_node it = nodes[at];
-        if (it.what != FV_NODE_FILE || it.number != i || it.offset != files[i].data_offset) abort();
-        if (it.len != files[i].data_len || it.kind != files[i].kind || memcmp(it.guid, files[i].name, 16)) abort();
-        if (it.attributes != (files[i].attributes & ~1u) || p[it.offset - it.header_len + 18] != it.kind) abort();
-        if (it.header_len != (files[i].attributes & 1 ? 32 : 24) || it.reserved) abort();
-        at = same_sections(p, n, nodes, at, i);
-    }
-    if (files != &none) free(files);
-    return at;
 }
 
-/* A volume at a place of the input: its rows follow, as of an input of its own, with offsets from its start. */
-static uint64_t same_nested(const uint8_t *p, const fv_node *nodes, uint64_t at)
+/* The row of a volume has what fv_header_read finds of its bytes. The rows after it are those of its bytes by
+ * themselves, with offsets from its start. */
+static void check_volume(const uint8_t *p, const fv_node *nodes, size_t count, size_t row)
 {
-    fv_node top = nodes[at];
+    const fv_node *top = &nodes[row];
+    fv_header header;
+    fv_node *own = NULL;
+    size_t rows = 0;
+    fv_result result;
+    if (fv_header_read(p + top->offset, top->length, &header, NULL) || header.length != top->length) abort();
+    if (top->header_length != header.header_length || top->attributes != header.attributes) abort();
+    if (top->file_system != header.file_system || memcmp(&top->guid, &header.name, sizeof top->guid)) abort();
+    if (!row) return;
     fv_fault fault;
-    fv_node none;
-    uint64_t count = 0;
-    if (fv_tree(p + top.offset, top.len, &none, 0, &count, &fault) != FV_BUFFER_TOO_SMALL) abort();
-    fv_node *own = malloc(count * sizeof *own);
-    if (fv_tree(p + top.offset, top.len, own, count, &count, &fault)) abort();
-    for (uint64_t i = 0; i < count; i++) {
-        fv_node moved = own[i];
-        moved.offset += top.offset;
-        moved.depth += top.depth;
-        moved.parent = i ? moved.parent + at : top.parent;
-        if (memcmp(&moved, nodes + at + i, sizeof moved)) abort();
+    READ_ROWS(result, fv_volume_tree, p + top->offset, top->length, own, &rows, &fault);
+    if (result || rows > count - row) abort();
+    for (size_t i = 0; i < rows; i++) {
+        own[i].offset += top->offset;
+        own[i].depth += top->depth;
+        own[i].parent = i ? own[i].parent + row : top->parent;
+        if (memcmp(&own[i], &nodes[row + i], sizeof *own)) abort();
     }
-    if (same_tree(p + top.offset, top.len, own) != count) abort();
+    if (row + rows < count && nodes[row + rows].depth > top->depth) abort();
     free(own);
-    return at + count;
 }
 
-/* The rows in that of a file are those of fv_sections, and the bytes at their places those of fv_extract. The rows of a
- * volume in a section are those of its bytes. Returns the number of the row after them. */
-static uint64_t same_sections(const uint8_t *p, size_t n, const fv_node *nodes, uint64_t at, uint64_t file)
+/* Each row of the tree of an input is what its bytes say. */
+static void check_tree(struct bytes in, const fv_node *nodes, size_t count)
 {
-    fv_fault fault;
-    uint64_t count = 0, row = at + 1, len;
-    fv_section none, *sections = &none;
-    if (fv_sections(p, n, file, sections, 0, &count, &fault) == FV_BUFFER_TOO_SMALL) {
-        sections = malloc(count * sizeof *sections);
-        if (fv_sections(p, n, file, sections, count, &count, &fault)) abort();
+    uint64_t *held = allocate(count, sizeof *held);
+    const fv_node *top = nodes;
+    if (top->kind != FV_NODE_VOLUME || top->parent != FV_NO_PARENT || top->depth || top->index || top->offset) abort();
+    if (top->length != in.n || top->content != FV_CONTENT_FILES || top->efi_type) abort();
+    if (top->reserved[0] || top->reserved[1] || top->reserved[2]) abort();
+    check_volume(in.p, nodes, count, 0);
+    for (size_t i = 1; i < count; i++) {
+        check_row(in.p, nodes, i, held[nodes[i].parent]++);
+        if (nodes[i].kind == FV_NODE_VOLUME) check_volume(in.p, nodes, count, i);
     }
-    uint64_t *rows = malloc((count + 1) * sizeof *rows);
-    for (uint64_t i = 0; i < count; i++) {
-        fv_section s = sections[i];
-        fv_node it = nodes[row];
-        rows[i] = row;
-        if (it.what != FV_NODE_SECTION || it.number != place_of(sections, i)) abort();
-        if (it.parent != (s.parent == FV_NO_PARENT ? at : rows[s.parent])) abort();
-        if (it.depth != nodes[at].depth + 1 + s.depth || it.len != s.len || it.kind != s.kind) abort();
-        if (it.header_len != s.header_len || it.holds != s.holds || p[it.offset - it.header_len + 3] != s.kind) abort();
-        if (s.holds == FV_HOLDS_BYTES) {
-            uint8_t *part = malloc(s.len ? s.len : 1);
-            if (fv_extract(p, n, file, i, part, s.len, &len, &fault) || memcmp(part, p + it.offset, s.len)) abort();
-            free(part);
-        }
-        row = s.holds == FV_HOLDS_VOLUME ? same_nested(p, nodes, row + 1) : row + 1;
-    }
-    if (!count && nodes[at].holds == FV_HOLDS_BYTES) {
-        uint8_t *part = malloc(nodes[at].len ? nodes[at].len : 1);
-        if (fv_extract(p, n, file, FV_WHOLE_FILE, part, nodes[at].len, &len, &fault)) abort();
-        if (len != nodes[at].len || memcmp(part, p + nodes[at].offset, len)) abort();
-        free(part);
-    }
-    free(rows);
-    if (sections != &none) free(sections);
-    return row;
-}
-
-/* The tree of an input, through the calls for its parts. */
-static void vary_tree(const uint8_t *p, size_t n, uint32_t read)
-{
-    static fv_node nodes[2048];
-    uint64_t count = 0;
-    fv_fault fault;
-    if (fv_tree(p, n, nodes, 2048, &count, &fault) != read || fault.number != read) abort();
-    if (read) return;
-    fv_node top = nodes[0];
-    if (top.what != FV_NODE_VOLUME || top.parent != FV_NO_PARENT || top.depth || top.number || top.offset) abort();
-    if (top.len != n || top.holds != FV_HOLDS_FILES || memcmp(top.guid, p + 16, 16)) abort();
-    if (same_tree(p, n, nodes) != count) abort();
+    free(held);
 }
 
 /* The number of rows that a row holds. */
-static uint64_t held_by(const fv_node *nodes, uint64_t count, uint64_t number)
+static uint64_t held_by(const fv_node *nodes, size_t count, size_t row)
 {
     uint64_t held = 0;
-    for (uint64_t i = number + 1; i < count && nodes[i].depth > nodes[number].depth; i++)
-        held += nodes[i].parent == number;
+    for (size_t i = row + 1; i < count && nodes[i].depth > nodes[row].depth; i++) held += nodes[i].parent == row;
     return held;
 }
 
 /* The line of a row, without its end. */
-static void print_node(const fv_node *nodes, uint64_t count, uint64_t number)
+static void print_node(const fv_node *nodes, size_t count, size_t row)
 {
-    fv_node it = nodes[number];
-    printf("%*s", 2 * (int)it.depth, "");
-    switch (it.what) {
+    static const fv_guid no_name;
+    const fv_node *it = &nodes[row];
+    printf("%*s", 2 * (int)it->depth, "");
+    switch (it->kind) {
     case FV_NODE_VOLUME:
-        printf("volume ffs%d length %" PRIu64, it.guid[0] == 0x7a ? 3 : 2, it.len);
-        printf(" files %" PRIu64, held_by(nodes, count, number));
+        printf("volume ffs%" PRIu32 " length %" PRIu64, it->file_system, it->length);
+        printf(" files %" PRIu64, held_by(nodes, count, row));
+        if (memcmp(&it->guid, &no_name, sizeof no_name)) {
+            printf(" name ");
+            print_guid(&it->guid);
+        }
         return;
     case FV_NODE_FILE:
-        printf("file %" PRIu64 " ", it.number);
-        print_guid(it.guid);
-        printf(" type %02" PRIx32 " attributes %02" PRIx32 " data %" PRIu64, it.kind, it.attributes, it.len);
+        printf("file %" PRIu64 " ", it->index);
+        print_guid(&it->guid);
+        printf(" type %02" PRIx32 " attributes %02" PRIx32 " data %" PRIu64, it->efi_type, it->attributes, it->length);
         return;
     default:
-        printf("section %" PRIu64 " type %02" PRIx32 " ", it.number, it.kind);
-        printf("%s body %" PRIu64, it.header_len == 8 ? "extended" : "short", it.len);
+        printf("section %" PRIu64 " type %02" PRIx32 " ", it->index, it->efi_type);
+        printf("%s body %" PRIu64, it->header_length == 8 ? "extended" : "short", it->length);
     }
 }
 
-/* The lines of the program's `list`, those of nested volumes included. */
-static int tree(struct bytes in)
+/* The lines of the program's `list`. */
+static int list(struct bytes in)
 {
-    uint64_t count = 0;
-    fv_node none, *nodes = &none;
+    size_t count = 0;
+    fv_node *nodes = NULL;
     fv_fault fault;
-    uint32_t status = fv_tree(in.p, in.n, nodes, 0, &count, &fault);
-    if (status == FV_BUFFER_TOO_SMALL) {
-        nodes = malloc(count * sizeof *nodes);
-        status = fv_tree(in.p, in.n, nodes, count, &count, &fault);
-    }
-    if (status) return refuse("", fault);
-    if (same_tree(in.p, in.n, nodes) != count) abort();
-    for (uint64_t i = 0; i < count; i++) {
+    fv_result result;
+    READ_ROWS(result, fv_volume_tree, in.p, in.n, nodes, &count, &fault);
+    if (result) return refuse("", &fault);
+    check_tree(in, nodes, count);
+    for (size_t i = 0; i < count; i++) {
         print_node(nodes, count, i);
         puts("");
     }
-    if (nodes != &none) free(nodes);
+    free(nodes);
     return 0;
 }
 
 /* Whether a row is a section that holds sections or a volume. */
-static int is_holder(const fv_node *node)
+static bool is_holder(const fv_node *node)
 {
-    return node->what == FV_NODE_SECTION && node->holds != FV_HOLDS_BYTES;
+    return node->kind == FV_NODE_SECTION && node->content != FV_CONTENT_BYTES;
 }
 
 /* The digest of a volume is that of its bytes, and that of such a section is 32 zero bytes. */
@@ -412,22 +377,23 @@ static void check_sum(const uint8_t *p, const fv_node *node, const fv_sha256 *su
     fv_sha256 own;
     fv_fault fault;
     if (is_holder(node) && memcmp(sum, &zeros, sizeof zeros)) abort();
-    if (node->what != FV_NODE_VOLUME) return;
-    if (fv_digest(p + node->offset, node->len, &own, &fault) || memcmp(sum, &own, sizeof own)) abort();
+    if (node->kind != FV_NODE_VOLUME) return;
+    if (fv_volume_digest(p + node->offset, node->length, &own, &fault) || memcmp(sum, &own, sizeof own)) abort();
 }
 
 /* The lines of the program's `list --sums`. */
 static int sums(struct bytes in)
 {
-    uint64_t count = 0, rows = 0;
-    fv_sha256 none;
+    size_t count = 0, rows = 0;
+    fv_sha256 *digests = NULL;
+    fv_node *nodes = NULL;
     fv_fault fault;
-    if (fv_list_sums(in.p, in.n, &none, 0, &count, &fault) != FV_BUFFER_TOO_SMALL) return refuse("", fault);
-    fv_sha256 *digests = malloc(count * sizeof *digests);
-    fv_node *nodes = malloc(count * sizeof *nodes);
-    if (fv_list_sums(in.p, in.n, digests, count, &count, &fault)) abort();
-    if (fv_tree(in.p, in.n, nodes, count, &rows, &fault) || rows != count) abort();
-    for (uint64_t i = 0; i < count; i++) {
+    fv_result result;
+    READ_ROWS(result, fv_volume_tree_digests, in.p, in.n, digests, &count, &fault);
+    if (result) return refuse("", &fault);
+    READ_ROWS(result, fv_volume_tree, in.p, in.n, nodes, &rows, &fault);
+    if (result || rows != count) abort();
+    for (size_t i = 0; i < count; i++) {
         check_sum(in.p, nodes + i, digests + i);
         print_node(nodes, count, i);
         if (!is_holder(nodes + i)) {
@@ -441,127 +407,210 @@ static int sums(struct bytes in)
     return 0;
 }
 
-/* The digests of an input, of which the first is that of the volume. */
-static void vary_sums(const uint8_t *p, size_t n, uint32_t status, const fv_sha256 *sum)
+/* The part that a row names, in a block of its own; its length is SIZE_MAX if there is none. */
+static struct bytes part_of(struct bytes in, size_t row, fv_result *result, fv_fault *fault)
 {
-    static fv_sha256 digests[2048];
-    uint64_t count;
-    fv_fault fault;
-    if (fv_list_sums(p, n, digests, 2048, &count, &fault) != status || fault.number != status) abort();
-    if (!status && memcmp(digests, sum, sizeof *sum)) abort();
+    struct bytes part = {NULL, SIZE_MAX};
+    *result = fv_volume_extract(in.p, in.n, row, NULL, 0, &part.n, fault);
+    if (*result == FV_BUFFER_TOO_SMALL) {
+        if (!part.n || part.n == SIZE_MAX || !is_clear(fault)) abort();
+        size_t told = part.n;
+        part.p = allocate(part.n, 1);
+        *result = fv_volume_extract(in.p, in.n, row, part.p, part.n, &part.n, fault);
+        if (part.n != told) abort();
+    }
+    return part;
 }
 
-/* The files of an input, the sections of the first two and their parts, through all calls for them. */
-static void vary_parts(const uint8_t *p, size_t n, uint32_t status)
+/* What the program's `extract` writes of a part. */
+static int extract(struct bytes in, const char *row)
 {
-    static fv_file files[512];
-    static fv_section sections[512];
-    static uint8_t part[1 << 16];
-    uint64_t count = 0, inside, len;
+    fv_result result;
     fv_fault fault;
-    uint32_t read = fv_files(p, n, files, 512, &count, &fault);
-    if (read != fault.number || (read && read != status)) abort();
-    vary_tree(p, n, read);
-    for (uint64_t i = 0; i < 2; i++) {
-        uint32_t told = fv_sections(p, n, i, sections, 512, &inside, &fault);
-        if (told != (read ? read : i < count ? 0 : FV_NOT_FOUND)) abort();
-        if (!told && inside != files[i].sections) abort();
-        for (uint64_t j = 0; !told && j <= inside; j++) {
-            uint32_t made = fv_extract(p, n, i, j, part, sizeof part, &len, &fault);
-            if (!made && len != sections[j].len) abort();
-            if ((made == FV_NOT_FOUND) != (j == inside)) abort();
-        }
-        uint32_t whole = fv_extract(p, n, i, FV_WHOLE_FILE, part, sizeof part, &len, &fault);
-        if (!whole && len != files[i].data_len) abort();
-        if ((whole == FV_NOT_FOUND) != (told == FV_NOT_FOUND)) abort();
+    struct bytes part = part_of(in, strtoull(row, NULL, 10), &result, &fault);
+    if (!result) fwrite(part.p, 1, part.n, stdout);
+    free(part.p);
+    if (result == FV_NOT_FOUND) puts("not found");
+    return !result ? 0 : result == FV_NOT_FOUND ? 1 : refuse("", &fault);
+}
+
+/* Each part of a volume is what its row of the image's tree has: the volume, the data of its files and the bodies of
+ * their sections, also in nested volumes. There is no part after the last. Prints the number of rows. */
+static int parts(struct bytes in)
+{
+    size_t count = 0;
+    struct bytes image = {allocate(in.n, 1), in.n};
+    fv_node *nodes = NULL;
+    fv_fault fault;
+    fv_result result;
+    if (fv_volume_normalise(in.p, in.n, image.p, image.n, &fault)) return refuse("", &fault);
+    READ_ROWS(result, fv_volume_tree, image.p, image.n, nodes, &count, &fault);
+    if (result) abort();
+    for (size_t i = 0; i < count; i++) {
+        struct bytes part = part_of(in, i, &result, &fault);
+        if (result || !is_clear(&fault) || part.n != nodes[i].length) abort();
+        if (part.n && memcmp(part.p, image.p + nodes[i].offset, part.n)) abort();
+        free(part.p);
+    }
+    for (int i = 0; i < 2; i++) {
+        struct bytes part = part_of(in, i ? SIZE_MAX : count, &result, &fault);
+        if (result != FV_NOT_FOUND || !is_clear(&fault) || part.n != SIZE_MAX) abort();
+    }
+    printf("%zu parts\n", count);
+    free(nodes);
+    free(image.p);
+    return 0;
+}
+
+/* Ends the run unless a call has returned this result with this fault. */
+static void expect(fv_result result, const fv_fault *fault, fv_result wanted)
+{
+    if (result != wanted || fault->input || fault->reserved) abort();
+    if (result == FV_BUFFER_TOO_SMALL || result == FV_NOT_FOUND || !result ? !is_clear(fault) : fault->result != result)
+        abort();
+}
+
+/* The tree of an input, its digests and its first parts, which depend on what normalise and is_canonical have said. */
+static void vary_tree(struct bytes in, const uint8_t *image, fv_result made, fv_result read, const fv_sha256 *sum)
+{
+    enum { ROWS = 2048, PARTS = 8 };
+    static fv_node nodes[ROWS], of_image[ROWS];
+    static fv_sha256 digests[ROWS];
+    static uint8_t part[1 << 16];
+    size_t count = 0, digest_count = 0, length = 0;
+    fv_fault fault;
+    expect(fv_volume_tree(in.p, in.n, nodes, ROWS, &count, &fault), &fault, read);
+    if (!read) check_tree(in, nodes, count);
+    expect(fv_volume_tree_digests(in.p, in.n, digests, ROWS, &digest_count, &fault), &fault, made);
+    if (!made && (digest_count != count || memcmp(digests, sum, sizeof *sum))) abort();
+    if (!made && (fv_volume_tree(image, in.n, of_image, ROWS, &digest_count, NULL) || digest_count != count)) abort();
+    for (size_t i = 0; i <= count && i < PARTS; i++) {
+        fv_result result = fv_volume_extract(in.p, in.n, i, part, sizeof part, &length, &fault);
+        expect(result, &fault, result);
+        if (read ? result != read : (i == count) != (result == FV_NOT_FOUND)) abort();
+        if (!read && i < count && result && result != FV_FAULT_NO_ROOM && result != FV_FAULT_TOP_ALIGNMENT) abort();
+        if (!result && length != nodes[i].length) abort();
+        if (!made && i < count && (result || memcmp(part, image + of_image[i].offset, length))) abort();
     }
 }
 
 /* The input without the marks of its fixed files, in a buffer of as many bytes. Cells tile what was written, and it
- * differs from the input in the two bytes of each mark. The results of fv_cells and fv_unfix differ only where a file
- * is fixed, or bytes follow the volume. */
+ * differs from the input in the two bytes of each mark. The results of fv_volume_cells and fv_volume_unfix differ only
+ * where a file is fixed, or bytes follow the volume. */
 static void vary_marks(const uint8_t *p, size_t n, uint8_t *buffer)
 {
     static fv_cell cells[512];
-    uint64_t count = 0;
-    fv_fault fault, of_cells;
-    uint32_t read = fv_cells(p, n, cells, 512, &count, &of_cells), status = fv_unfix(p, n, buffer, n, &fault);
-    if (status != fault.number || status > FV_FREE_SPACE || status == FV_FIXED) abort();
-    if (status && read != status && read != FV_FIXED && (read || status != FV_LENGTH)) abort();
-    if (status) return;
-    if (read && read != FV_FIXED) abort();
-    if (fv_cells(buffer, n, cells, 512, &count, &fault)) abort();
+    size_t count = 0;
+    fv_fault fault;
+    fv_result read = fv_volume_cells(p, n, cells, 512, &count, &fault);
+    expect(read, &fault, read);
+    fv_result result = fv_volume_unfix(p, n, buffer, n, &fault);
+    expect(result, &fault, result);
+    if (result > FV_FAULT_FREE_SPACE || result == FV_FAULT_FIXED) abort();
+    if (result && read != result && read != FV_FAULT_FIXED && (read || result != FV_FAULT_LENGTH)) abort();
+    if (result) return;
+    if (read && read != FV_FAULT_FIXED) abort();
+    expect(fv_volume_cells(buffer, n, cells, 512, &count, &fault), &fault, FV_OK);
     for (size_t i = 0, at = 0; i < n; i++) {
         while (at < count && i >= cells[at].offset + 24) at++;
-        int of_file = at < count && cells[at].what == FV_CELL_FILE && i >= cells[at].offset;
-        int fixed = of_file && p[cells[at].offset + 19] & 4;
-        int change = !fixed ? 0 : i == cells[at].offset + 16 ? 4 : i == cells[at].offset + 19 ? -4 : 0;
+        bool is_file = at < count && cells[at].kind == FV_CELL_FILE && i >= cells[at].offset;
+        bool is_marked = is_file && p[cells[at].offset + 19] & 4;
+        int change = !is_marked ? 0 : i == cells[at].offset + 16 ? 4 : i == cells[at].offset + 19 ? -4 : 0;
         if (buffer[i] != (uint8_t)(p[i] + change)) abort();
     }
 }
 
 /* A buffer that is too small is reported only for an input without a fault. */
-static void empty_buffer(const uint8_t *p, size_t n, uint32_t status, uint32_t of_all)
+static void vary_small(const uint8_t *p, size_t n, fv_result made, fv_result of_all)
 {
-    uint8_t none;
     fv_fault fault;
-    uint32_t small = n ? FV_BUFFER_TOO_SMALL : 0;
-    if (fv_normalise(p, n, &none, 0, &fault) != (status ? status : small) || fault.number != status) abort();
-    if (fv_normalise_image(p, n, &none, 0, &fault) != (of_all ? of_all : small) || fault.number != of_all) abort();
+    fv_result small = n ? FV_BUFFER_TOO_SMALL : FV_OK;
+    expect(fv_volume_normalise(p, n, NULL, 0, &fault), &fault, made ? made : small);
+    expect(fv_image_normalise(p, n, NULL, 0, &fault), &fault, of_all ? of_all : small);
+}
+
+/* The calls that find volumes: their rows agree, and the first volume is the one that the header says. */
+static void vary_image(const uint8_t *p, size_t n)
+{
+    enum { ROWS = 64 };
+    static fv_header headers[ROWS];
+    static fv_volume_check checks[ROWS];
+    size_t count = 0, check_count = 0;
+    fv_header header;
+    fv_fault fault;
+    fv_result result = fv_header_read(p, n, &header, &fault);
+    expect(result, &fault, result);
+    if (result > FV_FAULT_EXT_HEADER) abort();
+    expect(fv_image_scan(p, n, headers, ROWS, &count, &fault), &fault, FV_OK);
+    if (!result && (!count || memcmp(&headers[0], &header, sizeof header))) abort();
+    expect(fv_image_check(p, n, checks, ROWS, &check_count, &fault), &fault, FV_OK);
+    if (check_count != count) abort();
+    for (size_t i = 0; i < count; i++)
+        if (checks[i].offset != headers[i].offset || checks[i].length != headers[i].length) abort();
+}
+
+/* The same bytes as a list and as an expression. */
+static void vary_others(const uint8_t *p, size_t n)
+{
+    static fv_hob blocks[512];
+    static const fv_guid guid;
+    size_t count, length;
+    uint32_t value;
+    fv_fault fault;
+    fv_result result = fv_hobs_read(p, n, blocks, 512, &count, &length, &fault);
+    expect(result, &fault, result);
+    if (result && result != FV_BUFFER_TOO_SMALL && result >> 8 != 3) abort();
+    for (uint32_t phase = FV_PHASE_PEI; phase <= FV_PHASE_DXE; phase++) {
+        result = fv_depex_evaluate(p, n, phase, &guid, 1, &value, &fault);
+        expect(result, &fault, result);
+        if (result && result >> 8 != 2) abort();
+    }
+}
+
+/* An input through all calls. Returns the result of normalise. */
+static fv_result vary_all(struct bytes in, uint8_t *buffer, uint8_t *image)
+{
+    const uint8_t *p = in.p;
+    size_t n = in.n;
+    fv_fault fault;
+    fv_comparison found;
+    fv_sha256 sum;
+    uint32_t canonical = 9;
+    char text[FV_DIFFERENCE_SIZE];
+    fv_result made = fv_volume_normalise(p, n, image, n, &fault);
+    expect(made, &fault, made);
+    if (made >= FV_OUT_OF_MEMORY) abort();
+    expect(fv_volume_digest(p, n, &sum, &fault), &fault, made);
+    fv_result read = made == FV_FAULT_NO_ROOM || made == FV_FAULT_TOP_ALIGNMENT ? FV_OK : made;
+    expect(fv_volume_is_canonical(p, n, &canonical, &fault), &fault, read);
+    if (canonical != (read ? 9 : !made && !memcmp(image, p, n))) abort();
+    expect(fv_volume_compare(p, n, made ? p : image, n, text, sizeof text, &found, &fault), &fault, read);
+    if (!read && (!found.same || strcmp(text, "same") || found.text_length != 4)) abort();
+    if (!made && (fv_volume_is_canonical(image, n, &canonical, NULL) || canonical != 1)) abort();
+    vary_tree(in, image, made, read, &sum);
+    vary_small(p, n, made, fv_image_normalise(p, n, buffer, n, &fault));
+    vary_marks(p, n, buffer);
+    vary_image(p, n);
+    vary_others(p, n);
+    return made;
 }
 
 /* Each bit of the input turned, or each proper prefix of it, through all calls. Prints how often each result came. */
 static int vary(const char *command, struct bytes in)
 {
-    unsigned long seen[FV_BUFFER_TOO_SMALL] = {0};
-    size_t turns = command[0] == 'f' ? 8 * in.n : in.n;
-    uint8_t *buffer = malloc(in.n ? in.n : 1);
-    static uint64_t offsets[64];
-    static fv_volume_check checks[64];
-    static fv_cell cells[512];
-    static fv_hob blocks[512];
-    fv_fault fault;
-    fv_extent extent;
-    fv_comparison found;
-    fv_sha256 sum;
-    fv_guid guid = {{0}};
-    uint32_t canonical, value;
-    uint64_t count, consumed;
-    char line[553];
-    for (size_t k = 0; k < turns; k++) {
-        uint8_t *p = in.p;
-        size_t n = in.n;
-        if (command[0] == 'f') {
-            p[k / 8] ^= 1 << k % 8;
-        } else {
-            n = k;
-            p = malloc(n ? n : 1);
-            memcpy(p, in.p, n);
-        }
-        uint32_t status = fv_normalise(p, n, buffer, n, &fault);
-        if (status >= FV_BUFFER_TOO_SMALL || status != fault.number || fv_digest(p, n, &sum, &fault) != status) abort();
-        seen[status]++;
-        if (!status && (fv_compare(p, n, buffer, n, line, sizeof line, &found) || !found.same)) abort();
-        if (!status && (fv_is_canonical(buffer, n, &canonical, &fault) || canonical != 1)) abort();
-        fv_verify(p, n, &extent, &fault);
-        fv_is_canonical(p, n, &canonical, &fault);
-        empty_buffer(p, n, status, fv_normalise_image(p, n, buffer, n, &fault));
-        vary_marks(p, n, buffer);
-        fv_scan(p, n, offsets, 64, &count);
-        fv_check_image(p, n, checks, 64, &count, &fault);
-        fv_cells(p, n, cells, 512, &count, &fault);
-        fv_hobs(p, n, blocks, 512, &count, &consumed, &fault);
-        vary_parts(p, n, status);
-        vary_sums(p, n, status, &sum);
-        fv_depex(p, n, 0, &guid, 1, &value, &fault);
-        fv_depex(p, n, 1, &guid, 1, &value, &fault);
-        if (command[0] == 'f')
-            p[k / 8] ^= 1 << k % 8;
-        else
-            free(p);
+    unsigned long seen[FV_OUT_OF_MEMORY] = {0};
+    bool is_flips = command[0] == 'f';
+    uint8_t *buffer = allocate(in.n, 1), *image = allocate(in.n, 1);
+    for (size_t k = 0; k < (is_flips ? 8 * in.n : in.n); k++) {
+        struct bytes changed = {allocate(is_flips ? in.n : k, 1), is_flips ? in.n : k};
+        memcpy(changed.p, in.p, changed.n);
+        if (is_flips) changed.p[k / 8] ^= (uint8_t)(1 << k % 8);
+        seen[vary_all(changed, buffer, image)]++;
+        free(changed.p);
     }
     free(buffer);
-    for (int i = 0; i < FV_BUFFER_TOO_SMALL; i++)
+    free(image);
+    for (int i = 0; i < FV_OUT_OF_MEMORY; i++)
         if (seen[i]) printf("%d:%lu ", i, seen[i]);
     puts("");
     return 0;
@@ -581,10 +630,11 @@ int main(int argc, char **argv)
     if (!strcmp(command, "scan")) status = scan(in);
     if (!strcmp(command, "cells")) status = cells(in);
     if (!strcmp(command, "list")) status = list(in);
-    if (!strcmp(command, "tree")) status = tree(in);
     if (!strcmp(command, "sums")) status = sums(in);
     if (!strcmp(command, "hobs")) status = hobs(in);
+    if (!strcmp(command, "parts")) status = parts(in);
     if (!strcmp(command, "flips") || !strcmp(command, "prefixes")) status = vary(command, in);
+    if (!strcmp(command, "extract") && argc == 4) status = extract(in, argv[3]);
     if (!strcmp(command, "compare") && argc == 4) {
         struct bytes other = read_file(argv[3]);
         status = compare(in, other);

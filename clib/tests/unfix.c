@@ -1,6 +1,6 @@
-/* fv_unfix over volumes that were spelled by hand. Every allocation is refused, and none may be asked for. The input
- * cannot be written to, and it and the buffer lie against a page that cannot be touched: first behind them, then before
- * them. The buffer has room for the volume, a little more, a byte less, and none. */
+/* fv_volume_unfix over volumes that were spelled by hand. Every allocation is refused, and none may be asked for. The
+ * input cannot be written to, and it and the buffer lie against a page that cannot be touched: first after them, then
+ * before them. The buffer has room for the volume, a little more, a byte less, and none. */
 #define _DEFAULT_SOURCE
 #include <fv.h>
 #include <stdbool.h>
@@ -45,7 +45,7 @@ struct row {
     const char *name;
     unsigned length, after;
     const char *body;
-    uint32_t fault;
+    fv_result fault;
     unsigned at;
     struct {
         unsigned at;
@@ -64,18 +64,20 @@ static const struct row rows[] = {
     {"a pad", 128, 0, "ff*16 04aaf004180000f8 ff*32", 0, 0, {{0, 0}}},
     {"a deleted file", 128, 0, "0a*16 43aa0104180000e8 0b*16 37aa0100180000f8 ff*8", 0, 0, {{0, 0}}},
     {"no file", 128, 0, "ff*56", 0, 0, {{0, 0}}},
-    {"a wrong file sum", 128, 0, "0a*16 43ab0104180000f8 ff*32", FV_FILE_SUM, A + 17, {{0, 0}}},
-    {"a wrong file sum of data", 128, 0, "0a*16 02a70144190000f8 5a ff*31", FV_FILE_SUM, A + 17, {{0, 0}}},
-    {"a wrong header sum", 128, 0, "0a*16 44aa0104180000f8 ff*32", FV_FILE_HEADER_SUM, A, {{0, 0}}},
-    {"a fault after a fixed file", 128, 0, "0a*16 43aa0104180000f8 0b*16 38aa0100180000f8 ff*8", FV_FILE_HEADER_SUM,
-     A + 24, {{0, 0}}},
-    {"a wrong state", 128, 0, "0a*16 43aa0104180000f8 0b*16 37aa0100180000b8 ff*8", FV_FILE_STATE, A + 47, {{0, 0}}},
-    {"a size past the end", 128, 0, "0a*16 22aa0104390000f8 ff*32", FV_FILE_SIZE, A + 20, {{0, 0}}},
-    {"a large file in FFS2", 128, 0, "0a*16 5aaa0105000000f8 2000000000000000 ff*24", FV_LARGE_FILE, A + 19, {{0, 0}}},
-    {"free space with a byte", 128, 0, "0a*16 43aa0104180000f8 ff*31 7f", FV_FREE_SPACE, 127, {{0, 0}}},
-    {"bytes after the volume", 128, 3, "0a*16 43aa0104180000f8 ff*32", FV_LENGTH, 128, {{0, 0}}},
-    {"bytes and a fault", 128, 3, "0a*16 43ab0104180000f8 ff*32", FV_FILE_SUM, A + 17, {{0, 0}}},
-    {"bytes that are missing", 136, 0, "0a*16 43aa0104180000f8 ff*32", FV_TRUNCATED, 128, {{0, 0}}},
+    {"a wrong file sum", 128, 0, "0a*16 43ab0104180000f8 ff*32", FV_FAULT_FILE_SUM, A + 17, {{0, 0}}},
+    {"a wrong file sum of data", 128, 0, "0a*16 02a70144190000f8 5a ff*31", FV_FAULT_FILE_SUM, A + 17, {{0, 0}}},
+    {"a wrong header sum", 128, 0, "0a*16 44aa0104180000f8 ff*32", FV_FAULT_FILE_HEADER_SUM, A, {{0, 0}}},
+    {"a fault after a fixed file", 128, 0, "0a*16 43aa0104180000f8 0b*16 38aa0100180000f8 ff*8",
+     FV_FAULT_FILE_HEADER_SUM, A + 24, {{0, 0}}},
+    {"a wrong state", 128, 0, "0a*16 43aa0104180000f8 0b*16 37aa0100180000b8 ff*8", FV_FAULT_FILE_STATE,
+     A + 47, {{0, 0}}},
+    {"a size past the end", 128, 0, "0a*16 22aa0104390000f8 ff*32", FV_FAULT_FILE_SIZE, A + 20, {{0, 0}}},
+    {"a large file in FFS2", 128, 0, "0a*16 5aaa0105000000f8 2000000000000000 ff*24", FV_FAULT_LARGE_FILE,
+     A + 19, {{0, 0}}},
+    {"free space with a byte", 128, 0, "0a*16 43aa0104180000f8 ff*31 7f", FV_FAULT_FREE_SPACE, 127, {{0, 0}}},
+    {"bytes after the volume", 128, 3, "0a*16 43aa0104180000f8 ff*32", FV_FAULT_LENGTH, 128, {{0, 0}}},
+    {"bytes and a fault", 128, 3, "0a*16 43ab0104180000f8 ff*32", FV_FAULT_FILE_SUM, A + 17, {{0, 0}}},
+    {"bytes that are missing", 136, 0, "0a*16 43aa0104180000f8 ff*32", FV_FAULT_TRUNCATED, 128, {{0, 0}}},
 };
 
 static const char *name = "";
@@ -128,11 +130,11 @@ static uint8_t *guarded_page(size_t page)
 static void try_buffer(const struct row *it, const uint8_t *in, size_t n, uint8_t *buffer, size_t room,
                        const uint8_t *wanted)
 {
-    fv_fault fault = {77, 77, 77};
+    fv_fault fault = {77, 77, 77, 77, 77};
     memset(buffer, 0xe7, room);
-    uint32_t result = fv_unfix(in, n, buffer, room, &fault);
+    fv_result result = fv_volume_unfix(in, n, buffer, room, &fault);
     EXPECT(result == (it->fault ? it->fault : room < n ? FV_BUFFER_TOO_SMALL : 0));
-    EXPECT(fault.number == it->fault && fault.offset == it->at && fault.depth == 0);
+    EXPECT(fault.result == it->fault && fault.offset == it->at && !fault.depth && !fault.input && !fault.reserved);
     for (size_t i = 0; i < room; i++) EXPECT(buffer[i] == (result || i >= n ? 0xe7 : wanted[i]));
     EXPECT(asked == 0);
 }
@@ -159,11 +161,12 @@ int main(void)
         if (it->fault) continue;
         /* without its marks it is written as it is */
         fv_fault fault;
-        EXPECT(fv_unfix(wanted, n, buffer_page, n, &fault) == FV_DONE && !memcmp(buffer_page, wanted, n));
+        EXPECT(fv_volume_unfix(wanted, n, buffer_page, n, &fault) == FV_OK && !memcmp(buffer_page, wanted, n));
     }
     fv_fault fault;
     name = "no bytes";
-    EXPECT(fv_unfix(in_page, 0, buffer_page, 0, &fault) == FV_TRUNCATED && fault.offset == 0 && asked == 0);
+    EXPECT(fv_volume_unfix(in_page, 0, buffer_page, 0, &fault) == FV_FAULT_TRUNCATED);
+    EXPECT(fault.offset == 0 && asked == 0);
     printf("unfix: %zu volumes lose their marks, or are rejected; no allocation was asked for\n", count);
     return 0;
 }

@@ -1,29 +1,35 @@
 #!/usr/bin/env python3
-"""volumes.py: normalise, normalise_image, unfixed, is_canonical, check_image, compare, verify and cells of the Python
-package over the volumes of crates/fv_run_tests/rows, and depex and hobs over its expressions and lists.
+"""volumes.py: the calls of the Python package that take volumes and images, except for trees and parts (parts.py), over
+the volumes of crates/fv_run_tests/rows, and depex_evaluate and hobs_read over its expressions and lists.
 
 The images and the faults of these were worked out by hand. Of some, each byte is then replaced by each other one: the
 calls have to agree on what they are given, and whatever has an image has to keep it."""
 
-import dataclasses
+from __future__ import annotations
+
 import re
 import sys
 import uuid
+from collections.abc import Callable, Iterator
 from pathlib import Path
+from typing import TypeVar
 
 ROOT = Path(__file__).resolve().parents[2]
 sys.path += [str(ROOT / "clib/python"), str(ROOT / "crates/fv_run_tests/rows")]
-import fv
-import rows
+import fv  # noqa: E402
+import rows  # noqa: E402
 
+T = TypeVar("T")
+# A fault: its number in docs/FAULTS.md, its offset and its depth.
+Place = tuple[int, int, int]
 FIXED, NO_ROOM, TOP_ALIGNMENT = 15, 22, 23
 # What `cells` calls each cell, and in which of its sums the bytes are.
 CELLS = {
-    fv.FILE: ("file", "files"),
-    fv.PAD: ("pad", "pads"),
-    fv.DELETED: ("deleted", "deleted"),
-    fv.UNFINISHED: ("unfinished", "deleted"),
-    fv.FREE: ("free", "free"),
+    fv.CellKind.FILE: ("file", "files"),
+    fv.CellKind.PAD: ("pad", "pads"),
+    fv.CellKind.DELETED: ("deleted", "deleted"),
+    fv.CellKind.UNFINISHED: ("unfinished", "deleted"),
+    fv.CellKind.FREE: ("free", "free"),
 }
 # Canonical images with an extended header, a pad before an aligned file, and a volume inside.
 IMAGES = ["ext-header-image", "misaligned-file-image", "nested-image"]
@@ -38,97 +44,110 @@ VOLUMES = [
 ]
 
 
-def outcome(call, *arguments):
+def outcome(call: Callable[[bytes], T], data: bytes) -> T | Place:
     """What a call returns, or of its fault the number, the offset and the depth."""
     try:
-        return call(*arguments)
-    except fv.Fault as fault:
-        return fault.number, fault.offset, fault.depth
+        return call(data)
+    except fv.FaultError as error:
+        return error.fault.number, error.fault.offset, error.fault.depth
 
 
-def check_images():
+def check_images() -> int:
     """Each volume has its image, and is found to be its own image or not."""
     for name, words in rows.images():
         volume, image = rows.spelled(name), rows.spelled(words)
-        assert fv.normalise(volume) == image, name
-        assert fv.is_canonical(volume) == (name == words) and fv.is_canonical(image), name
-        assert fv.compare(volume, image) == "same", name
+        assert fv.volume_normalise(volume) == image, name
+        assert fv.volume_is_canonical(volume) == (name == words) and fv.volume_is_canonical(image), name
+        assert fv.volume_compare(volume, image) is None, name
     return len(rows.images())
 
 
-def check_unfit(table):
+def check_unfit(table: list[str]) -> int:
     """Volumes that do not fit have no image, and are not canonical."""
     for name, number, depth in map(rows.parts, table):
         volume = rows.spelled(name)
-        assert outcome(fv.normalise, volume) == (int(number), 0, int(depth)), name
-        assert fv.is_canonical(volume) is False, name
+        assert outcome(fv.volume_normalise, volume) == (int(number), 0, int(depth)), name
+        assert fv.volume_is_canonical(volume) is False, name
     return len(table)
 
 
-def check_flash(accepted, rejected):
+def check_flash(accepted: list[str], rejected: list[str]) -> int:
     """Each volume of a flash image is renewed, or the first fault is that of the row."""
     for row in accepted:
         given, _, wanted = row.partition(" -> ")
-        assert fv.normalise_image(rows.spelled(given)) == rows.spelled(wanted), row
+        assert fv.image_normalise(rows.spelled(given)) == rows.spelled(wanted), row
     for row in rejected:
         given, _, wanted = row.partition(" -> ")
-        assert outcome(fv.normalise_image, rows.spelled(given)) == tuple(map(int, wanted.split())), row
+        assert outcome(fv.image_normalise, rows.spelled(given)) == tuple(map(int, wanted.split())), row
     return len(accepted) + len(rejected)
 
 
-def said_of(check):
+def said_of(check: fv.VolumeCheck) -> str:
     """What is said of a volume of a flash image, as a row has it."""
     fault = check.fault
     words = "canonical" if check.canonical else "another" if fault is None else f"{fault.number} {fault.offset} {fault.depth}"
     return f"{check.offset} {check.length} {words}"
 
 
-def check_checks(table):
+def check_checks(table: list[str]) -> int:
     """Each volume of a flash image is canonical, is another, or has its fault, as the row says."""
     for row in table:
         given, _, wanted = row.partition(" -> ")
-        found = [*map(said_of, fv.check_image(rows.spelled(given)))]
+        found = [*map(said_of, fv.image_check(rows.spelled(given)))]
         assert found == [it for it in wanted.split(", ") if it != "none"], (row, found)
     return len(table)
 
 
-def check_extents(table):
-    """Each volume has its extent."""
+def check_headers(table: list[str]) -> int:
+    """Each volume has its extent, and the attributes and the name that its bytes have."""
     for name, words, _ in map(rows.parts, table):
-        extent = dataclasses.astuple(fv.verify(rows.spelled(name)))
+        data = rows.spelled(name)
+        header = fv.header_read(data)
+        extent = header.length, header.header_length, header.first_file, header.file_system, header.erased_byte
         assert extent == tuple(map(int, words.split())), name
+        at = int.from_bytes(data[52:54], "little")
+        stored = data[at : at + 16] if at else bytes(16)
+        assert header.name == (uuid.UUID(bytes_le=stored) if any(stored) else None), name
+        assert header.offset == 0 and header.attributes == int.from_bytes(data[44:48], "little"), name
     return len(table)
 
 
-def file_text(cell, header):
+def file_text(cell: fv.Cell, header: bytes) -> str:
     """What `cells` writes of a file after its length. The fields of a file or a pad are those of its header."""
-    assert (cell.name.bytes_le, cell.kind, cell.attributes) == (header[:16], header[18], header[19])
-    assert cell.header_len == (32 if cell.attributes & 1 else 24)
-    place = f"{cell.offset + cell.header_len} length {cell.len - cell.header_len}"
-    return f" {cell.name} type {cell.kind:02x} attributes {cell.attributes:02x} data at {place}" * (cell.what == fv.FILE)
+    assert cell.name is not None and cell.attributes is not None and cell.header_length is not None
+    assert (cell.name.bytes_le, cell.efi_type, cell.attributes) == (header[:16], header[18], header[19])
+    assert cell.header_length == (32 if cell.attributes & 1 else 24)
+    place = f"{cell.offset + cell.header_length} length {cell.length - cell.header_length}"
+    text = f" {cell.name} type {cell.efi_type:02x} attributes {cell.attributes:02x} data at {place}"
+    return text if cell.kind == fv.CellKind.FILE else ""
 
 
-def text_of(data):
-    """What `cells` writes of a volume, by what verify and cells return."""
+def text_of(data: bytes) -> str:
+    """What `cells` writes of a volume, by what header_read and volume_cells return."""
     sums = dict.fromkeys(("files", "pads", "deleted", "filler", "free"), 0)
-    text = f"header at 0 length {fv.verify(data).first}|"
-    for cell in fv.cells(data):
-        what, total = CELLS[cell.what]
-        length = (cell.len + 7) // 8 * 8
-        rest = file_text(cell, data[cell.offset :][:32]) if cell.what in (fv.FILE, fv.PAD) else ""
-        text += f"{what} at {cell.offset} length {length}{rest}|"
-        sums[total] += cell.len
-        sums["filler"] += length - cell.len
+    text = f"header at 0 length {fv.header_read(data).first_file}|"
+    for cell in fv.volume_cells(data):
+        kind, total = CELLS[cell.kind]
+        length = (cell.length + 7) // 8 * 8
+        rest = file_text(cell, data[cell.offset :][:32]) if cell.name is not None else ""
+        text += f"{kind} at {cell.offset} length {length}{rest}|"
+        sums[total] += cell.length
+        sums["filler"] += length - cell.length
     return text + "sums " + " ".join(f"{name} {number}" for name, number in sums.items()) + "|"
 
 
-def check_bodies(table):
+def place_in(text: str) -> Place | None:
+    """The fault that the line of a command has, if it is one."""
+    fault = re.fullmatch(r"fault (\d+) at (\d+)\|", text)
+    return (int(fault[1]), int(fault[2]), 0) if fault else None
+
+
+def check_bodies(table: list[str]) -> int:
     """Each body has the cells or the fault of its row."""
     count = 0
     for row in table:
         text = rows.parts(row)[2].partition(" ")[2]
-        fault = re.fullmatch(r"fault (\d+) at (\d+)\|", text)
-        wanted = (*map(int, fault.groups()), 0) if fault else text
+        wanted = place_in(text) or text
         for data in rows.bodies(row):
             found = outcome(text_of, data)
             assert found == wanted, (row, found)
@@ -136,7 +155,7 @@ def check_bodies(table):
     return count
 
 
-def check_unfixed(table, others):
+def check_unfixed(table: list[str], others: list[str]) -> int:
     """Each volume of a row of `unfix` loses its marks, or has the fault of the row. Each body of the other rows is
     written as it is, or has the same fault as the cells, except that a file is fixed."""
     count = 0
@@ -144,14 +163,13 @@ def check_unfixed(table, others):
         if name != "unfix" or words.startswith("'"):  # a volume at an offset, or text that spells no bytes
             continue
         data, text = rows.spelled(words), result.partition(" ")[2]
-        fault = re.fullmatch(r"fault (\d+) at (\d+)\|", text)
-        wanted = (*map(int, fault.groups()), 0) if fault else rows.spelled(text[1:])
-        assert outcome(fv.unfixed, data) == wanted, (words, result)
+        wanted = place_in(text) or rows.spelled(text[1:])
+        assert outcome(fv.volume_unfix, data) == wanted, (words, result)
         count += 1
     for row in others:
         for data in rows.bodies(row):
-            cells, found = outcome(fv.cells, data), outcome(fv.unfixed, data)
-            if isinstance(cells, fv.Rows):
+            cells, found = outcome(fv.volume_cells, data), outcome(fv.volume_unfix, data)
+            if not isinstance(cells, tuple):
                 assert found == data, row
             else:
                 assert found != cells if cells[0] == FIXED else found == cells, row
@@ -159,9 +177,14 @@ def check_unfixed(table, others):
     return count
 
 
-def check_rejected(table):
+def check_rejected(table: list[str]) -> int:
     """Each expression, hand-off list and head has the fault of its row, or an expression is accepted."""
-    calls = {"pei": lambda data: fv.depex(data, fv.PEI), "dxe": fv.depex, "hobs": fv.hobs, "head": fv.verify}
+    calls: dict[str, Callable[[bytes], object]] = {
+        "pei": lambda data: fv.depex_evaluate(data, fv.Phase.PEI),
+        "dxe": fv.depex_evaluate,
+        "hobs": fv.hobs_read,
+        "head": fv.header_read,
+    }
     count = 0
     for row in table:
         for kind, data, fault in rows.rejected(row):
@@ -171,25 +194,26 @@ def check_rejected(table):
     return count
 
 
-def check_values(table):
+def check_values(table: list[str]) -> int:
     """Each expression has its values, with four lists of installed GUIDs."""
     a, b = uuid.UUID(bytes=b"\x0a" * 16), uuid.UUID(bytes=b"\x0b" * 16)
-    phases, values = {"pei": fv.PEI, "dxe": fv.DXE}, {"0": False, "1": True, "-": None}
+    installed: list[list[uuid.UUID]] = [[], [a], [b], [b, a]]
+    phases, values = {"pei": fv.Phase.PEI, "dxe": fv.Phase.DXE}, {"0": False, "1": True, "-": None}
     for phase, words, wanted in map(rows.parts, table):
-        found = [fv.depex(rows.spelled(words), phases[phase], guids) for guids in ((), (a,), (b,), (b, a))]
+        found = [fv.depex_evaluate(rows.spelled(words), phases[phase], it) for it in installed]
         assert found == [values[it] for it in wanted.split()], (phase, words, found)
     return len(table)
 
 
-def check_full():
+def check_full() -> int:
     """A volume of few and of many files is its own image."""
     for count in range(301):
         data = rows.full_volume(count)
-        assert fv.normalise(data) == data and fv.is_canonical(data), count
+        assert fv.volume_normalise(data) == data and fv.volume_is_canonical(data), count
     return count + 1
 
 
-def replaced(data):
+def replaced(data: bytes) -> Iterator[bytes]:
     """The data with each byte replaced by each other one."""
     for at, byte in enumerate(data):
         for other in range(256):
@@ -197,22 +221,24 @@ def replaced(data):
                 yield data[:at] + bytes([other]) + data[at + 1 :]
 
 
-def agree(data):
+def agree(data: bytes) -> bool:
     """Whether two calls agree on some bytes: true if they are their own image, false if they have another image or do
     not fit, and else the same fault."""
-    judged, image = outcome(fv.is_canonical, data), outcome(fv.normalise, data)
+    judged, image = outcome(fv.volume_is_canonical, data), outcome(fv.volume_normalise, data)
     if isinstance(judged, bool):
         return judged == (image == data) and (isinstance(image, bytes) or image[0] in (NO_ROOM, TOP_ALIGNMENT))
     return judged == image
 
 
-def keeps(data):
+def keeps(data: bytes) -> bool:
     """Whether some bytes have no image, or one that is its own image and has their meaning."""
-    image = outcome(fv.normalise, data)
-    return not isinstance(image, bytes) or (fv.normalise(image) == image and fv.compare(data, image) == "same")
+    image = outcome(fv.volume_normalise, data)
+    if not isinstance(image, bytes):
+        return True
+    return fv.volume_normalise(image) == image and fv.volume_compare(data, image) is None
 
 
-def check_replaced(names, holds):
+def check_replaced(names: list[str], holds: Callable[[bytes], bool]) -> int:
     """Whatever byte of these volumes is replaced, this holds."""
     count = 0
     for name in names:
@@ -222,14 +248,14 @@ def check_replaced(names, holds):
     return count
 
 
-def main():
+def main() -> None:
     library = rows.tables("library")
     images, unfit = check_images(), check_unfit(library["unfit"])
     flash = check_flash(library["flash images"], library["rejected images"])
     print(f"volumes: {images} have their images, {unfit} do not fit; {flash} flash images and {check_full()} full volumes")
     print(f"volumes: the volumes of {check_checks(library['checked images'])} flash images are checked")
-    extents, bodies = check_extents(library["extents"]), check_bodies(rows.tables("bodies")[""])
-    print(f"volumes: {extents} have their extents, and {bodies} their cells or their fault")
+    headers, bodies = check_headers(library["extents"]), check_bodies(rows.tables("bodies")[""])
+    print(f"volumes: {headers} have their headers, and {bodies} their cells or their fault")
     unfixed = check_unfixed(rows.tables("unfix")[""], rows.tables("bodies")[""])
     print(f"volumes: {unfixed} lose the marks of their fixed files, or have their fault")
     print(f"volumes: {check_rejected(rows.tables('parts')[''])} expressions, hand-off lists and heads are as the rows say")

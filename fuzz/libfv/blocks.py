@@ -1,31 +1,48 @@
 #!/usr/bin/env python3
-"""blocks.py PROGRAM ARCHIVE: where the basic blocks of the library begin in a program that is linked with it.
+"""blocks.py PROGRAM ARCHIVE: finds where the basic blocks of the library begin in a program that is linked with it.
 
-Writes PROGRAM.blocks: 32-bit offsets from fv_verify. A block begins at a function, at the target of a direct jump, and
-after each jump. Targets of tables of jumps are found only if they come after a jump, as they do in code of a compiler."""
+Writes PROGRAM.blocks: 32-bit offsets from fv_header_read. A block begins at a function, at the target of a direct jump,
+and after each jump. Targets of tables of jumps are found only if they come after a jump, as they do in code of a
+compiler."""
 
+from __future__ import annotations
+
+import argparse
 import bisect
 import re
 import struct
 import subprocess
 import sys
+from collections.abc import Iterator
+from dataclasses import dataclass
 
-# The object that the harness has its own of.
+# The object that the harness replaces by its own.
 REPLACED = "heap.o"
-# What a compiler puts between blocks.
+# The instructions that a compiler puts between blocks.
 PADDING = re.compile(r"nop|data16|cs |int3|xchg %ax,%ax")
 
 
-def lines_of(*command):
+@dataclass(frozen=True, order=True)
+class Span:
+    """The place of a function in the program: its first byte, and its end."""
+
+    start: int
+    end: int
+
+
+def lines_of(*command: str) -> Iterator[str]:
+    """Returns the lines that a command writes."""
     with subprocess.Popen(command, stdout=subprocess.PIPE, text=True) as run:
+        assert run.stdout
         yield from run.stdout
     if run.returncode:
         sys.exit(f"blocks.py: {command[0]} failed")
 
 
-def names_of(archive):
-    """The functions that the archive defines."""
-    names, member = set(), ""
+def names_of(archive: str) -> set[str]:
+    """Returns the functions that the archive defines."""
+    names: set[str] = set()
+    member = ""
     for line in lines_of("nm", "--defined-only", archive):
         words = line.split()
         if len(words) == 1:
@@ -35,33 +52,35 @@ def names_of(archive):
     return names
 
 
-def spans_of(program, names):
-    """Where these functions are in the program: each with its first byte and its end, in order. And where fv_verify is."""
-    spans, origin = set(), None
+def spans_of(program: str, names: set[str]) -> tuple[list[Span], int]:
+    """Returns the places of these functions in the program, in order, and the first byte of fv_header_read."""
+    spans: set[Span] = set()
+    origin: int | None = None
     for line in lines_of("nm", "--print-size", "--defined-only", program):
         words = line.split()
         if len(words) == 4 and words[2] in "tTwW" and words[3] in names:
             start, size = int(words[0], 16), int(words[1], 16)
-            spans.add((start, start + size))
-            if words[3] == "fv_verify":
+            spans.add(Span(start, start + size))
+            if words[3] == "fv_header_read":
                 origin = start
     if origin is None:
-        sys.exit(f"blocks.py: {program} has no fv_verify")
+        sys.exit(f"blocks.py: {program} has no fv_header_read")
     return sorted(spans), origin
 
 
-def heads_of(program, spans):
-    """The first bytes of the basic blocks."""
-    starts = [start for start, _ in spans]
-    instructions, heads, is_after_jump, is_passed_over = set(), set(starts), False, False
-    bounds = f"--start-address={starts[0]}", f"--stop-address={max(end for _, end in spans)}"
+def heads_of(program: str, spans: list[Span]) -> list[int]:
+    """Returns the first bytes of the basic blocks."""
+    starts = [span.start for span in spans]
+    instructions: set[int] = set()
+    heads, is_after_jump, is_passed_over = set(starts), False, False
+    bounds = f"--start-address={starts[0]}", f"--stop-address={max(span.end for span in spans)}"
     for line in lines_of("objdump", "--disassemble", "--no-show-raw-insn", *bounds, program):
         match = re.match(r"\s+([0-9a-f]+):\t(?:notrack |bnd )?(\S+)\s*(\S*)", line)
         if not match:
             continue
         place = int(match[1], 16)
         number = bisect.bisect_right(starts, place) - 1
-        if number < 0 or place >= spans[number][1]:
+        if number < 0 or place >= spans[number].end:
             is_after_jump = False
             continue
         if is_passed_over and PADDING.match(f"{match[2]} {match[3]}"):
@@ -76,11 +95,15 @@ def heads_of(program, spans):
     return sorted(heads & instructions)
 
 
-def main():
-    program, archive = sys.argv[1:]
-    spans, origin = spans_of(program, names_of(archive))
-    heads = heads_of(program, spans)
-    with open(f"{program}.blocks", "wb") as file:
+def main() -> None:
+    """Reads the arguments, and writes the file of blocks."""
+    reader = argparse.ArgumentParser(description="Finds where the basic blocks of the library begin in a program.")
+    reader.add_argument("program", help="a program that is linked with the library; PROGRAM.blocks is written")
+    reader.add_argument("archive", help="the library")
+    given = reader.parse_args()
+    spans, origin = spans_of(given.program, names_of(given.archive))
+    heads = heads_of(given.program, spans)
+    with open(f"{given.program}.blocks", "wb") as file:
         file.write(b"".join(struct.pack("<i", head - origin) for head in heads))
     print(f"{len(heads)} blocks in {len(spans)} functions of the library")
 

@@ -66,7 +66,7 @@ static void *anonymous(size_t len)
     return room;
 }
 
-/* Maps the tables, and lets the code be written. The offsets are from fv_verify. */
+/* Maps the tables, and lets the code be written. The offsets are from fv_header_read. */
 static void open_code(const int32_t *offsets, size_t count)
 {
     int32_t lowest = 0, highest = 0;
@@ -74,7 +74,7 @@ static void open_code(const int32_t *offsets, size_t count)
         if (offsets[i] < lowest) lowest = offsets[i];
         if (offsets[i] > highest) highest = offsets[i];
     }
-    first_byte = (uint8_t *)(uintptr_t)fv_verify + lowest;
+    first_byte = (uint8_t *)(uintptr_t)fv_header_read + lowest;
     span = (size_t)(highest - lowest) + 1;
     block_at = anonymous(span * sizeof *block_at);
     byte_at = anonymous(span);
@@ -93,7 +93,7 @@ void watch_blocks(const char *path)
     open_code(offsets, count);
     struct sigaction action = {.sa_sigaction = on_trap, .sa_flags = SA_SIGINFO | SA_NODEFER};
     if (sigaction(SIGTRAP, &action, NULL)) give_up("sigaction");
-    uint8_t *origin = (uint8_t *)(uintptr_t)fv_verify;
+    uint8_t *origin = (uint8_t *)(uintptr_t)fv_header_read;
     for (size_t i = 0; i < count; i++) {
         size_t offset = (size_t)(origin + offsets[i] - first_byte);
         if (block_at[offset]) continue;

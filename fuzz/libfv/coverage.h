@@ -6,13 +6,12 @@
 
 /* What the harness itself reports to libFuzzer as reached. */
 enum {
-    SEEN_VERIFY,
+    SEEN_HEADER,
     SEEN_NORMALISE,
     SEEN_CELLS,
-    SEEN_FILES,
-    SEEN_SECTION,
-    SEEN_SECTIONS,
+    SEEN_ROW,
     SEEN_TREE,
+    SEEN_PART,
     SEEN_SCAN,
     SEEN_IMAGE,
     SEEN_CHECK,

@@ -1,13 +1,11 @@
-/* What holds of fv_depex: it returns what an evaluator of the harness returns (PI specification 1.8, volume 2, section
- * 10.7, and volume 1, section 5.7; the order of the faults is that of docs/FAULTS.md). */
+/* What holds of fv_depex_evaluate: it returns what an evaluator of the harness returns (PI specification 1.8, volume 2,
+ * section 10.7, and volume 1, section 5.7; the order of the faults is that of docs/FAULTS.md). */
 #include "coverage.h"
 #include "harness.h"
 #include "heap.h"
 #include "results.h"
 
 enum { BEFORE, AFTER, PUSH, AND, OR, NOT, TRUE, FALSE, END, SOR };
-enum { DONE, SHORT, OPCODE, STACK, NO_END, POSITION, OUT_OF_MEMORY };
-#define NO_VALUE 2 /* of BEFORE and AFTER */
 #define MOST_STACK 65536u
 
 struct evaluation {
@@ -26,17 +24,17 @@ static bool has_guid(uint8_t op)
 }
 
 /* The fault of an op, if it has one, by the first check that does not hold. */
-static int fault_of(const struct evaluation *e, uint8_t op)
+static fv_result fault_of(const struct evaluation *e, uint8_t op)
 {
     bool is_known = e->is_pei ? op >= PUSH && op <= END : op <= SOR;
-    if (!is_known) return OPCODE;
-    if ((op == BEFORE || op == AFTER || op == SOR) && e->at) return POSITION;
-    if (e->is_closed && op != END) return POSITION;
-    if (has_guid(op) && e->len - e->at < 17) return SHORT;
-    if ((op == AND || op == OR) && e->height < 2) return STACK;
-    if (op == NOT && e->height < 1) return STACK;
-    if (op == END && !e->is_closed && e->height != 1) return STACK;
-    return DONE;
+    if (!is_known) return FV_FAULT_DEPEX_OPCODE;
+    if ((op == BEFORE || op == AFTER || op == SOR) && e->at) return FV_FAULT_DEPEX_POSITION;
+    if (e->is_closed && op != END) return FV_FAULT_DEPEX_POSITION;
+    if (has_guid(op) && e->len - e->at < 17) return FV_FAULT_DEPEX_SHORT;
+    if ((op == AND || op == OR) && e->height < 2) return FV_FAULT_DEPEX_STACK;
+    if (op == NOT && e->height < 1) return FV_FAULT_DEPEX_STACK;
+    if (op == END && !e->is_closed && e->height != 1) return FV_FAULT_DEPEX_STACK;
+    return FV_OK;
 }
 
 static bool is_installed(const struct evaluation *e)
@@ -62,21 +60,24 @@ static void apply(struct evaluation *e, uint8_t op)
     }
 }
 
-/* The result, with the value or the place of the fault; -1 if the stack of the harness does not suffice. */
-static int evaluate(struct evaluation *e, uint32_t *value)
+/* What comes of an expression if the stack of the harness does not suffice. */
+#define UNKNOWN UINT32_MAX
+
+/* The result, with the value or the place of the fault, or UNKNOWN. */
+static fv_result evaluate(struct evaluation *e, uint32_t *value)
 {
     uint8_t before = END;
     for (;;) {
-        if (e->at >= e->len) return NO_END;
+        if (e->at >= e->len) return FV_FAULT_DEPEX_NO_END;
         uint8_t op = e->bytes[e->at];
-        int fault = fault_of(e, op);
-        saw(SEEN_OP, before * 16u + (op > SOR ? SOR + 1 : op), (uint32_t)fault, e->height > 4 ? 4 : e->height);
+        fv_result fault = fault_of(e, op);
+        saw(SEEN_OP, before * 16u + (op > SOR ? SOR + 1 : op), fault, e->height > 4 ? 4 : e->height);
         if (fault) return fault;
         if (op == END) {
-            *value = e->is_closed ? NO_VALUE : e->stack[0];
-            return DONE;
+            *value = e->is_closed ? FV_DEPEX_ORDER : e->stack[0];
+            return FV_OK;
         }
-        if (e->height + 1 >= MOST_STACK) return -1;
+        if (e->height + 1 >= MOST_STACK) return UNKNOWN;
         apply(e, op);
         before = op;
         e->at += has_guid(op) ? 17 : 1;
@@ -88,23 +89,40 @@ static void try_phase(struct evaluation *e, uint32_t phase, const uint8_t *param
     uint32_t value = UNTOUCHED, expected = UNTOUCHED;
     fv_fault fault = unset_fault;
     e->at = e->height = 0;
-    e->is_pei = phase == 0;
+    e->is_pei = phase == FV_PHASE_PEI;
     e->is_closed = false;
-    int wanted = evaluate(e, &expected);
-    if (wanted < 0) return;
-    uint32_t result = fv_depex(e->bytes, e->len, phase, e->installed, e->installed_count, &value, &fault);
+    fv_result wanted = evaluate(e, &expected);
+    if (wanted == UNKNOWN) return;
+    fv_result result = fv_depex_evaluate(e->bytes, e->len, phase, e->installed, e->installed_count, &value, &fault);
     check_no_block_is_kept("depex");
     saw(SEEN_EXPRESSION, result, e->is_pei, e->at > 40 ? 40 : e->at);
-    CHECK(result == (uint32_t)wanted, "depex: %u, not %d at %zu", result, wanted, e->at);
+    CHECK(result == wanted, "depex: %u, not %u at %zu", result, wanted, e->at);
     CHECK(value == expected, "depex: value %u, not %u", value, expected);
     if (result)
-        CHECK(fault.number == result && fault.offset == e->at && !fault.depth, "depex: fault %u at %lu, not %d at %zu",
-              fault.number, fault.offset, wanted, e->at);
+        CHECK(fault.result == result && fault.offset == e->at && !fault.depth && !fault.input && !fault.reserved,
+              "depex: fault %u at %lu, not %u at %zu", fault.result, fault.offset, wanted, e->at);
     else
-        CHECK(is_no_fault(&fault), "depex: no fault, and fault %u", fault.number);
+        CHECK(is_no_fault(&fault), "depex: no fault, and fault %u", fault.result);
+    CHECK(fv_result_text(result)[0], "depex: result %u has no text", result);
+    fv_fault *unless_null = FAULT_OR_NULL(parameters, &fault);
+    value = UNTOUCHED;
     refuse_allocation(parameters[REFUSED]);
-    uint32_t again = fv_depex(e->bytes, e->len, phase, e->installed, e->installed_count, &value, &fault);
-    check_refusal("depex", again, result, OUT_OF_MEMORY, &fault);
+    fv_result again = fv_depex_evaluate(e->bytes, e->len, phase, e->installed, e->installed_count, &value, unless_null);
+    check_refusal("depex", again, result, unless_null);
+    CHECK(value == (again ? UNTOUCHED : expected), "depex has written a value without memory");
+}
+
+/* There is no such phase, and a GUID may not be missing. */
+static void try_bad_arguments(const struct evaluation *e, uint8_t phase)
+{
+    uint32_t value = UNTOUCHED;
+    fv_fault fault = unset_fault;
+    uint32_t none = FV_PHASE_DXE + 1 + phase * 16777259u;
+    fv_result result = fv_depex_evaluate(e->bytes, e->len, none, e->installed, e->installed_count, &value, &fault);
+    check_bad_argument("depex", result, &fault);
+    result = fv_depex_evaluate(e->bytes, e->len, FV_PHASE_DXE, NULL, 1 + phase, &value, &fault);
+    check_bad_argument("depex", result, &fault);
+    CHECK(value == UNTOUCHED, "depex has written a value after a bad argument");
 }
 
 void try_expression(const uint8_t *bytes, size_t len, const uint8_t *parameters)
@@ -121,8 +139,9 @@ void try_expression(const uint8_t *bytes, size_t len, const uint8_t *parameters)
     }
     evaluation.bytes = bytes;
     evaluation.len = len;
-    evaluation.installed = installed;
+    evaluation.installed = count || parameters[FILE_CHOICE] & 4 ? installed : NULL;
     evaluation.installed_count = count;
-    try_phase(&evaluation, 0, parameters);
-    try_phase(&evaluation, 1 + parameters[PHASE] * 16777259u, parameters);
+    try_phase(&evaluation, FV_PHASE_PEI, parameters);
+    try_phase(&evaluation, FV_PHASE_DXE, parameters);
+    try_bad_arguments(&evaluation, parameters[PHASE]);
 }

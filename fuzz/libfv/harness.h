@@ -19,9 +19,9 @@
 enum {
     MODE,           /* what the data are tried as, and AT_START */
     PAIR,           /* odd: a pair of volumes is parted after the first; and how many GUIDs are installed */
-    PHASE,          /* the phase of a dependency expression that is not PEI */
-    FILE_CHOICE,    /* which files of many are looked into */
-    SECTION_CHOICE, /* which sections of many are extracted */
+    PHASE,          /* a phase of a dependency expression that there is not */
+    FILE_CHOICE,    /* how much room more a buffer has, and FAULT_OR_NULL */
+    ROW_CHOICE,     /* which rows of many are extracted, and whether there is room for a row more */
     REFUSED,        /* the numbers of the allocations that are refused: three bytes */
     PARAMETERS = 8
 };
@@ -39,6 +39,9 @@ enum { AS_VOLUME, AS_IMAGE = 3, AS_EXPRESSION, AS_HAND_OFF_LIST, AS_PAIR, AS_IMA
 #define UNTOUCHED 0xC3
 #define UNTOUCHED_32 0xC3C3C3C3u
 #define UNTOUCHED_64 UINT64_C(0xC3C3C3C3C3C3C3C3)
+
+/* The fault of a call, or NULL now and then. */
+#define FAULT_OR_NULL(parameters, fault) ((parameters)[FILE_CHOICE] & 2 ? NULL : (fault))
 
 /* Reports a finding and ends the process, if the condition does not hold. libFuzzer then keeps the input. */
 #define CHECK(condition, ...)                                                                                          \

@@ -1,105 +1,132 @@
-/* What holds of fv_compare: it says the same both ways, and two volumes are the same if their digests are. */
+/* What holds of fv_volume_compare: it says the same both ways, and two volumes are the same if their digests are. */
+#define _GNU_SOURCE
 #include "coverage.h"
 #include "harness.h"
 #include "heap.h"
 #include "results.h"
 #include "rooms.h"
 
-/* The most bytes of a line. */
-#define MOST_LINE 553u
-
 struct input {
     const uint8_t *bytes;
     size_t len;
 };
 
-static uint32_t compare(struct input a, struct input b, void *line, size_t len, fv_comparison *found)
+/* What a comparison has returned. */
+struct outcome {
+    fv_result result;
+    fv_comparison found;
+    fv_fault fault;
+};
+
+static const fv_comparison unset_comparison = {UINT64_C(0x0102030405060708), 0x090a0b0c, 0x0d0e0f10};
+
+static struct outcome compare(struct input a, struct input b, void *text, size_t room)
 {
-    memset(found, 1, sizeof *found);
-    uint32_t result = fv_compare(a.bytes, a.len, b.bytes, b.len, line, len, found);
+    struct outcome it = {0, unset_comparison, unset_fault};
+    it.result = fv_volume_compare(a.bytes, a.len, b.bytes, b.len, text, room, &it.found, &it.fault);
     check_no_block_is_kept("compare");
-    return result;
+    return it;
 }
 
 /* Counts the kind of a difference, with the steps to it and without their numbers. */
-static void saw_difference(const char *line, uint64_t len)
+static void saw_difference(const char *text)
 {
     uint32_t hash = 0;
-    for (uint64_t i = 0; i < len; i++)
-        if (line[i] < '0' || line[i] > '9') hash = hash * 31 + (uint8_t)line[i];
+    for (; *text; text++)
+        if (*text < '0' || *text > '9') hash = hash * 31 + (uint8_t)*text;
     saw(SEEN_DIFFERENCE, hash, 0, 0);
 }
 
 static void check_digests(struct input a, struct input b, const fv_comparison *found)
 {
     fv_sha256 of_a, of_b;
-    fv_fault fault;
-    uint32_t first = fv_digest(a.bytes, a.len, &of_a, &fault);
-    uint32_t second = fv_digest(b.bytes, b.len, &of_b, &fault);
+    fv_result first = fv_volume_digest(a.bytes, a.len, &of_a, NULL);
+    fv_result second = fv_volume_digest(b.bytes, b.len, &of_b, NULL);
     if (!first && !second) CHECK(found->same == !memcmp(&of_a, &of_b, sizeof of_a), "compare and the digests");
     if (found->same) CHECK(first == second, "compare: same, and the digests have %u and %u", first, second);
 }
 
-/* A buffer for the line that is one byte too short, one that is as long as the line, and one of a byte more. */
-static void try_buffers(struct input a, struct input b, uint64_t len)
+/* A buffer that is a byte too short for the text and its NUL, none, one of just that, and one of a byte more. */
+static void try_buffers(struct input a, struct input b, const fv_comparison *found)
 {
-    fv_comparison found;
-    uint8_t *line = new_buffer(len - 1, 1);
-    uint32_t result = compare(a, b, line, len - 1, &found);
-    CHECK(result == FV_BUFFER_TOO_SMALL && found.line_len == len, "compare: %u with a short buffer", result);
-    check_untouched(line, "compare");
-    line = new_buffer(len, 1);
-    CHECK(compare(a, b, line, len, &found) == FV_DONE, "compare: a buffer that is as long as the line");
-    check_written(line, len, "compare");
-    line = new_buffer(len + 1, 1);
-    CHECK(compare(a, b, line, len + 1, &found) == FV_DONE, "compare: a buffer of a byte more than the line");
-    check_written(line, len, "compare");
+    size_t needed = found->text_length + 1;
+    for (size_t room = needed - 1; room <= needed + 1; room++) {
+        uint8_t *text = new_buffer(room, 1);
+        struct outcome it = compare(a, b, text, room);
+        check_plain("compare", it.result, room < needed ? FV_BUFFER_TOO_SMALL : FV_OK, &it.fault);
+        CHECK(!memcmp(&it.found, found, sizeof *found), "compare has found something else with room %zu", room);
+        if (it.result)
+            check_untouched(text, "compare");
+        else
+            check_written(text, needed, "compare");
+    }
+    struct outcome it = compare(a, b, no_buffer(), 0);
+    check_plain("compare", it.result, FV_BUFFER_TOO_SMALL, &it.fault);
+    CHECK(!memcmp(&it.found, found, sizeof *found), "compare has found something else without room");
 }
 
-static void check_line(const char *line, const char *other, const fv_comparison *found, const fv_comparison *back)
+static void check_text(const char *text, const char *other, const fv_comparison *found, const fv_comparison *back)
 {
-    uint64_t len = found->line_len;
-    CHECK(found->same == back->same && len == back->line_len && len && len <= MOST_LINE, "compare: both ways");
-    CHECK(line[len - 1] == '\n' && !memcmp(line, other, len), "compare: the lines of both ways");
+    CHECK(!memcmp(found, back, sizeof *found), "compare: both ways");
+    CHECK(found->text_length < FV_DIFFERENCE_SIZE && !found->reserved, "compare: a text of %lu", found->text_length);
+    CHECK(strnlen(text, FV_DIFFERENCE_SIZE) == found->text_length, "compare: the end of the text");
+    CHECK(!strcmp(text, other), "compare: the texts of both ways");
     if (found->same) {
-        CHECK(len == 5 && !memcmp(line, "same\n", 5), "compare: the line of what is the same");
+        CHECK(!strcmp(text, "same"), "compare: the text of what is the same");
     } else {
-        CHECK(len > 13 && !memcmp(line, "different at ", 13), "compare: the line of a difference");
-        saw_difference(line + 13, len - 13);
+        CHECK(!strncmp(text, "different at ", 13) && found->text_length > 13, "compare: the text of a difference");
+        saw_difference(text + 13);
     }
+}
+
+/* The fault is that of the first input, or that of the second if the first is a volume. */
+static void check_fault(struct input a, struct input b, const struct outcome *it)
+{
+    fv_fault own;
+    uint32_t canonical;
+    struct input of_fault = it->fault.input ? b : a;
+    check_result("compare", it->result, &it->fault, FV_FAULT_DEPTH, of_fault.len);
+    CHECK(!memcmp(&it->found, &unset_comparison, sizeof it->found), "compare has changed what it found");
+    fv_result first = fv_volume_is_canonical(a.bytes, a.len, &canonical, &own);
+    CHECK(it->fault.input == !first, "compare: input %u, and the first has %u", it->fault.input, first);
+    fv_result result = fv_volume_is_canonical(of_fault.bytes, of_fault.len, &canonical, &own);
+    own.input = it->fault.input;
+    CHECK(result == it->result && is_same_fault(&own, &it->fault), "compare: %u of input %u, is_canonical: %u",
+          it->result, own.input, result);
+    uint8_t *some = new_buffer(FV_DIFFERENCE_SIZE, 1);
+    CHECK(compare(a, b, some, FV_DIFFERENCE_SIZE).result == it->result, "compare: %u, and then another", it->result);
+    check_untouched(some, "compare of a volume that is rejected");
 }
 
 void try_pair(const uint8_t *bytes, size_t len, const uint8_t *parameters)
 {
-    char line[MOST_LINE], other[MOST_LINE];
-    fv_comparison found, back;
-    fv_extent extent;
-    fv_fault fault;
+    char text[FV_DIFFERENCE_SIZE], other[FV_DIFFERENCE_SIZE];
+    fv_header header;
     size_t parted = len / 2 & ~(size_t)7;
     bool is_after_first = parameters[PAIR] & 1 && len > 64;
-    if (is_after_first && fv_verify(bytes, len, &extent, &fault) == FV_DONE && extent.length < len)
-        parted = extent.length;
+    if (is_after_first && fv_header_read(bytes, len, &header, NULL) == FV_OK && header.length < len)
+        parted = header.length;
     struct input a = {bytes, parted}, b = {bytes + parted, len - parted};
-    uint32_t result = compare(a, b, line, sizeof line, &found);
-    uint32_t reverse = compare(b, a, other, sizeof other, &back);
-    CHECK((result == FV_DONE) == (reverse == FV_DONE), "compare: %u, and the other way %u", result, reverse);
-    saw(SEEN_PAIR, result, found.side, 0);
-    if (result == FV_DONE) {
-        check_line(line, other, &found, &back);
-        check_digests(a, b, &found);
-        try_buffers(a, b, found.line_len);
+    struct outcome it = compare(a, b, text, sizeof text), back = compare(b, a, other, sizeof other);
+    CHECK(!it.result == !back.result, "compare: %u, and the other way %u", it.result, back.result);
+    saw(SEEN_PAIR, it.result, it.fault.input, 0);
+    if (it.result == FV_OK) {
+        CHECK(is_no_fault(&it.fault), "compare: no fault, and fault %u", it.fault.result);
+        check_text(text, other, &it.found, &back.found);
+        check_digests(a, b, &it.found);
+        try_buffers(a, b, &it.found);
     } else {
-        struct input of_fault = found.side == 1 ? a : b;
-        CHECK(found.side == 1 || found.side == 2, "compare: side %u", found.side);
-        check_result("compare", result, &found.fault, FV_DEPTH, of_fault.len);
-        uint8_t *some = new_buffer(MOST_LINE, 1);
-        CHECK(compare(a, b, some, MOST_LINE, &back) == result, "compare: %u, and then another", result);
-        check_untouched(some, "compare of a volume that is rejected");
+        check_fault(a, b, &it);
     }
-    uint8_t *kept = new_buffer(MOST_LINE, 1);
+    uint8_t *kept = new_buffer(FV_DIFFERENCE_SIZE, 1);
+    fv_comparison found = unset_comparison;
+    fv_fault fault = unset_fault, *wanted = FAULT_OR_NULL(parameters, &fault);
     refuse_allocation(parameters[REFUSED]);
-    memset(&back, 1, sizeof back);
-    uint32_t again = fv_compare(a.bytes, a.len, b.bytes, b.len, (char *)kept, MOST_LINE, &back);
-    check_refusal("compare", again, result, FV_OUT_OF_MEMORY, &back.fault);
-    if (again) check_untouched(kept, "compare without memory");
+    fv_result again =
+        fv_volume_compare(a.bytes, a.len, b.bytes, b.len, (char *)kept, FV_DIFFERENCE_SIZE, &found, wanted);
+    if (wanted && again == FV_OUT_OF_MEMORY) wanted->input = 0; /* either input may have taken memory */
+    check_refusal("compare", again, it.result, wanted);
+    if (!again) return;
+    check_untouched(kept, "compare without memory");
+    CHECK(!memcmp(&found, &unset_comparison, sizeof found), "compare has changed what it found without memory");
 }

@@ -2,29 +2,35 @@
 #include "mutate.h"
 #include <stdlib.h>
 
-#undef fv_normalise
-#undef fv_unfix
-#undef fv_scan
-#undef fv_check_image
-#undef fv_tree
-#undef fv_list_sums
-#undef fv_extract
-#undef fv_depex
+#undef fv_image_scan
+#undef fv_image_check
+#undef fv_volume_normalise
+#undef fv_volume_unfix
+#undef fv_volume_compare
+#undef fv_volume_tree
+#undef fv_volume_tree_digests
+#undef fv_volume_extract
+#undef fv_depex_evaluate
 
 /* The numbers of the planted faults. */
 enum {
-    TWO_PADS = 1,   /* the last byte of an image with exactly two pads is wrong */
-    DEEP_FAULT,     /* the offset of a fault at depth 3 is one too high */
-    FOURTH_VOLUME,  /* scan leaves out the fourth of four volumes */
-    WRITE_ON_TWINS, /* fault 17 writes to the buffer */
-    SHORT_VOLUME,   /* the last byte of a nested volume that is extracted is wrong */
-    NO_NOT,         /* a NOT at the third place, after FALSE, does nothing */
-    UNMOVED_FILE,   /* the offset of a file in a nested volume counts from that volume */
-    UNMOVED_FAULT,  /* the offset of the fault of a second volume counts from that volume */
-    SIXTH_SUM,      /* the last byte of the last of exactly six sums is wrong, if there is such a sum */
-    SECOND_MARK,    /* unfix leaves the last of several marks */
-    SUM_ON_FAULT,   /* list_sums writes to the buffer after a fault */
-    SUM_BEHIND      /* list_sums writes to the buffer behind its sums */
+    TWO_PADS = 1,    /* the last byte of an image with exactly two pads is wrong */
+    DEEP_FAULT,      /* the offset of a fault at depth 3 is one too high */
+    FOURTH_VOLUME,   /* image_scan leaves out the fourth of four volumes */
+    WRITE_ON_TWINS,  /* fault 17 writes to the buffer */
+    SHORT_VOLUME,    /* the last byte of a nested volume that is extracted is wrong */
+    NO_NOT,          /* a NOT at the third place, after FALSE, does nothing */
+    UNMOVED_FILE,    /* the offset of a file in a nested volume counts from that volume */
+    UNMOVED_FAULT,   /* the offset of the fault of a second volume counts from that volume */
+    SIXTH_DIGEST,    /* the last byte of the last of exactly six digests is wrong, if there is such a digest */
+    SECOND_MARK,     /* unfix leaves the last of several marks */
+    DIGEST_ON_FAULT, /* tree_digests writes to the buffer after a fault */
+    DIGEST_BEHIND,   /* tree_digests writes to the buffer after its digests */
+    FIFTH_PART,      /* the last byte of the part of the sixth row is wrong */
+    SYSTEM_NAME,     /* the row of a nested volume without a name has the GUID of its file system */
+    NO_NUL,          /* the text of a difference in a section is not ended */
+    FIRST_INPUT,     /* a fault of the second volume is reported for the first */
+    THIRD_NAME       /* the name of the third of several volumes that are found is zeros */
 };
 
 static int planted(void)
@@ -48,84 +54,108 @@ static int pads_of(const uint8_t *image, size_t len)
     return pads;
 }
 
-uint32_t planted_normalise(const uint8_t *input, size_t len, uint8_t *buffer, size_t buffer_len, fv_fault *fault)
+fv_result planted_volume_normalise(const void *volume, size_t size, void *buffer, size_t buffer_size, fv_fault *fault)
 {
-    uint32_t result = fv_normalise(input, len, buffer, buffer_len, fault);
+    fv_result result = fv_volume_normalise(volume, size, buffer, buffer_size, fault);
+    uint8_t *image = buffer;
     int plant = planted();
-    if (plant == TWO_PADS && !result && pads_of(buffer, len) == 2) buffer[len - 1] ^= 1;
-    if (plant == DEEP_FAULT && result && result != FV_BUFFER_TOO_SMALL && fault->depth == 3) fault->offset++;
-    if (plant == WRITE_ON_TWINS && result == FV_DUPLICATE_NAME && buffer_len > 200) buffer[199] = 0;
+    if (plant == TWO_PADS && !result && pads_of(image, size) == 2) image[size - 1] ^= 1;
+    if (plant == DEEP_FAULT && result && result < FV_BUFFER_TOO_SMALL && fault && fault->depth == 3) fault->offset++;
+    if (plant == WRITE_ON_TWINS && result == FV_FAULT_DUPLICATE_NAME && buffer_size > 200) image[199] = 0;
     return result;
 }
 
-uint32_t planted_unfix(const uint8_t *input, size_t len, uint8_t *buffer, size_t buffer_len, fv_fault *fault)
+fv_result planted_volume_unfix(const void *volume, size_t size, void *buffer, size_t buffer_size, fv_fault *fault)
 {
-    uint32_t result = fv_unfix(input, len, buffer, buffer_len, fault);
+    fv_result result = fv_volume_unfix(volume, size, buffer, buffer_size, fault);
+    const uint8_t *input = volume;
+    uint8_t *copy = buffer;
     if (planted() != SECOND_MARK || result) return result;
     int changed = 0, kept = 2;
-    for (size_t i = 0; i < len; i++) changed += buffer[i] != input[i];
-    for (size_t i = len; changed > 2 && kept && i--;) {
-        kept -= buffer[i] != input[i];
-        buffer[i] = input[i];
+    for (size_t i = 0; i < size; i++) changed += copy[i] != input[i];
+    for (size_t i = size; changed > 2 && kept && i--;) {
+        kept -= copy[i] != input[i];
+        copy[i] = input[i];
     }
     return result;
 }
 
-uint32_t planted_scan(const uint8_t *bytes, size_t len, uint64_t *buffer, size_t buffer_count, uint64_t *count)
+fv_result planted_volume_compare(const void *first, size_t first_size, const void *second, size_t second_size,
+                                 char *text, size_t text_size, fv_comparison *found, fv_fault *fault)
 {
-    uint32_t result = fv_scan(bytes, len, buffer, buffer_count, count);
+    fv_result result = fv_volume_compare(first, first_size, second, second_size, text, text_size, found, fault);
+    if (planted() == NO_NUL && !result && strstr(text, " section ")) text[found->text_length] = '\n';
+    if (planted() == FIRST_INPUT && result == FV_FAULT_FILE_SUM && fault) fault->input = 0;
+    return result;
+}
+
+fv_result planted_image_scan(const void *image, size_t size, fv_header *rows, size_t room, size_t *count,
+                             fv_fault *fault)
+{
+    fv_result result = fv_image_scan(image, size, rows, room, count, fault);
+    if (planted() == THIRD_NAME && !result && *count > 2) memset(&rows[2].name, 0, sizeof rows[2].name);
     if (planted() != FOURTH_VOLUME || result == FV_OUT_OF_MEMORY || *count != 4) return result;
-    uint64_t all[4];
-    if (buffer_count == 3) {
-        result = fv_scan(bytes, len, all, 4, count);
-        memcpy(buffer, all, 3 * sizeof *all);
+    fv_header all[4];
+    if (room == 3) {
+        result = fv_image_scan(image, size, all, 4, count, fault);
+        memcpy(rows, all, 3 * sizeof *all);
     }
     *count = 3;
     return result;
 }
 
-uint32_t planted_check_image(const uint8_t *image, size_t len, fv_volume_check *buffer, size_t buffer_count,
-                             uint64_t *count, fv_fault *fault)
+fv_result planted_image_check(const void *image, size_t size, fv_volume_check *rows, size_t room, size_t *count,
+                              fv_fault *fault)
 {
-    uint32_t result = fv_check_image(image, len, buffer, buffer_count, count, fault);
-    if (planted() == UNMOVED_FAULT && !result && *count > 1 && buffer[1].fault.number)
-        buffer[1].fault.offset -= buffer[1].offset;
+    fv_result result = fv_image_check(image, size, rows, room, count, fault);
+    if (planted() == UNMOVED_FAULT && !result && *count > 1 && rows[1].fault.result)
+        rows[1].fault.offset -= rows[1].offset;
     return result;
 }
 
-uint32_t planted_tree(const uint8_t *input, size_t len, fv_node *buffer, size_t buffer_count, uint64_t *count,
-                      fv_fault *fault)
+fv_result planted_volume_tree(const void *volume, size_t size, fv_node *rows, size_t room, size_t *count,
+                              fv_fault *fault)
 {
-    uint32_t result = fv_tree(input, len, buffer, buffer_count, count, fault);
-    for (uint64_t i = 0; planted() == UNMOVED_FILE && !result && i < *count; i++)
-        if (buffer[i].what == FV_NODE_FILE) buffer[i].offset -= buffer[buffer[i].parent].offset;
+    fv_result result = fv_volume_tree(volume, size, rows, room, count, fault);
+    const uint8_t *bytes = volume;
+    static const fv_guid no_name;
+    for (size_t i = 0; !result && i < *count; i++) {
+        fv_node *row = rows + i;
+        if (planted() == UNMOVED_FILE && row->kind == FV_NODE_FILE) row->offset -= rows[row->parent].offset;
+        bool is_nested = i && row->kind == FV_NODE_VOLUME;
+        if (planted() == SYSTEM_NAME && is_nested && !memcmp(&row->guid, &no_name, sizeof no_name))
+            memcpy(&row->guid, bytes + row->offset + FILE_SYSTEM, sizeof row->guid);
+    }
     return result;
 }
 
-uint32_t planted_list_sums(const uint8_t *input, size_t len, fv_sha256 *buffer, size_t buffer_count, uint64_t *count,
-                           fv_fault *fault)
+fv_result planted_volume_tree_digests(const void *volume, size_t size, fv_sha256 *rows, size_t room, size_t *count,
+                                      fv_fault *fault)
 {
-    uint32_t result = fv_list_sums(input, len, buffer, buffer_count, count, fault);
+    fv_result result = fv_volume_tree_digests(volume, size, rows, room, count, fault);
     int plant = planted();
-    if (plant == SIXTH_SUM && !result && *count == 6 && buffer[5].bytes[0]) buffer[5].bytes[31] ^= 1;
-    if (plant == SUM_ON_FAULT && result && result < FV_OUT_OF_MEMORY && buffer_count) buffer[0].bytes[0] ^= 1;
-    if (plant == SUM_BEHIND && !result && buffer_count > *count) buffer[*count].bytes[0] ^= 1;
+    if (plant == SIXTH_DIGEST && !result && *count == 6 && rows[5].bytes[0]) rows[5].bytes[31] ^= 1;
+    if (plant == DIGEST_ON_FAULT && result && result < FV_OUT_OF_MEMORY && room) rows[0].bytes[0] ^= 1;
+    if (plant == DIGEST_BEHIND && !result && room > *count) rows[*count].bytes[0] ^= 1;
     return result;
 }
 
-uint32_t planted_extract(const uint8_t *input, size_t len, uint64_t file, uint64_t section, uint8_t *buffer,
-                         size_t buffer_len, uint64_t *part_len, fv_fault *fault)
+fv_result planted_volume_extract(const void *volume, size_t size, size_t row, void *buffer, size_t buffer_size,
+                                 size_t *length, fv_fault *fault)
 {
-    uint32_t result = fv_extract(input, len, file, section, buffer, buffer_len, part_len, fault);
-    if (planted() == SHORT_VOLUME && !result && section < 100 && *part_len > 60 && !memcmp(buffer + 40, "_FVH", 4))
-        buffer[*part_len - 1] ^= 0x10;
+    fv_result result = fv_volume_extract(volume, size, row, buffer, buffer_size, length, fault);
+    uint8_t *part = buffer;
+    if (planted() == SHORT_VOLUME && !result && row && *length > 60 && !memcmp(part + SIGNATURE, "_FVH", 4))
+        part[*length - 1] ^= 0x10;
+    if (planted() == FIFTH_PART && !result && row == 5 && *length) part[*length - 1] ^= 1;
     return result;
 }
 
-uint32_t planted_depex(const uint8_t *bytes, size_t len, uint32_t phase, const fv_guid *installed,
-                       size_t installed_count, uint32_t *value, fv_fault *fault)
+fv_result planted_depex_evaluate(const void *expression, size_t size, uint32_t phase, const fv_guid *installed,
+                                 size_t installed_count, uint32_t *value, fv_fault *fault)
 {
-    uint32_t result = fv_depex(bytes, len, phase, installed, installed_count, value, fault);
-    if (planted() == NO_NOT && !result && *value < 2 && len > 3 && bytes[1] == 7 && bytes[2] == 5) *value ^= 1;
+    fv_result result = fv_depex_evaluate(expression, size, phase, installed, installed_count, value, fault);
+    const uint8_t *ops = expression;
+    if (planted() == NO_NOT && !result && *value < 2 && size > 3 && ops[1] == 7 && ops[2] == 5) *value ^= 1;
     return result;
 }

@@ -1,31 +1,35 @@
-/* Twelve faults that are put into calls of the library, to see that they are found. The number of the one that is there
- * is in the environment, as PLANT=1. In the program that looks for true findings there is none of this. */
+/* Faults that are put into calls of the library, to see that they are found. The number of the one that is there is in
+ * the environment, as PLANT=1. In the program that looks for true findings there is none of this. */
 #ifndef PLANT_H
 #define PLANT_H
 
 #include <fv.h>
 
-uint32_t planted_normalise(const uint8_t *input, size_t len, uint8_t *buffer, size_t buffer_len, fv_fault *fault);
-uint32_t planted_unfix(const uint8_t *input, size_t len, uint8_t *buffer, size_t buffer_len, fv_fault *fault);
-uint32_t planted_scan(const uint8_t *bytes, size_t len, uint64_t *buffer, size_t buffer_count, uint64_t *count);
-uint32_t planted_check_image(const uint8_t *image, size_t len, fv_volume_check *buffer, size_t buffer_count,
-                             uint64_t *count, fv_fault *fault);
-uint32_t planted_tree(const uint8_t *input, size_t len, fv_node *buffer, size_t buffer_count, uint64_t *count,
-                      fv_fault *fault);
-uint32_t planted_list_sums(const uint8_t *input, size_t len, fv_sha256 *buffer, size_t buffer_count, uint64_t *count,
-                           fv_fault *fault);
-uint32_t planted_extract(const uint8_t *input, size_t len, uint64_t file, uint64_t section, uint8_t *buffer,
-                         size_t buffer_len, uint64_t *part_len, fv_fault *fault);
-uint32_t planted_depex(const uint8_t *bytes, size_t len, uint32_t phase, const fv_guid *installed,
-                       size_t installed_count, uint32_t *value, fv_fault *fault);
+fv_result planted_image_scan(const void *image, size_t size, fv_header *rows, size_t room, size_t *count,
+                             fv_fault *fault);
+fv_result planted_image_check(const void *image, size_t size, fv_volume_check *rows, size_t room, size_t *count,
+                              fv_fault *fault);
+fv_result planted_volume_normalise(const void *volume, size_t size, void *buffer, size_t buffer_size, fv_fault *fault);
+fv_result planted_volume_unfix(const void *volume, size_t size, void *buffer, size_t buffer_size, fv_fault *fault);
+fv_result planted_volume_compare(const void *first, size_t first_size, const void *second, size_t second_size,
+                                 char *text, size_t text_size, fv_comparison *found, fv_fault *fault);
+fv_result planted_volume_tree(const void *volume, size_t size, fv_node *rows, size_t room, size_t *count,
+                              fv_fault *fault);
+fv_result planted_volume_tree_digests(const void *volume, size_t size, fv_sha256 *rows, size_t room, size_t *count,
+                                      fv_fault *fault);
+fv_result planted_volume_extract(const void *volume, size_t size, size_t row, void *buffer, size_t buffer_size,
+                                 size_t *length, fv_fault *fault);
+fv_result planted_depex_evaluate(const void *expression, size_t size, uint32_t phase, const fv_guid *installed,
+                                 size_t installed_count, uint32_t *value, fv_fault *fault);
 
-#define fv_normalise planted_normalise
-#define fv_unfix planted_unfix
-#define fv_scan planted_scan
-#define fv_check_image planted_check_image
-#define fv_tree planted_tree
-#define fv_list_sums planted_list_sums
-#define fv_extract planted_extract
-#define fv_depex planted_depex
+#define fv_image_scan planted_image_scan
+#define fv_image_check planted_image_check
+#define fv_volume_normalise planted_volume_normalise
+#define fv_volume_unfix planted_volume_unfix
+#define fv_volume_compare planted_volume_compare
+#define fv_volume_tree planted_volume_tree
+#define fv_volume_tree_digests planted_volume_tree_digests
+#define fv_volume_extract planted_volume_extract
+#define fv_depex_evaluate planted_depex_evaluate
 
 #endif

@@ -3,7 +3,7 @@
 #include "heap.h"
 #include <stdarg.h>
 
-const fv_fault unset_fault = {UINT64_C(0x1122334455667788), 0x99aabbcc, 0xddeeff00};
+const fv_fault unset_fault = {UINT64_C(0x1122334455667788), 0x99aabbcc, 0xddeeff00, 0x12345678, 0x9abcdef0};
 
 _Noreturn void finding(const char *function, int line, const char *text, ...)
 {
@@ -18,36 +18,36 @@ _Noreturn void finding(const char *function, int line, const char *text, ...)
 
 bool is_no_fault(const fv_fault *fault)
 {
-    return !fault->offset && !fault->number && !fault->depth;
+    return !fault->offset && !fault->result && !fault->depth && !fault->input && !fault->reserved;
 }
 
 bool is_same_fault(const fv_fault *a, const fv_fault *b)
 {
-    return a->offset == b->offset && a->number == b->number && a->depth == b->depth;
+    return !memcmp(a, b, sizeof *a);
 }
 
-void check_result(const char *call, uint32_t result, const fv_fault *fault, uint32_t most, size_t len)
+void check_result(const char *call, fv_result result, const fv_fault *fault, fv_result most, size_t len)
 {
     CHECK(result <= most, "%s: result %u", call, result);
-    CHECK(fv_fault_text(result)[0], "%s: result %u has no text", call, result);
-    if (result == FV_DONE) {
-        CHECK(is_no_fault(fault), "%s: no fault, and fault %u at %lu", call, fault->number, fault->offset);
+    CHECK(fv_result_text(result)[0], "%s: result %u has no text", call, result);
+    if (result == FV_OK) {
+        CHECK(is_no_fault(fault), "%s: no fault, and fault %u at %lu", call, fault->result, fault->offset);
         return;
     }
-    CHECK(fault->number == result && fault->depth <= 8 && fault->offset <= len,
-          "%s: result %u, and fault %u at %lu of %zu, depth %u", call, result, fault->number, fault->offset, len,
+    CHECK(fault->result == result && fault->depth <= 8 && fault->offset <= len && fault->input <= 1 && !fault->reserved,
+          "%s: result %u, and fault %u at %lu of %zu, depth %u", call, result, fault->result, fault->offset, len,
           fault->depth);
 }
 
-void check_plain(const char *call, uint32_t result, uint32_t wanted, const fv_fault *fault)
+void check_plain(const char *call, fv_result result, fv_result wanted, const fv_fault *fault)
 {
     CHECK(result == wanted, "%s: result %u, not %u", call, result, wanted);
-    CHECK(is_no_fault(fault), "%s: result %u, and fault %u at %lu", call, result, fault->number, fault->offset);
+    CHECK(is_no_fault(fault), "%s: result %u, and fault %u at %lu", call, result, fault->result, fault->offset);
 }
 
-void check_short(const char *call, uint32_t result, const fv_fault *fault, uint32_t otherwise, const fv_fault *usual)
+void check_short(const char *call, fv_result result, const fv_fault *fault, fv_result otherwise, const fv_fault *usual)
 {
-    if (otherwise == FV_DONE) {
+    if (otherwise == FV_OK) {
         check_plain(call, result, FV_BUFFER_TOO_SMALL, fault);
         return;
     }
@@ -55,7 +55,7 @@ void check_short(const char *call, uint32_t result, const fv_fault *fault, uint3
           result, fault->offset, otherwise, usual->offset);
 }
 
-void check_refusal(const char *call, uint32_t result, uint32_t otherwise, uint32_t memory, const fv_fault *fault)
+void check_refusal(const char *call, fv_result result, fv_result otherwise, const fv_fault *fault)
 {
     bool was_refused = end_refusal();
     check_no_block_is_kept(call);
@@ -63,7 +63,15 @@ void check_refusal(const char *call, uint32_t result, uint32_t otherwise, uint32
         CHECK(result == otherwise, "%s: result %u, and before %u", call, result, otherwise);
         return;
     }
-    CHECK(result == memory, "%s: result %u where an allocation was refused, not %u", call, result, memory);
-    CHECK(!fault || (fault->number == memory && !fault->offset && !fault->depth),
-          "%s: result %u, and fault %u at %lu, depth %u", call, result, fault->number, fault->offset, fault->depth);
+    CHECK(result == FV_OUT_OF_MEMORY, "%s: result %u where an allocation was refused", call, result);
+    if (!fault) return;
+    CHECK(fault->result == FV_OUT_OF_MEMORY && !fault->offset && !fault->depth && !fault->input && !fault->reserved,
+          "%s: result %u, and fault %u at %lu, depth %u", call, result, fault->result, fault->offset, fault->depth);
+}
+
+void check_bad_argument(const char *call, fv_result result, const fv_fault *fault)
+{
+    CHECK(result == FV_BAD_ARGUMENT, "%s: result %u with a bad argument", call, result);
+    CHECK(is_same_fault(fault, &unset_fault), "%s has written a fault after a bad argument", call);
+    CHECK(fv_result_text(result)[0], "%s: result %u has no text", call, result);
 }

@@ -15,17 +15,20 @@ bool is_same_fault(const fv_fault *a, const fv_fault *b);
 
 /* The result is 0 without a fault, or a fault from 1 to `most` that is in `fault`, in an input of `len` bytes. Memory
  * has not run out, since nothing is refused. */
-void check_result(const char *call, uint32_t result, const fv_fault *fault, uint32_t most, size_t len);
+void check_result(const char *call, fv_result result, const fv_fault *fault, fv_result most, size_t len);
 
 /* The result is the one that is wanted, without a fault. */
-void check_plain(const char *call, uint32_t result, uint32_t wanted, const fv_fault *fault);
+void check_plain(const char *call, fv_result result, fv_result wanted, const fv_fault *fault);
 
 /* The result of a call with a buffer that is too short, of an input for which it otherwise has this result and fault.
  */
-void check_short(const char *call, uint32_t result, const fv_fault *fault, uint32_t otherwise, const fv_fault *usual);
+void check_short(const char *call, fv_result result, const fv_fault *fault, fv_result otherwise, const fv_fault *usual);
 
-/* Ends what refuse_allocation began. A call has returned `result`, and without that it returns `otherwise`. `memory` is
- * its result if memory runs out. `fault` may be NULL. */
-void check_refusal(const char *call, uint32_t result, uint32_t otherwise, uint32_t memory, const fv_fault *fault);
+/* Ends what refuse_allocation began. A call has returned `result`, and without that it returns `otherwise`. `fault` may
+ * be NULL. */
+void check_refusal(const char *call, fv_result result, fv_result otherwise, const fv_fault *fault);
+
+/* The result of a call with an argument that is not allowed. It has not written its fault, which was unset. */
+void check_bad_argument(const char *call, fv_result result, const fv_fault *fault);
 
 #endif

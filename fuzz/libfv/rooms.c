@@ -8,6 +8,7 @@
 #define BEFORE 64u /* how many bytes before a buffer are looked at */
 
 static uint8_t *input, *output;
+static bool is_null;
 
 static uint8_t *open_room(void)
 {
@@ -24,6 +25,7 @@ void open_rooms(void)
 
 uint8_t *input_room(size_t len, bool at_start)
 {
+    is_null = true;
     return at_start ? input : input + MOST_BUFFER - len;
 }
 
@@ -39,6 +41,13 @@ uint8_t *new_buffer(size_t len, size_t alignment)
     size_t before = looked_at_before(buffer);
     memset(buffer - before, UNTOUCHED, before + (size_t)(output + MOST_BUFFER - buffer));
     return buffer;
+}
+
+void *no_buffer(void)
+{
+    uint8_t *buffer = new_buffer(0, 8);
+    is_null = !is_null;
+    return is_null ? NULL : buffer;
 }
 
 static bool is_untouched(const uint8_t *from, const uint8_t *to)

@@ -16,6 +16,9 @@ uint8_t *input_room(size_t len, bool at_start);
  * is one at a time. */
 uint8_t *new_buffer(size_t len, size_t alignment);
 
+/* A buffer of no bytes, which is NULL now and then: the second time for an input, the fourth time, and so on. */
+void *no_buffer(void);
+
 /* A finding, if a byte in the buffer or beside it was written. */
 void check_untouched(const uint8_t *buffer, const char *call);
 

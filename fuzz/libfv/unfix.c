@@ -1,6 +1,6 @@
-/* What holds of fv_unfix: as many bytes are written as the input has; no file is fixed in them; they differ from the
- * input in the two bytes of each mark, and nowhere else; without marks they stay as they are. The fault is that of the
- * header or of the cells, but never that a file is fixed. */
+/* What holds of fv_volume_unfix: as many bytes are written as the input has; no file is fixed in them; they differ from
+ * the input in the two bytes of each mark, and nowhere else; without marks they stay as they are. The fault is that of
+ * the header or of the cells, but never that a file is fixed. */
 #include "coverage.h"
 #include "heap.h"
 #include "results.h"
@@ -18,15 +18,16 @@ static void check_marks(const struct volume *v)
 {
     static fv_cell cells[MOST_ROWS];
     static uint8_t expected[MOST_BUFFER];
-    uint64_t count = 7, marks = 0;
+    size_t count = 7;
+    uint64_t marks = 0;
     fv_fault fault = unset_fault;
-    uint32_t result = fv_cells(unfixed, v->len, cells, MOST_ROWS, &count, &fault);
+    fv_result result = fv_volume_cells(unfixed, v->len, cells, MOST_ROWS, &count, &fault);
     if (result == FV_BUFFER_TOO_SMALL) return;
-    check_plain("cells", result, FV_DONE, &fault);
+    check_plain("cells", result, FV_OK, &fault);
     memcpy(expected, v->bytes, v->len);
     for (uint64_t i = 0; i < count; i++) {
         uint8_t *header = expected + cells[i].offset;
-        if (cells[i].what != FV_CELL_FILE) continue;
+        if (cells[i].kind != FV_CELL_FILE) continue;
         CHECK(!(cells[i].attributes & FIXED), "unfix: the file at %lu is fixed", cells[i].offset);
         if (!(header[ATTRIBUTES] & FIXED)) continue;
         header[HEADER_SUM] = (uint8_t)(header[HEADER_SUM] + FIXED);
@@ -40,14 +41,14 @@ static void check_marks(const struct volume *v)
 /* The other calls read what is written, as they read the input if no file is fixed in it. */
 static void check_others(const struct volume *v)
 {
-    fv_extent extent;
+    fv_header header;
     fv_fault fault = unset_fault;
-    CHECK(fv_verify(unfixed, v->len, &extent, &fault) == FV_DONE && !memcmp(&extent, &v->extent, sizeof extent),
-          "unfix: another extent");
+    CHECK(fv_header_read(unfixed, v->len, &header, &fault) == FV_OK && !memcmp(&header, &v->header, sizeof header),
+          "unfix: another header");
     static uint8_t image[MOST_BUFFER];
-    uint32_t result = fv_normalise(unfixed, v->len, image, v->len, &fault);
-    CHECK(result != FV_FIXED || fault.depth, "unfix: normalise finds the file at %lu fixed", fault.offset);
-    if (v->result != FV_FIXED || v->fault.depth) {
+    fv_result result = fv_volume_normalise(unfixed, v->len, image, v->len, &fault);
+    CHECK(result != FV_FAULT_FIXED || fault.depth, "unfix: normalise finds the file at %lu fixed", fault.offset);
+    if (v->result != FV_FAULT_FIXED || v->fault.depth) {
         CHECK(!memcmp(unfixed, v->bytes, v->len), "unfix: a byte of a volume without fixed files");
         CHECK(result == v->result && is_same_fault(&fault, &v->fault), "unfix: normalise is %u, not %u", result,
               v->result);
@@ -55,11 +56,11 @@ static void check_others(const struct volume *v)
 }
 
 /* A call with a buffer of this many bytes. */
-static void try_room(const struct volume *v, size_t room, uint32_t otherwise, const fv_fault *usual)
+static void try_room(const struct volume *v, size_t room, fv_result otherwise, const fv_fault *usual)
 {
     uint8_t *buffer = new_buffer(room, 1);
     fv_fault fault = unset_fault;
-    uint32_t result = fv_unfix(v->bytes, v->len, buffer, room, &fault);
+    fv_result result = fv_volume_unfix(v->bytes, v->len, room ? buffer : no_buffer(), room, &fault);
     check_no_block_is_kept("unfix");
     if (room < v->len) {
         check_short("unfix", result, &fault, otherwise, usual);
@@ -74,28 +75,38 @@ static void try_room(const struct volume *v, size_t room, uint32_t otherwise, co
     CHECK(!memcmp(buffer, unfixed, v->len), "unfix: two results");
 }
 
+/* The input is no buffer: it is not written to, which main.c sees. */
+static void try_in_place(const struct volume *v)
+{
+    if (!v->len) return;
+    fv_fault fault = unset_fault;
+    fv_result result = fv_volume_unfix(v->bytes, v->len, (uint8_t *)v->bytes, v->len, &fault);
+    check_bad_argument("unfix", result, &fault);
+}
+
 /* Twice is once. */
 static void check_twice(const struct volume *v)
 {
     uint8_t *buffer = new_buffer(v->len, 1);
     fv_fault fault = unset_fault;
-    check_plain("unfix", fv_unfix(unfixed, v->len, buffer, v->len, &fault), FV_DONE, &fault);
+    check_plain("unfix", fv_volume_unfix(unfixed, v->len, buffer, v->len, &fault), FV_OK, &fault);
     CHECK(!memcmp(buffer, unfixed, v->len), "unfix: twice is another");
 }
 
-static void check_fault(const struct volume *v, uint32_t result, const fv_fault *fault)
+static void check_fault(const struct volume *v, fv_result result, const fv_fault *fault)
 {
-    uint64_t count;
+    size_t count;
     fv_fault of_cells = unset_fault;
-    uint32_t cells = fv_cells(v->bytes, v->len, (fv_cell *)(void *)new_buffer(0, 8), 0, &count, &of_cells);
-    CHECK(result != FV_FIXED && !fault->depth, "unfix: fault %u at %lu, depth %u", result, fault->offset, fault->depth);
-    if (cells == FV_DONE || cells == FV_BUFFER_TOO_SMALL) /* bytes follow the volume */
-        CHECK(result == FV_LENGTH && fault->offset == v->extent.length && v->extent.length < v->len,
+    fv_result cells = fv_volume_cells(v->bytes, v->len, no_buffer(), 0, &count, &of_cells);
+    CHECK(result != FV_FAULT_FIXED && !fault->depth, "unfix: fault %u at %lu, depth %u", result, fault->offset,
+          fault->depth);
+    if (cells == FV_OK || cells == FV_BUFFER_TOO_SMALL) /* bytes follow the volume */
+        CHECK(result == FV_FAULT_LENGTH && fault->offset == v->header.length && v->header.length < v->len,
               "unfix: fault %u at %lu, and the cells have none", result, fault->offset);
-    else if (cells != FV_FIXED)
+    else if (cells != FV_FAULT_FIXED)
         CHECK(result == cells && is_same_fault(fault, &of_cells), "unfix: %u, cells: %u", result, cells);
     else
-        CHECK(result == FV_LENGTH || fault->offset + 2 >= of_cells.offset,
+        CHECK(result == FV_FAULT_LENGTH || fault->offset + 2 >= of_cells.offset,
               "unfix: %u at %lu, before the fixed file at %lu", result, fault->offset, of_cells.offset);
 }
 
@@ -105,10 +116,10 @@ void try_unfix(const struct volume *v)
     fv_fault fault = unset_fault;
     /* no memory is asked for */
     refuse_allocation(0);
-    uint32_t result = fv_unfix(v->bytes, v->len, buffer, v->len, &fault);
+    fv_result result = fv_volume_unfix(v->bytes, v->len, buffer, v->len, &fault);
     CHECK(!end_refusal(), "unfix has asked for memory");
     check_no_block_is_kept("unfix");
-    check_result("unfix", result, &fault, FV_FREE_SPACE, v->len);
+    check_result("unfix", result, &fault, FV_FAULT_FREE_SPACE, v->len);
     saw(SEEN_UNFIX, 10, result, fault.offset & 7);
     if (result) {
         check_untouched(buffer, "unfix");
@@ -123,4 +134,5 @@ void try_unfix(const struct volume *v)
     try_room(v, v->len + 1 + v->parameters[FILE_CHOICE] % 9, result, &fault);
     if (v->len) try_room(v, v->len - 1, result, &fault);
     try_room(v, 0, result, &fault);
+    try_in_place(v);
 }

@@ -13,28 +13,26 @@ struct volume {
     const uint8_t *bytes;
     size_t len;
     const uint8_t *parameters;
-    uint32_t verified; /* what fv_verify returns, and its fault */
-    fv_fault verify_fault;
-    fv_extent extent;
-    uint32_t result; /* what fv_normalise returns, and its fault */
+    fv_result header_result; /* what fv_header_read returns, and its fault */
+    fv_fault header_fault;
+    fv_header header;
+    fv_result result; /* what fv_volume_normalise returns, and its fault */
     fv_fault fault;
-    uint32_t unread;      /* the result of a call that needs no image: 0, or the fault */
+    fv_result unread;     /* the result of a call that needs no image: 0, or the fault */
     const uint8_t *image; /* the image, if it has one */
     fv_sha256 digest;     /* of the image */
     const fv_cell *cells;
-    uint64_t cell_count;
-    const fv_file *files;
-    uint64_t file_count;
-    uint64_t node_count; /* the number of rows of its tree */
+    size_t cell_count;
+    const fv_node *nodes;       /* the rows of its tree, if they were read */
+    const fv_node *image_nodes; /* those of its image, likewise */
+    size_t node_count;          /* the number of both */
 };
 
 /* Each compares a call with what is known of the volume, and adds to that. */
 void try_cells(struct volume *volume);
-void try_files(struct volume *volume);
-void try_sections(const struct volume *volume, uint64_t file);
-void try_parts(const struct volume *volume, uint64_t file, const fv_section *sections, uint64_t count);
 void try_tree(struct volume *volume);
-void try_sums(const struct volume *volume);
+void try_parts(const struct volume *volume);
+void try_digests(const struct volume *volume);
 void try_unfix(const struct volume *volume);
 
 #endif

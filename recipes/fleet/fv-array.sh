@@ -2,8 +2,8 @@
 # The task of a Slurm array: `sbatch --array=0-N fv-array.sh LIST FOLDER SIZE` checks the images of LIST, SIZE in each
 # task. A task writes its answers to another file and renames it to FOLDER/ID.tsv, so that file is always complete. A
 # task whose node is lost is put back in the queue (--requeue). A task whose file exists ends at once, so the same
-# command does the remaining tasks. Exit status 0: the file exists. 1: an answer could not be had (fv-check-some), or
-# there is no task or no LIST. 3: the arguments are wrong.
+# command does the remaining tasks. Exit status 0: the file exists. 1: there is no task or no LIST. 3: the arguments are
+# wrong. 4: fv-check has failed.
 #SBATCH --requeue
 #SBATCH --job-name=fvcheck
 set -euo pipefail
@@ -16,5 +16,5 @@ file=$folder/$task.tsv
 part=$file.part.${SLURMD_NODENAME:-}.$$
 if [[ -e $file ]]; then exit 0; fi
 mapfile -t images < <(tail -n "+$((task * size + 1))" "$list" | head -n "$size")
-fv-check-some "${images[@]}" > "$part"
+fv-check -- "${images[@]}" > "$part"
 mv "$part" "$file"

@@ -1,75 +1,84 @@
 """The calls of libfv, for Python programs that read, check, compare or rebuild UEFI firmware volumes.
 
     import fv
-    fv.verify(data)             the extent of the volume with which the data begin
-    fv.scan(data)               the offsets of the volumes in the data
-    fv.normalise(data)          the canonical image of a volume
-    fv.normalise_image(data)    a flash image with each volume in it replaced by its canonical image
-    fv.unfixed(data)            a copy of a volume in which no file is marked as fixed
-    fv.is_canonical(data)       whether a volume is its own canonical image
-    fv.check_image(data)        whether each volume of a flash image is its own canonical image, or its fault
-    fv.digest(data)             the SHA-256 digest of the canonical image of a volume
-    fv.compare(a, b)            "same", or where the meanings of two volumes first differ
-    fv.cells(data)              the files, pads, deleted files and free bytes of a volume, and where they are
-    fv.files(data)              the files of a volume
-    fv.sections(data, number)   the sections of a file
-    fv.tree(data)               a volume, its files, their sections, and the same for each volume in a section
-    fv.list_sums(data)          the SHA-256 digest for each row of the tree
-    fv.extract(data, number)    the data of a file; with a third argument the body of that section
-    fv.depex(data, phase, ..)   the truth value of a dependency expression
-    fv.hobs(data)               the blocks of a hand-off list
+    fv.header_read(data)            the header of the volume with which the data begin
+    fv.image_scan(image)            the headers of the volumes in a flash image
+    fv.image_check(image)           whether each volume of a flash image is its own canonical image, or its fault
+    fv.image_normalise(image)       a flash image with each volume in it replaced by its canonical image
+    fv.volume_is_canonical(volume)  whether a volume is its own canonical image
+    fv.volume_normalise(volume)     the canonical image of a volume
+    fv.volume_unfix(volume)         a copy of a volume in which no file is marked as fixed
+    fv.volume_digest(volume)        the SHA-256 digest of the canonical image of a volume
+    fv.volume_compare(a, b)         None if two volumes mean the same, otherwise where they first differ
+    fv.volume_cells(data)           the files, pads, deleted files and free bytes of a volume, and where they are
+    fv.volume_tree(volume)          a volume, its files, their sections, and the same for each volume in a section
+    fv.volume_tree_digests(volume)  the SHA-256 digest for each row of the tree
+    fv.volume_extract(volume, row)  the bytes of the part in that row of the tree
+    fv.depex_evaluate(data, phase)  the truth value of a dependency expression
+    fv.hobs_read(data)              the blocks of a hand-off list
+    fv.result_text(code)            a sentence that explains a fault
+    fv.version()                    the version of the library
 
-The data may be any object with the buffer protocol: bytes, bytearray, memoryview, mmap. A bytes object is read in
-place. Any other buffer is copied first, since something else may write to it during the call: another Python thread, or
-a process that has mapped the same file. With in_place=True a writable buffer is not copied. (A read-only buffer still
-is.) Pass in_place=True only if nothing writes to the buffer until the call returns, since the process can crash
-otherwise.
+The names are those of the calls in fv.h, without `fv_`. An `image` may be any bytes, and a `volume` must be exactly one
+volume. `data` begin with what is read, and the bytes after it are ignored.
 
-The returned values are immutable. Cells, files, sections, nodes, sums, checks, blocks and offsets come in Rows, a
-sequence that makes each of them when you access it.
+An input may be any object with the buffer protocol: bytes, bytearray, memoryview, mmap. A bytes object is read in
+place, and so is a memoryview of one. Any other buffer is copied first, since something else may write to it during the
+call: another Python thread, or a process that has mapped the same file. With copy=False it is read in place too, also
+if it is read-only. Pass copy=False only if nothing writes to the buffer until the call returns, since the process can
+crash otherwise.
 
-A rejected input raises Fault. Running out of memory raises MemoryError. The number of a file or section that does not
-exist raises IndexError. The environment variable LIBFV names the shared object, if another one is to be used.
+Any number of threads may call at once. A process that has threads must not call the library in a child that it has
+forked: let multiprocessing use spawn or forkserver.
+
+The returned values are immutable. Headers, checks, cells, nodes, digests and blocks come in a sequence that makes each
+of them when you access it. A field that a part does not have is None.
+
+A rejected input raises FaultError, a ValueError whose `fault` is the reason. Running out of memory raises MemoryError.
+The number of a row that does not exist raises IndexError. The first call raises ImportError if the library is missing,
+or if its major version is not 2. The environment variable LIBFV names the shared object, if another one is to be used.
 `python3 -m fv` lists the contents of an image.
+
+The other modules are not proved. Each has a docstring:
+
+    fv.images    the contents of an image at every level, including compressed sections: fv.images.read(data)
+    fv.opened    how sections are opened, and fv.limits: how much of an image is opened
+    fv.names     the names of types and GUIDs
+    fv.cli       what the commands share
+    fv.same, fv.unpack, fv.map, fv.sbom, fv.check, fv.text, fv.diff    the commands fv-same and so on
 """
 
 from __future__ import annotations
 
 from ._calls import (
-    DXE,
-    PEI,
-    cells,
-    check_image,
-    compare,
-    depex,
-    digest,
-    extract,
-    files,
-    hobs,
-    is_canonical,
-    list_sums,
-    normalise,
-    normalise_image,
-    scan,
-    sections,
-    tree,
-    unfixed,
-    verify,
+    depex_evaluate,
+    header_read,
+    hobs_read,
+    image_check,
+    image_normalise,
+    image_scan,
+    version,
+    version_number,
+    volume_cells,
+    volume_compare,
+    volume_digest,
+    volume_extract,
+    volume_is_canonical,
+    volume_normalise,
+    volume_tree,
+    volume_tree_digests,
+    volume_unfix,
 )
-from ._library import BUFFER_TOO_SMALL, NOT_FOUND, OUT_OF_MEMORY, fault_text
-from ._types import Cell, Extent, Fault, File, Hob, Holds, Node, NodeWhat, Rows, Section, VolumeCheck, What
+from ._errors import Error, Fault, FaultCode, FaultError
+from ._library import result_text
+from ._native import LENGTH_MAX
+from ._types import Cell, CellKind, Content, Header, Hob, HobList, Node, NodeKind, Phase, VolumeCheck
 
-__version__ = "1.0.0"
+__version__ = "2.0.0.dev0"
 __all__ = [
-    "BUFFER_TOO_SMALL", "BYTES", "DELETED", "DXE", "FILE", "FILES", "FREE", "NODE_FILE", "NODE_SECTION", "NODE_VOLUME",
-    "NOT_FOUND", "NO_PARENT", "OUT_OF_MEMORY", "PAD", "PEI", "SECTIONS", "UNFINISHED", "VOLUME", "Cell", "Extent",
-    "Fault", "File", "Hob", "Holds", "Node", "NodeWhat", "Rows", "Section", "VolumeCheck", "What", "cells",
-    "check_image", "compare", "depex", "digest", "extract", "fault_text", "files", "hobs", "is_canonical", "list_sums",
-    "normalise", "normalise_image", "scan", "sections", "tree", "unfixed", "verify",
+    "LENGTH_MAX", "Cell", "CellKind", "Content", "Error", "Fault", "FaultCode", "FaultError", "Header", "Hob",
+    "HobList", "Node", "NodeKind", "Phase", "VolumeCheck", "depex_evaluate", "header_read", "hobs_read", "image_check",
+    "image_normalise", "image_scan", "result_text", "version", "version_number", "volume_cells", "volume_compare",
+    "volume_digest", "volume_extract", "volume_is_canonical", "volume_normalise", "volume_tree", "volume_tree_digests",
+    "volume_unfix",
 ]  # fmt: skip
-
-FILE, PAD, DELETED, UNFINISHED, FREE = What.FILE, What.PAD, What.DELETED, What.UNFINISHED, What.FREE
-FILES, BYTES, SECTIONS, VOLUME = Holds.FILES, Holds.BYTES, Holds.SECTIONS, Holds.VOLUME
-NODE_VOLUME, NODE_FILE, NODE_SECTION = NodeWhat.VOLUME, NodeWhat.FILE, NodeWhat.SECTION
-# The parent of a section that is not in a group, and of the first row of a tree.
-NO_PARENT = None

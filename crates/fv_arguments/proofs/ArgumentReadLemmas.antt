@@ -1,5 +1,5 @@
--- What the reader of command lines says of the words of a command: the rows that it makes of them, and that it finds no fault in
--- them (read). Texts and flags are read of these rows (text_answer, flag_answer).
+-- The reader of command lines makes rows of the arguments of a command, and finds no fault in right ones (`read`).
+-- Texts and flags are read from these rows (`text_answer`, `flag_answer`).
 use Rattle.std.proofs.lemmas.Bool.Decides.{Decides-not}
 use Rattle.std.proofs.lemmas.Grind.{common_steps}
 use Rattle.std.proofs.lemmas.Slice.Eq.{bytes_eq-Decides}
@@ -19,16 +19,16 @@ use Rattle.fv_arguments.specs.Words.{compare_app, extract_app, faults_in, flag_i
 use Rattle.fv_arguments.specs.Words.{text_in, volume_app}
 use Rattle.fv_arguments.specs.inner.CommandWords.{IsRead, app_named}
 
--- two texts that differ
+-- the test for equal texts is false of two texts that differ
 differ : (a b : Text) → a ≢ b → bytes_eq a b ≡ false
 differ a b h = is_false _ ((Decides-not _ (bytes_eq-Decides a b)).1 h)
 
--- a name that is no other's has the options of a volume
+-- a name that is not the name of another command has the options of a volume
 pub no_other : (name : Text) → name ≢ codes "normalise" → name ≢ codes "check" → name ≢ codes "hobs" → name ≢ codes "extract" → name ≢ codes "compare"
     → name ≢ codes "list" → name ≢ codes "scan" → app_named name ≡ volume_app
 no_other name normalise check hobs extract compare list scan = grind (arith, common_steps, differ)
 
--- what holds of the options of each command
+-- a property of the options of each command is a property of the options for every name
 pub each_app : (P : App → Type 0) → P image_app → P hobs_app → P extract_app → P compare_app → P list_app → P one_input_app
     → P volume_app → (name : Text) → P (app_named name)
 each_app P image hobs extract compare list scan volume name =
@@ -47,24 +47,24 @@ each_app P image hobs extract compare list scan volume name =
     go false false false false false false true = scan
     go false false false false false false false = volume
 
--- none of them changes how words are read, or has a rule on another
+-- no option of a command changes how arguments are read, or has a rule about another option
 simple : (name : Text) → is_simple_and_free (app_named name) ≡ true
 simple name = each_app (λ a. is_simple_and_free a ≡ true) refl refl refl refl refl refl refl name
 
--- so what the reader says of the options that it was given, it says of the command's
+-- so a statement of the reader about the options that it was given is a statement about the options of the command
 pub by_name : (P : App → Type 0) (name : Text) (given : App) → given ≡ app_named name → (is_simple_and_free given ≡ true → P given)
     → P (app_named name)
 by_name P name given e h = subst P e (h (ap is_simple_and_free e ∙ simple name))
 
--- it takes the first word for the program's name
+-- the reader takes the first argument for the name of the program
 program_first : (name : Text) → (app_named name).top.no_binary_name ≡ false
 program_first name = each_app (λ a. a.top.no_binary_name ≡ false) refl refl refl refl refl refl refl name
 
--- its faults are those in the words after the first
+-- the faults of the reader are the faults in the arguments after the first
 pub faults_read : (name : Text) (words : List Text) → fault_of (app_named name) words ≡ faults_in (app_named name) (drop 1 words)
 faults_read name words = grind (arith, common_steps, program_first)
 
--- so the words were read
+-- so the matches are those of the arguments after the first
 pub read : {m : ArgMatches} (words : List Text) (name : Text) (given : App) → given ≡ app_named name → HasMatchesOf given words m
     → (is_simple_and_free given ≡ true → fault_of given words ≡ []) → IsRead (app_named name) (drop 1 words) m
 read {m} words name given e matches kinds =
@@ -75,12 +75,12 @@ read {m} words name given e matches kinds =
       taken = sym (faults_read name words) ∙ by_name (λ a. fault_of a words ≡ []) name given e kinds;
     }
 
--- a text, as it is read of the matches
+-- a text that is found in the matches is the text in the arguments
 pub text_answer : {app : App} {rest : List Text} {m : ArgMatches} → IsRead app rest m → (id : Text)
     → first_value (found_of m) id ≡ text_in app id rest
 text_answer {app} {rest} {m} r id = first_value-rows (found_of m) id ∙ ap (first_of id) r.rows
 
--- a text is read as a `bool`
+-- whether a text is `true`
 abbrev is_true : Option Text → Bool
 is_true text = option_map_or (λ t. bytes_eq t (codes "true")) text false
 
@@ -91,7 +91,7 @@ bool_read E (Some t) (Some true) none value = sym ((bytes_eq-Decides t (codes "t
 bool_read E (Some t) (Some false) none value = ap (λ u. bytes_eq u (codes "true")) (sym (value t refl))
 bool_read E (Some t) None none value = sym (differ t (codes "true") (value t refl).1.0)
 
--- a flag, as it is read of the matches
+-- a flag that is found in the matches is the flag in the arguments
 pub flag_answer : (E : Type 0) {app : App} {rest : List Text} {m : ArgMatches} → IsRead app rest m → (id : Text) (r : Option Bool)
     → (one_text (found_of m) id ≡ None → r ≡ None)
     → ((t : Text) → one_text (found_of m) id ≡ Some t → ReadsOne {E = E} ParsesBool t r) → unwrap_or r false ≡ flag_in app id rest

@@ -1,4 +1,4 @@
--- Numbers that texts spell.
+-- A text is read as a number exactly if it spells one.
 use Rattle.std.proofs.Common.{◌≡◌, ◌≢◌, ◌∙◌, ◌^◌, ◌<◌, ◌++◌, ℕ, List, Result, Ok, Err, ap, arith, codes, drop, inl, inr, subst, sym}
 use Rattle.std.specs.Char.{digit_value}
 use Rattle.std.specs.Str.Parse.{IsNumeral, digits_value}
@@ -6,7 +6,7 @@ use Rattle.fv_arguments.specs.Words.{IsNumberWord, IsNumeralOf, IsPlaceWord}
 use Rattle.fv_arguments.specs.declared.words.WordFault.{WordFault}
 use Rattle.fv_arguments.specs.inner.CommandWords.{Reads}
 
--- what `from_str` and `from_str_radix` say of digits
+-- digits spell a number exactly if `from_str` or `from_str_radix` reads them as this number
 pub spelled : (radix bits : ℕ) (digits : List ℕ) (n : ℕ) → (IsNumeral radix digits × (digits_value radix digits < 2 ^ bits))
     × (n ≡ digits_value radix digits) → IsNumeralOf radix bits digits n
 spelled radix bits digits n h = (h.0.0, h.1, rw h.1 h.0.1)
@@ -15,11 +15,11 @@ pub unspelled : (radix bits : ℕ) (digits : List ℕ) → (IsNumeral radix digi
     → (n : ℕ) → IsNumeralOf radix bits digits n → ⊥
 unspelled radix bits digits none n h = none (h.0, subst (λ (x : ℕ). x < 2 ^ bits) h.1 h.2)
 
--- a text that begins with `0x` is no decimal number
+-- a text that begins with `0x` is not a decimal number
 not_decimal : (digits : List ℕ) (n : ℕ) → IsNumberWord 64 (codes "0x" ++ digits) n → ⊥
 not_decimal digits n h = let second : digit_value 120 < 10 = h.0.1.1.0 in absurd (omega arith)
 
--- so the first characters say how a place is read
+-- so whether the text begins with `0x` decides how a place is read
 pub hexadecimal_place : (text digits : List ℕ) (r : Result ℕ WordFault) → text ≡ codes "0x" ++ digits
     → Reads (IsNumeralOf 16 64 digits) r → Reads (IsPlaceWord text) r
 hexadecimal_place text digits (Ok n) is h = inr (digits, is, h)

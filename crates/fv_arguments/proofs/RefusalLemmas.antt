@@ -1,6 +1,6 @@
--- Arguments that are rejected as wrong are not right. The reader finds a fault in them (refused). Or a text of theirs is not read,
--- and right arguments have one that is (no_input, right_part, right_image, right_volumes), or a byte is given with `--all`
--- (no_place).
+-- Arguments that are rejected as wrong are not right arguments. Either the reader finds a fault in them (`refused`); or
+-- a text in them cannot be read, although right arguments have one that can (`no_input`, `right_part`, `right_image`,
+-- `right_volumes`); or an offset is given together with `--all` (`no_place`).
 use Rattle.std.proofs.Common.{◌≡◌, ◌≢◌, ◌∙◌, ◌&&◌, ◌||◌, ℕ, Bool, List, [], ◌∷◌, IfErr, Result, Ok, Err, Option, Some, None, ap, codes, inl, inr}
 use Rattle.std.proofs.Common.{drop, not, refl, subst, sym, true, false, true≢false}
 use Rattle.std.proofs.lemmas.Result.{IfErr-weaker}
@@ -27,7 +27,7 @@ use Rattle.fv_arguments.specs.declared.words.WordFault.{WordFault}
 use Rattle.fv_arguments.specs.inner.CommandWords.{AreRightFor, AsksFor, IsRead, Reads, app_named}
 use Rattle.fv_arguments.specs.declared.words.WordFault.TheVariants.{Words, OutOfMemory}
 
--- the options that a command has are those of its name
+-- the options of a command are the options for its name
 named_app : (c : Command) → app_named (command_name c) ≡ command_app c
 named_app (Single Normalise at file) = refl
 named_app (Single NormaliseAll at file) = refl
@@ -49,7 +49,7 @@ pub read_of : {rest : List (List ℕ)} {m : ArgMatches} (name : List ℕ) (c : C
     → IsRead (app_named name) rest m → IsRead (command_app c) rest m
 read_of {rest} {m} name c is r = subst (λ a. IsRead a rest m) (same_app name c is) r
 
--- a fault of the reader, as it is passed on
+-- a fault of the reader is passed on: out of memory as such, any other as a fault of the arguments
 abbrev pub IsHandedOn : Error → WordFault → Type 0
 IsHandedOn e f = (kind_of e ≡ error_kinds.OutOfMemory → f ≡ OutOfMemory) × (kind_of e ≢ error_kinds.OutOfMemory → f ≡ Words)
 
@@ -63,7 +63,7 @@ handed_on (Err f) e ks h (inl memory) = λ is. absurd (differ (sym (h.0 memory) 
 handed_on (Err f) e [] h (inr among) = absurd among
 handed_on (Err f) e (k ∷ ks) h (inr among) = λ is none. cc
 
--- words in which the reader finds a fault
+-- arguments in which the reader finds a fault are not right
 pub refused : {T : Type 0} (name : List ℕ) (given : App) → given ≡ app_named name → (words : List (List ℕ)) (e : Error)
     → (is_simple_and_free given ≡ true → HasKind (fault_of given words) e) → (r : Result T WordFault) → IsErrAnd r (IsHandedOn e)
     → IfErr r (λ f. f ≡ Words → AreRightFor name (drop 1 words) → ⊥)
@@ -72,17 +72,17 @@ refused name given same words e kinds r h =
     IfErr-weaker r _ _ (λ f wrong is right. wrong is (ap (λ a. faults_in a (drop 1 words))
     (same_app name right.0.command right.1.command) ∙ right.1.taken)) (handed_on r e _ h among)
 
--- a value is not read because a value of which it is made is not
+-- a value is rejected because a value of which it is made is rejected
 pub passed : {X Y : Type 0} (P : X → Type 0) (Q : Y → Type 0) (r : Result Y WordFault) (f : WordFault) → IsErrAnd r (λ g. g ≡ f)
     → (f ≡ Words → (x : X) → P x → ⊥) → ((y : Y) → Q y → (x : X) × P x) → Reads Q r
 passed P Q (Ok y) f is none has = absurd is
 passed P Q (Err g) f is none has = λ words y q. let x = has y q in none (sym is ∙ words) x.0 x.1
 
--- two words that differ
+-- two texts that differ are not equal
 other : (a b : List ℕ) → bytes_eq a b ≡ false → a ≡ b → ⊥
 other a b e is = true≢false (sym ((bytes_eq-Decides a b).1 is) ∙ e)
 
--- the input of a command on one volume
+-- whether a command takes one volume as its input
 abbrev is_on_volume : List ℕ → Bool
 is_on_volume name =
     not (bytes_eq name (codes "hobs")) && (not (bytes_eq name (codes "compare")) && not (bytes_eq name (codes "scan")))
@@ -107,18 +107,18 @@ right_input name rest volume right =
     go (Single Unfix at file) volume texts = ((at, file), texts)
     go c volume texts = absurd (true≢false (sym volume))
 
--- so a command on one volume is rejected if its input is
+-- so a command on one volume is rejected if its input is rejected
 pub no_input : {m : ArgMatches} (f : WordFault) (name : List ℕ) → is_on_volume name ≡ true
     → ((app : App) (rest : List (List ℕ)) → IsRead app rest m
     → Reads (λ (i : Option ℕ × Option (String Global)). HasInput app rest i.0 i.1) (Err f)) → AsksFor name m (Err f)
 no_input f name volume read = λ words rest r right.
     let input = right_input name rest volume right in read (app_named name) rest r words input.0 input.1
 
--- a command on an image
+-- whether a command can take a whole image
 abbrev is_on_image : List ℕ → Bool
 is_on_image name = bytes_eq name (codes "normalise") || bytes_eq name (codes "check")
 
--- a byte of an input is not given where each volume of it is meant
+-- an offset in an input is not given if each volume of the input is meant
 pub no_place : (name : List ℕ) (rest : List (List ℕ)) (given : Option ℕ) → is_on_image name ≡ true
     → flag_in image_app (codes "all") rest ≡ true → IsAtWord (text_in image_app (codes "at") rest) given → is_some given ≡ true
     → AreRightFor name rest → ⊥
@@ -137,7 +137,7 @@ no_place name rest given image all word some right =
     go (Single CheckAll at file) image texts = placed _ given at word some texts.1 texts.2.0
     go c image texts = true≢false (sym image)
 
--- the part of `extract`
+-- the arguments have a part for `extract`
 abbrev pub SomePart : List (List ℕ) → Type 0
 SomePart rest = (part : Part) × IsPartBy (text_in extract_app (codes "name") rest) (text_in extract_app (codes "section") rest)
     (text_in extract_app (codes "instance") rest) part
@@ -149,7 +149,7 @@ right_part rest right = go right.0.command right.1.command right.1.texts
     go (Single (Extract part) at file) is texts = (part, texts.1)
     go c is texts = absurd (other _ _ refl is)
 
--- the image of `hobs`
+-- the arguments have an image for `hobs`, or none
 abbrev pub SomeImage : List (List ℕ) → Type 0
 SomeImage rest =
     (image : Option ImageFile) × IsImageWords (text_in hobs_app (codes "image") rest) (text_in hobs_app (codes "base") rest) image
@@ -162,7 +162,7 @@ right_image rest right = go right.0.command right.1.command right.1.texts
     go (Single Normalise at file) is texts = absurd (other _ _ refl is)
     go c is texts = absurd (other _ _ refl is)
 
--- the two volumes of `compare`
+-- the arguments have two volumes for `compare`
 abbrev pub SomeVolumes : List (List ℕ) → Type 0
 SomeVolumes rest = (first : VolumeFile) × (second : VolumeFile)
     × IsVolumeWords (text_in compare_app (codes "first") rest) (text_in compare_app (codes "at") rest) first

@@ -1,4 +1,4 @@
--- Commands, and the arguments that ask for them.
+-- The arguments of a name ask for one task, which a flag may select.
 use Rattle.std.proofs.lemmas.Grind.{common_steps}
 use Rattle.std.proofs.Common.{◌≡◌, ℕ, Bool, true, false, List, Option, Ok, subst, sym, arith}
 use Rattle.std.proofs.lemmas.Bool.{cond_both}
@@ -10,17 +10,17 @@ use Rattle.fv_plan.specs.declared.plan.Task.{Task}
 use Rattle.fv_arguments.specs.Words.{HasTaskTexts, task_name}
 use Rattle.fv_arguments.specs.inner.CommandWords.{AsksFor, IsRead, app_named}
 
--- the arguments of this name ask for a task over this input
+-- the arguments with this name ask for a task over this input
 abbrev IsAsked : List ℕ → List (List ℕ) → Option ℕ → Option (String Global) → Task → Type 0
 IsAsked name rest at file task = (name ≡ task_name task) × HasTaskTexts rest task at file
 
--- they ask for one of two tasks, where a flag says which
+-- the arguments ask for one of two tasks, and a flag selects which
 pub by_flag : (name : List ℕ) (rest : List (List ℕ)) (at : Option ℕ) (file : Option (String Global)) (given : Bool)
     (one other task : Task) → task ≡ (if given then one else other) → (given ≡ true → IsAsked name rest at file one)
     → (given ≡ false → IsAsked name rest at file other) → IsAsked name rest at file task
 by_flag name rest at file given one other task is on off = grind (arith, common_steps, cond_both)
 
--- the two tasks are those of an image and of a volume
+-- the two tasks that the flag selects are those for an image and for a volume
 pub by_tasks : (name : List ℕ) (rest : List (List ℕ)) (at : Option ℕ) (file : Option (String Global)) (given : Bool)
     (whole single one other task : Task) → whole ≡ one → single ≡ other → task ≡ (if given then whole else single)
     → (given ≡ true → IsAsked name rest at file one) → (given ≡ false → IsAsked name rest at file other) → IsAsked name rest at file task

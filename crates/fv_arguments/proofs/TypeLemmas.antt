@@ -1,10 +1,10 @@
--- Texts of one or two hexadecimal digits.
+-- Texts of one or two hexadecimal digits have no sign and spell a byte.
 use Rattle.std.proofs.Common.{◌≡◌, ◌==◌, ◌^◌, ◌<◌, ◌≤◌, ℕ, Bool, cond, true, false, refl, subst, arith, eqb-true, List, [], ◌∷◌, drop}
 use Rattle.std.proofs.Common.{length}
 use Rattle.std.specs.Char.{digit_value}
 use Rattle.std.specs.Str.Parse.{IsNumeral, digits_value, without_leading_plus}
 
--- such a text has no sign
+-- a hexadecimal numeral has no plus sign
 pub no_plus : (text : List ℕ) → IsNumeral 16 text → without_leading_plus text ≡ text
 no_plus [] h = refl
 no_plus (d ∷ ds) h = go (d == 43) refl
@@ -15,7 +15,7 @@ no_plus (d ∷ ds) h = go (d == 43) refl
         let plus : digit_value 43 < 16 = subst (λ (x : ℕ). digit_value x < 16) (eqb-true d 43 e) h.1.0 in
         absurd (omega arith)
 
--- and is a byte
+-- a hexadecimal numeral of at most two digits is below 256
 pub small : (text : List ℕ) → IsNumeral 16 text → length text ≤ 2 → digits_value 16 text < 2 ^ 8
 small [] h short = absurd (omega (arith, h.0))
 small (a ∷ []) h short = omega (arith, h.1.0)

@@ -1,9 +1,11 @@
--- Checks in their order. The steps:
+-- The verdict of a table of checks is the fault of the first check that does not hold, or a value if all checks hold.
+-- The steps:
 -- 1. All checks hold exactly if there is no first fault (`all_hold`, `none_faulty`).
--- 2. The first fault is that of the first check which does not hold (`first_is`), also where two tables are joined (`first_front`,
---    `first_whole`).
--- 3. What is true of the faults of all checks is true of one that fails (`first_among`, `fails_among`). If all hold, none fails
---    (`none_fails`). A table has one first fault (`one_fault`), and it is one of those that fail (`any_fails`).
+-- 2. The first fault is the fault of the first check that does not hold (`first_is`). If two tables are joined, it is
+--    the first fault of the first table, or else of the second (`first_front`, `first_whole`).
+-- 3. A property of the faults of all checks is a property of each fault that fails (`first_among`, `fails_among`). If
+--    all checks hold, no fault fails (`none_fails`). A table has at most one first fault (`one_fault`), and it is one
+--    of the faults that fail (`any_fails`).
 -- 4. A verdict is the first fault, or else a value (`verdict_ok`, `verdict_err`, `verdict_none`).
 use Rattle.std.proofs.Common.{◌≡◌, List, [], ◌∷◌, ◌++◌, refl, ap, subst, sym, ◌∙◌, inl, inr, Bool, true, false}
 use Rattle.std.specs.Prelude.{◌&&◌, Option, None, Some, Ok, Err, if◌then◌else◌}
@@ -22,7 +24,7 @@ pub and_join : (a b : Bool) → a ≡ true → b ≡ true → (a && b) ≡ true
 and_join true b h k = k
 and_join false b h k = cc
 
--- every check holds where there is no first fault
+-- if there is no first fault, every check holds
 pub all_hold : {F : Type 0} → (cs : List (Check F)) → first_fault cs ≡ None → AllHold cs
 all_hold [] none = tt
 all_hold (c ∷ cs) none = go c.holds refl (all_hold cs) none where
@@ -31,12 +33,12 @@ all_hold (c ∷ cs) none = go c.holds refl (all_hold cs) none where
   go true is rest n = (is, rest n)
   go false is rest n = cc
 
--- there is no first fault where every check holds
+-- if every check holds, there is no first fault
 pub none_faulty : {F : Type 0} → (cs : List (Check F)) → AllHold cs → first_fault cs ≡ None
 none_faulty [] all = refl
 none_faulty (c ∷ cs) all = rw all.0 (none_faulty cs all.1)
 
--- the first fault is that of the first check which does not hold
+-- the first fault is the fault of the first check that does not hold
 pub first_is : {F : Type 0} → (cs : List (Check F)) (f : F) → first_fault cs ≡ Some f → IsFirstFault cs f
 first_is [] f h = cc
 first_is {F} (c ∷ cs) f h = go c.holds refl (first_is cs f) h where
@@ -45,7 +47,8 @@ first_is {F} (c ∷ cs) f h = go c.holds refl (first_is cs f) h where
   go true is rest k = let r = rest k in (c ∷ r.0, r.1, r.2, ap (λ (ds : List (Check F)). c ∷ ds) r.3, (is, r.4), r.5, r.6)
   go false is rest k = ([], c, cs, refl, tt, is, cc)
 
--- the first fault of joined tables: that of the first, where it has one, and else that of the second
+-- the first fault of two joined tables is the first fault of the first table if it has one, and otherwise that of the
+-- second
 pub first_front : {F : Type 0} → (cs ds : List (Check F)) (f : F) → first_fault cs ≡ Some f → first_fault (cs ++ ds) ≡ Some f
 first_front [] ds f is = cc
 first_front {F} (c ∷ cs) ds f is = go c.holds (first_front cs ds f) is where
@@ -62,7 +65,7 @@ first_whole {F} (c ∷ cs) ds is = go c.holds (first_whole cs ds) is where
   go true rest k = rest k
   go false rest k = cc
 
--- what is true of the faults of all checks is true of the fault of one that fails
+-- a property of the faults of all checks is a property of the fault of a check that fails
 among : {F : Type 0} → (H : List (Check F) → Type 0) (P : F → Type 0) (cs : List (Check F)) (f : F) → AllByRecursion (λ c. P c.fault) cs
     → FailsAfter H cs f → P f
 among {F} H P cs f all (before, c, after, is, held, bad, fault) =
@@ -78,13 +81,13 @@ pub fails_among : (which : Which) (P : Fault → Type 0) (cs : List (Check Fault
 fails_among First P cs f all bad = among AllHold P cs f all bad
 fails_among Any P cs f all bad = among GuardsHold P cs f all bad
 
--- where all checks hold, each does
+-- if all checks of a table hold, each of them holds
 holds_in : {F : Type 0} → (cs before : List (Check F)) (c : Check F) (after : List (Check F)) → cs ≡ before ++ (c ∷ after) → AllHold cs
     → c.holds ≡ true
 holds_in {F} cs before c after is all =
     in_middle (λ (d : Check F). d.holds ≡ true) before c after (subst (λ (l : List (Check F)). AllHold l) is all)
 
--- so none fails
+-- if all checks of a table hold, no fault of it fails
 not_failing : {F : Type 0} → (H : List (Check F) → Type 0) (cs : List (Check F)) (f : F) → FailsAfter H cs f → AllHold cs → ⊥
 not_failing H cs f (before, c, after, is, held, bad, fault) all = up_is_not_down c.holds (holds_in cs before c after is all) bad
 
@@ -92,11 +95,11 @@ pub none_fails : (which : Which) (cs : List (Check Fault)) (f : Fault) → Fails
 none_fails First cs f bad all = not_failing AllHold cs f bad all
 none_fails Any cs f bad all = not_failing GuardsHold cs f bad all
 
--- where there is no first fault, none is it
+-- if a table has no first fault, no fault is its first fault
 pub not_first : {F : Type 0} → (cs : List (Check F)) (f : F) → IsFirstFault cs f → first_fault cs ≡ None → ⊥
 not_first {F} cs f first none = not_failing AllHold cs f first (all_hold cs none)
 
--- a table has one first fault: no check before which all hold is after one that fails
+-- a table has one first fault: a check whose predecessors all hold does not come after a check that fails
 pub one_fault : {F : Type 0} (cs : List (Check F)) (f g : F) → IsFirstFault cs f → IsFirstFault cs g → f ≡ g
 one_fault {F} cs f g (before, c, after, is, held, fails, fault) (before', d, after', is', held', fails', fault') =
     go (two_cuts before c after before' d after' (sym is ∙ is'))
@@ -106,7 +109,7 @@ one_fault {F} cs f g (before, c, after, is, held, fails, fault) (before', d, aft
     go (inr (inl (mid, late, rest))) = absurd (up_is_not_down c.holds (holds_in before' before c mid late held') fails)
     go (inr (inr (mid, late, rest))) = absurd (up_is_not_down d.holds (holds_in before before' d mid late held) fails')
 
--- where all checks hold, the guards do; so the first fault is one of those that fail
+-- if all checks hold, their guards hold too, so the first fault is one of the faults that fail
 guards : (cs : List (Check Fault)) → AllHold cs → GuardsHold cs
 guards [] all = tt
 guards (c ∷ cs) all = (λ guard. all.0, guards cs all.1)

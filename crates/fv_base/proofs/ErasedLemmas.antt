@@ -1,6 +1,8 @@
--- Bytes that are all one byte. The steps:
--- 1. They may be joined and cut (`all_append`, `all_front`, `all_behind`), and looked at one by one (`one_more`, `one_less`, `looked_at`).
--- 2. A test says whether they are (`all_are-true`, `all-all_are`, `same_test`), also piece by piece (`all_pieces`, `piece_differs`).
+-- A test decides whether all bytes of a list are one byte, as erased bytes are. The steps:
+-- 1. The property is kept if lists are joined or cut (`all_append`, `all_front`, `all_behind`). A loop compares the
+--    bytes one by one (`one_more`, `one_less`, `looked_at`).
+-- 2. The test `all_are` decides it (`all_are-true`, `all-all_are`, `same_test`), also piece by piece (`all_pieces`,
+--    `piece_differs`).
 use Rattle.std.proofs.lemmas.Grind.{common_steps}
 use Rattle.std.proofs.Common.{◌≡◌, ℕ, zero, suc, ◌+◌, ◌%◌, ◌<◌, List, [], ◌∷◌, ◌++◌, length, take, drop, get_or, bit_or, refl, sym, ap, ◌∙◌}
 use Rattle.std.proofs.Common.{subst, arith}
@@ -54,7 +56,7 @@ xor_same a = same_from_bits (bit_xor a a) 0 (λ i. bit_at_xor a a i ∙ twice (b
     twice : (x : ℕ) → (x + x) % 2 ≡ 0
     twice x = omega arith
 
--- a byte is looked at: nothing differed before and now
+-- after one more byte is compared, `seen` is still 0 exactly if all bytes up to here are `e`
 pub looked_at : (e seen : ℕ) (x : List ℕ) (i : ℕ) → i < length x → ((seen ≡ 0) ↔ AllAre e (take i x))
     → ((bit_or seen (bit_xor (get_or x i 0) e) ≡ 0) ↔ AllAre e (take (i + 1) x))
 looked_at e seen x i l h = (to, from)
@@ -69,7 +71,7 @@ looked_at e seen x i l h = (to, from)
     from : AllAre e (take (i + 1) x) → bit_or seen (bit_xor (get_or x i 0) e) ≡ 0
     from all = let p = one_less e x i l (subst (λ k. AllAre e (take k x)) (sym next) all) in rw (h.1 p.0, p.1, xor_same e) refl
 
--- the test and the fact
+-- the test `all_are` decides whether all bytes are `byte`
 pub all_are-true : (byte : ℕ) (xs : List ℕ) → all_are byte xs ≡ true → AllAre byte xs
 unfolding all_are
 all_are-true byte [] h = tt
@@ -82,7 +84,7 @@ unfolding all_are
 all-all_are byte [] h = refl
 all-all_are byte (x ∷ xs) h = and_join (x == byte) (list_all (λ y. y == byte) xs) (eq-eqb x byte h.0) (all-all_are byte xs h.1)
 
--- a test that says the same
+-- a test that decides the same thing is equal to `all_are`
 pub same_test : (t : Bool) (byte : ℕ) (xs : List ℕ) → ((t ≡ true) ↔ AllAre byte xs) → t ≡ all_are byte xs
 same_test t byte xs says = grind (arith, common_steps, all-all_are, all_are-true)
 
@@ -90,12 +92,12 @@ pub all-of_replicate : (byte n : ℕ) → AllAre byte (replicate n byte)
 all-of_replicate byte zero = tt
 all-of_replicate byte (suc n) = (refl, all-of_replicate byte n)
 
--- a piece and what is after it
+-- if a piece is all `byte`, the bytes after it decide whether the whole is
 pub all_pieces : (byte : ℕ) (whole piece behind rest : List ℕ) → rest ≡ piece ++ behind → (AllAre byte rest ↔ AllAre byte whole)
     → AllAre byte piece → (AllAre byte behind ↔ AllAre byte whole)
 all_pieces byte whole piece behind rest is says held = grind (arith, common_steps, all_append, all_behind)
 
--- a piece that differs
+-- if a piece is not all `byte`, the whole is not
 pub piece_differs : (byte : ℕ) (whole piece behind rest : List ℕ) (t : Bool) → rest ≡ piece ++ behind
     → (AllAre byte rest ↔ AllAre byte whole) → ((t ≡ true) ↔ AllAre byte piece) → t ≡ false
     → ((false ≡ true) ↔ AllAre byte whole)

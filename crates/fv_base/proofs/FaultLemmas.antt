@@ -1,7 +1,9 @@
--- A fault that `?` passes on, what is one of two, and whether a fault is out of memory.
--- 1. A result that passes a fault on is that fault (err_is). So what has to be said of the result is said of the fault, by `rw`.
--- 2. Of one of two, the second gives another (or_more), or there is only the first (first_only). Mostly the first is out of memory.
--- 3. A fault is out of memory, or it is not (want_known).
+-- Laws of faults and of results:
+-- 1. If `?` passes a fault on, the result is this fault (`err_is`). So each clause about the result is proved for the
+--    fault, and carried over by `rw`.
+-- 2. The second of two alternatives can be replaced by one that follows from it (`or_more`). If the second is
+--    impossible, the first holds (`first_only`). The first alternative is mostly out of memory.
+-- 3. A fault is out of memory, or it is not (`want_known`).
 use Rattle.std.proofs.lemmas.Grind.{common_steps}
 use Rattle.std.proofs.Common.{◌≡◌, ◌≢◌, ◌⊎◌, Bool, true, false, ℕ, refl, inl, inr, ap, arith, rules}
 use Rattle.std.proofs.lemmas.Bool.{cases_eq}

@@ -1,9 +1,9 @@
--- Fields of bytes, and the numbers that they spell. The steps:
--- 1. What is cut from bytes, or joined of them, is bytes (`bytes_take`, `bytes_drop`, `bytes_append`).
--- 2. Bytes and the number that they spell give one another back (`le_bytes-le`, `field_is`, `le-le_bytes`).
+-- Fields are cut from bytes, and bytes and the number that they spell determine each other. The steps:
+-- 1. Lists that are cut or joined from bytes are bytes (`bytes_take`, `bytes_drop`, `bytes_append`).
+-- 2. Bytes and the number that they spell determine each other (`le_bytes-le`, `field_is`, `le-le_bytes`).
 -- 3. A field of a part is a field of the whole (`field-take`, `field-append_front`, `drop-append_behind`).
--- 4. Bytes up to a place are those up to an earlier place and some between (`take_past`, `some_between`). Two places are one if neither is
---    before the other (`same_place`).
+-- 4. The bytes up to a place are the bytes up to an earlier place, and at least one more (`take_past`, `some_between`).
+--    Two places are equal if neither is before the other (`same_place`).
 use Rattle.std.proofs.lemmas.Grind.{common_steps}
 use Rattle.std.proofs.Common.{◌≡◌, ◌≤◌, ◌<◌, ◌+◌, ◌-◌, ◌*◌, ◌/◌, ◌%◌, ◌^◌, ℕ, zero, suc, List, [], ◌∷◌, ◌++◌, length, take, drop, refl, sym}
 use Rattle.std.proofs.Common.{◌⊎◌, ap, ◌∙◌, subst, arith, inl, inr, length-drop}
@@ -20,7 +20,7 @@ take-take_le (suc n) zero xs h = absurd (omega arith)
 take-take_le (suc n) (suc m) [] h = refl
 take-take_le (suc n) (suc m) (x ∷ xs) h = ap (λ (ys : List ℕ). x ∷ ys) (take-take_le n m xs (omega arith))
 
--- a field that ends within the first m bytes
+-- a field that ends within the first m bytes is the same field of these m bytes
 pub field-take : (i n m : ℕ) (b : List ℕ) → i + n ≤ m → field i n (take m b) ≡ field i n b
 field-take i n m b h =
     let split : m ≡ i + (m - i) = omega arith in
@@ -28,11 +28,11 @@ field-take i n m b h =
     subst (λ (k : ℕ). drop i (take k b) ≡ take (m - i) (drop i b)) (sym split) (drop-take i (m - i) b) in
     ap (take n) cut ∙ take-take_le n (m - i) (drop i b) (omega arith)
 
--- the bytes after the first are bytes
+-- the bytes after the first byte are bytes
 pub bytes_behind : (b : ℕ) (bs : List ℕ) → IsBytes (b ∷ bs) → IsBytes bs
 bytes_behind b bs h = λ i. h (suc i)
 
--- bytes are those of the number that they spell
+-- the bytes that are written for the number that bytes spell are these bytes
 pub le_bytes-le : (bs : List ℕ) → IsBytes bs → le_bytes (length bs) (le bs) ≡ bs
 le_bytes-le [] h = refl
 le_bytes-le (b ∷ bs) h =
@@ -49,11 +49,11 @@ pub length-le_bytes : (k n : ℕ) → length (le_bytes k n) ≡ k
 length-le_bytes zero n = refl
 length-le_bytes (suc k) n = ap suc (length-le_bytes k (n / 256))
 
--- no byte is after the end
+-- past the end of a list the byte is 0
 pub none_at : (i : ℕ) → slice_index [] i < 256
 none_at i = omega arith
 
--- the first n bytes are bytes, and so are those after them
+-- the first n bytes are bytes, and so are the bytes after them
 pub bytes_take : (n : ℕ) (b : List ℕ) → IsBytes b → IsBytes (take n b)
 bytes_take zero b h i = none_at i
 bytes_take (suc n) [] h i = none_at i
@@ -65,19 +65,19 @@ bytes_drop zero b h = h
 bytes_drop (suc n) [] h = h
 bytes_drop (suc n) (x ∷ xs) h = bytes_drop n xs (bytes_behind x xs h)
 
--- a field of bytes is that of the number that it spells
+-- the bytes that are written for the number that a field spells are the field
 pub field_is : (at n : ℕ) (b : List ℕ) → IsBytes b → at + n ≤ length b → le_bytes n (le (field at n b)) ≡ field at n b
 field_is at n b h within =
     let long : length (field at n b) ≡ n = length-take-le n (drop at b) (simp length-drop (omega arith)) in
     subst (λ (k : ℕ). le_bytes k (le (field at n b)) ≡ field at n b) long
     (le_bytes-le (field at n b) (bytes_take n (drop at b) (bytes_drop at b h)))
 
--- a byte before bytes
+-- a byte followed by bytes is bytes
 pub bytes_cons : (x : ℕ) (b : List ℕ) → x < 256 → IsBytes b → IsBytes (x ∷ b)
 bytes_cons x b h k zero = h
 bytes_cons x b h k (suc i) = k i
 
--- bytes after bytes are bytes
+-- bytes followed by bytes are bytes
 pub bytes_append : (a b : List ℕ) → IsBytes a → IsBytes b → IsBytes (a ++ b)
 bytes_append [] b h k = k
 bytes_append (x ∷ a) b h k = bytes_cons x (a ++ b) (h 0) (bytes_append a b (bytes_behind x a h) k)
@@ -89,7 +89,7 @@ pub bytes_le_bytes : (k n : ℕ) → IsBytes (le_bytes k n)
 bytes_le_bytes zero n = none_at
 bytes_le_bytes (suc k) n = bytes_cons (n % 256) (le_bytes k (n / 256)) (low_byte n) (bytes_le_bytes k (n / 256))
 
--- a number that so many bytes have room for is spelled by them
+-- a number below 256 ^ k is the number that its k bytes spell
 pub le-le_bytes : (k n : ℕ) → n < 256 ^ k → le (le_bytes k n) ≡ n
 le-le_bytes zero n small = nothing n small where
   nothing : (n : ℕ) → n < 1 → 0 ≡ n
@@ -103,17 +103,17 @@ le-le_bytes (suc k) n small =
     whole : (n : ℕ) → n % 256 + 256 * (n / 256) ≡ n
     whole n = omega arith
 
--- a field within the first part of a join
+-- a field within the first part of a join is a field of this part
 pub field-append_front : (i n : ℕ) (p q : List ℕ) → i + n ≤ length p → field i n (p ++ q) ≡ field i n p
 field-append_front i n p q within = grind (arith, common_steps, drop-append-le, take-append-le, length-drop)
 
--- a place after the first part of a join
+-- the bytes of a join from a place after the first part on are bytes of the second part
 pub drop-append_behind : (i : ℕ) (p q : List ℕ) → length p ≤ i → drop i (p ++ q) ≡ drop (i - length p) q
 drop-append_behind i p q past = ap (λ (k : ℕ). drop k (p ++ q)) (split i (length p) past) ∙ drop-append-add p q (i - length p) where
   split : (i n : ℕ) → n ≤ i → i ≡ n + (i - n)
   split i n h = omega arith
 
--- equal lists, cut at equal lengths
+-- equal lists that are cut at equal lengths have equal parts
 pub same_cut : (a b x y : List ℕ) → length a ≡ length b → a ++ x ≡ b ++ y → (a ≡ b) × (x ≡ y)
 same_cut [] [] x y l e = (refl, e)
 same_cut [] (c ∷ b) x y l e = absurd (omega arith)
@@ -142,7 +142,7 @@ two_bytes at b small = below (field at 2 b) (drop at b) refl (bytes_drop at b sm
 
 -- ---- two places
 
--- they are one if neither is before the other
+-- two places are equal if neither is before the other
 pub same_place : (m n : ℕ) → (m < n → ⊥) → (n < m → ⊥) → m ≡ n
 same_place m n low high = go (cases_lt m n) (cases_lt n m) where
   go : (m < n) ⊎ (n ≤ m) → (n < m) ⊎ (m ≤ n) → m ≡ n
@@ -150,13 +150,13 @@ same_place m n low high = go (cases_lt m n) (cases_lt n m) where
   go (inr _) (inl l) = absurd (high l)
   go (inr a) (inr b) = omega (arith, a, b)
 
--- the bytes up to the later one, cut at the earlier one
+-- the bytes up to the later place are the bytes up to the earlier one, and then those between
 pub take_past : (b : List ℕ) (m n : ℕ) → m < n → take n b ≡ take m b ++ take (n - m) (drop m b)
 take_past b m n l = ap (λ (k : ℕ). take k b) (split m n l) ∙ take-add m (n - m) b
   where
     split : (m n : ℕ) → m < n → n ≡ m + (n - m)
     split m n l = omega arith
 
--- there are some between them
+-- there is at least one byte between two places, if the later one is within the bytes
 pub some_between : (b : List ℕ) (m n : ℕ) → m < n → n < length b → 0 < length (take (n - m) (drop m b))
 some_between b m n l within = omega (arith, length-take-le (n - m) (drop m b) (omega (arith, length-drop m b, l, within)), l)

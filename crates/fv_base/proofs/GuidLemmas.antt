@@ -1,4 +1,4 @@
--- The texts of GUIDs.
+-- The text of a GUID is the text of its UUID, and is read as this GUID again.
 use Rattle.std.proofs.Common.{◌≡◌, ◌∙◌, ℕ, List, length, refl, sym, ap, Option, Some, None}
 use Rattle.std.specs.Prelude.{option_map}
 use Rattle.uuid.specs.Parts.{swap_fields}
@@ -8,7 +8,7 @@ use Rattle.uuid.proofs.TextLemmas.{by_index_length}
 use Rattle.fv_base.specs.Words.{bytes_of, guid_text, guid_read}
 use Rattle.fv_base.specs.declared.guid.Guid.{Guid}
 
--- the text of a UUID that holds a GUID's parts
+-- the text of a GUID is the text of the UUID that holds its parts
 pub text_is : (b : List ℕ) → hyphenated_text lower (swap_fields b) ≡ guid_text b
 unfolding by_index guid_text
 text_is b = refl

@@ -1,9 +1,10 @@
--- Lists. What is proved of them:
--- 1. What holds of every item holds of one and of some (`at_index`, `in_middle`, `after_middle`, `all_filter`). An item is the first or one
---    after it (`first_or_behind`, `one_behind`).
--- 2. Of two cuts of one list at an item, both are at one item, or one is before the other (`two_cuts`).
--- 3. The items from one on, and up to one (`item_at`, `more_items`, `seam_items`).
--- 4. What is kept by a note of it is kept by a test (`kept_noted`); a list in the place of another (`in_place`).
+-- Laws of lists:
+-- 1. A property of every item is a property of one item and of some (`at_index`, `in_middle`, `after_middle`,
+--    `all_filter`). An item is the first or one after it (`first_or_behind`, `one_behind`).
+-- 2. If one list is cut at two items, both cuts are at the same item, or one is before the other (`two_cuts`).
+-- 3. The items from an index on, and up to an index (`item_at`, `more_items`, `seam_items`).
+-- 4. A filter by a note keeps the same items as a filter by a test (`kept_noted`). A list takes the place of another
+--    (`in_place`).
 use Rattle.std.proofs.lemmas.Grind.{common_steps}
 use Rattle.std.proofs.Common.{◌≡◌, ◌⊎◌, ℕ, zero, suc, ◌+◌, ◌<◌, Bool, true, false, not, List, [], ◌∷◌, ◌++◌, length, take, drop, get_or, map}
 use Rattle.std.proofs.Common.{refl, sym, ap, ◌∙◌, inl, inr, arith}
@@ -11,7 +12,7 @@ use Rattle.std.specs.List.{All, AllByRecursion, Contains, filter}
 use Rattle.std.proofs.lemmas.List.{append-nil, drop_all, drop_more, get_or-map, length-map, take-append-drop, take_all, take_more}
 use Rattle.std.proofs.lemmas.List.Elements.{recursion_from_All}
 
--- of the one at a place
+-- a property of every item is a property of the item at an index
 pub at_index : {X : Type 0} (P : X → Type 0) (xs : List X) (i : ℕ) (d : X) → AllByRecursion P xs → i < length xs → P (get_or xs i d)
 at_index P [] i d all l = absurd (never l) where
   never : i < 0 → ⊥
@@ -19,18 +20,18 @@ at_index P [] i d all l = absurd (never l) where
 at_index P (x ∷ xs) zero d all l = all.0
 at_index P (x ∷ xs) (suc i) d all l = at_index P xs i d all.1 (omega arith)
 
--- of the one where the list is cut
+-- a property of every item is a property of the item where the list is cut
 pub in_middle : {X : Type 0} (P : X → Type 0) (before : List X) (x : X) (after : List X) → AllByRecursion P (before ++ (x ∷ after)) → P x
 in_middle P [] x after all = all.0
 in_middle P (z ∷ zs) x after all = in_middle P zs x after all.1
 
--- of those after the one where it is cut
+-- a property of every item is a property of the items after the cut
 pub after_middle : {X : Type 0} (P : X → Type 0) (before : List X) (x : X) (after : List X) → AllByRecursion P (before ++ (x ∷ after))
     → AllByRecursion P after
 after_middle P [] x after all = all.1
 after_middle P (z ∷ zs) x after all = after_middle P zs x after all.1
 
--- of those that a test keeps
+-- a property of every item is a property of the items that a filter keeps
 pub all_filter : {X : Type 0} (test : X → Bool) (P : X → Type 0) (xs : List X) → AllByRecursion P xs → AllByRecursion P (filter test xs)
 all_filter test P [] h = tt
 all_filter {X} test P (x ∷ xs) h = go (test x) refl (all_filter test P xs h.1) where
@@ -48,11 +49,11 @@ one_behind x xs y (k, l, e) = (suc k, omega (arith, l), e)
 
 -- ---- two cuts
 
--- the first cut is before the second: its item is among those before the second's
+-- the first cut is before the second: its item is among the items before the second cut
 abbrev pub Earlier : {A : Type 0} → List A → A → List A → List A → A → List A → Type 0
 Earlier {A} before x after before' y after' = (mid : List A) × (before' ≡ before ++ (x ∷ mid)) × (after ≡ mid ++ (y ∷ after'))
 
--- two cuts of one list are at one item, or one is before the other
+-- two cuts of one list are at the same item, or one is before the other
 abbrev pub TwoCuts : {A : Type 0} → List A → A → List A → List A → A → List A → Type 0
 TwoCuts before x after before' y after' =
     ((before ≡ before') × (x ≡ y)) ⊎ (Earlier before x after before' y after' ⊎ Earlier before' y after' before x after)
@@ -80,11 +81,11 @@ two_cuts {A} (z ∷ zs) x after (w ∷ ws) y after' e =
 
 -- ---- one item more
 
--- the list from a place on
+-- the list from an index on is the item at the index, and then the rest
 pub item_at : {X : Type 0} (xs : List X) (i : ℕ) (x : X) → i < length xs → x ≡ get_or xs i x → drop i xs ≡ x ∷ drop (i + 1) xs
 item_at xs i x l is = drop_more xs i x l ∙ ap (λ y. y ∷ drop (i + 1) xs) (sym is)
 
--- of a list that a function made
+-- if a list is mapped, its images up to the next index, and the image at an index between the others
 module _ {X A : Type 0} (form : X → A) (items : List X) (i : ℕ) (d : X) where
   pub more_items : i < length items → take (i + 1) (map form items) ≡ take i (map form items) ++ form (get_or items i d) ∷ []
   more_items l =
@@ -99,7 +100,8 @@ module _ {X A : Type 0} (form : X → A) (items : List X) (i : ℕ) (d : X) wher
 
 -- ---- what is kept
 
--- where a note says of each item what a test says, those without the note are those that the test is false of
+-- if a note of each item has the result of a test, removing the items with the note removes the items for which the
+-- test is true
 pub kept_noted : {X A : Type 0} (form : X → A) (note : X → Bool) (test : A → Bool) (xs : List X)
     → All (λ x. note x ≡ test (form x)) xs → map form (filter (λ x. not (note x)) xs) ≡ filter (λ f. not (test f)) (map form xs)
 kept_noted {X} {A} form note test xs all = go xs (recursion_from_All (λ x. note x ≡ test (form x)) xs all) where
@@ -112,7 +114,7 @@ kept_noted {X} {A} form note test xs all = go xs (recursion_from_All (λ x. note
     one true is rest = rw (h.0, is) rest
     one false is rest = rw (h.0, is) (ap (λ (l : List A). form y ∷ l) rest)
 
--- a list in the place of one as long
+-- a list that is written over the start of a list of its length is all of the result
 pub in_place : {X : Type 0} (new old : List X) (n : ℕ) → length new ≡ length old → n ≡ length old
     → take n (new ++ drop (length new) old) ≡ new
 in_place {X} new old n long count = grind (arith, common_steps, drop_all, append-nil, take_all)

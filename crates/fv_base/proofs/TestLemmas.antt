@@ -1,4 +1,4 @@
--- Tests that hold or do not.
+-- Consequences of tests of numbers and of bits that hold, or that do not hold.
 use Rattle.std.proofs.lemmas.Grind.{common_steps}
 use Rattle.std.proofs.Common.{◌≡◌, ◌≤◌, ◌<◌, ◌*◌, ℕ, zero, suc, refl, arith, Bool, true, false}
 use Rattle.std.specs.Prelude.{◌==◌, ◌≢◌, ◌||◌, nat_le, nat_lt, if◌then◌else◌}
@@ -21,13 +21,13 @@ not_at_most n m h = grind (arith, common_steps, leb-true)
 pub not_equal : (n m : ℕ) → n ≢ m → (n == m) ≡ false
 not_equal n m h = grind (arith, common_steps, eqb-true)
 
--- a mask of one bit shows that bit
+-- the test of a mask with a single bit holds exactly if the bit is set
 pub one_bit : (b m : ℕ) → b < 2 → 0 < m → (b * m == m) ≡ (b == 1)
 one_bit zero m l some = not_equal (0 * m) m (λ e. omega (arith, e, some))
 one_bit (suc zero) m l some = eq-eqb (1 * m) m (omega arith)
 one_bit (suc (suc b)) m l some = absurd (omega arith)
 
--- neither of two tests holds
+-- if an `or` of two tests is false, both tests are
 pub or_parts : (a b : Bool) → (a || b) ≡ false → (a ≡ false) × (b ≡ false)
 or_parts true b h = cc
 or_parts false b h = (refl, h)
@@ -36,6 +36,6 @@ pub or_both : (a b : Bool) → a ≡ false → b ≡ false → (a || b) ≡ fals
 or_both true b p q = cc
 or_both false b p q = q
 
--- a flag is not both up and down
+-- a flag is not both true and false
 pub up_is_not_down : (flag : Bool) → flag ≡ true → flag ≡ false → ⊥
 up_is_not_down flag up down = cc

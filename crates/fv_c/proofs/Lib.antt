@@ -1,12 +1,8 @@
 pub mod RowLemmas
-pub mod SectionRowLaws
-pub mod FileRowLaws
+pub mod StoredFiles
 pub mod PartLaws
-pub mod PreorderLaws
 pub mod MemoryLaws
 pub mod RowNumbers
-pub mod GroupLaws
-pub mod SectionCountLaws
 pub mod TreeNesting
 pub mod TreePlaces
 pub mod TreeSiblings
@@ -14,5 +10,6 @@ pub mod TreeGrowth
 pub mod TreeRows
 pub mod TreeParents
 pub mod TreeBytes
-pub mod SumRows
+pub mod WalkRows
 pub mod UnfixKinds
+pub mod HeaderLaws

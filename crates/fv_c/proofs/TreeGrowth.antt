@@ -84,6 +84,7 @@ module _ (input : List ℕ) where
     row = ap (λ (rows : List FvNode). slice_get rows h.number) g.joined ∙ get_later xs g.added h.number h.node is.row;
     deep = is.deep;
     within = is.within;
+    short = is.short;
   }
 
 -- ---- a loop

@@ -11,9 +11,8 @@ use Rattle.fv_tree.specs.Words.{Meaning, Volume, FileMeanings, NoFiles, MoreFile
 use Rattle.fv_tree.specs.Words.{NoSections, MoreSections, Section, BodyMeaning, Leaf, Group, Nested, files_list, sections_list}
 use Rattle.fv_tree.specs.Words.{sections_in_data}
 use Rattle.fv_c.proofs.RowNumbers.{in_either, none_before, row_at, row_is_at}
-use Rattle.fv_c.specs.ReportedFiles.{no_parent}
 use Rattle.fv_rows.specs.Words.{NodeMeaning, VolumeNode, FileNode, SectionNode, parts_in, parts_in_body}
-use Rattle.fv_c.specs.TreeParts.{TreeRow, is_first, is_held_by, rows_held, tree_in_body, tree_in_content, tree_of_files}
+use Rattle.fv_c.specs.TreeParts.{TreeRow, is_first, is_held_by, no_parent, rows_held, tree_in_body, tree_in_content, tree_of_files}
 use Rattle.fv_c.specs.TreeParts.{rows_of_parts, tree_of_sections, tree_of_volume, tree_rows}
 
 -- ---- a row

@@ -2,14 +2,14 @@
 -- 1. A part of a row's bytes is a part of the input (`part_of`).
 -- 2. So the data of a file lie in the input (`file_lies`), and the body of a section (`frame_lies`).
 use Rattle.std.proofs.lemmas.Grind.{common_steps}
-use Rattle.std.proofs.Common.{◌≡◌, ◌∙◌, ℕ, ◌+◌, ◌≤◌, List, ◌++◌, length, take, drop, sym, ap, arith, length-drop}
+use Rattle.std.proofs.Common.{◌≡◌, ◌∙◌, ℕ, ◌+◌, ◌≤◌, List, ◌++◌, length, take, drop, refl, sym, ap, arith, length-drop}
 use Rattle.std.proofs.lemmas.List.{length-take-le}
 use Rattle.std.proofs.Math.Seq.{take-append_seam, drop-append_seam}
 use Rattle.fv_base.specs.Words.{field, IsBytes}
 use Rattle.fv_base.proofs.Laws.{field-take, bytes_take, bytes_drop}
 use Rattle.fv_section.specs.Words.{FrameForm, FrameStandsAt, section_header_len}
 use Rattle.fv_section.proofs.Laws.{stands_within}
-use Rattle.fv_tree.specs.Words.{FileForm, HasDataIn, data_place, body_place}
+use Rattle.fv_tree.specs.Words.{FileForm, HasDataIn, Meaning, Volume, data_place, body_place, head_of, length_of}
 
 -- the bytes are in the input at this offset
 abbrev pub LieAt : List ℕ → ℕ → List ℕ → Type 0
@@ -51,3 +51,7 @@ pub frame_lies : (input : List ℕ) (at n : ℕ) (f : FrameForm) → at + n ≤ 
     → LieAt input (at + body_place f) f.body
 frame_lies input at n f within s =
     part_of input at n (body_place f) f.body within (frame_in_stream f (field at n input) s)
+
+-- the length of a volume is that in its header
+pub length_in_head : (m : Meaning) → (head_of m).length ≡ length_of m
+length_in_head (Volume h files) = refl

@@ -5,13 +5,14 @@
 -- 3. The first row, of the volume that the input is (`root_step`), and all rows (`tree_found`).
 use Rattle.std.proofs.Common.{◌≡◌, ◌∙◌, ℕ, zero, suc, ◌+◌, ◌<◌, ◌≤◌, List, [], ◌∷◌, ◌++◌, length, drop, get_or, Some, refl, sym, ap, subst}
 use Rattle.std.proofs.Common.{arith, length-append}
-use Rattle.std.specs.Prelude.{slice_get, map, Bool, option_map}
+use Rattle.std.specs.Prelude.{slice_get, map, Bool, true, false, option_map, ◌^◌}
 use Rattle.std.specs.List.{AllByRecursion}
 use Rattle.std.proofs.lemmas.List.{get_or_default, take_all}
-use Rattle.std.proofs.lemmas.Option.{slice_get_within, slice_get-map, slice_get_read}
-use Rattle.fv_base.specs.Words.{field, depth_limit, IsBytes}
+use Rattle.std.proofs.lemmas.Option.{slice_get-map, slice_get_read}
+use Rattle.fv_base.specs.Words.{field, depth_limit, volume_limit, IsBytes}
 use Rattle.fv_head.specs.Words.{HeadFields}
-use Rattle.fv_section.specs.Words.{FrameForm, FrameStandsAt, Splits}
+use Rattle.fv_file.specs.Words.{attribute_bits, file_header_len, is_large}
+use Rattle.fv_section.specs.Words.{FrameForm, FrameStandsAt, Splits, section_header_len}
 use Rattle.fv_section.proofs.Laws.{split_stands}
 use Rattle.fv_tree.specs.Words.{Accepted, Denotes, FileForm, FileMeaning, File, Meaning, Volume, MeansFile, MeansSection}
 use Rattle.fv_tree.specs.Words.{Pairwise, SectionMeaning, Section, BodyMeaning, Group, Nested, Stream, HasDataIn}
@@ -19,14 +20,13 @@ use Rattle.fv_tree.specs.Words.{body_len, body_of, body_place, content_of, data_
 use Rattle.fv_tree.specs.Words.{sections_from, sections_list, MeansContent, ContentMeaning, Sectioned, file_form}
 use Rattle.fv_tree.specs.declared.volume_files.LocatedFile.{LocatedFile}
 use Rattle.fv_tree.proofs.Laws.{body_long, content_long}
-use Rattle.fv_c.specs.ReportedFiles.{no_parent}
 use Rattle.fv_rows.specs.Words.{NodeMeaning, VolumeNode, FileNode, SectionNode}
-use Rattle.fv_c.specs.TreeParts.{TreeRow, tree_of_files, tree_of_volume, tree_rows}
-use Rattle.fv_c.specs.ReportedTree.{Held, HasTreeRows, IsFileIn, IsNodeIn, IsPlaced, IsSectionIn, bytes_at, node_header_len, node_len, reported_node}
+use Rattle.fv_c.specs.TreeParts.{TreeRow, no_parent, tree_of_files, tree_of_volume, tree_rows}
+use Rattle.fv_c.specs.ReportedTree.{Held, HasTreeRows, IsFileIn, IsNodeIn, IsPlaced, IsSectionIn, bytes_at, node_header_length, node_length, reported_node}
 use Rattle.fv_c.specs.declared.tree.FvNode.{FvNode}
 use Rattle.fv_c.specs.declared.tree.Holder.{Holder}
 use Rattle.fv_c.specs.inner.Trees.{Grows, IsAdded, IsHolder, HoldsFiles, HoldsContent, HoldsSections, HoldsBody, TreeRows}
-use Rattle.fv_c.proofs.FileRowLaws.{files_long}
+use Rattle.fv_c.proofs.StoredFiles.{files_long}
 use Rattle.fv_c.proofs.TreeGrowth.{get_last, get_later, grow_more, grow_one}
 use Rattle.fv_c.proofs.TreeNesting.{in_group, in_nested}
 use Rattle.fv_c.proofs.TreePlaces.{LieAt, field_bytes, file_lies, frame_lies}
@@ -81,21 +81,22 @@ step_rows {input} {rows} {mid} {news} {added} {parent} {depth} {number} {node} i
     grow_more input rows mid news (record { parent = parent; depth = depth; number = number; node = node } ∷ [])
     (inside (length rows + 1) (length rows) (depth + 1) 0) step.grown (subst (Grows input mid news) same grown)
 
--- a row is less deep than there are rows
-pub not_deep : {input : List ℕ} {rows : List FvNode} {h : Holder} → IsHolder input rows h → h.node.depth < length rows
-not_deep {rows = rows} {h = h} holder = omega (arith, holder.deep, slice_get_within rows h.number h.node holder.row)
+-- the depth of a row has room in 32 bits
+pub not_deep : {input : List ℕ} {rows : List FvNode} {h : Holder} → IsHolder input rows h → h.node.depth < 2 ^ 31
+not_deep holder = omega (arith, holder.deep, holder.within, holder.short)
 
 module _ {input : List ℕ} {rows news : List FvNode} {node : FvNode} {added : Holder} (push : IsAdded rows news node added) where
-  pub new_step : (made : FvNode) (row : TreeRow) → node ≡ made → made.depth ≤ length rows → made.depth ≡ row.depth
-      → IsNodeIn input news made row → Step input rows news added row
-  new_step made row is deep under found =
+  pub new_step : (made : FvNode) (row : TreeRow) → length input ≤ volume_limit → node ≡ made → made.depth ≤ made.offset + 1
+      → made.depth ≡ row.depth → IsNodeIn input news made row → Step input rows news added row
+  new_step made row short is deep under found =
       let same : added.node ≡ made = push.node ∙ is in
       let joined : news ≡ rows ++ made ∷ [] = push.joined ∙ ap (λ (n : FvNode). rows ++ n ∷ []) is in record {
         holder = record {
           row = ap (λ (l : List FvNode). slice_get l added.number) joined ∙ ap (slice_get (rows ++ made ∷ [])) push.number
               ∙ get_last rows made ∙ ap (λ (n : FvNode). Some n) (sym same);
-          deep = omega (arith, ap (λ (n : FvNode). n.depth) same, push.number, deep);
-          within = subst (λ (n : FvNode). n.offset + n.len ≤ length input) (sym same) found.within;
+          deep = subst (λ (n : FvNode). n.depth ≤ n.offset + 1) (sym same) deep;
+          within = subst (λ (n : FvNode). n.offset + n.length ≤ length input) (sym same) found.within;
+          short = short;
         };
         grown = grow_one input rows news made row joined found;
         numbered = push.number;
@@ -106,19 +107,23 @@ module _ {input : List ℕ} {rows news : List FvNode} {node : FvNode} {added : H
   -- a row that h holds, which is a row before it, and has the property
   pub held_step : (h : Holder) → IsHolder input rows h → (offset stored number : ℕ) (part : NodeMeaning) (P : FvNode → Type 0)
       → let row : TreeRow = record { parent = h.number; depth = h.node.depth + 1; number = number; node = part } in
-      node ≡ reported_node offset stored row → reported_node offset stored row ≡ reported_node offset (node_header_len stored part) row
-      → offset + node_len part ≤ length input → P h.node
+      node ≡ reported_node offset stored row → reported_node offset stored row ≡ reported_node offset (node_header_length stored part) row
+      → offset + node_length part ≤ length input → h.node.depth ≤ offset → P h.node
       → (Held news (reported_node offset stored row) P → IsPlaced input news (reported_node offset stored row) part)
       → Step input rows news added row
-  held_step h holder offset stored number part P is again within holds placed =
+  held_step h holder offset stored number part P is again within deep holds placed =
       let row : TreeRow = record { parent = h.number; depth = h.node.depth + 1; number = number; node = part } in
       let made : FvNode = reported_node offset stored row in
       let there : slice_get news h.number ≡ Some h.node =
       ap (λ (l : List FvNode). slice_get l h.number) push.joined ∙ get_later rows (node ∷ []) h.number h.node holder.row in
-      new_step made row is (omega (arith, not_deep holder)) refl
+      new_step made row holder.short is (omega (arith, deep)) refl
       (record { is = again; within = within; placed = placed (h.node, there, holds) })
 
 -- ---- a file
+
+file_header : (t : Bool) → 24 ≤ file_header_len t
+file_header true = omega arith
+file_header false = omega arith
 
 file_long : (f : FileForm) (m : FileMeaning) → MeansFile (Stream depth_limit) f m → length f.payload ≡ data_len_of m
 file_long f (File name kind attributes content) means = content_long depth_limit f name kind attributes content means
@@ -135,7 +140,7 @@ pub record FileAt (input : List ℕ) (h : Holder) (stored : List LocatedFile) (m
   pub meaning : m ≡ get_or ms i m
 
 module _ {input : List ℕ} {h : Holder} {stored : List LocatedFile} {ms : List FileMeaning} {i : ℕ} {m : FileMeaning}
-    (here : FileAt input h stored ms i m) (within : h.node.offset + h.node.len ≤ length input) (other : LocatedFile) where
+    (here : FileAt input h stored ms i m) (within : h.node.offset + h.node.length ≤ length input) (other : LocatedFile) where
   -- as it is stored
   abbrev pub form : FileForm
   form = file_form (get_or stored i other)
@@ -152,8 +157,11 @@ module _ {input : List ℕ} {h : Holder} {stored : List LocatedFile} {ms : List 
       (item_at ms i m here.inside here.meaning)
 
   lies : LieAt input (h.node.offset + data_place form) form.payload
-  lies = file_lies input h.node.offset h.node.len form within
+  lies = file_lies input h.node.offset h.node.length form within
       (all_at (HasDataIn (bytes_at input h.node)) (map file_form stored) i form here.volume.data_in at)
+
+  some_header : 24 ≤ form.head.header_len
+  some_header = file_header (is_large (attribute_bits (get_or stored i other).attributes))
 
   pub file_fits : {n : ℕ} → length input < n → h.node.offset + data_place form < n
   file_fits short = omega (arith, lies.0, short)
@@ -171,7 +179,7 @@ module _ {input : List ℕ} {h : Holder} {stored : List LocatedFile} {ms : List 
       → IsAdded rows news node added → Step input rows news added file_row
   file_step holder made push =
       held_step push h holder (h.node.offset + data_place form) form.head.header_len i (FileNode m) (λ p. IsFileIn input p node_of_file m)
-      made refl (omega (arith, lies.0, file_long form m means))
+      made refl (omega (arith, lies.0, file_long form m means)) (omega (arith, holder.deep, some_header))
       (record {
         files = map file_form stored;
         volume = here.volume.found;
@@ -190,6 +198,10 @@ module _ {input : List ℕ} {h : Holder} {stored : List LocatedFile} {ms : List 
       file_content form m (bytes_at input added.node) means (ap (bytes_at input) (push.node ∙ made) ∙ payload)
 
 -- ---- a section
+
+section_header : (t : Bool) → 4 ≤ section_header_len t
+section_header true = omega arith
+section_header false = omega arith
 
 section_long : (f : FrameForm) (s : SectionMeaning) → MeansSection depth_limit f s → length f.body ≡ body_len (body_of s)
 section_long f (Section kind extended body) means =
@@ -247,7 +259,7 @@ pub record SectionAt (input : List ℕ) (h : Holder) (ss : List SectionMeaning) 
   pub meaning : s ≡ get_or ss i s
 
 module _ {input : List ℕ} {h : Holder} {ss : List SectionMeaning} {i : ℕ} {left more : List FrameForm} {f : FrameForm} {s : SectionMeaning}
-    (here : SectionAt input h ss i left more f s) (within : h.node.offset + h.node.len ≤ length input) where
+    (here : SectionAt input h ss i left more f s) (within : h.node.offset + h.node.length ≤ length input) where
   frame_at : slice_get here.walk.0 i ≡ Some f
   frame_at = get_dropped here.walk.0 more i f (sym here.first ∙ here.walk.4)
 
@@ -257,7 +269,7 @@ module _ {input : List ℕ} {h : Holder} {ss : List SectionMeaning} {i : ℕ} {l
   body_lies : LieAt input (h.node.offset + body_place f) f.body
   body_lies =
       let b = bytes_at input h.node in
-      frame_lies input h.node.offset h.node.len f within
+      frame_lies input h.node.offset h.node.length f within
       (all_at (λ g. FrameStandsAt g g.offset b) here.walk.0 i f (split_stands here.walk.0 here.walk.1 b here.walk.2) frame_at)
 
   pub section_fits : {n : ℕ} → length input < n → h.node.offset + body_place f < n
@@ -276,7 +288,7 @@ module _ {input : List ℕ} {h : Holder} {ss : List SectionMeaning} {i : ℕ} {l
       → IsAdded rows news node added → Step input rows news added section_row
   section_step holder made push =
       held_step push h holder (h.node.offset + body_place f) 0 i (SectionNode s) (λ p. IsSectionIn input p node_of_section s) made refl
-      (omega (arith, body_lies.0, section_long f s means_section))
+      (omega (arith, body_lies.0, section_long f s means_section)) (omega (arith, holder.deep, section_header f.extended))
       (record {
         frames = here.walk.0;
         tail = here.walk.1;
@@ -289,11 +301,16 @@ module _ {input : List ℕ} {h : Holder} {ss : List SectionMeaning} {i : ℕ} {l
       })
       (λ held. held)
 
-  pub section_holds : {rows news : List FvNode} {node : FvNode} {added : Holder} → node ≡ node_of_section → IsAdded rows news node added
-      → HoldsBody (bytes_at input added.node) (body_of s) × (added.node.len ≡ body_len (body_of s))
-  section_holds {added = added} made push = (
+  pub section_holds : {rows news : List FvNode} {node : FvNode} {added : Holder} → IsHolder input rows h → node ≡ node_of_section
+      → IsAdded rows news node added
+      → HoldsBody (bytes_at input added.node) (body_of s)
+      × ((added.node.length ≡ body_len (body_of s)) × (added.node.depth ≤ added.node.offset))
+  section_holds {added = added} holder made push = (
     section_body f s (bytes_at input added.node) means_section (ap (bytes_at input) (push.node ∙ made) ∙ body_is),
-    ap (λ (n : FvNode). n.len) (push.node ∙ made),
+    (
+      ap (λ (n : FvNode). n.length) (push.node ∙ made),
+      subst (λ (n : FvNode). n.depth ≤ n.offset) (sym (push.node ∙ made)) (omega (arith, holder.deep, section_header f.extended)),
+    ),
   )
 
 sections_list_back : (ss : List SectionMeaning) → sections_list (sections_from ss) ≡ ss
@@ -328,9 +345,10 @@ volume_row h m = record { parent = h.number; depth = h.node.depth + 1; number = 
 abbrev pub node_of_volume : Holder → Meaning → FvNode
 node_of_volume h m = reported_node h.node.offset 0 (volume_row h m)
 
-module _ (input : List ℕ) (h : Holder) (m : Meaning) (body : BodyMeaning) (within : h.node.offset + h.node.len ≤ length input)
-    (holds : HoldsBody (bytes_at input h.node) body) (long : h.node.len ≡ body_len body) (is : Nested m ≡ body) (bytes : IsBytes input) where
-  same_len : h.node.len ≡ length_of m
+module _ (input : List ℕ) (h : Holder) (m : Meaning) (body : BodyMeaning) (within : h.node.offset + h.node.length ≤ length input)
+    (holds : HoldsBody (bytes_at input h.node) body) (long : h.node.length ≡ body_len body)
+    (deep : h.node.depth ≤ h.node.offset) (is : Nested m ≡ body) (bytes : IsBytes input) where
+  same_len : h.node.length ≡ length_of m
   same_len = long ∙ ap body_len (sym is)
 
   same_bytes : bytes_at input (node_of_volume h m) ≡ bytes_at input h.node
@@ -348,7 +366,7 @@ module _ (input : List ℕ) (h : Holder) (m : Meaning) (body : BodyMeaning) (wit
   pub nested_step : {rows news : List FvNode} {node : FvNode} {added : Holder} → IsHolder input rows h → node ≡ node_of_volume h m
       → IsAdded rows news node added → Step input rows news added (volume_row h m)
   nested_step holder made push =
-      held_step push h holder h.node.offset 0 0 (VolumeNode m) (λ p. h.node.offset ≡ p.offset) made refl (omega (arith, within, same_len)) refl
+      held_step push h holder h.node.offset 0 0 (VolumeNode m) (λ p. h.node.offset ≡ p.offset) made refl (omega (arith, within, same_len)) deep refl
       (λ held. (accepted, (λ z. absurd (one_more h.node.depth z), λ _. held)))
     where
       one_more : (n : ℕ) → n + 1 ≡ 0 → ⊥
@@ -384,13 +402,16 @@ module _ {input : List ℕ} {m : Meaning} (accepted_input : Accepted input m) wh
     go : (v : Meaning) → Accepted input v → length_of v ≡ length input
     go (Volume hd files) a = sym (a.1.whole ∙ a.1.front.length_is)
 
+  within_limit : length input ≤ volume_limit
+  within_limit = omega (arith, accepted_input.1.front.head.volume_most, accepted_input.1.front.length_is, accepted_input.1.whole)
+
   all_bytes : bytes_at input node_of_root ≡ input
   all_bytes = take_all (length_of m) input (omega (arith, whole))
 
   pub root_step : {news : List FvNode} {node : FvNode} {added : Holder} → node ≡ node_of_root → IsAdded [] news node added
       → Step input [] news added root_row
   root_step made push =
-      new_step push node_of_root root_row made (omega arith) refl (record {
+      new_step push node_of_root root_row within_limit made (omega arith) refl (record {
         is = refl;
         within = omega (arith, whole);
         placed = (subst (λ (b : List ℕ). Accepted b m) (sym all_bytes) accepted_input, (λ _. refl, λ ne. absurd (ne refl)));

@@ -1,12 +1,13 @@
 -- The definitions in the order in which they can be read.
 pub mod Reports
+pub mod ReportedHeaders
+pub mod ReportedComparisons
 pub mod ReportedCells
 pub mod ReportedChecks
 pub mod ReportedTruths
 pub mod ReportedHobs
-pub mod ReportedFiles
 pub mod TreeParts
 pub mod ReportedTree
-pub mod ReportedSums
+pub mod ReportedDigests
 pub mod ExtractedParts
 pub mod inner

@@ -1,36 +1,36 @@
 -- The cells of a volume, as they are reported to C.
 use Rattle.std.specs.Prelude.{ℕ, replicate}
 use Rattle.fv_base.specs.Words.{bytes_of}
-use Rattle.fv_file.specs.Words.{CellForm, Valid, Pad, Dead, Stub, Free, attribute_bits}
+use Rattle.fv_file.specs.Words.{CellForm, Valid, Pad, Dead, Stub, Free, attribute_bits, file_header_len, is_large}
 use Rattle.fv_file.specs.declared.head.FileHead.{FileHead}
 use Rattle.fv_file.specs.declared.state.FileState.{FileState}
 use Rattle.fv_file.specs.declared.state.FileState.TheVariants as states
 use Rattle.fv_c.specs.declared.cells.FvCell.{FvCell}
 
--- a file or a pad: its offset, its number, and its header
+-- a file or a pad: its offset, its number, and its header, which has 32 bytes in a large file and 24 in any other
 abbrev pub of_file : ℕ → ℕ → FileHead → FvCell
-of_file at what head = record {
+of_file at kind head = record {
   offset = at;
-  len = head.size;
-  header_len = head.header_len;
-  what = what;
-  kind = head.kind;
+  length = head.size;
+  kind = kind;
+  header_length = file_header_len (is_large (attribute_bits head.attributes));
+  efi_type = head.kind;
   attributes = attribute_bits head.attributes;
-  reserved = 0;
   name = bytes_of head.name;
+  reserved = 0;
 }
 
 -- bytes of no valid file: their offset, their number, and their length
 abbrev pub of_bytes : ℕ → ℕ → ℕ → FvCell
-of_bytes at what len = record {
+of_bytes at kind len = record {
   offset = at;
-  len = len;
-  header_len = 0;
-  what = what;
-  kind = 0;
+  length = len;
+  kind = kind;
+  header_length = 0;
+  efi_type = 0;
   attributes = 0;
-  reserved = 0;
   name = replicate 16 0;
+  reserved = 0;
 }
 
 -- the number of a file that is not valid, by its state: 3 if it was deleted, else 4, as of a header that was never

@@ -1,22 +1,35 @@
 -- The blocks of a hand-off list, as they are reported to C.
 use Rattle.std.specs.Option.{unwrap_or}
-use Rattle.std.specs.Prelude.{ℕ, List, take}
+use Rattle.std.specs.Prelude.{ℕ, ◌+◌, List, take}
 use Rattle.fv_hob.specs.Words.{IsFirstHobFault, hob_fault_number, HobForm, hob_len, hob_type, IsHobList, span_of}
 use Rattle.fv_hob.specs.declared.fault.HobFault.{HobFault}
+use Rattle.fv_hob.specs.declared.fault.HobFaultKind.{HobFaultKind}
+use Rattle.fv_hob.specs.declared.fault.HobFaultKind.TheVariants as kinds
 use Rattle.fv_hob.specs.declared.span.Span.{Span}
 use Rattle.fv_c.specs.declared.hobs.FvHob.{FvHob}
 use Rattle.fv_c.specs.declared.reports.FvFault.{FvFault}
 
 -- a block, with the span of the volume that it describes; zeros if it describes none
 abbrev pub with_span : Span → HobForm → FvHob
-with_span s h = record { base = s.base; length = s.length; code = hob_type h.kind; hob_length = hob_len h.kind }
+with_span s h = record {
+  volume_base = s.base;
+  volume_length = s.length;
+  hob_type = hob_type h.kind;
+  hob_length = hob_len h.kind;
+  reserved = 0;
+}
 
 abbrev pub reported_hob : HobForm → FvHob
 reported_hob h = with_span (unwrap_or (span_of h.kind) (record { base = 0; length = 0 })) h
 
+-- the result for a fault of a list: 24 if memory runs out, else 768 plus the number of its kind
+abbrev pub hob_result : HobFaultKind → ℕ
+hob_result kinds.OutOfMemory = 24
+hob_result kind = 768 + hob_fault_number kind
+
 -- a fault of a list
 abbrev pub reported_hob_fault : HobFault → FvFault
-reported_hob_fault f = record { offset = f.offset; number = hob_fault_number f.kind; depth = 0 }
+reported_hob_fault f = record { offset = f.offset; result = hob_result f.kind; depth = 0; input = 0; reserved = 0 }
 
 -- the bytes begin with no hand-off list, and this is the first fault
 pub record NoHobs (b : List ℕ) (f : HobFault) : Type 0 where

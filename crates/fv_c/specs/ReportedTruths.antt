@@ -1,8 +1,10 @@
 -- The arguments that C passes for a dependency expression, and the report on it.
-use Rattle.std.specs.Prelude.{ℕ, zero, suc, List, Option, Some, None, Bool, true, false}
+use Rattle.std.specs.Prelude.{ℕ, ◌+◌, zero, suc, List, Option, Some, None, Bool, true, false}
 use Rattle.fv_base.specs.declared.guid.Guid.{Guid}
 use Rattle.fv_depex.specs.Words.{Spells, IsFirstOpFault, depex_fault_number}
 use Rattle.fv_depex.specs.declared.fault.DepexFault.{DepexFault}
+use Rattle.fv_depex.specs.declared.fault.DepexFaultKind.{DepexFaultKind}
+use Rattle.fv_depex.specs.declared.fault.DepexFaultKind.TheVariants as kinds
 use Rattle.fv_depex.specs.declared.op.Op.{Op}
 use Rattle.fv_depex.specs.declared.op.Phase.{Phase}
 use Rattle.fv_depex.specs.declared.op.Phase.TheVariants as phases
@@ -24,9 +26,14 @@ abbrev pub phase_by_number : ℕ → Phase
 phase_by_number zero = phases.Pei
 phase_by_number (suc n) = phases.Dxe
 
+-- the result for a fault of an expression: 24 if memory runs out, else 512 plus the number of its kind
+abbrev pub depex_result : DepexFaultKind → ℕ
+depex_result kinds.OutOfMemory = 24
+depex_result kind = 512 + depex_fault_number kind
+
 -- a fault of an expression
 abbrev pub reported_depex_fault : DepexFault → FvFault
-reported_depex_fault f = record { offset = f.offset; number = depex_fault_number f.kind; depth = 0 }
+reported_depex_fault f = record { offset = f.offset; result = depex_result f.kind; depth = 0; input = 0; reserved = 0 }
 
 -- the bytes are not an expression of the phase, and this is the first fault
 pub record NoExpression (phase : Phase) (b : List ℕ) (f : DepexFault) : Type 0 where

@@ -5,7 +5,10 @@ use Rattle.fv_tree.specs.Words.{Meaning, Volume, FileMeanings, NoFiles, MoreFile
 use Rattle.fv_tree.specs.Words.{Plain, Sectioned, SectionMeanings, NoSections, MoreSections, SectionMeaning, Section}
 use Rattle.fv_tree.specs.Words.{BodyMeaning, Leaf, Group, Nested}
 use Rattle.fv_rows.specs.Words.{NodeMeaning, VolumeNode, FileNode, SectionNode, parts_in}
-use Rattle.fv_c.specs.ReportedFiles.{no_parent}
+
+-- the number that the first row has as its parent
+abbrev pub no_parent : ℕ
+no_parent = 18446744073709551615
 
 -- a part in the tree: the number of the row that holds it, the number of rows around it, its place among the parts that
 -- this row holds, from 0, and the part

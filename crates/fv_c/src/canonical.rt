@@ -26,25 +26,25 @@ use std::alloc::Global;
 /// The number of the first fault, which is in `fault`: a fault of `whole_volume`; 24 if memory runs
 /// out. `canonical` is unchanged then.
 #[unsafe(no_mangle)]
-pub extern "C" fn fv_is_canonical(
+pub extern "C" fn fvp_volume_is_canonical(
     alloc: Global,
-    input: &[u8],
+    volume: &[u8],
     canonical: &mut u32,
     fault: &mut FvFault,
 ) -> u32
     // The input has one meaning, and the flag says whether it is the image of it.
-    ensures ok { result ≡ 0 → (m : Meaning) × Accepted input.now m × ((canonical.new ≡ 1) ↔ IsImage m input.now)
+    ensures ok { result ≡ 0 → (m : Meaning) × Accepted volume.now m × ((canonical.new ≡ 1) ↔ IsImage m volume.now)
         × (canonical.new ≤ 1) × (fault.new ≡ no_fault) }
 
     ensures kept { result ≢ 0 → canonical.new ≡ canonical.old }
 
     // A fault is out of memory, only if the input begins with the header of a volume, or the first
     // of the input.
-    ensures err { result ≢ 0 → (f : Fault) × OrMemory (NotRead input.now) f
-        × (f ≡ out_of_memory → BeginsWithHeader input.now)
+    ensures err { result ≢ 0 → (f : Fault) × OrMemory (NotRead volume.now) f
+        × (f ≡ out_of_memory → BeginsWithHeader volume.now)
         × (result ≡ fault_number f.kind) × (fault.new ≡ reported_fault f) }
 {
-    match is_canonical(alloc, input) {
+    match is_canonical(alloc, volume) {
         Ok(is_own) => {
             *canonical = flag(is_own);
             *fault = NO_FAULT;
@@ -57,22 +57,22 @@ pub extern "C" fn fv_is_canonical(
 /// A SHA-256 digest.
 #[repr(C)]
 #[derive(Clone, Copy)]
-pub struct FvDigest {
+pub struct FvSha256 {
     /// Its 32 bytes.
     pub bytes: [u8; 32],
 }
 
 // The SHA-256 of the canonical image of the volume that the input is.
-fn digest_of(alloc: Global, input: &[u8]) -> Result<FvDigest, Fault>
-    ensures ok { IfOk result (λ d. (image : List ℕ) × NormalisesTo input.now image × (d.bytes ≡ sha256 image)) }
-    ensures err { IfErr result (OrMemory (Refuses input.now)) }
-    ensures fits { (image : List ℕ) → NormalisesTo input.now image → IfErr result (λ f. f ≡ out_of_memory) }
-    ensures memory { IfErr result (λ f. f ≡ out_of_memory → BeginsWithHeader input.now) }
+fn digest_of(alloc: Global, volume: &[u8]) -> Result<FvSha256, Fault>
+    ensures ok { IfOk result (λ d. (image : List ℕ) × NormalisesTo volume.now image × (d.bytes ≡ sha256 image)) }
+    ensures err { IfErr result (OrMemory (Refuses volume.now)) }
+    ensures fits { (image : List ℕ) → NormalisesTo volume.now image → IfErr result (λ f. f ≡ out_of_memory) }
+    ensures memory { IfErr result (λ f. f ≡ out_of_memory → BeginsWithHeader volume.now) }
 {
-    let laid = lay_out_volume(alloc, input)?;
+    let laid = lay_out_volume(alloc, volume)?;
     let mut digest = DigestSink::new();
     put_canonical(laid.volume(), laid.layout(), &mut digest);
-    Ok(FvDigest {
+    Ok(FvSha256 {
         bytes: digest.finish(),
     })
 }
@@ -86,28 +86,28 @@ fn digest_of(alloc: Global, input: &[u8]) -> Result<FvDigest, Fault>
 /// The number of the first fault, which is in `fault`: a fault of `normalise`; 24 if memory runs
 /// out. `digest` is unchanged then.
 #[unsafe(no_mangle)]
-pub extern "C" fn fv_digest(
+pub extern "C" fn fvp_volume_digest(
     alloc: Global,
-    input: &[u8],
-    digest: &mut FvDigest,
+    volume: &[u8],
+    digest: &mut FvSha256,
     fault: &mut FvFault,
 ) -> u32
     // The digest is the SHA-256 digest of the canonical image.
-    ensures ok { result ≡ 0 → (image : List ℕ) × NormalisesTo input.now image
+    ensures ok { result ≡ 0 → (image : List ℕ) × NormalisesTo volume.now image
         × (digest.new.bytes ≡ sha256 image) × (fault.new ≡ no_fault) }
 
     ensures kept { result ≢ 0 → digest.new ≡ digest.old }
 
     // A fault is out of memory, only if the input begins with the header of a volume, or the first
     // of the input.
-    ensures err { result ≢ 0 → (f : Fault) × OrMemory (Refuses input.now) f
-        × (f ≡ out_of_memory → BeginsWithHeader input.now)
+    ensures err { result ≢ 0 → (f : Fault) × OrMemory (Refuses volume.now) f
+        × (f ≡ out_of_memory → BeginsWithHeader volume.now)
         × (result ≡ fault_number f.kind) × (fault.new ≡ reported_fault f) }
 
     // If the input has an image, only memory can run out.
-    ensures fits { (image : List ℕ) → NormalisesTo input.now image → result ≢ 0 → result ≡ 24 }
+    ensures fits { (image : List ℕ) → NormalisesTo volume.now image → result ≢ 0 → result ≡ 24 }
 {
-    match digest_of(alloc, input) {
+    match digest_of(alloc, volume) {
         Ok(d) => {
             *digest = d;
             *fault = NO_FAULT;
@@ -126,38 +126,38 @@ pub extern "C" fn fv_digest(
 /// out. If there is none, 256 if the buffer is shorter than the input. The buffer is unchanged in
 /// all cases.
 #[unsafe(no_mangle)]
-pub extern "C" fn fv_normalise(
+pub extern "C" fn fvp_volume_normalise(
     alloc: Global,
-    input: &[u8],
+    volume: &[u8],
     buffer: &mut [u8],
     fault: &mut FvFault,
 ) -> u32
     // The buffer begins with the image, and holds what it held after that.
-    ensures ok { result ≡ 0 → (image : List ℕ) × NormalisesTo input.now image × (length image ≡ length input.now)
+    ensures ok { result ≡ 0 → (image : List ℕ) × NormalisesTo volume.now image × (length image ≡ length volume.now)
         × (buffer.new ≡ image ++ drop (length image) buffer.old) × (fault.new ≡ no_fault) }
 
     ensures kept { result ≢ 0 → buffer.new ≡ buffer.old }
 
     // Only for an input that has an image can the buffer be too small: if it is shorter.
-    ensures small { result ≡ 256 → (image : List ℕ) × NormalisesTo input.now image × (length image ≡ length input.now)
+    ensures small { result ≡ 256 → (image : List ℕ) × NormalisesTo volume.now image × (length image ≡ length volume.now)
         × (length buffer.old < length image) × (fault.new ≡ no_fault) }
-    ensures room { length buffer.old < length input.now → result ≢ 0 }
+    ensures room { length buffer.old < length volume.now → result ≢ 0 }
 
     // Any other fault is out of memory, only if the input begins with the header of a volume, or
     // the first of the input.
-    ensures err { result ≢ 0 → result ≢ 256 → (f : Fault) × OrMemory (Refuses input.now) f
-        × (f ≡ out_of_memory → BeginsWithHeader input.now)
+    ensures err { result ≢ 0 → result ≢ 256 → (f : Fault) × OrMemory (Refuses volume.now) f
+        × (f ≡ out_of_memory → BeginsWithHeader volume.now)
         × (result ≡ fault_number f.kind) × (fault.new ≡ reported_fault f) }
 
     // If the input has an image, only memory or the buffer can be too small.
-    ensures fits { (image : List ℕ) → NormalisesTo input.now image → result ≢ 0 → result ≢ 256 → result ≡ 24 }
+    ensures fits { (image : List ℕ) → NormalisesTo volume.now image → result ≢ 0 → result ≢ 256 → result ≡ 24 }
 {
-    let laid = match lay_out_volume(alloc, input) {
+    let laid = match lay_out_volume(alloc, volume) {
         Ok(laid) => laid,
         Err(f) => return refused(f, fault),
     };
     *fault = NO_FAULT;
-    if buffer.len() < input.len() {
+    if buffer.len() < volume.len() {
         return BUFFER_TOO_SMALL;
     }
     let mut out = BufferSink::new(buffer);
@@ -165,7 +165,7 @@ pub extern "C" fn fv_normalise(
     0
 }
 
-/// Writes a flash image with each volume that `fv_scan` finds replaced by its canonical image. The
+/// Writes a flash image with each volume that `fvp_image_scan` finds replaced by its canonical image. The
 /// result is as long as the image, and is at the start of the buffer. Returns 0. (PI specification,
 /// volume 3, section 3.2.)
 ///
@@ -175,7 +175,7 @@ pub extern "C" fn fv_normalise(
 /// `normalise_image`; 24 if memory runs out. If there is none, 256 if the buffer is shorter than
 /// the image. The buffer is unchanged in all cases.
 #[unsafe(no_mangle)]
-pub extern "C" fn fv_normalise_image(
+pub extern "C" fn fvp_image_normalise(
     alloc: Global,
     image: &[u8],
     buffer: &mut [u8],

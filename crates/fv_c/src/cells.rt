@@ -3,7 +3,7 @@
 ghost use Rattle.std.specs.Prelude.{◌≡◌, ◌≢◌, ◌<◌, ◌++◌, List, length, drop, map, IfErr, IfOk};
 ghost use Rattle.fv_base.specs.Words.{fault_number, out_of_memory};
 ghost use Rattle.fv_base.specs.declared.fault.Fault.{Fault};
-ghost use Rattle.fv_file.specs.Words.{cell_form, CellForm};
+ghost use Rattle.fv_file.specs.Words.{attribute_bits, cell_form, CellForm, file_header_len, is_large};
 ghost use Rattle.fv_head.specs.declared.extent.Extent.{Extent};
 ghost use Rattle.fv_tree.specs.Words.{BeginsTiled, NotTiled};
 ghost use Rattle.fv_c.specs.ReportedCells.{dead_number, of_bytes, of_file, reported_cell};
@@ -13,7 +13,8 @@ use crate::buffer::put_result;
 use crate::reports::FvFault;
 use crate::translate::{Translate, translate_all};
 use fv_base::Fault;
-use fv_file::{Cell, Cells, FileHead, FileState};
+use fv_file::offsets::{HEADER_LEN, LARGE_HEADER_LEN};
+use fv_file::{Cell, Cells, FileAttributes, FileHead, FileState};
 use fv_tree::volume_cells;
 use std::alloc::{AllocError, Global};
 
@@ -25,51 +26,62 @@ pub struct FvCell {
     /// Its offset in bytes from the volume's start.
     pub offset: u64,
     /// The number of its bytes, of a file or a pad without the filler after it.
-    pub len: u64,
-    /// The number of bytes of the header of a file or a pad. Its data follow the header.
-    pub header_len: u64,
+    pub length: u64,
     /// 1: a valid file; 2: a pad; 3: a file that was deleted; 4: a file whose data or header were
     /// never finished; 5: free bytes.
-    pub what: u32,
-    /// `Type` of a file or a pad.
     pub kind: u32,
+    /// The number of bytes of the header of a file or a pad, 24 or 32. Its data follow the header.
+    pub header_length: u32,
+    /// `Type` of a file or a pad.
+    pub efi_type: u32,
     /// `Attributes` of a file or a pad.
     pub attributes: u32,
-    /// Always 0.
-    pub reserved: u32,
     /// `Name` of a file or a pad, by its bytes in the volume.
     pub name: [u8; 16],
+    /// Always 0.
+    pub reserved: u64,
+}
+
+// The number of bytes of the header of a file with these attributes.
+fn header_length(attributes: FileAttributes) -> u32
+    ensures { result ≡ file_header_len (is_large (attribute_bits attributes)) }
+{
+    if attributes.is_large() {
+        LARGE_HEADER_LEN as u32
+    } else {
+        HEADER_LEN as u32
+    }
 }
 
 // A file or a pad, for C.
-fn of_file(offset: u64, what: u32, head: FileHead) -> FvCell
-    ensures { result ≡ of_file offset what head }
+fn of_file(offset: u64, kind: u32, head: FileHead) -> FvCell
+    ensures { result ≡ of_file offset kind head }
 {
     FvCell {
         offset,
-        len: head.size,
-        header_len: head.header_len,
-        what,
-        kind: u32::from(head.kind),
+        length: head.size,
+        kind,
+        header_length: header_length(head.attributes),
+        efi_type: u32::from(head.kind),
         attributes: u32::from(head.attributes.byte()),
-        reserved: 0,
         name: head.name.to_bytes(),
+        reserved: 0,
     }
 }
 
 // Bytes of no valid file, for C.
-fn of_bytes(offset: u64, what: u32, len: u64) -> FvCell
-    ensures { result ≡ of_bytes offset what len }
+fn of_bytes(offset: u64, kind: u32, length: u64) -> FvCell
+    ensures { result ≡ of_bytes offset kind length }
 {
     FvCell {
         offset,
-        len,
-        header_len: 0,
-        what,
-        kind: 0,
+        length,
+        kind,
+        header_length: 0,
+        efi_type: 0,
         attributes: 0,
-        reserved: 0,
         name: [0; 16],
+        reserved: 0,
     }
 }
 
@@ -107,18 +119,18 @@ fn reported_list(alloc: Global, list: &Cells<'_>) -> Result<Vec<FvCell>, AllocEr
 }
 
 // The cells of the volume with which the bytes begin, for C.
-fn cell_rows(alloc: Global, bytes: &[u8]) -> Result<Vec<FvCell>, Fault>
-    ensures ok { IfOk result (λ v. (e : Extent) × (cs : List CellForm) × BeginsTiled e cs bytes.now
+fn cell_rows(alloc: Global, volume: &[u8]) -> Result<Vec<FvCell>, Fault>
+    ensures ok { IfOk result (λ v. (e : Extent) × (cs : List CellForm) × BeginsTiled e cs volume.now
         × (v.items ≡ map reported_cell cs)) }
-    ensures err { IfErr result (λ f. f ≢ out_of_memory → NotTiled bytes.now f) }
-    ensures memory { IfErr result (λ f. f ≡ out_of_memory → BeginsWithHeader bytes.now) }
+    ensures err { IfErr result (λ f. f ≢ out_of_memory → NotTiled volume.now f) }
+    ensures memory { IfErr result (λ f. f ≡ out_of_memory → BeginsWithHeader volume.now) }
 {
-    let (_, list) = volume_cells(alloc, bytes)?;
+    let (_, list) = volume_cells(alloc, volume)?;
     Ok(reported_list(alloc, &list)?)
 }
 
-/// Writes the cells of the volume with which the bytes begin, in order, at the start of the buffer.
-/// `count` is their number. Returns 0. Sections, duplicate names and the volume top file are not
+/// Writes the cells of the volume with which the bytes begin, in order, at the start of the buffer
+/// `rows`. `count` is their number. Returns 0. Sections, duplicate names and the volume top file are not
 /// checked. (PI specification, volume 3, sections 3.2.2 and 3.2.3.)
 ///
 /// # Errors
@@ -127,27 +139,27 @@ fn cell_rows(alloc: Global, bytes: &[u8]) -> Result<Vec<FvCell>, Fault>
 /// `fault`: a fault of `verify_fv`, then a fault of `cells`; 24 if memory runs out. `count` is
 /// unchanged then. The buffer is unchanged in both cases.
 #[unsafe(no_mangle)]
-pub extern "C" fn fv_cells(
+pub extern "C" fn fvp_volume_cells(
     alloc: Global,
-    bytes: &[u8],
-    buffer: &mut [FvCell],
+    volume: &[u8],
+    rows: &mut [FvCell],
     count: &mut u64,
     fault: &mut FvFault,
 ) -> u32
     // The buffer begins with the cells, and holds what it held after them.
-    ensures ok { result ≡ 0 → (e : Extent) × (cs : List CellForm) × BeginsTiled e cs bytes.now
-        × (count.new ≡ length cs) × (buffer.new ≡ map reported_cell cs ++ drop (length cs) buffer.old)
+    ensures ok { result ≡ 0 → (e : Extent) × (cs : List CellForm) × BeginsTiled e cs volume.now
+        × (count.new ≡ length cs) × (rows.new ≡ map reported_cell cs ++ drop (length cs) rows.old)
         × (fault.new ≡ no_fault) }
 
-    ensures kept { result ≢ 0 → buffer.new ≡ buffer.old }
-    ensures small { result ≡ 256 → (e : Extent) × (cs : List CellForm) × BeginsTiled e cs bytes.now
-        × (count.new ≡ length cs) × (length buffer.old < length cs) × (fault.new ≡ no_fault) }
+    ensures kept { result ≢ 0 → rows.new ≡ rows.old }
+    ensures small { result ≡ 256 → (e : Extent) × (cs : List CellForm) × BeginsTiled e cs volume.now
+        × (count.new ≡ length cs) × (length rows.old < length cs) × (fault.new ≡ no_fault) }
 
     // Any other fault is out of memory, only if the bytes begin with the header of a volume, or the
     // first of the header or of the cells.
-    ensures err { result ≢ 0 → result ≢ 256 → (f : Fault) × (f ≢ out_of_memory → NotTiled bytes.now f)
-        × (f ≡ out_of_memory → BeginsWithHeader bytes.now)
+    ensures err { result ≢ 0 → result ≢ 256 → (f : Fault) × (f ≢ out_of_memory → NotTiled volume.now f)
+        × (f ≡ out_of_memory → BeginsWithHeader volume.now)
         × (result ≡ fault_number f.kind) × (fault.new ≡ reported_fault f) × (count.new ≡ count.old) }
 {
-    put_result(cell_rows(alloc, bytes), buffer, count, fault)
+    put_result(cell_rows(alloc, volume), rows, count, fault)
 }

@@ -1,59 +1,62 @@
 //! Where the meanings of two volumes first differ.
 
-ghost use Rattle.std.specs.Prelude.{◌≡◌, ◌≢◌, ◌⊎◌, ◌↔◌, ◌<◌, ◌++◌, length, drop, true, IfOk, IfErr};
+ghost use Rattle.std.specs.Prelude.{◌≡◌, ◌≢◌, ◌⊎◌, ◌↔◌, ◌<◌, ◌≤◌, ◌+◌, ◌-◌, ◌∷◌, ◌++◌, length, drop, take, true, IfOk, IfErr};
 ghost use Rattle.fv_base.specs.Words.{OrMemory, fault_number, out_of_memory};
 ghost use Rattle.fv_base.specs.declared.fault.Fault.{Fault};
 ghost use Rattle.fv_compare.specs.Words.{compare_line};
 ghost use Rattle.fv_tree.specs.Words.{NotRead, Accepted, Meaning, difference};
-ghost use Rattle.fv_c.specs.Reports.{IsReported, reported_stop, BeginsWithHeader};
+ghost use Rattle.fv_c.specs.ReportedComparisons.{IsReported, compare_text};
+ghost use Rattle.fv_c.specs.Reports.{BeginsWithHeader, no_fault, reported_fault, reported_fault_of};
 
-use crate::buffer::put_all;
-use crate::reports::{FvFault, NO_FAULT, flag, reported_fault};
-use fv_base::{Fault, FaultKind, Port};
+use crate::buffer::put_first;
+use crate::reports::{BUFFER_TOO_SMALL, FvFault, NO_FAULT, flag, refused, refused_of};
+use fv_base::{ByteList, Fault, ListSink};
 use fv_canon::whole_volume;
-use fv_compare::write_comparison;
+use fv_compare::put_comparison;
 use fv_tree::VolumeView;
 use std::alloc::Global;
+
+/// The size in bytes of a buffer in which every text of a comparison has room, with its byte 0.
+pub const DIFFERENCE_SIZE: usize = 553;
 
 /// What a comparison found.
 #[repr(C)]
 #[derive(Clone, Copy)]
 pub struct FvComparison {
-    /// The number of bytes of the line, its line feed included.
-    pub line_len: u64,
+    /// The number of bytes of the text, without the byte 0 at its end.
+    pub text_length: u64,
     /// 1 if the two volumes have the same meaning, else 0.
     pub same: u32,
-    /// The input that was rejected, 1 or 2; 0 if none was.
-    pub side: u32,
-    /// The fault of that input.
-    pub fault: FvFault,
-}
-
-// Reports to C that the input of this side was rejected, and returns the number of the fault.
-fn stopped(side: u32, f: Fault, found: &mut FvComparison) -> u32
-    ensures number { result ≡ fault_number f.kind }
-    ensures found { found.new ≡ reported_stop side f }
-{
-    *found = FvComparison {
-        line_len: 0,
-        same: 0,
-        side,
-        fault: reported_fault(f),
-    };
-    u32::from(f.kind.number())
+    /// Always 0.
+    pub reserved: u32,
 }
 
 // Whether two volumes have the same meaning, and the line that says where they first differ.
-fn line_of(alloc: Global, a: &VolumeView<'_>, b: &VolumeView<'_>) -> Result<(bool, Vec<u8>), Fault>
+fn line_of(alloc: Global, a: &VolumeView<'_>, b: &VolumeView<'_>) -> Result<(bool, ByteList), Fault>
     ensures ok { IfOk result (λ r. ((r.0 ≡ true) ↔ (a.now ≡ b.now))
-        × (r.1.items ≡ compare_line (difference a.now b.now))) }
+        × (r.1 ≡ compare_line (difference a.now b.now)) × (length r.1 ≤ 553)) }
     ensures err { IfErr result (λ f. f ≡ out_of_memory) }
 {
-    let mut port = Port::new(Vec::new(alloc));
-    match write_comparison(alloc, a, b, &mut port) {
-        Ok(same) => Ok((same, port.into_inner())),
-        Err(_) => Err(Fault::outer(FaultKind::OutOfMemory, 0)),
+    let mut line = ListSink::with_room(alloc, DIFFERENCE_SIZE)?;
+    let same = put_comparison(alloc, a, b, &mut line)?;
+    Ok((same, line.finish()?))
+}
+
+// Writes a line with a byte 0 in place of its last byte, the line feed, to the start of the buffer.
+fn put_text(line: &[u8], text: &mut [u8]) -> u32
+    requires { 0 < length line.now }
+    ensures ok { result ≡ 0 → text.new ≡ take (length line.now - 1) line.now ++ 0 ∷ drop (length line.now) text.old }
+    ensures kept { result ≢ 0 → text.new ≡ text.old }
+    ensures small { result ≡ 256 → length text.old < length line.now }
+    ensures only { (result ≡ 0) ⊎ (result ≡ 256) }
+{
+    if text.len() < line.len() {
+        return BUFFER_TOO_SMALL;
     }
+    let last = line.len() - 1;
+    put_first(&line[..last], text);
+    text[last] = 0;
+    0
 }
 
 // Reports the comparison of two volumes to C.
@@ -61,78 +64,90 @@ fn report(
     alloc: Global,
     a: &VolumeView<'_>,
     b: &VolumeView<'_>,
-    buffer: &mut [u8],
+    text: &mut [u8],
     found: &mut FvComparison,
+    fault: &mut FvFault,
 ) -> u32
     ensures ok { result ≡ 0 → IsReported a.now b.now found.new
-        × (buffer.new ≡ compare_line (difference a.now b.now) ++ drop found.new.line_len buffer.old) }
-    ensures kept { result ≢ 0 → buffer.new ≡ buffer.old }
-    ensures small { result ≡ 256 → IsReported a.now b.now found.new × (length buffer.old < found.new.line_len) }
-    ensures first { found.new.side ≡ 1 → (result ≡ 24) × (found.new ≡ reported_stop 1 out_of_memory) }
-    ensures second { found.new.side ≢ 2 }
-    ensures side { result ≢ 0 → result ≢ 256 → found.new.side ≡ 1 }
+        × (text.new ≡ compare_text (difference a.now b.now) ++ 0 ∷ drop (found.new.text_length + 1) text.old)
+        × (fault.new ≡ no_fault) }
+    ensures kept { result ≢ 0 → text.new ≡ text.old }
+    ensures small { result ≡ 256 → IsReported a.now b.now found.new × (length text.old < found.new.text_length + 1)
+        × (fault.new ≡ no_fault) }
+    ensures room { 553 ≤ length text.old → result ≢ 256 }
+    ensures memory { result ≢ 0 → result ≢ 256 → (result ≡ 24) × (fault.new ≡ reported_fault out_of_memory)
+        × (found.new ≡ found.old) }
+    ensures first { fault.new.input ≡ 0 }
 {
     let (same, line) = match line_of(alloc, a, b) {
         Ok(pair) => pair,
-        Err(memory) => return stopped(1, memory, found),
+        Err(memory) => return refused(memory, fault),
     };
+    let line = line.as_slice();
     *found = FvComparison {
-        line_len: line.len() as u64,
+        text_length: line.len() as u64 - 1,
         same: flag(same),
-        side: 0,
-        fault: NO_FAULT,
+        reserved: 0,
     };
-    put_all(line.as_slice(), buffer)
+    *fault = NO_FAULT;
+    put_text(line, text)
 }
 
-/// Compares the meanings of two inputs that are volumes. Writes a line at the start of the buffer:
-/// `same`, or `different at` with the steps down to the first difference and its kind. `found` says
-/// whether they have the same meaning. Returns 0. (PI specification, volume 3, section 3.2.)
+/// Compares the meanings of two inputs that are volumes. Writes a text and a byte 0 at the start of
+/// the buffer `text`: `same`, or `different at` with the steps down to the first difference and its
+/// kind. `found` says whether they have the same meaning, and how long the text is. Returns 0. (PI
+/// specification, volume 3, section 3.2.)
 ///
 /// # Errors
 ///
-/// The number of the first fault of the input `found.side`, which is in `found.fault`: a fault of
-/// `whole_volume`; 24 if memory runs out, with the first side if the two are being compared. The
-/// second input is read only if the first is a volume. If there is no fault, 256 if the buffer is
-/// shorter than the line; `found` has its length then. The buffer is unchanged in all cases.
+/// The number of the first fault of an input, which is in `fault` with the number of the input, 0
+/// or 1: a fault of `whole_volume`; 24 if memory runs out, with the input 0 if the two are being
+/// compared. The second input is read only if the first is a volume. `found` is unchanged then. If
+/// there is no fault, 256 if the buffer is shorter than the text with its byte 0, which is at most
+/// `DIFFERENCE_SIZE`; `found` is written then. The buffer is unchanged in all cases.
 #[unsafe(no_mangle)]
-pub extern "C" fn fv_compare(
+pub extern "C" fn fvp_volume_compare(
     alloc: Global,
     first: &[u8],
     second: &[u8],
-    buffer: &mut [u8],
+    text: &mut [u8],
     found: &mut FvComparison,
+    fault: &mut FvFault,
 ) -> u32
-    // The buffer begins with the line, and holds what it held after that.
+    // The buffer begins with the text and a byte 0, and holds what it held after that.
     ensures ok { result ≡ 0 → (m : Meaning) × (k : Meaning) × Accepted first.now m × Accepted second.now k
         × IsReported m k found.new
-        × (buffer.new ≡ compare_line (difference m k) ++ drop found.new.line_len buffer.old) }
+        × (text.new ≡ compare_text (difference m k) ++ 0 ∷ drop (found.new.text_length + 1) text.old)
+        × (fault.new ≡ no_fault) }
 
-    ensures kept { result ≢ 0 → buffer.new ≡ buffer.old }
+    ensures kept { result ≢ 0 → text.new ≡ text.old }
     ensures small { result ≡ 256 → (m : Meaning) × (k : Meaning) × Accepted first.now m × Accepted second.now k
-        × IsReported m k found.new × (length buffer.old < found.new.line_len) }
+        × IsReported m k found.new × (length text.old < found.new.text_length + 1) × (fault.new ≡ no_fault) }
 
-    // A fault is out of memory, only if the input of its side begins with the header of a volume,
-    // or it is the first fault of that input. The second input is rejected only if the first is a
-    // volume.
-    ensures first { found.new.side ≡ 1 → (f : Fault) × OrMemory (NotRead first.now) f
+    // No text needs more room than this, its byte 0 included.
+    ensures room { 553 ≤ length text.old → result ≢ 256 }
+
+    // A fault is out of memory, only if its input begins with the header of a volume, or it is the
+    // first fault of that input. The second input is rejected only if the first is a volume.
+    ensures first { result ≢ 0 → result ≢ 256 → fault.new.input ≡ 0 → (f : Fault) × OrMemory (NotRead first.now) f
         × (f ≡ out_of_memory → BeginsWithHeader first.now)
-        × (result ≡ fault_number f.kind) × (found.new ≡ reported_stop 1 f) }
-    ensures second { found.new.side ≡ 2 → ((m : Meaning) × Accepted first.now m)
+        × (result ≡ fault_number f.kind) × (fault.new ≡ reported_fault_of 0 f) }
+    ensures second { fault.new.input ≡ 1 → ((m : Meaning) × Accepted first.now m)
         × (f : Fault) × OrMemory (NotRead second.now) f
         × (f ≡ out_of_memory → BeginsWithHeader second.now)
-        × (result ≡ fault_number f.kind) × (found.new ≡ reported_stop 2 f) }
+        × (result ≡ fault_number f.kind) × (fault.new ≡ reported_fault_of 1 f) }
 
-    // Any other result is the fault of one of the two inputs.
-    ensures side { result ≢ 0 → result ≢ 256 → (found.new.side ≡ 1) ⊎ (found.new.side ≡ 2) }
+    // Any other result is the fault of one of the two inputs, and `found` is unchanged.
+    ensures input { result ≢ 0 → result ≢ 256 → ((fault.new.input ≡ 0) ⊎ (fault.new.input ≡ 1))
+        × (found.new ≡ found.old) }
 {
     let a = match whole_volume(alloc, first) {
         Ok(view) => view,
-        Err(f) => return stopped(1, f, found),
+        Err(f) => return refused_of(0, f, fault),
     };
     let b = match whole_volume(alloc, second) {
         Ok(view) => view,
-        Err(f) => return stopped(2, f, found),
+        Err(f) => return refused_of(1, f, fault),
     };
-    report(alloc, &a, &b, buffer, found)
+    report(alloc, &a, &b, text, found, fault)
 }

@@ -1,17 +1,18 @@
 //! The truth value of a dependency expression.
 
 ghost use Rattle.std.specs.Prelude.{◌≡◌, ◌≢◌, ℕ, List, Some, None, map, IfOk, IfErr};
-ghost use Rattle.fv_depex.specs.Words.{Expression, IsOrder, IsTree, Spells, truth, BeginsFirstOp, depex_fault_number};
+ghost use Rattle.fv_depex.specs.Words.{Expression, IsOrder, IsTree, Spells, truth, BeginsFirstOp};
 ghost use Rattle.fv_depex.specs.Words.{depex_out_of_memory};
 ghost use Rattle.fv_depex.specs.declared.fault.DepexFault.{DepexFault};
 ghost use Rattle.fv_depex.specs.declared.op.Op.{Op};
-ghost use Rattle.fv_c.specs.ReportedTruths.{NoExpression, passed_guid, phase_by_number, reported_depex_fault, reported_truth};
+ghost use Rattle.fv_c.specs.ReportedTruths.{NoExpression, depex_result, passed_guid, phase_by_number, reported_depex_fault};
+ghost use Rattle.fv_c.specs.ReportedTruths.{reported_truth};
 ghost use Rattle.fv_c.specs.Reports.{no_fault};
 
-use crate::reports::{FvFault, NO_FAULT, refused_at};
+use crate::reports::{DEPEX_FAULTS, FvFault, NO_FAULT, OUT_OF_MEMORY, refused_at};
 use crate::translate::{Translate, translate_all};
 use fv_base::Guid;
-use fv_depex::{DepexFault, Phase, evaluate, read_depex};
+use fv_depex::{DepexFault, DepexFaultKind, Phase, evaluate, read_depex};
 use std::alloc::Global;
 
 /// A GUID, by its bytes in a volume.
@@ -53,20 +54,30 @@ fn reported_truth(value: Option<bool>) -> u32
     }
 }
 
+// The result of a call for a fault of an expression.
+fn depex_result(kind: DepexFaultKind) -> u32
+    ensures { result ≡ depex_result kind }
+{
+    match kind {
+        DepexFaultKind::OutOfMemory => OUT_OF_MEMORY,
+        _ => DEPEX_FAULTS + u32::from(kind.number()),
+    }
+}
+
 // The truth value of a dependency expression when these GUIDs are installed; None if it has none.
 fn evaluated(
     alloc: Global,
-    bytes: &[u8],
+    expression: &[u8],
     phase: Phase,
     installed: &[FvGuid],
 ) -> Result<Option<bool>, DepexFault>
-    ensures ok { IfOk result (λ found. (ops : List Op) × (rest : List ℕ) × Spells phase ops rest bytes.now
+    ensures ok { IfOk result (λ found. (ops : List Op) × (rest : List ℕ) × Spells phase ops rest expression.now
         × ((t : Expression) → IsTree phase ops t → found ≡ Some (truth (map passed_guid installed.now) t))
         × (IsOrder phase ops → found ≡ None)) }
-    ensures err { IfErr result (λ f. f ≢ depex_out_of_memory → NoExpression phase bytes.now f) }
-    ensures memory { IfErr result (λ f. f ≡ depex_out_of_memory → BeginsFirstOp phase bytes.now) }
+    ensures err { IfErr result (λ f. f ≢ depex_out_of_memory → NoExpression phase expression.now f) }
+    ensures memory { IfErr result (λ f. f ≡ depex_out_of_memory → BeginsFirstOp phase expression.now) }
 {
-    let depex = read_depex(alloc, bytes, phase)?;
+    let depex = read_depex(alloc, expression, phase)?;
     let guids = translate_all(alloc, installed)?;
     evaluate(alloc, &depex, guids.as_slice())
 }
@@ -78,12 +89,12 @@ fn evaluated(
 ///
 /// # Errors
 ///
-/// The number of the first fault, which is in `fault`, by the numbers of `DepexFaultKind`: a fault
-/// of `read_depex`; 6 if memory runs out. `value` is unchanged then.
+/// The first fault, which is in `fault`: 512 plus the number of the `DepexFaultKind` for a fault of
+/// `read_depex`; 24 if memory runs out. `value` is unchanged then.
 #[unsafe(no_mangle)]
-pub extern "C" fn fv_depex(
+pub extern "C" fn fvp_depex_evaluate(
     alloc: Global,
-    bytes: &[u8],
+    expression: &[u8],
     phase: u32,
     installed: &[FvGuid],
     value: &mut u32,
@@ -91,7 +102,7 @@ pub extern "C" fn fv_depex(
 ) -> u32
     // The bytes spell these ops and this rest. The value is the truth value of the tree whose ops
     // they are.
-    ensures ok { result ≡ 0 → (ops : List Op) × (rest : List ℕ) × Spells (phase_by_number phase) ops rest bytes.now
+    ensures ok { result ≡ 0 → (ops : List Op) × (rest : List ℕ) × Spells (phase_by_number phase) ops rest expression.now
         × ((t : Expression) → IsTree (phase_by_number phase) ops t
         → value.new ≡ reported_truth (Some (truth (map passed_guid installed.now) t)))
         × (IsOrder (phase_by_number phase) ops → value.new ≡ 2) × (fault.new ≡ no_fault) }
@@ -101,16 +112,16 @@ pub extern "C" fn fv_depex(
     // A fault is out of memory, only if the bytes begin with an op that may be the first, or the
     // first of the expression.
     ensures err { result ≢ 0 → (f : DepexFault)
-        × (f ≢ depex_out_of_memory → NoExpression (phase_by_number phase) bytes.now f)
-        × (f ≡ depex_out_of_memory → BeginsFirstOp (phase_by_number phase) bytes.now)
-        × (result ≡ depex_fault_number f.kind) × (fault.new ≡ reported_depex_fault f) }
+        × (f ≢ depex_out_of_memory → NoExpression (phase_by_number phase) expression.now f)
+        × (f ≡ depex_out_of_memory → BeginsFirstOp (phase_by_number phase) expression.now)
+        × (result ≡ depex_result f.kind) × (fault.new ≡ reported_depex_fault f) }
 {
-    match evaluated(alloc, bytes, phase_by_number(phase), installed) {
+    match evaluated(alloc, expression, phase_by_number(phase), installed) {
         Ok(found) => {
             *value = reported_truth(found);
             *fault = NO_FAULT;
             0
         }
-        Err(f) => refused_at(f.offset, f.number(), fault),
+        Err(f) => refused_at(f.offset, depex_result(f.kind), fault),
     }
 }

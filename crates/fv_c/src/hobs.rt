@@ -1,15 +1,15 @@
 //! The blocks of a hand-off list.
 
 ghost use Rattle.std.specs.Prelude.{◌≡◌, ◌≢◌, ◌<◌, ◌≤◌, ◌++◌, List, length, take, drop, map, IfOk, IfErr};
-ghost use Rattle.fv_hob.specs.Words.{BeginsTable, hob_fault_number, hob_out_of_memory, HobForm, IsHobList};
+ghost use Rattle.fv_hob.specs.Words.{BeginsTable, hob_out_of_memory, HobForm, IsHobList};
 ghost use Rattle.fv_hob.specs.declared.fault.HobFault.{HobFault};
-ghost use Rattle.fv_c.specs.ReportedHobs.{NoHobs, reported_hob, reported_hob_fault};
+ghost use Rattle.fv_c.specs.ReportedHobs.{NoHobs, hob_result, reported_hob, reported_hob_fault};
 ghost use Rattle.fv_c.specs.Reports.{no_fault};
 
 use crate::buffer::put_found;
-use crate::reports::{FvFault, refused_at};
+use crate::reports::{FvFault, HOB_FAULTS, OUT_OF_MEMORY, refused_at};
 use crate::translate::{Translate, translate_all};
-use fv_hob::{Hob, HobFault, Span, read_hobs};
+use fv_hob::{Hob, HobFault, HobFaultKind, Span, read_hobs};
 use std::alloc::Global;
 
 /// A block of a hand-off list. (PI specification, volume 3, section 5.)
@@ -17,13 +17,15 @@ use std::alloc::Global;
 #[derive(Clone, Copy)]
 pub struct FvHob {
     /// The base address of the volume that an FV or FV2 block describes, else 0.
-    pub base: u64,
+    pub volume_base: u64,
     /// The number of bytes of that volume, else 0.
-    pub length: u64,
+    pub volume_length: u64,
     /// `HobType`.
-    pub code: u32,
+    pub hob_type: u32,
     /// `HobLength`, the number of bytes of the block.
     pub hob_length: u32,
+    /// Always 0.
+    pub reserved: u64,
 }
 
 // That a block describes no volume.
@@ -37,66 +39,77 @@ impl Translate for Hob {
     fn translate(&self) -> FvHob {
         let span = self.span().unwrap_or(NO_SPAN);
         FvHob {
-            base: span.base,
-            length: span.length,
-            code: u32::from(self.code()),
+            volume_base: span.base,
+            volume_length: span.length,
+            hob_type: u32::from(self.code()),
             hob_length: u32::from(self.length()),
+            reserved: 0,
         }
     }
 }
 
-// The blocks of the hand-off list with which the bytes begin, for C, and the number of its bytes.
-fn hob_rows(alloc: Global, bytes: &[u8]) -> Result<(Vec<FvHob>, u64), HobFault>
-    ensures ok { IfOk result (λ r. (all : List HobForm) × (r.1 ≤ length bytes.now)
-        × IsHobList all (take r.1 bytes.now) × (r.0.items ≡ map reported_hob all)) }
-    ensures err { IfErr result (λ f. f ≢ hob_out_of_memory → NoHobs bytes.now f) }
-    ensures memory { IfErr result (λ f. f ≡ hob_out_of_memory → BeginsTable bytes.now) }
+// The result of a call for a fault of a list.
+fn hob_result(kind: HobFaultKind) -> u32
+    ensures { result ≡ hob_result kind }
 {
-    let (list, len) = read_hobs(alloc, bytes)?;
-    let rows = translate_all(alloc, list.as_slice())?;
+    match kind {
+        HobFaultKind::OutOfMemory => OUT_OF_MEMORY,
+        _ => HOB_FAULTS + u32::from(kind.number()),
+    }
+}
+
+// The blocks of the hand-off list with which the bytes begin, for C, and the number of its bytes.
+fn hob_rows(alloc: Global, list: &[u8]) -> Result<(Vec<FvHob>, u64), HobFault>
+    ensures ok { IfOk result (λ r. (all : List HobForm) × (r.1 ≤ length list.now)
+        × IsHobList all (take r.1 list.now) × (r.0.items ≡ map reported_hob all)) }
+    ensures err { IfErr result (λ f. f ≢ hob_out_of_memory → NoHobs list.now f) }
+    ensures memory { IfErr result (λ f. f ≡ hob_out_of_memory → BeginsTable list.now) }
+{
+    let (hobs, len) = read_hobs(alloc, list)?;
+    let rows = translate_all(alloc, hobs.as_slice())?;
     Ok((rows, len))
 }
 
 /// Writes the blocks of the hand-off list with which the bytes begin, in order, at the start of the
-/// buffer. `count` is their number, and `consumed` the number of bytes of the list. Returns 0. (PI
-/// specification, volume 3, section 5.)
+/// buffer `rows`. `count` is their number, and `list_length` the number of bytes of the list.
+/// Returns 0. (PI specification, volume 3, section 5.)
 ///
 /// # Errors
 ///
-/// 256 if the buffer has fewer elements than `count`. The number of the first fault, which is in
-/// `fault`, by the numbers of `HobFaultKind`: a fault of `read_hobs`; 6 if memory runs out. `count`
-/// and `consumed` are unchanged then. The buffer is unchanged in both cases.
+/// 256 if the buffer has fewer elements than `count`. The first fault, which is in `fault`: 768 plus
+/// the number of the `HobFaultKind` for a fault of `read_hobs`; 24 if memory runs out. `count` and
+/// `list_length` are unchanged then. The buffer is unchanged in both cases.
 #[unsafe(no_mangle)]
-pub extern "C" fn fv_hobs(
+pub extern "C" fn fvp_hobs_read(
     alloc: Global,
-    bytes: &[u8],
-    buffer: &mut [FvHob],
+    list: &[u8],
+    rows: &mut [FvHob],
     count: &mut u64,
-    consumed: &mut u64,
+    list_length: &mut u64,
     fault: &mut FvFault,
 ) -> u32
     // The buffer begins with the blocks, and holds what it held after them.
-    ensures ok { result ≡ 0 → (all : List HobForm) × (consumed.new ≤ length bytes.now)
-        × IsHobList all (take consumed.new bytes.now) × (count.new ≡ length all)
-        × (buffer.new ≡ map reported_hob all ++ drop (length all) buffer.old) × (fault.new ≡ no_fault) }
+    ensures ok { result ≡ 0 → (all : List HobForm) × (list_length.new ≤ length list.now)
+        × IsHobList all (take list_length.new list.now) × (count.new ≡ length all)
+        × (rows.new ≡ map reported_hob all ++ drop (length all) rows.old) × (fault.new ≡ no_fault) }
 
-    ensures kept { result ≢ 0 → buffer.new ≡ buffer.old }
-    ensures small { result ≡ 256 → (all : List HobForm) × (consumed.new ≤ length bytes.now)
-        × IsHobList all (take consumed.new bytes.now) × (count.new ≡ length all)
-        × (length buffer.old < length all) × (fault.new ≡ no_fault) }
+    ensures kept { result ≢ 0 → rows.new ≡ rows.old }
+    ensures small { result ≡ 256 → (all : List HobForm) × (list_length.new ≤ length list.now)
+        × IsHobList all (take list_length.new list.now) × (count.new ≡ length all)
+        × (length rows.old < length all) × (fault.new ≡ no_fault) }
 
     // Any other fault is out of memory, only if the bytes begin with a hand-off information table,
     // or the first of the list.
-    ensures err { result ≢ 0 → result ≢ 256 → (f : HobFault) × (f ≢ hob_out_of_memory → NoHobs bytes.now f)
-        × (f ≡ hob_out_of_memory → BeginsTable bytes.now)
-        × (result ≡ hob_fault_number f.kind) × (fault.new ≡ reported_hob_fault f) × (count.new ≡ count.old)
-        × (consumed.new ≡ consumed.old) }
+    ensures err { result ≢ 0 → result ≢ 256 → (f : HobFault) × (f ≢ hob_out_of_memory → NoHobs list.now f)
+        × (f ≡ hob_out_of_memory → BeginsTable list.now)
+        × (result ≡ hob_result f.kind) × (fault.new ≡ reported_hob_fault f) × (count.new ≡ count.old)
+        × (list_length.new ≡ list_length.old) }
 {
-    match hob_rows(alloc, bytes) {
-        Ok((rows, len)) => {
-            *consumed = len;
-            put_found(rows.as_slice(), buffer, count, fault)
+    match hob_rows(alloc, list) {
+        Ok((hobs, len)) => {
+            *list_length = len;
+            put_found(hobs.as_slice(), rows, count, fault)
         }
-        Err(f) => refused_at(f.offset, f.number(), fault),
+        Err(f) => refused_at(f.offset, hob_result(f.kind), fault),
     }
 }

@@ -81,8 +81,8 @@ fn check_rows(alloc: Global, image: &[u8]) -> Result<Vec<FvVolumeCheck>, Fault>
     Ok(translate_all(alloc, checks.as_slice())?)
 }
 
-/// Writes a report on each volume that `fv_scan` finds in a flash image, in order, at the start of
-/// the buffer. `count` is their number. Returns 0, also if a volume is rejected: its row has the
+/// Writes a report on each volume that `fvp_image_scan` finds in a flash image, in order, at the start of
+/// the buffer `rows`. `count` is their number. Returns 0, also if a volume is rejected: its row has the
 /// fault. (PI specification, volume 3, section 3.2.)
 ///
 /// # Errors
@@ -91,21 +91,21 @@ fn check_rows(alloc: Global, image: &[u8]) -> Result<Vec<FvVolumeCheck>, Fault>
 /// if the image is above the limit; 24 if memory runs out. `count` is unchanged then. The buffer is
 /// unchanged in both cases.
 #[unsafe(no_mangle)]
-pub extern "C" fn fv_check_image(
+pub extern "C" fn fvp_image_check(
     alloc: Global,
     image: &[u8],
-    buffer: &mut [FvVolumeCheck],
+    rows: &mut [FvVolumeCheck],
     count: &mut u64,
     fault: &mut FvFault,
 ) -> u32
     // The buffer begins with the rows of the volumes, and holds what it held after them.
     ensures ok { result ≡ 0 → (checks : List VolumeCheck) × ChecksImage image.now checks
-        × (count.new ≡ length checks) × (buffer.new ≡ map reported_check checks ++ drop (length checks) buffer.old)
+        × (count.new ≡ length checks) × (rows.new ≡ map reported_check checks ++ drop (length checks) rows.old)
         × (fault.new ≡ no_fault) }
 
-    ensures kept { result ≢ 0 → buffer.new ≡ buffer.old }
+    ensures kept { result ≢ 0 → rows.new ≡ rows.old }
     ensures small { result ≡ 256 → (checks : List VolumeCheck) × ChecksImage image.now checks
-        × (count.new ≡ length checks) × (length buffer.old < length checks) × (fault.new ≡ no_fault) }
+        × (count.new ≡ length checks) × (length rows.old < length checks) × (fault.new ≡ no_fault) }
 
     // Any other fault is out of memory, only if a volume begins in an image within the limit, or
     // Length, if the image is above the limit.
@@ -113,5 +113,5 @@ pub extern "C" fn fv_check_image(
         × (f ≡ out_of_memory → (length image.now ≤ volume_limit) × ((place : ℕ) × IsPlace image.now place))
         × (result ≡ fault_number f.kind) × (fault.new ≡ reported_fault f) × (count.new ≡ count.old) }
 {
-    put_result(check_rows(alloc, image), buffer, count, fault)
+    put_result(check_rows(alloc, image), rows, count, fault)
 }

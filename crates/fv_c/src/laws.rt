@@ -1,37 +1,17 @@
 //! Laws over the definitions of this crate.
 
-ghost use Rattle.std.specs.Prelude.{◌≡◌, [], ◌∷◌, ℕ, List, Some, map, slice_get};
+ghost use Rattle.std.specs.Prelude.{◌≡◌, [], ◌∷◌, ℕ, List, Some, slice_get};
 ghost use Rattle.std.specs.List.{filter};
-ghost use Rattle.fv_tree.specs.Words.{preorder, ContentMeaning, FileMeaning, Meaning, SectionMeaning, SectionMeanings};
-ghost use Rattle.fv_tree.specs.Words.{Sectioned, sections_in_data, Accepted, plain_of, content_of, leaf_of, body_of};
-ghost use Rattle.fv_c.specs.ReportedFiles.{is_in, is_root, no_parent, rows_under, rows_under_row, section_rows};
+ghost use Rattle.fv_tree.specs.Words.{FileMeaning, Meaning, SectionMeaning};
+ghost use Rattle.fv_tree.specs.Words.{Accepted, plain_of, content_of, leaf_of, body_of};
 ghost use Rattle.fv_rows.specs.Words.{VolumeNode, FileNode, SectionNode};
-ghost use Rattle.fv_c.specs.TreeParts.{TreeRow, is_first, is_held_by, rows_held, rows_of_parts, tree_rows};
+ghost use Rattle.fv_c.specs.TreeParts.{TreeRow, is_first, is_held_by, no_parent, rows_held, rows_of_parts, tree_rows};
 ghost use Rattle.fv_c.specs.ReportedTree.{IsNodeIn, bytes_at};
 ghost use Rattle.fv_c.specs.declared.tree.FvNode.{FvNode};
 
-/// The sections that `fv_sections` writes are those among which `section_by_type` counts, in the
-/// same order. So section number `n` of a type is the n-th row of that type. (PI specification,
-/// volume 3, section 3.2.4.)
-pub fn sections_are_in_preorder()
-    ensures { (ss : SectionMeanings) (tail : ℕ) → map (λ r. r.section) (section_rows (Sectioned ss tail)) ≡ preorder ss }
-{}
-
-/// States how the rows that `fv_sections` writes show groups. The rows of depth 0 are exactly the
-/// sections of the file that are in no group, in order, and have no parent. The rows with the
-/// parent `n` are exactly the sections that section number `n` holds, in order, and their depth is
-/// one more. There are none if that section is not a group, or if no section has that number. (PI
-/// specification, volume 3, section 3.2.4.)
-pub fn sections_have_their_group()
-    ensures roots { (content : ContentMeaning) → filter is_root (section_rows content)
-        ≡ rows_under no_parent 0 (sections_in_data content) }
-    ensures inner { (content : ContentMeaning) (n : ℕ) → filter (is_in n) (section_rows content)
-        ≡ rows_under_row n (slice_get (section_rows content) n) }
-{}
-
-/// States which rows `fv_tree` writes for the parts of each part. The volume itself is the only row
-/// of depth 0, and has no parent. The rows with the parent `n` are exactly the parts that row
-/// number `n` holds, in order and numbered from 0, and their depth is one more: the files of a
+/// States which rows `fvp_volume_tree` writes for the parts of each part. The volume itself is the
+/// only row of depth 0, and has no parent. The rows with the parent `n` are exactly the parts that
+/// row number `n` holds, in order and numbered from 0, and their depth is one more: the files of a
 /// volume, the sections of a file or a group, the volume of a section. There are none if that row
 /// holds bytes, or no row has that number. (PI specification, volume 3, sections 3.2.1, 3.2.3 and
 /// 3.2.4.)
@@ -41,9 +21,9 @@ pub fn rows_have_their_parent()
         ≡ rows_held n (slice_get (tree_rows m) n) }
 {}
 
-/// States which bytes of the input are at the places of the rows that `fv_tree` writes. At a
-/// volume's place are the bytes of a volume with its meaning. At the place of a file of plain bytes
-/// are these bytes, and at the place of a section that holds bytes are these bytes. (PI
+/// States which bytes of the input are at the places of the rows that `fvp_volume_tree` writes. At
+/// a volume's place are the bytes of a volume with its meaning. At the place of a file of plain
+/// bytes are these bytes, and at the place of a section that holds bytes are these bytes. (PI
 /// specification, volume 3, sections 3.2.1, 3.2.3 and 3.2.4.)
 pub fn rows_have_their_bytes()
     ensures volume { (input : List ℕ) (rows : List FvNode) (row : FvNode) (r : TreeRow) (m : Meaning)

@@ -4,20 +4,22 @@ ghost use Rattle.std.specs.Prelude.{◌≡◌, ◌≢◌, ◌⊎◌, ◌<◌, �
 ghost use Rattle.std.specs.Prelude.{IfOk, IfErr, OnOk};
 ghost use Rattle.fv_base.specs.Words.{OrMemory, fault_number, out_of_memory};
 ghost use Rattle.fv_base.specs.declared.fault.Fault.{Fault};
-ghost use Rattle.fv_head.specs.Words.{system_guid};
 ghost use Rattle.fv_section.specs.Words as framed;
 ghost use Rattle.fv_tree.specs.Words.{NotRead, data_place, body_place, file_form, content_of, body_of};
 ghost use Rattle.fv_tree.specs.Words.{body_len, files_from, sections_from};
 ghost use Rattle.fv_c.specs.Reports.{BeginsWithHeader, reported_fault, no_fault};
 ghost use Rattle.fv_rows.specs.Words.{VolumeNode, FileNode, SectionNode};
 ghost use Rattle.fv_c.specs.TreeParts.{tree_of_files, tree_in_content, tree_of_sections, tree_in_body};
-ghost use Rattle.fv_c.specs.ReportedTree.{HasTreeRows, reported_node, bytes_at, content_number};
+ghost use Rattle.fv_c.specs.ReportedTree.{HasTreeRows, reported_node, bytes_at};
+ghost use Rattle.fv_c.specs.ReportedTree.{body_number, content_number};
+ghost use Rattle.fv_c.specs.ReportedHeaders.{volume_name};
 ghost use Rattle.fv_c.specs.inner.Trees.{Grows, IsAdded, IsHolder, HoldsFiles, HoldsContent, HoldsSections, HoldsBody};
 
 use crate::buffer::put_result;
-use crate::parts::{NO_PARENT, held_number};
-use crate::reports::FvFault;
-use fv_base::{Fault, FileSystem};
+use crate::reports::{FvFault, system_number};
+use bitflags::Flags;
+use fv_base::Fault;
+use fv_head::VolumeHead;
 use fv_section::{Frame, FrameWalk, section_header_len};
 use fv_tree::{
     Body, Content, FileView, LocatedFile, SectionView, VolumeView, located_files,
@@ -25,38 +27,45 @@ use fv_tree::{
 };
 use std::alloc::{AllocError, Global};
 
-/// A part of the tree of a volume: a volume, a file or a section. (PI specification, volume 3,
+/// A row of the tree of a volume: a volume, a file or a section. (PI specification, volume 3,
 /// sections 3.2.1, 3.2.3 and 3.2.4.)
 #[repr(C)]
 #[derive(Clone, Copy)]
 pub struct FvNode {
-    /// The offset in bytes in the input of the first byte of a volume, of the data of a file, or of
-    /// the body of a section, as they are stored.
+    /// The offset in bytes in the input of a volume, of a file's data, or of a section's body, as
+    /// they are stored.
     pub offset: u64,
-    /// The number of these bytes; of a volume `FvLength`.
-    pub len: u64,
-    /// The number of the row that holds it, or 2^64 - 1 if it is the first.
+    /// The length of the volume, the data or the body, in bytes.
+    pub length: u64,
+    /// The number of the row that holds this part, or 2^64 - 1 in the first row.
     pub parent: u64,
-    /// The number of rows around it.
-    pub depth: u64,
-    /// Its number among the parts that its parent holds, counted from 0.
-    pub number: u64,
-    /// What it is: 1 a volume, 2 a file, 3 a section.
-    pub what: u32,
-    /// `Type` of a file or of a section, 0 of a volume.
+    /// The number of this part among the parts that its parent holds, counted from 0.
+    pub index: u64,
+    /// The number of rows around this row.
+    pub depth: u32,
+    /// What the part is: 1 a volume, 2 a file, 3 a section.
     pub kind: u32,
-    /// `Attributes` of a file without `FFS_ATTRIB_LARGE_FILE`, else 0.
+    /// What the part holds: 0 files, 1 bytes, 2 sections, 3 a volume.
+    pub content: u32,
+    /// `Type` of a file or a section, 0 of a volume.
+    pub efi_type: u32,
+    /// `Attributes` of a volume, `Attributes` of a file without `FFS_ATTRIB_LARGE_FILE`, 0 of a
+    /// section.
     pub attributes: u32,
-    /// The number of bytes of its header: `HeaderLength` of a volume, 24 or 32 of a file, 4 or 8 of
-    /// a section.
-    pub header_len: u32,
-    /// What it holds: 0 files, 1 bytes, 2 sections, 3 a volume.
-    pub holds: u32,
-    /// Always 0.
-    pub reserved: u32,
-    /// `FileSystemGuid` of a volume, or `Name` of a file, by its bytes in the volume, else zeros.
+    /// The length of the part's header in bytes: `HeaderLength` of a volume, 24 or 32 of a file, 4
+    /// or 8 of a section.
+    pub header_length: u32,
+    /// `FvName` of a volume with an extended header, `Name` of a file, both as stored. Zeros
+    /// otherwise.
     pub guid: [u8; 16],
+    /// The file system of a volume: 2 for FFS2, 3 for FFS3. 0 of a file or a section.
+    pub file_system: u32,
+    /// Always 0.
+    pub reserved: [u32; 3],
 }
+
+/// The parent of the first row.
+const NO_PARENT: u64 = 0xffff_ffff_ffff_ffff;
 
 // A row and its number.
 #[derive(Clone, Copy)]
@@ -65,49 +74,40 @@ struct Holder {
     node: FvNode,
 }
 
-/// `EFI_FIRMWARE_FILE_SYSTEM2_GUID`, 8c8ce578-8a3d-4f1c-9935-896185c32dd3.
-const FFS2: [u8; 16] = [
-    0x78, 0xe5, 0x8c, 0x8c, 0x3d, 0x8a, 0x1c, 0x4f, 0x99, 0x35, 0x89, 0x61, 0x85, 0xc3, 0x2d, 0xd3,
-];
-
-/// `EFI_FIRMWARE_FILE_SYSTEM3_GUID`, 5473c07a-3dcb-4dca-bd6f-1e9689e7349a.
-const FFS3: [u8; 16] = [
-    0x7a, 0xc0, 0x73, 0x54, 0xcb, 0x3d, 0xca, 0x4d, 0xbd, 0x6f, 0x1e, 0x96, 0x89, 0xe7, 0x34, 0x9a,
-];
-
-// The GUID of a file system, as in `FileSystemGuid`.
-fn guid_of_system(file_system: FileSystem) -> [u8; 16]
-    ensures { result ≡ system_guid file_system }
+// Returns `FvName` of a volume, or zeros if it has no extended header.
+fn volume_name(head: &VolumeHead<'_>) -> [u8; 16]
+    ensures { result ≡ volume_name head.now.ext }
 {
-    match file_system {
-        FileSystem::Ffs2 => FFS2,
-        FileSystem::Ffs3 => FFS3,
+    match head.ext() {
+        Some(ext) => ext.name().to_bytes(),
+        None => [0; 16],
     }
 }
 
-// A volume at this offset, for C.
-fn volume_node(volume: &VolumeView<'_>, parent: u64, depth: u64, offset: u64) -> FvNode
+// Returns the row of a volume at this offset, for C.
+fn volume_node(volume: &VolumeView<'_>, parent: u64, depth: u32, offset: u64) -> FvNode
     ensures { result ≡ reported_node offset 0
         (record { parent = parent; depth = depth; number = 0; node = VolumeNode volume.now }) }
 {
     let head = volume.head();
     FvNode {
         offset,
-        len: head.length(),
+        length: head.length(),
         parent,
+        index: 0,
         depth,
-        number: 0,
-        what: 1,
-        kind: 0,
-        attributes: 0,
-        header_len: u32::from(head.header_len()),
-        holds: 0,
-        reserved: 0,
-        guid: guid_of_system(head.file_system()),
+        kind: 1,
+        content: 0,
+        efi_type: 0,
+        attributes: head.attributes().bits(),
+        header_length: u32::from(head.header_len()),
+        guid: volume_name(head),
+        file_system: system_number(head.file_system()),
+        reserved: [0; 3],
     }
 }
 
-// What the data of a file are, for C: 1 bytes, 2 sections.
+// Returns what the data of a file are, for C: 1 bytes, 2 sections.
 fn content_number(file: &FileView<'_>) -> u32
     ensures { result ≡ content_number (content_of file.now) }
 {
@@ -117,10 +117,21 @@ fn content_number(file: &FileView<'_>) -> u32
     }
 }
 
-// File number `number` of the volume in a row, for C.
+// Returns what the body of a section is, for C: 1 bytes, 2 sections, 3 a volume.
+fn body_number(section: &SectionView<'_>) -> u32
+    ensures { result ≡ body_number (body_of section.now) }
+{
+    match section.body() {
+        Body::Leaf(_) => 1,
+        Body::Group { .. } => 2,
+        Body::Nested(_) => 3,
+    }
+}
+
+// Returns the row of file number `number` of the volume in a row, for C.
 fn file_node(stored: &LocatedFile<'_>, file: &FileView<'_>, holder: &Holder, number: u64) -> FvNode
     requires offset { holder.now.node.offset + data_place (file_form stored.now) < 2 ^ 63 }
-    requires depth { holder.now.node.depth < 2 ^ 63 }
+    requires depth { holder.now.node.depth < 2 ^ 31 }
     ensures { result ≡ reported_node (holder.now.node.offset + data_place (file_form stored.now))
         (file_form stored.now).head.header_len
         (record { parent = holder.now.number; depth = holder.now.node.depth + 1; number = number; node = FileNode file.now }) }
@@ -128,21 +139,22 @@ fn file_node(stored: &LocatedFile<'_>, file: &FileView<'_>, holder: &Holder, num
     let header_len = stored.header_len();
     FvNode {
         offset: holder.node.offset + (u64::from(stored.offset) + header_len),
-        len: file.data_len(),
+        length: file.data_len(),
         parent: holder.number,
+        index: number,
         depth: holder.node.depth + 1,
-        number,
-        what: 2,
-        kind: u32::from(file.kind()),
+        kind: 2,
+        content: content_number(file),
+        efi_type: u32::from(file.kind()),
         attributes: u32::from(file.attributes().byte()),
-        header_len: header_len as u32,
-        holds: content_number(file),
-        reserved: 0,
+        header_length: header_len as u32,
         guid: file.name().to_bytes(),
+        file_system: 0,
+        reserved: [0; 3],
     }
 }
 
-// Section number `number` of the stream in a row, for C.
+// Returns the row of section number `number` of the stream in a row, for C.
 fn section_node(
     frame: &Frame<'_>,
     section: &SectionView<'_>,
@@ -150,23 +162,24 @@ fn section_node(
     number: u64,
 ) -> FvNode
     requires offset { holder.now.node.offset + body_place (framed.frame_form frame.now) < 2 ^ 63 }
-    requires depth { holder.now.node.depth < 2 ^ 63 }
+    requires depth { holder.now.node.depth < 2 ^ 31 }
     ensures { result ≡ reported_node (holder.now.node.offset + body_place (framed.frame_form frame.now)) 0
         (record { parent = holder.now.number; depth = holder.now.node.depth + 1; number = number; node = SectionNode section.now }) }
 {
     FvNode {
         offset: holder.node.offset + (frame.offset + section_header_len(frame.extended)),
-        len: section.body_len(),
+        length: section.body_len(),
         parent: holder.number,
+        index: number,
         depth: holder.node.depth + 1,
-        number,
-        what: 3,
-        kind: u32::from(section.kind()),
+        kind: 3,
+        content: body_number(section),
+        efi_type: u32::from(section.kind()),
         attributes: 0,
-        header_len: section_header_len(section.extended()) as u32,
-        holds: held_number(section),
-        reserved: 0,
+        header_length: section_header_len(section.extended()) as u32,
         guid: [0; 16],
+        file_system: 0,
+        reserved: [0; 3],
     }
 }
 
@@ -181,11 +194,11 @@ fn add_row(node: FvNode, rows: &mut Vec<FvNode>) -> Result<Holder, AllocError>
 
 // The bytes of a row.
 fn bytes_of_row<'a>(input: &'a [u8], node: &FvNode) -> &'a [u8]
-    requires { node.now.offset + node.now.len ≤ length input.now }
+    requires { node.now.offset + node.now.length ≤ length input.now }
     ensures { result.now ≡ bytes_at input.now node.now }
 {
     let start = node.offset as usize;
-    &input[start..start + node.len as usize]
+    &input[start..start + node.length as usize]
 }
 
 // Adds the files of the volume in a row, which are stored so, each followed by what it holds.
@@ -279,7 +292,8 @@ fn add_body(
 ) -> Result<(), Fault>
     requires holder { IsHolder input.now rows.old.items holder.now }
     requires body { HoldsBody (bytes_at input.now holder.now.node) (body_of section.now) }
-    requires len { holder.now.node.len ≡ body_len (body_of section.now) }
+    requires long { holder.now.node.length ≡ body_len (body_of section.now) }
+    requires depth { holder.now.node.depth ≤ holder.now.node.offset }
     ensures rows { OnOk result (Grows input.now rows.old.items rows.new.items (tree_in_body
         (length rows.old.items) holder.now.number (holder.now.node.depth + 1) (body_of section.now))) }
     ensures err { IfErr result (λ f. f ≡ out_of_memory) }
@@ -305,58 +319,58 @@ fn add_body(
 }
 
 // Reads the input as a volume, and returns its tree, for C.
-fn rows_in(alloc: Global, input: &[u8]) -> Result<Vec<FvNode>, Fault>
-    ensures ok { IfOk result (λ v. HasTreeRows input.now v.items) }
-    ensures err { IfErr result (OrMemory (NotRead input.now)) }
-    ensures memory { IfErr result (λ f. f ≡ out_of_memory → BeginsWithHeader input.now) }
+fn rows_in(alloc: Global, volume: &[u8]) -> Result<Vec<FvNode>, Fault>
+    ensures ok { IfOk result (λ v. HasTreeRows volume.now v.items) }
+    ensures err { IfErr result (OrMemory (NotRead volume.now)) }
+    ensures memory { IfErr result (λ f. f ≡ out_of_memory → BeginsWithHeader volume.now) }
 {
-    let (volume, stored) = whole_volume_with_files(alloc, input)?;
+    let (view, stored) = whole_volume_with_files(alloc, volume)?;
     let mut rows = Vec::new(alloc);
-    let added = add_row(volume_node(&volume, NO_PARENT, 0, 0), &mut rows)?;
+    let added = add_row(volume_node(&view, NO_PARENT, 0, 0), &mut rows)?;
     add_files(
         alloc,
-        input,
+        volume,
         &added,
         stored.as_slice(),
-        volume.files(),
+        view.files(),
         &mut rows,
     )?;
     Ok(rows)
 }
 
-/// Writes the whole tree of a volume, which is the whole input, to the start of the buffer: the
+/// Writes the rows of the tree of a volume, which is the whole input, to the start of `rows`: the
 /// volume, its files and their sections, and in the same way each volume that a section holds. Each
-/// row is followed by the rows of what it holds. `count` is the number of rows. Returns 0. Data are
-/// read once. To find the places of the parts, headers are read again, except the headers of the
-/// volume's own files. A file that is marked for update and whose update is in its volume is left
-/// out. (PI specification, volume 3, sections 3.2.1, 3.2.3 and 3.2.4.)
+/// row is followed by the rows of what its part holds. `count` is the number of rows. Returns 0. The
+/// data are read once. To find the offsets of the parts, headers are read again, except the headers
+/// of the volume's own files. A file that is marked for update and whose update is in its volume is
+/// left out. (PI specification, volume 3, sections 3.2.1, 3.2.3 and 3.2.4.)
 ///
 /// # Errors
 ///
-/// 256 if the buffer has fewer elements than `count`. The number of the first fault, which is in
-/// `fault`: a fault of `whole_volume`; 24 if memory runs out. `count` is unchanged then. The buffer
-/// is unchanged in both cases.
+/// 256 if `rows` has fewer elements than `count`. The number of the first fault, which is in
+/// `fault`: a fault of `whole_volume`; 24 if memory runs out. `count` is unchanged then. `rows` is
+/// unchanged in both cases.
 #[unsafe(no_mangle)]
-pub extern "C" fn fv_tree(
+pub extern "C" fn fvp_volume_tree(
     alloc: Global,
-    input: &[u8],
-    buffer: &mut [FvNode],
+    volume: &[u8],
+    rows: &mut [FvNode],
     count: &mut u64,
     fault: &mut FvFault,
 ) -> u32
     // The buffer begins with the rows, and holds what it held after them.
-    ensures ok { result ≡ 0 → (rows : List FvNode) × HasTreeRows input.now rows × (count.new ≡ length rows)
-        × (buffer.new ≡ rows ++ drop (length rows) buffer.old) × (fault.new ≡ no_fault) }
+    ensures ok { result ≡ 0 → (nodes : List FvNode) × HasTreeRows volume.now nodes × (count.new ≡ length nodes)
+        × (rows.new ≡ nodes ++ drop (length nodes) rows.old) × (fault.new ≡ no_fault) }
 
-    ensures kept { result ≢ 0 → buffer.new ≡ buffer.old }
-    ensures small { result ≡ 256 → (rows : List FvNode) × HasTreeRows input.now rows × (count.new ≡ length rows)
-        × (length buffer.old < length rows) × (fault.new ≡ no_fault) }
+    ensures kept { result ≢ 0 → rows.new ≡ rows.old }
+    ensures small { result ≡ 256 → (nodes : List FvNode) × HasTreeRows volume.now nodes × (count.new ≡ length nodes)
+        × (length rows.old < length nodes) × (fault.new ≡ no_fault) }
 
     // Any other fault is out of memory, only if the input begins with the header of a volume, or
     // the first of the input.
-    ensures err { result ≢ 0 → result ≢ 256 → (f : Fault) × OrMemory (NotRead input.now) f
-        × (f ≡ out_of_memory → BeginsWithHeader input.now)
+    ensures err { result ≢ 0 → result ≢ 256 → (f : Fault) × OrMemory (NotRead volume.now) f
+        × (f ≡ out_of_memory → BeginsWithHeader volume.now)
         × (result ≡ fault_number f.kind) × (fault.new ≡ reported_fault f) × (count.new ≡ count.old) }
 {
-    put_result(rows_in(alloc, input), buffer, count, fault)
+    put_result(rows_in(alloc, volume), rows, count, fault)
 }

@@ -11,14 +11,14 @@ use fv_tree::{unfix, verify_unfixed};
 
 // Writes the input, which is a volume, without the marks of its fixed files to the start of the
 // buffer.
-fn put_unfixed(input: &[u8], buffer: &mut [u8])
-    requires volume { (o : List ℕ) × UnfixesTo input.now o }
-    requires room { length input.now ≤ length buffer.old }
-    ensures { (o : List ℕ) × UnfixesTo input.now o × (length o ≡ length input.now)
+fn put_unfixed(volume: &[u8], buffer: &mut [u8])
+    requires volume { (o : List ℕ) × UnfixesTo volume.now o }
+    requires room { length volume.now ≤ length buffer.old }
+    ensures { (o : List ℕ) × UnfixesTo volume.now o × (length o ≡ length volume.now)
         × (buffer.new ≡ o ++ drop (length o) buffer.old) }
 {
-    let (front, _) = buffer.split_at_mut(input.len());
-    front.copy_from_slice(input);
+    let (front, _) = buffer.split_at_mut(volume.len());
+    front.copy_from_slice(volume);
     let _done = unfix(front);
 }
 
@@ -33,36 +33,36 @@ fn put_unfixed(input: &[u8], buffer: &mut [u8])
 /// The number of the first fault, which is in `fault`: a fault of `verify_unfixed`. If there is
 /// none, 256 if the buffer is shorter than the input. The buffer is unchanged in all cases.
 #[unsafe(no_mangle)]
-pub extern "C" fn fv_unfix(input: &[u8], buffer: &mut [u8], fault: &mut FvFault) -> u32
+pub extern "C" fn fvp_volume_unfix(volume: &[u8], buffer: &mut [u8], fault: &mut FvFault) -> u32
     // The buffer begins with the volume without the marks, and holds what it held after that.
-    ensures ok { result ≡ 0 → (o : List ℕ) × UnfixesTo input.now o × (length o ≡ length input.now)
+    ensures ok { result ≡ 0 → (o : List ℕ) × UnfixesTo volume.now o × (length o ≡ length volume.now)
         × (buffer.new ≡ o ++ drop (length o) buffer.old) × (fault.new ≡ no_fault) }
 
     ensures kept { result ≢ 0 → buffer.new ≡ buffer.old }
 
     // Only for a volume whose marks can be taken away can the buffer be too small: if it is
     // shorter.
-    ensures small { result ≡ 256 → ((o : List ℕ) × UnfixesTo input.now o) × (length buffer.old < length input.now)
+    ensures small { result ≡ 256 → ((o : List ℕ) × UnfixesTo volume.now o) × (length buffer.old < length volume.now)
         × (fault.new ≡ no_fault) }
-    ensures room { length buffer.old < length input.now → result ≢ 0 }
+    ensures room { length buffer.old < length volume.now → result ≢ 0 }
 
     // Any other fault is the first of the input.
-    ensures err { result ≢ 0 → result ≢ 256 → (f : Fault) × NotUnfixed input.now f
+    ensures err { result ≢ 0 → result ≢ 256 → (f : Fault) × NotUnfixed volume.now f
         × (result ≡ fault_number f.kind) × (fault.new ≡ reported_fault f) }
 
     // Its number is at most 16, and not 15, the number of Fixed.
     ensures number { result ≢ 0 → result ≢ 256 → (result ≤ 16) × (result ≢ 15) }
 
     // If the marks can be taken away, only the buffer can be too small.
-    ensures fits { (o : List ℕ) → UnfixesTo input.now o → result ≢ 0 → result ≡ 256 }
+    ensures fits { (o : List ℕ) → UnfixesTo volume.now o → result ≢ 0 → result ≡ 256 }
 {
-    if let Err(f) = verify_unfixed(input) {
+    if let Err(f) = verify_unfixed(volume) {
         return refused(f, fault);
     }
     *fault = NO_FAULT;
-    if buffer.len() < input.len() {
+    if buffer.len() < volume.len() {
         return BUFFER_TOO_SMALL;
     }
-    put_unfixed(input, buffer);
+    put_unfixed(volume, buffer);
     0
 }

@@ -1,6 +1,7 @@
--- In an image the data of each file are aligned, and the pads have only erased data.
--- 1. The bytes of an image have one front and one tiling by cells, so the cells that are read are those that were written.
--- 2. What was written has its data aligned and its pads erased.
+-- In an image the data of each file are aligned, and the data of each pad are erased. The steps:
+-- 1. The bytes of an image have at most one header and one tiling by cells, so the cells that are read are the cells
+--    that were written.
+-- 2. Written files have aligned data, and written pads have erased data.
 use Rattle.std.proofs.Common.{◌≡◌, ℕ, List, drop, subst, sym}
 use Rattle.std.specs.List.{AllByRecursion}
 use Rattle.fv_base.specs.declared.flash.Polarity.{Polarity}
@@ -42,7 +43,7 @@ cells_are (Volume h files) image e cells (n, most, b, small, d) (stored, starts,
 pub data_are_aligned : DataAreAligned
 data_are_aligned m image e cells is own front tiles = (cells_are m image e cells is own front tiles).0
 
--- the pads from the first file's place on
+-- each pad from the first edge on has erased data
 pub pads_erased : (m : Meaning) (image : List ℕ) (e : Extent) (cells : List CellForm) → IsMeaning m → IsImage m image
     → BeginsVolume (head_of m) e image → Tiles e.file_system e.polarity e.first cells (drop e.first image)
     → AllByRecursion (PadErased e.polarity) cells

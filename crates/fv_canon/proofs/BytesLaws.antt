@@ -1,4 +1,4 @@
--- What is written for a volume is bytes.
+-- Everything that is written for a volume is a list of bytes.
 use Rattle.std.proofs.Common.{◌≡◌, ◌-◌, ◌+◌, ℕ, zero, suc, Bool, true, false, List, [], ◌∷◌, ◌++◌, length, replicate, sym, subst}
 use Rattle.std.specs.Prelude.{if◌then◌else◌, ◌==◌, nat_le, Option, None, Some}
 use Rattle.std.specs.List.{AllByRecursion}
@@ -46,7 +46,7 @@ bytes_files system p total e (f ∷ fs) (s ∷ ss) all =
 
 -- ---- the extended header
 
--- an entry that was read is bytes again, with any used size
+-- an entry that was read is written as bytes, with any used size
 bytes_entry : (used : ℕ) (e : ℕ × List ℕ) (payload : List ℕ) → IsBytes payload → e.1 ≡ kept_payload e.0 payload
     → IsBytes (entry_bytes used e)
 bytes_entry used e payload small kept =

@@ -1,7 +1,7 @@
--- A file and a pad that are written as the canonical image has them are cells. The steps:
--- 1. A file that can be stored has a header that is read again, and a right file sum (`sum_is_right`). So with its filler it is a cell
---    (`file_cell`), of a known length (`length-stored`).
--- 2. So is a pad (`pad_cell`, `length-pad`).
+-- A file and a pad are cells if they are written as in the canonical image. The steps:
+-- 1. A storable file has a header that is read again, and the right file checksum (`sum_is_right`). So with its filler
+--    it is a cell (`file_cell`), of a known length (`length-stored`).
+-- 2. A pad is a cell too (`pad_cell`, `length-pad`).
 use Rattle.std.proofs.lemmas.Grind.{common_steps}
 use Rattle.std.proofs.Common.{◌≡◌, ◌≢◌, ◌≤◌, ◌<◌, ◌+◌, ◌-◌, ◌%◌, ℕ, Bool, true, false, List, [], ◌++◌, length}
 use Rattle.std.proofs.Common.{replicate, refl, sym, ap, ◌∙◌, subst, arith, length-append, append_assoc, append-nil}
@@ -24,7 +24,7 @@ use Rattle.fv_canon.specs.Words.{StoredFile, stored_len, head_len_for, stored_by
 
 -- ---- a file
 
--- what a file has to be, so that it can be read again
+-- the conditions under which a written file can be read again
 pub record Storable (system : FileSystem) (f : StoredFile) : Type 0 where
   pub name : length (bytes_of f.name) ≡ 16
   pub name_bytes : IsBytes (bytes_of f.name)
@@ -40,7 +40,7 @@ pub record Storable (system : FileSystem) (f : StoredFile) : Type 0 where
 abbrev pub stored_header : Polarity → StoredFile → List ℕ
 stored_header p f = file_head_of f.name f.kind (record { 0 = f.attributes }) (length f.payload) (file_sum_for f.attributes f.payload) p
 
--- the header that is read again
+-- the header that is read from a written file
 abbrev pub stored_head : Polarity → StoredFile → FileHead
 stored_head p f = file_fields f.name f.kind (record { 0 = f.attributes }) (length f.payload) (file_sum_for f.attributes f.payload)
     (slice_index (stored_header p f) 16)
@@ -52,7 +52,7 @@ large_back false a h = h
 sums_up : (n : ℕ) → (n + complement n) % 256 ≡ 0
 sums_up n = omega arith
 
--- the file sum is right
+-- the written file checksum is right
 sum_is_right : (l : Bool) (a : ℕ) (payload : List ℕ) → is_large a ≡ false
     → file_sum_right (with_large l a) (file_sum_for a payload) payload ≡ true
 sum_is_right l a payload h = ap (λ (b : Bool). if b then (sum payload + file_sum_for a payload) % 256 == 0

@@ -1,5 +1,4 @@
--- Of the files that are in a body no two have one name, once those that are replaced are taken out; and files that are written are
--- all of them current.
+-- No two current files of a body have the same name, and all files of a written body are current.
 use Rattle.std.proofs.lemmas.Grind.{common_steps}
 use Rattle.std.proofs.Common.{◌≡◌, ◌⊎◌, inl, inr, ◌+◌, ℕ, Bool, true, false, List, [], ◌∷◌, refl, sym, ap, ◌∙◌, subst, arith}
 use Rattle.std.specs.Prelude.{map, not, ◌&&◌}
@@ -52,7 +51,7 @@ abbrev pub names_of : List StoredFile → List (List ℕ)
 names_of [] = []
 names_of (f ∷ fs) = bytes_of f.name ∷ names_of fs
 
--- no two names are one
+-- no two of the names are equal
 abbrev pub NamesApart : List (List ℕ) → Type 0
 NamesApart [] = Unit {0}
 NamesApart (n ∷ ns) = (list_any (bytes_eq n) ns ≡ false) × NamesApart ns
@@ -67,7 +66,7 @@ none_named n (y ∷ ys) h = go (none_named n ys (λ g m t. h g (inr m) t)) (byte
     go later true e = absurd (h y (inl refl) e)
     go later false e = rw e later
 
--- a file is kept where none of the files replaces it
+-- a file is kept if none of the files replaces it
 abbrev kept : List FileForm → FileForm → Bool
 kept all f = not (list_any (replaced_by f) all)
 
@@ -75,7 +74,7 @@ not_true : (b : Bool) → not b ≡ true → b ≡ false
 not_true true e = sym e
 not_true false e = refl
 
--- two files of one name that are no twins, and of which neither replaces the other
+-- two files with the same name are twins, or one of them replaces the other
 no_third : (a b : Bool) → (true && beq a b) ≡ false → (true && (a && not b)) ≡ false → (true && (b && not a)) ≡ false → ⊥
 no_third true true p q r = cc
 no_third true false p q r = cc
@@ -103,7 +102,7 @@ kept_apart all (f ∷ fs) inside twins = go (kept_apart all fs (λ g m. inside g
 pub current_apart : (fs : List FileForm) → NoTwins fs → NamesApart (names_in (current_in fs))
 current_apart fs twins = kept_apart fs fs (λ g m. m) twins
 
--- ---- files that are written
+-- ---- files of a written body
 abbrev pub NoneMarked : List FileForm → Type 0
 NoneMarked [] = Unit {0}
 NoneMarked (f ∷ fs) = (is_marked f.head.state ≡ false) × NoneMarked fs

@@ -1,4 +1,5 @@
--- The data of a file, as a body: the same volumes, the same bytes, as many values, and as deep.
+-- The data of a file can be seen as the body of a section: this body has the same volumes, the same bytes, the same
+-- number of values and the same depth.
 use Rattle.std.proofs.Common.{◌≡◌, ◌<◌, ◌≤◌, ◌+◌, ℕ, List, length, get_or, refl, arith}
 use Rattle.fv_tree.specs.Words.{FileMeaning, File, Plain, Sectioned, content_of, files_from}
 use Rattle.fv_tree.specs.Words.{volumes_in_body, volumes_in_content, volumes_in_file}

@@ -1,4 +1,4 @@
--- In the walk over the rows of a volume, the starts begin with the starts of the volumes that are left.
+-- In the walk over the rows of a volume, the starts that are left begin with the starts of the volumes that are left.
 use Rattle.std.proofs.Common.{◌≡◌, ◌∙◌, ◌+◌, ℕ, List, [], ◌∷◌, ◌++◌, drop, sym, ap, subst}
 use Rattle.fv_canon.specs.LayoutForms.{BeginsWithStarts, Laid, LaysVolume}
 use Rattle.fv_canon.specs.Layouts.{AreStarts}
@@ -34,7 +34,7 @@ begins_level n vs ws starts (laid, more, is, lays) = (laid, more, is, laid_level
 abbrev row : ℕ → ℕ → ℕ → NodeMeaning → TreeRow
 row d n i node = record { depth = d; nesting = n; number = i; node = node }
 
--- the starts cover the row of a volume; after it, they cover the rows that follow
+-- the starts cover the row of a volume, and after this row they cover the rows that follow
 pub record VolumeNext (v : Meaning) (rest : List TreeRow) (starts : List ℕ) : Type 0 where
   pub more : List Inside
   pub here : BeginsWithStarts (volumes_in v ++ more) starts
@@ -69,7 +69,7 @@ file_next d n i node (File name kind attributes content) rest starts is followed
 
 -- ---- all rows
 
--- the digests by the starts of a layout cover all rows of its volume
+-- if the starts are a layout of a volume, the digests with these starts cover all rows of the volume
 pub layout_covers : (m : Meaning) (starts : List ℕ) (d : ImageDigests) → d.starts.now ≡ starts → LaysVolume m starts
     → Covers (λ (e : ImageDigests). e.starts.now) d (tree_rows m)
 layout_covers m starts d is laid = (

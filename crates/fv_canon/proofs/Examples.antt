@@ -1,4 +1,4 @@
--- Images of small volumes, byte by byte.
+-- The images of small volumes, byte by byte.
 use Rattle.std.proofs.lemmas.Grind.{common_steps}
 use Rattle.std.proofs.Common.{◌≡◌, ℕ, false, List, [], ◌∷◌, ◌++◌, replicate, refl, arith}
 use Rattle.std.specs.Prelude.{None, Some}
@@ -26,23 +26,23 @@ head n = record {
   ext = None;
 }
 
--- the 72 bytes of a head, with the bytes of its length and of its checksum
+-- the 72 bytes of a volume header, with the given bytes of its length and its checksum
 abbrev head_bytes : List ℕ → ℕ → ℕ → List ℕ
 head_bytes n c d =
     replicate 16 0 ++ ((0x78 ∷ 0xe5 ∷ 0x8c ∷ 0x8c ∷ 0x3d ∷ 0x8a ∷ 0x1c ∷ 0x4f ∷ 0x99 ∷ 0x35 ∷ 0x89 ∷ 0x61 ∷ 0x85 ∷ 0xc3 ∷ 0x2d ∷ 0xd3 ∷ [])
     ++ ((n ++ replicate 4 0)
     ++ ((0x5f ∷ 0x46 ∷ 0x56 ∷ 0x48 ∷ 0xff ∷ 0xfe ∷ 4 ∷ 0 ∷ 0x48 ∷ 0 ∷ c ∷ d ∷ 0 ∷ 0 ∷ 0 ∷ 2 ∷ 1 ∷ 0 ∷ 0 ∷ 0 ∷ []) ++ (n ++ replicate 8 0))))
 
--- a file's header
+-- the header of a file
 abbrev file : ℕ → ℕ → ℕ → ℕ → ℕ → ℕ → List ℕ
 file n hs fs kind attributes size = replicate 16 n ++ (hs ∷ fs ∷ kind ∷ attributes ∷ size ∷ 0 ∷ 0 ∷ 0xf8 ∷ [])
 
--- a volume without files
+-- the image of a volume without files
 empty_image : image_of (Volume (head 128) NoFiles) [] ≡ head_bytes (128 ∷ 0 ∷ 0 ∷ 0 ∷ []) 0xce 0xf5 ++ replicate 56 0xff
 unfolding canonical_head head_spelled ext_pad
 empty_image = refl
 
--- a gap of 24 before a file of alignment 16
+-- an image with a gap of 24 bytes before a file of alignment 16
 gap_image : image_of (Volume (head 160) (MoreFiles (File (guid 0x0a) 1 0 (Plain []))
     (MoreFiles (File (guid 0x0b) 1 8 (Plain (1 ∷ 2 ∷ 3 ∷ 4 ∷ 5 ∷ 6 ∷ 7 ∷ 8 ∷ []))) NoFiles))) (72 ∷ 120 ∷ [])
     ≡ head_bytes (160 ∷ 0 ∷ 0 ∷ 0 ∷ []) 0x8e 0xf5 ++ (file 0x0a 0x47 0xaa 1 0 24
@@ -50,7 +50,7 @@ gap_image : image_of (Volume (head 160) (MoreFiles (File (guid 0x0a) 1 0 (Plain 
 unfolding canonical_head head_spelled ext_pad header_bytes stored_bytes pad_bytes gap_bytes
 gap_image = refl
 
--- two sections, their data summed
+-- an image with a file of two sections whose file checksum covers the data
 sections_image : image_of (Volume (head 128) (MoreFiles (File (guid 0x0a) 2 0x40 (Sectioned (MoreSections
     (Section 0x19 false (Leaf (0x5a ∷ []))) (MoreSections (Section 0x19 false (Leaf (1 ∷ 2 ∷ []))) NoSections)) 0)) NoFiles)) (72 ∷ [])
     ≡ head_bytes (128 ∷ 0 ∷ 0 ∷ 0 ∷ []) 0xce 0xf5
@@ -58,7 +58,7 @@ sections_image : image_of (Volume (head 128) (MoreFiles (File (guid 0x0a) 2 0x40
 unfolding canonical_head head_spelled ext_pad header_bytes stored_bytes pad_bytes gap_bytes
 sections_image = refl
 
--- a volume in a volume
+-- the image of a volume that contains a volume
 nested_image : image_of (Volume (head 256) (MoreFiles (File (guid 0x0a) 0x0b 0
     (Sectioned (MoreSections (Section 0x17 false (Nested (Volume (head 128) NoFiles))) NoSections) 0)) NoFiles)) (72 ∷ [])
     ≡ head_bytes (0 ∷ 1 ∷ 0 ∷ 0 ∷ []) 0xce 0xf4 ++ (file 0x0a 0xb9 0xaa 0x0b 0 156
@@ -66,7 +66,7 @@ nested_image : image_of (Volume (head 256) (MoreFiles (File (guid 0x0a) 0x0b 0
 unfolding canonical_head head_spelled ext_pad header_bytes stored_bytes pad_bytes gap_bytes
 nested_image = refl
 
--- an extended header with a used size, in its pad
+-- an image with an extended header that has a used-size entry, in its pad
 ext_image : image_of (Volume (record {
   zero_vector = replicate 16 0;
   file_system = Ffs2;
@@ -85,6 +85,6 @@ ext_image : image_of (Volume (record {
 unfolding canonical_head head_spelled ext_spelled ext_pad header_bytes stored_bytes pad_bytes gap_bytes
 ext_image = refl
 
--- a gap of 16 MiB: one long pad, and one of 256 bytes
+-- a gap of 16 MiB is filled with one long pad and one pad of 256 bytes
 long_gap : (p : Polarity) → gap_bytes p 16777216 ≡ pad_bytes p 0xffff00 ++ pad_bytes p 256
 long_gap p = grind (arith, common_steps, pads_rule)

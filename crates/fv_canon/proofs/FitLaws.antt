@@ -1,5 +1,5 @@
--- A volume fits exactly where its files, and those of each volume inside, are laid out. One that is rejected does not fit, and one
--- that does not fit is rejected.
+-- A volume fits exactly if it has a layout, which places its files and the files of each volume inside. It is rejected
+-- exactly if it does not fit.
 use Rattle.std.proofs.Common.{◌≡◌, ◌⊎◌, inl, inr, ◌+◌, ℕ, List, [], ◌∷◌, refl, sym, ◌∙◌}
 use Rattle.fv_base.specs.declared.fault.Fault.{Fault}
 use Rattle.fv_base.specs.declared.fault.FaultKind.TheVariants as kinds
@@ -12,14 +12,14 @@ use Rattle.fv_canon.specs.Words.{LaysVolume, LeastVolume, layout_fault, AllFit, 
 use Rattle.fv_canon.proofs.UnfitKinds.{unfit_is}
 use Rattle.fv_canon.proofs.VolumeListLaws.{laid_fit, fit_laid}
 
--- what is laid out fits, and the other way round
+-- a volume fits exactly if it has a layout
 pub laid_fits : (m : Meaning) (starts : List ℕ) → LaysVolume m starts → Fits m
 laid_fits m starts laid = laid_fit (volumes_in m) starts laid
 
 pub fits_laid : (m : Meaning) → Fits m → (starts : List ℕ) × LaysVolume m starts
 fits_laid m fit = fit_laid (volumes_in m) fit
 
--- what is rejected cannot be placed
+-- a volume with a fault of the layout has no placement
 here_none : (v : Inside) (depth : ℕ) (f : Fault) → UnfitHere v.volume depth f → IsPlaced v → ⊥
 here_none v depth f (inl (off, is)) (own, placed) = top_none _ _ (layout_items v.volume) own off placed.placement.follow
 here_none v depth f (inr (short, is)) (own, placed) = short.none own placed.placement
@@ -32,7 +32,7 @@ first_none (v ∷ vs) depth f (inr (here, un)) (placed, fit) = first_none vs dep
 pub unfit_none : (m : Meaning) (depth : ℕ) (f : Fault) → Unfit m depth f → Fits m → ⊥
 unfit_none m depth f un fit = first_none (volumes_in m) depth f un fit
 
--- and the fault is one
+-- a volume has at most one fault of the layout
 here_fault : (m : Meaning) (depth : ℕ) (f g : Fault) → UnfitHere m depth f → UnfitHere m depth g → f ≡ g
 here_fault m depth f g (inl (off, is)) (inl (off', is')) = is ∙ sym is'
 here_fault m depth f g (inl (off, is)) (inr (short, is')) = absurd (short.top_stands off)
@@ -49,7 +49,7 @@ first_fault (v ∷ vs) depth f g (inr (placed, un)) (inr (placed', other)) = fir
 pub one_fault : (m : Meaning) (depth : ℕ) (f g : Fault) → Unfit m depth f → Unfit m depth g → f ≡ g
 one_fault m depth f g un other = first_fault (volumes_in m) depth f g un other
 
--- least starts that are placements are the layout
+-- if the least starts of each volume are a placement, they are the layout
 least_are : (vs : List Inside) (starts : List ℕ) → Laid AreLeast vs starts → Laid AreStarts vs starts
 least_are [] starts laid = laid
 least_are (v ∷ vs) starts (own, inner, text, (least, placed), laid) =
@@ -58,7 +58,7 @@ least_are (v ∷ vs) starts (own, inner, text, (least, placed), laid) =
 pub least_laid : (m : Meaning) (starts : List ℕ) → LeastVolume m starts → LaysVolume m starts
 least_laid m starts laid = least_are (volumes_in m) starts laid
 
--- ---- a volume fits, or has a fault of the layout
+-- ---- a layout or a fault
 
 here_or : (m : Meaning) (depth : ℕ) → ((starts : List ℕ)
     × IsFirstPlacement (length_of m) (first_edge (head_of m) (head_of m).ext) (layout_items m) starts) ⊎ ((f : Fault) × UnfitHere m depth f)
@@ -81,11 +81,11 @@ all_or (v ∷ vs) depth = go (here_or v.volume (depth + v.depth)) (all_or vs dep
   go (inl placed) (inl all) = inl (placed, all)
   go (inl placed) (inr (f, behind)) = inr (f, inr (placed, behind))
 
--- a volume fits, or it has a fault of the layout
+-- a volume either fits or has a fault of the layout
 pub fits_or : (m : Meaning) → Fits m ⊎ ((f : Fault) × Unfit m 0 f)
 fits_or m = all_or (volumes_in m) 0
 
--- an input that does not fit is rejected, as NoRoom or TopAlignment
+-- an input that does not fit is rejected with NoRoom or TopAlignment
 pub unfit_is_refused : WhatDoesNotFitIsRefused
 unfit_is_refused input (m, d, unfit) = go (fits_or m) where
   go : Fits m ⊎ ((f : Fault) × Unfit m 0 f) → (f : Fault) × Refuses input f × IsOfLayout f.kind

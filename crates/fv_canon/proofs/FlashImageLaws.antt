@@ -1,10 +1,12 @@
--- A flash image whose volumes are renewed, one after another. The steps:
--- 1. `RenewsFrom` says place by place what the walk writes. Then each volume has its image, and every other byte is as
---    it was (`renewed_is`).
--- 2. The loop keeps `Puts`: what was put so far, with anything that is renewed after it, makes a whole. It holds at
---    first (`puts_none`), after each volume (`puts_more`), and at the end it gives the whole (`puts_all`).
--- 3. Each byte is in a volume or in none (`covered_known`), so no other bytes are the image (`normalised_one`).
--- 4. A volume that has an image is not rejected. So if all have images, the only error is OutOfMemory (`only_want`).
+-- A flash image in which each volume is replaced by its canonical image. The steps:
+-- 1. `RenewsFrom` states, place by place, what the walk writes. It implies that each volume has its canonical image,
+--    and that every other byte is unchanged (`renewed_is`).
+-- 2. The loop keeps `Puts`: the bytes that were put so far, followed by the rest of any renewed image, are a renewed
+--    image. It holds at first (`puts_none`) and after each volume (`puts_more`), and at the end all bytes are put
+--    (`puts_all`).
+-- 3. Each byte either is in a volume or is not (`covered_known`), so the renewed image is unique (`normalised_one`).
+-- 4. A volume that has a canonical image is not rejected. So if all volumes have one, the only error is OutOfMemory
+--    (`only_want`).
 use Rattle.std.proofs.lemmas.Grind.{common_steps}
 use Rattle.std.proofs.Common.{◌≡◌, ◌⊎◌, ◌≤◌, ◌<◌, ◌+◌, ◌-◌, ◌^◌, ℕ, List, [], ◌∷◌, ◌++◌, length, drop, get_or, refl}
 use Rattle.std.proofs.Common.{sym, ap, ◌∙◌, subst, arith, inl, inr, append_assoc, length-append}
@@ -31,14 +33,15 @@ use Rattle.fv_canon.proofs.OneImageLaws.{image_one}
 
 -- ---- bytes
 
--- a byte of those from a place on, and of a field
+-- a byte at or after the offset `from` is a byte of the list without its first `from` bytes, and of a field that begins
+-- there
 rest_at : (b : List ℕ) (from k : ℕ) → from ≤ k → get_or (drop from b) (k - from) 0 ≡ get_or b k 0
 rest_at b from k low = grind (arith, common_steps, get_or-drop)
 
 field_at : (b : List ℕ) (from n k : ℕ) → from ≤ k → k < from + n → get_or (field from n b) (k - from) 0 ≡ get_or b k 0
 field_at b from n k low high = get_or-take n (drop from b) (k - from) 0 (omega (arith, low, high)) ∙ rest_at b from k low
 
--- of bytes that are joined, those after the first, and the part in the middle
+-- dropping the first of two joined lists leaves the second, and the middle one of three joined lists is a field
 drop_joined : (xs ys : List ℕ) (n : ℕ) → length xs ≡ n → drop n (xs ++ ys) ≡ ys
 drop_joined xs ys n long = ap (λ (i : ℕ). drop i (xs ++ ys)) (sym long) ∙ drop-append_seam xs ys
 
@@ -47,7 +50,7 @@ field_joined xs ys zs at n long size = grind (arith, common_steps, drop_joined, 
 
 -- ---- images
 
--- a volume has one image, and then it is not rejected
+-- a volume has at most one canonical image, and a volume that has one is not rejected
 one_image_of : (b image other : List ℕ) → NormalisesTo b image → NormalisesTo b other → image ≡ other
 one_image_of b image other (m, a, is) (k, c, is') =
     let same : m ≡ k = one_meaning depth_limit depth_limit b m k a.1 c.1 in
@@ -60,7 +63,7 @@ refused_never b image f (inr (v, a, unfit)) to =
 
 -- ---- one volume
 
--- its fault has a place in the image
+-- the offset of a volume's fault in the flash image is less than 2 ^ 64
 pub place_fits : (b x : List ℕ) (p n : ℕ) (f : Fault) → VolumeAt b p n → length x ≡ n → length b < 2 ^ 63 → (f ≡ out_of_memory) ⊎ Refuses x f
     → p + f.place.offset < 2 ^ 64
 place_fits b x p n f v long small (inl want) =
@@ -70,19 +73,20 @@ place_fits b x p n f v long small (inr refused) = omega (arith, refused_within x
 
 -- ---- 1. the walk
 
--- from one place on, o is b but for the volumes that begin at these places: there it has their canonical images
+-- from an offset on, o is b, except that each volume that begins at one of the places is replaced by its canonical
+-- image
 abbrev pub RenewsFrom : ℕ → List ℕ → List ℕ → List ℕ → Type 0
 RenewsFrom from b [] o = drop from o ≡ drop from b
 RenewsFrom from b (p ∷ ps) o =
     (n : ℕ) × (from ≤ p) × VolumeAt b p n × (field from (p - from) o ≡ field from (p - from) b)
     × NormalisesTo (field p n b) (field p n o) × RenewsFrom (p + n) b ps o
 
--- at each of the places is the image
+-- o has the canonical image of the volume at each of the places
 renewed_each : (from : ℕ) (b ps o : List ℕ) → RenewsFrom from b ps o → AllByRecursion (IsRenewed b o) ps
 renewed_each from b [] o same = tt
 renewed_each from b (p ∷ ps) o (n, low, v, same, to, more) = ((n, v, to), renewed_each (p + n) b ps o more)
 
--- and the bytes in none of the volumes are as they were
+-- the bytes outside the volumes are unchanged
 renewed_others : (from : ℕ) (b ps o : List ℕ) → RenewsFrom from b ps o → (k : ℕ) → from ≤ k → (IsCovered b ps k → ⊥)
     → get_or o k 0 ≡ get_or b k 0
 renewed_others from b [] o same k low none =
@@ -108,7 +112,7 @@ renewed_is b places o walk long = record {
 
 -- ---- 2. the loop: one step of the walk
 
--- the bytes up to a volume, its image, and what is renewed after it
+-- the bytes up to a volume, the volume's canonical image and renewed bytes after it are renewed bytes
 renews_more : (b ps bytes x image rest : List ℕ) (from p n : ℕ) → from ≤ p → VolumeAt b p n → x ≡ field from (p - from) b
     → length bytes ≡ from → length x ≡ p - from → length (bytes ++ x) ≡ p → length image ≡ n → NormalisesTo (field p n b) image
     → RenewsFrom (p + n) b ps (bytes ++ (x ++ (image ++ rest))) → RenewsFrom from b (p ∷ ps) (bytes ++ (x ++ (image ++ rest)))
@@ -121,7 +125,8 @@ renews_more b ps bytes x image rest from p n least v same long gap_long front_lo
     ap (λ (l : List ℕ). field p n l) flat ∙ field_joined (bytes ++ x) image rest p n front_long image_long in
     (n, least, v, gap, subst (NormalisesTo (field p n b)) (sym there) to, more)
 
--- what lies up to the place `from`, of the volumes before the i-th, is put: bytes after which anything makes a whole
+-- the sink took `bytes`, the first `from` bytes of a renewed image, in which the first i volumes are renewed: followed
+-- by bytes in which the volumes that are left are renewed, they make a whole renewed image
 pub record Puts {S : Type 0} (takes : S → List ℕ → S → Type 0) (s t : S) (b places : List ℕ) (i from : ℕ) : Type 0 where
   pub bytes : List ℕ
   pub taken : takes s bytes t
@@ -131,7 +136,7 @@ pub record Puts {S : Type 0} (takes : S → List ℕ → S → Type 0) (s t : S)
   pub whole : (rest : List ℕ) → RenewsFrom from b (drop i places) (bytes ++ rest) → RenewsFrom 0 b places (bytes ++ rest)
 
 module _ {S : Type 0} (takes : S → List ℕ → S → Type 0) (laws : WalkLaws takes) (s : S) (b places : List ℕ) where
-  -- nothing is put
+  -- at first nothing is put
   pub puts_none : Found b places → Puts takes s s b places 0 0
   puts_none found = record {
     bytes = [];
@@ -142,7 +147,7 @@ module _ {S : Type 0} (takes : S → List ℕ → S → Type 0) (laws : WalkLaws
     whole = λ rest all. all;
   }
 
-  -- the next place, and what is left after the volume that begins there
+  -- the next volume begins at or after `from`, and the later volumes begin after its end
   pub next_of : {t : S} (i from : ℕ) → Puts takes s t b places i from → i < length places
       → (from ≤ get_or places i 0)
       × ((n : ℕ) × VolumeAt b (get_or places i 0) n × FoundFrom (get_or places i 0 + n) b (drop (i + 1) places))
@@ -152,7 +157,7 @@ module _ {S : Type 0} (takes : S → List ℕ → S → Type 0) (laws : WalkLaws
       subst (λ (l : List ℕ). FoundFrom from b l) (drop_more places i 0 less) puts.left in
       (left.1.0, (left.0, left.1.3, left.2))
 
-  -- what is renewed after the next volume makes a whole
+  -- if the rest of the image is renewed after the next volume, the whole is renewed
   puts_whole : {t : S} (i from n : ℕ) (x image rest : List ℕ) → (puts : Puts takes s t b places i from) → i < length places
       → from ≤ get_or places i 0 → VolumeAt b (get_or places i 0) n → x ≡ field from (get_or places i 0 - from) b
       → length x ≡ get_or places i 0 - from → length (puts.bytes ++ x) ≡ get_or places i 0 → length image ≡ n
@@ -172,7 +177,7 @@ module _ {S : Type 0} (takes : S → List ℕ → S → Type 0) (laws : WalkLaws
       subst (λ (l : List ℕ). RenewsFrom from b l o) (sym (drop_more places i 0 less)) here in
       subst (RenewsFrom 0 b places) (sym flat) (puts.whole (x ++ (image ++ rest)) left)
 
-  -- the bytes up to the next volume are put, and its image
+  -- the bytes up to the next volume and its canonical image are put
   pub puts_more : {t u w : S} (i from n : ℕ) (between image : List ℕ) → (puts : Puts takes s t b places i from) → i < length places
       → VolumeAt b (get_or places i 0) n → between ≡ field from (get_or places i 0 - from) b → takes t between u
       → NormalisesTo (field (get_or places i 0) n b) image → takes u image w → Puts takes s w b places (i + 1) (get_or places i 0 + n)
@@ -202,7 +207,7 @@ module _ {S : Type 0} (takes : S → List ℕ → S → Type 0) (laws : WalkLaws
             to more;
       }
 
-  -- all volumes are put, and the bytes after the last
+  -- after the last volume, the bytes after it are put, and the image is complete
   pub puts_all : {t u : S} (i from : ℕ) (rest : List ℕ) → Found b places → Puts takes s t b places i from → length places ≤ i
       → rest ≡ drop from b → takes t rest u
       → (bytes : List ℕ) × Renewed b places bytes × takes s bytes u
@@ -217,9 +222,9 @@ module _ {S : Type 0} (takes : S → List ℕ → S → Type 0) (laws : WalkLaws
       omega (arith, length-append puts.bytes (drop from b), puts.long, length-drop from b, puts.inside) in
       (o, renewed_is b places o walk long, laws.joined puts.taken put)
 
--- ---- 3. no other bytes
+-- ---- 3. the renewed image is unique
 
--- a byte is in one of the volumes, or in none
+-- a byte either is in one of the volumes or is in none of them
 covered_known : (b o ps : List ℕ) (k : ℕ) → AllByRecursion (IsRenewed b o) ps → IsCovered b ps k ⊎ (IsCovered b ps k → ⊥)
 covered_known b o [] k all = inr none where
   none : IsCovered b [] k → ⊥
@@ -245,7 +250,7 @@ covered_known b o (p ∷ ps) k ((n, v, to), all) = go (cases_lt k p) (cases_lt k
   go (inl less) _ (inl c) = inl (c.0, c.1, one_behind p ps c.0 c.2, c.3, c.4, c.5)
   go (inl less) _ (inr none) = inr (before less none)
 
--- the image at a place, by the length of the volume there
+-- the canonical image of the volume at a place, given the volume's length
 image_at : (b places o : List ℕ) (p n : ℕ) → Renewed b places o → Contains places p → VolumeAt b p n
     → NormalisesTo (field p n b) (field p n o)
 image_at b places o p n r has v =
@@ -264,11 +269,11 @@ renewed_one b places o other r s = ext_get_or 0 o other (r.length_is ∙ sym s.l
   each : (k : ℕ) → k < length o → get_or o k 0 ≡ get_or other k 0
   each k less = by k (omega (arith, less, r.length_is)) (covered_known b o places k r.volumes)
 
--- one list of bytes has all volumes renewed
+-- an image has at most one renewed image
 pub normalised_one : (b o other : List ℕ) → NormalisesAll b o → NormalisesAll b other → o ≡ other
 normalised_one b o other (short, places, found, r) (short', places', found', s) = grind (arith, common_steps, one_found, renewed_one)
 
--- ---- 4. where all volumes have images, none is rejected
+-- ---- 4. if all volumes have canonical images, none is rejected
 
 renewed_never : (b places other : List ℕ) (f : Fault) → Found b places → FirstRefused b places f → NormalisesAll b other → ⊥
 renewed_never b places other f found stops (short, places', found', s) =
@@ -280,7 +285,7 @@ renewed_never b places other f found stops (short, places', found', s) =
     refused_never (field stops.place stops.refused.0 b) (field stops.place stops.refused.0 other) stops.refused.2 stops.refused.3
     (subst (λ (k : ℕ). NormalisesTo (field stops.place k b) (field stops.place k other)) long is.2)
 
--- so where all volumes have images, the only error is out of memory
+-- so if all volumes have canonical images, the only error is out of memory
 pub only_want : (b places other : List ℕ) (f : Fault) → Found b places → (f ≡ out_of_memory) ⊎ FirstRefused b places f
     → NormalisesAll b other → f ≡ out_of_memory
 only_want b places other f found why to = first_only why (λ stops. renewed_never b places other f found stops to)

@@ -1,4 +1,5 @@
--- The headline: equal images have equal meanings, and an image is its own image; and an image has one meaning.
+-- The headline: two volumes have the same image exactly if they have the same meaning, and an image is its own image.
+-- An image has only one meaning.
 use Rattle.std.proofs.Common.{◌≡◌, ◌≤◌, ◌+◌, ◌-◌, ℕ, zero, suc, List, [], ◌∷◌, sym, ◌∙◌, subst, arith}
 use Rattle.fv_base.specs.Words.{IsBytes, depth_limit}
 use Rattle.fv_section.specs.Words.{FrameForm}
@@ -10,7 +11,7 @@ use Rattle.fv_tree.proofs.Laws.{one_meaning}
 use Rattle.fv_canon.proofs.OneImageLaws.{image_one}
 use Rattle.fv_canon.proofs.VolumeImageLaws.{image_bytes, image_denotes, image_long, volume_of}
 
--- ---- what nests to a depth at most nests to a greater one at most
+-- ---- bytes that are a volume at a depth are a volume at every greater depth
 pairs_more : {A B : Type 0} (p q : A → B → Type 0) → ((x : A) (y : B) → p x y → q x y) → (xs : List A) (ys : List B) → Pairwise p xs ys
     → Pairwise q xs ys
 pairs_more p q more [] [] h = tt

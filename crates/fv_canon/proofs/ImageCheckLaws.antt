@@ -1,8 +1,8 @@
--- What is said of each volume of an image. The steps:
--- 1. An input has one first fault (`one_first`), so bytes have one outcome (`one_outcome`), and an image one list of checks
---    (`checks_one`).
--- 2. What reads a volume rejects it, or memory ran out (`ran_out_only`, `is_rejected`).
--- 3. The volumes are all canonical exactly if the image stays as it is (`canonical_images_stay`).
+-- The results of checking each volume of a flash image. The steps:
+-- 1. An input has at most one first fault (`one_first`), so bytes have at most one outcome (`one_outcome`), and an
+--    image has at most one list of checks (`checks_one`).
+-- 2. If a volume is not read, either it is rejected or memory ran out (`ran_out_only`, `is_rejected`).
+-- 3. All volumes are canonical exactly if `normalise --all` does not change the image (`canonical_images_stay`).
 use Rattle.std.proofs.Common.{◌≡◌, ◌≢◌, ◌⊎◌, ℕ, List, [], ◌∷◌, map, refl, sym, ap}
 use Rattle.std.proofs.Common.{◌∙◌, subst, arith, inl, inr}
 use Rattle.std.specs.List.{AllByRecursion}
@@ -25,12 +25,12 @@ use Rattle.fv_canon.specs.declared.image_check.VolumeOutcome.TheVariants.{Canoni
 
 -- ---- 1. one outcome
 
--- bytes with a first fault begin with no volume
+-- bytes with a first fault do not begin with a volume
 first_or_on : (b : List ℕ) (f g : Fault) → IsFirstOfVolume b f → GoesOn b g → ⊥
 first_or_on b f g first (m, d, less, is) =
     fault_refuses First depth_limit (length_of m) f b outermost m (omega (arith, less)) first d.1
 
--- the volume that bytes go on after has one length
+-- bytes that go on after a volume have one fault, at the end of the volume
 one_end : (b : List ℕ) (f g : Fault) → GoesOn b f → GoesOn b g → f ≡ g
 one_end b f g (m, d, less, is) (k, d', less', is') =
     let front = front_of depth_limit (length_of m) b m (omega (arith, less)) d.1 in
@@ -39,14 +39,14 @@ one_end b f g (m, d, less, is) (k, d', less', is') =
     let long : length_of m ≡ length_of k = sym front.1 ∙ (ap (λ (e : Extent). e.length) same.1 ∙ front'.1) in
     is ∙ (ap (outer_fault kinds.Length) long ∙ sym is')
 
--- an input has one first fault
+-- an input has at most one first fault
 one_first : (b : List ℕ) (f g : Fault) → IsFirstOfInput b f → IsFirstOfInput b g → f ≡ g
 one_first b f g (inl first) (inl other) = first_once depth_limit f g b outermost first other
 one_first b f g (inl first) (inr on) = absurd (first_or_on b f g first on)
 one_first b f g (inr on) (inl other) = absurd (first_or_on b g f other on)
 one_first b f g (inr on) (inr on') = one_end b f g on on'
 
--- bytes have one outcome
+-- bytes have at most one outcome
 one_outcome : (at : ℕ) (b : List ℕ) (x y : VolumeOutcome) → HasOutcome at b x → HasOutcome at b y → x ≡ y
 one_outcome at b Canonical Canonical has has' = refl
 one_outcome at b Canonical NotCanonical (m, a, is) (k, c, none) =
@@ -62,7 +62,7 @@ one_outcome at b (Rejected f) (Rejected g) (own, bad, e) (own', bad', e') =
     let same : own ≡ own' = one_first b own own' bad.first bad'.first in
     ap Rejected (e ∙ (ap (λ (o : Fault). moved_fault at o.place.depth o) same ∙ sym e'))
 
--- and a volume at a place one check
+-- a volume at a place has at most one check
 one_check : (b : List ℕ) (c d : VolumeCheck) → c.offset ≡ d.offset → IsChecked b c → IsChecked b d → c ≡ d
 one_check b c d same (v, has) (w, has') =
     let long : c.length ≡ d.length = one_length b d.offset c.length d.length (subst (λ (k : ℕ). VolumeAt b k c.length) same v) w in
@@ -75,7 +75,7 @@ one_check b c d same (v, has) (w, has') =
     ap (λ (o : ℕ). made o c.length c.outcome) same ∙ (ap (λ (n : ℕ). made d.offset n c.outcome) long
     ∙ ap (λ (x : VolumeOutcome). made d.offset d.length x) out)
 
--- so the volumes at some places have one list of checks
+-- so the volumes at some places have at most one list of checks
 each_one : (b offsets : List ℕ) (xs ys : List VolumeCheck) → AreChecked b offsets xs → AreChecked b offsets ys → xs ≡ ys
 each_one b [] [] [] (at, all) (at', all') = refl
 each_one b [] (x ∷ xs) ys (at, all) other = let bad : x.offset ∷ map (λ (c : VolumeCheck). c.offset) xs ≡ [] = at in cc
@@ -90,12 +90,12 @@ each_one b (o ∷ os) (x ∷ xs) (y ∷ ys) (at, (is, all)) (at', (is', all')) =
     ap (λ (c : VolumeCheck). c ∷ xs) (one_check b x y (first ∙ sym other) is is')
     ∙ ap (λ (l : List VolumeCheck). y ∷ l) (each_one b os xs ys (rest, all) (rest', all'))
 
--- and so have those of an image
+-- so the volumes of an image have at most one list of checks
 pub checks_one : (b : List ℕ) (xs ys : List VolumeCheck) → ChecksImage b xs → ChecksImage b ys → xs ≡ ys
 checks_one b xs ys (short, offsets, found, are) (short', offsets', found', are') =
     each_one b offsets' xs ys (subst (λ (l : List ℕ). AreChecked b l xs) (one_found b offsets offsets' found found') are) are'
 
--- ---- 2. one that is rejected
+-- ---- 2. a volume that is rejected
 
 -- the first fault of an input is not out of memory
 not_memory : (b : List ℕ) (f : Fault) → NotRead b f → f.kind ≢ kinds.OutOfMemory
@@ -104,11 +104,11 @@ not_memory b f bad = go bad.first where
   go (inl first) = stands_other b f kinds.OutOfMemory refl (fault_stands b f first)
   go (inr (m, d, less, is)) = λ want. let never : kinds.Length ≡ kinds.OutOfMemory = sym (ap (λ (g : Fault). g.kind) is) ∙ want in cc
 
--- a reading that fails with this kind fails because memory ran out
+-- if reading fails with OutOfMemory, memory ran out
 pub ran_out_only : (b : List ℕ) (f : Fault) → (f ≡ out_of_memory) ⊎ NotRead b f → f.kind ≡ kinds.OutOfMemory → f ≡ out_of_memory
 ran_out_only b f why kind = first_only why (λ bad. not_memory b f bad kind)
 
--- and with any other kind the bytes are rejected
+-- if reading fails with another kind, the bytes are rejected
 pub is_not_read : (b : List ℕ) (f : Fault) → (f ≡ out_of_memory) ⊎ NotRead b f → f.kind ≢ kinds.OutOfMemory → NotRead b f
 is_not_read b f (inl want) other = absurd (other (ap (λ (g : Fault). g.kind) want))
 is_not_read b f (inr bad) other = bad
@@ -122,7 +122,7 @@ is_rejected at b own f why other moved kind =
 
 -- ---- 3. an image whose volumes are all canonical
 
--- each of them is renewed where the image is as it was
+-- if all checks are Canonical, the image has the canonical image of each volume
 renewed_own : (b offsets : List ℕ) (checks : List VolumeCheck) → AreChecked b offsets checks → AreCanonical checks
     → AllByRecursion (IsRenewed b b) offsets
 renewed_own b [] [] (at, all) own = tt
@@ -135,7 +135,7 @@ renewed_own b (o ∷ os) (c ∷ cs) (at, ((v, has), all)) (is, own) =
     subst (HasOutcome c.offset (field c.offset c.length b)) is has in
     (subst (IsRenewed b b) first (c.length, v, to), renewed_own b os cs (rest, all) own)
 
--- and is canonical where it is renewed as it was
+-- if a volume is its own canonical image, its outcome is Canonical
 is_own : (at : ℕ) (b : List ℕ) (x : VolumeOutcome) → HasOutcome at b x → NormalisesTo b b → x ≡ Canonical
 is_own at b x has to = one_outcome at b x Canonical has to
 

@@ -1,4 +1,4 @@
--- What has an image fits.
+-- A volume that has an image fits.
 use Rattle.std.proofs.Common.{ℕ, ◌+◌, List, [], ◌∷◌}
 use Rattle.fv_section.specs.Words.{FrameForm, frame_len, up_to_4}
 use Rattle.fv_tree.specs.Words.{Meaning, Volume, FileMeanings, NoFiles, MoreFiles, FileMeaning, File, ContentMeaning, Plain, Sectioned}

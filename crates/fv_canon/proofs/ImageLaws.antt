@@ -12,31 +12,32 @@ use Rattle.fv_canon.proofs.ImageFits.{image_fits}
 use Rattle.fv_canon.proofs.OneImageLaws.{image_one}
 use Rattle.fv_canon.proofs.VolumeImageLaws.{image_bytes, image_denotes, image_long}
 
--- what is written for starts that begin with those of a meaning that some bytes have is its image
+-- if the starts begin with a layout of a meaning that some bytes have, the bytes that are written for these starts are
+-- the image of the meaning
 pub image_begun : (m : Meaning) (starts : List ℕ) → IsMeaning m → BeginsWithStarts (volumes_in m) starts → IsImage m (image_of m starts)
 image_begun m starts (n, l, b, small, d) begins = image_made n m b starts small d begins
 
--- and so is what is written for a layout of it
+-- the bytes that are written for a layout of such a meaning are its image
 pub image_is : (m : Meaning) (starts : List ℕ) → IsMeaning m → LaysVolume m starts → IsImage m (image_of m starts)
 image_is m starts is laid = image_begun m starts is (starts, [], sym (append-nil starts), laid)
 
--- and there is no other
+-- such a meaning has no other image
 pub image_only : (m : Meaning) (starts image : List ℕ) → IsMeaning m → LaysVolume m starts → IsImage m image → image ≡ image_of m starts
 image_only m starts image is laid other = image_one m image (image_of m starts) other (image_is m starts is laid)
 
--- an image of such a meaning is a volume of it
+-- the image of such a meaning is a volume of this meaning
 pub image_accepted : (m : Meaning) (image : List ℕ) → IsMeaning m → IsImage m image → Accepted image m
 image_accepted m image (n, l, b, small, d) is =
     accepted n image m (image_bytes n m b image small d is) l (image_denotes n m b image small d is)
 
--- as long as its header says, which is no more than the limit
+-- the image has the length that its header states, which is within the limit
 pub image_length : (m : Meaning) (image : List ℕ) → IsMeaning m → IsImage m image → length image ≡ (head_of m).length
 image_length m image (n, l, b, small, d) is = image_long n m b image small d is ∙ d.whole ∙ d.front.length_is
 
 pub length_limit : (m : Meaning) → IsMeaning m → (head_of m).length ≤ volume_limit
 length_limit m (n, l, b, small, d) = omega (arith, (front_lies b (head_of m) d.extent d.front).limit, d.front.length_is)
 
--- the image of a volume is a volume of the same meaning, its own image, and as long as the volume
+-- the image of a volume has the volume's meaning and length, and is its own image
 pub image_again : (input image : List ℕ) → NormalisesTo input image → MeanSame input image × NormalisesTo image image
 image_again input image to = ((image_keeps_length_and_meaning input image to).1, image_is_its_own_image input image to)
 

@@ -1,4 +1,4 @@
--- How far a walk over an image has come: what laws and invariants say of it, besides the parts of the image itself.
+-- The parts of an image, and how far a walk over an image has come. The invariants of the walk use these definitions.
 use Rattle.std.proofs.Common.{◌≡◌, ℕ, ◌-◌, List, [], ◌++◌, length, drop, replicate}
 use Rattle.std.specs.Str.{bytes_eq}
 use Rattle.fv_base.specs.Words.{alignment_of, bytes_of}
@@ -8,7 +8,7 @@ use Rattle.fv_placement.specs.declared.first_placement.LayoutItem.{LayoutItem}
 use Rattle.fv_canon.specs.Words.{BeginsWithStarts, StoredFile, head_len_for, stored_len}
 use Rattle.fv_canon.specs.inner.ImageOf.{frame_of, starts_in}
 
--- what the layout knows of a file
+-- the facts about a file that the layout depends on
 abbrev pub stored_item : StoredFile → LayoutItem
 stored_item f = record {
   header = head_len_for (length f.payload);
@@ -17,11 +17,11 @@ stored_item f = record {
   top = bytes_eq (bytes_of f.name) top_name;
 }
 
--- a frame: header and body
+-- a frame is a section header followed by its body
 abbrev pub frame_bytes : FrameForm → List ℕ
 frame_bytes f = section_head_of f.kind f.extended (length f.body) ++ f.body
 
--- sections with the zero bytes between them; `gap` zero bytes come before the first
+-- the sections of a stream and the zero bytes between them; `gap` zero bytes come before the first section
 abbrev pub sections_bytes : ℕ → SectionMeanings → List ℕ → List ℕ
 sections_bytes gap NoSections starts = []
 sections_bytes gap (MoreSections s ss) starts =
@@ -29,7 +29,7 @@ sections_bytes gap (MoreSections s ss) starts =
     ++ sections_bytes (up_to_4 (frame_len (frame_of 0 s starts)) - frame_len (frame_of 0 s starts)) ss
     (drop (starts_in (volumes_in_section s)) starts)
 
--- a walk comes to these volumes: the starts that are left begin with theirs, and `last` are those after them
+-- the starts that are left begin with the starts of these volumes, and `last` are the starts after them
 abbrev pub ComesTo : List Inside → List ℕ → List ℕ → Type 0
 ComesTo vs starts last = record { laid : BeginsWithStarts vs starts; left : drop (starts_in vs) starts ≡ last }
 

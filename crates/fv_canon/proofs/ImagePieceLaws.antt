@@ -1,4 +1,4 @@
--- What a walk writes for a part of a volume is its image.
+-- The bytes that a walk writes for a part of a volume are the image of this part.
 use Rattle.std.proofs.Common.{ℕ, List, [], ◌++◌, sym, subst, append-nil, drop}
 use Rattle.fv_base.proofs.Laws.{bytes_drop}
 use Rattle.fv_tree.specs.Words.{IsReadFile, IsReadSection, MeansSection, Stream, FileMeaning, File, SectionMeaning, Section, content_of}
@@ -10,7 +10,7 @@ use Rattle.fv_canon.proofs.WrittenImageLaws.{data_made, stream_made, sections_ma
 use Rattle.fv_file.proofs.Laws.{cell_read}
 use Rattle.fv_section.proofs.Laws.{begun_bytes}
 
--- the data of a file that was read and laid out
+-- the data that a walk writes for a file that was read and laid out are the file's data in the image
 pub data_is : (m : FileMeaning) (starts : List ℕ) → IsReadFile m → BeginsWithStarts (volumes_in_content (content_of m)) starts
     → IsData (content_of m) (data_of (content_of m) starts)
 data_is (File name kind attributes content) starts (n, l, f, (system, p, b, small, most, cell), (named, kinds, bits, is))
@@ -19,7 +19,7 @@ data_is (File name kind attributes content) starts (n, l, f, (system, p, b, smal
     subst (λ (xs : List ℕ). IsData content (data_of content xs)) (sym text)
     (data_made (Stream n) (stream_made (MeansSection n) (sections_made n)) kind content f.payload laid more r.payload is lays)
 
--- the body of a section that was read and laid out
+-- the body that a walk writes for a section that was read and laid out is the section's body in the image
 pub body_is : (m : SectionMeaning) (starts : List ℕ) → IsReadSection m → Laid AreStarts (volumes_in_body (body_of m)) starts
     → IsBodyImage (body_of m) (body_image (body_of m) starts)
 body_is (Section kind extended body) starts (n, l, f, (b, small, most, stands), is) laid =

@@ -1,4 +1,4 @@
--- In an image each volume inside has its own image, as consecutive bytes.
+-- The image of a volume contains the image of each volume inside, as consecutive bytes.
 use Rattle.std.proofs.Common.{◌≡◌, ◌-◌, ◌+◌, ℕ, List, [], ◌∷◌, ◌++◌, length, take, drop, replicate, refl, sym, ap, ◌∙◌, append_assoc}
 use Rattle.std.proofs.Common.{append-nil}
 use Rattle.std.specs.List.{AllByRecursion}
@@ -19,7 +19,7 @@ use Rattle.fv_placement.specs.Words.{StartsFollow}
 use Rattle.fv_canon.proofs.InsideMeaningLaws.{inside_meant}
 use Rattle.fv_canon.proofs.VolumeListLaws.{each_joined, each_deeper}
 
--- ---- bytes within others
+-- ---- bytes that other bytes contain
 
 within_within : (a b c : List ℕ) → IsWithin a b → IsWithin b c → IsWithin a c
 within_within a b c (w, x, p) (y, z, q) = (
@@ -46,7 +46,7 @@ payload_within p x = (
       ++ xs) (sym (append-nil x.payload)),
 )
 
--- the bodies of a stream's frames
+-- if b lies within c, the bodies of the frames in b lie within c
 bodies_wider : (b c : List ℕ) → IsWithin b c → (fs : List FrameForm) → AllByRecursion (λ f. IsWithin f.body b) fs
     → AllByRecursion (λ f. IsWithin f.body c) fs
 bodies_wider b c w [] all = tt
@@ -73,7 +73,7 @@ stream_within : (fs : List FrameForm) (tail : ℕ) (d : List ℕ) → d ≡ stre
 stream_within fs tail d text =
     bodies_wider (stream_of fs tail) d ([], [], text ∙ sym (append-nil (stream_of fs tail))) fs (bodies_within fs tail)
 
--- ---- volumes within
+-- ---- volumes that lie within bytes
 
 all_wider : (b c : List ℕ) → IsWithin b c → (vs : List Inside) → AllByRecursion (HasOwnImage b) vs → AllByRecursion (HasOwnImage c) vs
 all_wider b c w [] all = tt

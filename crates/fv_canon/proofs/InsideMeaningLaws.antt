@@ -1,4 +1,4 @@
--- Each volume in a volume that was read has a meaning that some bytes have.
+-- The meaning of each volume inside a volume that was read is the meaning of some bytes.
 use Rattle.std.proofs.Common.{◌≤◌, ◌+◌, ℕ, zero, suc, List, [], ◌∷◌, ◌++◌, length, drop, arith}
 use Rattle.std.specs.List.{AllByRecursion}
 use Rattle.fv_base.specs.Words.{IsBytes}
@@ -18,7 +18,7 @@ use Rattle.fv_canon.proofs.VolumeListLaws.{each_joined, each_deeper}
 abbrev AllMeant : List Inside → Type 0
 AllMeant vs = AllByRecursion (λ v. IsMeaning v.volume) vs
 
--- ---- what is to be shown of what lies inside
+-- ---- the statements about the parts inside
 abbrev SectionsMeant : SectionRelation → Type 0
 SectionsMeant p = (f : FrameForm) (s : SectionMeaning) → IsBytes f.body → p f s → AllMeant (volumes_in_section s)
 

@@ -1,7 +1,7 @@
--- An item of a list.
+-- A fact about a list, and the same fact about each of its items.
 use Rattle.std.proofs.Common.{◌≡◌, ◌<◌, ℕ, zero, suc, List, [], ◌∷◌, length, get_or, sym, subst, arith}
 
--- where P of a list says Q of its first item and P of the rest, it says Q of each item
+-- if P of a list implies Q of its first item and P of the rest, then P of a list implies Q of each of its items
 pub item_has : {A : Type 0} (P : List A → Type 0) (Q : A → Type 0) → ((x : A) (xs : List A) → P (x ∷ xs) → Q x × P xs)
     → (xs : List A) (i : ℕ) (x : A) → i < length xs → x ≡ get_or xs i x → P xs → Q x
 item_has P Q step [] i x l is h = absurd (omega arith)

@@ -1,7 +1,8 @@
--- What is known of a file that was read and laid out, and how the files of a volume go on. The steps:
--- 1. Its data are as long as the layout knows (`file_long`, `size_is`).
--- 2. At its place it is known where it begins and ends (`here_is`, `at_file`).
--- 3. A walk has left its gap, itself and its filler, and then the files after it (`walk_goes`), and at the end erased bytes (`files_end`).
+-- Facts about a file that was read and laid out, and the walk over the files of a volume. The steps:
+-- 1. The data of the file have the length that the layout assumed (`file_long`, `size_is`).
+-- 2. The start of the file determines where it begins and ends (`here_is`, `at_file`).
+-- 3. The bytes that are left to write are the gap before the file, the file, its filler, and then the files after it
+--    (`walk_goes`). At the end only erased bytes are left (`files_end`).
 use Rattle.std.proofs.lemmas.Grind.{common_steps}
 use Rattle.std.proofs.Common.{◌≡◌, ◌≤◌, ◌<◌, ◌⊎◌, inl, inr, ◌+◌, ◌-◌, ◌%◌, ℕ, List, ◌∷◌, ◌++◌, length, drop, replicate}
 use Rattle.std.proofs.Common.{get_or, refl, ap, ◌∙◌, subst, arith, append_assoc, length-drop}
@@ -47,7 +48,7 @@ size_is (File name kind attributes content) starts long = ap size_for long
 
 -- ---- the walk over the files
 
--- what is known of the file at a place
+-- facts about the file with the start s, after the edge e
 pub record Here (total e : ℕ) (f : FileMeaning) (s : ℕ) : Type 0 where
   pub stands : StandsInVolume total e (layout_item f) s
   pub low : e ≤ s
@@ -94,7 +95,7 @@ pub placed_on : (total e : ℕ) (f : FileMeaning) (fs : List FileMeaning) (s : �
     → ArePlaced total (up_to_8 (s + size_for (data_len_of f))) fs ss
 placed_on total e f fs s ss placed = grind (arith, common_steps, here_is)
 
--- the files from a place on are the one there, and then those after it
+-- the bytes of the files from a place on are the bytes of the first of these files, and then those of the others
 pub files_go : (p : Polarity) (total e : ℕ) (f : FileMeaning) (fs : List FileMeaning) (s : ℕ) (ss starts : List ℕ)
     → stored_len (stored_file f starts) ≡ size_for (data_len_of f)
     → files_bytes p total e (stored_of (files_from (f ∷ fs)) starts) (s ∷ ss)
@@ -125,7 +126,8 @@ at_file total e fs own i f l is placed =
       here = here_is total e f (drop (i + 1) fs) (get_or own i 0) (drop (i + 1) own) both;
     }
 
--- the starts of the file at a place, and of those after it
+-- the starts that are left begin with the starts of the volumes in this file, and go on with those of the files after
+-- it
 pub file_passed : (fs : List FileMeaning) (i : ℕ) (f : FileMeaning) (starts last : List ℕ) → i < length fs → f ≡ get_or fs i f
     → ComesTo (volumes_in_files (files_from (drop i fs))) starts last
     → BeginsWithStarts (volumes_in_file f) starts
@@ -136,7 +138,7 @@ pub files_last : (fs : List FileMeaning) (i : ℕ) (starts last : List ℕ) → 
     → ComesTo (volumes_in_files (files_from (drop i fs))) starts last → starts ≡ last
 files_last = item_last (λ xs. volumes_in_files (files_from xs)) volumes_in_file refl (λ x xs. refl)
 
--- the walk at a file: what is left is its gap, itself and its filler, and then the files after it
+-- the bytes that are left at a file are its gap, the file and its filler, and then the files after it
 pub walk_goes : (p : Polarity) (total e : ℕ) (fs : List FileMeaning) (own : List ℕ) (i : ℕ) (f : FileMeaning) (starts : List ℕ)
     → AtFile total e fs own i f → stored_len (stored_file f starts) ≡ size_for (data_len_of f)
     → files_bytes p total e (stored_of (files_from (drop i fs)) starts) (drop i own)
@@ -146,7 +148,7 @@ pub walk_goes : (p : Polarity) (total e : ℕ) (fs : List FileMeaning) (own : Li
     (stored_of (files_from (drop (i + 1) fs)) (drop (starts_in (volumes_in_file f)) starts)) (drop (i + 1) own)
 walk_goes p total e fs own i f starts at size = grind (arith, common_steps, files_go)
 
--- where no file is left, erased bytes to the end make the whole
+-- if no file is left, erased bytes up to the end of the volume complete the whole
 pub files_end : {S : Type 0} (takes : S → List ℕ → S → Type 0) → WalkLaws takes
     → (p : Polarity) (total edge : ℕ) (fs : List FileMeaning) (own rest : List ℕ) (i : ℕ) (s t u : S) (whole : List ℕ) → length fs ≤ i
     → TakesFront takes s t whole (files_bytes p total edge (stored_of (files_from (drop i fs)) rest) (drop i own))

@@ -1,7 +1,9 @@
--- What is known of a section that was read and laid out, and how a stream goes on. The steps:
--- 1. Its body is as long as the layout knows, and fits the form of its header (`section_known`).
--- 2. A stream is its first section, and then the others (`stream_goes`, `stream_whole`).
--- 3. A walk puts filler, header and body of each section (`goes_on`, `front_more`), and at the end the tail (`front_end`).
+-- Facts about a section that was read and laid out, and the walk over the sections of a stream. The steps:
+-- 1. The body of the section has the length that the layout assumed, and fits the form of the section's header
+--    (`section_known`).
+-- 2. A stream is its first section followed by the others (`stream_goes`, `stream_whole`).
+-- 3. A walk puts the filler, the header and the body of each section (`goes_on`, `front_more`), and at the end the tail
+--    (`front_end`).
 use Rattle.std.proofs.lemmas.Grind.{common_steps}
 use Rattle.std.proofs.Common.{◌≡◌, ◌≤◌, ◌<◌, ◌+◌, ◌-◌, ◌^◌, ℕ, zero, suc, Bool, List, [], ◌∷◌, ◌++◌, length, drop, replicate, get_or, refl}
 use Rattle.std.proofs.Common.{sym, ap, ◌∙◌, subst, arith, append_assoc, append-nil, length-drop}
@@ -56,7 +58,7 @@ section_known (Section kind extended body) starts (n, l, f, (b, small, most, sta
     below : (s z p b r o : ℕ) → z ≡ s → p ≡ z + r → p ≡ b - o → b ≤ volume_limit → s < 2 ^ 32
     below s z p b r o e g h l = omega (arith, e, g, h, l)
 
--- ---- a stream goes on
+-- ---- a stream is its first section followed by the others
 stream_goes : (at : ℕ) (s : SectionMeaning) (ss : SectionMeanings) (starts : List ℕ) (tail : ℕ)
     → stream_of (frames_of at (MoreSections s ss) starts) tail
     ≡ frame_bytes (frame_of 0 s starts) ++ (sections_bytes (up_to_4 (frame_len (frame_of 0 s starts)) - frame_len (frame_of 0 s starts)) ss
@@ -78,14 +80,15 @@ stream_goes at (Section k e b) (MoreSections t ss) starts tail =
     ∙ ap (λ (xs : List ℕ). (head ++ f.body) ++ xs)
     (sym (append_assoc fill next (rest ++ replicate tail 0)) ∙ sym (append_assoc (fill ++ next) rest (replicate tail 0)))
 
--- the whole stream
+-- all sections and the tail are the stream
 pub stream_whole : (s : SectionMeaning) (ss : SectionMeanings) (starts : List ℕ) (tail : ℕ)
     → sections_bytes 0 (MoreSections s ss) starts ++ replicate tail 0 ≡ stream_of (frames_of 0 (MoreSections s ss) starts) tail
 stream_whole s ss starts tail = grind (arith, common_steps, append_assoc, stream_goes)
 
 -- ---- the walk over the sections of a stream
 
--- the starts of the section at a place, and of those after it
+-- the starts that are left begin with the starts of the volumes in this section, and go on with those of the sections
+-- after it
 pub section_passed : (ss : List SectionMeaning) (i : ℕ) (s : SectionMeaning) (starts last : List ℕ) → i < length ss → s ≡ get_or ss i s
     → ComesTo (volumes_in_sections (sections_from (drop i ss))) starts last
     → BeginsWithStarts (volumes_in_section s) starts
@@ -115,7 +118,7 @@ pub goes_on : (ss : List SectionMeaning) (i : ℕ) (s : SectionMeaning) (starts 
     s)) starts)
 goes_on ss i s starts gap l is k = grind (arith, common_steps, item_at, framed, sized)
 
--- a front grows by three pieces
+-- three pieces are put, and then less of the whole is left
 pub front_more : {S : Type 0} (takes : S → List ℕ → S → Type 0) → WalkLaws takes → (s t u v w : S) (whole rest a b c left : List ℕ)
     → TakesFront takes s t whole rest → rest ≡ (a ++ (b ++ c)) ++ left → takes t a u → takes u b v → takes v c w
     → TakesFront takes s w whole left
@@ -125,7 +128,7 @@ front_more takes laws s t u v w whole rest a b c left f e p q r = record {
   whole_is = append_assoc f.front (a ++ (b ++ c)) left ∙ ap (λ (xs : List ℕ). f.front ++ xs) (sym e) ∙ f.whole_is;
 }
 
--- after the last section come the tail's bytes
+-- after the last section the bytes of the tail are put
 pub front_end : {S : Type 0} (takes : S → List ℕ → S → Type 0) → WalkLaws takes
     → (ss : List SectionMeaning) (i : ℕ) (s t u : S) (gap : ℕ) (starts rest : List ℕ) (tail : ℕ) → length ss ≤ i → 0 < length ss
     → TakesFront takes s t (sections_bytes 0 (sections_from ss) starts) (sections_bytes gap (sections_from (drop i ss)) rest)
@@ -139,7 +142,7 @@ front_end takes laws (x ∷ xs) i s t u gap starts rest tail l some f p =
     subst (λ (ys : List ℕ). takes s ys u) (ap (λ (ys : List ℕ). ys ++ replicate tail 0) whole
     ∙ stream_whole x (sections_from xs) starts tail) (laws.joined f.taken p)
 
--- where there is no section, nothing is put
+-- if the stream has no sections, nothing is put
 pub front_none : {S : Type 0} (takes : S → List ℕ → S → Type 0) (ss : List SectionMeaning) (i : ℕ) (s t : S) (gap : ℕ)
     (starts rest : List ℕ) (tail : ℕ) → length ss ≡ 0
     → TakesFront takes s t (sections_bytes 0 (sections_from ss) starts) (sections_bytes gap (sections_from (drop i ss)) rest)
@@ -151,7 +154,7 @@ front_none takes [] i s t gap starts rest tail none f =
     subst (λ (ys : List ℕ). takes s ys t) front f.taken
 front_none takes (x ∷ xs) i s t gap starts rest tail none f = absurd (omega (arith, none))
 
--- after the last section are the starts after theirs
+-- after the last section, the starts that are left are those after the stream
 pub walk_ended : (ss : List SectionMeaning) (i : ℕ) (rest last : List ℕ) → length ss ≤ i
     → ComesTo (volumes_in_sections (sections_from (drop i ss))) rest last → rest ≡ last
 walk_ended ss i rest last past walk = grind (arith, common_steps, drop_all)

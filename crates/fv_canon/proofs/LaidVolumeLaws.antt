@@ -1,8 +1,10 @@
--- The volumes of a flash image that are laid out, and then put one after another. The steps:
--- 1. The fault of a volume is at its place in the image (`told_at`). A volume that is laid out has an image (`has_image`).
--- 2. The first volumes are laid out, and the next is rejected (`lays_stop`).
--- 3. They are put with the bytes between them: none, the next, and all (`laid_none`, `laid_next`, `laid_more`, `laid_all`).
--- 4. So what is laid out has an image (`laid_renewed`).
+-- The volumes of a flash image are laid out, and then their images are put one after another. The steps:
+-- 1. The offset of a volume's fault is the volume's place in the flash image (`told_at`). A volume that is laid out has
+--    an image (`has_image`).
+-- 2. If the first volumes are laid out and the next one is rejected, it is the first that is rejected (`lays_stop`).
+-- 3. The images are put with the bytes between the volumes: none, the next, and all (`laid_none`, `laid_next`,
+--    `laid_more`, `laid_all`).
+-- 4. So a flash image whose volumes are laid out has a renewed image (`laid_renewed`).
 use Rattle.std.proofs.lemmas.Grind.{common_steps}
 use Rattle.std.proofs.Common.{◌≡◌, ◌≢◌, ◌⊎◌, ◌≤◌, ◌<◌, ◌+◌, ◌-◌, ℕ, zero, suc, List, [], ◌∷◌, ◌++◌, length, take, drop, get_or}
 use Rattle.std.proofs.Common.{refl, sym, ap, ◌∙◌, subst, arith, inl, inr}
@@ -22,7 +24,7 @@ use Rattle.fv_canon.proofs.FlashImageLaws.{Puts, next_of, puts_all, puts_more, p
 
 -- ---- one volume
 
--- its fault is at its place, or memory ran out
+-- the fault of a volume is moved to the volume's place, or memory ran out
 pub told_at : (b x : List ℕ) (p n : ℕ) (own f : Fault) → VolumeAt b p n → x ≡ field p n b
     → (own ≡ out_of_memory) ⊎ Refuses x own
     → (f ≢ out_of_memory → (own ≢ out_of_memory) × (f ≡ moved_fault p own.place.depth own))
@@ -32,23 +34,23 @@ told_at b x p n own f v is why told = or_more (want_known f) (λ other. elim why
   | inr refused ↦ (n, v, own, subst (λ (l : List ℕ). Refuses l own) is refused, (told other).1)
 ])
 
--- one that is laid out has an image
+-- a volume that is laid out has an image
 has_image : (b : List ℕ) (v : LocatedVolume) → IsLaid b v → HasImageAt b v.start
 has_image b v (n, at, accepted, image) = (n, image.0, at, (v.laid, accepted, image.1))
 
--- and as many bytes as its header says
+-- the volume has the length that its header states
 laid_long : (b : List ℕ) (p n : ℕ) (m : Meaning) → VolumeAt b p n → Accepted (field p n b) m → n ≡ (head_of m).length
 laid_long b p n m v accepted = grind (arith, common_steps, length-take-le, length-drop, at_within)
 
 -- ---- the volumes, laid out one after another
 
--- those that are laid out have images
+-- all volumes that are laid out have images
 laid_images : (b : List ℕ) (volumes : List LocatedVolume) → AllByRecursion (IsLaid b) volumes
     → AllByRecursion (HasImageAt b) (starts_of volumes)
 laid_images b [] all = tt
 laid_images b (v ∷ vs) (h, all) = (has_image b v h, laid_images b vs all)
 
--- the next is rejected
+-- if the next volume is rejected, it is the first one that is rejected
 pub lays_stop : (b : List ℕ) (found : List FoundVolume) (i : ℕ) (d : FoundVolume) (volumes : List LocatedVolume) (f : Fault)
     → AreLaid b (offsets_of (take i found)) volumes → i < length found → (f ≡ out_of_memory) ⊎ RefusedAt b (get_or found i d).offset f
     → (f ≡ out_of_memory) ⊎ FirstRefused b (offsets_of found) f
@@ -64,7 +66,7 @@ lays_stop b found i d volumes f (same, all) less why = or_more why (λ refused. 
 
 -- ---- the loop over the volumes that are laid out
 
--- the i-th of them
+-- volume number i is laid out at its start
 laid_item : (b : List ℕ) (volumes : List LocatedVolume) (i : ℕ) (v : LocatedVolume) → AllByRecursion (IsLaid b) volumes → i < length volumes
     → v ≡ get_or volumes i v → (get_or (starts_of volumes) i 0 ≡ v.start) × IsLaid b v
 laid_item b volumes i v all less is = (
@@ -72,7 +74,7 @@ laid_item b volumes i v all less is = (
   subst (IsLaid b) (sym is) (at_index (IsLaid b) volumes i v all less),
 )
 
--- it ends within the limit
+-- the volume ends within the limit
 pub laid_ends : (b : List ℕ) (volumes : List LocatedVolume) (i : ℕ) (v : LocatedVolume) → IsLaidOut b volumes → i < length volumes
     → v ≡ get_or volumes i v → v.start + (head_of v.laid).length ≤ volume_limit
 laid_ends b volumes i v (short, places, found, (same, all)) less is =
@@ -81,12 +83,12 @@ laid_ends b volumes i v (short, places, found, (same, all)) less is =
     omega (arith, short, at_within b v.start at.0 at.1, long)
 
 module _ {S : Type 0} (takes : S → List ℕ → S → Type 0) (laws : WalkLaws takes) (s : S) (b : List ℕ) (volumes : List LocatedVolume) where
-  -- nothing is put
+  -- at first nothing is put
   pub laid_none : IsLaidOut b volumes → Puts takes s s b (starts_of volumes) 0 0
   laid_none (short, places, found, (same, all)) =
       puts_none takes laws s b (starts_of volumes) (subst (Found b) (sym same) found)
 
-  -- the next volume begins after what is put, and lies within the bytes
+  -- the next volume begins after the bytes that were put, and lies within the flash image
   pub laid_next : {t : S} (i from : ℕ) (v : LocatedVolume) → IsLaidOut b volumes → Puts takes s t b (starts_of volumes) i from
       → i < length volumes → v ≡ get_or volumes i v
       → (from ≤ v.start) × (v.start ≤ length b)
@@ -99,7 +101,7 @@ module _ {S : Type 0} (takes : S → List ℕ → S → Type 0) (laws : WalkLaws
         omega (arith, at_within b v.start at.0 at.1),
       )
 
-  -- the bytes up to it are put, and its image
+  -- the bytes up to the volume and its image are put
   pub laid_more : {t u w : S} (i from : ℕ) (v : LocatedVolume) (gap image : List ℕ) → IsLaidOut b volumes
       → Puts takes s t b (starts_of volumes) i from → i < length volumes → v ≡ get_or volumes i v
       → gap ≡ field from (v.start - from) b → takes t gap u → IsImage v.laid image → takes u image w
@@ -118,7 +120,7 @@ module _ {S : Type 0} (takes : S → List ℕ → S → Type 0) (laws : WalkLaws
       let more = puts_more takes laws s b (starts_of volumes) i from n gap image puts counted volume gap_at put to put' in
       subst (λ (k : ℕ). Puts takes s w b (starts_of volumes) (i + 1) k) (omega (arith, item.0, long)) more
 
-  -- all are put, and the bytes after the last
+  -- after the last volume, the bytes after it are put, and the renewed image is complete
   pub laid_all : {t u : S} (i from : ℕ) (rest : List ℕ) → IsLaidOut b volumes → Puts takes s t b (starts_of volumes) i from
       → length volumes ≤ i → rest ≡ drop from b → takes t rest u
       → (bytes : List ℕ) × NormalisesAll b bytes × takes s bytes u
@@ -128,9 +130,9 @@ module _ {S : Type 0} (takes : S → List ℕ → S → Type 0) (laws : WalkLaws
       let done = puts_all takes laws s b (starts_of volumes) i from rest found' puts counted is put in
       (done.0, (short, starts_of volumes, found', done.1), done.2)
 
--- ---- the image of what is laid out
+-- ---- the renewed image of volumes that are laid out
 
--- an item at a place
+-- a list has an item at each place before its end
 item_at : {X : Type 0} (xs : List X) (i : ℕ) → i < length xs → (x : X) × (x ≡ get_or xs i x)
 item_at [] i less = absurd (never less) where
   never : i < 0 → ⊥
@@ -145,7 +147,7 @@ nothing s bytes t = Unit {0}
 nothing_by : WalkLaws nothing
 nothing_by = record { none = λ s. tt; joined = λ p q. tt }
 
--- the first i volumes, put into it
+-- the first i volumes can be put into this sink
 first_put : (b : List ℕ) (volumes : List LocatedVolume) (i : ℕ) → IsLaidOut b volumes → i ≤ length volumes
     → (from : ℕ) × Puts nothing tt tt b (starts_of volumes) i from
 first_put b volumes zero laid few = (0, laid_none nothing nothing_by tt b volumes laid)
@@ -161,7 +163,7 @@ first_put b volumes (suc i) laid few =
     let next : i + 1 ≡ suc i = omega arith in
     (end, subst (λ (k : ℕ). Puts nothing tt tt b (starts_of volumes) k end) next more)
 
--- volumes that are laid out have images, and so has the whole
+-- if the volumes are laid out, the flash image has a renewed image
 pub laid_renewed : (b : List ℕ) (volumes : List LocatedVolume) → IsLaidOut b volumes → (bytes : List ℕ) × NormalisesAll b bytes
 laid_renewed b volumes laid =
     let put = first_put b volumes (length volumes) laid (omega arith) in

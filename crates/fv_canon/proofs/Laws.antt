@@ -1,21 +1,21 @@
--- The laws of this crate that the crates above may cite. Each is passed on from its home; what is not here is an inner lemma.
+-- The laws of this crate that the crates above may cite. Lemmas that are not exported here are internal.
 
--- the image of a volume is as long as the volume
+-- the image of a volume has the volume's length
 pub use Rattle.fv_canon.proofs.ImageLaws.{image_stays_long}
--- in an image the pads from the first file's place on have only erased data
+-- in an image the pads from the first edge on have erased data
 pub use Rattle.fv_canon.proofs.AlignedLaws.{pads_erased}
 pub use Rattle.fv_canon.proofs.StoredTilingLaws.{PadErased}
--- the data of a file have one image, and so has the body of a section
+-- the data of a file have at most one image, and so has the body of a section
 pub use Rattle.fv_canon.proofs.OneImageLaws.{data_one, body_one}
--- bytes that are a volume within the limit are accepted
+-- bytes that are a volume at a depth within the limit are accepted
 pub use Rattle.fv_canon.proofs.HeadlineLaws.{accepted}
--- a flash image with all its volumes laid out has its image
+-- a flash image whose volumes are all laid out has a renewed image
 pub use Rattle.fv_canon.proofs.LaidVolumeLaws.{laid_renewed}
--- the starts of some volumes, with none after them, begin with those of the volumes
+-- the starts of some volumes begin with the starts of these volumes, and no starts follow
 pub use Rattle.fv_canon.proofs.PartLengthLaws.{begin_all}
 -- an input that does not fit is rejected
 pub use Rattle.fv_canon.proofs.RejectedInputLaws.{not_placed}
--- the data of a file that was read are shorter than a volume may be
+-- the data of a file that was read, with a short header, are within the limit of a volume's length
 pub use Rattle.fv_canon.proofs.PartBytesLaws.{data_short}
--- the digests by the starts of a layout cover all rows of its volume
+-- if the starts are a layout of a volume, the digests with these starts cover all rows of the volume
 pub use Rattle.fv_canon.proofs.DigestLemmas.{layout_covers}

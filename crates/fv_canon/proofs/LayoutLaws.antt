@@ -1,4 +1,4 @@
--- A volume has one layout at most.
+-- A volume has at most one layout.
 use Rattle.std.proofs.Common.{◌≡◌, ◌≤◌, ℕ, List, [], ◌∷◌, ◌++◌, length, take, drop, refl, sym, ap, ◌∙◌, subst, arith}
 use Rattle.std.proofs.lemmas.List.{take-append-drop, length-take-le, take_at}
 use Rattle.fv_tree.proofs.Laws.{files_list_back}
@@ -16,9 +16,10 @@ starts_same (v ∷ vs) a b (own, inner, p, placed, laid) (own', inner', q, place
 pub one_layout : (m : Meaning) (a b : List ℕ) → LaysVolume m a → LaysVolume m b → a ≡ b
 one_layout m a b p q = starts_same (volumes_in m) a b p q
 
--- ---- a layout in its two parts
+-- ---- a layout and its two parts
 
--- the starts of the volumes in a volume are a layout, in any two parts of which the first has as many starts as the volume has files
+-- if the starts of the volumes in a volume are split after as many starts as the volume has files, the two parts are
+-- its layout
 pub layout_is : (m : Meaning) (fs : List FileMeaning) (new : List ℕ) (l : Places) → m ≡ Volume (head_of m) (files_from fs)
     → LaysVolume m new → l.own ≡ take (length fs) new → l.inner ≡ drop (length fs) new → IsLayout m l
 layout_is m fs new l e lays own inner =

@@ -1,5 +1,5 @@
--- The loops over the rows of a part of a volume: one adds the starts of each volume among the rows, the other passes the
--- starts of these volumes.
+-- The two loops over the rows of a part of a volume: one adds the starts of each volume among the rows, the other skips
+-- the starts of these volumes.
 use Rattle.std.proofs.Common.{◌≡◌, ◌≢◌, ◌<◌, ◌≤◌, inl, inr, ◌+◌, ◌∙◌, ℕ, suc, List, [], ◌∷◌, ◌++◌, append_assoc, append-nil, length, drop}
 use Rattle.std.proofs.Common.{refl, sym, ap, subst, arith, true, false, true≢false, drop-drop, length-append}
 use Rattle.std.specs.List.{Any}
@@ -20,12 +20,12 @@ use Rattle.fv_canon.proofs.VolumeListLaws.{own_count}
 
 -- ---- the next row
 
--- a row of a volume is the first of the volumes among the rows that are left
+-- if the next row is a volume, this volume is the first of the volumes among the rows that are left
 volume_first : (left rest : List TreeRow) (r : Row) (v : Meaning) → left ≡ row_of r ∷ rest → part_node r.part ≡ VolumeNode v
     → volumes_of left ≡ record { depth = r.nesting; volume = v } ∷ volumes_of rest
 volume_first left rest r v steps is = ap volumes_of steps ∙ ap (λ n. volume_at r.nesting n ++ volumes_of rest) is
 
--- any other row is none of them
+-- a row that is not a volume adds no volume
 other_part : (nesting : ℕ) (p : Part) → ((v : _) → p ≡ kinds.Volume v → ⊥) → volume_at nesting (part_node p) ≡ []
 other_part nesting (kinds.Volume v) not = absurd (not v refl)
 other_part nesting (kinds.File f) not = refl
@@ -37,8 +37,8 @@ other_first left rest r steps not = ap volumes_of steps ∙ ap (λ vs. vs ++ vol
 
 -- ---- the starts of the volumes among the rows
 
--- once the starts of the volumes among the rows that are left are added, the starts of all volumes are there; a volume
--- among the rows that are left is the first that does not fit, if all volumes before it fit
+-- once the starts of the volumes among the rows that are left are added, the starts of all volumes are there; if all
+-- earlier volumes fit, the first volume that does not fit is among the rows that are left
 pub record Collects (rows left : List TreeRow) (starts : List ℕ) : Type 0 where
   pub all : (laid : List ℕ) → Laid AreStarts (volumes_of left) laid → Laid AreStarts (volumes_of rows) (starts ++ laid)
   pub unfit : (f : Fault) → FirstUnfit (volumes_of left) 0 f → FirstUnfit (volumes_of rows) 0 f
@@ -86,10 +86,10 @@ module _ (rows left rest : List TreeRow) (starts : List ℕ) (r : Row) (v : Mean
   pub collects_some : 0 < length (files_of v) → 0 < starts_in (volumes_of rows)
   collects_some some = omega (arith, ap starts_in is, before.count, some)
 
--- ---- the starts after them
+-- ---- the starts that follow
 
--- starts that begin with the starts of a volume begin, after the starts of its own files, with those of the volumes that
--- follow
+-- if the starts begin with the starts of a volume, then after the starts of its own files they go on with the starts of
+-- the volumes that follow
 pub passed_next : (left rest : List TreeRow) (r : Row) (v : Meaning) (count : ℕ) (starts last : List ℕ) → left ≡ row_of r ∷ rest
     → part_node r.part ≡ VolumeNode v → length (files_of v) ≡ count → ComesTo (volumes_of left) starts last
     → (count ≤ length starts) × ComesTo (volumes_of rest) (drop count starts) last
@@ -106,23 +106,23 @@ passed_next left rest r v count starts last steps node many comes =
       },
     )
 
--- the volumes in a file are those among the rows of its contents
+-- the volumes in a file are the volumes among the rows of its contents
 pub file_volumes : (m : FileMeaning) → volumes_of (rows_inside 0 0 (FileNode m)) ≡ volumes_in_file m
 file_volumes m = file_inside m ∙ sym (data_held m) ∙ data_volumes m
 
 -- ---- where memory can run out
 
--- room for no items is always had
+-- an allocation for no items always succeeds, so a list whose allocation failed has items
 pub some_items : {A : Type 0} (xs : List A) → (length xs ≡ 0 → false ≡ true) → 0 < length xs
 some_items [] none = absurd (true≢false (sym (none refl)))
 some_items (x ∷ xs) none = omega arith
 
--- a volume without files has no volumes in it, and so no starts
+-- a volume without files contains no volumes, and has no starts
 pub starts_need_file : (m : Meaning) → 0 < starts_in (volumes_in m) → files_of m ≢ []
 starts_need_file (Volume h NoFiles) some none = absurd (omega (arith, some))
 starts_need_file (Volume h (MoreFiles f fs)) some none = cc
 
--- volumes that have starts are not all without files
+-- if some volumes have starts, one of these volumes has files
 pub starts_need_some : (vs : List Inside) → 0 < starts_in vs → Any (λ v. files_of v.volume ≢ []) vs
 starts_need_some [] some = absurd (omega (arith, some))
 starts_need_some (v ∷ vs) some = here (files_of v.volume) refl (λ less. starts_need_some vs less)

@@ -1,4 +1,4 @@
--- Bytes that are compared with what a walk writes: one step, and what is returned in the end.
+-- Bytes are compared with the bytes that a walk writes: one step, and the result at the end.
 use Rattle.std.proofs.lemmas.Grind.{common_steps}
 use Rattle.std.proofs.Common.{◌≡◌, ℕ, List, [], ◌++◌, length, take, drop, refl, ap, sym, ◌∙◌, append-nil, take-append-drop, arith}
 use Rattle.std.proofs.Common.{Bool, true, false}
@@ -8,11 +8,11 @@ use Rattle.fv_canon.specs.inner.Matching.{IsNoFront, MatchLatched}
 
 -- ---- one step
 
--- a front that is the same is taken off
+-- if the first bytes are equal, the comparison goes on with the bytes after them
 pub front_off : (s bytes t : List ℕ) → take (length bytes) s ≡ bytes → t ≡ drop (length bytes) s → s ≡ bytes ++ t
 front_off s bytes t front behind = grind (arith, common_steps, take-append-drop)
 
--- one that differs is none
+-- if the first bytes differ, the written bytes are not a first part of the others
 pub front_differs : (s bytes : List ℕ) → (take (length bytes) s ≡ bytes → ⊥) → IsNoFront s bytes
 front_differs s bytes other more e = other (ap (take (length bytes)) e ∙ take_at bytes more (length bytes) refl)
 
@@ -26,7 +26,7 @@ match_ended s bytes t false e differs = cc
 
 -- ---- in the end
 
--- bytes that differed are no front
+-- if a difference was found, the bytes are not equal
 pub match_cut : (s bytes t : List ℕ) (b : Bool) → MatchLatched s true bytes t b → b ≡ false
     → (IsTrue b → s ≡ bytes) × (s ≡ bytes → IsTrue b)
 match_cut s bytes t true taken e = cc

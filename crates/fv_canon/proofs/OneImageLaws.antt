@@ -1,7 +1,7 @@
--- A meaning has one image at most. The steps:
--- 1. Bytes that show the same spans are the same (`shows_one`).
--- 2. Files have one first placement (`starts_one`).
--- 3. So by recursion over the meaning there is one image (`image_one`).
+-- A meaning has at most one image. The steps:
+-- 1. Two lists of bytes that show the same spans are equal (`shows_one`).
+-- 2. Files have at most one first placement (`starts_one`).
+-- 3. So by induction on the meaning there is at most one image (`image_one`).
 use Rattle.std.proofs.lemmas.Grind.{common_steps}
 use Rattle.std.proofs.Common.{◌≡◌, ◌≤◌, ◌<◌, inl, inr, ◌+◌, ◌-◌, ℕ, Bool, List, [], ◌∷◌, length, drop, get_or, refl}
 use Rattle.std.proofs.Common.{sym, ap, ◌∙◌, subst, arith}
@@ -18,9 +18,9 @@ use Rattle.fv_tree.specs.Words.{SectionMeanings, NoSections, MoreSections, Secti
 use Rattle.fv_canon.specs.Words.{IsImage, AreStored, IsStored, IsData, AreFrames, IsFrame, IsBodyImage, layout_items, PlacedBytes, StandsIn}
 use Rattle.fv_canon.specs.Words.{IsIn, ShowsPlaced, StoredFile, placed_in_volume}
 
--- ---- bytes that show the same are the same
+-- ---- bytes that show the same spans are equal
 
--- a byte within a span is the span's
+-- a byte at an offset within a span is the byte of the span
 byte_in : (b : List ℕ) (p : PlacedBytes) (k : ℕ) → StandsIn b p → p.at ≤ k → k < p.at + length p.bytes
     → get_or b k 0 ≡ get_or p.bytes (k - p.at) 0
 byte_in b p k stands low high =

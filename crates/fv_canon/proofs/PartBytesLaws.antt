@@ -1,4 +1,4 @@
--- What the layout knows of the files of a volume that was read.
+-- The facts that the layout uses about the files of a volume that was read.
 use Rattle.std.proofs.Common.{◌≡◌, ◌≤◌, ◌<◌, ◌+◌, ◌-◌, ◌*◌, ◌/◌, ◌%◌, ℕ, zero, suc, Bool, true, false, List, [], ◌∷◌, length}
 use Rattle.std.proofs.Common.{drop, refl, ◌∙◌, arith, length-drop}
 use Rattle.std.specs.Prelude.{All, map, slice_index}
@@ -16,7 +16,7 @@ use Rattle.fv_file.proofs.Laws.{cell_read}
 use Rattle.fv_canon.proofs.ReadLaws.{FileIsAccepted}
 use Rattle.fv_canon.proofs.VolumeImageLaws.{files_read, first_behind}
 
--- the data of a file that was read are shorter than a volume may be
+-- the data of a file that was read, with a short header, are within the limit of a volume's length
 pub data_short : (m : FileMeaning) → IsReadFile m → 24 + data_len_of m ≤ volume_limit
 data_short (File name kind attributes content) (n, few, f, (system, p, b, small, most, cell), is) =
     let r = cell_read system p f.offset f.head f.payload b small cell in
@@ -105,7 +105,7 @@ part_is total m l = record {
     within : (h n : ℕ) → h ≤ 32 → 32 + n ≤ total → h + n ≤ total
     within h n p q = omega (arith, p, q)
 
--- files that were read from so many bytes, in a volume that has at least 8 bytes more
+-- files that were read from at most `limit` bytes are lawful items of a volume that has at least 8 bytes more
 are_parts : (n : ℕ) (system : FileSystem) (limit total : ℕ) (fs : List FileForm) (ms : List FileMeaning)
     → ((k : ℕ) → 24 + k ≤ limit → 32 + k ≤ total) → AllByRecursion (FileIsAccepted system limit) fs → Pairwise (MeansFile (Stream n)) fs ms
     → All (IsLawfulItem total) (map layout_item ms)
@@ -119,7 +119,7 @@ are_parts n system limit total (f ∷ fs) (File name kind attributes content ∷
 are_parts n system limit total (f ∷ fs) (m ∷ ms) room reads pairs (suc i) d l =
     are_parts n system limit total fs ms room reads.1 pairs.1 i d (omega (arith, l))
 
--- the files of a volume that was read are no longer than it
+-- the files of a volume that was read are lawful items of this volume
 pub parts_fit : (m : Meaning) → IsMeaning m → All (IsLawfulItem (head_of m).length) (map layout_item (files_of m))
 parts_fit (Volume h files) (n, few, b, small, d) =
     let body : ℕ = length (drop d.extent.first b) in

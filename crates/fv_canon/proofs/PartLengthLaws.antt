@@ -1,4 +1,4 @@
--- A part of a volume that is laid out is in the image, and is as long there.
+-- A part of a volume that is laid out has the same length in the image.
 use Rattle.std.proofs.Common.{◌≡◌, ◌∙◌, ℕ, List, [], append-nil, length, subst, sym}
 use Rattle.fv_tree.specs.Words.{FileMeaning, SectionMeaning, Section, IsReadFile, IsReadSection, body_len, body_of, content_of, data_len_of}
 use Rattle.fv_tree.specs.Words.{volumes_in_body, volumes_in_content, Inside}
@@ -10,7 +10,7 @@ use Rattle.fv_canon.proofs.LaidFileLaws.{file_long}
 use Rattle.fv_canon.proofs.LaidSectionLaws.{section_known}
 use Rattle.fv_canon.proofs.VolumeListLaws.{laid_deeper}
 
--- starts of some volumes begin with those of these volumes
+-- the starts of some volumes begin with the starts of these volumes
 pub begin_all : (vs : List Inside) (starts : List ℕ) → Laid AreStarts vs starts → BeginsWithStarts vs starts
 begin_all vs starts laid = (starts, [], sym (append-nil starts), laid)
 

@@ -1,8 +1,9 @@
--- The image by positions is what a walk over the files writes. The steps:
--- 1. Erased bytes before a span may be written in two pieces (`painted_later`), and a span where the walk is comes next (`painted_here`).
+-- The image that is defined by offsets is the image that a walk over the files writes. The steps:
+-- 1. The erased bytes before a span may be written in two pieces (`painted_later`), and a span that begins where the
+--    walk is comes next (`painted_here`).
 -- 2. So the files are in order, and the walk writes them (`files_placed`).
--- 3. With header and extended header the same holds of the volume (`volume_in_order`, `volume_painted`).
--- 4. So the bytes that show the volume are those that a walk writes (`volume_shows`, `volume_written`).
+-- 3. With the header and the extended header the same is true of the volume (`volume_in_order`, `volume_painted`).
+-- 4. So the bytes that show the volume are the bytes that the walk writes (`volume_shows`, `volume_written`).
 use Rattle.std.proofs.Common.{◌≡◌, ◌≤◌, ◌+◌, ◌-◌, ◌*◌, ◌%◌, ℕ, List, [], ◌∷◌, ◌++◌, length, replicate, refl, sym, ap, ◌∙◌, subst, arith}
 use Rattle.std.proofs.Common.{length-append, append_assoc}
 use Rattle.std.specs.Prelude.{map, Option, None, Some}
@@ -27,12 +28,12 @@ use Rattle.fv_canon.proofs.StoredTilingLaws.{apart, filler_is, length-gap}
 edges : (x total : ℕ) → total % 8 ≡ 0 → x ≤ total → (x ≤ up_to_8 x) × (up_to_8 x ≤ total)
 edges x total h l = (omega arith, omega arith)
 
--- spans from an edge on are spans from each place before it on
+-- spans that are in order after an edge are in order after each lower edge
 lower : (total x y : ℕ) (ps : List PlacedBytes) → x ≤ y → InOrder total y ps → InOrder total x ps
 lower total x y [] l o = omega (arith, l, o)
 lower total x y (q ∷ qs) l o = (omega (arith, l, o.0), o.1)
 
--- erased bytes before the first span are written in one piece or in two
+-- the erased bytes before the first span are written in one piece or in two
 painted_later : (erased total x y : ℕ) (ps : List PlacedBytes) → x ≤ y → InOrder total y ps
     → painted erased total x ps ≡ replicate (y - x) erased ++ painted erased total y ps
 painted_later erased total x y [] l o =
@@ -50,7 +51,7 @@ painted_later erased total x y (p ∷ ps) l o =
     sum_of : (t : ℕ) → y ≤ t → (y - x) + (t - y) ≡ t - x
     sum_of t g = omega (arith, l)
 
--- a span that begins where the walk is
+-- a span that begins where the walk is comes next
 painted_here : (erased total e at : ℕ) (bytes : List ℕ) (ps : List PlacedBytes) → at ≡ e
     → painted erased total e (record { at = at; bytes = bytes } ∷ ps) ≡ bytes ++ painted erased total (e + length bytes) ps
 painted_here erased total e at bytes ps same =
@@ -62,7 +63,7 @@ painted_here erased total e at bytes ps same =
 
 -- ---- the files
 
--- they are in order, and the walk writes them
+-- the files are in order, and the walk writes them
 pub files_placed : (system : FileSystem) (p : Polarity) (total e : ℕ) (fs : List StoredFile) (ss : List ℕ) → total % 8 ≡ 0 → e % 8 ≡ 0
     → e ≤ total → AllByRecursion (Storable system) fs → StartsFollow total e (map stored_item fs) ss
     → InOrder total e (placed_files p e fs ss)
@@ -96,9 +97,9 @@ files_placed system p total e (f ∷ fs) (s ∷ ss) h m r all follow =
           ∙ painted_later erased total x (up_to_8 x) later b.0 rest.0 ∙ ap (λ (xs : List ℕ). filler ++ xs) rest.1)),
     )
 
--- ---- the whole volume
+-- ---- the volume
 
--- what is known of a volume that can be written
+-- the facts about a volume that can be written
 pub record Writable (h : HeadFields) (fs : List StoredFile) (ss : List ℕ) : Type 0 where
   pub read : IsReadHead h
   pub ext : IfRead h.ext
@@ -169,7 +170,7 @@ volume_painted h fs ss k =
     own : (a b : ℕ) → b ≡ a → a ≡ 0 + b
     own a b e = omega (arith, e)
 
--- one list of bytes shows the volume, and it is what a walk writes
+-- only one list of bytes shows the volume, and the walk writes this list
 pub volume_shows : (h : HeadFields) (fs : List StoredFile) (ss b : List ℕ) → Writable h fs ss
     → ShowsPlaced h.length (erased_byte (polarity_of h.attributes)) (placed_in_volume h fs ss) b → b ≡ volume_bytes h fs ss
 volume_shows h fs ss b k shows = one_image (erased_byte (polarity_of h.attributes)) h.length (placed_in_volume h fs ss) b

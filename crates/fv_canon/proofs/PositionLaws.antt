@@ -1,6 +1,9 @@
--- What a walk writes shows each span at its position and erased bytes elsewhere, and no other bytes do. The steps:
--- 1. What the walk writes shows them (`walk_shows`, `shows_walk`), and has the whole length (`walk_length`).
--- 2. Bytes that show them are what the walk writes (`walk_from`), so there is one image (`one_image`).
+-- The bytes that a walk writes show each span at its offset and erased bytes elsewhere, and no other bytes do. The
+-- steps:
+-- 1. The bytes that the walk writes show the spans (`walk_shows`, `shows_walk`), and have the full length
+--    (`walk_length`).
+-- 2. Bytes that show the spans are the bytes that the walk writes (`walk_from`), so there is only one image
+--    (`one_image`).
 use Rattle.std.proofs.Common.{◌≡◌, ℕ, ◌+◌, ◌-◌, ◌<◌, ◌≤◌, inl, inr, List, [], ◌∷◌, ◌++◌, length, take, drop, get_or, replicate, refl, sym}
 use Rattle.std.proofs.Common.{◌∙◌, ap, subst, arith, append_assoc, length-append, take-append-drop, zero-add}
 use Rattle.std.specs.List.{AllByRecursion}
@@ -9,18 +12,18 @@ use Rattle.std.proofs.lemmas.List.{length-replicate, length-drop, drop-drop, tak
 use Rattle.std.proofs.lemmas.List.{get_or-replicate, get_or-take, get_or-drop, ext_get_or, length-take-le}
 use Rattle.fv_canon.specs.Words.{PlacedBytes, IsIn, StandsIn, ShowsPlaced, painted, InOrder}
 
--- what is before the spans is in none of them
+-- an offset before the first span is in none of the spans
 pub before_none : (total e k : ℕ) (ps : List PlacedBytes) → InOrder total e ps → k < e → AllByRecursion (λ p. IsIn k p → ⊥) ps
 before_none total e k [] o l = tt
 before_none total e k (p ∷ ps) o l = (λ i. omega (arith, i.0, o.0), before_none total (p.at + length p.bytes) k ps o.1 (omega (arith, o.0)))
 
--- a byte after a front
+-- a byte after the first of two joined lists is a byte of the second list
 get_behind : (front back : List ℕ) (k : ℕ) → length front ≤ k → get_or (front ++ back) k 0 ≡ get_or back (k - length front) 0
 get_behind front back k l = get_or-append_right front back (length front) k 0 refl l
 
--- ---- from the walk to the positions: front is what is before e
+-- ---- from the walk to the offsets: `front` are the bytes before e
 
--- b shows the spans after e, and erased bytes elsewhere after it
+-- b shows the spans after e, and erased bytes elsewhere after e
 record ShowsFrom (erased total e : ℕ) (ps : List PlacedBytes) (b : List ℕ) : Type 0 where
   stand : AllByRecursion (StandsIn b) ps
   rest : (k : ℕ) → e ≤ k → k < total → AllByRecursion (λ p. IsIn k p → ⊥) ps → get_or b k 0 ≡ erased
@@ -97,7 +100,7 @@ shows_walk erased total ps o =
       rest = λ k l n. shows.rest k (omega arith) l n;
     }
 
--- ---- from the positions to the walk
+-- ---- from the offsets to the walk
 pub walk_from : (erased total e : ℕ) (ps : List PlacedBytes) (b : List ℕ) → length b ≡ total → InOrder total e ps → AllByRecursion (StandsIn b) ps
     → ((k : ℕ) → e ≤ k → k < total → AllByRecursion (λ p. IsIn k p → ⊥) ps → get_or b k 0 ≡ erased) → drop e b ≡ painted erased total e ps
 walk_from erased total e [] b l o s r =
@@ -152,7 +155,7 @@ walk_from erased total e (p ∷ ps) b l o s r =
     past : (k : ℕ) → p.at + length p.bytes ≤ k → k < p.at + length p.bytes → ⊥
     past k h g = omega arith
 
--- one list shows the spans, and it is what the walk writes
+-- only one list of bytes shows the spans, and the walk writes this list
 pub one_image : (erased total : ℕ) (ps : List PlacedBytes) (b : List ℕ) → InOrder total 0 ps → ShowsPlaced total erased ps b
     → b ≡ painted erased total 0 ps
 one_image erased total ps b o h = walk_from erased total 0 ps b h.length_is o h.stand (λ k a c n. h.rest k c n)

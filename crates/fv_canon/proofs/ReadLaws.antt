@@ -1,4 +1,4 @@
--- What is known of the files of a volume that was read.
+-- Facts about the files of a volume that was read.
 use Rattle.std.proofs.Common.{◌≤◌, ℕ, List, [], ◌∷◌, length}
 use Rattle.std.specs.Prelude.{not}
 use Rattle.std.specs.List.{AllByRecursion, list_any}
@@ -13,7 +13,7 @@ use Rattle.fv_base.proofs.Laws.{all_filter}
 abbrev pub FileIsAccepted : FileSystem → ℕ → FileForm → Type 0
 FileIsAccepted system limit f = HeadRead system limit f.head f.payload
 
--- of each of the files among some cells, where it is known of the cells
+-- a fact about all cells gives the fact about each file among the cells
 files_of_cells : (system : FileSystem) (limit : ℕ) (cells : List CellForm) → AllByRecursion (IsRead system limit) cells
     → AllByRecursion (FileIsAccepted system limit) (files_in cells)
 files_of_cells system limit [] reads = tt
@@ -23,7 +23,7 @@ files_of_cells system limit (Dead at len state ∷ cs) reads = files_of_cells sy
 files_of_cells system limit (Stub at len ∷ cs) reads = files_of_cells system limit cs reads.1
 files_of_cells system limit (Free at len ∷ cs) reads = files_of_cells system limit cs reads.1
 
--- in a body that cells tile, each file was read
+-- each file in a body that cells tile is accepted
 pub body_read : (system : FileSystem) (p : Polarity) (limit at : ℕ) (cells : List CellForm) (b : List ℕ) → IsBytes b → length b ≤ limit
     → Tiles system p at cells b → AllByRecursion (FileIsAccepted system limit) (files_in cells)
 body_read system p limit at cells b small most tiles =

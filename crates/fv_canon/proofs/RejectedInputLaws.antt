@@ -18,11 +18,11 @@ use Rattle.fv_canon.proofs.UnfitKinds.{not_layout, unfit_is}
 pub not_read_never : (b image : List ℕ) (f : Fault) → (f ≡ out_of_memory) ⊎ NotRead b f → NormalisesTo b image → f ≡ out_of_memory
 not_read_never b image f why (m, d, is) = first_only why (λ bad. bad.none m d)
 
--- and the volume that it is fits
+-- the volume of an input that has an image fits
 pub image_fits : (b image : List ℕ) (v : Meaning) → ((m : Meaning) → Accepted b m → m ≡ v) → NormalisesTo b image → Fits v
 image_fits b image v only (m, d, is) = subst Fits (only m d) (has_image_fits m image is)
 
--- what does not fit is rejected
+-- a volume that does not fit is rejected
 pub not_placed : (b : List ℕ) (v : Meaning) (f : Fault) → Accepted b v → (f ≡ out_of_memory) ⊎ Unfit v 0 f
     → (f ≡ out_of_memory) ⊎ Refuses b f
 not_placed b v f d why = or_more why (λ unfit. inr (v, d, unfit))
@@ -32,7 +32,7 @@ not_read b f why = or_more why (λ bad. inl bad)
 
 -- ---- the kinds of faults
 
--- the fault of a layout is none of a run
+-- a fault of the layout is not a fault of reading or writing a stream
 pub unfit_kind : (v : Meaning) (f : Fault) → (f ≡ out_of_memory) ⊎ Unfit v 0 f → IsOfInput f.kind
 unfit_kind v f (inl want) = subst (λ (g : Fault). IsOfInput g.kind) (sym want) (λ e. cc, λ e. cc)
 unfit_kind v f (inr unfit) = go (unfit_is v 0 f unfit) where
@@ -40,9 +40,9 @@ unfit_kind v f (inr unfit) = go (unfit_is v 0 f unfit) where
   go (inl is) = subst IsOfInput (sym is) (λ e. cc, λ e. cc)
   go (inr is) = subst IsOfInput (sym is) (λ e. cc, λ e. cc)
 
--- ---- what is rejected as what
+-- ---- which inputs are rejected with which kind of fault
 
--- the first fault of an input is none of a layout
+-- the first fault of an input is not a fault of the layout
 first_kind : (b : List ℕ) (f : Fault) → IsFirstOfInput b f → IsOfLayout f.kind → ⊥
 first_kind b f (inl first) (inl top) = stands_other b f kinds.TopAlignment refl (fault_stands b f first) top
 first_kind b f (inl first) (inr room) = stands_other b f kinds.NoRoom refl (fault_stands b f first) room
@@ -51,7 +51,8 @@ first_kind b f (inr (m, d, less, is)) layout = go (subst (λ (g : Fault). IsOfLa
   go (inl top) = cc
   go (inr room) = cc
 
--- only what does not fit is rejected as what does not fit, and nothing else is but what is no volume
+-- an input that is rejected with a fault of the layout does not fit; an input that is rejected with another fault is
+-- not a volume
 pub only_what_does_not_fit_is_refused : OnlyWhatDoesNotFitIsRefused
 only_what_does_not_fit_is_refused b f (inl bad) = (λ layout. absurd (first_kind b f bad.first layout), λ other. bad.none)
 only_what_does_not_fit_is_refused b f (inr (m, d, unfit)) =
@@ -62,13 +63,14 @@ pub unread_refused : (b : List ℕ) (f : Fault) → (f ≡ out_of_memory) ⊎ Re
 unread_refused b f (inl want) memory other = absurd (memory want)
 unread_refused b f (inr why) memory other = (only_what_does_not_fit_is_refused b f why).1 other
 
--- a volume that does not fit is rejected as one of a layout, unless memory runs out
+-- a volume that does not fit is rejected with a fault of the layout, unless memory runs out
 pub unfit_kind_of : (b : List ℕ) (f : Fault) → (f ≡ out_of_memory) ⊎ Refuses b f → IsUnfit b → (f ≡ out_of_memory) ⊎ IsOfLayout f.kind
 unfit_kind_of b f (inl want) u = inl want
 unfit_kind_of b f (inr (inl bad)) (m, d, unfit) = absurd (bad.none m d)
 unfit_kind_of b f (inr (inr (m, d, unfit))) u = inr (unfit_is m 0 f unfit)
 
--- what is rejected as one of a layout does not fit, and this is the fault of the first volume in it that does not
+-- an input that is rejected with a fault of the layout does not fit, and the fault is the fault of the first volume in
+-- it that does not fit
 pub refused_unplaced : (b : List ℕ) (f : Fault) → (f ≡ out_of_memory) ⊎ Refuses b f → IsOfLayout f.kind → NotPlaced b f
 refused_unplaced b f (inl want) layout = absurd (not_layout f.kind layout (ap (λ (g : Fault). g.kind) want))
 refused_unplaced b f (inr (inl bad)) layout = absurd (first_kind b f bad.first layout)

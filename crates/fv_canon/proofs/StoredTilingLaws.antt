@@ -1,6 +1,6 @@
--- The files and pads that are written as the canonical image has them tile the body. The steps:
+-- Files and pads that are written as in the canonical image tile the body. The steps:
 -- 1. Pads tile a gap (`pad_tiles`, `gap_tiles`), and a free cell tiles the erased bytes at the end (`free_tiles`).
--- 2. A file with its filler is a cell. So gap by gap and file by file the body is tiled (`body_tiles`).
+-- 2. A file with its filler is a cell. So the body is tiled, gap by gap and file by file (`body_tiles`).
 use Rattle.std.proofs.lemmas.Grind.{common_steps}
 use Rattle.std.proofs.Common.{◌≡◌, ◌≤◌, ◌<◌, ◌⊎◌, inl, inr, ◌+◌, ◌-◌, ◌%◌, ℕ, zero, suc, true, false, List, [], ◌∷◌, ◌++◌}
 use Rattle.std.proofs.Common.{length, replicate, refl, sym, ap, ◌∙◌, subst, arith, length-append, append_assoc, append-nil}
@@ -21,23 +21,23 @@ use Rattle.fv_canon.proofs.ImageParts.{stored_item}
 use Rattle.fv_canon.proofs.PadLaws.{gap_none, gap_has}
 use Rattle.fv_canon.proofs.CellLaws.{Storable, stored_head, file_cell, length-stored, pad_cell, length-pad}
 
--- the files as they lie in the image
+-- the files as they are stored in the image
 abbrev pub forms_of : Polarity → List StoredFile → List ℕ → List FileForm
 forms_of p [] starts = []
 forms_of p (f ∷ fs) [] = []
 forms_of p (f ∷ fs) (s ∷ ss) = record { offset = s; head = stored_head p f; payload = f.payload } ∷ forms_of p fs ss
 
--- a pad has only erased data
+-- if the cell is a pad, its data are erased
 abbrev pub PadErased : Polarity → CellForm → Type 0
 PadErased p (Pad at head payload) = AllAre (erased_byte p) payload
 PadErased p _ = Unit {0}
 
--- a pad has the fixed file sum
+-- if the cell is a pad, its file checksum is 0xAA
 abbrev pub PadFixed : CellForm → Type 0
 PadFixed (Pad at head payload) = head.file_sum ≡ fixed_checksum
 PadFixed _ = Unit {0}
 
--- some cells tile the bytes, and these are the files among them
+-- some cells tile the bytes, and `forms` are the files among these cells
 pub record Tiled (system : FileSystem) (p : Polarity) (at : ℕ) (b : List ℕ) (forms : List FileForm) : Type 0 where
   pub cells : List CellForm
   pub tiles : Tiles system p at cells b
@@ -129,11 +129,11 @@ pub apart : (e s : ℕ) → e % 8 ≡ 0 → s % 8 ≡ 0 → (s ≡ e) ⊎ (e + 2
 apart e s m k (inl a) = (inl (omega arith), omega arith, omega arith)
 apart e s m k (inr a) = (inr (omega arith), omega arith, omega arith)
 
--- the filler after a file
+-- the filler after a file leads to the next multiple of 8
 pub filler_is : (x : ℕ) → (up_to_8 x - x < 8) × ((x + (up_to_8 x - x)) ≡ up_to_8 x) × (up_to_8 x % 8 ≡ 0)
 filler_is x = (omega arith, omega arith, omega arith)
 
--- with the bit of its form set, a file's attributes name the same alignment
+-- setting the large bit does not change the alignment that a file's attributes state
 data_aligned : (p : Polarity) (f : StoredFile) (s : ℕ) → is_large f.attributes ≡ false
     → (s + (stored_item f).header) % (stored_item f).alignment ≡ 0
     → (s + (stored_head p f).header_len) % alignment_of (attribute_bits (stored_head p f).attributes) ≡ 0

@@ -1,9 +1,11 @@
--- A stream that is written as the canonical image has it is read again as the same sections. The steps:
--- 1. The parts of a frame that is written are bytes (`begun_kind`, `bytes_begun`).
--- 2. What has to hold of what lies inside: of a frame, a stream and a volume (`FrameAgain`, `StreamAgain`, `VolumeAgain`).
--- 3. The frames of a stream are read again: none, the last, or one and those after it (`none_again`, `last_again`, `more_again`,
---    `frames_again`).
--- 4. So a stream is read again if its sections are (`stream_again`), and a section if what lies inside is (`section_again`).
+-- A stream that is written as in the canonical image is read again as the same sections. The steps:
+-- 1. The parts of a written frame are bytes (`begun_kind`, `bytes_begun`).
+-- 2. The statements about the parts inside: a frame, a stream and a volume (`FrameAgain`, `StreamAgain`,
+--    `VolumeAgain`).
+-- 3. The frames of a stream are read again: no frame, the last frame, or a frame and those after it (`none_again`,
+--    `last_again`, `more_again`, `frames_again`).
+-- 4. So a stream is read again if its sections are (`stream_again`), and a section is read again if the parts inside
+--    are (`section_again`).
 use Rattle.std.proofs.Common.{◌≡◌, ◌≤◌, ◌<◌, ◌+◌, ◌-◌, ◌%◌, ℕ, Bool, true, false, List, [], ◌∷◌, ◌++◌, length, replicate, refl}
 use Rattle.std.proofs.Common.{sym, ap, ◌∙◌, subst, arith, length-append}
 use Rattle.std.proofs.lemmas.List.{length-replicate}
@@ -17,7 +19,7 @@ use Rattle.fv_tree.specs.Words.{sections_list, sections_end, section_len, length
 use Rattle.fv_tree.specs.Words.{Pairwise, StreamOver, SectionOver, Opens}
 use Rattle.fv_canon.specs.Words.{IsImage, AreFrames, IsFrame}
 
--- the type of a section that was read is a byte, and then a header of this type is bytes
+-- the type of a section that was read is a byte
 begun_kind : (f : FrameForm) (b rest : List ℕ) → IsBytes b → BeginsFrame f b rest → f.kind < 256
 begun_kind f b rest small is =
     subst (λ (n : ℕ). n < 256) is.is_header.kind_is (bytes_front is.head (f.body ++ rest) (subst IsBytes is.text small) 3)
@@ -28,16 +30,16 @@ bytes_section_head kind true n l =
     bytes_append (le_bytes 3 0xffffff) (kind ∷ le_bytes 4 (8 + n)) (bytes_le_bytes 3 0xffffff)
     (bytes_cons kind (le_bytes 4 (8 + n)) l (bytes_le_bytes 4 (8 + n)))
 
--- a header, a body and what is after them
+-- a header, a body and the bytes after them are bytes
 bytes_begun : (g : FrameForm) (kind : ℕ) (rest : List ℕ) → g.kind ≡ kind → kind < 256 → IsBytes g.body → IsBytes rest
     → IsBytes (section_head_of g.kind g.extended (length g.body) ++ (g.body ++ rest))
 bytes_begun g kind rest same l body behind =
     bytes_append (section_head_of g.kind g.extended (length g.body)) (g.body ++ rest)
     (bytes_section_head g.kind g.extended (length g.body) (subst (λ (n : ℕ). n < 256) (sym same) l)) (bytes_append g.body rest body behind)
 
--- ---- what is to be shown of what lies inside
+-- ---- the statements about the parts inside
 
--- a frame that was read as a section, and the frame that is written for it
+-- the frame g that is written for the frame f, which was read as the section s
 pub record FrameAgain (is_section : SectionRelation) (s : SectionMeaning) (f g : FrameForm) : Type 0 where
   pub is : is_section g s
   pub bytes : IsBytes g.body
@@ -214,7 +216,7 @@ frames_again is_section again at end (MoreSections s (MoreSections t ss)) (f ∷
     tail rest (bytes_back filler rest items.1) (up_is (at + frame_len g)) (next_end at end (frame_len f) s (frame_len g) e a.len same)
     (λ none. absurd (no_cons h fs none)) (subst (λ (n : ℕ). SplitsFrom (up_to_4 (at + n)) (h ∷ fs) tail rest) (sym same) more) p.1 q.2)
 
--- a stream is read again
+-- a stream is read again if its sections are
 pub stream_again : (is_section : SectionRelation) → SectionsAgain is_section → StreamsAgain (StreamOver is_section)
 stream_again is_section again ss tail b o small (fs, split, pairs) (gs, frames, text) =
     let r = frames_again is_section again 0 0 ss fs gs tail b small refl refl (λ none. refl) split pairs frames in
@@ -228,7 +230,7 @@ stream_again is_section again ss tail b o small (fs, split, pairs) (gs, frames, 
     zero_off : (n k : ℕ) → 0 + n ≡ k → n ≡ k
     zero_off n k e = omega arith
 
--- a section is read again
+-- a section is read again if the streams and volumes inside are
 pub section_again : (is_stream : StreamRelation) (is_volume : VolumeRelation) → StreamsAgain is_stream → VolumesAgain is_volume
     → SectionsAgain (SectionOver is_stream is_volume)
 section_again is_stream is_volume streams volumes (Section kind extended (Leaf body)) f g small

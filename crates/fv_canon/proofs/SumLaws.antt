@@ -8,7 +8,8 @@ use Rattle.fv_file.specs.Words.{is_summed, file_sum_for, complement, header_with
 use Rattle.fv_file.specs.Words.{fixed_checksum}
 use Rattle.fv_canon.specs.Words.{StoredFile, stored_bytes, head_len_for}
 
--- the sum of a header is that of the same with its two sums and State taken as zero, and these
+-- the sum of a header is the sum of the header with checksums and State zero, plus the header checksum, the file
+-- checksum and State
 header_sum : (c file_sum : ℕ) (name : List ℕ) (kind attributes size : ℕ) (large : Bool) (state : ℕ)
     → sum (header_with c file_sum name kind attributes size large state)
     ≡ sum (header_with 0 0 name kind attributes size large 0) + (c + file_sum + state)
@@ -35,7 +36,7 @@ header_sum c file_sum name kind attributes size large state =
             ≡ ((((n + sum (0 ∷ 0 ∷ k ∷ a ∷ [])) + x) + sum (0 ∷ [])) + y) + (c + f + s)
         joined n x y c f k a s = omega arith
 
--- a header adds its file sum and State
+-- a written header adds its file checksum and State
 pub header_adds : (file_sum : ℕ) (name : List ℕ) (kind attributes size : ℕ) (large : Bool) (state : ℕ)
     → sum (header_bytes file_sum name kind attributes size large state) % 256 ≡ (file_sum + state) % 256
 unfolding header_bytes
@@ -47,8 +48,8 @@ header_adds file_sum name kind attributes size large state =
     off : (n f s : ℕ) → (n + (complement n + f + s)) % 256 ≡ (f + s) % 256
     off n f s = omega arith
 
--- a file with the checksum attribute adds only its State, whatever its data are; any other adds 0xAA, State and its
--- data
+-- a file with the checksum attribute adds only its State, whatever its data are; any other file adds 0xAA, its State
+-- and its data
 abbrev pub file_adds : Polarity → StoredFile → ℕ
 file_adds p f = if is_summed f.attributes then state_byte p else (fixed_checksum + state_byte p + sum f.payload)
 

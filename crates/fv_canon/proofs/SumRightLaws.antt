@@ -1,7 +1,10 @@
--- The sums of an image are right: that of its header, and those of each file and pad after it. The steps:
--- 1. In cells that tile bytes, pads with the fixed file sum, each sum is right (`cell_sums`, `tiles_sums`).
--- 2. The pad that holds the extended header is such a cell (`ext_cell`), so the rest after the header is tiled by them (`rest_summed`).
--- 3. So all sums of an image are right (`sums_are_right`).
+-- The checksums of an image are right: the checksum of its header, and those of each file and pad after the header. The
+-- steps:
+-- 1. If cells tile bytes, and the file checksum of each pad is 0xAA, each checksum in the cells is right (`cell_sums`,
+--    `tiles_sums`).
+-- 2. The pad that contains the extended header is such a cell (`ext_cell`), so such cells tile the bytes after the
+--    header (`rest_summed`).
+-- 3. So all checksums of an image are right (`sums_are_right`).
 use Rattle.std.proofs.lemmas.Grind.{common_steps}
 use Rattle.std.proofs.Common.{◌≡◌, ◌≤◌, ◌<◌, ◌+◌, ◌-◌, ◌%◌, ℕ, true, false, List, [], ◌∷◌, ◌++◌, length, take, drop, replicate, refl, sym, ap}
 use Rattle.std.proofs.Common.{◌∙◌, subst, arith, length-append, append_assoc}
@@ -52,9 +55,9 @@ tiles_sums system p at (c ∷ cs) b image (x, rest, text, cell, place, last, mor
       ∙ ap (drop (length x)) (is ∙ text) ∙ drop_at x rest (length x) refl),
 )
 
--- ---- the pad that holds the extended header
+-- ---- the pad that contains the extended header
 
--- cells tile the bytes, and each pad has the fixed file sum
+-- cells tile the bytes, and the file checksum of each pad is 0xAA
 record Summed (system : FileSystem) (p : Polarity) (at : ℕ) (b : List ℕ) : Type 0 where
   pub cells : List CellForm
   pub tiles : Tiles system p at cells b
@@ -82,7 +85,8 @@ ext_cell system p x used filler read few multiple at =
     sized : (a b n : ℕ) → a ≡ 24 → b ≡ n → 24 + n ≡ a + b
     sized a b n e f = omega (arith, e, f)
 
--- what is after the header: the pad with the extended header, if there is one, and then the files
+-- after the header come the pad with the extended header, if there is one, and then the files; such cells tile these
+-- bytes
 rest_summed : (system : FileSystem) (p : Polarity) (h : HeadFields) (x : Option Extension) (used : ℕ) (files : List ℕ) → IfRead x
     → Summed system p (first_edge h x) files
     → Summed system p (header_len_of h) (ext_pad p x used ++ (replicate (first_edge h x - canonical_end h x) (erased_byte p) ++ files))

@@ -1,4 +1,4 @@
--- What a walk that sums bytes adds.
+-- What a walk adds to the sum of a file's bytes.
 use Rattle.std.proofs.Common.{◌≡◌, ◌+◌, ◌%◌, ℕ, Bool, true, false, List, [], ◌∷◌, ap, ◌∙◌, arith}
 use Rattle.std.specs.Prelude.{sum, if◌then◌else◌}
 use Rattle.fv_base.specs.declared.flash.Polarity.{Polarity}
@@ -20,7 +20,7 @@ summed_adds p (File name kind attributes content) starts t u is e =
     join : (t u x s : ℕ) → u % 256 ≡ (t + sum (s ∷ [])) % 256 → x % 256 ≡ s % 256 → u % 256 ≡ (t + x) % 256
     join t u x s p q = omega (arith, p, q)
 
--- so its State is all that a sink takes which sums
+-- so a sink that sums takes only the State of such a file
 pub state_adds : {S : Type 0} (takes : S → List ℕ → S → Type 0) (sums : Bool) (s t : S) (m n : ℕ) (p : Polarity) (file : FileMeaning)
     (starts : List ℕ) → sums ≡ true → is_summed (attributes_of file) ≡ true → AddsOrPuts takes sums s m (state_byte p ∷ []) t n
     → AddsOrPuts takes sums s m (stored_bytes p (stored_file file starts)) t n

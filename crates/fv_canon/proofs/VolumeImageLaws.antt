@@ -1,9 +1,11 @@
--- The image of a volume is read again as a volume of its meaning. The steps:
--- 1. A file that was read can be stored with the data of the image, and is then read as the same file (`file_again`).
--- 2. So can all files of a volume, and the layout knows the same of them (`files_again`).
--- 3. The image begins with the volume's head (`image_front`), and its files and pads tile the rest (`image_tiled`).
--- 4. So the image of a volume is read as its meaning, if this holds of what is in its files (`volume_again`).
--- 5. By the depth of the nesting it holds at every level (`sections_again`), and so of each image (`image_denotes`).
+-- The image of a volume is read again as a volume of the same meaning. The steps:
+-- 1. A file that was read can be stored with the data of the image, and is then read again as the same file
+--    (`file_again`).
+-- 2. So all files of a volume can be stored, and the layout uses the same facts about them (`files_again`).
+-- 3. The image begins with the volume's header (`image_front`), and its files and pads tile the rest (`image_tiled`).
+-- 4. So the image of a volume is read as its meaning, if the same is true of the parts in its files (`volume_again`).
+-- 5. By induction on the nesting depth it is true at every level (`sections_again`), and so of each image
+--    (`image_denotes`).
 use Rattle.std.proofs.lemmas.Grind.{common_steps}
 use Rattle.std.proofs.Common.{◌≡◌, ◌≢◌, ◌≤◌, ◌<◌, ◌+◌, ◌-◌, ◌*◌, ◌/◌, ◌%◌, ℕ, zero, suc, Bool, true, false, List, [], ◌∷◌, ◌++◌, length}
 use Rattle.std.proofs.Common.{take, drop, replicate, refl, sym, ap, ◌∙◌, subst, arith, append_assoc, length-append, length-drop}
@@ -45,14 +47,14 @@ use Rattle.fv_canon.proofs.StoredTilingLaws.{forms_of, Tiled, body_tiles}
 
 -- ---- 1. a file
 
--- what the canonical image keeps of a file, as it is stored in it
+-- the file x that is stored in the canonical image for the file f of meaning m
 record FileAgain (is_stream : StreamRelation) (system : FileSystem) (m : FileMeaning) (f : FileForm) (x : StoredFile) : Type 0 where
   pub storable : Storable system x
   pub part : stored_item x ≡ layout_item m
   pub name : bytes_of x.name ≡ bytes_of f.head.name
   pub form : (p : Polarity) (at : ℕ) → MeansFile is_stream (record { offset = at; head = stored_head p x; payload = x.payload }) m
 
--- data that were read as this content, and those that are written for it
+-- the data d that are written for data that were read as this content
 pub record DataAgain (is_stream : StreamRelation) (kind : ℕ) (content : ContentMeaning) (payload d : List ℕ) : Type 0 where
   pub is : MeansContent is_stream kind d content
   pub bytes : IsBytes d
@@ -175,18 +177,18 @@ files_again is_stream streams system limit (MoreFiles m ms) (f ∷ fs) (x ∷ xs
 
 -- ---- 3. the head, the files and the pads of a volume
 
--- an extended header that was read is that of some bytes
+-- an extended header that was read is the extended header of some bytes
 ext_read : (x : Option Extension) (e : Extent) (b : List ℕ) → IsBytes b → HasExt x e b → IfRead x
 ext_read None e b small has = tt
 ext_read (Some x) e b small (before, part, behind, text, at, least, within, is, first) =
     (part, bytes_front part behind (bytes_back before (part ++ behind) (subst IsBytes text small)), is)
 
--- the first file is after the header
+-- the first file begins after the header
 pub first_behind : (x : Option Extension) (e : Extent) (b : List ℕ) → HasExt x e b → e.header_len ≤ e.first
 first_behind None e b (none, first) = omega (arith, first)
 first_behind (Some x) e b (before, part, behind, text, at, least, within, is, first) = omega (arith, least, first)
 
--- what is after the head of an image
+-- the bytes after the header of an image begin with the extended header in its pad, if there is one
 rest_is : (p : Polarity) (h : HeadFields) (x : Option Extension) (used : ℕ) (behind : List ℕ) → CanonicalRest x (ext_pad p x used ++ behind)
 unfolding ext_pad
 rest_is p h None used behind = tt
@@ -221,7 +223,7 @@ body_is h fs ss read ext =
     sum_of : (a b c l e f ab abc : ℕ) → a ≡ l → l + b ≡ e → c ≡ f - e → e ≤ f → ab ≡ a + b → abc ≡ ab + c → abc ≡ f
     sum_of a b c l e f ab abc p1 p2 p3 p4 p5 p6 = omega arith
 
--- bytes that begin with the head of a volume of their own length are opened
+-- bytes that begin with the header of a volume of their own length are opened as a volume
 opened : (h : HeadFields) (e : Extent) (o : List ℕ) → BeginsVolume h e o → length o ≡ h.length → Opens o
 opened h e o front whole =
     let n : ℕ = e.header_len in
@@ -234,13 +236,13 @@ opened h e o front whole =
       whole = ap le (sym (field-take 32 8 n o (omega (arith, long)))) ∙ front.head.volume_length ∙ sym whole;
     }
 
--- what is known of a volume that was read, and of files that are stored for it and placed
+-- the facts about a volume that was read, and about the files that are stored and placed for it
 pub record Known (is_stream : StreamRelation) (h : HeadFields) (files : FileMeanings) (forms : List FileForm) (stored : List StoredFile)
     (starts : List ℕ) : Type 0 where
   pub writable : Writable h stored starts
   pub again : FilesAgain is_stream h.file_system files forms stored
 
--- each file was read
+-- each file of a volume that was read is accepted
 pub files_read : (is_stream : StreamRelation) (h : HeadFields) (files : FileMeanings) (b : List ℕ) → IsBytes b
     → (d : VolumeOver is_stream b (Volume h files)) → AllByRecursion (FileIsAccepted h.file_system (length (drop d.extent.first b))) d.files
 files_read is_stream h files b small d =
@@ -280,7 +282,7 @@ known is_stream streams h files b small d stored starts are placed =
     most : (n b f l len : ℕ) → n ≡ b - f → b ≡ len → len ≤ volume_limit → 64 ≤ l → l ≤ f → n ≤ 24 + data_limit
     most n b f l len p q r s t = omega (arith, p, q, r, s, t)
 
--- an image begins with its head, and with the extended header in its pad after it
+-- an image begins with its header, and then with the extended header in its pad
 pub image_front : (h : HeadFields) (fs : List StoredFile) (ss o : List ℕ) → Writable h fs ss
     → ShowsPlaced h.length (erased_byte (polarity_of h.attributes)) (placed_in_volume h fs ss) o
     → BeginsVolume h (extent_of h (first_edge h h.ext)) o
@@ -302,7 +304,7 @@ image_front h fs ss o k shows =
     within : (x f : ℕ) → x ≤ f → f ≤ h.length → x ≤ h.length
     within x f p q = omega arith
 
--- and its files and pads tile the rest
+-- the files and pads of an image tile the bytes from the first edge on
 pub image_tiled : (h : HeadFields) (fs : List StoredFile) (ss o : List ℕ) → Writable h fs ss
     → ShowsPlaced h.length (erased_byte (polarity_of h.attributes)) (placed_in_volume h fs ss) o
     → Tiled h.file_system (polarity_of h.attributes) (first_edge h h.ext) (drop (first_edge h h.ext) o)
@@ -315,7 +317,7 @@ image_tiled h fs ss o k shows =
     subst (λ (xs : List ℕ). Tiled h.file_system p first xs (forms_of p fs ss)) (sym body)
     (body_tiles h.file_system p h.length first fs ss k.multiple (first_is h h.ext).1 k.files k.follow)
 
--- ---- 4. the volume: it is read again, where the streams in it are
+-- ---- 4. a volume is read again if the streams in it are
 
 -- a header and files make a volume
 pub volume_of : (is_stream : StreamRelation) (b : List ℕ) (m : Meaning) (e : Extent) (files : List FileForm) → BeginsVolume (head_of m) e b
@@ -353,7 +355,7 @@ volume_again is_stream streams (Volume h files) b o small d (stored, starts, are
       opens = opened h (extent_of h first) o front shows.length_is;
     }
 
--- ---- 5. all volumes, by how deep groups and volumes nest
+-- ---- 5. all volumes, by induction on the nesting depth
 
 no_stream : StreamsAgain (λ _ _ _. ⊥)
 no_stream ss tail b o small none image = absurd none
@@ -372,10 +374,10 @@ sections_again (suc n) =
 pub image_denotes : (n : ℕ) (m : Meaning) (b o : List ℕ) → IsBytes b → Denotes n b m → IsImage m o → Denotes n o m
 image_denotes n m b o small d image = (volume_again (Stream n) (stream_again (MeansSection n) (sections_again n)) m b o small d image).is
 
--- and as long as the volume that it was read from
+-- an image has the length of the volume that its meaning was read from
 pub image_long : (n : ℕ) (m : Meaning) (b o : List ℕ) → IsBytes b → Denotes n b m → IsImage m o → length o ≡ length b
 image_long n m b o small d image = (volume_again (Stream n) (stream_again (MeansSection n) (sections_again n)) m b o small d image).long
 
--- and an image is bytes
+-- an image is a list of bytes
 pub image_bytes : (n : ℕ) (m : Meaning) (b o : List ℕ) → IsBytes b → Denotes n b m → IsImage m o → IsBytes o
 image_bytes n m b o small d image = (volume_again (Stream n) (stream_again (MeansSection n) (sections_again n)) m b o small d image).bytes

@@ -1,10 +1,11 @@
--- What is said of each of some volumes, where they are two lists joined, or lie one deeper. The steps:
--- 1. The starts of two lists are joined and split again (`laid_joined`, `laid_split`), and are the same one level deeper (`laid_deeper`,
---    `laid_higher`). So are their counts (`count_joined`, `count_deeper`).
--- 2. All volumes of two lists fit if those of each do (`fit_joined`). The first that does not fit is in the first list (`unfit_front`), or
---    else in the second (`unfit_behind`).
--- 3. So a walk over items adds the starts of each (`item_grew`), or stops at the first that does not fit (`item_unfit`).
--- 4. A walk that takes starts goes from an item to the next (`item_passed`, `item_last`).
+-- Facts about each volume of a list, if two lists are joined or nest one level deeper. The steps:
+-- 1. The starts of two lists of volumes can be joined and split (`laid_joined`, `laid_split`), and do not change one
+--    level deeper (`laid_deeper`, `laid_higher`). The same is true of their numbers (`count_joined`, `count_deeper`).
+-- 2. All volumes of two lists fit if the volumes of each list do (`fit_joined`). The first volume that does not fit is
+--    in the first list (`unfit_front`), or otherwise in the second (`unfit_behind`).
+-- 3. So a walk over items adds the starts of each item (`item_grew`), or stops at the first that does not fit
+--    (`item_unfit`).
+-- 4. A walk that takes starts goes from each item to the next (`item_passed`, `item_last`).
 use Rattle.std.proofs.Common.{◌≡◌, ◌≤◌, ◌<◌, inl, inr, ◌+◌, ℕ, List, [], ◌∷◌, ◌++◌, length, take, drop, get_or, refl, sym, ap, ◌∙◌, subst, arith}
 use Rattle.std.proofs.Common.{append_assoc, append-nil, length-append, drop-drop}
 use Rattle.std.specs.List.{AllByRecursion}
@@ -19,7 +20,7 @@ use Rattle.fv_base.proofs.Laws.{item_at}
 use Rattle.fv_tree.proofs.Laws.{files_list_back}
 use Rattle.fv_placement.proofs.Laws.{follow_length}
 
--- ---- their starts
+-- ---- the starts of two lists
 
 pub laid_joined : (own : Meaning → List ℕ → Type 0) (vs ws : List Inside) (a b : List ℕ) → Laid own vs a → Laid own ws b
     → Laid own (vs ++ ws) (a ++ b)
@@ -47,7 +48,7 @@ pub laid_higher : (own : Meaning → List ℕ → Type 0) (vs : List Inside) (st
 laid_higher own [] starts laid = laid
 laid_higher own (v ∷ vs) starts (first, inner, text, p, r) = (first, inner, text, p, laid_higher own vs inner r)
 
--- how many there are
+-- the lists of starts have one start for each file of the volumes
 pub own_count : (m : Meaning) (own : List ℕ) → AreStarts m own → length own ≡ length (files_of m)
 own_count m own placed = follow_length _ _ (layout_items m) own placed.placement.follow ∙ length-map (files_of m) layout_item
 
@@ -66,9 +67,9 @@ pub count_deeper : (vs : List Inside) → starts_in (deeper vs) ≡ starts_in vs
 count_deeper [] = refl
 count_deeper (v ∷ vs) = ap (λ n. length (files_of v.volume) + n) (count_deeper vs)
 
--- ---- starts that begin with theirs
+-- ---- lists that begin with the starts of volumes
 
--- after those of a volume's own files come those of the volumes in its files
+-- the starts of a volume's own files are followed by the starts of the volumes in its files
 pub inside_begins : (m : Meaning) (fs : List FileMeaning) (more : List Inside) (starts : List ℕ) → m ≡ Volume (head_of m) (files_from fs)
     → BeginsWithStarts (volumes_in m ++ more) starts
     → (length fs ≤ length starts) × BeginsWithStarts (drop 1 (volumes_in m) ++ more) (drop (length fs) starts)
@@ -85,13 +86,13 @@ inside_begins m fs more starts is begins =
           (inner, after, ap (drop (length fs)) here ∙ drop_at own (inner ++ after) (length fs) count, lays),
         )
 
--- they begin with those of the first of the volumes
+-- starts that begin with the starts of two lists of volumes begin with the starts of the first list
 pub begins_first : (vs ws : List Inside) (starts : List ℕ) → BeginsWithStarts (vs ++ ws) starts → BeginsWithStarts vs starts
 begins_first vs ws starts (laid, more, whole, lays) =
     let parts = laid_split AreStarts vs ws laid lays in
     (parts.0, parts.1 ++ more, whole ∙ ap (λ (xs : List ℕ). xs ++ more) parts.2 ∙ append_assoc parts.0 parts.1 more, parts.3)
 
--- ---- which fit
+-- ---- the volumes that fit
 
 pub each_joined : (P : Inside → Type 0) (vs ws : List Inside) → AllByRecursion P vs → AllByRecursion P ws → AllByRecursion P (vs ++ ws)
 each_joined P [] ws p q = q
@@ -116,7 +117,7 @@ pub fit_laid : (vs : List Inside) → AllFit vs → (starts : List ℕ) × Laid 
 fit_laid [] fit = ([], refl)
 fit_laid (v ∷ vs) (own, fit) = let l = fit_laid vs fit in (own.0 ++ l.0, (own.0, l.0, refl, own.1, l.1))
 
--- ---- the first that does not fit
+-- ---- the first volume that does not fit
 
 pub unfit_front : (vs ws : List Inside) (depth : ℕ) (f : Fault) → FirstUnfit vs depth f → FirstUnfit (vs ++ ws) depth f
 unfit_front [] ws depth f un = absurd un
@@ -127,7 +128,7 @@ pub unfit_behind : (vs ws : List Inside) (depth : ℕ) (f : Fault) → AllFit vs
 unfit_behind [] ws depth f fit un = un
 unfit_behind (v ∷ vs) ws depth f (placed, fit) un = inr (placed, unfit_behind vs ws depth f fit un)
 
--- ---- those of a list's items
+-- ---- the volumes in the items of a list
 
 module _ {A : Type 0} (all : List A → List Inside) (one : A → List Inside) (none : all [] ≡ [])
     (more : (x : A) (xs : List A) → all (x ∷ xs) ≡ one x ++ all xs) where
@@ -137,17 +138,18 @@ module _ {A : Type 0} (all : List A → List Inside) (one : A → List Inside) (
       more x (xs ++ ys) ∙ ap (λ ws. one x ++ ws) (joined xs ys) ∙ sym (append_assoc (one x) (all xs) (all ys))
       ∙ ap (λ ws. ws ++ all ys) (sym (more x xs))
 
-  -- those of one item more
+  -- the volumes in the first i + 1 items are those in the first i items, and then those in item i
   pub pushed : (xs : List A) (i : ℕ) (x : A) → i < length xs → x ≡ get_or xs i x → all (take (i + 1) xs) ≡ all (take i xs) ++ one x
   pushed xs i x l is =
       ap all (take_more xs i x l) ∙ joined (take i xs) (get_or xs i x ∷ [])
       ∙ ap (λ ws. all (take i xs) ++ ws) (more _ [] ∙ ap (λ ws. one (get_or xs i x) ++ ws) none ∙ append-nil _ ∙ ap one (sym is))
 
-  -- those from an item on
+  -- the volumes in the items from i on are those in item i, and then those in the items after it
   pub item_first : (xs : List A) (i : ℕ) (x : A) → i < length xs → x ≡ get_or xs i x → all (drop i xs) ≡ one x ++ all (drop (i + 1) xs)
   item_first xs i x l is = ap all (item_at xs i x l is) ∙ more x (drop (i + 1) xs)
 
-  -- starts that begin with those of an item and of what is after it
+  -- starts that begin with the starts of the items from a place on begin with the starts of the first of these items,
+  -- and go on with those of the others
   item_begins : (xs : List A) (i : ℕ) (x : A) (starts : List ℕ) → i < length xs → x ≡ get_or xs i x
       → BeginsWithStarts (all (drop i xs)) starts
       → BeginsWithStarts (one x) starts × BeginsWithStarts (all (drop (i + 1) xs)) (drop (starts_in (one x)) starts)
@@ -166,14 +168,14 @@ module _ {A : Type 0} (all : List A → List Inside) (one : A → List Inside) (
         ),
       )
 
-  -- the starts after those of the items from a place on
+  -- dropping the starts of the items from i on is dropping those of item i, and then those of the items after it
   item_left : (xs : List A) (i : ℕ) (x : A) (starts : List ℕ) → i < length xs → x ≡ get_or xs i x
       → drop (starts_in (all (drop i xs))) starts ≡ drop (starts_in (all (drop (i + 1) xs))) (drop (starts_in (one x)) starts)
   item_left xs i x starts l is =
       ap (λ n. drop n starts) (ap starts_in (item_first xs i x l is) ∙ count_joined (one x) (all (drop (i + 1) xs)))
       ∙ sym (drop-drop (starts_in (all (drop (i + 1) xs))) (starts_in (one x)) starts)
 
-  -- a walk that comes to an item comes to those after it next
+  -- a walk that is at an item comes to the items after it next
   pub item_passed : (xs : List A) (i : ℕ) (x : A) (starts last : List ℕ) → i < length xs → x ≡ get_or xs i x
       → ComesTo (all (drop i xs)) starts last
       → BeginsWithStarts (one x) starts × ComesTo (all (drop (i + 1) xs)) (drop (starts_in (one x)) starts) last
@@ -181,7 +183,7 @@ module _ {A : Type 0} (all : List A → List Inside) (one : A → List Inside) (
       let begins = item_begins xs i x starts l is at.laid in
       (begins.0, record { laid = begins.1; left = sym (item_left xs i x starts l is) ∙ at.left })
 
-  -- after the last item it has left what it had to leave
+  -- after the last item only the last starts are left
   pub item_last : (xs : List A) (i : ℕ) (starts last : List ℕ) → length xs ≤ i → ComesTo (all (drop i xs)) starts last → starts ≡ last
   item_last xs i starts last end at =
       ap (λ vs. drop (starts_in vs) starts) (sym (ap all (drop_all i xs end) ∙ none)) ∙ at.left

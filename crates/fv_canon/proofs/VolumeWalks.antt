@@ -1,4 +1,4 @@
--- What is known of a volume that was read and laid out, and what the walk over it writes.
+-- Facts about a volume that was read and laid out, and the bytes that the walk over it writes.
 use Rattle.std.proofs.lemmas.Grind.{common_steps}
 use Rattle.std.proofs.Common.{◌≡◌, ◌≤◌, ◌<◌, ◌+◌, ◌-◌, ℕ, zero, suc, List, [], ◌∷◌, ◌++◌, length, take, drop, replicate, get_or, refl, sym}
 use Rattle.std.proofs.Common.{ap, ◌∙◌, subst, arith, append_assoc, drop-drop, length-append}
@@ -105,7 +105,7 @@ volume_laid h fs starts (k, few, b, small, d) (laid, more, whole, (own, inner, t
     long : (n a b c l s : ℕ) → a ≡ n → l ≡ a + b → s ≡ l + c → n ≤ s
     long n a b c l s p q r = omega arith
 
--- what is written
+-- the walk writes the header, the extended header in its pad, and the files
 pub volume_text : (h : HeadFields) (fs : List FileMeaning) (starts : List ℕ) → VolumeLaid h fs starts
     → image_of (Volume h (files_from fs)) starts
     ≡ canonical_head h ++ ((ext_pad (polarity_of h.attributes) h.ext (used_by (first_edge h h.ext) fs (take (length fs) starts))
@@ -118,7 +118,7 @@ volume_left : (h : HeadFields) (fs : List FileMeaning)
     → starts_in (volumes_in (Volume h (files_from fs))) ≡ length fs + starts_in (volumes_in_files (files_from fs))
 volume_left h fs = ap (λ (k : ℕ). k + starts_in (volumes_in_files (files_from fs))) (ap length (files_list_back fs))
 
--- the same, of the view's meaning
+-- the same for a meaning whose header and files are given
 pub volume_is : (m : Meaning) (h : HeadFields) (fs : List FileMeaning) → m ≡ Volume (head_of m) (files_from fs) → h ≡ head_of m
     → m ≡ Volume h (files_from fs)
 volume_is m h fs e f = e ∙ ap (λ (x : HeadFields). Volume x (files_from fs)) (sym f)
@@ -129,7 +129,7 @@ volume_seen m h fs starts e f read laid =
     let is = volume_is m h fs e f in
     volume_laid h fs starts (subst IsMeaning is read) (subst (λ (x : Meaning). BeginsWithStarts (volumes_in x) starts) is laid)
 
--- the starts after those of a volume are those after the ones in its files
+-- dropping the starts of a volume is dropping those of its own files, and then those of the volumes in its files
 pub volume_rest : (m : Meaning) (fs : List FileMeaning) (starts inner rest : List ℕ) → m ≡ Volume (head_of m) (files_from fs)
     → inner ≡ drop (length fs) starts → rest ≡ drop (starts_in (volumes_in_files (files_from fs))) inner
     → rest ≡ drop (starts_in (volumes_in m)) starts

@@ -1,8 +1,10 @@
--- What a walk writes for a volume that was read and laid out is its image. The steps:
--- 1. The starts of an item and those after it are apart (`behind_is`, `front_is`, `moved`).
--- 2. Frame by frame a stream is written as its image, if its sections are (`frames_made`, `stream_made`, `section_made`).
--- 3. File by file a volume is, if the streams in it are (`files_made`, `volume_made`).
--- 4. By the depth of the nesting each section is (`sections_made`), and so each volume (`image_made`).
+-- The bytes that a walk writes for a volume that was read and laid out are the image of the volume. The steps:
+-- 1. The starts of an item can be split from the starts after it (`behind_is`, `front_is`, `moved`).
+-- 2. A stream is written as its image, frame by frame, if its sections are (`frames_made`, `stream_made`,
+--    `section_made`).
+-- 3. A volume is written as its image, file by file, if the streams in it are (`files_made`, `volume_made`).
+-- 4. By induction on the nesting depth each section is written as its image (`sections_made`), and so is each volume
+--    (`image_made`).
 use Rattle.std.proofs.lemmas.Grind.{common_steps}
 use Rattle.std.proofs.Common.{◌≡◌, ◌+◌, ℕ, zero, suc, List, [], ◌∷◌, ◌++◌, length, take, drop, refl, sym, ap, ◌∙◌, subst, append_assoc, arith}
 use Rattle.std.specs.List.{AllByRecursion}
@@ -26,7 +28,7 @@ use Rattle.fv_base.proofs.Laws.{bytes_back}
 use Rattle.fv_canon.proofs.VolumeImageLaws.{known, files_read, sections_again}
 use Rattle.fv_canon.proofs.ReadLaws.{FileIsAccepted}
 
--- ---- what is to be shown of what lies inside
+-- ---- the statements about the parts inside
 abbrev pub SectionsMade : SectionRelation → Type 0
 SectionsMade is_section = (s : SectionMeaning) (f : FrameForm) (at : ℕ) (starts more : List ℕ) → IsBytes f.body → is_section f s
     → Laid AreStarts (volumes_in_section s) starts → IsFrame s (frame_of at s (starts ++ more))
@@ -39,7 +41,7 @@ abbrev pub VolumesMade : VolumeRelation → Type 0
 VolumesMade is_volume = (m : Meaning) (b starts more : List ℕ) → IsBytes b → is_volume b m → LaysVolume m starts
     → IsImage m (image_of m (starts ++ more))
 
--- the starts after those of the first item
+-- dropping the starts of the first item leaves the starts after it
 pub behind_is : (n : ℕ) (starts here behind more : List ℕ) → starts ≡ here ++ behind → length here ≡ n
     → drop n (starts ++ more) ≡ behind ++ more
 behind_is n starts here behind more e l = grind (arith, common_steps, append_assoc, drop_at)
@@ -154,7 +156,7 @@ sections_made (suc n) =
     section_made (StreamOver (MeansSection n)) (VolumeOver (StreamOver (MeansSection n))) streams
     (volume_made (StreamOver (MeansSection n)) (stream_again (MeansSection n) (sections_again n)) streams)
 
--- what a walk writes is the image
+-- the bytes that a walk writes for a volume are its image
 pub image_made : (n : ℕ) (m : Meaning) (b starts : List ℕ) → IsBytes b → Denotes n b m → BeginsWithStarts (volumes_in m) starts
     → IsImage m (image_of m starts)
 image_made n m b starts small d (laid, more, text, lays) =

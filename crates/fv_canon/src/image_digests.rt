@@ -1,5 +1,6 @@
-//! The digests of `list --sums`: the SHA-256 of each volume's canonical image, of each file's data
-//! as they are in that image, and of each leaf section's body.
+//! The digests of `list --sums` and of the C library's `fv_volume_tree_digests`: the SHA-256 of each
+//! volume's canonical image, of each file's data as they are in that image, and of each leaf
+//! section's body.
 
 ghost use Rattle.std.specs.Prelude.{◌≡◌, ℕ, List, Some};
 ghost use Rattle.fv_tree.specs.Words.{body_of, content_of, volumes_in, volumes_in_content};

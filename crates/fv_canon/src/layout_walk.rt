@@ -75,7 +75,7 @@ pub(crate) fn starts_of(alloc: Global, rows: TreeWalk<'_, '_>) -> Result<Vec<u64
     Ok(starts)
 }
 
-// Returns what follows the starts of the volumes among some rows.
+// Returns the starts that follow the starts of the volumes among some rows.
 pub(crate) fn skip_starts<'s>(rows: TreeWalk<'_, '_>, starts: &'s [u64]) -> &'s [u64]
     requires laid { BeginsWithStarts (volumes_of rows) starts.now }
     ensures { result.now ≡ drop (starts_in (volumes_of rows.entry)) starts.now }

@@ -17,9 +17,9 @@ use fv_base::{Sink, sum8};
 /// How a `SummingSink` treats the bytes that it takes.
 #[derive(Clone, Copy, Drop)]
 pub(crate) enum Mode {
-    /// It puts them into the sink below.
+    /// The sink puts the bytes into the sink below it.
     Putting,
-    /// It sums them, and puts nothing. The number is their sum so far, modulo 256.
+    /// The sink sums the bytes, and puts nothing. The number is the sum so far, modulo 256.
     Summing(u8),
 }
 

@@ -1,4 +1,4 @@
--- Pads that are erased, and the text of a check.
+-- Pads whose data are erased, and the text of a check.
 use Rattle.std.proofs.Common.{◌≡◌, ◌∙◌, ◌+◌, ℕ, List, [], ◌∷◌, ◌++◌}
 use Rattle.std.proofs.Common.{refl, sym, ap, subst, cond, arith, Bool, true}
 use Rattle.std.specs.Prelude.{◌↔◌, ◌==◌, not, Option, Some, None}
@@ -19,7 +19,7 @@ use Rattle.fv_lines.specs.declared.depex_notes.DepexNote.{DepexNote}
 
 -- ---- pads that are erased
 
--- erased bytes are not written
+-- erased bytes do not count as written
 none_written : (p : Polarity) (xs : List ℕ) → AllAre (erased_byte p) xs → written_in p xs ≡ 0
 none_written p [] all = refl
 none_written p (x ∷ xs) all =
@@ -27,7 +27,7 @@ none_written p (x ∷ xs) all =
     ∙ ap (λ (b : Bool). cond (not b) 1 0 + written_in p xs) ((Decides-eqb x (erased_byte p)).1 all.0)
     ∙ ap (λ (n : ℕ). 0 + n) (none_written p xs all.1)
 
--- and pads of such bytes are not noted
+-- pads whose data are erased have no notes
 none_noted : (p : Polarity) (cells : List CellForm) → AllByRecursion (PadErased p) cells → pad_notes p cells ≡ []
 none_noted p [] all = refl
 none_noted p (Valid at head payload ∷ cells) all = none_noted p cells all.1
@@ -39,7 +39,7 @@ none_noted p (Free at len ∷ cells) all = none_noted p cells all.1
 
 -- ---- the text of a check
 
--- with no cells it is the text of an image, none of whose pads is noted
+-- the notes and the verdict are the text of a check; without cells no pad is noted, because the input is an image
 text_of : (b : List ℕ) (same : Bool) (view : Meaning) (found : Option (List CellForm × Polarity)) (notes : List DepexNote)
     → Accepted b view → ((same ≡ true) ↔ IsImage view b) → NotedCells b same found
     → AreNotes (depexes_in (files_of view)) notes → CheckText b same (noted_lines found notes same)

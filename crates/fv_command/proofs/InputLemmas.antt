@@ -1,4 +1,4 @@
--- What is taken of an input: the volume at one of its bytes.
+-- Which bytes of an input are used: the volume that begins at a given offset.
 use Rattle.std.proofs.lemmas.Grind.{common_steps}
 use Rattle.std.proofs.Common.{◌≡◌, ◌∙◌, ◌-◌, ◌≤◌, ℕ, List, take, drop, length, ap, arith, inr, length-drop, min, sym, subst}
 use Rattle.std.specs.Prelude.{Result, Ok, Err}
@@ -8,7 +8,7 @@ use Rattle.fv_head.specs.Words.{HeadFields, BeginsVolume}
 use Rattle.fv_head.specs.declared.extent.Extent.{Extent}
 use Rattle.fv_command.specs.Words.{At}
 
--- all bytes from n on, as they are cut out of the input
+-- the bytes from offset n on, as the code cuts them out of the input
 rest_is : (n m : ℕ) (input : List ℕ) → m ≡ min n (length input) → take (length input - m) (drop m input) ≡ drop n input
 rest_is n m input e =
     take_all (length input - m) (drop m input) (few (length (drop m input)) (length input) m (length-drop m input))
@@ -17,13 +17,13 @@ rest_is n m input e =
     few : (a b m : ℕ) → a ≡ b - m → a ≤ b - m
     few a b m p = omega (arith, p)
 
--- a volume begins there
+-- if a volume begins there, its bytes are used
 pub taken_volume : (n m : ℕ) (input : List ℕ) (h : HeadFields) (e : Extent) → m ≡ min n (length input)
     → BeginsVolume h e (take (length input - m) (drop m input))
     → At n input (take e.length (take (length input - m) (drop m input)))
 taken_volume n m input h e is begins = grind (arith, common_steps, rest_is)
 
--- or none does
+-- if no volume begins there, all bytes from the offset on are used
 pub taken_rest : (n m : ℕ) (input : List ℕ) (r : Result Extent Fault) (f : Fault) → m ≡ min n (length input)
     → ((h : HeadFields) (e : Extent) → BeginsVolume h e (take (length input - m) (drop m input)) → r ≡ Ok e) → r ≡ Err f
     → At n input (take (length input - m) (drop m input))

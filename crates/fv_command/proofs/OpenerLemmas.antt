@@ -1,4 +1,4 @@
--- What a run over the inputs of a plan comes to, from the run over ports that hold their sources.
+-- A run over ports that contain the sources of a plan's inputs is a run over these sources.
 use Rattle.std.proofs.lemmas.Grind.{common_steps}
 use Rattle.std.proofs.Common.{◌≡◌, ◌∙◌, ℕ, List, ap, false, arith}
 use Rattle.std.specs.Prelude.{Option}
@@ -15,17 +15,17 @@ abbrev ports_of : (r s r' s' : Shown) → Change → Ports
 ports_of r s r' s' output =
     record { first = record { old = r; new = s }; second = record { old = r'; new = s' }; output = output }
 
--- what a new port shows
+-- a new port shows what its inner reader or writer shows, and no error
 shown_new : {T : Type 0} (told : T → Option (List ℕ)) (port : Port T) (inner : T) → inner_of port ≡ inner → has_erred port ≡ false
     → shown told port ≡ seen (told inner) false
 shown_new told port inner is fine = ap (λ e. seen (told (inner_of port)) e) fine ∙ ap (λ x. seen (told x) false) is
 
--- a run over what is shown is one over the same
+-- a run over ports is a run over all ports that show the same
 runs_over : (p : Plan) (ended : Ending) (r a s r' b s' : Shown) (output : Change) → r ≡ a → r' ≡ b
     → Runs p ended (ports_of r s r' s' output) → Runs p ended (ports_of a s b s' output)
 runs_over p ended r a s r' b s' output e f ran = grind (arith, common_steps)
 
--- a run over new ports is one over the sources inside them
+-- a run over new ports is a run over the sources inside them
 pub runs_new : {S F : Type 0} (of_input : S → Option (List ℕ)) (of_file : F → Option (List ℕ))
     (opens : List ℕ → Option F → Type 0) (is_standard : S → Type 0) (p : Plan) (ended : Ending)
     (first second : Source S F) (r s r' s' : Port (Source S F)) (output : Change) → inner_of r ≡ first → has_erred r ≡ false

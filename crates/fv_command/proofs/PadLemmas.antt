@@ -1,4 +1,4 @@
--- The cells of an input, and what is put for its pads.
+-- The cells of an input, and the notes that are put for its pads.
 use Rattle.std.proofs.lemmas.Grind.{common_steps}
 use Rattle.std.proofs.Common.{◌≡◌, ℕ, List, length, refl, sym, subst, arith}
 use Rattle.std.specs.Prelude.{drop, take}
@@ -13,7 +13,7 @@ use Rattle.fv_base.proofs.Laws.{want_known}
 use Rattle.fv_tree.specs.Words.{Accepted, Meaning, head_of, BeginsTiled}
 use Rattle.fv_command.specs.Words.{AreCells}
 
--- bytes with as many as the volume says are all its bytes
+-- if the number of bytes is the volume's length, the volume is all bytes
 all_of : (b : List ℕ) (e : Extent) → length b ≡ e.length → take e.length b ≡ b
 all_of b e whole = take_all e.length b (omega (arith, whole))
 
@@ -24,7 +24,7 @@ tiled b m (bytes, d) =
     let part : List ℕ → Type 0 = λ v. Tiles e.file_system e.polarity e.first d.cells (drop e.first v) in
     (e, d.cells, record { head = head_of m; front = d.front; tiles = subst part (sym (all_of b e d.whole)) d.tiles })
 
--- the cells that are found are those of the volume
+-- the cells that are found are the cells of the volume
 pub cells_of : (b : List ℕ) (m : Meaning) (e : Extent) (cs : List CellForm) → Accepted b m → BeginsTiled e cs b → AreCells m b e.polarity cs
 cells_of b m e cs (bytes, d) found =
     let same = (one_front b (head_of m) found.head d.extent e d.front found.front).1 in

@@ -1,4 +1,4 @@
--- What stops the extraction of a section.
+-- The faults that stop the extraction of a section.
 use Rattle.std.proofs.Common.{◌≡◌, ℕ, List, Some, refl, inl, inr}
 use Rattle.std.specs.Prelude.{◌⊎◌}
 use Rattle.fv_base.specs.Words.{out_of_memory}
@@ -8,7 +8,7 @@ use Rattle.fv_tree.specs.Words.{volumes_in_body, section_of_type, FileMeaning, C
 use Rattle.fv_tree.specs.Words.{Sectioned, content_of, body_of}
 use Rattle.fv_command.specs.Words.{StopsFilePart}
 
--- a file in which a section was found holds sections, and the section is among them
+-- if the section was found in a file, the fault of its layout stops the extraction
 pub stops_section : (f : FileMeaning) (kind instance : ℕ) (s : SectionMeaning) (e : Fault)
     → ((ss : SectionMeanings) (t : ℕ) → content_of f ≡ Sectioned ss t → section_of_type kind instance ss ≡ Some s)
     → ((b : List ℕ) → content_of f ≡ Plain b → ⊥) → (e ≡ out_of_memory) ⊎ FirstUnfit (volumes_in_body (body_of s)) 0 e

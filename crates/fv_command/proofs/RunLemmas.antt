@@ -1,4 +1,4 @@
--- What the runs come to: from what the calls promise to the definitions of a run.
+-- The definitions of a run follow from the contracts of the calls that the run makes.
 use Rattle.std.proofs.Common.{◌≡◌, ◌≢◌, ◌≤◌, ◌⊎◌, ℕ, Bool, true, false, List, length, take, arith, rules, refl, sym, subst, inl, inr}
 use Rattle.std.proofs.lemmas.Grind.{common_steps}
 use Rattle.std.specs.Prelude.{◌↔◌, Option}
@@ -18,7 +18,7 @@ use Rattle.fv_plan.specs.declared.plan.Part.{Part}
 use Rattle.fv_plan.specs.declared.plan.Task.TheVariants.{Extract, ListSums}
 use Rattle.fv_text.specs.Words.{Change, Shown}
 
--- ---- an input that begins with no volume
+-- ---- an input that does not begin with a volume
 
 pub not_begun : (input : List ℕ) (f : Fault)
     → (f ≢ out_of_memory → (n : ℕ) (m : Meaning) → n ≤ length input → Denotes depth_limit (take n input) m → ⊥)
@@ -33,14 +33,14 @@ pub part_stopped : (input : List ℕ) (m : Meaning) (part : Part) (f : Fault) �
     → (f ≡ out_of_memory) ⊎ StopsPart (file_named part.name (files_of m)) part f → Denies (Extract part) input f
 part_stopped input m part f b why = or_more why (λ stops. inr (m, b, stops))
 
--- why a list with sums is not written
+-- why a list with digests is not written
 pub sums_denied : (input : List ℕ) (m : Meaning) (f : Fault) → BeginsWith input m → (f ≡ out_of_memory) ⊎ Unfit m 0 f
     → Denies ListSums input f
 sums_denied input m f b why = or_more why (λ unfit. inr (m, b, unfit))
 
 -- ---- a hand-off list
 
--- bytes that are read begin with no list
+-- the fault of reading a list is out of memory or the first fault of the list
 pub hobs_refused : (list bytes : List ℕ) (f : HobFault) → bytes ≡ list → (f ≢ hob_out_of_memory → IsFirstHobFault bytes f)
     → (f ≡ hob_out_of_memory) ⊎ IsFirstHobFault list f
 hobs_refused list bytes f same first = known f (IsFirstHobFault list f) (rw same at first) where
@@ -52,7 +52,7 @@ hobs_refused list bytes f same first = known f (IsFirstHobFault list f) (rw same
 abbrev turn : Shown → Shown → Change
 turn old new = record { old = old; new = new }
 
--- what is taken of an input
+-- an input gives the bytes that are used: all its bytes, or the volume at an offset
 pub given_at : (hex : Bool) (at : Option ℕ) (r s : Shown) (items bytes taken : List ℕ) → bytes ≡ items → Gives hex r s items
     → TakenAt at bytes taken → GivesAt hex at r s taken
 given_at hex at r s items bytes taken is gives takes = (items, gives, subst (λ (b : List ℕ). TakenAt at b taken) is takes)

@@ -1,4 +1,4 @@
-//! Where the bytes of an input come from.
+//! The source of an input's bytes.
 
 ghost use Rattle.std.specs.Io.{ReadsAtMost};
 ghost use Rattle.std.specs.Io.KnownBytes.{ReadConsumes};
@@ -9,7 +9,7 @@ ghost use Rattle.fv_command.specs.PlanRuns.{unread};
 use std::io;
 use std::io::{ErrorKind, Read};
 
-/// Where the bytes of an input come from.
+/// The source of an input's bytes.
 #[derive(Drop)]
 pub enum Source<S: Read, F: Read> {
     /// Standard input.

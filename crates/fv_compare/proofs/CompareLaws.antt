@@ -1,4 +1,4 @@
--- The laws of a run over two inputs.
+-- The laws of a run that compares two inputs.
 use Rattle.std.proofs.lemmas.Grind.{common_steps}
 use Rattle.std.proofs.Common.{◌≡◌, ◌≢◌, ◌∙◌, ℕ, List, sym, ap, subst, inl, inr, Bool, arith}
 use Rattle.std.specs.Prelude.{Option, Result, IfOk, IfErr}
@@ -40,7 +40,7 @@ second_refused side f unread left unread' left' held input other m is reads d re
     subst (λ (s : Side). SideStopsRun s unread left unread' left' held held f) (sym is)
     (Keeps-refl held, (m, (input, reads, d)), inr (other, read, stops))
 
--- ---- after both inputs
+-- ---- after both inputs are read
 
 pub run_compares : (r : Result Bool (Side × Fault)) (m k : Meaning) (unread left unread' left' held holds : Option (List ℕ))
     → ReadsVolume unread left m → ReadsVolume unread' left' k → IfOk r (Compares m k held holds)
@@ -65,7 +65,7 @@ run_stops r m k unread left unread' left' held holds p q stops =
 
 -- ---- the kinds of faults
 
--- the reader of an input makes no fault of a writer
+-- a fault of reading an input is not a fault of the writer
 pub unread_kind : (unread left : Option (List ℕ)) (f : Fault) → ReadStops unread left f → f.kind ≢ kinds.WriteFault
 unread_kind unread left f stops is = grind (arith, common_steps)
 
@@ -76,7 +76,7 @@ not_read sides.First f m k held holds (keeps, want, differ) is =
 not_read sides.Second f m k held holds stops is = absurd stops
 not_read sides.Output f m k held holds stops is = let bad : kinds.WriteFault ≡ kinds.ReadFault = sym stops.kind ∙ is in cc
 
--- a comparison makes no fault of a reader, so what would follow from one does
+-- a fault of the comparison is not a fault of a reader
 pub never_read : (Q : Side → Type 0) (P : Type 0) (r : Result Bool (Side × Fault)) (m k : Meaning) (held holds : Option (List ℕ))
     → IfErr r (λ e. ComparisonStops e.0 m k held holds e.1) → IfErr r (λ e. Q e.0 → e.1.kind ≡ kinds.ReadFault → P)
 never_read Q P r m k held holds stops = grind (arith, common_steps, not_read)

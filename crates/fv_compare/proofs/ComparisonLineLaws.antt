@@ -1,4 +1,4 @@
--- The line of a comparison: its path, step by step, and how long it is.
+-- The line of a comparison: its path, step by step, and a bound on its length.
 use Rattle.std.proofs.lemmas.Grind.{common_steps}
 use Rattle.std.proofs.Common.{◌≡◌, ◌∙◌, ◌≤◌, ◌<◌, ◌+◌, ◌*◌, ℕ, List, [], ◌∷◌, ◌++◌, length, take, get_or, ap, sym, subst, arith}
 use Rattle.std.proofs.Common.{length-append, append_assoc, append-nil}
@@ -8,11 +8,11 @@ use Rattle.fv_compare.specs.Words.{path_text, step_text}
 use Rattle.fv_tree.specs.declared.difference.Step.{Step}
 use Rattle.fv_text.specs.Words.{line_feed}
 
--- a step is short, since its number is
+-- the text of a step has at most 29 bytes, because its number has at most 20
 pub short_step : (what number : List ℕ) → length what ≤ 8 → length number ≤ 20 → length (what ++ (number ++ codes " ")) ≤ 29
 short_step what number p q = omega (arith, length-append what (number ++ codes " "), length-append number (codes " "), p, q)
 
--- a path, and a step more
+-- the text of a path with one more step is the text of the path followed by the text of the step
 path_more : (steps : List Step) (s : Step) → path_text (steps ++ s ∷ []) ≡ path_text steps ++ step_text s
 path_more [] s = append-nil (step_text s)
 path_more (x ∷ xs) s =
@@ -25,7 +25,7 @@ path_next steps i d within = ap path_text (take_more steps i d within) ∙ path_
 pub path_whole : (steps : List Step) (i : ℕ) → length steps ≤ i → path_text (take i steps) ≡ path_text steps
 path_whole steps i past = ap path_text (take_all i steps past)
 
--- each step is short
+-- the text of a path has at most 29 bytes for each step
 pub path_short : (steps : List Step) (i : ℕ) (d : Step) → i < length steps → length (path_text (take i steps)) ≤ 29 * length (take i steps)
     → length (step_text (get_or steps i d)) ≤ 29 → length (path_text (take (i + 1) steps)) ≤ 29 * length (take (i + 1) steps)
 path_short steps i d within before short =
@@ -42,7 +42,7 @@ pub path_ends : (steps : List Step) (i : ℕ) → length steps ≤ i → length 
     → length (path_text steps) ≤ 29 * length steps
 path_ends steps i past short = subst (λ (xs : List Step). length (path_text xs) ≤ 29 * length xs) (take_all i steps past) short
 
--- so a line is
+-- so a line has at most 31 bytes, and 29 more for each step
 pub short_line : (path word : List ℕ) (count : ℕ) → length path ≤ 29 * count → length word ≤ 17
     → length (codes "different at " ++ (path ++ (word ++ line_feed))) ≤ 31 + 29 * count
 short_line path word count p q = grind (arith, common_steps, length-append)

@@ -1,11 +1,13 @@
--- What a crate above may cite of dependency expressions. Each line passes some of it on from where it is proved.
+-- The laws of dependency expressions that crates above may cite. Each is passed on from the module that proves it.
 
--- bytes are spelled by one list of ops and one rest at most, and what these are written as is spelled by them; the bytes of joined ops
--- are joined; a whole expression is ops that may follow one another, and END
+-- Bytes are spelled by at most one list of ops and one rest, and the bytes that are written for these are spelled by
+-- them. The bytes of joined ops are the joined bytes of the ops. A whole expression is a list of ops that may follow
+-- one another, and then END.
 pub use Rattle.fv_depex.proofs.PathLemmas.{one_spelling, spelled_again, bytes_join, IsEnded, whole_ended}
--- ops are those of one tree at most; those of a tree leave its truth on the stack, the others none
+-- Ops are those of at most one tree. The ops of a tree leave its truth value on the stack; BEFORE and AFTER leave none.
 pub use Rattle.fv_depex.proofs.TruthLemmas.{one_tree, truth_of_tree, none_of_order}
--- bytes begin with one op at most; it is there where its checks hold, and its checks hold where it may be
+-- Bytes begin with at most one op. If the checks hold, the op is there, and if an op may be there, its checks hold.
 pub use Rattle.fv_depex.proofs.OpLemmas.{same_op, op_stands, checks_hold}
--- bytes that have a first fault are spelled by no expression; a check that does not hold is no out of memory
+-- Bytes that have a first fault are not spelled by an expression. The fault of a check that does not hold is not
+-- OutOfMemory.
 pub use Rattle.fv_depex.proofs.OpReadLemmas.{none_after, no_want}

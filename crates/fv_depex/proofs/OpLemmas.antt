@@ -1,7 +1,7 @@
--- An op is there where its checks hold. The steps:
--- 1. An op is known by its code and its GUID (`op_of_code`, `op_back`).
--- 2. Where the checks hold, an op is there (`op_stands`), and where one is, they hold (`checks_hold`).
--- 3. Bytes begin with one op at most (`same_op`).
+-- An op is there exactly if its checks hold. The steps:
+-- 1. An op is determined by its code and its GUID (`op_of_code`, `op_back`).
+-- 2. If the checks hold, an op is there (`op_stands`), and if an op is there, they hold (`checks_hold`).
+-- 3. Bytes begin with at most one op (`same_op`).
 use Rattle.std.proofs.lemmas.Grind.{common_steps}
 use Rattle.std.proofs.Common.{◌≡◌, ◌≤◌, ℕ, zero, suc, List, [], ◌∷◌, ◌++◌, length, drop, refl, sym, ap, ◌∙◌, arith, Bool, true, false}
 use Rattle.std.proofs.Common.{length-append, length-drop}
@@ -23,7 +23,7 @@ use Rattle.fv_depex.specs.declared.op.Phase.TheVariants.{Pei, Dxe}
 
 -- ---- an op by its code
 
--- a code that some phase has is that of its op, and the op carries the GUID where the code does
+-- a code of some phase is the code of its op, and the op carries the GUID if the code does
 pub record IsOpOf (code : ℕ) (g : Guid) (o : Op) : Type 0 where
   pub code_is : op_code o ≡ code
   pub operand_is : op_operand o ≡ (if carries code then bytes_of g else [])
@@ -49,7 +49,7 @@ op_of_code g =
     (record { code_is = refl; operand_is = refl }) (record { code_is = refl; operand_is = refl })
     (record { code_is = refl; operand_is = refl }) (record { code_is = refl; operand_is = refl })
 
--- what is true of each op is true of all
+-- a property of each op is a property of all ops
 pub each_op : (P : Op → Type 0) → ((g : Guid) → P (ops.Before g)) → ((g : Guid) → P (ops.After g)) → ((g : Guid) → P (ops.Push g))
     → P ops.And → P ops.Or → P ops.Not → P ops.True → P ops.False → P ops.End → P ops.Sor → (o : Op) → P o
 each_op P a b c d e f g h i j (ops.Before x) = a x
@@ -63,7 +63,7 @@ each_op P a b c d e f g h i j ops.False = h
 each_op P a b c d e f g h i j ops.End = i
 each_op P a b c d e f g h i j ops.Sor = j
 
--- an op is that of its code and its GUID
+-- an op is the op of its code and its GUID
 op_back : (o : Op) → op_by (op_code o) (record { bytes = op_operand o }) ≡ o
 op_back = each_op (λ o. op_by (op_code o) (record { bytes = op_operand o }) ≡ o) (λ g. refl) (λ g. refl) (λ g. refl)
     refl refl refl refl refl refl refl
@@ -89,7 +89,7 @@ record ChecksOfOp (phase : Phase) (stage : Stage) (r : List ℕ) : Type 0 where
 checks_of_op : (phase : Phase) (stage : Stage) (r : List ℕ) → AllHold (op_checks phase stage r) → ChecksOfOp phase stage r
 checks_of_op phase stage r (some, (known, (placed, (whole, (valued, end))))) = grind (arith, common_steps)
 
--- where the checks hold, the op is there
+-- if the checks hold, the op is there
 pub op_stands : (phase : Phase) (stage : Stage) (r : List ℕ) → first_fault (op_checks phase stage r) ≡ None
     → BeginsOp phase stage (op_in r) r
 op_stands phase stage r none =
@@ -132,7 +132,7 @@ op_stands phase stage r none =
               ∙ ap (λ (l : List ℕ). op_code (op_in r) ∷ (l ++ drop 1 r)) (sym operand);
         }
 
--- where an op is, the checks hold
+-- if an op is there, the checks hold
 pub checks_hold : (phase : Phase) (stage : Stage) (o : Op) (x : List ℕ) → OpFits phase stage o
     → AllHold (op_checks phase stage (op_code o ∷ (op_operand o ++ x)))
 checks_hold phase stage o x fits = (
@@ -151,6 +151,6 @@ pub same_op : (o p : Op) (x y : List ℕ) → IsSized o → IsSized p → op_cod
     → (o ≡ p) × (x ≡ y)
 same_op o p x y so sp e = grind (arith, common_steps, same_cut, op_back)
 
--- the code of END is END's
+-- an op with the code of END is END
 pub end_code : (o : Op) → op_code o ≡ 8 → o ≡ ops.End
 end_code o e = sym (op_back o) ∙ ap (λ (k : ℕ). op_by k (record { bytes = op_operand o })) e

@@ -1,9 +1,11 @@
--- What the loop over the ops keeps, and what its ends say. The steps:
--- 1. The ops that were read spell the bytes up to a place (`OpsKept`): none at first (`kept_none`), and then one more (`one_more`, `kept`).
--- 2. With END they spell a whole expression (`ended`).
--- 3. Memory runs out only where the bytes begin with an op (`stands_first`, `spells_first`). No check has OutOfMemory as its fault
---    (`no_want`).
--- 4. The fault of the next op is the first fault (`first_fault_at`), and bytes with a first fault spell no expression (`none_after`).
+-- The loop over the ops reads a whole expression, or finds the first fault. The steps:
+-- 1. The ops that were read spell the bytes up to a place (`OpsKept`): at first none (`kept_none`), and then one more
+--    (`one_more`, `kept`).
+-- 2. With END, they spell a whole expression (`ended`).
+-- 3. Memory runs out only if the bytes begin with an op (`stands_first`, `spells_first`). No check has OutOfMemory as
+--    its fault (`no_want`).
+-- 4. The fault of the next op is the first fault (`first_fault_at`), and bytes with a first fault do not spell an
+--    expression (`none_after`).
 use Rattle.std.proofs.lemmas.Grind.{common_steps}
 use Rattle.std.proofs.Common.{◌≡◌, ◌≢◌, ◌≤◌, ℕ, suc, ◌+◌, List, [], ◌∷◌, ◌++◌, length, take, drop, refl, sym, ap, ◌∙◌, subst, arith}
 use Rattle.std.proofs.Common.{length-append, length-drop, append_assoc, append-nil}
@@ -41,7 +43,7 @@ kept_none phase b items e = grind (arith, common_steps)
 few_more : (stage : Stage) (o : Op) → values_of (stage_after stage o) ≤ values_of stage + 1
 few_more stage = grind (arith, common_steps, each_op)
 
--- the bytes of one more op
+-- the ops with one more op make up the bytes up to its end
 pub record OneMoreOp (b : List ℕ) (items : List Op) (o : Op) (at n : ℕ) : Type 0 where
   pub bytes : take (at + n) b ≡ ops_bytes (items ++ o ∷ [])
   pub inside : at + n ≤ length b
@@ -101,7 +103,7 @@ ended phase b items new o at n stage k stands len is new_is =
       },
     )
 
--- where an op was read, or is there to be read, one is first
+-- if an op was read, or is there to be read, an op begins the bytes
 pub stands_first : (phase : Phase) (b : List ℕ) (items : List Op) (o : Op) (at : ℕ) (stage : Stage) → OpsKept phase b items at stage
     → BeginsOp phase stage o (drop at b) → BeginsFirstOp phase b
 stands_first phase b [] o at stage k stands = (
@@ -138,20 +140,20 @@ spells_first phase b xs s spells =
       },
     )
 
--- the fault of a check is no out of memory
+-- the fault of a check is not OutOfMemory
 pub no_want : (phase : Phase) (stage : Stage) (r : List ℕ) (kind : DepexFaultKind) → IsFirstFault (op_checks phase stage r) kind
     → kind ≢ kinds.OutOfMemory
 no_want phase stage r kind first =
     first_among (λ (k : DepexFaultKind). k ≢ kinds.OutOfMemory) (op_checks phase stage r) kind
     ((λ t. cc), ((λ t. cc), ((λ t. cc), ((λ t. cc), ((λ t. cc), tt))))) first
 
--- a fault at the next op is that of the first op that has one
+-- a fault of the next op is the first fault of the ops
 pub first_fault_at : (phase : Phase) (b : List ℕ) (items : List Op) (at : ℕ) (stage : Stage) (f : DepexFault)
     → OpsKept phase b items at stage → f.offset ≡ at → IsFirstFault (op_checks phase stage (drop at b)) f.kind
     → IsFirstOpFault phase b f
 first_fault_at phase b items at stage f k place first = grind (arith, common_steps, take-append-drop, length-take-le)
 
--- where there is a first fault the bytes are spelled by none
+-- if there is a first fault, no ops spell the bytes
 pub none_after : (phase : Phase) (b : List ℕ) (f : DepexFault) (xs : List Op) (s : List ℕ) → IsFirstOpFault phase b f → Spells phase xs s b
     → ⊥
 none_after phase b f xs s here spells =

@@ -1,9 +1,11 @@
--- Ops that may follow one another are those of whole expressions. The steps:
+-- Ops that may follow one another are the ops of whole expressions, and bytes are spelled by at most one list of ops.
+-- The steps:
 -- 1. Paths are joined (`path_join`), and each op of a path has its whole operand (`path_sized`).
--- 2. The ops up to a stage are those of some trees, after SOR or nothing, or BEFORE or AFTER (`LeavesStage`). It is so at the start, and
---    with one op more (`leaves_more`). With END they are a whole expression (`leaves_whole`).
--- 3. Back: the ops of a tree are a path (`tree_path`), so a whole expression is a path and END (`whole_ended`).
--- 4. Bytes have one path at most (`same_front`), so one list of ops at most spells them (`one_spelling`).
+-- 2. The ops up to a stage are the ops of some trees, after SOR or nothing, or they are BEFORE or AFTER
+--    (`LeavesStage`). This holds at the start, and with one more op (`leaves_more`). With END, the ops are a whole
+--    expression (`leaves_whole`).
+-- 3. Conversely, the ops of a tree are a path (`tree_path`), so a whole expression is a path and END (`whole_ended`).
+-- 4. Bytes have at most one path (`same_front`), so at most one list of ops spells them (`one_spelling`).
 use Rattle.std.proofs.lemmas.Grind.{common_steps}
 use Rattle.std.proofs.Common.{◌≡◌, ◌≢◌, ◌≤◌, ◌<◌, ℕ, ◌+◌, ◌-◌, List, [], ◌∷◌, ◌++◌, length, drop, inl, inr, refl, sym, ap, ◌∙◌, subst}
 use Rattle.std.proofs.Common.{arith, true, false, length-append, append_assoc, append-nil}
@@ -57,7 +59,7 @@ bytes_join (x ∷ xs) ys =
 
 -- ---- a path leads to trees
 
--- the ops of trees, one after another
+-- the ops of trees, one tree after another
 abbrev pub trees_ops : List Expression → List Op
 trees_ops [] = []
 trees_ops (t ∷ ts) = postfix t ++ trees_ops ts
@@ -67,18 +69,18 @@ trees_join [] us = refl
 trees_join (t ∷ ts) us =
     ap (λ (l : List Op). postfix t ++ l) (trees_join ts us) ∙ sym (append_assoc (postfix t) (trees_ops ts) (trees_ops us))
 
--- SOR or nothing
+-- SOR, or nothing
 abbrev pub IsSor : Phase → List Op → Type 0
 IsSor phase sor = (sor ≡ []) ⊎ ((sor ≡ ops.Sor ∷ []) × (phase ≡ Dxe))
 
--- what was read leaves this stage
+-- the ops that were read leave this stage
 abbrev pub LeavesStage : Phase → Stage → List Op → Type 0
 LeavesStage phase stages.Start os = os ≡ []
 LeavesStage phase stages.Ordered os = (phase ≡ Dxe) × (g : Guid) × ((os ≡ ops.Before g ∷ []) ⊎ (os ≡ ops.After g ∷ []))
 LeavesStage phase (stages.Values n) os =
     (sor : List Op) × (ts : List Expression) × (os ≡ sor ++ trees_ops ts) × (length ts ≡ n) × IsSor phase sor
 
--- one more tree on the stack, in place of the last ones
+-- one more op makes one tree of the last trees on the stack, and takes their place
 more_trees : (phase : Phase) (os sor : List Op) (us vs : List Expression) (t : Expression) (o : Op) (n : ℕ)
     → os ≡ sor ++ trees_ops (us ++ vs) → IsSor phase sor
     → trees_ops vs ++ (o ∷ []) ≡ postfix t → length us + 1 ≡ n → LeavesStage phase (stages.Values n) (os ++ o ∷ [])
@@ -104,7 +106,7 @@ last_two (t ∷ []) l = absurd (omega (arith, l))
 last_two (t ∷ u ∷ []) l = ([], t, u, refl)
 last_two (t ∷ u ∷ v ∷ ts) l = let r = last_two (u ∷ v ∷ ts) (omega arith) in (t ∷ r.0, r.1, r.2, ap (λ (k : List Expression). t ∷ k) r.3)
 
--- AND and OR make one tree of the last two
+-- AND and OR make one tree of the last two trees on the stack
 two_more : (phase : Phase) (n : ℕ) (os : List Op) (make : Expression → Expression → Expression) (o : Op)
     → ((t u : Expression) → postfix (make t u) ≡ postfix t ++ (postfix u ++ (o ∷ []))) → LeavesStage phase (stages.Values n) os → 2 ≤ n
     → LeavesStage phase (stages.Values (n - 1)) (os ++ o ∷ [])
@@ -116,7 +118,7 @@ two_more phase n os make o made (sor, ts, e, len, s) some =
     more_trees phase os sor r.0 (r.1 ∷ r.2 ∷ []) (make r.1 r.2) o (n - 1) (e ∙ ap (λ (l : List Expression). sor ++ trees_ops l) r.3) s
     last (omega (arith, len, some, ap length r.3, length-append r.0 (r.1 ∷ r.2 ∷ [])))
 
--- an op on values
+-- the ops that were read, with an op that finds enough values, leave the number of values after it
 values_more : (phase : Phase) (n : ℕ) (os : List Op) (o : Op) → LeavesStage phase (stages.Values n) os → 2 ≤ op_code o → op_code o < 8
     → has_values n (op_code o) ≡ true
     → LeavesStage phase (stages.Values (values_after n o)) (os ++ o ∷ [])
@@ -143,7 +145,7 @@ values_more phase n os ops.Sor h low high v = absurd (omega (arith, high))
 begun : (phase : Phase) (os : List Op) → os ≡ [] → LeavesStage phase (stages.Values 0) os
 begun phase os e = ([], [], e, refl, inl refl)
 
--- PEI has no BEFORE, AFTER and SOR
+-- BEFORE, AFTER and SOR are ops of DXE only
 no_pei : (phase : Phase) (o : Op) (stage : Stage) → OpFits phase stage o → ((op_code o ≡ 0) ⊎ (op_code o ≡ 1)) ⊎ (op_code o ≡ 9)
     → phase ≡ Dxe
 no_pei Dxe o stage fits h = refl
@@ -157,7 +159,7 @@ no_pei Pei o stage fits h = absurd (go (op_code o) fits.known h)
 value_code : (o : Op) → 2 ≤ op_code o → op_code o ≤ 8 → o ≢ ops.End → op_code o < 8
 value_code o low high ne = grind (arith, common_steps, end_code)
 
--- the values of an op that has some
+-- the stage after an op on values is the number of values after it
 after_values : (stage : Stage) (o : Op) → 2 ≤ op_code o → stage_after stage o ≡ stages.Values (values_after (values_of stage) o)
 after_values stage = grind (arith, common_steps, each_op)
 
@@ -170,7 +172,7 @@ start_value : (phase : Phase) (os : List Op) (o : Op) → LeavesStage phase stag
     → op_code o < 8 → LeavesStage phase (stages.Values (values_after 0 o)) (os ++ o ∷ [])
 start_value phase os o h fits low high = values_more phase 0 os o (begun phase os h) low high fits.valued
 
--- one more op
+-- the ops that were read, with one more op, leave the stage after it
 pub leaves_more : (phase : Phase) (stage : Stage) (os : List Op) (o : Op) → LeavesStage phase stage os → OpFits phase stage o → o ≢ ops.End
     → LeavesStage phase (stage_after stage o) (os ++ o ∷ [])
 leaves_more phase stages.Start os (ops.Before g) h fits ne =
@@ -189,7 +191,7 @@ leaves_more phase stages.Start os ops.False h fits ne = start_value phase os ops
 leaves_more phase stages.Ordered os o h fits ne = absurd (ne (end_code o (eqb-true (op_code o) 8 fits.placed)))
 leaves_more phase (stages.Values n) os o h fits ne = placed_values phase n os o h fits ne
 
--- with END they are whole
+-- the ops that were read, with END, are a whole expression
 pub leaves_whole : (phase : Phase) (stage : Stage) (os : List Op) → LeavesStage phase stage os → OpFits phase stage ops.End
     → ((t : Expression) × IsTree phase (os ++ ops.End ∷ []) t) ⊎ IsOrder phase (os ++ ops.End ∷ [])
 leaves_whole phase stages.Start os h fits = let no_values : false ≡ true = fits.valued in cc
@@ -255,7 +257,7 @@ tree_path phase n (either t u) sized =
     (fits_value phase (n + 1 + 1) ops.Or (omega arith) (omega arith) (le-leb 2 (n + 1 + 1) (omega arith)) refl) (λ e. cc)
     (ap (λ (k : ℕ). stages.Values k) (one_less n))
 
--- the ops from the start on
+-- a path from an empty stack is a path from the start, if it has an op
 from_start : (phase : Phase) (f : Stage) (o : Op) (os : List Op) → OpPath phase (stages.Values 0) (o ∷ os) f
     → OpPath phase stages.Start (o ∷ os) f
 from_start phase f o os p = grind (arith, common_steps, and_split, leb-true, after_values)
@@ -273,7 +275,7 @@ start_path : (phase : Phase) (f : Stage) (os : List Op) → 1 ≤ length os → 
 start_path phase f [] l p = absurd (omega (arith, l))
 start_path phase f (o ∷ os) l p = from_start phase f o os p
 
--- the ops of a whole expression: a path, and END
+-- the ops of a whole expression are a path, and then END
 pub record IsEnded (phase : Phase) (all : List Op) : Type 0 where
   pub front : List Op
   pub stage : Stage
@@ -341,9 +343,9 @@ whole_ended phase all rest b spells = go spells.whole where
       order g dxe (inl e) = order_ended phase all (ops.Before g) e dxe (inl refl) spells.sized refl (λ x. cc) refl
       order g dxe (inr e) = order_ended phase all (ops.After g) e dxe (inr refl) spells.sized refl (λ x. cc) refl
 
--- ---- bytes have one path at most
+-- ---- bytes have at most one path
 
--- the rest of a path, after the first ops
+-- the rest of a path after its first ops
 pub record ContinuesPath (phase : Phase) (os xs : List Op) (f g : Stage) (r y : List ℕ) : Type 0 where
   pub more : List Op
   pub ops_are : xs ≡ os ++ more
@@ -372,7 +374,7 @@ same_front phase s f g (o ∷ os) (x ∷ xs) r y p q e =
 pub ended_bytes : (front : List Op) (rest : List ℕ) → ops_bytes (front ++ (ops.End ∷ [])) ++ rest ≡ ops_bytes front ++ (8 ∷ rest)
 ended_bytes front rest = ap (λ (l : List ℕ). l ++ rest) (bytes_join front (ops.End ∷ [])) ∙ append_assoc (ops_bytes front) (8 ∷ []) rest
 
--- bytes are spelled in one way at most
+-- bytes are spelled in at most one way
 pub one_spelling : (phase : Phase) (xs ys : List Op) (r s b : List ℕ) → Spells phase xs r b → Spells phase ys s b → (ys ≡ xs) × (s ≡ r)
 one_spelling phase xs ys r s b p q =
     let x = whole_ended phase xs r b p in
@@ -389,7 +391,7 @@ one_spelling phase xs ys r s b p q =
     none_more phase f g [] r s p e = (refl, sym (ap (drop 1) e))
     none_more phase f g (o ∷ os) r s p e = absurd (p.1 (end_code o (sym (ap (λ (l : List ℕ). slice_index l 0) e))))
 
--- what spells some bytes spells these
+-- the bytes that are written for the ops and the rest of some bytes are spelled by them
 pub spelled_again : (phase : Phase) (all : List Op) (rest b c : List ℕ) → Spells phase all rest b → c ≡ ops_bytes all ++ rest
     → Spells phase all rest c
 spelled_again phase all rest b c spells e = record { joined = e; whole = spells.whole; sized = spells.sized }

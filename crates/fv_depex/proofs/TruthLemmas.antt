@@ -1,8 +1,8 @@
--- Ops leave the truth of their tree. The steps:
--- 1. The ops of a tree leave its truth on the stack (`run_tree`). So a tree has its truth (`truth_of_tree`), and BEFORE and AFTER have none
---    (`none_of_order`).
+-- The ops of a tree leave its truth value, and belong to no other tree. The steps:
+-- 1. The ops of a tree leave its truth value on the stack (`run_tree`). So a tree has its truth value
+--    (`truth_of_tree`), and BEFORE and AFTER have none (`none_of_order`).
 -- 2. A loop runs the ops one by one (`run_step`, `run_none`, `run_end`).
--- 3. Ops build their tree again (`build_tree`), so they are those of one tree at most (`one_tree`).
+-- 3. Ops build their tree again (`build_tree`), so they are the ops of at most one tree (`one_tree`).
 use Rattle.std.proofs.lemmas.Grind.{common_steps}
 use Rattle.std.proofs.Common.{◌≡◌, ◌≤◌, ◌+◌, ℕ, length, drop, List, [], ◌∷◌, ◌++◌, refl, sym, ap, ◌∙◌, Bool, append_assoc, arith}
 use Rattle.std.specs.Prelude.{Option, None, Some, Result, Ok, Err, IfOk}
@@ -16,12 +16,12 @@ use Rattle.fv_depex.specs.declared.op.Phase.{Phase}
 use Rattle.fv_depex.specs.Expressions.{always, never, installed, negated, both, either}
 use Rattle.fv_depex.specs.declared.op.Op.TheVariants as ops
 
--- the ops of two trees and an op, before others
+-- the ops of two trees and of the op after them, followed by other ops
 two_before : (t u : Expression) (o : Op) (os : List Op)
     → (postfix t ++ (postfix u ++ (o ∷ []))) ++ os ≡ postfix t ++ (postfix u ++ (o ∷ os))
 two_before t u o os = grind (arith, common_steps, append_assoc)
 
--- the ops of a tree leave its truth on top
+-- the ops of a tree leave its truth value on top of the stack
 run_tree : (set : List Guid) (t : Expression) (s : List Bool) (os : List Op)
     → evaluate_ops set (postfix t ++ os) s ≡ evaluate_ops set os (truth set t ∷ s)
 run_tree set always s os = refl
@@ -72,7 +72,7 @@ value_order set phase all (Err f) is = tt
 
 -- ---- one tree
 
--- the trees that ops build, the last first
+-- the trees that ops build, last tree first
 abbrev build : List Expression → List Op → List Expression
 build ts [] = ts
 build ts (ops.Push g ∷ os) = build (installed g ∷ ts) os
@@ -96,7 +96,7 @@ build_tree (either t u) ts os =
 built : (phase : Phase) (all : List Op) (t : Expression) → IsTree phase all t → build [] all ≡ t ∷ []
 built phase all t is = grind (arith, common_steps, build_tree)
 
--- ops are those of one tree at most
+-- ops are the ops of at most one tree
 pub one_tree : (phase : Phase) (all : List Op) (t u : Expression) → IsTree phase all t → IsTree phase all u → t ≡ u
 one_tree phase all t u p q = same t u (sym (built phase all t p) ∙ built phase all u q) where
   same : (t u : Expression) → t ∷ [] ≡ u ∷ [] → t ≡ u

@@ -1,8 +1,10 @@
--- A body is tiled in one way, or there is a first place that has no cell. The steps:
--- 1. The cells that were read tile the body up to a place (`Upto`), also with one more (`stands_here`, `one_on`).
--- 2. The loop ends where the body does (`whole_kept`), where the rest is free (`free_kept`), or at the first fault (`first_here`).
--- 3. A body is tiled in one way (`only_one`). A tiling goes on from each place that such cells reach (`goes_on`), so there is none where a
---    check fails (`none_after`).
+-- A body is tiled by cells in one way, or there is a first place at which no cell begins. The steps:
+-- 1. The cells that were read tile the body up to a place (`Upto`), and so do they with the cell that is read there
+--    (`stands_here`, `one_on`).
+-- 2. The loop ends at the end of the body (`whole_kept`), where the rest is free (`free_kept`), or at the first fault
+--    (`first_here`).
+-- 3. A body is tiled in one way (`only_one`). Every tiling goes on from each place that the cells reach (`goes_on`), so
+--    there is no tiling if a check fails there (`none_after`).
 use Rattle.std.proofs.lemmas.Grind.{common_steps}
 use Rattle.std.proofs.Common.{◌≡◌, ◌≤◌, ◌<◌, ℕ, ◌+◌, ◌-◌, ◌%◌, List, [], ◌∷◌, ◌++◌, length, take, drop, map, refl, sym, ap, ◌∙◌, subst, arith, inl, inr}
 use Rattle.std.proofs.Common.{true, false, length-drop, length-append}
@@ -39,7 +41,7 @@ module _ (s : FileSystem) (p : Polarity) (first : ℕ) (body : List ℕ) where
   upto_begins = record { tiled = refl; none_free = tt; multiple = refl; inside = omega arith }
 
   module _ (cs : List CellForm) (at : ℕ) (before : Upto cs at) where
-    -- the cell at the place
+    -- the cell that is read at the place begins there
     pub stands_here : (c : CellForm) → length body % 8 ≡ 0 → cell_verdict s p (first + at) (drop at body) ≡ Ok c
         → CellStandsAt s p (first + at) c (drop at body)
     stands_here c in_eights is =
@@ -48,7 +50,7 @@ module _ (s : FileSystem) (p : Polarity) (first : ℕ) (body : List ℕ) where
         eighth : (a b : ℕ) → a % 8 ≡ 0 → b ≡ a - at → b % 8 ≡ 0
         eighth a b h e = omega (arith, before.multiple, before.inside)
 
-    -- a cell further
+    -- with one more cell, the cells tile the body up to its end
     pub one_on : (c : CellForm) (len : ℕ) → CellStandsAt s p (first + at) c (drop at body) → len ≡ cell_len c
         → Upto (cs ++ c ∷ []) (at + len)
     one_on c len stands l =
@@ -66,11 +68,11 @@ module _ (s : FileSystem) (p : Polarity) (first : ℕ) (body : List ℕ) where
         eighth : (n : ℕ) → n % 8 ≡ 0 → len ≡ n → (at + len) % 8 ≡ 0
         eighth n h e = omega (arith, before.multiple)
 
-    -- the body's end
+    -- at the end of the body, the cells tile all of it
     pub whole_kept : length body ≤ at → Tiles s p first cs body
     whole_kept l = subst (λ (b : List ℕ). Tiles s p first cs b) (take_all at body l) before.tiled
 
-    -- a free rest
+    -- if the rest is erased, the cells and one free cell tile the body
     pub free_kept : at < length body → AllAre (erased_byte p) (drop at body)
         → Tiles s p first (cs ++ Free (first + at) (length body - at) ∷ []) body
     free_kept some clean =
@@ -80,14 +82,14 @@ module _ (s : FileSystem) (p : Polarity) (first : ℕ) (body : List ℕ) where
         let more = one_more s p first cs c (take at body) (drop at body) before.tiled before.none_free part (omega (arith, long)) in
         subst (λ (b : List ℕ). Tiles s p first (cs ++ c ∷ []) b) (take-append-drop at body) more
 
-    -- the end: the body's end, or a free rest
+    -- at the end of the body, or before an erased rest, some cells tile all of it
     pub all_kept : AllAre (erased_byte p) (drop at body) → (cells : List CellForm) × Tiles s p first cells body
     all_kept clean = go (cases_lt at (length body)) where
       go : (at < length body) ⊎ (length body ≤ at) → (cells : List CellForm) × Tiles s p first cells body
       go (inl some) = (cs ++ Free (first + at) (length body - at) ∷ [], free_kept some clean)
       go (inr all) = (cs, whole_kept all)
 
-    -- the place at which a check fails
+    -- the fault of the place at which a check fails is the first fault of the body
     pub first_here : (f : Fault) → (at < length body) × (AllAre (erased_byte p) (drop at body) → ⊥)
         → cell_verdict s p (first + at) (drop at body) ≡ Err f → IsFirstCellFault s p first body f
     first_here f used is = record {
@@ -100,20 +102,20 @@ module _ (s : FileSystem) (p : Polarity) (first : ℕ) (body : List ℕ) where
       fails = verdict_first s p (first + at) (drop at body) f is;
     }
 
--- the cell that the loop reads
+-- the cell that the loop reads begins at its place
 pub stands_in : {s : FileSystem} {p : Polarity} {first : ℕ} {body rest : List ℕ} {cs : List CellForm} {at : ℕ} {c : CellForm}
     → Upto s p first body cs at → length body % 8 ≡ 0 → rest ≡ drop at body → cell_verdict s p (first + at) rest ≡ Ok c
     → CellStandsAt s p (first + at) c (drop at body)
 stands_in {s} {p} {first} {body} {rest} {cs} {at} {c} k in_eights behind is =
     stands_here s p first body cs at k c in_eights (ap (cell_verdict s p (first + at)) (sym behind) ∙ is)
 
--- a list with a cell more
+-- the forms of the cells so far, and then the form of the cell that is read, are the forms of the new list
 pub more_read : (items new : List Cell) (cell : Cell) (c : CellForm) → cell_form cell ≡ c → new ≡ items ++ cell ∷ []
     → map cell_form items ++ c ∷ [] ≡ map cell_form new
 more_read items new cell c is n =
     sym (ap (λ (x : List Cell). map cell_form x) n ∙ map_push cell_form items cell ∙ ap (λ (d : CellForm). map cell_form items ++ d ∷ []) is)
 
--- what the test at a place says of all that is left
+-- if the test at a place says so, all bytes from there on are erased
 pub rest_free : (e : ℕ) (rest body : List ℕ) (at : ℕ) → rest ≡ drop at body → all_are e rest ≡ true → AllAre e (drop at body)
 rest_free e rest body at behind is = all_are-true e (drop at body) (ap (all_are e) (sym behind) ∙ is)
 
@@ -123,7 +125,7 @@ rest_used e rest body at behind is = grind (arith, common_steps, some_left, leng
 
 -- ---- all tilings
 
--- every tiling goes on where the fault is
+-- every tiling of the body goes on from the place that the cells reach
 goes_on : (s : FileSystem) (p : Polarity) (first : ℕ) (body : List ℕ) (cs ds : List CellForm) (at : ℕ) → Tiles s p first cs (take at body)
     → NoneFree cs → at < length body
     → Tiles s p first ds body → (more : List CellForm) × Tiles s p (first + at) more (drop at body)
@@ -138,7 +140,7 @@ pub only_one : (s : FileSystem) (p : Polarity) (first : ℕ) (body : List ℕ) (
     → Tiles s p first ds body → ds ≡ cs
 only_one s p first body cs ds t t' = one_tiling s p (one_cell s p) (not_empty s p) first ds cs body t' t
 
--- where a check fails there is no tiling
+-- if a check fails at a place that the cells reach, the body has no tiling
 pub none_after : (which : Which) (s : FileSystem) (p : Polarity) (first : ℕ) (body : List ℕ) (f : Fault) (ds : List CellForm)
     → CellFault which s p first body f → Tiles s p first ds body → ⊥
 none_after which s p first body f ds here t =

@@ -1,4 +1,4 @@
--- The first fault of a body is within it, or at its end.
+-- The first fault of a body is within the body, or at its end.
 use Rattle.std.proofs.Common.{◌≡◌, ◌≤◌, ℕ, suc, ◌+◌, List, [], ◌∷◌, length, drop, ap, refl, sym, ◌∙◌, arith, not, Bool, true, false}
 use Rattle.std.specs.Prelude.{Option, Some, None, nat_le, ◌&&◌, ◌==◌, slice_index}
 use Rattle.std.specs.List.{AllByRecursion}
@@ -14,7 +14,7 @@ use Rattle.fv_file.specs.Words.{IsFirstCellFault, cell_checks, file_checks, lead
 use Rattle.fv_file.specs.declared.state.FileState.{FileState}
 use Rattle.fv_file.specs.declared.state.FileState.TheVariants as states
 
--- no run is longer than the bytes
+-- the number of leading bytes of one value is at most the number of bytes
 run_within : (e : ℕ) (r : List ℕ) → leading_count e r ≤ length r
 run_within e [] = omega arith
 run_within e (x ∷ xs) = go (x == e) refl (run_within e xs) where
@@ -23,16 +23,16 @@ run_within e (x ∷ xs) = go (x == e) refl (run_within e xs) where
   go false is low = rw is (omega arith)
 
 module _ (at : ℕ) (r : List ℕ) where
-  -- a check whose fault is within the bytes from a place on
+  -- the fault of a check is within the bytes from a place on, or at their end
   abbrev Low : Check Fault → Type 0
   Low c = c.fault.place.offset ≤ at + length r
 
-  -- of the checks of a file
+  -- the checks of a file have their faults within the bytes from the place on, or at their end
   file_within : (s : FileSystem) (current : Bool) → 24 ≤ length r → AllByRecursion Low (file_checks s current at r)
   file_within s current long =
       (omega (arith, long), (omega (arith, long), (omega arith, (omega (arith, long), (omega (arith, long), (omega (arith, long), tt))))))
 
-  -- of those that a cell's state asks for
+  -- the checks for the state of a cell have their faults there too
   state_within : (o : Option FileState) (s : FileSystem) → 24 ≤ length r → AllByRecursion Low (state_checks o s at r)
   state_within None s long = (omega (arith, long), tt)
   state_within (Some states.Free) s long = tt
@@ -43,7 +43,7 @@ module _ (at : ℕ) (r : List ℕ) where
   state_within (Some states.Marked) s long = file_within s true long
   state_within (Some states.Deleted) s long = file_within s false long
 
-  -- of those of a cell
+  -- the first fault of a cell is within the bytes from its place on, or at their end
   cell_within : (s : FileSystem) (p : Polarity) (f : Fault) → IsFirstFault (cell_checks s p at r) f → f.place.offset ≤ at + length r
   cell_within s p f ([], c, after, is, held, fails, fault) =
       let e : ℕ = erased_byte p in
@@ -62,7 +62,7 @@ module _ (at : ℕ) (r : List ℕ) where
       first_among (λ (g : Fault). g.place.offset ≤ at + length r) (cell_checks s p at r) f
       (low, state_within (state_of p (slice_index r 23)) s long) (d ∷ ds, c, after, is, held, fails, fault)
 
--- of the cells of a body, which begins at a place
+-- the first fault of the cells of a body is within the body, or at its end
 pub body_within : (s : FileSystem) (p : Polarity) (from : ℕ) (body : List ℕ) (f : Fault) → IsFirstCellFault s p from body f
     → f.place.offset ≤ from + length body
 body_within s p from body f first =

@@ -1,5 +1,6 @@
--- Where the checks of a cell hold, the bytes begin with the cell that State and the header name. A file lies within them with its filler,
--- since their number is a multiple of 8. A header that was never finished lies within them by its one check.
+-- If the checks of a cell hold, the bytes begin with the cell that State and the header describe. A file lies within
+-- the bytes with its filler, because their number is a multiple of 8. A header under construction or an invalid header
+-- lies within them by its one check.
 use Rattle.std.proofs.Common.{◌≡◌, ◌≤◌, ◌<◌, ℕ, ◌+◌, ◌-◌, ◌*◌, ◌/◌, ◌%◌, List, length, take, drop, inl, inr, refl, sym, ap, ◌∙◌}
 use Rattle.std.proofs.Common.{subst, arith, Bool, true, false, length-drop}
 use Rattle.std.specs.Prelude.{◌==◌, ◌⊎◌, not, nat_le, slice_index, Option, None, Some, if◌then◌else◌}
@@ -32,7 +33,7 @@ pub record CellStandsAt (system : FileSystem) (polarity : Polarity) (at : ℕ) (
   pub multiple : cell_len c % 8 ≡ 0
   pub cell : IsCell system polarity c (take (cell_len c) r)
 
--- where the bytes begin with a file, they begin with a cell that has the bytes of the file and its filler
+-- if the bytes begin with a file, they begin with a cell that has the bytes of the file and its filler
 filled_stands : (s : FileSystem) (p : Polarity) (st : FileState) (at : ℕ) (r : List ℕ) (c : CellForm) → length r % 8 ≡ 0 → FileAt s p st r
     → is_free c ≡ false → offset_of c ≡ at → cell_len c ≡ up_to_8 (file_size_at r)
     → (IsFilled s p (head_in st r) (payload_at r) (take (cell_len c) r) → cell_len c ≡ length (take (cell_len c) r)
@@ -95,7 +96,7 @@ stub_stands s p at r within state =
     eighth false = refl
     eighth true = refl
 
--- the cell of a state that the bytes show, by its sort
+-- if the checks hold for the sort of a state that the bytes show, the bytes begin with a cell of this sort
 sort_stands : (s : FileSystem) (p : Polarity) (st : FileState) (at : ℕ) (r : List ℕ) → length r % 8 ≡ 0 → 24 ≤ length r
     → StateOf (slice_index r 23) p st → not (bits_of p (slice_index r 23) == 0) ≡ true
     → (k : StateSort) → StatesOf k st → AllHold (sort_checks k s (is_alive st) at r)

@@ -1,4 +1,5 @@
--- What a cell is made of: a file with its filler ends at a multiple of 8, its header and data make up its size, and no cell is empty.
+-- A file with its filler ends at a multiple of 8, the header and the data of a file make up its size, and every cell
+-- has bytes.
 use Rattle.std.proofs.lemmas.Grind.{common_steps}
 use Rattle.std.proofs.Common.{◌≡◌, ◌≤◌, ◌<◌, ◌+◌, ◌*◌, ◌/◌, ◌%◌, ℕ, List, length, sym, ap, ◌∙◌, arith, true, length-append}
 use Rattle.std.specs.Prelude.{slice_index}
@@ -29,7 +30,7 @@ cell_span s p (Dead at len state) u is = is.5
 cell_span s p (Stub at len) u is = is.2
 cell_span s p (Free at len) u is = is.2
 
--- a file has the bytes of its header at least
+-- a file has at least the 24 bytes of a header
 pub file_least : (s : FileSystem) (p : Polarity) (head : FileHead) (payload b : List ℕ) → IsFilled s p head payload b → 24 ≤ length b
 file_least s p head payload b filled = grind (arith, common_steps, length-append, header_least)
 
@@ -53,7 +54,7 @@ made_up s p (Dead at len state) u is = tt
 made_up s p (Stub at len) u is = tt
 made_up s p (Free at len) u is = tt
 
--- a free cell
+-- a free cell has the length of its bytes, and all of them are erased
 pub free_all : (s : FileSystem) (p : Polarity) (c : CellForm) (u : List ℕ) → IsCell s p c u → is_free c ≡ true
     → (c ≡ Free (offset_of c) (length u)) × AllAre (erased_byte p) u
 free_all s p (Valid at head payload) u is f = cc

@@ -1,5 +1,6 @@
--- Where the bytes begin with a cell that is not free, every check of a cell holds, and this cell is read. Its State shows a
--- state of its sort; a file's header is read again from its bytes, and a header that was never finished has the length of its form.
+-- If the bytes begin with a cell that is not free, every check of a cell holds, and this cell is read. Its State shows
+-- a state of its sort. The header of a file is read again from its bytes, and a header under construction or an invalid
+-- header has the length of its form.
 use Rattle.std.proofs.Common.{◌≡◌, ◌≤◌, ℕ, List, ◌++◌, length, inl, inr, refl, sym, ap, ◌∙◌, subst, arith, Bool, true, false}
 use Rattle.std.proofs.Common.{length-append, append_assoc}
 use Rattle.std.specs.Prelude.{◌==◌, ◌⊎◌, ◌≢◌, slice_index, Option, None, Some}
@@ -28,7 +29,7 @@ pub record CellIsRead (system : FileSystem) (polarity : Polarity) (at : ℕ) (c 
   pub checked : first_fault (cell_checks system polarity at r) ≡ None
   pub read : cell_in (state_of polarity (slice_index r 23)) at r ≡ c
 
--- where the bytes show a state of this sort
+-- if the bytes show a state of this sort, and the checks for it hold, the cell is read
 shown : (s : FileSystem) (p : Polarity) (at : ℕ) (c : CellForm) (r : List ℕ) (st : FileState) (k : StateSort) → 24 ≤ length r
     → StateOf (slice_index r 23) p st → sort_of st ≡ k → k ≢ sorts.Erased → AllHold (sort_checks k s (is_alive st) at r)
     → cell_of k at (head_in st r) (payload_at r) ≡ c → CellIsRead s p at c r
@@ -48,7 +49,7 @@ shown s p at c r st k long state sort used all form =
           ∙ ap (λ (j : StateSort). cell_of j at (head_in st r) (payload_at r)) sort ∙ form;
     }
 
--- a file with its filler, whose state has one of the two sorts of files
+-- a file with its filler is read, if its state has one of the two sorts of files
 filled_reads : (s : FileSystem) (p : Polarity) (at : ℕ) (c : CellForm) (head : FileHead) (payload u w : List ℕ) (k : StateSort)
     → IsFilled s p head payload u → sort_of head.state ≡ k → k ≢ sorts.Erased
     → ((alive : Bool) (r : List ℕ) → sort_checks k s alive at r ≡ file_checks s alive at r)

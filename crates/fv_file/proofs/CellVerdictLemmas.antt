@@ -1,6 +1,7 @@
--- What is read at a place is the cell there, and no other. The verdict on the bytes is that of the checks of a cell, so a cell that is read
--- is there, and the fault is that of the first check which does not hold. A cell that is there is read, so two at one place are one, and
--- there is none where a check does not hold.
+-- The cell that is read at a place is the cell there, and no other. The verdict on the bytes is the verdict of the
+-- checks of a cell, so a cell that is read begins there, and the fault is the fault of the first check that does not
+-- hold. Every cell that begins there is read. So two cells at one place are equal, and if a check does not hold, no
+-- cell begins there.
 use Rattle.std.proofs.lemmas.Grind.{common_steps}
 use Rattle.std.proofs.Common.{◌≡◌, ℕ, ◌%◌, List, [], ◌++◌, length, refl, sym, ap, ◌∙◌}
 use Rattle.std.proofs.Common.{subst, arith, Bool, true, false, length-append, append-nil}
@@ -30,7 +31,7 @@ use Rattle.fv_file.proofs.TilingLemmas.{OneCell}
 
 -- ---- the verdict on the bytes at a place
 
--- it is that of the checks for a file
+-- for a file, the verdict is that of the checks of a file
 file_is : (s : FileSystem) (st : FileState) (k : StateSort) (at : ℕ) (r : List ℕ)
     → cell_with k at r (file_verdict s st at r)
     ≡ verdict_by (first_fault (file_checks s (is_alive st) at r)) (cell_of k at (head_in st r) (payload_at r))
@@ -40,7 +41,7 @@ file_is s st k at r = go (first_fault (file_checks s (is_alive st) at r)) where
   go None = refl
   go (Some f) = refl
 
--- for a state of each sort; a state that shows erased bytes is rejected before
+-- for a state of each sort, the verdict is that of the checks of this sort; erased bytes are rejected earlier
 sort_is : (s : FileSystem) (p : Polarity) (st : FileState) (k : StateSort) (at : ℕ) (r : List ℕ) → k ≢ sorts.Erased
     → sort_verdict k st s p at r
     ≡ verdict_by (first_fault (sort_checks k s (is_alive st) at r)) (cell_of k at (head_in st r) (payload_at r))
@@ -49,7 +50,7 @@ sort_is s p st sorts.Unfinished at r used = refl
 sort_is s p st sorts.Dead at r used = file_is s st sorts.Dead at r
 sort_is s p st sorts.Valid at r used = file_is s st sorts.Valid at r
 
--- for the State byte, whether it shows a state or not
+-- for a State byte, whether it shows a state or not, the verdict is that of the checks of the state
 state_is : (s : FileSystem) (p : Polarity) (o : Option FileState) (at : ℕ) (r : List ℕ) → o ≢ Some states.Free
     → state_verdict o s p at r ≡ verdict_by (first_fault (state_checks o s at r)) (cell_in o at r)
 state_is s p None at r used = refl
@@ -57,7 +58,7 @@ state_is s p (Some st) at r used =
     sort_is s p st (sort_of st) at r (λ e. used (ap Some (subst (λ (k : StateSort). StatesOf k st) e (sorted st).states)))
     ∙ ap (λ (cs : List (Check Fault)). verdict_by (first_fault cs) (cell_in (Some st) at r)) (sym ((sorted st).checks s at r))
 
--- for all bytes
+-- for any bytes, the verdict is that of the checks of a cell
 verdict_is : (s : FileSystem) (p : Polarity) (at : ℕ) (r : List ℕ)
     → cell_verdict s p at r ≡ verdict_by (first_fault (cell_checks s p at r)) (cell_in (state_of p (slice_index r 23)) at r)
 verdict_is s p at r = go (nat_lt (length r) 24) refl (bits_of p (slice_index r 23) == 0) refl where
@@ -69,7 +70,7 @@ verdict_is s p at r = go (nat_lt (length r) 24) refl (bits_of p (slice_index r 2
       rw (l, e, le-leb 24 (length r) (ltb-false (length r) 24 l)) (state_is s p (state_of p (slice_index r 23)) at r
       (λ free. cc (e, eq-eqb _ 0 (free_bits p (slice_index r 23) free))))
 
--- so a cell that is read is there, and the fault is the first
+-- so a cell that is read begins there, and a fault is the fault of the first check that does not hold
 pub verdict_stands : (s : FileSystem) (p : Polarity) (at : ℕ) (r : List ℕ) (c : CellForm) → length r % 8 ≡ 0 → cell_verdict s p at r ≡ Ok c
     → CellStandsAt s p at c r
 verdict_stands s p at r c in_eights is =
@@ -92,7 +93,7 @@ no_bits Zeros b e = rw e refl
 erased_refused : (s : FileSystem) (p : Polarity) (at : ℕ) (r : List ℕ) (c : CellForm) → AllAre (erased_byte p) r → CellIsRead s p at c r → ⊥
 erased_refused s p at r c all is = grind (arith, common_steps, and_split, all_hold, leb-true, no_bits, all_at, eq-eqb)
 
--- a free cell, and nothing after it
+-- the bytes of a free cell with nothing after it are erased
 erased_at : (s : FileSystem) (p : Polarity) (c : CellForm) (u w : List ℕ) → IsCell s p c u → is_free c ≡ true → w ≡ []
     → AllAre (erased_byte p) (u ++ w)
 erased_at s p c u w is free none = grind (arith, common_steps, append-nil, free_all)
@@ -118,7 +119,7 @@ one_cell s p c d u v w z is is' o last last' e = go (is_free c) refl (is_free d)
         omega (arith, ap length e, length-append u w, length-append v z, ap length (last f), ap length (last' g)) in
         ((free_all s p c u is f).0 ∙ ap (λ k. Free k (length u)) o ∙ ap (λ k. Free (offset_of d) k) n ∙ sym (free_all s p d v is' g).0, n)
 
--- where a check fails there is no cell
+-- if a check fails, no cell begins there
 pub no_cell : (which : Which) (s : FileSystem) (p : Polarity) (at : ℕ) (r : List ℕ) (f : Fault) (c : CellForm) (u w : List ℕ)
     → Fails which (cell_checks s p at r) f → (AllAre (erased_byte p) r → ⊥)
     → IsCell s p c u → offset_of c ≡ at → r ≡ u ++ w → (is_free c ≡ true → w ≡ []) → ⊥

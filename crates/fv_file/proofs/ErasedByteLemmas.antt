@@ -1,4 +1,4 @@
--- Bytes that are all the same, looked at in one place.
+-- One byte that differs shows that bytes are not all the same.
 use Rattle.std.proofs.Common.{◌≡◌, ℕ, zero, suc, ◌<◌, List, [], ◌∷◌, length, get_or, refl, sym, arith, Bool, true, false}
 use Rattle.fv_base.specs.Words.{AllAre, all_are}
 use Rattle.fv_base.proofs.Laws.{all-all_are, all_are-true}
@@ -8,14 +8,14 @@ all_at e [] i h l = absurd (omega arith)
 all_at e (a ∷ x) zero h l = h.0
 all_at e (a ∷ x) (suc i) h l = all_at e x i h.1 (omega arith)
 
--- a byte that differs is enough
+-- if one byte differs, the test for all bytes is false
 pub not_all : (e : ℕ) (x : List ℕ) (i : ℕ) → i < length x → (get_or x i 0 ≡ e → ⊥) → false ≡ all_are e x
 not_all e x i l differs = go (all_are e x) refl where
   go : (t : Bool) → all_are e x ≡ t → false ≡ all_are e x
   go true is = absurd (differs (all_at e x i (all_are-true e x is) l))
   go false is = sym is
 
--- where the test fails, not all are erased, and something is left
+-- if the test is false, the bytes are not all erased
 pub not_erased : (e : ℕ) (x : List ℕ) → all_are e x ≡ false → AllAre e x → ⊥
 not_erased e x is all = cc (is, all-all_are e x all)
 

@@ -1,5 +1,6 @@
--- A file's checks hold exactly where its bytes are a file. Only the bytes of the header show its fields. Where the checks hold, the header
--- and the data are cut from the bytes by the sizes. Where a file begins the bytes, its header is read again, and each check of it holds.
+-- The checks of a file hold exactly if the bytes begin with a file. Only the bytes of the header decide its fields. If
+-- the checks hold, the header and the data are cut from the bytes by their sizes. If a file begins the bytes, its
+-- header is read again, and each of its checks holds.
 use Rattle.std.proofs.Common.{◌≡◌, ◌≤◌, ◌<◌, ℕ, ◌+◌, ◌-◌, List, ◌++◌, length, take, drop, inl, inr, refl, sym, ap, ◌∙◌, subst, arith, Bool}
 use Rattle.std.proofs.Common.{true, false, length-append, append_assoc}
 use Rattle.std.specs.Prelude.{◌==◌, ◌⊎◌, ◌||◌, not, slice_index}
@@ -29,7 +30,7 @@ front_size : (large : Bool) (h y : List ℕ) → length h ≡ file_header_len la
 front_size false h y l = ap le (field-append_front 20 3 h y (omega arith))
 front_size true h y l = ap le (field-append_front 24 8 h y (omega arith))
 
--- only the header shows the fields
+-- only the bytes of the header decide its fields
 pub front_head : (st : FileState) (h y : List ℕ) → length h ≡ file_header_len_at h → head_in st (h ++ y) ≡ head_in st h
 front_head st h y l =
     let n = header_least (is_large (slice_index h 19)) in
@@ -44,7 +45,7 @@ front_head st h y l =
 
 -- ---- from the checks to the file
 
--- the file of the state that begins the bytes, which are checked
+-- the bytes begin with a file of this state, as the checks say
 pub record FileAt (system : FileSystem) (polarity : Polarity) (state : FileState) (r : List ℕ) : Type 0 where
   pub least : file_header_len_at r ≤ file_size_at r
   pub within : file_size_at r ≤ length r
@@ -117,11 +118,11 @@ file_at s p st at r long state (allowed, (header_within, (header_zero, (size_fit
 
 -- ---- from the file to the checks
 
--- the data of a valid file that is no pad are sound
+-- the data of a valid file that is not a pad are sound
 abbrev pub HasContent : FileHead → List ℕ → Type 0
 HasContent head payload = is_alive head.state ≡ true → (head.kind ≡ pad_kind) ⊎ IsSound head payload
 
--- what is read where bytes begin with a file
+-- bytes that begin with a file are read as this file
 pub record ReadsFile (system : FileSystem) (polarity : Polarity) (head : FileHead) (payload r : List ℕ) : Type 0 where
   pub long : 24 ≤ length r
   pub state : StateOf (slice_index r 23) polarity head.state

@@ -1,4 +1,4 @@
--- What is known of a file that was read: where its data lie, and what fits its header.
+-- The data of a file that was read lie after its header, and the file meets the conditions of a valid file.
 use Rattle.std.proofs.lemmas.Grind.{common_steps}
 use Rattle.std.proofs.Common.{◌≡◌, ◌≢◌, ◌≤◌, ◌<◌, ◌+◌, ◌-◌, ℕ, Bool, true, false, List, ◌++◌, length, take, drop, sym, ap, ◌∙◌, subst}
 use Rattle.std.proofs.Common.{arith, length-append, length-drop, append_assoc}
@@ -13,18 +13,18 @@ use Rattle.fv_file.specs.Words.{IsCell, IsFilled, Valid, attribute_bits, is_larg
 use Rattle.fv_file.specs.declared.head.FileHead.{FileHead}
 use Rattle.fv_file.proofs.FileLemmas.{header_least}
 
--- a file's data are the bytes after its header
+-- the data of a file are the bytes after its header
 pub payload_behind : (s : FileSystem) (p : Polarity) (head : FileHead) (payload b : List ℕ) → IsFilled s p head payload b
     → payload ≡ take (head.size - head.header_len) (drop head.header_len b)
 payload_behind s p head payload b h = grind (arith, common_steps, append_assoc, length-append, drop_at, take_at)
 
--- a file with a short header is short
+-- a file with a short header has less than 0x1000000 bytes
 short_size : (large : Bool) (h : List ℕ) → large ≡ false → length h ≡ file_header_len large → IsBytes h
     → file_size_in large h < 0x1000000
 short_size true h short whole bytes = cc
 short_size false h short whole bytes = field_below 20 3 h bytes (length-take-le 3 (drop 20 h) (omega (arith, whole, length-drop 20 h)))
 
--- what is known of a file in bytes, in at most so many of them
+-- the conditions that the fields and the data of a valid file in at most `limit` bytes meet
 pub record FileRead (system : FileSystem) (limit : ℕ) (head : FileHead) (content : List ℕ) : Type 0 where
   pub name : length (bytes_of head.name) ≡ 16
   pub name_bytes : IsBytes (bytes_of head.name)
@@ -37,7 +37,7 @@ pub record FileRead (system : FileSystem) (limit : ℕ) (head : FileHead) (conte
   pub within : 24 + length content ≤ limit
   pub payload : IsBytes content
 
--- of a cell in at most `limit` bytes
+-- a valid file that is a cell of at most `limit` bytes meets these conditions
 pub cell_read_in : (system : FileSystem) (p : Polarity) (limit at : ℕ) (head : FileHead) (payload x : List ℕ) → IsBytes x
     → length x ≤ limit → IsCell system p (Valid at head payload) x → FileRead system limit head payload
 cell_read_in system p limit at head payload x small most (filled, alive, sound) =

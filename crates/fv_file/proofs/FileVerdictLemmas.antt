@@ -1,4 +1,4 @@
--- The verdict on a file by its checks, up to the first that does not hold.
+-- The verdict on a file is the fault of the first of its checks that does not hold.
 use Rattle.std.proofs.lemmas.Grind.{common_steps}
 use Rattle.std.proofs.Common.{◌≡◌, ◌≤◌, ℕ, ◌+◌, Bool, List, length, true, false, not, refl, arith}
 use Rattle.std.specs.Prelude.{◌&&◌, ◌||◌, nat_le, Ok, Err}
@@ -12,13 +12,13 @@ use Rattle.fv_file.specs.Words.{attributes_at, head_in, is_alive}
 use Rattle.fv_file.specs.declared.state.FileState.{FileState}
 use Rattle.fv_file.specs.inner.CellVerdicts.{file_verdict}
 
--- the data are skipped where they are not checked
+-- the data are skipped if they are not checked
 pub is_skipped : (alive pad : Bool) → (alive && not pad) ≡ false → (not alive || pad) ≡ true
 is_skipped true true h = refl
 is_skipped true false h = cc
 is_skipped false pad h = refl
 
--- what the test of the size says
+-- the test of the size says that the size is in its range
 pub sizes : (low n high : ℕ) (more : Bool) → (nat_le low n && (nat_le n high && more)) ≡ true → (low ≤ n) × (n ≤ high)
 sizes low n high more h = grind (arith, common_steps, and_split, leb-true)
 

@@ -1,5 +1,5 @@
--- The bytes begin with a file exactly where one is read. The verdict on them is that of their checks: where all hold, the header at their
--- start is that of a file, and where a file begins them, all hold.
+-- The bytes begin with a file exactly if one is read. The verdict on the bytes is the verdict of their checks. If all
+-- of them hold, the header at the start is the header of a file, and if a file begins the bytes, all of them hold.
 use Rattle.std.proofs.Common.{◌≡◌, ℕ, List, ◌∷◌, ◌++◌, length, take, drop, inl, inr, refl, sym, ap, ◌∙◌, subst, Bool, true, false}
 use Rattle.std.specs.Prelude.{◌==◌, ◌⊎◌, nat_le, nat_lt, slice_index, Option, None, Some, Result, Ok, Err, IfOk, IfErr, if◌then◌else◌}
 use Rattle.std.proofs.lemmas.Bool.{leb-true, le-leb, ltb-true, ltb-false, eqb-true}
@@ -46,7 +46,7 @@ verify_is s p b = go (nat_lt (length b) 24) refl where
   go true l = rw (l, not_at_most 24 (length b) (ltb-true (length b) 24 l)) refl
   go false l = rw (l, le-leb 24 (length b) (ltb-false (length b) 24 l)) (standing_is s (state_of p (slice_index b 23)) b)
 
--- that of bytes that show the state of a valid file
+-- for bytes that show the state of a valid file, the verdict is that on a file
 pub alive_read : (s : FileSystem) (p : Polarity) (b : List ℕ) (st : FileState) → nat_le 24 (length b) ≡ true
     → state_of p (slice_index b 23) ≡ Some st → is_alive st ≡ true → verify_verdict s p b ≡ file_verdict s st 0 b
 alive_read s p b st long is alive = rw (not_less (length b) 24 (leb-true 24 (length b) long), is, alive) refl

@@ -1,50 +1,50 @@
--- The laws of cells, files and headers that crates above may cite. Each line passes some of them on from where they are proved.
+-- The laws of cells, files and headers that crates above may cite. Each is passed on from the module that proves it.
 
 -- ---- a body and its cells
 
--- a body is tiled in one way; where a check fails there is no tiling; each cell lies within the volume
+-- A body is tiled in one way. If a check fails, there is no tiling. Each cell lies within the volume.
 pub use Rattle.fv_file.proofs.BodyLemmas.{only_one, none_after, all_within}
--- so does the first fault of a body, or it is at its end
+-- The first fault of a body lies within it, or at its end.
 pub use Rattle.fv_file.proofs.CellFaultLemmas.{body_within}
--- there is one, and its condition holds
+-- A body has one first fault, which is also one of the faults that fail.
 pub use Rattle.fv_file.proofs.OneFaultLemmas.{cell_fails, one_cell_fault}
--- a cell has as many bytes as its span says; a file's header and data make up its size
+-- A cell has the length that follows from its fields. The header and the data of a file make up its size.
 pub use Rattle.fv_file.proofs.CellPartLemmas.{cell_span, made_up}
--- one tiling at most; one more cell after cells that are not free
+-- There is at most one tiling. Cells that are not free, and one more cell, tile the joined bytes.
 pub use Rattle.fv_file.proofs.TilingLemmas.{OneCell, NotEmpty, one_tiling, one_more, none_more}
--- tilings are joined; there are no more cells than bytes
+-- Tilings are joined. There are at most as many cells as bytes.
 pub use Rattle.fv_file.proofs.TiledCellLemmas.{joined, cells_few}
--- a cell's data are the part of the volume after its header
+-- The data of a cell are the part of the volume after its header.
 pub use Rattle.fv_file.proofs.TiledCellLemmas.{IsPayloadIn, tiled_payloads, body_payloads}
--- each file of a tiling of bytes
+-- Each valid file in a tiling of bytes meets the conditions of `FileRead`.
 pub use Rattle.fv_file.proofs.TiledCellLemmas.{IsRead, tiles_read}
 -- ---- a file
 
--- the data are after the header; what is known of a file in bytes
+-- The data of a file are after its header. A valid file in bytes meets the conditions of `FileRead`.
 pub use Rattle.fv_file.proofs.FileReadLemmas.{payload_behind, FileRead, cell_read}
--- a header has at least 24 bytes
+-- A header has at least 24 bytes.
 pub use Rattle.fv_file.proofs.FileLemmas.{header_least}
 -- ---- attribute bits
 
--- bits without bit 0x01 are even; with it they are those of a large header
+-- Attributes without bit 0x01 are even. With it, they are those of a large header.
 pub use Rattle.fv_file.proofs.FileAttributeLemmas.{small_even, set_large}
--- with the bit of the form, the bits say the form
+-- Attributes whose bit 0x01 is set for a large header, and clear for a short one, say the form of the header.
 pub use Rattle.fv_file.proofs.NewHeaderLemmas.{with_large_is}
--- the other bits stay where bit 0x01 is set as the form wants it
+-- Setting or clearing bit 0x01 for the form of the header does not change the other bits.
 pub use Rattle.fv_file.proofs.FileAttributeLemmas.{fixed_with, summed_with, alignment_with, with_large_small}
--- the other bits stay where bit 0x01 is cleared
+-- Attributes that have bit 0x01 clear are unchanged if it is cleared.
 pub use Rattle.fv_file.proofs.FileAttributeLemmas.{without_short}
 -- ---- headers that are written
 
--- they are so many bytes
+-- A written header is bytes, and has the length of its form.
 pub use Rattle.fv_file.proofs.NewHeaderBytesLemmas.{state_small, bytes_header, length-header}
--- they are read again as their fields, and with data and filler they are files and pads
+-- Written headers are read again as their fields, and with data and filler they are files and pads.
 pub use Rattle.fv_file.proofs.NewHeaderLemmas.{complement_small, file_written, pad_written, head_of_file, head_of_pad}
--- no other bytes are the header of these fields
+-- No other bytes are the header of these fields.
 pub use Rattle.fv_file.proofs.NewHeaderLemmas.{only_written, only_file, only_pad}
--- it is decided: one of the two holds
+-- Cells tile a body, or it has a first fault.
 pub use Rattle.fv_file.proofs.DecidedLemmas.{body_decided}
--- taking marks of fixed files away does not change the number of bytes
+-- Removing marks of fixed files does not change the number of bytes.
 pub use Rattle.fv_file.proofs.UnmarkLemmas.{length-unmarks}
--- all of them are taken away in one way
+-- There is one way to remove all marks.
 pub use Rattle.fv_file.proofs.UnmarkLemmas.{NoneFixed, tiled_unfixed, fault_unfixed, one_unmarked}

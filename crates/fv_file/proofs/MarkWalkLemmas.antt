@@ -1,4 +1,5 @@
--- A walk over a body that has its marks: the body without the marks up to a place, and with the same bytes from there on.
+-- A walk over a body with fixed files removes their marks up to a place, and leaves the bytes from there on as they
+-- are.
 use Rattle.std.proofs.Common.{◌≡◌, ◌≤◌, ◌<◌, ℕ, ◌+◌, ◌%◌, List, length, drop, refl, sym, ap, ◌∙◌, subst, arith, inl, inr}
 use Rattle.std.specs.Prelude.{◌⊎◌, slice_index, slice_set, Ok, Err, ◌-◌}
 use Rattle.std.proofs.lemmas.List.{drop-drop, drop-set-lt}
@@ -13,7 +14,7 @@ use Rattle.fv_file.proofs.UnmarkLemmas.{Unmarked, MarkStep, unmarked_begins, one
 use Rattle.fv_file.proofs.BodyLemmas.{all_kept}
 use Rattle.fv_file.proofs.MarkedFileLemmas.{drop-unmarked}
 
--- the marks up to a place are taken away in `less`, which has the same bytes as the body from there on
+-- the marks up to a place are removed in `less`, which has the same bytes as the body from there on
 pub record Walked (s : FileSystem) (p : Polarity) (first : ℕ) (body : List ℕ) (at : ℕ) : Type 0 where
   pub less : List ℕ
   pub so_far : Unmarked s p first body less at
@@ -27,7 +28,7 @@ walk_begins s p first body = record {
 }
 
 module _ (s : FileSystem) (p : Polarity) (first : ℕ) (body : List ℕ) (at : ℕ) (k : Walked s p first body at) where
-  -- the end: the body's, or a free rest
+  -- the walk ends at the end of the body, or before an erased rest, and cells tile the body without its marks
   pub walk_ends : AllAre (erased_byte p) (drop at body)
       → (places : List ℕ) × (o : List ℕ) × Unmarks s p first places body o × ((cells : List CellForm) × Tiles s p first cells o)
   walk_ends clean =
@@ -35,7 +36,7 @@ module _ (s : FileSystem) (p : Polarity) (first : ℕ) (body : List ℕ) (at : �
 
   module _ (used : (at < length body) × (AllAre (erased_byte p) (drop at body) → ⊥)) (b : List ℕ)
       (step : OneMarkLess s p (first + at) (drop at body) b) where
-    -- the body with one mark less, or as many
+    -- the body is as it was, or the mark at the place is removed
     stepped : OneMarkLess s p (first + at) (drop at body) b → (new : List ℕ) × MarkStep s p first k.less new at × (drop at new ≡ b)
     stepped (inl e) = (k.less, inl refl, k.same ∙ sym e)
     stepped (inr (is, e)) = (
@@ -53,7 +54,7 @@ module _ (s : FileSystem) (p : Polarity) (first : ℕ) (body : List ℕ) (at : �
     so_far : Unmarked s p first body new at
     so_far = one_less s p first body k.less new at k.so_far used_still (stepped step).1
 
-    -- a cell further
+    -- after the cell at the place, the marks up to the next place are removed
     pub walk_on : (len : ℕ) (c : CellForm) → length body % 8 ≡ 0 → cell_verdict s p (first + at) b ≡ Ok c → len ≡ cell_len c
         → (b ≡ drop at body) ⊎ (19 < len) → Walked s p first body (at + len) × (0 < len) × (at + len ≤ length body)
     walk_on len c in_eights is l past =
@@ -77,7 +78,7 @@ module _ (s : FileSystem) (p : Polarity) (first : ℕ) (body : List ℕ) (at : �
             ∙ drop-set-lt len (slice_set r 16 ((slice_index r 16 + 4) % 256)) 19 (slice_index r 19 - 4) more
             ∙ drop-set-lt len r 16 ((slice_index r 16 + 4) % 256) (omega (arith, more))
 
-    -- a fault
+    -- a fault at the place is the first fault of the body without the marks before it
     pub walk_stops : (f : Fault) → cell_verdict s p (first + at) b ≡ Err f
         → (places : List ℕ) × (o : List ℕ) × Unmarks s p first places body o × IsFirstCellFault s p first o f
     walk_stops f is = (

@@ -1,6 +1,8 @@
--- A fixed file and its mark. 1. Without the mark the bytes are the same but for two, and their sum is the same. 2. So the header is right as
--- it was, and the data are checked as they were. 3. The header of a file whose fault is Fixed is right. 4. So without the mark it is a cell,
--- or its fault is FileSum.
+-- A fixed file without its mark is a cell, or its fault is FileSum. The steps:
+-- 1. Without the mark, all bytes but two are the same, and they have the same sum.
+-- 2. So the header is right as before, and the data are checked as before.
+-- 3. The header of a file whose fault is Fixed is right.
+-- 4. So the file without its mark is a cell, or its fault is FileSum.
 use Rattle.std.proofs.Common.{◌≡◌, ◌≤◌, ◌<◌, ℕ, ◌+◌, ◌-◌, ◌%◌, List, [], ◌∷◌, ◌++◌, length, take, drop, refl, sym, ap, ◌∙◌, subst, arith}
 use Rattle.std.proofs.Common.{Bool, true, false}
 use Rattle.std.specs.Prelude.{◌≢◌, ◌||◌, ◌==◌, if◌then◌else◌, not, nat_le, nat_lt, slice_index, slice_set, sum, Option, None, Some, Ok, Err, Result}
@@ -35,7 +37,7 @@ drop-unmarked at b =
     (drop-set-add at (slice_set b (at + 16) ((slice_index b (at + 16) + 4) % 256)) 19 (slice_index b (at + 19) - 4)
     ∙ ap (λ (l : List ℕ). slice_set l 19 (slice_index b (at + 19) - 4)) (drop-set-add at b 16 ((slice_index b (at + 16) + 4) % 256)))
 
--- the sum of the bytes around the attributes
+-- the five bytes from Type on sum to 4 less if the attributes are less by 4
 less_four : (d : List ℕ) → 2 ≤ length d → 4 ≤ slice_index d 1 → sum (take 5 (slice_set d 1 (slice_index d 1 - 4))) + 4 ≡ sum (take 5 d)
 less_four [] l h = absurd (omega (arith, l))
 less_four (x ∷ []) l h = absurd (omega (arith, l))
@@ -153,7 +155,7 @@ module _ (r : List ℕ) (long : 24 ≤ length r) (fixed : is_fixed (attributes_a
 
 -- ---- 3. the header of a file whose fault is Fixed
 
--- no other fault is Fixed
+-- a fault of another kind is not Fixed
 other_kind : (k : FaultKind) (at : ℕ) (f : Fault) → f ≡ outer_fault k at → f.kind ≡ kinds.Fixed → k ≡ kinds.Fixed
 other_kind k at f is kind = sym (ap (λ (g : Fault). g.kind) is) ∙ kind
 
@@ -195,7 +197,7 @@ module _ (s : FileSystem) (st : FileState) (at : ℕ) (r : List ℕ) (f : Fault)
 
 -- ---- 4. the file without its mark
 
--- the verdict on a valid file comes from its checks
+-- the verdict on a valid file is the verdict of its checks
 valid_verdict : (s : FileSystem) (p : Polarity) (st : FileState) (at : ℕ) (r : List ℕ) → 24 ≤ length r → state_of p (state_at r) ≡ Some st
     → sort_of st ≡ sorts.Valid → cell_verdict s p at r ≡ cell_with sorts.Valid at r (file_verdict s st at r)
 valid_verdict s p st at r long state sort = go (nat_lt (length r) 24) refl where
@@ -203,7 +205,7 @@ valid_verdict s p st at r long state sort = go (nat_lt (length r) 24) refl where
   go true l = absurd (omega (arith, long, ltb-true (length r) 24 l))
   go false l = rw (l, state, sort) refl
 
--- the state of a file whose fault is Fixed
+-- the state and the header of a file whose fault is Fixed
 pub record IsMarked (s : FileSystem) (p : Polarity) (at : ℕ) (r : List ℕ) : Type 0 where
   pub state : FileState
   pub shown : state_of p (state_at r) ≡ Some state
@@ -268,17 +270,17 @@ module _ (s : FileSystem) (p : Polarity) (at : ℕ) (r : List ℕ) (f : Fault) (
       valid_verdict s p marked.state at (unmarked 0 r) (omega (arith, long, length-unmarked 0 r))
       (ap (state_of p) (state_same r long fixed) ∙ marked.shown) marked.sort
 
-  -- the size covers the header, and lies within the bytes
+  -- the size covers the header, and the file lies within the bytes
   pub size_within : (file_header_len_at r ≤ file_size_at r) × (file_size_at r ≤ length r)
   size_within = sizes _ _ _ _ marked.file.right.size
 
-  -- its file sum is wrong
+  -- if its file checksum is wrong, its fault without the mark is FileSum
   pub wrong_without : has_file_sum r ≡ false → cell_verdict s p at (unmarked 0 r) ≡ Err (outer_fault kinds.FileSum (at + 17))
   wrong_without wrong =
       verdict ∙ ap (cell_with sorts.Valid at (unmarked 0 r))
       (data_wrong s marked.state at (unmarked 0 r) right checked (moves r long fixed) (file_sum_same r long fixed ∙ wrong))
 
-  -- it is a cell
+  -- if its file checksum is right, the file without its mark is a cell
   pub cell_without : has_file_sum r ≡ true
       → (c : CellForm) × (cell_verdict s p at (unmarked 0 r) ≡ Ok c) × (cell_len c ≡ up_to_8 (file_size_at r)) × (19 < up_to_8 (file_size_at r))
   cell_without sound =

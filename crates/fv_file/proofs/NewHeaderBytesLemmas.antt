@@ -1,4 +1,4 @@
--- A header as it is written: so many bytes, each of them a byte.
+-- A written header has the length of its form, and each element is a byte.
 use Rattle.std.proofs.Common.{◌≡◌, ◌<◌, ◌+◌, ℕ, Bool, true, false, List, [], ◌∷◌, ◌++◌, length, refl, ap, ◌∙◌, arith, length-append}
 use Rattle.std.specs.Prelude.{sum}
 use Rattle.fv_base.specs.Words.{IsBytes, le_bytes}

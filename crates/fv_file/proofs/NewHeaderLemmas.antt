@@ -1,11 +1,13 @@
--- Headers as they are written, and read again. The steps:
+-- A header that is written is read again as its fields, and no other bytes are the header of these fields. The steps:
 -- 1. A header is its name, and then fields at known places (`header_parts`, `at_behind`).
--- 2. The header sum is added to the sum of the other bytes (`header_sum_is`), so one byte makes it right: the complement
---    (`complement_right`, `complement_only`).
--- 3. Its fields are read again (`size_is`, `fields_are`), so with the right sum it is the header of these fields (`written_is`).
--- 4. With data and filler it is the header of a file, or of a pad (`head_of_file`, `head_of_pad`, `file_written`, `pad_written`).
--- 5. Back: bytes that are the header of some fields are the bytes written for them (`form_of`, `only_written`), of a file and of a pad
---    (`only_file`, `only_pad`).
+-- 2. The header checksum is added to the sum of the other bytes (`header_sum_is`), so one byte makes the sum 0: the
+--    complement (`complement_right`, `complement_only`).
+-- 3. The fields are read again (`size_is`, `fields_are`). So with the right header checksum, the bytes are the header
+--    of these fields (`written_is`).
+-- 4. With data and filler, it is the header of a file or of a pad (`head_of_file`, `head_of_pad`, `file_written`,
+--    `pad_written`).
+-- 5. Conversely, bytes that are the header of some fields are the bytes that are written for them (`form_of`,
+--    `only_written`), for a file and for a pad (`only_file`, `only_pad`).
 use Rattle.std.proofs.lemmas.Grind.{common_steps}
 use Rattle.std.proofs.Common.{◌≡◌, ◌≤◌, ◌<◌, ◌+◌, ◌/◌, ◌%◌, ◌^◌, ℕ, Bool, true, false, List, [], ◌∷◌, ◌++◌, length, take, drop, refl, sym}
 use Rattle.std.proofs.Common.{ap, ◌∙◌, subst, arith, append_assoc, length-append, length-drop, drop-drop}
@@ -36,13 +38,13 @@ use Rattle.fv_file.specs.declared.state.FileState.TheVariants as states
 use Rattle.fv_file.proofs.FileAttributeLemmas.{set_large}
 use Rattle.fv_file.proofs.FileLemmas.{header_least}
 
--- the eight bytes of a number, as they are written
+-- the eight bytes of a number, in the order in which they are written
 pub le_bytes_8-low_first : (n : ℕ) → le_bytes 8 n ≡ bytes_low_first 0 8 n
 le_bytes_8-low_first n = rw (shr-shr n 8 8, shr-shr n 16 8, shr-shr n 24 8, shr-shr n 32 8, shr-shr n 40 8, shr-shr n 48 8)
 
 -- ---- a header in parts
 
--- the number in the field for a short size, and the bytes after State
+-- the number in the Size field: zero in a large header, and otherwise the size
 abbrev short_size : Bool → ℕ → ℕ
 short_size true size = 0
 short_size false size = size
@@ -51,17 +53,17 @@ abbrev long_size : Bool → ℕ → List ℕ
 long_size true size = le_bytes 8 size
 long_size false size = []
 
--- what a size is below
+-- the number that the size is below
 abbrev size_limit : Bool → ℕ
 size_limit true = 2 ^ 64
 size_limit false = 2 ^ 24
 
--- the bytes after the name
+-- the bytes of a header after the name
 abbrev behind_name : ℕ → ℕ → ℕ → ℕ → ℕ → ℕ → List ℕ → List ℕ
 behind_name header_sum file_sum kind attributes short state long =
     header_sum ∷ file_sum ∷ kind ∷ attributes ∷ (le_bytes 3 short ++ (state ∷ long))
 
--- the header of these fields, the bytes after its name, and the same fields with the form
+-- the bytes of a header with these fields
 abbrev spelled : FileHead → Bool → ℕ → List ℕ
 spelled h large state =
     header_with h.header_sum h.file_sum (bytes_of h.name) h.kind (attribute_bits h.attributes) h.size large state
@@ -83,7 +85,7 @@ header_parts h true state =
 header_parts h false state =
     rejoined (bytes_of h.name) (h.header_sum ∷ h.file_sum ∷ h.kind ∷ attribute_bits h.attributes ∷ []) (le_bytes 3 h.size) (state ∷ []) []
 
--- places after a name
+-- byte 16 + k after a name of 16 bytes is byte k of the bytes after the name
 at_behind : (k : ℕ) (name rest : List ℕ) → length name ≡ 16 → slice_index (name ++ rest) (16 + k) ≡ slice_index rest k
 at_behind k name rest long = grind (arith, common_steps, get_or-append-add)
 
@@ -105,7 +107,8 @@ sum_parts name l a b c d e f g h =
     turned : (s t a b c d e f g h : ℕ) → s + (sum (a ∷ b ∷ c ∷ d ∷ e ∷ f ∷ g ∷ h ∷ []) + t) ≡ s + (a + b + c + d + e + f + g + h) + t
     turned s t a b c d e f g h = omega arith
 
--- the header sum counts by itself, file sum and State as zero
+-- the sum of a header, with file checksum and State taken as zero, is the sum of its other bytes plus the header
+-- checksum
 sum_apart : (name l : List ℕ) (a b c d e f g h : ℕ) → length name ≡ 16
     → header_sum_of (name ++ (a ∷ b ∷ c ∷ d ∷ e ∷ f ∷ g ∷ h ∷ l)) ≡ (sum (name ++ (0 ∷ 0 ∷ c ∷ d ∷ e ∷ f ∷ g ∷ 0 ∷ l)) + a) % 256
 sum_apart name l a b c d e f g h long =
@@ -121,7 +124,7 @@ sum_apart name l a b c d e f g h long =
         → w ≡ s + (0 + 0 + c + d + e + f + g + 0) + t → x + y + z ≡ w + a
     added x y z w s t a c d e f g p q r v = omega arith
 
--- the sum of a header, with both sums and State zero
+-- the sum of the bytes of a header with both checksums and State zero
 abbrev bare_sum : FileHead → Bool → ℕ
 bare_sum h large = sum (spelled (record h { header_sum = 0; file_sum = 0 }) large 0)
 
@@ -134,7 +137,7 @@ header_sum_is h large state long =
     (short / 256 % 256) (short / 256 / 256 % 256) state long
     ∙ ap (λ (xs : List ℕ). (sum xs + h.header_sum) % 256) (sym (header_parts (record h { header_sum = 0; file_sum = 0 }) large 0)))
 
--- the complement makes it right, and no other byte does
+-- the complement of a sum makes it 0 modulo 256, and no other byte does
 complement_right : (n : ℕ) → (n + complement n) % 256 ≡ 0
 complement_right n = omega arith
 
@@ -146,7 +149,7 @@ complement_small n = omega arith
 
 -- ---- a header, read
 
--- the size
+-- the size of a written header is read again
 size_is : (h : FileHead) (large : Bool) (state : ℕ) → length (bytes_of h.name) ≡ 16 → h.size < size_limit large
     → file_size_in large (bytes_of h.name ++ rest_of h large state) ≡ h.size
 size_is h true state long small =
@@ -159,7 +162,7 @@ zero_size : (h : FileHead) (large : Bool) (state : ℕ) → length (bytes_of h.n
 zero_size h true state long is = ap (λ (xs : List ℕ). le (take 3 xs)) (drop_behind 4 (bytes_of h.name) (rest_of h true state) long)
 zero_size h false state long is = cc
 
--- the fields
+-- the fields of a file header, by their values
 abbrev fields : List ℕ → ℕ → ℕ → ℕ → ℕ → ℕ → ℕ → FileHead
 fields name kind attributes size header_len header_sum file_sum = record {
   name = record { bytes = name };
@@ -193,13 +196,13 @@ length_is : (h : FileHead) (large : Bool) (state : ℕ) → length (bytes_of h.n
 length_is h true state long = length-append (bytes_of h.name) (rest_of h true state) ∙ ap (λ (n : ℕ). n + 16) long
 length_is h false state long = length-append (bytes_of h.name) (rest_of h false state) ∙ ap (λ (n : ℕ). n + 8) long
 
--- the State byte of a new file
+-- the State byte of a new file shows that its data are valid
 state_is : (polarity : Polarity) → StateOf (state_byte polarity) polarity states.DataValid
 unfolding state_of
 state_is Ones = refl
 state_is Zeros = refl
 
--- a header with a right sum is that of its fields
+-- a header with the right header checksum is the new header of its fields
 written_with : (polarity : Polarity) (h : FileHead) (large : Bool) → length (bytes_of h.name) ≡ 16
     → is_large (attribute_bits h.attributes) ≡ large → h.size < size_limit large → (bare_sum h large + h.header_sum) % 256 ≡ 0
     → IsBytes (spelled h large (state_byte polarity)) → IsNewHeader polarity (formed h large) (spelled h large (state_byte polarity))
@@ -223,12 +226,12 @@ written_with polarity h large long is small right bytes =
     } in
     subst (IsNewHeader polarity (formed h large)) (sym parts) written
 
--- the header sum of a header
+-- the header checksum of a header is byte 16
 sum_at : (h : FileHead) (large : Bool) (state : ℕ) → length (bytes_of h.name) ≡ 16 → slice_index (spelled h large state) 16 ≡ h.header_sum
 sum_at h large state long =
     ap (λ (b : List ℕ). slice_index b 16) (header_parts h large state) ∙ at_behind 0 (bytes_of h.name) (rest_of h large state) long
 
--- a header with its right sum is read again as its fields
+-- the bytes of a header with the right header checksum, which are read again as its fields
 abbrev right_bytes : FileHead → Bool → ℕ → List ℕ
 right_bytes h large state = header_bytes h.file_sum (bytes_of h.name) h.kind (attribute_bits h.attributes) h.size large state
 
@@ -275,7 +278,7 @@ head_of_pad polarity head h written alive pad short = λ system at payload fille
 
 -- ---- files and pads
 
--- the bits with which a header is written say its form
+-- attributes that are written for the form of a header say this form
 pub with_large_is : (large : Bool) (attributes : ℕ) → is_large attributes ≡ false → is_large (with_large large attributes) ≡ large
 with_large_is true attributes short = set_large attributes short
 with_large_is false attributes short = short
@@ -283,7 +286,7 @@ with_large_is false attributes short = short
 size_small : (data_len : ℕ) → data_len ≤ data_limit → file_header_len (needs_large data_len) + data_len < size_limit (needs_large data_len)
 size_small data_len most = grind (arith, common_steps, nat_tests)
 
--- the bytes of the header of a file
+-- the bytes of the new header of a file
 pub file_head_is : (polarity : Polarity) (name : Guid) (kind : ℕ) (attributes : FileAttributes) (data_len file_sum : ℕ) (header : NewHeader)
     → is_large (attribute_bits attributes) ≡ false
     → header ≡ file_header name kind attributes data_len file_sum
@@ -312,7 +315,7 @@ pad_written polarity size b most bytes is =
 
 -- ---- no other bytes are the header of these fields
 
--- bytes in parts
+-- bytes of at least 24 are a name, seven fields, and the bytes after State
 parts_of : (b : List ℕ) → IsBytes b → 24 ≤ length b
     → b ≡ take 16 b
     ++ behind_name (slice_index b 16) (slice_index b 17) (slice_index b 18) (slice_index b 19) (le_at 20 3 b) (slice_index b 23) (drop 24 b)
@@ -340,7 +343,7 @@ long_is true b size small whole is =
     ∙ ap (le_bytes 8) (sym is)
 long_is false b size small whole is = drop_all 24 b (omega (arith, whole))
 
--- bytes that are the header of these fields have this form
+-- bytes that are the header of these fields are the bytes that are written for them
 form_of : (polarity : Polarity) (head : FileHead) (b : List ℕ) → IsNewHeader polarity head b
     → b ≡ spelled head (is_large (attribute_bits head.attributes)) (state_byte polarity)
 form_of polarity head b written =
@@ -380,7 +383,7 @@ only_written polarity head b written =
     form ∙ ap (λ (n : ℕ). spelled (record head { header_sum = n }) large (state_byte polarity))
     (complement_only (bare_sum head large) head.header_sum small right)
 
--- the header of a file of these fields, and that of a pad, is no other
+-- no other bytes are the header of a file with these fields, or the header of a pad
 pub only_file : (polarity : Polarity) (name : Guid) (kind : ℕ) (attributes : FileAttributes) (data_len file_sum header_sum : ℕ) (h : List ℕ)
     → is_large (attribute_bits attributes) ≡ false
     → IsNewHeader polarity (file_fields name kind attributes data_len file_sum header_sum) h

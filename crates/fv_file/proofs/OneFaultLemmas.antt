@@ -1,5 +1,5 @@
--- A body has one first fault of its cells: no fault of a cell is before the end of cells that tile (`cell_later`). Its condition holds
--- (`cell_fails`).
+-- A body has one first fault of its cells, because no fault of a cell is before the end of cells that tile
+-- (`cell_later`). The first fault is also one of the faults that fail (`cell_fails`).
 use Rattle.std.proofs.lemmas.Grind.{common_steps}
 use Rattle.std.proofs.Common.{◌≡◌, ◌<◌, ℕ, ◌+◌, ◌-◌, List, [], ◌∷◌, ◌++◌, length, take, drop, sym, ap, ◌∙◌, subst, arith, append_assoc}
 use Rattle.std.proofs.lemmas.List.{take-append-drop, length-take-le}
@@ -17,13 +17,13 @@ pub cell_fails : (s : FileSystem) (p : Polarity) (from : ℕ) (body : List ℕ) 
     → CellFault Any s p from body f
 cell_fails s p from body f first = grind (arith, common_steps, any_fails)
 
--- where none of joined cells is free, none of the last is
+-- if none of the joined cells is free, none of the last of them is
 none_free_behind : (cs ds : List CellForm) → NoneFree (cs ++ ds) → NoneFree ds
 none_free_behind [] ds h = h
 none_free_behind (c ∷ cs) ds h = none_free_behind cs ds h.1
 
 module _ (s : FileSystem) (p : Polarity) (first : ℕ) (body : List ℕ) where
-  -- a fault of a cell is not before the end of cells that tile
+  -- the fault of a cell is not before the end of cells that tile
   cell_later : (f g : Fault) → (x : IsFirstCellFault s p first body f) → (y : IsFirstCellFault s p first body g) → x.at < y.at → ⊥
   cell_later f g x y l =
       let r = cut s p (one_cell s p) (not_empty s p) first x.cells y.cells (take x.at body) part x.tiled x.none_free whole in

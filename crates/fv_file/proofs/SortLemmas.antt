@@ -1,5 +1,5 @@
--- What the sort of a state decides: which states have it, whether a file of it is valid, whether its header is whole, and the checks of its
--- cell. The seven states are looked at only here; all else goes by the four sorts.
+-- The sort of a state decides which checks a cell has, whether a file of this state is valid, and whether its header is
+-- complete. The seven states are distinguished only in this module; all others distinguish the four sorts.
 use Rattle.std.proofs.Common.{◌≡◌, ℕ, List, inl, inr, refl, false, true}
 use Rattle.std.specs.Prelude.{◌⊎◌, Some}
 use Rattle.fv_base.specs.declared.flash.FileSystem.{FileSystem}

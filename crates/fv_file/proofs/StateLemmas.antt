@@ -1,4 +1,4 @@
--- The states that a State byte shows. A byte that shows the state Free has no bit that was written.
+-- A State byte shows at most one state. If it shows the state Free, no bit of it was written.
 use Rattle.std.proofs.Common.{◌≡◌, ℕ, ap, arith}
 use Rattle.std.specs.Prelude.{Some}
 use Rattle.std.proofs.lemmas.Bool.Decides.{nat_tests}

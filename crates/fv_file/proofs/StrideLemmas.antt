@@ -1,7 +1,9 @@
--- How far it is from the header of a cell to the next one: by the length of the header if it was never finished, else by the size of the file.
--- 1. The next header is after the cell, for a file, a stub, and so each cell that is not free (`file_stride`, `stub_stride`, `cell_stride`).
+-- The distance from the header of a cell to the next header is the length of the header for a stub, and otherwise the
+-- size of the file, rounded up to 8. The steps:
+-- 1. The next header begins at the end of the cell: of a file, of a stub, and so of each cell that is not free
+--    (`file_stride`, `stub_stride`, `cell_stride`).
 -- 2. So one step is one cell (`one_less`), and the count goes up by one (`one_counted`).
--- 3. At the end one cell is left if any bytes are, a free one (`free_left`), so all are counted (`all_counted`).
+-- 3. At the end one free cell is left if any bytes are left (`free_left`), so all cells are counted (`all_counted`).
 use Rattle.std.proofs.Common.{◌≡◌, ◌≤◌, ◌<◌, ℕ, ◌+◌, List, [], ◌∷◌, ◌++◌, length, drop, inl, inr, refl, sym, ap, ◌∙◌, subst, arith}
 use Rattle.std.proofs.Common.{Bool, true, false, length-append, append_assoc, append-nil}
 use Rattle.std.specs.Prelude.{◌==◌, ◌≢◌, ◌⊎◌, not, nat_le, slice_index, Option, Some}
@@ -25,18 +27,18 @@ use Rattle.fv_file.proofs.FileLemmas.{header_least, front_byte, file_reads}
 use Rattle.fv_file.proofs.SortLemmas.{sorted}
 use Rattle.fv_file.proofs.TilingLemmas.{no_rest}
 
--- by whether the header at the start of r was never finished
+-- the distance, by whether the header at the start of r is that of a stub
 abbrev pub stride_by : Bool → List ℕ → ℕ
 stride_by true r = file_header_len_at r
 stride_by false r = up_to_8 (file_size_at r)
 
--- the next header is n bytes from this one
+-- the next header begins n bytes after this one
 pub record Stride (polarity : Polarity) (r : List ℕ) (n : ℕ) : Type 0 where
   pub header : file_header_len_at r ≤ n
   pub within : n ≤ length r
   pub is : stride_by (is_unfinished (state_of polarity (slice_index r 23))) r ≡ n
 
--- a file that was deleted, and one whose data were never finished, have a whole header
+-- a deleted file, and a file whose header is valid but not its data, have a complete header
 dead_finished : (st state : FileState) → st ≡ state → (state ≡ states.HeaderValid) ⊎ (state ≡ states.Deleted)
     → is_unfinished (Some st) ≡ false
 dead_finished st state e (inl k) = ap (λ (x : FileState). is_unfinished (Some x)) (e ∙ k)
@@ -70,7 +72,7 @@ stub_stride p u w st unfinished state len =
       is = ap (λ (o : Option FileState). stride_by (is_unfinished o) (u ++ w)) (ap (state_of p) e23 ∙ state) ∙ ap (λ (t : Bool). stride_by t (u ++ w)) unfinished ∙ n;
     }
 
--- where a cell that is not free begins the bytes, the next header is after it
+-- if a cell that is not free begins the bytes, the next header begins at its end
 pub cell_stride : (s : FileSystem) (p : Polarity) (c : CellForm) (u w : List ℕ) → IsCell s p c u → is_free c ≡ false
     → Stride p (u ++ w) (length u)
 cell_stride s p (Valid at head payload) u w is f =
@@ -85,12 +87,13 @@ cell_stride s p (Free at len) u w is f = cc
 
 -- ---- the count of the cells
 
--- after so many cells, the rest has all others
+-- the cells that were counted, and the cells of the rest, are as many as all cells
 abbrev pub Counted : Polarity → ℕ → List ℕ → List ℕ → Type 0
 Counted p count body rest = (s : FileSystem) (first : ℕ) (cs : List CellForm) → Tiles s p first cs body
     → (at : ℕ) × (ds : List CellForm) × Tiles s p at ds rest × (count + length ds ≡ length cs)
 
--- one cell more: the state of the next header is not erased, so the cell there is not free
+-- the State byte of the next header is not erased, so the cell there is not free, and the other cells tile the bytes
+-- after it
 one_less : (s : FileSystem) (p : Polarity) (at n : ℕ) (ds : List CellForm) (rest after : List ℕ) → Tiles s p at ds rest
     → 24 ≤ length rest → slice_index rest 23 ≢ erased_byte p
     → ((c : CellForm) (u w : List ℕ) → rest ≡ u ++ w → IsCell s p c u → is_free c ≡ false → n ≡ length u)
@@ -118,7 +121,7 @@ one_counted p count n body rest after counted long used stride behind = λ s fir
     let m = one_less s p k.0 n k.1 rest after k.2 long used (stride s) behind in
     (m.0, m.1, m.2, omega (arith, m.3, k.3))
 
--- where a cell that is not free begins, there are 24 bytes, and the state is not erased
+-- if a cell that is not free begins the bytes, there are 24 bytes, and the State byte is not erased
 cell_begins : (s : FileSystem) (p : Polarity) (c : CellForm) (u w : List ℕ) → IsCell s p c u → is_free c ≡ false
     → (24 ≤ length (u ++ w)) × (slice_index (u ++ w) 23 ≢ erased_byte p)
 cell_begins s p c u w is f =
@@ -126,7 +129,7 @@ cell_begins s p c u w is f =
     let front = and_split (nat_le 24 (length (u ++ w))) (not (bits_of p (slice_index (u ++ w) 23) == 0)) all.0 in
     (leb-true _ _ front.0, λ e. cc (front.1, eq-eqb _ 0 (no_bits p _ e)))
 
--- one cell is left if any bytes are: a free one
+-- if any bytes are left, one cell is left, which is free
 pub free_left : (s : FileSystem) (p : Polarity) (at : ℕ) (ds : List CellForm) (rest : List ℕ) → Tiles s p at ds rest
     → (24 ≤ length rest → slice_index rest 23 ≡ erased_byte p)
     → (length rest ≡ 0 → length ds ≡ 0) × (0 < length rest → length ds ≡ 1)

@@ -1,7 +1,10 @@
--- Tilings that are joined, and what is known of each cell of one. The steps:
--- 1. Cells, none of them free, and more cells tile the join (`joined`). There are no more cells than bytes (`cells_few`).
--- 2. A cell's data are the part of the volume after its header (`cell_payload`), for all cells of a tiling (`tiled_payloads`).
--- 3. In a tiling of bytes each file was read (`tiles_read`).
+-- The data of each cell in a tiling lie in the volume after its header, and each valid file in a tiling of bytes meets
+-- the conditions of `FileRead`. The steps:
+-- 1. Cells, none of which is free, and more cells tile the joined bytes (`joined`). There are at most as many cells as
+--    bytes (`cells_few`).
+-- 2. The data of a cell are the part of the volume after its header (`cell_payload`), for all cells of a tiling
+--    (`tiled_payloads`).
+-- 3. In a tiling of bytes, each valid file was read (`tiles_read`).
 use Rattle.std.proofs.Common.{◌≡◌, ◌≤◌, ◌+◌, ◌-◌, ◌*◌, ◌/◌, ℕ, true, false, List, [], ◌∷◌, ◌++◌, length, take, drop}
 use Rattle.std.proofs.Common.{refl, sym, ap, ◌∙◌, subst, arith, length-append, append_assoc, drop-drop}
 use Rattle.std.specs.List.{AllByRecursion}
@@ -15,7 +18,7 @@ use Rattle.fv_file.specs.declared.head.FileHead.{FileHead}
 use Rattle.fv_file.proofs.CellPartLemmas.{cell_span, made_up, not_empty}
 use Rattle.fv_file.proofs.FileReadLemmas.{FileRead, cell_read_in, payload_behind}
 
--- cells, none of them free, and then more cells
+-- cells, none of which is free, and the cells after them tile the joined bytes
 pub joined : (s : FileSystem) (p : Polarity) (at : ℕ) (cs ds : List CellForm) (x y : List ℕ) → Tiles s p at cs x → NoneFree cs
     → Tiles s p (at + length x) ds y → Tiles s p at (cs ++ ds) (x ++ y)
 joined s p at [] ds x y e none more =
@@ -35,7 +38,7 @@ joined s p at (c ∷ cs) ds x y (u, rest, e, cell, place, last, tiles) none more
     differ : true ≡ false → ⊥
     differ e = cc
 
--- fewer cells than bytes, or as many
+-- there are at most as many cells as bytes
 pub cells_few : (s : FileSystem) (p : Polarity) (at : ℕ) (cs : List CellForm) (b : List ℕ) → Tiles s p at cs b → length cs ≤ length b
 cells_few s p at [] b tiles = omega arith
 cells_few s p at (c ∷ cs) b (x, rest, text, is, o, free, more) =
@@ -43,7 +46,7 @@ cells_few s p at (c ∷ cs) b (x, rest, text, is, o, free, more) =
 
 -- ---- the data of a cell are the part of the volume after its header
 
--- of a file or a pad, so many bytes of the volume from the end of the header on
+-- the data of a file or a pad are the bytes of the volume from the end of the header to the end of the size
 abbrev pub IsPayloadIn : List ℕ → CellForm → Type 0
 IsPayloadIn volume (Valid at head payload) = payload ≡ take (head.size - head.header_len) (drop (at + head.header_len) volume)
 IsPayloadIn volume (Pad at head payload) = payload ≡ take (head.size - head.header_len) (drop (at + head.header_len) volume)
@@ -76,7 +79,7 @@ cell_payload s p (Dead place len state) x rest volume at e is o = tt
 cell_payload s p (Stub place len) x rest volume at e is o = tt
 cell_payload s p (Free place len) x rest volume at e is o = tt
 
--- of cells that tile a volume from the place `at` on
+-- the data of cells that tile a volume from the place `at` on lie in the volume after their headers
 pub tiled_payloads : (s : FileSystem) (p : Polarity) (at : ℕ) (cs : List CellForm) (b volume : List ℕ) → drop at volume ≡ b
     → Tiles s p at cs b → AllByRecursion (IsPayloadIn volume) cs
 tiled_payloads s p at [] b volume e tiles = tt
@@ -88,14 +91,14 @@ tiled_payloads s p at (c ∷ cs) b volume e (x, rest, text, is, o, free, more) =
     drop_twice : (m n : ℕ) (l : List ℕ) → drop n (drop m l) ≡ drop (m + n) l
     drop_twice m n l = drop-drop n m l
 
--- of the cells of a body that begins at `first`
+-- the data of the cells of a body that begins at `first` lie in the volume after their headers
 pub body_payloads : (s : FileSystem) (p : Polarity) (first : ℕ) (cs : List CellForm) (volume : List ℕ)
     → Tiles s p first cs (drop first volume) → AllByRecursion (IsPayloadIn volume) cs
 body_payloads s p first cs volume tiles = tiled_payloads s p first cs (drop first volume) volume refl tiles
 
 -- ---- each file of a tiling was read
 
--- of a file, what is known of it; of another cell nothing
+-- a valid file meets the conditions of `FileRead`; other cells meet none
 abbrev pub IsRead : FileSystem → ℕ → CellForm → Type 0
 IsRead system limit (Valid at head payload) = FileRead system limit head payload
 IsRead system limit _ = Unit {0}

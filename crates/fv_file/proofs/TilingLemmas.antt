@@ -1,4 +1,4 @@
--- A body is tiled in one way at most.
+-- A body is tiled by cells in at most one way.
 use Rattle.std.proofs.Common.{◌≡◌, ◌<◌, ℕ, ◌+◌, List, [], ◌∷◌, ◌++◌, length, refl, sym, ap, ◌∙◌, subst, arith, Bool, true, false}
 use Rattle.std.proofs.Common.{length-append, append_assoc, append-nil}
 use Rattle.fv_base.specs.declared.flash.Polarity.{Polarity}
@@ -6,7 +6,7 @@ use Rattle.fv_base.specs.declared.flash.FileSystem.{FileSystem}
 use Rattle.fv_base.proofs.Laws.{same_cut}
 use Rattle.fv_file.specs.Words.{CellForm, offset_of, is_free, IsCell, Tiles, NoneFree}
 
--- at one place there is one cell, a free one only where it is all the rest
+-- at one place at most one cell begins, and a free cell only if it is all the rest
 abbrev pub OneCell : FileSystem → Polarity → Type 0
 OneCell s p = (c d : CellForm) (u v w z : List ℕ) → IsCell s p c u → IsCell s p d v → offset_of c ≡ offset_of d
     → (is_free c ≡ true → w ≡ []) → (is_free d ≡ true → z ≡ []) → u ++ w ≡ v ++ z → (c ≡ d) × (length u ≡ length v)
@@ -18,7 +18,7 @@ pub no_rest : (s : FileSystem) (p : Polarity) (at : ℕ) (cs : List CellForm) (b
 no_rest s p at [] b e t = t
 no_rest s p at (c ∷ cs) b e t = cc
 
--- one tiling at most
+-- bytes have at most one tiling
 pub one_tiling : (s : FileSystem) (p : Polarity) → OneCell s p → NotEmpty s p → (at : ℕ) (cs ds : List CellForm) (b : List ℕ)
     → Tiles s p at cs b → Tiles s p at ds b → cs ≡ ds
 one_tiling s p one some at [] [] b t t' = refl
@@ -36,7 +36,7 @@ one_tiling s p one some at (c ∷ cs) (d ∷ ds) b (u, w, e, is, o, last, more) 
     let head : c ≡ d = r.0 in
     cc
 
--- cells that are not free begin every tiling that goes on
+-- every tiling of joined bytes begins with the cells that tile the first part, if none of them is free
 pub cut : (s : FileSystem) (p : Polarity) → OneCell s p → NotEmpty s p → (at : ℕ) (cs ds : List CellForm) (x y : List ℕ) → Tiles s p at cs x
     → NoneFree cs → Tiles s p at ds (x ++ y) → (more : List CellForm) × (ds ≡ cs ++ more) × Tiles s p (at + length x) more y
 cut s p one some at [] ds x y t free t' =
@@ -61,7 +61,7 @@ cut s p one some at (c ∷ cs) (d ∷ ds) x y (u, w, e, is, o, last, more) free 
     never : {A : Type 0} → (f : Bool) → f ≡ true → f ≡ false → A
     never f t n = absurd cc
 
--- one more cell after cells that are not free
+-- cells that are not free, and one more cell, tile the joined bytes
 pub one_more : (s : FileSystem) (p : Polarity) (at : ℕ) (cs : List CellForm) (c : CellForm) (x y : List ℕ) → Tiles s p at cs x → NoneFree cs
     → IsCell s p c y → offset_of c ≡ at + length x → Tiles s p at (cs ++ c ∷ []) (x ++ y)
 one_more s p at [] c x y t free is o =

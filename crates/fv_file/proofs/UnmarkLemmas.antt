@@ -1,6 +1,9 @@
--- The marks of fixed files. 1. Where a cell has the fault Fixed, its attributes are there and have the bit. 2. Without the mark the file
--- has it no more, and the bytes before it are the same. 3. The marks are taken away one after another, and the cells before tile.
--- 4. All marks are taken away in one way (`one_unmarked`). 5. If all can be taken away, a cell is at each place then (`unmarked_cell`).
+-- There is one way to remove the marks of all fixed files. The steps:
+-- 1. If the fault of a cell is Fixed, its attributes lie within the bytes, and have the bit.
+-- 2. Without the mark, the file is no longer fixed, and the bytes before it are the same.
+-- 3. The marks are removed one after another, and the cells before each place tile.
+-- 4. There is one way to remove all marks (`one_unmarked`).
+-- 5. If all marks can be removed, a cell begins at each place then (`unmarked_cell`).
 use Rattle.std.proofs.Common.{◌≡◌, ◌≤◌, ◌<◌, ℕ, ◌+◌, ◌-◌, ◌%◌, List, [], ◌∷◌, ◌++◌, length, take, drop, refl, sym, ap, ◌∙◌, subst, arith}
 use Rattle.std.proofs.Common.{Bool, true, false, length-drop, inl, inr}
 use Rattle.std.specs.Prelude.{◌≢◌, ◌⊎◌, ◌||◌, ◌&&◌, ◌==◌, not, nat_le, slice_index, slice_set, nat_lt, Option, None, Some, Ok, Err, Result}
@@ -33,7 +36,7 @@ or_not false true h = refl
 or_not false false h = cc
 
 module _ (at : ℕ) (r : List ℕ) where
-  -- a check whose fault is Fixed is at the attributes, and fails only where they have the bit
+  -- a check whose fault is Fixed has it at the attributes, and fails only if they have the bit
   abbrev Marked : Check Fault → Type 0
   Marked c = c.fault.kind ≡ kinds.Fixed → c.holds ≡ false
       → (c.fault ≡ outer_fault kinds.Fixed (at + 19)) × (is_fixed (attributes_at r) ≡ true)
@@ -80,7 +83,7 @@ fixed_there s p at r f is kind =
         let both = and_split (nat_le 24 (length r)) (not (bits_of p (state_at r) == 0)) (ap (λ (g : Check Fault). g.holds) (sym first) ∙ held.0) in
         record { fault = is ∙ here.0; fixed = here.1; long = leb-true _ _ both.0; used = both.1 }
 
--- the bit is in a byte that is there
+-- attributes with the bit are at least 4
 pub fixed_least : (a : ℕ) → is_fixed a ≡ true → 4 ≤ a
 fixed_least a h = grind (arith, nat_tests)
 
@@ -111,7 +114,7 @@ state_unmarked p b =
 bit_cleared : (a : ℕ) → is_fixed a ≡ true → is_fixed (a - 4) ≡ true → ⊥
 bit_cleared a h k = grind (arith, nat_tests)
 
--- a file is not fixed without its mark
+-- a file without its mark is not fixed
 pub not_fixed_again : (s : FileSystem) (p : Polarity) (from at : ℕ) (b : List ℕ) (f : Fault) → at + 19 < length b
     → is_fixed (slice_index b (at + 19)) ≡ true → cell_verdict s p from (drop at (unmarked at b)) ≡ Err f → f.kind ≢ kinds.Fixed
 not_fixed_again s p from at b f l fixed is kind =
@@ -130,7 +133,7 @@ marks_more s p first [] q b o same here =
     (subst (λ (x : List ℕ). IsFirstCellFault s p first x (outer_fault kinds.Fixed (first + q + 19))) same here, ap (unmarked q) same)
 marks_more s p first (r ∷ rs) q b o marks here = (marks.0, marks_more s p first rs q (unmarked r b) o marks.1 here)
 
--- the marks up to a place are taken away, and cells tile the body up to there
+-- the marks up to a place are removed, and cells tile the body up to there
 pub record Unmarked (s : FileSystem) (p : Polarity) (first : ℕ) (old body : List ℕ) (at : ℕ) : Type 0 where
   pub places : List ℕ
   pub marks : Unmarks s p first places old body
@@ -138,18 +141,18 @@ pub record Unmarked (s : FileSystem) (p : Polarity) (first : ℕ) (old body : Li
   pub cells : List CellForm
   pub upto : Upto s p first body cells at
 
--- the start
+-- at the start, no mark is removed
 pub unmarked_begins : (s : FileSystem) (p : Polarity) (first : ℕ) (body : List ℕ) → Unmarked s p first body body 0
 unmarked_begins s p first body =
     record { places = []; marks = refl; same_length = refl; cells = []; upto = upto_begins s p first body }
 
--- the body stays as it is; or the file at the place is fixed, and its mark is taken away
+-- the body is as it was, or the file at the place is fixed, and its mark is removed
 abbrev pub MarkStep : FileSystem → Polarity → ℕ → List ℕ → List ℕ → ℕ → Type 0
 MarkStep s p first body new at =
     (new ≡ body)
     ⊎ ((cell_verdict s p (first + at) (drop at body) ≡ Err (outer_fault kinds.Fixed (first + at + 19))) × (new ≡ unmarked at body))
 
--- one mark less, at the place
+-- with the mark at the place removed, the marks up to the place are still removed, and cells tile the body up to there
 pub one_less : (s : FileSystem) (p : Polarity) (first : ℕ) (old body new : List ℕ) (at : ℕ) → Unmarked s p first old body at
     → (at < length body) × (AllAre (erased_byte p) (drop at body) → ⊥)
     → MarkStep s p first body new at
@@ -169,7 +172,7 @@ one_less s p first old body new at k used (inr (is, less)) =
       };
     })
 
--- the place at which a check fails, after the mark there was taken away
+-- the fault at the place, after its mark was removed, is the first fault of the body
 pub stopped : (s : FileSystem) (p : Polarity) (first : ℕ) (old body new : List ℕ) (at : ℕ) (f : Fault) → Unmarked s p first old body at
     → (at < length body) × (AllAre (erased_byte p) (drop at body) → ⊥)
     → MarkStep s p first body new at
@@ -193,7 +196,7 @@ stopped s p first old body new at f k used step is =
               up_is_not_down _ zero (not_up _ there.used),
         )
 
--- no byte comes or goes
+-- removing marks does not change the number of bytes
 pub length-unmarks : (s : FileSystem) (p : Polarity) (first : ℕ) (ps : List ℕ) (b o : List ℕ) → Unmarks s p first ps b o
     → length o ≡ length b
 length-unmarks s p first [] b o same = ap length same
@@ -201,16 +204,16 @@ length-unmarks s p first (q ∷ qs) b o marks = length-unmarks s p first qs (unm
 
 -- ---- 4. in one way
 
--- the first fault of the body, if it has one, is not that a file is fixed
+-- the first fault of the body, if it has one, is not Fixed
 abbrev pub NoneFixed : FileSystem → Polarity → ℕ → List ℕ → Type 0
 NoneFixed s p first b = (f : Fault) → IsFirstCellFault s p first b f → f.kind ≢ kinds.Fixed
 
--- cells tile the body
+-- a body that cells tile has no first fault Fixed
 pub tiled_unfixed : (s : FileSystem) (p : Polarity) (first : ℕ) (b : List ℕ) (cs : List CellForm) → Tiles s p first cs b
     → NoneFixed s p first b
 tiled_unfixed s p first b cs tiles f here kind = none_after First s p first b f cs here tiles
 
--- another fault is the first
+-- a body whose first fault is not Fixed has no first fault Fixed
 pub fault_unfixed : (s : FileSystem) (p : Polarity) (first : ℕ) (b : List ℕ) (f : Fault) → IsFirstCellFault s p first b f
     → f.kind ≢ kinds.Fixed → NoneFixed s p first b
 fault_unfixed s p first b f here other g there kind =
@@ -236,12 +239,12 @@ one_unmarked s p first (q ∷ qs) (r ∷ rs) b o x marks end other end_x =
 
 -- ---- 5. a body whose marks can be taken away
 
--- the body without its marks
+-- some cells tile the body without its marks
 abbrev pub Accepts : FileSystem → Polarity → ℕ → List ℕ → Type 0
 Accepts s p first b =
     (places : List ℕ) × (o : List ℕ) × Unmarks s p first places b o × ((cells : List CellForm) × Tiles s p first cells o)
 
--- it has no fault except Fixed while its marks are taken away
+-- a body whose marks can all be removed has no fault other than Fixed while they are removed
 no_other : (s : FileSystem) (p : Polarity) (first : ℕ) (old body : List ℕ) (at : ℕ) (f : Fault) → Accepts s p first old
     → Unmarked s p first old body at → IsFirstCellFault s p first body f → f.kind ≢ kinds.Fixed → ⊥
 no_other s p first old body at f (places, o, marks, (cells, tiles)) k here kind =
@@ -250,7 +253,7 @@ no_other s p first old body at f (places, o, marks, (cells, tiles)) k here kind 
     (tiled_unfixed s p first o cells tiles) in
     none_after First s p first body f cells here (subst (Tiles s p first cells) same tiles)
 
--- so a cell is at each place, after the mark there was taken away
+-- so a cell begins at each place after the mark there was removed
 pub unmarked_cell : (s : FileSystem) (p : Polarity) (first : ℕ) (old body new : List ℕ) (at : ℕ) → Accepts s p first old
     → Unmarked s p first old body at → (at < length body) × (AllAre (erased_byte p) (drop at body) → ⊥) → MarkStep s p first body new at
     → ((f : Fault) → cell_verdict s p (first + at) (drop at new) ≡ Err f → f.kind ≢ kinds.Fixed)
@@ -263,14 +266,14 @@ unmarked_cell s p first old body new at accepts k used step plain = go (cell_ver
       absurd (no_other s p first old new at f accepts (one_less s p first old body new at k used step)
       (stopped s p first old body new at f k used step is) (plain f is))
 
--- a cell has a header
+-- if a cell begins the bytes, there are at least the 24 bytes of a header
 pub cell_long : (s : FileSystem) (p : Polarity) (at : ℕ) (r : List ℕ) (c : CellForm) → cell_verdict s p at r ≡ Ok c → 24 ≤ length r
 cell_long s p at r c is = go (nat_lt (length r) 24) refl where
   go : (t : Bool) → nat_lt (length r) 24 ≡ t → 24 ≤ length r
   go true l = let bad : Err (stray p at r) ≡ Ok c = sym (rw l refl) ∙ is in cc
   go false l = ltb-false (length r) 24 l
 
--- a cell further
+-- after the cell at the place, the marks up to the next place are removed
 pub one_further : (s : FileSystem) (p : Polarity) (first : ℕ) (old body : List ℕ) (at len : ℕ) (c : CellForm) → Unmarked s p first old body at
     → CellStandsAt s p (first + at) c (drop at body) → len ≡ cell_len c
     → Unmarked s p first old body (at + len) × (0 < len) × (at + len ≤ length body)
@@ -281,13 +284,13 @@ one_further s p first old body at len c k stands l =
       upto.inside,
     )
 
--- the cell that the walk is at
+-- the cell that the walk reads begins at its place
 pub stands_unmarked : (s : FileSystem) (p : Polarity) (first : ℕ) (old body : List ℕ) (at : ℕ) (c : CellForm) → length old % 8 ≡ 0
     → Unmarked s p first old body at → cell_verdict s p (first + at) (drop at body) ≡ Ok c → CellStandsAt s p (first + at) c (drop at body)
 stands_unmarked s p first old body at c in_eights k is =
     stands_here s p first body k.cells at k.upto c (ap (λ (i : ℕ). i % 8) k.same_length ∙ in_eights) is
 
--- the length of the cell is n, because n is so for each cell
+-- n is the length of the cell, because it is the length of each cell that begins the bytes
 pub stride_len : (s : FileSystem) (p : Polarity) (at n : ℕ) (r : List ℕ) (c : CellForm) → CellStandsAt s p at c r
     → ((x behind : List ℕ) → r ≡ x ++ behind → IsCell s p c x → is_free c ≡ false → n ≡ length x) → n ≡ cell_len c
 stride_len s p at n r c stands strides =

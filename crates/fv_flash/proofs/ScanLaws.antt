@@ -1,8 +1,9 @@
--- Which volumes begin in some bytes. The steps:
--- 1. A volume at a place has one length, and is within the bytes (`one_length`, `at_within`).
--- 2. A search that goes from place to place passes no volume (`reached_first`, `reached_joined`, `reached_more`, `none_unsigned`).
--- 3. One list of places is that of a walk (`one_walk`). A walk finds the volumes of the bytes (`walk_found`), and what is found is the
---    list of a walk (`found_walk`).
+-- A walk finds the volumes that begin in some bytes, and they have one list of places and lengths. The steps:
+-- 1. A volume at a place has one length, and lies within the bytes (`one_length`, `at_within`).
+-- 2. A search that goes from place to place passes no volume (`reached_first`, `reached_joined`, `reached_more`,
+--    `none_unsigned`).
+-- 3. A walk has one list of places (`one_walk`). It finds the volumes of the bytes (`walk_found`), and the places that
+--    are found are the list of a walk (`found_walk`).
 -- 4. So the volumes of some bytes begin at one list of places (`one_found`), and have one list of places with lengths
 --    (`one_are`).
 use Rattle.std.proofs.lemmas.Grind.{common_steps}
@@ -27,7 +28,7 @@ use Rattle.fv_flash.specs.inner.FoundWalks.{NoneBetween, NoneFrom, IsReached, Fo
 some_length : (b : List ℕ) (h : HeadFields) (e : Extent) → BeginsVolume h e b → (64 ≤ e.length) × (e.length % 8 ≡ 0)
 some_length b h e f = grind (arith, common_steps)
 
--- it has 64 bytes at least, a multiple of 8, and lies within the bytes
+-- a volume has at least 64 bytes, and a multiple of 8, and lies within the bytes
 pub at_least : (b : List ℕ) (k n : ℕ) → VolumeAt b k n → 64 ≤ n
 at_least b k n v = omega (arith, v.3, (some_length (drop k b) v.0 v.1 v.2).0)
 
@@ -37,13 +38,13 @@ at_multiple b k n v = omega (arith, v.3, (some_length (drop k b) v.0 v.1 v.2).1)
 pub at_within : (b : List ℕ) (k n : ℕ) → VolumeAt b k n → k + n ≤ length b
 at_within b k n v = omega (arith, v.3, v.2.whole, length-drop k b, at_least b k n v)
 
--- one length at a place
+-- a volume at a place has one length
 pub one_length : (b : List ℕ) (k n m : ℕ) → VolumeAt b k n → VolumeAt b k m → n ≡ m
 one_length b k n m v w = v.3 ∙ ap (λ (e : Extent). e.length) (one_front (drop k b) v.0 w.0 v.1 w.1 v.2 w.2).1 ∙ sym w.3
 
 -- ---- the walk
 
--- none up to a place, and none from there on, or up to another
+-- if no volume begins up to a place, and none from there on or up to another place, none begins in the joined range
 between_joined : (b : List ℕ) (from at to : ℕ) → NoneBetween b from at → NoneBetween b at to → NoneBetween b from to
 between_joined b from at to f g = λ k n l u m v. go k n l u m v (cases_lt k at) where
   go : (k n : ℕ) → from ≤ k → k < to → k % 8 ≡ 0 → VolumeAt b k n → (k < at) ⊎ (at ≤ k) → ⊥
@@ -56,7 +57,8 @@ from_joined b from at f g = λ k n l m v. go k n l m v (cases_lt k at) where
   go k n l m v (inl p) = f k n l p m v
   go k n l m v (inr p) = g k n p m v
 
--- a search begins where it is; it goes on to where another search comes, and by 8 where none begins
+-- a search has reached the place at which it begins; it goes on to the place that another search reaches from there,
+-- and by 8 if no volume begins there
 pub reached_first : (b : List ℕ) (from : ℕ) → from % 8 ≡ 0 → from ≤ length b → IsReached b from from
 reached_first b from multiple within = grind (arith, common_steps)
 
@@ -77,24 +79,24 @@ reached_more b from at r long none = reached_joined b from at (at + 8) r (record
   none = λ k n l u m v. none n (subst (λ j. VolumeAt b j n) (omega (arith, r.multiple, l, u, m)) v);
 })
 
--- too few bytes for a header
+-- no volume begins if there are too few bytes for a header
 pub none_past : (b : List ℕ) (at : ℕ) → length b < at + 56 → NoneFrom b at
 none_past b at short = λ k n l m v. omega (arith, short, l, at_within b k n v, at_least b k n v)
 
 signed : (b : List ℕ) (h : HeadFields) (e : Extent) → BeginsVolume h e b → has_signature b ≡ true
 signed b h e f = (front_holds b h e f).1.0
 
--- no signature
+-- no volume begins without a signature
 pub none_unsigned : (b : List ℕ) (at : ℕ) → has_signature (drop at b) ≡ false → (n : ℕ) → VolumeAt b at n → ⊥
 none_unsigned b at unsigned n v = let p : true ≡ false = sym (signed (drop at b) v.0 v.1 v.2) ∙ unsigned in cc
 
--- the four bytes at 40 of those from a place on
+-- the test of the four bytes at offset 40 from a place on is the test for the signature
 pub signature_at : (b : List ℕ) (at n : ℕ) → n ≡ 4 → bytes_eq (take n (drop (at + 40) b)) signature_bytes ≡ has_signature (drop at b)
 signature_at b at n e =
     ap (λ k. bytes_eq (take k (drop (at + 40) b)) signature_bytes) e
     ∙ ap (λ l. bytes_eq (take 4 l) signature_bytes) (sym (drop-drop 40 at b))
 
--- one list of places at most
+-- the volumes from a place on begin at one list of places
 pub one_walk : (from : ℕ) (b xs ys : List ℕ) → FoundFrom from b xs → FoundFrom from b ys → xs ≡ ys
 one_walk from b [] [] f g = refl
 one_walk from b [] (p ∷ ps) f (m, (l, e, none, v), rest) = absurd (f p m l e v)
@@ -150,7 +152,7 @@ walk_found b os f = record {
   all = λ k n m v. walk_all 0 b os f k n (omega arith) m v;
 }
 
--- ---- what is found is walked
+-- ---- the volumes that are found are those of a walk
 
 abbrev AllFrom : ℕ → List ℕ → List ℕ → Type 0
 AllFrom from b os = (k n : ℕ) → from ≤ k → k % 8 ≡ 0 → VolumeAt b k n → IsCovered b os k
@@ -158,7 +160,7 @@ AllFrom from b os = (k n : ℕ) → from ≤ k → k % 8 ≡ 0 → VolumeAt b k 
 covered_none : (b : List ℕ) (k : ℕ) → IsCovered b [] k → ⊥
 covered_none b k (o, n, (j, l, e), w, s, u) = omega (arith, l)
 
--- none between where all that there are come after
+-- if every volume from a place on begins within a listed one, no volume begins before the first of these
 covered_between : (from : ℕ) (b : List ℕ) (o : ℕ) (os : List ℕ) → AllByRecursion (LiesBehind b o) os → AllFrom from b (o ∷ os)
     → NoneBetween b from o
 covered_between from b o os clear all = λ k n l u m v. go k u (all k n l m v) where
@@ -168,7 +170,8 @@ covered_between from b o os clear all = λ k n l u m v. go k u (all k n l m v) w
     at (inl e) = omega (arith, e, u, s)
     at (inr h) = omega (arith, (All-contains (LiesBehind b o) os p (All-from_recursion (LiesBehind b o) os clear) h).0, u, s)
 
--- after the first volume, those after it cover the rest
+-- if every volume from a place on begins within a listed one, every volume from the end of the first listed one on
+-- begins within one of the others
 covered_rest : (from : ℕ) (b : List ℕ) (o n : ℕ) (os : List ℕ) → from ≤ o → VolumeAt b o n → AllFrom from b (o ∷ os) → AllFrom (o + n) b os
 covered_rest from b o n os low v all = λ k m l e w. go k l (all k m (omega (arith, low, l)) e w) where
   go : (k : ℕ) → o + n ≤ k → IsCovered b (o ∷ os) k → IsCovered b os k
@@ -193,11 +196,11 @@ found_walk b os f =
 
 -- ---- for callers
 
--- the volumes of some bytes begin at one list of places
+-- the volumes in some bytes begin at one list of places
 pub one_found : (b xs ys : List ℕ) → Found b xs → Found b ys → xs ≡ ys
 one_found b xs ys f g = one_walk 0 b xs ys (found_walk b xs f) (found_walk b ys g)
 
--- where there is a volume, a volume begins at a place
+-- if there is a volume, it begins at a place
 pub some_place : (b : List ℕ) (volumes : List FoundVolume) (i : ℕ) → AreFound b volumes → i < length volumes → (place : ℕ) × IsPlace b place
 some_place b [] i found less = absurd (omega (arith, less))
 some_place b (v ∷ vs) i found less = (v.offset, found.0.places.0)

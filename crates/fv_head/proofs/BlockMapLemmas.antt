@@ -1,7 +1,8 @@
--- The block map of a header, as pairs of numbers.
--- 1. Eight bytes are a pair (pairs_of-step), and pairs may be read in parts (pairs_of-append).
--- 2. So the block map of a header is its blocks and then one pair more (block_map_is), which can be taken off again (last-injective).
--- 3. A test of a pair says whether it is the pair of zeros (zero_pair_is, zero_pair_not, none_zero, all_not_zero).
+-- The block map of a header is its blocks and then the pair of zeros. The steps:
+-- 1. Eight bytes are a pair (`pairs_of-step`), and pairs can be read in parts (`pairs_of-append`).
+-- 2. So the block map of a header is its blocks and then one more pair (`block_map_is`). The blocks are what is left if
+--    this pair is taken off (`last-injective`).
+-- 3. A test decides whether a pair is the pair of zeros (`zero_pair_is`, `zero_pair_not`, `none_zero`, `all_not_zero`).
 use Rattle.std.proofs.lemmas.Grind.{common_steps}
 use Rattle.std.proofs.Common.{◌≡◌, ◌≢◌, ◌≤◌, ℕ, ◌+◌, ◌-◌, ◌%◌, List, [], ◌∷◌, ◌++◌, length, take, drop, refl, sym, ap, ◌∙◌, subst, arith}
 use Rattle.std.proofs.Common.{true, false, length-take, length-drop, drop-drop}
@@ -26,7 +27,8 @@ pairs_of-step (a ∷ b ∷ c ∷ d ∷ e ∷ f ∷ []) h = absurd (omega arith)
 pairs_of-step (a ∷ b ∷ c ∷ d ∷ e ∷ f ∷ g ∷ []) h = absurd (omega arith)
 pairs_of-step (a ∷ b ∷ c ∷ d ∷ e ∷ f ∷ g ∷ i ∷ bs) h = refl
 
--- what is true of no bytes, and of eight bytes more, is true of bytes whose number is a multiple of 8
+-- if a property holds of no bytes, and is kept when eight bytes are added, it holds of all bytes whose number is a
+-- multiple of 8
 pub by_eights : (P : List ℕ → Type 0) → P []
     → ((a b c d e f g i : ℕ) (xs : List ℕ) → P xs → P (a ∷ b ∷ c ∷ d ∷ e ∷ f ∷ g ∷ i ∷ xs))
     → (xs : List ℕ) → length xs % 8 ≡ 0 → P xs
@@ -57,7 +59,7 @@ last-injective (x ∷ xs) (y ∷ ys) p q h =
     let ih = last-injective xs ys p q rest in
     (rw (head, ih.0) refl, ih.1)
 
--- the last pair of a header
+-- the eight bytes at an offset are one pair of the two numbers there
 pub last_pair : (at : ℕ) (b : List ℕ) → at + 8 ≤ length b → pairs_of (take 8 (drop at b)) ≡ (le_at at 4 b, le_at (at + 4) 4 b) ∷ []
 last_pair at b h =
     let d : List ℕ = drop at b in

@@ -1,7 +1,9 @@
--- An extended header is spelled as it is read. The steps:
--- 1. A payload is as long as what is kept of it, also with a used size in it (`length-held`, `length-payload_with`).
--- 2. So entries that are spelled are those entries (`entries_again`), and an extended header is that extended header (`ext_again`).
--- 3. A walk puts its entries one by one (`entries_step`, `entries_end`).
+-- The bytes that are written for an extended header are read again as this extended header. The steps:
+-- 1. A payload has the length of its kept payload, also if a used size is written into it (`length-held`,
+--    `length-payload_with`).
+-- 2. So written entries are read again as these entries (`entries_again`), and a written extended header as this
+--    extended header (`ext_again`).
+-- 3. A walk puts the entries one by one (`entries_step`, `entries_end`).
 use Rattle.std.proofs.lemmas.Grind.{common_steps}
 use Rattle.std.proofs.Common.{◌≡◌, ◌≤◌, ◌<◌, ℕ, ◌+◌, List, [], ◌∷◌, ◌++◌, length, drop, refl, sym, ap, ◌∙◌, subst, arith}
 use Rattle.std.proofs.Common.{Bool, true, false, get_or, length-append, append_assoc, append-nil}
@@ -13,15 +15,15 @@ use Rattle.fv_head.specs.Words.{Extension, kept_payload, is_used_size, BeginNoEn
 use Rattle.fv_head.specs.Words.{entry_bytes, entries_bytes, entries_len, ext_len, ext_spelled}
 use Rattle.fv_head.proofs.ExtLemmas.{begins, length-ext}
 
--- a number of four bytes
+-- a number below 65536 is the number that its four bytes spell
 four_bytes : (n : ℕ) → n < 65536 → le (le_bytes 4 n) ≡ n
 four_bytes n small = grind (arith, common_steps)
 
--- what is kept of a payload has its length
+-- a kept payload has the length of the payload
 length-held : (kind : ℕ) (payload : List ℕ) → length (kept_payload kind payload) ≡ length payload
 length-held kind payload = grind (arith, common_steps, eqb-true)
 
--- entries have so many bytes before their tail
+-- entries and their tail have together the length of the bytes that they split
 pub length-entries : (es : List (ℕ × List ℕ)) (tail b : List ℕ) → SplitsEntries es tail b → entries_len es + length tail ≡ length b
 length-entries [] tail b h = omega (arith, ap length h.0)
 length-entries (e ∷ es) tail b (head, payload, rest, text, four, size, kind, kept, more) =
@@ -29,16 +31,16 @@ length-entries (e ∷ es) tail b (head, payload, rest, text, four, size, kind, k
     let same : length e.1 ≡ length payload = ap length kept ∙ length-held e.0 payload in
     omega (arith, is.long, same, length-entries es tail rest more)
 
--- a payload with a used size has the length of what is kept
+-- a payload into which a used size is written has the length of the kept payload
 length-payload_with : (used : ℕ) (e : ℕ × List ℕ) → length (payload_with used e) ≡ length e.1
 length-payload_with used e = grind (arith, common_steps, eqb-true)
 
--- and the same is kept of it
+-- a payload into which a used size is written has the same kept payload
 held-payload_with : (used : ℕ) (e : ℕ × List ℕ) (payload : List ℕ) → e.1 ≡ kept_payload e.0 payload
     → e.1 ≡ kept_payload e.0 (payload_with used e)
 held-payload_with used e payload kept = grind (arith, common_steps, length-held)
 
--- the entries as they are spelled are these entries
+-- entries that are written, followed by the tail, are read again as these entries and this tail
 pub entries_again : (es : List (ℕ × List ℕ)) (tail b : List ℕ) (used : ℕ) → IsBytes b → length b ≤ ext_limit → SplitsEntries es tail b
     → SplitsEntries es tail (entries_bytes used es ++ tail)
 entries_again [] tail b used small most h = (refl, subst BeginNoEntry h.0 h.1)
@@ -67,7 +69,7 @@ entries_again (e ∷ es) tail b used small most (head, payload, rest, text, four
       others,
     )
 
--- the extended header as it is spelled
+-- an extended header that is written is read again as this extended header, and has its length
 pub ext_again : (x : Extension) (used : ℕ) → IsReadExt x → IsExt x (ext_spelled x used) × (length (ext_spelled x used) ≡ ext_len x)
 unfolding ext_spelled
 ext_again x used (b, small, is) =
@@ -109,7 +111,7 @@ ext_again x used (b, small, is) =
 
 -- ---- walks
 
--- the payload that is put
+-- the payload of a used-size entry is put as the four bytes of the used size
 pub used_put : (used : ℕ) (e : ℕ × List ℕ) (kind : ℕ) (payload : List ℕ) (t : Bool) → t ≡ is_used_size kind payload → kind ≡ e.0
     → payload ≡ e.1 → t ≡ true → le_bytes 4 used ≡ payload_with used e
 used_put used e kind payload t test kinds payloads on = grind (arith, common_steps)
@@ -118,7 +120,7 @@ pub payload_put : (used : ℕ) (e : ℕ × List ℕ) (kind : ℕ) (payload : Lis
     → payload ≡ e.1 → t ≡ false → payload ≡ payload_with used e
 payload_put used e kind payload t test kinds payloads off = grind (arith, common_steps)
 
--- one entry more
+-- the length of the entries from an index on is the length of the entry there, and then of the others
 pub entries_len_step : (es : List (ℕ × List ℕ)) (i : ℕ) (e : ℕ × List ℕ) → i < length es → e ≡ get_or es i e
     → entries_len (drop i es) ≡ (4 + length e.1) + entries_len (drop (i + 1) es)
 entries_len_step es i e within is = grind (arith, common_steps, drop_more)
@@ -132,6 +134,6 @@ pub entries_end : (used : ℕ) (front : List ℕ) (es : List (ℕ × List ℕ)) 
     → front ++ entries_bytes used (drop i es) ≡ entries_bytes used es → front ≡ entries_bytes used es
 entries_end used front es i past is = grind (arith, common_steps, append-nil, drop_all)
 
--- the most bytes of an extended header
+-- an extended header has at most 65,535 bytes
 pub ext_len_most : (x : Extension) → IsReadExt x → ext_len x ≤ ext_limit
 ext_len_most x (b, small, is) = grind (arith, common_steps, length-entries, length-ext)

@@ -1,9 +1,10 @@
--- Extended headers, and the entries in them. The steps:
--- 1. Bytes are some entries and a tail (`some_entries`), those of one list (`one_entries`).
--- 2. Bytes of a right size are an extended header (`some_ext`), and one only (`one_ext`).
--- 3. A volume has one extended header at most (`one_has_ext`). It has one or none exactly if the check holds (`some_has_ext`,
---    `has_ext_holds`), and which one is decided by the volume's own bytes (`ext_same`).
--- 4. A reader takes its entries one by one (`more_entries`, `end_entries`), and what it has read is the one there (`read_there`).
+-- A volume has at most one extended header, and its header check decides whether it has a right one. The steps:
+-- 1. All bytes split into some entries and a tail (`some_entries`), and only in one way (`one_entries`).
+-- 2. Bytes with the right size are an extended header (`some_ext`), and only one (`one_ext`).
+-- 3. A volume has at most one extended header (`one_has_ext`). The check holds exactly if the volume has a right one,
+--    or ExtHeaderOffset is 0 (`some_has_ext`, `has_ext_holds`). Only the volume's own bytes decide this (`ext_same`).
+-- 4. A reader takes the entries one by one (`more_entries`, `end_entries`), and the extended header that it has read is
+--    the volume's (`read_there`).
 use Rattle.std.proofs.lemmas.Grind.{common_steps}
 use Rattle.std.proofs.Common.{◌≡◌, ◌≤◌, ◌<◌, ℕ, zero, suc, ◌+◌, ◌-◌, List, [], ◌∷◌, ◌++◌, length, take, drop, refl, sym, ap, ◌∙◌, subst}
 use Rattle.std.proofs.Common.{arith, inl, inr, Bool, true, false, length-append, length-drop, append_assoc, append-nil, drop-drop, rules}
@@ -19,7 +20,7 @@ use Rattle.fv_head.specs.declared.extent.Extent.{Extent}
 
 -- ---- entries
 
--- the size, the type and the payload of the entry that bytes begin with, by positions
+-- bytes begin with an entry: its size, its type and its payload, by their offsets
 pub record Begins (b head payload rest : List ℕ) : Type 0 where
   pub size : le_at 0 2 b ≡ 4 + length payload
   pub kind : le_at 2 2 b ≡ le_at 2 2 head
@@ -48,7 +49,7 @@ begins b head payload rest text four size =
     turned : (n : ℕ) → 4 + n ≡ 4 + n
     turned n = refl
 
--- bytes that begin an entry do not begin none
+-- bytes that begin with an entry are not bytes that begin with no entry
 no_entry : (b head payload rest : List ℕ) → Begins b head payload rest → BeginNoEntry b → ⊥
 no_entry b head payload rest is (inl short) = absurd (omega (arith, short, is.long))
 no_entry b head payload rest is (inr (inl low)) = absurd (omega (arith, low, is.size))
@@ -57,7 +58,7 @@ no_entry b head payload rest is (inr (inr high)) = absurd (omega (arith, high, i
 pair_is : (e f : ℕ × List ℕ) → e.0 ≡ f.0 → e.1 ≡ f.1 → e ≡ f
 pair_is e f p q = ap (λ (n : ℕ). (n, e.1)) p ∙ ap (λ (xs : List ℕ). (f.0, xs)) q
 
--- bytes are the entries and the tail of one list at most
+-- bytes split into entries and a tail in at most one way
 pub one_entries : (es fs : List (ℕ × List ℕ)) (tail other b : List ℕ) → SplitsEntries es tail b → SplitsEntries fs other b
     → (es ≡ fs) × (tail ≡ other)
 one_entries [] [] tail other b first second = (refl, sym first.0 ∙ second.0)
@@ -76,7 +77,7 @@ one_entries (e ∷ es) (f ∷ fs) tail other b (head, payload, rest, text, four,
     let others = one_entries es fs tail other rest' (subst (SplitsEntries es tail) rests more) more' in
     (ap (λ (x : ℕ × List ℕ). x ∷ es) (pair_is e f kinds kepts) ∙ ap (λ (xs : List (ℕ × List ℕ)). f ∷ xs) others.0, others.1)
 
--- one entry more, in front
+-- an entry at the front, and the entries and the tail of the bytes after it, split the bytes
 pub entry_before : (b : List ℕ) (n : ℕ) (e : ℕ × List ℕ) (es : List (ℕ × List ℕ)) (tail : List ℕ) → n ≡ le_at 0 2 b → 4 ≤ n → n ≤ length b
     → e.0 ≡ le_at 2 2 b → e.1 ≡ kept_payload e.0 (field 4 (n - 4) b) → SplitsEntries es tail (drop n b) → SplitsEntries (e ∷ es) tail b
 entry_before b n e es tail size least within kind kept more =
@@ -105,7 +106,7 @@ entry_before b n e es tail size least within kind kept more =
     front : (n k : ℕ) → 4 ≤ n → k ≡ n - 4 → n ≡ 4 + k
     front n k least is = omega arith
 
--- whether bytes begin an entry
+-- bytes begin with no entry, or with one
 data Starts (b : List ℕ) : Type 0 where
   none : BeginNoEntry b → Starts b
   one : 4 ≤ length b → 4 ≤ le_at 0 2 b → le_at 0 2 b ≤ length b → Starts b
@@ -113,7 +114,7 @@ data Starts (b : List ℕ) : Type 0 where
 starts : (b : List ℕ) → Starts b
 starts b = grind (arith, common_steps, nat_tests)
 
--- all bytes are some entries and a tail
+-- bytes split into some entries and a tail
 abbrev pub Split : List ℕ → Type 0
 Split b = (es : List (ℕ × List ℕ)) × (tail : List ℕ) × SplitsEntries es tail b
 
@@ -141,7 +142,7 @@ guid_is g h same = ap (λ (bs : List ℕ). let made : Guid = record { bytes = bs
 extension_is : (x y : Extension) → x.name ≡ y.name → x.entries ≡ y.entries → x.tail ≡ y.tail → x ≡ y
 extension_is x y p q r = grind (arith, common_steps)
 
--- what is after the name and the size
+-- the bytes of an extended header are its name, its size, and then its entries and its tail
 rest_of : (x : Extension) (b : List ℕ) (is : IsExt x b) → (bytes_of x.name ≡ take 16 b) × (is.rest ≡ drop 20 b)
 rest_of x b is =
     let name : List ℕ = bytes_of x.name in
@@ -150,7 +151,7 @@ rest_of x b is =
     let third : drop 20 b ≡ is.rest = sym (drop-drop 4 16 b) ∙ ap (drop 4) second ∙ drop_at is.head is.rest 4 is.head_length in
     (sym first, sym third)
 
--- bytes are one extended header at most
+-- bytes are at most one extended header
 pub one_ext : (x y : Extension) (b : List ℕ) → IsExt x b → IsExt y b → x ≡ y
 one_ext x y b is other =
     let first = rest_of x b is in
@@ -160,26 +161,26 @@ one_ext x y b is other =
     (subst (SplitsEntries y.entries y.tail) second.1 other.entries) in
     extension_is x y names entries.0 entries.1
 
--- a name, a size and what is after them
+-- a name, a right size, and the entries and the tail after them are an extended header
 pub ext_of : (b : List ℕ) (g : Guid) (es : List (ℕ × List ℕ)) (tail : List ℕ) → 20 ≤ length b → length b ≤ ext_limit
     → le_at 16 4 b ≡ length b → bytes_of g ≡ take 16 b
     → SplitsEntries es tail (drop 20 b) → IsExt (record { name = g; entries = es; tail = tail }) b
 ext_of b g es tail least most size name entries = grind (arith, common_steps, take-append-drop, drop-drop, length-take-le, length-drop)
 
--- bytes of a right size are some extended header
+-- bytes with the right size are an extended header
 pub some_ext : (b : List ℕ) → 20 ≤ length b → length b ≤ ext_limit → le_at 16 4 b ≡ length b → (x : Extension) × IsExt x b
 some_ext b least most size =
     let g : Guid = record { bytes = take 16 b } in
     let found = some_entries (length (drop 20 b)) (drop 20 b) (omega arith) in
     (_, ext_of b g found.0 found.1 least most size refl found.2)
 
--- an extended header is 20 bytes and the rest
+-- an extended header has 20 bytes, and then those of its entries and its tail
 pub length-ext : (x : Extension) (b : List ℕ) → (is : IsExt x b) → length b ≡ 20 + length is.rest
 length-ext x b is = grind (arith, common_steps, length-append)
 
 -- ---- where it is
 
--- an extended header by its place
+-- an extended header lies at ExtHeaderOffset, after the volume header and within the volume
 pub record Placed (x : Extension) (e : Extent) (b part : List ℕ) : Type 0 where
   pub least : 20 ≤ length part
   pub most : length part ≤ ext_limit
@@ -213,7 +214,7 @@ placed x e b (before, part, behind, text, at, low, high, is, first) =
       is_ext = is;
     }
 
--- a place has one extended header at most
+-- a volume has at most one extended header
 pub one_has_ext : (x y : Option Extension) (e : Extent) (b : List ℕ) → 64 ≤ e.header_len → HasExt x e b → HasExt y e b → x ≡ y
 one_has_ext None None e b least first second = refl
 one_has_ext None (Some y) e b least first second = absurd (omega (arith, least, first.0, (placed y e b second).behind_header))
@@ -225,7 +226,7 @@ one_has_ext (Some x) (Some y) e b least first second =
     ap (λ (z : Extension). let A : Type 0 = Option Extension in let made : A = Some z in made)
     (one_ext x y second.1 (subst (IsExt x) same p.is_ext) q.is_ext)
 
--- an extended header at its place
+-- an extended header that lies after the volume header and within the volume is the volume's
 pub make_has_ext : (x : Extension) (e : Extent) (b : List ℕ) (n : ℕ) → e.length ≤ length b → e.header_len ≤ ext_offset_at b
     → ext_offset_at b + n ≤ e.length
     → e.first ≡ up_to_8 (ext_offset_at b + n) → IsExt x (field (ext_offset_at b) n b) → HasExt (Some x) e b
@@ -246,7 +247,8 @@ make_has_ext x e b n whole low high first is =
       first ∙ sym (ap (λ (k : ℕ). up_to_8 (k + length (field o n b))) before ∙ ap (λ (k : ℕ). up_to_8 (o + k)) long),
     )
 
--- the check of an extended header of s bytes at o, after a header of n bytes, in a volume of len bytes
+-- the parts of the check of an extended header of s bytes at offset o, after a header of n bytes, in a volume of len
+-- bytes
 record Tests (o n s len : ℕ) : Type 0 where
   pub behind_header : n ≤ o
   pub header_within : o + 20 ≤ len
@@ -262,7 +264,7 @@ tests_hold : (o n s len : ℕ) → n ≤ o → o + 20 ≤ len → 20 ≤ s → s
     → (nat_le n o && nat_le (o + 20) len && nat_le 20 s && nat_le s ext_limit && nat_le (o + s) len) ≡ true
 tests_hold o n s len a b c d e = grind (arith, common_steps, and_join, le-leb)
 
--- where the check holds, an extended header is there, or there is none
+-- if the check holds, the volume has an extended header, or its ExtHeaderOffset is 0
 pub some_has_ext : (e : Extent) (b : List ℕ) → e.length ≤ length b → has_ext e.header_len e.length b ≡ true
     → e.first ≡ (if ext_offset_at b == 0 then e.header_len else up_to_8 (ext_offset_at b + ext_size_at b))
     → (x : Option Extension) × HasExt x e b
@@ -286,7 +288,7 @@ some_has_ext e b whole holds first = go (ext_offset_at b == 0) refl holds first 
       inner : (o n : ℕ) (b : List ℕ) → 20 ≤ n → le_at 16 4 (field o n b) ≡ le_at (o + 16) 4 b
       inner o n b least = ap le (field-take 16 4 n (drop o b) (omega (arith, least)) ∙ ap (take 4) (drop-drop 16 o b))
 
--- and where one is, or none is, the check holds
+-- if the volume has an extended header, or its ExtHeaderOffset is 0, the check holds
 pub has_ext_holds : (x : Option Extension) (e : Extent) (b : List ℕ) → HasExt x e b → has_ext e.header_len e.length b ≡ true
 has_ext_holds None e b h = rw h.0 refl
 has_ext_holds (Some x) e b h =
@@ -298,7 +300,7 @@ has_ext_holds (Some x) e b h =
     or_right true t is = refl
     or_right false t is = is
 
--- the first file is where the header says
+-- the first file may begin where the header says
 pub has_ext_first : (x : Option Extension) (e : Extent) (b : List ℕ) → 64 ≤ e.header_len → HasExt x e b
     → (if ext_offset_at b == 0 then e.header_len else up_to_8 (ext_offset_at b + ext_size_at b)) ≡ e.first
 has_ext_first None e b least h = rw h.0 (sym h.1)
@@ -309,7 +311,7 @@ has_ext_first (Some x) e b least h =
     not_zero : (o : ℕ) → 0 < o → (o == 0) ≡ false
     not_zero o some = grind (arith, nat_tests)
 
--- it is a matter of the volume's own bytes
+-- only the volume's own bytes decide which extended header it has
 pub ext_same : (x : Option Extension) (e : Extent) (b c : List ℕ) → 64 ≤ e.header_len → e.header_len ≤ e.length → HasExt x e b
     → e.length ≤ length c → take e.length c ≡ take e.length b
     → HasExt x e c
@@ -332,7 +334,7 @@ ext_same x e b c least within h long same = go x h where
 
 -- ---- reading
 
--- one entry more is read
+-- an entry is read: it is added to the entries so far, and the entries of the rest complete them
 pub more_entries : (items new : List (ℕ × List ℕ)) (e : ℕ × List ℕ) (bytes rest behind entry : List ℕ) (n : ℕ) → new ≡ items ++ (e ∷ [])
     → behind ≡ drop n rest → entry ≡ take n rest
     → n ≡ le_at 0 2 rest → 4 ≤ n → n ≤ length rest → e.0 ≡ le_at 2 2 entry → e.1 ≡ kept_payload (le_at 2 2 entry) (drop 4 entry)
@@ -352,20 +354,20 @@ more_entries items new e bytes rest behind entry n pushed back front size least 
     split : (n : ℕ) → 4 ≤ n → n ≡ 4 + (n - 4)
     split n least = omega arith
 
--- what is left begins no entry
+-- if the rest begins with no entry, the entries so far are all entries, and the rest is the tail
 pub end_entries : (items : List (ℕ × List ℕ)) (bytes rest : List ℕ)
     → ((es : List (ℕ × List ℕ)) (tail : List ℕ) → SplitsEntries es tail rest → SplitsEntries (items ++ es) tail bytes)
     → BeginNoEntry rest → SplitsEntries items rest bytes
 end_entries items bytes rest sofar ended =
     subst (λ (xs : List (ℕ × List ℕ)). SplitsEntries xs rest bytes) (append-nil items) (sofar [] rest (refl, ended))
 
--- what is read after the name and the size
+-- the name, the size, and the entries and the tail that were read from the rest are the extended header
 pub ext_from : (b : List ℕ) (g : Guid) (es : List (ℕ × List ℕ)) (tail : List ℕ) → 20 ≤ length b → length b ≤ ext_limit
     → le_at 16 4 b ≡ length b → bytes_of g ≡ take 16 b
     → SplitsEntries es tail (take (length b - 20) (drop 20 b)) → IsExt (record { name = g; entries = es; tail = tail }) b
 ext_from b g es tail least most size name entries = search (rules, ext_of, take_all, length-drop)
 
--- what a header with an ExtHeaderOffset has
+-- the conditions that an extended header meets if ExtHeaderOffset is not 0
 pub record ExtStands (e : Extent) (b : List ℕ) : Type 0 where
   pub least : 20 ≤ ext_size_at b
   pub most : ext_size_at b ≤ ext_limit
@@ -390,7 +392,7 @@ stands (Some x) e b h some =
       first = p.first ∙ ap (λ (n : ℕ). up_to_8 (ext_offset_at b + n)) (sym p.size);
     }
 
--- an extended header that is read there
+-- an extended header that is read at ExtHeaderOffset is the volume's
 pub read_there : (x : Extension) (e : Extent) (b part : List ℕ) → ExtStands e b → e.length ≤ length b
     → part ≡ field (ext_offset_at b) (ext_size_at b) b → IsExt x part → HasExt (Some x) e b
 read_there x e b part s whole is read =

@@ -1,8 +1,9 @@
--- The checks of a header and its fields say the same.
--- 1. The verdict is the first fault of the checks, or else an extent (verdict_ok, verdict_err, verdict_extent).
--- 2. Where the checks hold, the bytes begin with a volume of the fields that are read (front_found).
--- 3. Where bytes begin with a volume, the checks hold, and the verdict is its extent (front_only).
--- 4. Its header has no other fields (front_fields).
+-- The checks of a header hold exactly if the bytes begin with a volume, and the fields that are read are its fields.
+-- The steps:
+-- 1. The verdict is the first fault of the checks, or else an extent (`verdict_ok`, `verdict_err`, `verdict_extent`).
+-- 2. If the checks hold, the bytes begin with a volume that has the fields that are read (`front_found`).
+-- 3. If bytes begin with a volume, the checks hold, and the verdict is its extent (`front_only`).
+-- 4. The header of this volume has no other fields (`front_fields`).
 use Rattle.std.proofs.lemmas.Grind.{common_steps}
 use Rattle.std.proofs.Common.{◌≡◌, ◌≤◌, ℕ, ◌+◌, ◌-◌, ◌%◌, List, [], ◌∷◌, ◌++◌, length, take, refl, sym, ap, ◌∙◌, subst, arith, rules}
 use Rattle.std.proofs.Common.{true, false}
@@ -27,7 +28,7 @@ use Rattle.fv_head.specs.inner.HeadVerdicts.{head_verdict, extent_verdict, exten
 use Rattle.fv_head.proofs.ExtLemmas.{some_has_ext, has_ext_holds, has_ext_first}
 use Rattle.fv_head.proofs.BlockMapLemmas.{all_not_zero, block_map_is, last-injective, none_zero, zero_pair_is}
 
--- the fields that the header of a volume of the file system says
+-- the fields that are read from a header of a known file system
 abbrev pub fields_of : FileSystem → Option Extension → List ℕ → HeadFields
 fields_of fs x b = record {
   zero_vector = field 0 16 b;
@@ -49,7 +50,7 @@ pub extent_ok : (o : Option FileSystem) (f : Fault) (b : List ℕ) (e : Extent) 
 extent_ok None f b e h = cc
 extent_ok (Some fs) f b e h = (fs, refl, cc)
 
--- the verdict by its first fault and its file system
+-- the verdict is the first fault, or else the extent for the file system that is found
 pub verdict_err : (o : Option Fault) (b : List ℕ) (f : Fault) → o ≡ Some f → extent_verdict o b ≡ Err f
 verdict_err None b f is = cc
 verdict_err (Some g) b f is = cc
@@ -58,7 +59,7 @@ pub verdict_extent : (b : List ℕ) (fs : FileSystem) → first_fault (head_chec
     → head_verdict b ≡ Ok (extent_at fs b)
 verdict_extent b fs none system = grind (arith, common_steps)
 
--- the checks of a header, each by the name of what it is of
+-- the checks of a header, each by the name of its field
 pub record Checked (b : List ℕ) : Type 0 where
   pub front_within : nat_le 56 (length b) ≡ true
   pub signature : has_signature b ≡ true
@@ -127,11 +128,11 @@ front_of b fs small is guid all =
     } in
     (ext.0, front)
 
--- the GUID of the file system that is found
+-- a file system that is found has the GUID at offset 16
 guid_found : (b : List ℕ) (fs : FileSystem) → file_system_at b ≡ Some fs → field 16 16 b ≡ system_guid fs
 guid_found b fs is = search (rules, bytes_eq-Decides)
 
--- the file system that is there is found
+-- a file system whose GUID is at offset 16 is found
 guid_finds : (b : List ℕ) (fs : FileSystem) → field 16 16 b ≡ system_guid fs → file_system_at b ≡ Some fs
 guid_finds b Ffs2 is = rw ((bytes_eq-Decides (field 16 16 b) (system_guid Ffs2)).1 is) refl
 guid_finds b Ffs3 is =
@@ -147,7 +148,7 @@ front_found b e small h =
     subst (λ (e : Extent). (y : Option Extension) × BeginsVolume (fields_of e.file_system y b) e b) x.2
     (front_of b x.0 small x.1 (guid_found b x.0 x.1) (all_hold (head_checks b) v.0))
 
--- an extent by its fields
+-- an extent is made of its fields
 extent_is : (l n f : ℕ) (fs : FileSystem) (p : Polarity) (e : Extent) → l ≡ e.length → n ≡ e.header_len → f ≡ e.first → fs ≡ e.file_system
     → p ≡ e.polarity
     → (let made : Extent = record { length = l; header_len = n; first = f; file_system = fs; polarity = p } in made) ≡ e
@@ -222,7 +223,7 @@ front_only b h e f =
     let same : n ≡ e.header_len = ap le (sym (field-take 48 2 e.header_len b (omega arith))) ∙ head.header_length ∙ len in
     front_exact b h e same least f
 
--- fields by their parts
+-- header fields are made of their parts
 pub fields_are : (z : List ℕ) (fs : FileSystem) (l a r : ℕ) (bs : List (ℕ × ℕ)) (x : Option Extension) (h : HeadFields) → h.zero_vector ≡ z
     → h.file_system ≡ fs → h.length ≡ l
     → h.attributes ≡ a → h.reserved ≡ r → h.blocks ≡ bs → h.ext ≡ x
@@ -230,7 +231,7 @@ pub fields_are : (z : List ℕ) (fs : FileSystem) (l a r : ℕ) (bs : List (ℕ 
     record { zero_vector = z; file_system = fs; length = l; attributes = a; reserved = r; blocks = bs; ext = x } in made)
 fields_are z fs l a r bs x h p q s t u v w = rw (← p, ← q, ← s, ← t, ← u, ← v, ← w) refl
 
--- a volume's header has no other fields
+-- the header of a volume has only the fields that are read from it
 pub front_fields : (b : List ℕ) (h : HeadFields) (e : Extent) → BeginsVolume h e b → h ≡ fields_of e.file_system h.ext b
 front_fields b h e f =
     let head = f.head in

@@ -1,7 +1,8 @@
--- The faults of a header.
--- 1. A verdict that is a fault is the first fault of the checks (fault_first).
--- 2. Such a fault is at an offset within the bytes, or at their end (fault_within), and is not OutOfMemory (fault_known).
--- 3. So a result that is the verdict has what each clause says (ok_found, err_first, err_within).
+-- The first fault of a header is within its bytes, and is not OutOfMemory. The steps:
+-- 1. A verdict that is a fault is the first fault of the checks (`fault_first`).
+-- 2. The first fault is at an offset within the bytes, or at their end (`fault_within`), and is not OutOfMemory
+--    (`fault_known`).
+-- 3. So a result that is the verdict meets each clause (`ok_found`, `err_first`, `err_within`).
 use Rattle.std.proofs.Common.{◌≡◌, ◌≢◌, ◌≤◌, ℕ, List, [], ◌∷◌, length, refl, sym, ap, ◌∙◌, arith}
 use Rattle.std.proofs.Common.{true}
 use Rattle.std.specs.Prelude.{nat_le, is_some, Option, None, Some, Result, Ok, Err, IfOk, IfErr}
@@ -28,7 +29,7 @@ fault_first b f h = go (first_fault (head_checks b)) refl h where
     found (Some fs) some k = cc
     found None some k = cc
 
--- a fault of a header is within the bytes or at their end
+-- the first fault of a header is within the bytes, or at their end
 pub fault_within : (b : List ℕ) (f : Fault) → IsFirstFault (head_checks b) f → f.place.offset ≤ length b
 fault_within b f ([], c, after, is, held, fails, fault) =
     let first : c ≡ check (nat_le 56 (length b)) kinds.Truncated (length b) = cc in
@@ -50,7 +51,7 @@ fault_within b f (d ∷ ds, c, after, is, held, fails, fault) =
     ) in
     first_among P (head_checks b) f all (d ∷ ds, c, after, is, held, fails, fault)
 
--- and is not OutOfMemory
+-- the first fault of a header is not OutOfMemory
 pub fault_known : (b : List ℕ) (f : Fault) → IsFirstFault (head_checks b) f → f.kind ≢ kinds.OutOfMemory
 fault_known b f first =
     let P : Fault → Type 0 = λ g. g.kind ≢ kinds.OutOfMemory in

@@ -1,11 +1,13 @@
--- A header is what its fields spell. The steps:
--- 1. The pairs that bytes spell are spelled as these bytes (`pairs_bytes-pairs_of`).
--- 2. A header is what its fields spell, with its checksum and its ExtHeaderOffset (`before_is`, `behind_is`, `patched_is`, `unpatched`).
--- 3. With another ExtHeaderOffset, and the checksum that makes its sum right, it is a header of the same fields (`patched_head`). There is
---    one such checksum (`sum_patched`, `checksum_right`, `checksum_only`).
--- 4. So the canonical head is a canonical header (`canonical_is`), and the only one (`canonical_only`). With its extended header in a pad
---    file after it, it begins a volume of its fields (`canonical_front`).
--- 5. The checksum is found from a sum of words (`weight-words`, `checksum_from`).
+-- A header is the bytes that are written for its fields, and the canonical head is the only canonical header of its
+-- fields. The steps:
+-- 1. The bytes that are written for the pairs of some bytes are these bytes (`pairs_bytes-pairs_of`).
+-- 2. A header is what is written for its fields, its checksum and its ExtHeaderOffset (`before_is`, `behind_is`,
+--    `patched_is`, `unpatched`).
+-- 3. With another ExtHeaderOffset, and the checksum that makes its sum 0, it is a header with the same fields
+--    (`patched_head`). There is one such checksum (`sum_patched`, `checksum_right`, `checksum_only`).
+-- 4. So the canonical head is a canonical header (`canonical_is`), and the only one (`canonical_only`). With its
+--    extended header in a pad file after it, it begins a volume with its fields (`canonical_front`).
+-- 5. The checksum is computed from a sum of words (`weight-words`, `checksum_from`).
 use Rattle.std.proofs.lemmas.Grind.{common_steps}
 use Rattle.std.proofs.Common.{◌≡◌, ◌≤◌, ◌<◌, ℕ, ◌+◌, ◌-◌, ◌*◌, ◌%◌, List, [], ◌∷◌, ◌++◌, length, take, drop, refl, sym, ap, ◌∙◌, subst}
 use Rattle.std.proofs.Common.{arith, false, length-append, length-drop, append_assoc, drop-drop, rules}
@@ -31,7 +33,7 @@ length-pairs_of = by_eights (λ xs. 8 * length (pairs_of xs) ≡ length xs) refl
 four_bytes : (a b c d : ℕ) → IsBytes (a ∷ b ∷ c ∷ d ∷ []) → le_bytes 4 (le (a ∷ b ∷ c ∷ d ∷ [])) ≡ a ∷ b ∷ c ∷ d ∷ []
 four_bytes a b c d h = le_bytes-le (a ∷ b ∷ c ∷ d ∷ []) h
 
--- pairs that bytes spell, spelled again
+-- the bytes that are written for the pairs of some bytes are these bytes
 pairs_bytes-pairs_of : (xs : List ℕ) → IsBytes xs → length xs % 8 ≡ 0 → pairs_bytes (pairs_of xs) ≡ xs
 pairs_bytes-pairs_of xs small h = by_eights (λ ys. IsBytes ys → pairs_bytes (pairs_of ys) ≡ ys) (λ none. refl) step xs h small where
   step : (a b c d e f g i : ℕ) (xs : List ℕ) → (IsBytes xs → pairs_bytes (pairs_of xs) ≡ xs)
@@ -54,7 +56,7 @@ pairs_bytes-append (p ∷ ps) qs =
 
 -- ---- a header in parts
 
--- its length is what its fields say
+-- the HeaderLength that follows from the fields of a header is its length
 pub header_len_is : (h : HeadFields) (b : List ℕ) → IsHead h b → header_len_of h ≡ length b
 header_len_is h b head =
     let behind : length (drop 56 b) ≡ length b - 56 = length-drop 56 b in
@@ -63,11 +65,12 @@ header_len_is h b head =
     let more : length (pairs_of (drop 56 b)) ≡ length h.blocks + 1 = ap length head.block_map ∙ length-append h.blocks ((0, 0) ∷ []) in
     omega (arith, behind, count, more, head.least)
 
--- the first n + k bytes after a place, and then more
+-- n + k bytes from an offset on are a field of n bytes, and then k bytes
 cut : (at n k : ℕ) (b r : List ℕ) → take (n + k) (drop at b) ++ r ≡ field at n b ++ (take k (drop (at + n) b) ++ r)
 cut at n k b r = grind (arith, common_steps, take-add, append_assoc, drop-drop)
 
--- the fields before the checksum
+-- the bytes before the checksum are ZeroVector, the file system's GUID, FvLength, the signature, Attributes and
+-- HeaderLength
 before_is : (h : HeadFields) (b r : List ℕ) → IsHead h b
     → take 50 b ++ r
     ≡ h.zero_vector ++ (system_guid h.file_system
@@ -93,7 +96,7 @@ before_is h b r head =
         → a ++ (b ++ (c ++ (d ++ (e ++ (f ++ r))))) ≡ a' ++ (b' ++ (c' ++ (d' ++ (e' ++ (f' ++ r)))))
     six a b c d e f a' b' c' d' e' f' r p q s t u v = rw (p, q, s, t, u, v) refl
 
--- the fields after ExtHeaderOffset
+-- the bytes after ExtHeaderOffset are Reserved, Revision 2, the blocks and the pair of zeros
 behind_is : (h : HeadFields) (b : List ℕ) → IsHead h b → drop 54 b ≡ (h.reserved ∷ 2 ∷ []) ++ (pairs_bytes h.blocks ++ le_bytes 8 0)
 behind_is h b head =
     let behind : length (drop 56 b) ≡ length b - 56 = length-drop 56 b in
@@ -108,11 +111,11 @@ behind_is h b head =
     three : (x y x' y' : ℕ) (r r' : List ℕ) → x ≡ x' → y ≡ y' → r ≡ r' → x ∷ y ∷ r ≡ x' ∷ y' ∷ r'
     three x y x' y' r r' p q s = rw (p, q, s) refl
 
--- a header, with its checksum and its ExtHeaderOffset changed
+-- a header in which Checksum and ExtHeaderOffset are replaced
 patched : List ℕ → ℕ → ℕ → List ℕ
 patched b checksum offset = take 50 b ++ (le_bytes 2 checksum ++ (le_bytes 2 offset ++ drop 54 b))
 
--- joins, from the right and from the left
+-- eleven lists that are joined from the right are the same lists joined from the left
 rejoined : (a b c d e f g h i j k : List ℕ)
     → a ++ (b ++ (c ++ (d ++ (e ++ (f ++ (g ++ (h ++ (i ++ (j ++ k))))))))) ≡ a ++ b ++ c ++ d ++ e ++ f ++ g ++ h ++ i ++ j ++ k
 rejoined a b c d e f g h i j k = simp append_assoc refl
@@ -127,7 +130,7 @@ patched_is h b checksum offset head =
     ∙ rejoined h.zero_vector (system_guid h.file_system) (le_bytes 8 h.length) signature_bytes (le_bytes 4 h.attributes)
     (le_bytes 2 (header_len_of h)) (le_bytes 2 checksum) (le_bytes 2 offset) (h.reserved ∷ 2 ∷ []) (pairs_bytes h.blocks) (le_bytes 8 0)
 
--- unchanged, it is the header
+-- a header in which Checksum and ExtHeaderOffset are replaced by their own values is unchanged
 unpatched : (h : HeadFields) (b : List ℕ) → IsHead h b → patched b (le_at 50 2 b) (le_at 52 2 b) ≡ b
 unfolding patched
 unpatched h b head =
@@ -143,7 +146,7 @@ unpatched h b head =
 
 -- ---- a header that is changed
 
--- places before the checksum
+-- a field before Checksum is the same in the changed header
 patched_front : (i n : ℕ) (b : List ℕ) (checksum offset : ℕ) → i + n ≤ 50 → 54 ≤ length b
     → field i n (patched b checksum offset) ≡ field i n b
 unfolding patched
@@ -152,7 +155,7 @@ patched_front i n b checksum offset within long =
     field-append_front i n (take 50 b) (le_bytes 2 checksum ++ (le_bytes 2 offset ++ drop 54 b)) (omega (arith, fifty, within))
     ∙ field-take i n 50 b within
 
--- places after ExtHeaderOffset
+-- the bytes after ExtHeaderOffset are the same in the changed header
 patched_behind : (i : ℕ) (b : List ℕ) (checksum offset : ℕ) → 54 ≤ i → 54 ≤ length b → drop i (patched b checksum offset) ≡ drop i b
 unfolding patched
 patched_behind i b checksum offset past long =
@@ -174,7 +177,7 @@ patched_at : (i : ℕ) (b : List ℕ) (checksum offset : ℕ) → 54 ≤ i → 5
     → slice_index (patched b checksum offset) i ≡ slice_index b i
 patched_at i b checksum offset past long = grind (arith, common_steps, patched, patched_behind, get_or-drop)
 
--- ExtHeaderOffset itself
+-- ExtHeaderOffset has its new value in the changed header
 patched_offset : (b : List ℕ) (checksum offset : ℕ) → offset < 65536 → 54 ≤ length b → le_at 52 2 (patched b checksum offset) ≡ offset
 unfolding patched
 patched_offset b checksum offset small long =
@@ -201,7 +204,7 @@ bytes_patched : (b : List ℕ) (checksum offset : ℕ) → IsBytes b → IsBytes
 unfolding patched
 bytes_patched b checksum offset small = search (rules, bytes_append, bytes_take, bytes_le_bytes, bytes_drop)
 
--- with a right sum it is a header of the same fields
+-- a changed header whose words sum to 0 is a header with the same fields
 patched_head : (h : HeadFields) (b : List ℕ) (checksum offset : ℕ) → IsHead h b → sum16_of (patched b checksum offset) ≡ 0
     → IsHead h (patched b checksum offset)
 patched_head h b checksum offset head right =
@@ -231,7 +234,7 @@ patched_head h b checksum offset head right =
 
 -- ---- the checksum
 
--- a checksum adds itself to the sum of the words
+-- the words of a header sum to their sum with Checksum 0, plus the checksum
 sum_patched : (b : List ℕ) (checksum offset : ℕ) → checksum < 65536 → 54 ≤ length b
     → sum (words_of (patched b checksum offset)) ≡ sum (words_of (patched b 0 offset)) + checksum
 unfolding patched
@@ -263,7 +266,7 @@ canonical_offset_small : (h : HeadFields) (b : List ℕ) (x : Option Extension) 
 canonical_offset_small h b None head = omega arith
 canonical_offset_small h b (Some x) head = omega (arith, header_len_is h b head, head.most)
 
--- the canonical head is one
+-- the canonical head is a canonical header of its fields
 pub canonical_is : (h : HeadFields) → IsReadHead h → IsCanonicalHead h (canonical_head h)
 unfolding canonical_head
 canonical_is h (b, head) =
@@ -283,7 +286,7 @@ canonical_is h (b, head) =
       offset = ap (le_at 52 2) (sym same) ∙ patched_offset b checksum offset (canonical_offset_small h b h.ext head) long;
     }
 
--- and there is no other
+-- no other header is a canonical header of these fields
 pub canonical_only : (h : HeadFields) (b : List ℕ) → IsCanonicalHead h b → b ≡ canonical_head h
 unfolding canonical_head
 canonical_only h b canonical =
@@ -304,11 +307,11 @@ canonical_only h b canonical =
     ∙ ap (λ (n : ℕ). head_spelled h n offset) checksum_is
     ∙ ap (λ (n : ℕ). head_spelled h (checksum_of h n) n) canonical.offset
 
--- it is as long as its fields say
+-- the canonical head has the length that follows from its fields
 pub length-canonical : (h : HeadFields) → IsReadHead h → length (canonical_head h) ≡ header_len_of h
 length-canonical h read = sym (header_len_is h (canonical_head h) (canonical_is h read).head)
 
--- where the extended header is, after the canonical head
+-- if ExtHeaderOffset is the canonical one, the extended header in the pad file after the canonical head is the volume's
 canonical_ext : (h : HeadFields) (rest : List ℕ) (x : Option Extension) → IsReadHead h → h.ext ≡ x → IfRead x → CanonicalRest x rest
     → canonical_end h x ≤ h.length
     → le_at 52 2 (canonical_head h ++ rest) ≡ canonical_offset h x → HasExt x (extent_of h (first_edge h x)) (canonical_head h ++ rest)
@@ -324,7 +327,7 @@ canonical_ext h rest (Some x) read is known (pad, used, behind, text, long) fits
     let sum : length (b ++ pad) + length part ≡ canonical_end h (Some x) = omega (arith, before, again.1) in
     (b ++ pad, part, behind, joined, before ∙ sym offset, omega (arith, before), omega (arith, sum, fits), again.0, ap up_to_8 (sym sum))
 
--- read again, with its extended header in a pad file after it, it gives its fields
+-- the canonical head, with its extended header in a pad file after it, begins a volume with its fields
 pub canonical_front : (h : HeadFields) (rest : List ℕ) → IsReadHead h → IfRead h.ext → CanonicalRest h.ext rest
     → canonical_end h h.ext ≤ h.length → h.length ≤ length (canonical_head h ++ rest)
     → BeginsVolume h (extent_of h (first_edge h h.ext)) (canonical_head h ++ rest)
@@ -354,18 +357,18 @@ weight-words (x ∷ y ∷ xs) h =
     let first = sum_by-cons (λ (n : ℕ). n) (le (x ∷ y ∷ [])) (words_of xs) in
     omega (arith, rest, first)
 
--- a header has only whole words
+-- a header has an even number of bytes
 pub spelled_even : (h : HeadFields) (checksum offset : ℕ) → IsReadHead h → length (head_spelled h checksum offset) % 2 ≡ 0
 spelled_even h checksum offset (b, head) =
     let same : length (head_spelled h checksum offset) ≡ length b =
     ap length (sym (patched_is h b checksum offset head)) ∙ length-patched b checksum offset (omega (arith, head.least)) in
     omega (arith, same, head.multiple)
 
--- the most bytes of a header
+-- a header has at most 2112 bytes
 pub header_len_most : (h : HeadFields) → IsReadHead h → header_len_of h ≤ header_limit
 header_len_most h (b, head) = omega (arith, header_len_is h b head, head.most)
 
--- the checksum that a sum of words comes to
+-- the checksum of a header is 65536 minus the sum of its words with Checksum 0, modulo 65536
 pub checksum_from : (h : HeadFields) (offset total : ℕ) → IsReadHead h → total < 65536
     → total % 65536 ≡ (0 + word_weight false (head_spelled h 0 offset)) % 65536
     → (65536 - total) % 65536 ≡ checksum_of h offset

@@ -1,7 +1,7 @@
--- Where the header of a volume is, and that it is the only one.
--- 1. Its length and its fields are read at their offsets (front_within, kept_fields, ext_there).
--- 2. So bytes begin with one volume at most (one_front), and which one depends on the volume's own bytes (front_same).
--- 3. The header and the first file are in the volume (front_lies, first_lies).
+-- The fields of a volume header are read at their offsets, and bytes begin with at most one volume. The steps:
+-- 1. The length of the header and its fields are read at their offsets (`front_within`, `kept_fields`, `ext_there`).
+-- 2. So bytes begin with at most one volume (`one_front`), and only the volume's own bytes decide which (`front_same`).
+-- 3. The header and the start of the first file lie within the volume (`front_lies`, `first_lies`).
 use Rattle.std.proofs.Common.{◌≡◌, ◌≤◌, ℕ, ◌+◌, ◌-◌, ◌%◌, List, length, take, refl, sym, ap, ◌∙◌, subst, arith, rules}
 use Rattle.std.specs.Prelude.{Option, Some, slice_index}
 use Rattle.std.proofs.lemmas.List.{length-take-le}
@@ -16,7 +16,7 @@ use Rattle.fv_head.specs.inner.HeadVerdicts.{extent_at}
 use Rattle.fv_head.proofs.ExtLemmas.{stands, read_there, one_has_ext, ext_same}
 use Rattle.fv_head.proofs.HeadCheckLemmas.{extent_ok, fields_are, fields_of, front_fields, front_only, verdict_ok}
 
--- where the header of a volume lies
+-- the header of a volume lies within the bytes, and HeaderLength is its length
 pub record Within (b : List ℕ) (e : Extent) : Type 0 where
   pub at : e.header_len ≡ header_len_at b
   pub least : 64 ≤ e.header_len
@@ -34,7 +34,7 @@ front_within b h e f =
       within = f.long_enough;
     }
 
--- what is kept of a header, with the extended header that is there, are its fields
+-- the values that are read at the offsets of a header, with its extended header, are its fields
 pub kept_fields : (b : List ℕ) (e : Extent) (z : List ℕ) (l a r : ℕ) (bs : List (ℕ × ℕ)) (x : Option Extension)
     → (h : HeadFields) × BeginsVolume h e b → z ≡ field 0 16 b
     → l ≡ volume_len_at b → a ≡ le_at 44 4 b → r ≡ slice_index b 54 → bs ≡ pairs_of (field 56 (e.header_len - 64) b) → HasExt x e b
@@ -52,7 +52,7 @@ kept_fields b e z l a r bs x found p q s t u ext =
     (ap (λ (n : ℕ). blocks_at n b) (sym within.at) ∙ sym u) exts in
     subst (λ (h : HeadFields). BeginsVolume h e b) (front_fields b found.0 e front ∙ same) front
 
--- the extended header that ExtHeaderOffset names
+-- the extended header at ExtHeaderOffset lies within the bytes
 pub record ExtThere (e : Extent) (b : List ℕ) : Type 0 where
   pub header : ext_offset_at b + 20 ≤ length b
   pub within : ext_offset_at b + ext_size_at b ≤ length b
@@ -76,24 +76,24 @@ ext_there {b} {e} {offset} found at some =
       read = λ x is. read_there x e b _ s front.whole refl is;
     }
 
--- bytes begin with one volume at most
+-- bytes begin with at most one volume
 pub one_front : (b : List ℕ) (h k : HeadFields) (e x : Extent) → BeginsVolume h e b → BeginsVolume k x b → (h ≡ k) × (e ≡ x)
 one_front b h k e x front other = search (rules, front_only, one_has_ext, front_fields)
 
 -- ---- laws for the crates above
 
--- the checks of the header of a volume hold
+-- if bytes begin with a volume, the checks of its header hold
 pub front_holds : (b : List ℕ) (h : HeadFields) (e : Extent) → BeginsVolume h e b → AllHold (head_checks b)
 front_holds b h e front = all_hold (head_checks b) (verdict_ok (first_fault (head_checks b)) b e (front_only b h e front)).0
 
--- its extent is what the header says
+-- the extent of a volume is the one that its header gives
 pub front_extent : (b : List ℕ) (h : HeadFields) (e : Extent) → BeginsVolume h e b → (fs : FileSystem) × (extent_at fs b ≡ e)
 front_extent b h e front =
     let v = verdict_ok (first_fault (head_checks b)) b e (front_only b h e front) in
     let x = extent_ok (file_system_at b) _ b e v.1 in
     (x.0, x.2)
 
--- the header lies in the volume, and the volume is within the limit
+-- the header lies within the volume, and the volume is within the limit
 pub record Lies (e : Extent) : Type 0 where
   pub least : 64 ≤ e.header_len
   pub most : e.header_len ≤ header_limit
@@ -110,12 +110,12 @@ front_lies b h e f =
       limit = rw f.length_is f.head.volume_most;
     }
 
--- the first file begins at a multiple of 8 in the volume, whose length is a multiple of 8
+-- the first file may begin at a multiple of 8 within the volume, whose length is a multiple of 8
 pub first_lies : (b : List ℕ) (h : HeadFields) (e : Extent) → BeginsVolume h e b
     → (e.first % 8 ≡ 0) × (e.first ≤ e.length) × (e.length % 8 ≡ 0)
 first_lies b h e f = search rules
 
--- a volume is a matter of its own bytes
+-- bytes that begin with the same bytes as a volume begin with this volume
 pub front_same : (b c : List ℕ) (h : HeadFields) (e : Extent) → BeginsVolume h e b → e.length ≤ length c → take e.length c ≡ take e.length b
     → BeginsVolume h e c
 front_same b c h e f long same =

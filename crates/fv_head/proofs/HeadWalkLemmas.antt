@@ -1,4 +1,4 @@
--- What walks over a header put.
+-- Steps of the walks over a header: what a sink has taken after one more byte, pair or field.
 use Rattle.std.proofs.lemmas.Grind.{common_steps}
 use Rattle.std.proofs.Common.{◌≡◌, ◌<◌, ◌≤◌, ℕ, ◌+◌, ◌%◌, List, [], ◌∷◌, ◌++◌, length, take, drop, get_or, refl, sym, ap, ◌∙◌, subst, arith}
 use Rattle.std.proofs.Common.{append_assoc, append-nil, Bool}
@@ -8,7 +8,7 @@ use Rattle.fv_base.specs.Words.{WalkLaws, le_bytes}
 use Rattle.fv_head.specs.Words.{pairs_bytes}
 use Rattle.fv_head.specs.inner.WordSums.{adds_joined, word_weight, is_high_behind}
 
--- one more byte is added
+-- the sum so far and one more byte are the sum up to the next index
 pub byte_added : (high h : Bool) (xs : List ℕ) (i t0 t w : ℕ) → i < length xs → h ≡ is_high_behind high (take i xs)
     → t % 65536 ≡ (t0 + word_weight high (take i xs)) % 65536
     → w ≡ word_weight h (get_or xs i 0 ∷ [])
@@ -19,17 +19,17 @@ byte_added high h xs i t0 t w within first total is =
     let both = adds_joined t0 t ((t + w) % 65536) high h (not h) (take i xs) x first refl total more in
     rw (take_more xs i 0 within) both
 
--- one more pair is put
+-- the pairs so far and one more pair, with the pairs that are left, are all pairs
 pub pairs_step : (front : List ℕ) (ps : List (ℕ × ℕ)) (i : ℕ) → i < length ps → front ++ pairs_bytes (drop i ps) ≡ pairs_bytes ps
     → (front ++ (le_bytes 4 (get_or ps i (0, 0)).0 ++ le_bytes 4 (get_or ps i (0, 0)).1)) ++ pairs_bytes (drop (i + 1) ps) ≡ pairs_bytes ps
 pairs_step front ps i within is = grind (arith, common_steps, append_assoc, drop_more)
 
--- no pair is left
+-- if no pair is left, the bytes so far are those of all pairs
 pub pairs_end : (front : List ℕ) (ps : List (ℕ × ℕ)) (i : ℕ) → length ps ≤ i → front ++ pairs_bytes (drop i ps) ≡ pairs_bytes ps
     → front ≡ pairs_bytes ps
 pairs_end front ps i past is = sym (append-nil front) ∙ ap (λ (qs : List (ℕ × ℕ)). front ++ pairs_bytes qs) (sym (drop_all i ps past)) ∙ is
 
--- a walk in eleven steps
+-- eleven walks in a row are one walk over the joined bytes
 pub eleven : {S : Type 0} {takes : S → List ℕ → S → Type 0} (laws : WalkLaws takes) {s0 s1 s2 s3 s4 s5 s6 s7 s8 s9 s10 s11 : S}
     {a b c d e f g h i j k : List ℕ}
     → takes s0 a s1 → takes s1 b s2 → takes s2 c s3 → takes s3 d s4 → takes s4 e s5 → takes s5 f s6 → takes s6 g s7 → takes s7 h s8
@@ -39,6 +39,6 @@ eleven laws p1 p2 p3 p4 p5 p6 p7 p8 p9 p10 p11 =
     laws.joined (laws.joined (laws.joined (laws.joined (laws.joined (laws.joined (laws.joined (laws.joined (laws.joined (laws.joined
     p1 p2) p3) p4) p5) p6) p7) p8) p9) p10) p11
 
--- the same bytes by another name
+-- a walk over some bytes is a walk over equal bytes
 pub renamed : {S : Type 0} (takes : S → List ℕ → S → Type 0) {s t : S} {a b : List ℕ} → takes s a t → a ≡ b → takes s b t
 renamed takes {s} {t} taken same = subst (λ (xs : List ℕ). takes s xs t) same taken

@@ -1,4 +1,4 @@
--- A single bit of a volume's attributes.
+-- The test of one bit of a volume's attributes.
 use Rattle.std.proofs.Common.{◌≡◌, ℕ, ◌/◌, ◌%◌, bit_and, ap, ◌∙◌, arith}
 use Rattle.std.specs.Prelude.{◌==◌}
 use Rattle.std.specs.Int.{bit_at}

@@ -1,4 +1,4 @@
--- What a block says by its type: its type, its length and its body are those of its bytes, whatever the type.
+-- The type, the length and the body of a block are those that its bytes give, whatever its type is.
 use Rattle.std.proofs.lemmas.Grind.{common_steps}
 use Rattle.std.proofs.Common.{◌≡◌, ◌≤◌, ℕ, ◌+◌, ◌-◌, List, [], ◌∷◌, ◌++◌, length, drop, refl, sym, ap, ◌∙◌, arith, true, false}
 use Rattle.std.proofs.Common.{length-drop, drop-drop, append-nil}
@@ -27,7 +27,7 @@ record Unknown (n : ℕ) : Type 0 where
 on : (P : ℕ → Type 0) (k n : ℕ) → P k → ((n == k) ≡ false → P n) → P n
 on P k n here other = grind (arith, common_steps, eqb-true)
 
--- what is true of each type that `kind_by` names, and of those that it does not
+-- a property of each type that `kind_by` names, and of the types that it does not name, is a property of every type
 rows : (P : ℕ → Type 0) → P 0x0001 → P 0x0002 → P 0x0003 → P 0x0004 → P 0x0005 → P 0x0006 → P 0x0007 → P 0x0009 → P 0x000b → P 0xfffe
     → P 0xffff
     → ((n : ℕ) → Unknown n → P n) → (n : ℕ) → P n
@@ -62,11 +62,11 @@ len_by b least = rows (HasLen b)
 
 -- ---- the body
 
--- a field before the bytes after it
+-- a field followed by the bytes after it are the bytes from the field on
 pub then : (i n : ℕ) (b x : List ℕ) → x ≡ drop (i + n) b → field i n b ++ x ≡ drop i b
 then i n b x e = ap (λ (l : List ℕ). field i n b ++ l) (e ∙ sym (drop-drop n i b)) ∙ take-append-drop n (drop i b)
 
--- and a number
+-- the bytes of the number in a field, followed by the bytes after it, are the bytes from the field on
 pub number : (i n : ℕ) (b x : List ℕ) → IsBytes b → i + n ≤ length b → x ≡ drop (i + n) b → le_bytes n (le_at i n b) ++ x ≡ drop i b
 number i n b x bytes within e = ap (λ (l : List ℕ). l ++ x) (field_is i n b bytes within) ∙ then i n b x e
 
@@ -105,7 +105,7 @@ volume2_body b bytes e =
     number 8 8 b _ bytes (omega (arith, e))
     (number 16 8 b _ bytes (omega (arith, e)) (then 24 16 b _ (then 40 16 b [] (none_behind 56 b e))))
 
--- the body is written as it was read, but for an unused block's
+-- the body of a block that is not unused is written as it was read
 pub body_by : (b : List ℕ) → IsBytes b → (n : ℕ) → has_shape n (length b) ≡ true → (n == 0xfffe) ≡ false
     → concat (hob_fields (kind_by n b)) ≡ drop 8 b
 body_by b bytes = rows (HasBody b)

@@ -1,7 +1,7 @@
--- A block is there where its checks hold, and its length decides it. The steps:
--- 1. A block has the type and the length that its bytes say (`code_is`, `len_is`).
--- 2. Where the checks hold, a block is there (`stands`), and where one is, they hold (`checks_hold`).
--- 3. Bytes begin with one block at most (`one_block`).
+-- A block is there exactly if its checks hold, and its length determines it. The steps:
+-- 1. A block has the type and the length that its bytes give (`code_is`, `len_is`).
+-- 2. If the checks hold, a block is there (`stands`), and if a block is there, they hold (`checks_hold`).
+-- 3. Bytes begin with at most one block (`one_block`).
 use Rattle.std.proofs.lemmas.Grind.{common_steps}
 use Rattle.std.proofs.Common.{◌≡◌, ◌≤◌, ◌<◌, ℕ, ◌+◌, List, ◌++◌, length, take, drop, refl, sym, ap, ◌∙◌, subst, arith, Bool, true, false}
 use Rattle.std.proofs.Common.{length-append}

@@ -1,7 +1,8 @@
--- Blocks and lists that were read are written as blocks and lists that say the same. The steps:
--- 1. A block is written as it was read, except for the body of an unused one (`header`, `kept_by`). Zeros in that body say the same
---    (`zeroed`, `written_again`).
--- 2. So the blocks of a list that are written are these blocks (`list_again`), and if all are used, the same bytes (`list_kept`).
+-- Blocks and lists that were read are written as bytes that are the same blocks and lists. The steps:
+-- 1. A block is written as it was read, except for the body of an unused block (`header`, `kept_by`). With zeros as its
+--    body, it is the same block (`zeroed`, `written_again`).
+-- 2. So the written blocks of a list are these blocks (`list_again`), and if no block is unused, the bytes are the same
+--    (`list_kept`).
 use Rattle.std.proofs.lemmas.Grind.{common_steps}
 use Rattle.std.proofs.Common.{◌≡◌, ◌≤◌, ℕ, zero, suc, ◌+◌, ◌-◌, List, [], ◌∷◌, ◌++◌, length, take, drop, refl, sym, ap, ◌∙◌, subst, arith}
 use Rattle.std.proofs.Common.{Bool, true, false, length-append, append-nil, append_assoc}
@@ -18,7 +19,7 @@ use Rattle.fv_hob.specs.declared.hob.HobKind.TheVariants as kinds
 use Rattle.fv_hob.proofs.HobCheckLemmas.{code_is, len_is}
 use Rattle.fv_hob.proofs.BlockKindLemmas.{body_by}
 
--- the header is written as it was read
+-- the header of a block is written as it was read
 header : (h : HobForm) (b x : List ℕ) → IsHob h b
     → le_bytes 2 (hob_type h.kind) ++ (le_bytes 2 (hob_len h.kind) ++ (le_bytes 4 h.reserved ++ x)) ≡ take 8 b ++ x
 header h b x is =
@@ -35,7 +36,7 @@ header h b x is =
         ap (λ (l : List ℕ). l ++ x) (take-add 4 4 b ∙ ap (λ (l : List ℕ). l ++ field 4 4 b) (take-add 2 2 b))
         ∙ append_assoc (field 0 2 b ++ field 2 2 b) (field 4 4 b) x ∙ append_assoc (field 0 2 b) (field 2 2 b) (field 4 4 b ++ x)
 
--- another body of zeros
+-- an unused block with a body of zeros is the same block
 zeroed : (h : HobForm) (b : List ℕ) → IsHob h b → (le_at 0 2 b == 0xfffe) ≡ true → IsHob h (take 8 b ++ replicate (length b - 8) 0)
 zeroed h b is e =
     let block = is.block in
@@ -78,7 +79,7 @@ zeroed h b is e =
     same r s m n b c p q q' l =
         ap (λ (k : ℕ). form r k b) q ∙ ap (λ (k : ℕ). form k 0xfffe b) p ∙ ap (unused s) l ∙ sym (ap (λ (k : ℕ). form s k c) q')
 
--- a block is written as it was read, but for the body of an unused one
+-- a block is written as it was read, unless it is unused
 kept_by : (h : HobForm) (b : List ℕ) → IsHob h b → (le_at 0 2 b == 0xfffe) ≡ false → hob_spelled h ≡ b
 kept_by h b is e = header h b (concat (hob_fields h.kind)) is ∙ ap (λ (l : List ℕ). take 8 b ++ l) body ∙ take-append-drop 8 b where
   body : concat (hob_fields h.kind) ≡ drop 8 b
@@ -95,11 +96,11 @@ written_again h b is = go (le_at 0 2 b == 0xfffe) refl where
       (sym (header h b (concat (hob_fields h.kind)) is ∙ ap (λ (l : List ℕ). take 8 b ++ l) (zeros e))) (zeroed h b is e)
   go false e = subst (λ (l : List ℕ). IsHob h l) (sym (kept_by h b is e)) is
 
--- a block that is used is written as it was read
+-- a block that is not unused is written as it was read
 pub block_kept : (h : HobForm) (b : List ℕ) → IsHob h b → IsUsedHob h → hob_spelled h ≡ b
 block_kept h b is used = kept_by h b is (not_equal (le_at 0 2 b) 0xfffe (λ f. used (code_is h b is ∙ f)))
 
--- blocks that are used are written as they were read
+-- blocks of which none is unused are written as they were read
 joins_kept : (hs : List HobForm) (b : List ℕ) → JoinsHobs hs b → AllByRecursion IsUsedHob hs → list_spelled hs ≡ b
 joins_kept [] b join used = sym join
 joins_kept (h ∷ hs) b (c, rest, e, is, more) used =

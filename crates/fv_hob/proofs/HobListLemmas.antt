@@ -1,4 +1,4 @@
--- Bytes begin with one list at most.
+-- Bytes begin with at most one list of blocks.
 use Rattle.std.proofs.lemmas.Grind.{common_steps}
 use Rattle.std.proofs.Common.{◌≡◌, ℕ, List, [], ◌∷◌, ◌++◌, refl, sym, ap, ◌∙◌, arith, append_assoc}
 use Rattle.std.proofs.Common.{append-nil}
@@ -9,7 +9,7 @@ use Rattle.fv_hob.proofs.HobCheckLemmas.{one_block}
 pub end_is_none : (g h : HobForm) → h ≡ g → IsNoEndHob h → IsEndHob g → ⊥
 end_is_none g h e other end = other (ap (λ (f : HobForm). hob_type f.kind) e ∙ end)
 
--- one more block
+-- joined blocks and one more block are joined
 pub joins_more : (hs : List HobForm) (h : HobForm) (c d : List ℕ) → JoinsHobs hs c → IsHob h d → JoinsHobs (hs ++ h ∷ []) (c ++ d)
 joins_more [] h c d e is = (d, [], ap (λ (l : List ℕ). l ++ d) e ∙ sym (append-nil d), is, refl)
 joins_more (g ∷ gs) h c d (c', rest, e, is, more) js =
@@ -19,11 +19,11 @@ pub others_more : (hs : List HobForm) (h : HobForm) → AllByRecursion IsNoEndHo
 others_more [] h all other = (other, tt)
 others_more (g ∷ gs) h all other = (all.0, others_more gs h all.1 other)
 
--- bytes after a first part
+-- joined bytes with more bytes after them can be joined from either side
 whole : (c c' rest x : List ℕ) → c ≡ c' ++ rest → c' ++ (rest ++ x) ≡ c ++ x
 whole c c' rest x e = sym (append_assoc c' rest x) ∙ ap (λ (l : List ℕ). l ++ x) (sym e)
 
--- what of a list is after blocks none of which is an end
+-- the rest of a list after blocks none of which is an end block
 pub record SameFront (hs front : List HobForm) (last : HobForm) (x y : List ℕ) : Type 0 where
   pub more : List HobForm
   pub e : List ℕ
@@ -50,7 +50,7 @@ same_front (h ∷ hs) (g ∷ gs) last c d x y (c', rest, e, is, more) all (d', r
       bytes_are = s.bytes_are;
     }
 
--- the one list
+-- bytes begin with at most one list: the same blocks, and the same bytes
 pub one_list : (front front' : List HobForm) (last last' : HobForm) (c d x y : List ℕ) → JoinsHobs (front ++ last ∷ []) c
     → AllByRecursion IsNoEndHob front → IsEndHob last
     → JoinsHobs (front' ++ last' ∷ []) d → AllByRecursion IsNoEndHob front' → IsEndHob last' → c ++ x ≡ d ++ y

@@ -1,8 +1,11 @@
--- What the loop over the blocks keeps, and what its ends say. The steps:
--- 1. The blocks that were read make up the bytes up to a place (`HobsKept`), also with one more (`one_more`, `kept`).
--- 2. With the end block they are a list (`ended`).
--- 3. Memory runs out only where the bytes begin with a table (`table_stands`). No check has OutOfMemory as its fault (`no_want`).
--- 4. The fault of the next block is the first fault (`first_here`), and bytes with a first fault begin with no list (`none_after`).
+-- The loop over the blocks reads a list, or finds its first fault. The steps:
+-- 1. The blocks that were read make up the bytes up to a place (`HobsKept`), also with one more block (`one_more`,
+--    `kept`).
+-- 2. With the end block, they are a list (`ended`).
+-- 3. Memory runs out only if the bytes begin with a hand-off information table (`table_stands`). No check has
+--    OutOfMemory as its fault (`no_want`).
+-- 4. The fault of the next block is the first fault (`first_here`), and bytes with a first fault do not begin with a
+--    list (`none_after`).
 use Rattle.std.proofs.Common.{◌≡◌, ◌≤◌, ℕ, ◌+◌, List, [], ◌∷◌, ◌++◌, length, take, drop, refl, sym, ap, ◌∙◌, subst, arith, true}
 use Rattle.std.proofs.Common.{length-append, length-drop, append_assoc}
 use Rattle.std.specs.Prelude.{◌==◌, ◌≢◌, Bool}
@@ -32,7 +35,7 @@ begins_more : (items : List HobForm) (h : HobForm) → BeginWithTable items → 
 begins_more [] h begins first = first refl
 begins_more (g ∷ gs) h begins first = begins
 
--- one more block
+-- the blocks with one more block make up the bytes up to its end
 pub record OneMoreHob (b : List ℕ) (items : List HobForm) (h : HobForm) (at n : ℕ) : Type 0 where
   pub joined : JoinsHobs (items ++ h ∷ []) (take (at + n) b)
   pub begins : BeginWithTable (items ++ h ∷ [])
@@ -82,7 +85,7 @@ ended b items new h c at first first_is k stands is end new_is =
       }),
     )
 
--- where a block was read, or is there to be read, the bytes begin with a table
+-- if a block was read, or is there to be read, the bytes begin with a hand-off information table
 pub table_stands : (b : List ℕ) (items : List HobForm) (c : List ℕ) (at : ℕ) (first : Bool) → first ≡ (length items == 0)
     → HobsKept b items at → BeginsBlock first c (drop at b) → BeginsTable b
 table_stands b [] c at first first_is k stands =
@@ -102,7 +105,7 @@ table_stands b (h ∷ hs) c at first first_is k stands = go k.joined k.begins wh
     },
   )
 
--- the fault of the next block is the first of the list
+-- the fault of the next block is the first fault of the list
 pub first_here : (b : List ℕ) (items : List HobForm) (at : ℕ) (first : Bool) (f : HobFault) → first ≡ (length items == 0)
     → HobsKept b items at → f.offset ≡ at → IsFirstFault (hob_checks first (drop at b)) f.kind → IsFirstHobFault b f
 first_here b items at first f first_is k place kind = record {
@@ -117,20 +120,20 @@ first_here b items at first f first_is k place kind = record {
   kind_is = subst (λ (t : Bool). IsFirstFault (hob_checks t (drop at b)) f.kind) first_is kind;
 }
 
--- the fault of a check is no out of memory
+-- the fault of a check is not OutOfMemory
 pub no_want : (begins : Bool) (r : List ℕ) (kind : HobFaultKind) → IsFirstFault (hob_checks begins r) kind → kind ≢ kinds.OutOfMemory
 no_want begins r kind first =
     first_among (λ (k : HobFaultKind). k ≢ kinds.OutOfMemory) (hob_checks begins r) kind
     ((λ t. cc), ((λ t. cc), ((λ t. cc), ((λ t. cc), ((λ t. cc), ((λ t. cc), tt)))))) first
 
--- where there is a first fault the bytes begin with no list
+-- if there is a first fault, the bytes do not begin with a list
 pub none_after : (b : List ℕ) (f : HobFault) (all : List HobForm) (d y : List ℕ) → IsFirstHobFault b f → IsHobList all d → b ≡ d ++ y → ⊥
 none_after b f all d y here is whole =
     let s = same_front here.before is.front is.last here.c d here.r y here.read here.others
     (subst (λ (l : List HobForm). JoinsHobs l d) is.ends is.joined) is.last_is (sym here.joined ∙ whole) in
     go s.more s.e s.joined s.bytes_are (is.ends ∙ ap (λ (l : List HobForm). l ++ (is.last ∷ [])) s.front_is)
   where
-    -- the block that is at the fault
+    -- the block at the fault, if it is the first of the list, is a hand-off information table
     head : (before more : List HobForm) (last h : HobForm) (behind : List HobForm) → more ++ last ∷ [] ≡ h ∷ behind
         → all ≡ (before ++ more) ++ last ∷ [] → (length before == 0) ≡ true → hob_type h.kind ≡ 0x0001
     head [] more last h behind e same first = subst BeginWithTable (same ∙ e) is.begins

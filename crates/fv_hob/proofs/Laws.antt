@@ -1,13 +1,14 @@
--- What a crate above may cite of hand-off blocks and their lists. Each line passes some of it on from where it is proved.
+-- The laws of hand-off blocks and their lists that crates above may cite. Each is passed on from the module that proves
+-- it.
 
--- of a block: its type is at 0 of its bytes, and it has as many bytes as its kind says, which fit a field of 16 bits; bytes begin
--- with one block at most; it is there where its checks hold, and its checks hold where it is
+-- The type of a block is at offset 0 of its bytes, and its length follows from its kind, and fits a field of 16 bits.
+-- Bytes begin with at most one block. If the checks hold, the block is there, and if a block is there, its checks hold.
 pub use Rattle.fv_hob.proofs.HobCheckLemmas.{code_is, len_is, len_small, SameBlock, one_block, checks_hold, stands}
--- what is written of a block is the block, and the bytes that it was read from if it is used
+-- A block that is written is this block, and has the bytes from which it was read, unless it is unused.
 pub use Rattle.fv_hob.proofs.HobImageLemmas.{written_again, block_kept}
--- what is written of a list is the list, and those bytes if every block is used
+-- A list that is written is this list, and has the bytes from which it was read, if no block is unused.
 pub use Rattle.fv_hob.proofs.HobImageLemmas.{list_again, list_kept}
--- bytes begin with one list at most
+-- Bytes begin with at most one list.
 pub use Rattle.fv_hob.proofs.HobListLemmas.{only_list}
--- bytes that have a first fault begin with no list; a check that does not hold is no out of memory
+-- Bytes that have a first fault do not begin with a list. The fault of a check that does not hold is not OutOfMemory.
 pub use Rattle.fv_hob.proofs.HobReadLemmas.{none_after, no_want}

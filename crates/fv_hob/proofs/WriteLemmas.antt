@@ -1,4 +1,4 @@
--- One more field, one more block, one more span.
+-- After one more field, block or span, the written bytes are the fields so far and the new ones.
 use Rattle.std.proofs.lemmas.Grind.{common_steps}
 use Rattle.std.proofs.Common.{◌≡◌, ◌<◌, ℕ, ◌+◌, List, [], ◌∷◌, ◌++◌, length, take, get_or, refl, sym, ap, ◌∙◌, append_assoc, append-nil, arith}
 use Rattle.std.specs.Prelude.{Option, None, Some}
@@ -8,14 +8,14 @@ use Rattle.std.proofs.lemmas.List.Folds.{concat-append}
 use Rattle.fv_hob.specs.Words.{HobForm, hob_spelled, list_spelled, span_of, spans_of}
 use Rattle.fv_hob.specs.declared.span.Span.{Span}
 
--- after some bytes these fields were written
+-- some fields were written after some bytes
 pub record Grown (a : List ℕ) (xs : List (List ℕ)) (b : List ℕ) : Type 0 where
   pub is : b ≡ a ++ concat xs
 
 pub no_field : (a : List ℕ) → Grown a [] a
 no_field a = record { is = sym (append-nil a) }
 
--- and some more
+-- more fields were written after these
 pub more_fields : {a b c : List ℕ} {xs : List (List ℕ)} → (ys : List (List ℕ)) → Grown a xs b → c ≡ b ++ concat ys → Grown a (xs ++ ys) c
 more_fields {a} {b} {c} {xs} ys old new = grind (arith, common_steps, append_assoc, concat-append)
 

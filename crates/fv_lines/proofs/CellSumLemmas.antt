@@ -1,4 +1,4 @@
--- The cells of a volume fit into it, their bytes are counted one after the other, and why an input has none.
+-- The cells of a volume fit into it, each of their bytes is counted once, and an input that is rejected has no cells.
 use Rattle.std.proofs.Common.{◌≡◌, ◌∙◌, ◌≤◌, ◌<◌, ◌+◌, ◌^◌, ℕ, zero, suc, List, [], ◌∷◌, ◌++◌, length, take, drop, get_or}
 use Rattle.std.proofs.Common.{refl, sym, ap, subst, arith, length-append, length-drop}
 use Rattle.std.specs.Prelude.{◌⊎◌, ◌≢◌, map}
@@ -29,7 +29,7 @@ pushed cs c =
       sum_by_push free_length cs c,
     ) refl
 
--- those with one cell more, where the cells are seen as forms
+-- the sums of the first cells and one more cell, if each item has the form of a cell
 pub sums_next : {X : Type 0} (see : X → CellForm) (xs : List X) (i : ℕ) (d : X) → i < length xs
     → sums_of (map see (take (i + 1) xs)) ≡ sums_with (sums_of (map see (take i xs))) (see (get_or xs i d))
 sums_next see xs i d l = ap sums_of (map_more see xs i d l) ∙ pushed (map see (take i xs)) (see (get_or xs i d))
@@ -41,7 +41,7 @@ one (Dead at n state) = omega arith
 one (Stub at n) = omega arith
 one (Free at n) = omega arith
 
--- each byte of a cell is counted once
+-- each byte of the cells is counted once
 pub counted_is : (cs : List CellForm) → counted (sums_of cs) ≡ sum_by cell_len cs
 counted_is [] = refl
 counted_is (c ∷ cs) =
@@ -57,7 +57,7 @@ counted_is (c ∷ cs) =
       one c,
     )
 
--- so no sum is too large
+-- so no sum overflows
 pub counted_next : {X : Type 0} (see : X → CellForm) (xs : List X) (i : ℕ) (d : X) → i < length xs
     → sum_by cell_len (map see xs) < 2 ^ 63 → counted (sums_of (map see (take i xs))) + cell_len (see (get_or xs i d)) < 2 ^ 63
 counted_next see xs i d l small =
@@ -72,7 +72,7 @@ counted_next see xs i d l small =
 
 -- ---- cells fit into a volume
 
--- one of those that fit, where the cells are seen as forms
+-- an item of a list whose cells all fit has a cell that fits
 pub fits_at : {X : Type 0} (see : X → CellForm) (xs : List X) (i : ℕ) (d : X) → i < length xs
     → AllByRecursion Fits (map see xs) → Fits (see (get_or xs i d))
 fits_at see [] i d l all = absurd (omega (arith, l))
@@ -96,7 +96,7 @@ tiles_sum s p at (c ∷ cs) b (x, rest, text, is, place, last, more) =
       length-append x rest,
     )
 
--- the cells of the volume with which an input begins
+-- the cells of the volume that an input begins with fit into the volume together
 pub fit_together : (input : List ℕ) (e : Extent) (cs : List CellForm) → BeginsTiled e cs input
     → CellsWithin (length (take e.length input)) cs → FitTogether cs
 fit_together input e cs b within =
@@ -109,11 +109,11 @@ fit_together input e cs b within =
           omega (arith, tiles_sum e.file_system e.polarity e.first cs (drop e.first volume) b.tiles, length-drop e.first volume, small);
     }
 
--- the text of an input, by its cells as the code has them
+-- the lines of the cells that the code found are the text of the input
 pub cells_told : (input : List ℕ) (e : Extent) (cs ds : List CellForm) → BeginsTiled e cs input → ds ≡ cs
     → CellsText input (cell_lines e.first ds)
 cells_told input e cs ds b is = (e, ds, subst (λ (xs : List CellForm). BeginsTiled e xs input) (sym is) b, refl)
 
--- memory ran out, or the input has no cells
+-- either memory ran out, or the input has no cells
 pub none_tiled : (input : List ℕ) (f : Fault) → (f ≢ out_of_memory → NotTiled input f) → (f ≡ out_of_memory) ⊎ NotTiled input f
 none_tiled input f other = or_more (want_known f) other

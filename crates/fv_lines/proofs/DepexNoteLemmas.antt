@@ -1,4 +1,4 @@
--- What is noted of the expressions of a volume.
+-- The notes about the dependency expressions of a volume.
 use Rattle.std.proofs.Common.{◌≡◌, ◌∙◌, ◌<◌, ◌+◌, inl, inr, ℕ, List, [], ◌∷◌, ◌++◌, length, take, get_or, arith}
 use Rattle.std.proofs.Common.{Some, refl, sym, ap, subst, append-nil}
 use Rattle.std.specs.List.{flat_map}

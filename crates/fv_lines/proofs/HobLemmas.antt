@@ -1,4 +1,4 @@
--- The text of a hand-off list: the word of a block is short, and so is the text; and the lines are put in order.
+-- The text of a hand-off list: its lines are put in order, one for each block, and then the last line.
 use Rattle.std.proofs.Common.{◌≡◌, ℕ, ◌+◌, ◌<◌, ◌≤◌, List, ◌∷◌, ◌++◌, length, get_or, drop}
 use Rattle.std.proofs.Common.{refl, ◌∙◌, ap, subst}
 use Rattle.std.specs.Prelude.{Option}
@@ -7,7 +7,7 @@ use Rattle.fv_hob.specs.Words.{HobForm, hob_type, hob_len}
 use Rattle.fv_lines.specs.Words.{MappedForm, HobLines, HobsText, IsWord, consumed_line, hob_line}
 use Rattle.fv_text.proofs.Laws.{Tells, tells_more, tells_all}
 
--- the line of one block more
+-- if the line of one more block is put, the lines of the blocks up to this one are put
 pub hobs_more : {S : Type 0} {takes : S → List ℕ → S → Type 0} {hs : List HobForm} {i : ℕ} {s t u : S} → WalkLaws takes
     → (image : Option MappedForm) (h : HobForm) (code n : ℕ) (word : List ℕ) → i < length hs → h ≡ get_or hs i h
     → code ≡ hob_type h.kind → n ≡ hob_len h.kind → IsWord image h word → Tells takes (λ _. HobLines image) hs i s t
@@ -23,7 +23,7 @@ hobs_more {hs = hs} {i = i} laws image h code n word l here p q is w line =
     λ rest more. subst (λ (g : HobForm). HobLines image (g ∷ drop (i + 1) hs) (hob_line code n word ++ rest)) here (own rest more) in
     tells_more laws h (hob_line code n word) l first w line
 
--- those of all, and the last line
+-- if the lines of all blocks and then the last line are put, the text of the list is put
 pub hobs_all : {S : Type 0} {takes : S → List ℕ → S → Type 0} {hs : List HobForm} {i : ℕ} {s t u : S} → WalkLaws takes
     → (image : Option MappedForm) (n : ℕ) → length hs ≤ i → Tells takes (λ _. HobLines image) hs i s t → takes t (consumed_line n) u
     → (text : List ℕ) × HobsText image hs n text × takes s text u

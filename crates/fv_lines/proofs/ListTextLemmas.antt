@@ -1,4 +1,4 @@
--- The text of `list`: how the code comes to each of its parts.
+-- The text of `list`: the pieces that the code puts are the parts of the text.
 use Rattle.std.proofs.Common.{◌≡◌, ℕ, ◌≤◌, List, [], ◌∷◌, ◌++◌, length, drop, refl, subst, arith}
 use Rattle.std.specs.Prelude.{Option, None, Some}
 use Rattle.std.specs.List.{flat_map}
@@ -16,7 +16,7 @@ units_next [] l = absurd (omega (arith, l))
 units_next (x ∷ []) l = absurd (omega (arith, l))
 units_next (x ∷ y ∷ bs) l = refl
 
--- ---- what is shown of a body
+-- ---- the text of a body
 
 pub shown_leaf : (kind : ℕ) (body : BodyMeaning) (b text : List ℕ) → Some b ≡ leaf_of body → LeafText kind b text
     → BodyShown kind body text
@@ -31,7 +31,7 @@ shown_none kind (Nested v) is = refl
 
 -- ---- the pieces of a line
 
--- the first three of them, and then the others
+-- if three pieces and then the rest are put, the joined text is put
 pub begun : {S : Type 0} {takes : S → List ℕ → S → Type 0} {s t u v w : S} {a b c rest : List ℕ} → WalkLaws takes → takes s a t
     → takes t b u → takes u c v → takes v rest w → takes s (a ++ (b ++ (c ++ rest))) w
 begun laws p q r more = laws.joined p (laws.joined q (laws.joined r more))

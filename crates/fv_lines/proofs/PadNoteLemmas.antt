@@ -1,4 +1,4 @@
--- How many bytes of a pad are not erased.
+-- The number of a pad's bytes that are not erased.
 use Rattle.std.proofs.lemmas.Grind.{common_steps}
 use Rattle.std.proofs.Common.{◌≡◌, ◌<◌, ◌+◌, ℕ, List, length, take, get_or, true, refl, arith}
 use Rattle.std.specs.Prelude.{◌==◌}

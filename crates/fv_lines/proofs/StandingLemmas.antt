@@ -1,4 +1,4 @@
--- What an image holds in a span.
+-- What an image contains in a span of addresses.
 use Rattle.std.proofs.lemmas.Grind.{common_steps}
 use Rattle.std.proofs.Common.{◌≡◌, ◌≢◌, ℕ, List, length, arith, length-drop}
 use Rattle.std.specs.Prelude.{Result, Ok, Err}
@@ -18,7 +18,7 @@ pub volume_here : (image : List ℕ) (base : ℕ) (s : Span) (b : List ℕ) (h :
     → BeginsVolume h e b → e.length ≡ s.length → IsStanding image base s Volume
 volume_here image base s b h e (within, is) front len = grind (arith, common_steps, part_len)
 
--- no volume has the length
+-- if no volume of the span's length begins there, the volume is absent
 pub absent_here : (image : List ℕ) (base : ℕ) (s : Span) (b : List ℕ) (r : Result Extent Fault)
     → IsMapped base (length image) s × (b ≡ bytes_in_span image base s)
     → ((h : HeadFields) (e : Extent) → BeginsVolume h e b → r ≡ Ok e) → ((e : Extent) → r ≡ Ok e → e.length ≢ s.length)

@@ -1,4 +1,4 @@
--- The order of the entries of an index: by the names, and by the numbers where two have one name.
+-- The entries of an index are totally ordered: first by name, and then by file number.
 use Rattle.std.proofs.lemmas.Grind.{common_steps}
 use Rattle.std.proofs.Common.{◌≡◌, ◌≤◌, ◌⊎◌, ℕ, false, sym, ap, ◌∙◌, arith, inl, inr}
 use Rattle.std.specs.Prelude.{◌==◌, ◌&&◌}
@@ -34,7 +34,7 @@ entry_total = then_total first_total number_total
 pub less_orders : IsStrictWeakOrder (λ (a b : Entry). is_lt (entry_cmp a b))
 less_orders = ranks_by entry_total (λ (e : Entry). e)
 
--- ---- what ties is equal
+-- ---- entries that compare as equal are equal
 
 same_pair : {A B : Type 0} (a b : A × B) → a.0 ≡ b.0 → a.1 ≡ b.1 → a ≡ b
 same_pair {A} {B} a b p q = ap (λ (x : A). (x, a.1)) p ∙ ap (λ (y : B). (b.0, y)) q
@@ -52,24 +52,24 @@ tied_halves = tied_pair nat_cmp nat_cmp tied_number tied_number
 pub tied_entry : (a b : Entry) → entry_cmp a b ≡ Equal → a ≡ b
 tied_entry = tied_pair halves_cmp nat_cmp tied_halves tied_number
 
--- the test of the code
+-- the test that the code makes decides whether two names are equal
 pub halves_decide : (a b : Halves) → Decides ((a.0 == b.0) && (a.1 == b.1)) (a ≡ b)
 halves_decide a b = grind (arith, common_steps, same_pair)
 
 -- ---- entries in their order
 
--- an entry that is not less than another has a greater name, or the same and no lesser number
+-- an entry that is not less than another has a greater name, or the same name and at least the same number
 upto : (a b : Entry) → is_lt (entry_cmp b a) ≡ false → (halves_cmp a.0 b.0 ≡ Less) ⊎ ((a.0 ≡ b.0) × (a.1 ≤ b.1))
 upto a b h = grind (arith, common_steps, ranked, tied_halves, halves_total)
 
 never_less : (a b : Halves) → a ≡ b → halves_cmp a b ≡ Less → ⊥
 never_less a b same less = let x : Equal ≡ Less = sym (tied_itself halves_total b) ∙ ap (λ h. halves_cmp h b) (sym same) ∙ less in cc
 
--- of one name, the numbers rise
+-- entries with the same name are ordered by file number
 pub numbers_rise : (a b : Entry) → is_lt (entry_cmp b a) ≡ false → a.0 ≡ b.0 → a.1 ≤ b.1
 numbers_rise a b order same = grind (arith, common_steps, upto, never_less)
 
--- what is between two of one name has it too
+-- an entry between two entries with the same name has this name too
 pub one_name_between : (a b c : Entry) → is_lt (entry_cmp b a) ≡ false → is_lt (entry_cmp c b) ≡ false → a.0 ≡ c.0 → b.0 ≡ c.0
 one_name_between a b c low high same = go (upto a b low) (upto b c high) where
   go : (halves_cmp a.0 b.0 ≡ Less) ⊎ ((a.0 ≡ b.0) × (a.1 ≤ b.1)) → (halves_cmp b.0 c.0 ≡ Less) ⊎ ((b.0 ≡ c.0) × (b.1 ≤ c.1)) → b.0 ≡ c.0
@@ -77,6 +77,6 @@ one_name_between a b c low high same = go (upto a b low) (upto b c high) where
   go (inl less) (inr (named, le)) = named
   go (inl less) (inl more) = absurd (never_less a.0 c.0 same (halves_total.trans a.0 b.0 c.0 less more))
 
--- no number is below 0
+-- no entry with a name is less than the name with the number 0
 pub number_not_below : (a : Entry) (name : Halves) → a.0 ≡ name → entry_cmp a (name, 0) ≡ Less → ⊥
 number_not_below a name same less = grind (arith, common_steps, tied_itself, halves_total, ranked)

@@ -1,7 +1,8 @@
--- An index of names, in the order of its entries: which file an entry is of, and what is looked up there. The steps:
+-- The first entry with a name in an index is the entry of the first file with this name. The steps:
 -- 1. The entries are the names with their numbers, each once (`of_name`, `place_of`, `apart`).
--- 2. Entries of one name are side by side, and their numbers rise (`upward`, `beyond`, `between`).
--- 3. So the first entry of a name, if there is one, is that of the first file of the name (`found_first`, `found_there`, `found_none`).
+-- 2. Entries with the same name are next to each other, ordered by file number (`upward`, `beyond`, `between`).
+-- 3. So the first entry with a name, if there is one, is the entry of the first file with this name (`found_first`,
+--    `found_there`, `found_none`).
 use Rattle.std.proofs.lemmas.Grind.{common_steps}
 use Rattle.std.proofs.Common.{◌≡◌, ◌≤◌, ◌<◌, ◌⊎◌, ℕ, ◌+◌, List, [], length, get_or, map, Bool, true, false, refl, sym, ap, ◌∙◌}
 use Rattle.std.proofs.Common.{subst, arith, inl, inr}
@@ -26,7 +27,7 @@ use Rattle.fv_names.specs.Words.{Entry, Halves, IsIndex, IsName, entry_cmp, halv
 use Rattle.fv_names.proofs.EntryOrderLaws.{entry_total, less_orders, number_not_below, numbers_rise, one_name_between, tied_entry}
 use Rattle.fv_names.proofs.NumberedLaws.{names_decide, numbered_are, numbers_are}
 
--- what is read past the files, and past the entries
+-- the file that is read past the end of the files; `no_entry` is read past the end of the entries
 abbrev pub no_named : NamedFile
 no_named = record { name = record { bytes = [] }; marked = false }
 
@@ -38,7 +39,7 @@ no_entry = ((0, 0), 0)
 pub below : (n : ℕ) → All (λ m. m < n) (range_with_len 0 n)
 below n k d l = grind (arith, common_steps, length-range_with_len, get_or-range_with_len)
 
--- no two of them are the same
+-- the numbers from 0 on are all different
 all_differ : (n : ℕ) → IsDistinct (λ (a b : ℕ). a == b) (range_with_len 0 n)
 all_differ n = IsDistinct-from_apart (λ (a b : ℕ). a == b) (range_with_len 0 n) (λ i j d lt l.
     let inside : j < n = omega (arith, l, length-range_with_len 0 n) in
@@ -57,7 +58,7 @@ module _ (names : List Guid) (es : List Entry) (index : IsIndex names es) (g : G
   entries_are : numbered 0 names ≡ map entry_of (range_with_len 0 (length names))
   entries_are = numbered_are names entry_of g (λ n l. refl)
 
-  -- the number of an entry is that of a name, whose halves the entry has
+  -- the number of an entry is the number of a name, and the entry has the halves of this name
   abbrev IsOfName : Entry → Type 0
   IsOfName x = (x.1 < length names) × (x.0 ≡ halves_of (get_or names x.1 g))
 
@@ -70,7 +71,7 @@ module _ (names : List Guid) (es : List Entry) (index : IsIndex names es) (g : G
       (All-same IsOfName (numbered 0 names) (map entry_of (range_with_len 0 count)) entries_are
       (All-map IsOfName entry_of (range_with_len 0 count) (λ k d m. (below count k d m, refl)))))
 
-  -- and each name has an entry
+  -- each name has an entry
   pub place_of : (n : ℕ) → n < length names
       → (p : ℕ) × (p < length es) × (get_or es p e ≡ (halves_of (get_or names n g), n))
   place_of n l =
@@ -82,7 +83,7 @@ module _ (names : List Guid) (es : List Entry) (index : IsIndex names es) (g : G
       let r = Contains-permutation (numbered 0 names) es x index.all (subst (λ xs. Contains xs x) (sym entries_are) has) in
       (r.0, r.1, get_or_default es r.0 e x r.1 ∙ r.2)
 
-  -- two entries have two numbers
+  -- two entries have different numbers
   pub apart : (p q : ℕ) → p < q → q < length es → (get_or es p e).1 ≡ (get_or es q e).1 → ⊥
   apart p q lt l same =
       let number : Entry → ℕ = λ x. x.1 in
@@ -98,7 +99,7 @@ module _ (names : List Guid) (es : List Entry) (index : IsIndex names es) (g : G
   pub in_order : (p q : ℕ) → p ≤ q → q < length es → is_lt (entry_cmp (get_or es q e) (get_or es p e)) ≡ false
   in_order p q le l = sorted_far (λ (a b : Entry). is_lt (entry_cmp a b)) less_orders es index.ordered p q e le l
 
-  -- of one name the later entry has the greater number
+  -- of two entries with the same name, the later one has at least the number of the earlier one
   pub upward : (p q : ℕ) → p ≤ q → q < length es → (get_or es p e).0 ≡ (get_or es q e).0 → (get_or es p e).1 ≤ (get_or es q e).1
   upward p q le l same = numbers_rise (at p) (at q) (in_order p q le l) same
 
@@ -106,7 +107,7 @@ module _ (names : List Guid) (es : List Entry) (index : IsIndex names es) (g : G
   beyond p q lt l same = first_only (cases_lt (at p).1 (at q).1)
       (λ most. apart p q lt l (omega (arith, upward p q (omega (arith, lt)) l same, most)))
 
-  -- what is between two entries of one name has it too
+  -- an entry between two entries with the same name has this name too
   pub between : (p r q : ℕ) → p ≤ r → r ≤ q → q < length es → (get_or es p e).0 ≡ (get_or es q e).0
       → (get_or es r e).0 ≡ (get_or es q e).0
   between p r q low high l same =
@@ -125,7 +126,7 @@ module _ (es : List Entry) (name : Guid) (names : List Guid) (whole : IsName nam
   abbrev entry : ℕ → Entry
   entry p = get_or es p e
 
-  -- the name of a number is this one exactly if the halves are the same
+  -- the name with a number is the name in question exactly if the halves are the same
   named : (n : ℕ) → n < length names → Decides (is_name name (get_or names n g)) (halves_of name ≡ halves_of (get_or names n g))
   named n l = names_decide name (get_or names n g) whole (at_index IsName names n g index.whole l)
 
@@ -135,7 +136,7 @@ module _ (es : List Entry) (name : Guid) (names : List Guid) (whole : IsName nam
     go true is = absurd (not_so ((named n l).0 is))
     go false is = refl
 
-  -- an entry of the name with the least number is that of the first file of the name
+  -- the entry with this name and the least number is the entry of the first file with this name
   found : (p : ℕ) → p < length es → (entry p).0 ≡ halves_of name
       → ((q : ℕ) → q < length es → (entry q).0 ≡ halves_of name → (entry p).1 ≤ (entry q).1)
       → Some (entry p).1 ≡ position (is_name name) names
@@ -160,7 +161,7 @@ module _ (es : List Entry) (name : Guid) (names : List Guid) (whole : IsName nam
       ap Some (sym number) ∙ found p l (ap (λ (x : Entry). x.0) is) (λ q m n. omega (arith, number))
 
   module _ (place : ℕ) (less : AllWithin (λ x. entry_cmp x (halves_of name, 0) ≡ Less) es 0 place) where
-    -- the entries of the name are from the place on
+    -- the entries with this name are at or after the place
     from_place : (q : ℕ) → (entry q).0 ≡ halves_of name → place ≤ q
     from_place q is = go (cases_lt q place) where
       go : (q < place) ⊎ (place ≤ q) → place ≤ q

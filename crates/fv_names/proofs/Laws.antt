@@ -1,8 +1,9 @@
--- The laws of this crate that the crates above may cite. Each is passed on from its home; what is not here is an inner lemma.
+-- The laws of this crate that crates above may cite. Each is passed on from the module that proves it. A lemma that is
+-- not listed here is an inner one.
 
--- what is read past files and past entries
+-- The file and the entry that are read past the ends of their lists.
 pub use Rattle.fv_names.proofs.IndexLaws.{no_named, no_entry}
--- the number of an entry of an index is that of a file, and each file has an entry
+-- The number of an entry of an index is the number of a file, and each file has an entry.
 pub use Rattle.fv_names.proofs.NeighbourLaws.{number_within, entry_of}
--- files whose names differ have no twins, and none of them is replaced
+-- Files whose names differ have no twins, and none of them is replaced.
 pub use Rattle.fv_names.proofs.NeighbourLaws.{apart_twins, none_replaced}

@@ -1,9 +1,11 @@
--- Entries of one name are side by side, in the order of their numbers: so the first file with an earlier twin, and the files
--- that are replaced, are found from neighbours. The steps:
--- 1. Two files have one name, are twins, or one replaces the other, exactly if their entries say so (`one_name`, `twins`, `replaces_at`).
--- 2. Of the entries between two twins, one has a twin among the two before it (`near`). So the least number of such an entry is that
---    of the first file with an earlier twin (`twin_before`, `first_none`).
--- 3. If there are no twins, a marked file is replaced exactly if its entry shares its name (`beside`, `replaced_back`).
+-- Entries with the same name are next to each other, ordered by file number. So neighbours show the first file with an
+-- earlier twin, and the files that are replaced. The steps:
+-- 1. Two files have the same name, are twins, or one replaces the other, exactly if their entries say so (`one_name`,
+--    `twins`, `replaces_at`).
+-- 2. Among the entries from one twin to another, one has a twin among the two entries before it (`near`). So the least
+--    number of such an entry is the number of the first file with an earlier twin (`twin_before`, `first_none`).
+-- 3. If there are no twins, a marked file is replaced exactly if its entry shares its name with a neighbour (`beside`,
+--    `replaced_back`).
 -- 4. If no entry shares its name, there are no twins, and no file is replaced (`apart_twins`, `none_replaced`).
 use Rattle.std.proofs.lemmas.Grind.{common_steps}
 use Rattle.std.proofs.Common.{◌≡◌, ◌≤◌, ◌<◌, ◌⊎◌, ℕ, zero, suc, ◌+◌, ◌-◌, List, [], ◌∷◌, length, take, get_or, map, Bool, true}
@@ -88,7 +90,7 @@ module _ (fs : List NamedFile) (es : List Entry) (index : IsIndex (names_in fs) 
       let low : n < length fs = number_within p l in
       subst IsName (name_at n low) (at_index IsName (names_in fs) n d.name index.whole (omega (arith, low, names_length)))
 
-  -- files have one name exactly if their entries have, and are twins exactly if these are
+  -- two files have the same name exactly if their entries have, and are twins exactly if their entries are
   one_name : (p q : ℕ) → p < length es → q < length es → Decides (same_name (file p) (file q)) ((at p).0 ≡ (at q).0)
   one_name p q k l =
       let a : Guid = (file p).name in
@@ -115,13 +117,13 @@ module _ (fs : List NamedFile) (es : List Entry) (index : IsIndex (names_in fs) 
       list_any_at (is_twin (file q)) (take n fs) i d (omega (arith, less, length-take-le n fs (omega (arith, within))))
       (ap (is_twin (file q)) (get_or-take n fs i d less) ∙ (twins q p l (omega (arith, lt, l))).1 (sym h.0, sym h.1))
 
-  -- a file that has a twin among the two entries before it has an earlier one
+  -- a file whose entry has a twin among the two entries before it has an earlier twin
   pub twin_before : (q : ℕ) → 0 < q → q < length es → IsTwinAt fs d es e q
       → list_any (is_twin (get_or fs (get_or es q e).1 d)) (take (get_or es q e).1 fs) ≡ true
   twin_before q above l (inl h) = twin_since (q - 1) q (omega (arith, above)) l h
   twin_before q above l (inr h) = twin_since (q - 2) q (omega (arith, above)) l h
 
-  -- an entry that has a twin before it has one among the two before it, or the entry before it has
+  -- if an entry has a twin before it, this entry or the preceding one has a twin among the two entries before it
   near : (p q : ℕ) → p < q → q < length es → AreTwins fs d (at p) (at q)
       → (r : ℕ) × (0 < r) × (r < length es) × ((at r).1 ≤ (at q).1) × IsTwinAt fs d es e r
   near p q lt l h = go (cases_lt (p + 1) q) where
@@ -156,7 +158,7 @@ module _ (fs : List NamedFile) (es : List Entry) (index : IsIndex (names_in fs) 
     go (inr last) =
         let one : p ≡ q - 1 = omega (arith, lt, last) in here (inl (subst (λ (k : ℕ). AreTwins fs d (at k) (at q)) one h))
 
-  -- before the least number with a twin among the two entries before it, there are no twins
+  -- the files with numbers below those of all entries that have a twin among the two entries before them have no twins
   pub first_none : (n : ℕ) → n ≤ length fs
       → ((r : ℕ) → 0 < r → r < length es → IsTwinAt fs d es e r → n ≤ (get_or es r e).1) → NoTwins (take n fs)
   first_none n most least = no_twins_from (take n fs) d (λ i j p q.
@@ -193,7 +195,7 @@ module _ (fs : List NamedFile) (es : List Entry) (index : IsIndex (names_in fs) 
       Decides-and (same_name (file p) (file q)) (m && n) (one_name p q k l)
       (Decides-and m n ((λ h. h), (λ h. h)) ((λ h. h), (λ h. h)))
 
-  -- of two files with one name that are no twins, the marked one is replaced
+  -- if two files have the same name and are not twins, the marked one is replaced
   beside : (p q : ℕ) → p < length es → q < length es → (p < q) ⊎ (q < p) → NoTwins fs → (at q).0 ≡ (at p).0
       → (file p).marked ≡ true → list_any (replaced_by (file p)) fs ≡ true
   beside p q k l order none same marked =
@@ -241,7 +243,7 @@ module _ (fs : List NamedFile) (es : List Entry) (index : IsIndex (names_in fs) 
           absurd (itself (file p).marked marked
           (ap (λ (k : ℕ). not (file k).marked) (sym here) ∙ plain))
 
-  -- so of an entry that shares its name the mark says whether its file is replaced; that of any other entry is not
+  -- so a file whose entry shares its name is replaced exactly if it is marked; another file is not replaced
   pub marked_replaced : NoTwins fs → (p : ℕ) (t : Bool) → p < length es → SharesItsName es e p → t ≡ mark_at fs d (get_or es p e).1
       → t ≡ list_any (replaced_by (get_or fs (get_or es p e).1 d)) fs
   marked_replaced none p true l (inl h) is = sym (beside p (p - 1) l (omega (arith, l)) (inr (omega (arith, h.0))) none h.1 (sym is))
@@ -266,7 +268,7 @@ module _ (fs : List NamedFile) (es : List Entry) (index : IsIndex (names_in fs) 
     no_twin_at r above l (inr h) =
         apart e r above l (between (names_in fs) es index d.name e (r - 2) (r - 1) r (omega arith) (omega arith) l h.0)
 
-    -- there are no twins
+    -- if no entry shares its name, there are no twins
     pub apart_twins : NoTwins fs
     apart_twins =
         subst NoTwins (take_all (length fs) fs (omega arith)) (first_none (length fs) (omega arith) (λ r above l twin.
@@ -284,14 +286,14 @@ module _ (fs : List NamedFile) (es : List Entry) (index : IsIndex (names_in fs) 
         let r = entry_of n l in
         absurd (alone r.0 r.1 (replaced_back r.0 r.1 (ap (λ (k : ℕ). list_any (replaced_by (get_or fs k d)) fs) r.2 ∙ h)).0)
 
-    -- and no file is replaced
+    -- if no entry shares its name, no file is replaced
     pub none_replaced : AllByRecursion (λ f. list_any (replaced_by f) fs ≡ false) fs
     none_replaced = recursion_from_All _ fs
         (All-from_get_or (λ f. list_any (replaced_by f) fs ≡ false) fs d (λ n l. not_replaced n l _ refl))
 
 -- ---- the files of the code
 
--- the number of an entry is that of a file
+-- the number of an entry is the number of a file
 pub file_within : {X : Type 0} (form : X → NamedFile) (files : List X) (es : List Entry) → IsIndex (names_in (map form files)) es
     → (x : Entry) (p : ℕ) → p < length es → x ≡ get_or es p x → x.1 < length files
 file_within form files es index x p l is =

@@ -1,4 +1,5 @@
--- Names of sixteen bytes as two numbers, and names with the numbers of their files.
+-- A name of 16 bytes is two numbers, its halves, and the entries of an index are the names with the numbers of their
+-- files.
 use Rattle.std.proofs.Common.{◌≡◌, ◌≤◌, ◌<◌, ℕ, zero, suc, ◌+◌, List, [], ◌∷◌, ◌++◌, length, take, drop, get_or, map, refl, sym, ap}
 use Rattle.std.proofs.Common.{◌∙◌, arith}
 use Rattle.std.specs.Bool.{Decides}
@@ -22,7 +23,7 @@ half_back at b small within =
     let long : length (field at 8 b) ≡ 8 = length-take-le 8 (drop at b) (omega (arith, within, length-drop at b)) in
     le_bytes_8 (field at 8 b) (from_le_bytes w64 (field at 8 b)) long (bytes_take 8 (drop at b) (bytes_drop at b small)) refl
 
--- the halves spell the name again
+-- the bytes of the halves of a name are the name
 halves_back : (name : Guid) → IsName name
     → to_le_bytes w64 (halves_of name).0 ++ to_le_bytes w64 (halves_of name).1 ≡ bytes_of name
 halves_back name whole =
@@ -32,7 +33,7 @@ halves_back name whole =
     ap (λ (f : List ℕ). f ++ to_le_bytes w64 (halves_of name).1) (half_back 0 b whole.1 (omega (arith, long)))
     ∙ ap (λ (f : List ℕ). field 0 8 b ++ f) (half_back 8 b whole.1 (omega (arith, long)) ∙ rest) ∙ take-append-drop 8 b
 
--- so names are the same exactly if their halves are
+-- so two names are equal exactly if their halves are
 pub names_decide : (a b : Guid) → IsName a → IsName b → Decides (bytes_eq (bytes_of a) (bytes_of b)) (halves_of a ≡ halves_of b)
 names_decide a b p q =
     Decides-like (bytes_eq (bytes_of a) (bytes_of b)) (λ e. ap halves_in e)
@@ -53,7 +54,7 @@ numbered_at k (m ∷ names) (suc i) g e l =
     let z : k + 1 + i ≡ k + suc i = omega arith in
     numbered_at (k + 1) names i g e (omega (arith, l)) ∙ ap (λ (j : ℕ). (halves_of (get_or names i g), j)) z
 
--- they are the entries of the numbers from 0 on
+-- the names with their numbers are the entries of the numbers from 0 on
 pub numbered_are : (names : List Guid) (entry : ℕ → Entry) (g : Guid) → ((n : ℕ) → n < length names → (halves_of (get_or names n g), n) ≡ entry n)
     → numbered 0 names ≡ map entry (range_with_len 0 (length names))
 numbered_are names entry g is =

@@ -1,7 +1,9 @@
--- Whether the files of a volume can be placed is decided by trying: so they have a first placement, or a reason that they have none. The steps:
--- 1. What is made of decided statements is decided (`both`, `either`, `not_so`), and so is whether a file can be at a start (`stands_dec`).
--- 2. Below a limit there is a least number for which such a statement is true, or none (`least_of`).
--- 3. So files have least starts from an edge on, or none (`follows`), and a first placement, or none (`placed_or_none`).
+-- Trying decides whether the files of a volume can be placed, so they have a first placement, or a reason why they have
+-- none. The steps:
+-- 1. Statements that are made of decided statements are decided (`both`, `either`, `not_so`), and so is whether a file
+--    can begin at a start (`stands_dec`).
+-- 2. Among the numbers below a limit, there is a least one for which a decided statement is true, or none (`least_of`).
+-- 3. So files have first starts after an edge, or none (`follows`), and a first placement, or none (`placed_or_none`).
 use Rattle.std.proofs.Common.{◌≡◌, ◌≤◌, ◌<◌, ◌+◌, ◌-◌, ◌%◌, ◌⊎◌, ℕ, zero, suc, List, [], ◌∷◌, take, Bool, true, false, refl, ap, subst, inl, inr, arith}
 use Rattle.std.specs.Prelude.{get_or, IsTrue}
 use Rattle.std.proofs.lemmas.Bool.{cases_lt}
@@ -70,7 +72,7 @@ stands_dec total e f s =
     go (inl (a, (b, c))) = inl (record { lawful = a; within = b; at_end = c })
     go (inr nay) = inr (λ h. nay (h.lawful, (h.within, h.at_end)))
 
--- the least number below n of which P is true, if there is one
+-- P is true of a least number, or of no number below n
 abbrev Least : (ℕ → Type 0) → ℕ → Type 0
 Least P n = ((s : ℕ) × P s × ((t : ℕ) → t < s → P t → ⊥)) ⊎ ((s : ℕ) → s < n → P s → ⊥)
 
@@ -151,7 +153,7 @@ follows : (total : ℕ) (fs : List LayoutItem) (e : ℕ) → Follows total fs e
 follows total [] e = inl ([], (tt, λ others i follow same. first_none total e others i follow))
 follows total (f ∷ fs) e = follows_next total f fs (follows total fs) e
 
--- files have a first placement, or none
+-- files have a first placement, or no placement
 placed_or_none : (total first : ℕ) (fs : List LayoutItem) → ((starts : List ℕ) × IsFirstPlacement total first fs starts)
     ⊎ ((starts : List ℕ) → Placement total first fs starts → ⊥)
 placed_or_none total first fs = go (le_dec first total) (follows total fs first) where

@@ -1,7 +1,8 @@
--- Multiples of an alignment, and edges, which are multiples of 8.
--- 1. Two multiples of a number are that number or more apart, so none is between a multiple and the next.
--- 2. The multiples of the widened alignment are those of 8 and of the alignment.
--- 3. Sums and differences of multiples of 8.
+-- Laws of the multiples of an alignment, and of edges, which are multiples of 8:
+-- 1. Two different multiples of a number are at least this number apart, so there is none between a multiple and the
+--    next.
+-- 2. The multiples of the widened alignment are the common multiples of 8 and of the alignment.
+-- 3. Sums and differences of multiples of 8 are multiples of 8.
 -- 4. An edge is the next multiple of 8.
 use Rattle.std.proofs.lemmas.Grind.{common_steps}
 use Rattle.fv_base.specs.Words.{up_to_8}
@@ -13,15 +14,15 @@ use Rattle.std.proofs.Math.Nat.{mul-le-mul_left, mul-mod_right, mul-mod_left, mu
 
 -- ---- 1. apart
 
--- a multiple is the alignment times a number
+-- a multiple of the alignment is the alignment times a number
 multiple_is : (a x : ℕ) → x % a ≡ 0 → x ≡ a * (x / a)
 multiple_is a x p = sym (div-add-mod x a) ∙ (ap (λ n. a * (x / a) + n) p ∙ add-zero (a * (x / a)))
 
--- what is left under the remainder is a multiple
+-- a number minus its remainder is a multiple
 pub is_multiple : (d x a : ℕ) → d + x % a ≡ x → d % a ≡ 0
 is_multiple d x a e = grind (arith, common_steps, add_right_cancel, div-add-mod, mul-mod_right)
 
--- of two multiples the smaller is smaller by the alignment
+-- the smaller of two multiples is smaller by at least the alignment
 pub multiples_apart : (a x y : ℕ) → 0 < a → x % a ≡ 0 → y % a ≡ 0 → x < y → x + a ≤ y
 multiples_apart a x y h p q l =
     let less : x / a < y / a = div_below x a (y / a) h (subst (λ n. x < n) (multiple_is a y q ∙ mul_comm a (y / a)) l) in
@@ -30,13 +31,13 @@ multiples_apart a x y h p q l =
     step : (a m n x y : ℕ) → a * suc m ≤ a * n → x ≡ a * m → y ≡ a * n → x + a ≤ y
     step a m n x y h e f = omega arith
 
--- no multiple is between a multiple and the next one
+-- there is no multiple between a multiple and the next one
 pub none_between : (a d y : ℕ) → 0 < a → d % a ≡ 0 → y % a ≡ 0 → y < d + a → y ≤ d
 none_between a d y h p q near = grind (arith, common_steps, cases_lt, multiples_apart)
 
 -- ---- 2. the widened alignment
 
--- a multiple of a power of two is one of each smaller power
+-- a multiple of a power of two is a multiple of each smaller power of two
 coarser : (d k x : ℕ) → x % 2 ^ (d + k) ≡ 0 → x % 2 ^ k ≡ 0
 coarser d k x h = last (x / 2 ^ k % 2 ^ d * 2 ^ k) (x % 2 ^ k) (sym (mod-pow-add x d k) ∙ h)
   where

@@ -1,9 +1,10 @@
--- The first placement, start by start.
--- 1. Starts, each the least with which a placement of its file and those after it begins, are the first placement.
--- 2. The least starts are such starts, where they are a placement.
--- 3. Two first placements are one.
--- 4. Each file in turn at its first start makes such starts.
--- 5. Where a volume top file is off at its only possible start, there is no placement.
+-- Files have at most one first placement, which is found start by start. The steps:
+-- 1. If each start is the least with which a placement of its file and the files after it begins, the starts are the
+--    first placement.
+-- 2. The least starts are such starts, if they are a placement.
+-- 3. Two first placements are equal.
+-- 4. Placing each file in turn at its first start gives such starts.
+-- 5. If a volume top file is off at its only possible start, there is no placement.
 use Rattle.fv_base.specs.Words.{up_to_8}
 use Rattle.std.proofs.Common.{◌≡◌, ℕ, ◌+◌, ◌-◌, ◌%◌, ◌<◌, ◌≤◌, inl, inr, refl, sym, ◌∙◌, ap, subst, arith, List, [], ◌∷◌, ◌++◌, Bool}
 use Rattle.std.proofs.Common.{true, false, append_assoc, append-nil, length, get_or, take, drop, zero, suc, add-one}
@@ -68,14 +69,14 @@ pub agree : (total first : ℕ) (fs : List LayoutItem) (ss : List ℕ) → IsLea
     → IsFirstPlacement total first fs ss
 agree total first fs ss l p = first_from total first fs ss p (least_firsts total first fs ss l p.follow)
 
--- ---- 3. there is one
+-- ---- 3. there is only one
 
 first_same : (total first : ℕ) (fs : List LayoutItem) (ss ts : List ℕ) → IsFirstPlacement total first fs ss
     → IsFirstPlacement total first fs ts → (i : ℕ) → take i ss ≡ take i ts → get_or ss i 0 ≡ get_or ts i 0
 first_same total first fs ss ts p q i e = let a = p.least ts i q.placement (sym e) in let b = q.least ss i p.placement e in
     omega (arith, a, b)
 
--- a placement has a start for each file
+-- a placement has one start for each file
 pub follow_length : (total e : ℕ) (fs : List LayoutItem) (ss : List ℕ) → StartsFollow total e fs ss → length ss ≡ length fs
 follow_length total e [] [] h = refl
 follow_length total e [] (s ∷ ss) h = absurd h
@@ -103,7 +104,7 @@ starts_one total first fs ss ts p q =
 
 -- ---- 4. file by file
 
--- what was placed at `done` up to the edge e goes on with what is `left`
+-- the files that were placed at `done` up to the edge e go on with the files in `left`
 pub record Placed (total first : ℕ) (fs : List LayoutItem) (e : ℕ) (left : List LayoutItem) (done : List ℕ) : Type 0 where
   pub follow : (rest : List ℕ) → StartsFollow total e left rest → StartsFollow total first fs (done ++ rest)
   pub firsts : (rest : List ℕ) → Firsts total e left rest → Firsts total first fs (done ++ rest)
@@ -133,7 +134,7 @@ placed_end total first fs e i done l room o =
     (record { room = room; follow = subst (λ xs. StartsFollow total first fs xs) (append-nil done) (end.follow [] tt) })
     (subst (λ xs. Firsts total first fs xs) (append-nil done) (end.firsts [] tt))
 
--- ---- 5. none
+-- ---- 5. no placement
 
 off_none : (total e : ℕ) (f : LayoutItem) (s : ℕ) → s + f.size ≡ total → (s + f.header) % f.alignment ≡ 0 → s % 8 ≡ 0 → IsOff total f → ⊥
 off_none total e f s at aligned eighth (inl a) = a (ap (λ (n : ℕ). (n + f.header) % f.alignment) (start total f.size at) ∙ aligned)
@@ -145,7 +146,7 @@ off_none total e f s at aligned eighth (inr b) = b (ap (λ (n : ℕ). n % 8) (st
     start : (total n : ℕ) → s + n ≡ total → total - n ≡ s
     start total n e = omega (arith, e)
 
--- files of which the volume top file is off cannot be placed
+-- files whose volume top file is off cannot be placed
 pub top_none : (total e : ℕ) (fs : List LayoutItem) (ss : List ℕ) → TopOff total fs → StartsFollow total e fs ss → ⊥
 top_none total e [] ss off follow = absurd off
 top_none total e (f ∷ fs) [] off follow = absurd follow

@@ -1,9 +1,12 @@
--- The reach of some files, from the last file to the first: the edges after which they can be placed.
--- 1. An edge is at most the greatest usable one: that one, 8 or 16 below it, or at least 24 below it.
--- 2. A placement begins with a start that serves, and each lawful start that serves begins one.
--- 3. So the greatest start that serves, and whether those 8 and 16 below it serve, are the reach of a file and those after it.
--- 4. The way backwards: where no start of a file serves, the files cannot be placed at all.
--- 5. The way forwards: where the files can be placed, a start serves.
+-- The reach of a file and the files after it describes the edges after which they can be placed. It is found from the
+-- last file to the first. The steps:
+-- 1. A usable edge is at most the greatest usable edge: it is this edge, 8 or 16 bytes below it, or at least 24 bytes
+--    below it.
+-- 2. A placement begins with a usable start, and each lawful start that is usable begins a placement.
+-- 3. So the greatest usable start, and whether the starts 8 and 16 bytes below it are usable, give the reach of a file
+--    and the files after it.
+-- 4. Backwards: if a file has no usable start, the files cannot be placed.
+-- 5. Forwards: if the files can be placed, there is a usable start.
 use Rattle.std.proofs.lemmas.Grind.{common_steps}
 use Rattle.fv_base.specs.Words.{up_to_8}
 use Rattle.std.proofs.Common.{◌≡◌, ℕ, ◌+◌, ◌-◌, ◌%◌, ◌<◌, ◌≤◌, ◌⊎◌, inl, inr, refl, sym, ◌∙◌, ap, subst, arith, List, [], ◌∷◌, length}
@@ -19,11 +22,11 @@ use Rattle.fv_placement.proofs.MultipleLaws.{edge_eighth, edge_within, edge_abov
 
 -- ---- 1. edges
 
--- of two multiples of 8 the one is far below the other, or the other, or 8 or 16 below it
+-- the smaller of two multiples of 8 is at least 24 below the greater, or equal to it, or 8 or 16 below it
 far_enough : (e t : ℕ) → e % 8 ≡ 0 → t % 8 ≡ 0 → e ≤ t → ((e + 24 ≤ t) ⊎ (e ≡ t)) ⊎ ((e + 8 ≡ t) ⊎ (e + 16 ≡ t))
 far_enough e t p q l = grind (arith, common_steps, cases_lt)
 
--- a usable edge is at most the greatest
+-- a usable edge is at most the greatest usable edge
 pub usable_most : (r : Reach) (e : ℕ) → IsUsable r e → e ≤ r.greatest
 usable_most r e (inl (inl a)) = omega arith
 usable_most r e (inl (inr a)) = omega arith
@@ -32,7 +35,7 @@ usable_most r e (inr (inr (a, b))) = omega arith
 
 -- ---- 2. the start with which a placement begins
 
--- a lawful start that serves is inside the volume
+-- a lawful start that is usable is within the volume
 pub stands : (total e : ℕ) (f : LayoutItem) (r : Reach) (s : ℕ) → r.greatest ≤ total → Lawful e f s → Serves total f r s
     → StandsInVolume total e f s
 stands total e f r s g l v = record {
@@ -130,7 +133,7 @@ pub reach_back : (total : ℕ) (fs : List LayoutItem) (n : ℕ) (d : LayoutItem)
 reach_back total fs n d after r p l h w g =
     subst (λ xs. IsReach total xs r) (sym (drop_step fs n d p l)) (reach_more total (get_or fs (n - 1) d) (drop n fs) after r h w g)
 
--- its place in the list
+-- with the reach of file n - 1, the list has the reaches of this file and of the files after it
 pub kept_set : (total : ℕ) (fs : List LayoutItem) (reaches : List Reach) (n : ℕ) (r : Reach) → 0 < n → n ≤ length fs
     → length reaches ≡ length fs → IsReach total (drop n fs) r
     → ((i : ℕ) (d : Reach) → n ≤ i → i < length fs → IsReach total (drop (i + 1) fs) (get_or reaches i d))
@@ -149,7 +152,7 @@ kept_set total fs reaches n r p l len here each i d low lt = elim (cases_lt i n)
     apart : (n : ℕ) → n ≤ i → 0 < n → i ≡ n - 1 → ⊥
     apart n more p e = omega arith
 
--- where the files can be placed, so can the last of them
+-- if the files can be placed, so can the files from each file on
 rest_can : (total e : ℕ) (fs : List LayoutItem) (i : ℕ) → i ≤ length fs → total % 8 ≡ 0 → CanPlace total e fs
     → (x : ℕ) × CanPlace total x (drop i fs)
 rest_can total e fs zero l h c = (e, c)
@@ -178,7 +181,7 @@ some_here total e fs i d after l h w c none =
     let s = begins_some total e (get_or fs i d) (drop (i + 1) fs) after h w.bound (subst (λ xs. CanPlace total e xs) (drop_more fs i d l) c) in
     none s.0 s.1 s.2
 
--- the reach of the files after file i: known, or that of no files
+-- the reach of the files after file i is the one in the list, or that of no files
 pub bound_at : (total : ℕ) (fs : List LayoutItem) (reaches : List Reach) (i : ℕ) (r d : Reach) → AreReaches (IsBound total) fs reaches
     → (i < length reaches → r ≡ get_or reaches i d) → (length reaches ≤ i → (xs : List LayoutItem) → IsBound total xs r)
     → IsBound total (drop (i + 1) fs) r

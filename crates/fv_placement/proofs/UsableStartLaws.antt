@@ -1,7 +1,9 @@
--- One lawful start after another, a step of the widened alignment apart: up from the least, and down from the greatest.
--- 1. Lawful starts are where the data are at a multiple of the step; so a lawful start is a step away from the next.
--- 2. Up: the least start with a pad before it is lawful, and what serves is a step after a start that does not.
--- 3. Down: where the greatest lawful start does not serve, the next does.
+-- Usable starts are searched among the lawful starts, which are a step of the widened alignment apart: up from the
+-- least, and down from the greatest. The steps:
+-- 1. At a lawful start the data are at a multiple of the step, so two lawful starts are at least a step apart.
+-- 2. Upwards: the least start that leaves room for a pad is lawful, and if it is not usable, a usable one is at least a
+--    step after it.
+-- 3. Downwards: if the greatest lawful start is not usable, the next lower one is.
 use Rattle.std.proofs.lemmas.Grind.{common_steps}
 use Rattle.fv_base.specs.Words.{up_to_8}
 use Rattle.std.proofs.Common.{◌≡◌, ℕ, ◌+◌, ◌-◌, ◌%◌, ◌<◌, ◌≤◌, inl, inr, sym, ◌∙◌, ap, subst, arith, Bool, true, false}
@@ -24,12 +26,12 @@ never_true h = cc
 
 -- ---- 1. a step apart
 
--- where the data are at a multiple of the step, the start is a multiple of 8 and the data are aligned
+-- if the data are at a multiple of the step, the start is a multiple of 8 and the data are aligned
 pub start_at : (f : LayoutItem) (a s : ℕ) → Widens a f.alignment → f.header % 8 ≡ 0 → (s + f.header) % a ≡ 0
     → (s % 8 ≡ 0) × ((s + f.header) % f.alignment ≡ 0)
 start_at f a s w h m = let both = w.apart (s + f.header) m in (eighth_difference s f.header both.0 h, both.1)
 
--- and the data of a start that serves are at one
+-- the data of a usable start are at a multiple of the step
 data_at : (total : ℕ) (f : LayoutItem) (r : Reach) (a t : ℕ) → Widens a f.alignment → f.header % 8 ≡ 0 → Serves total f r t
     → (t + f.header) % a ≡ 0
 data_at total f r a t w h v = w.joined (t + f.header) (eighth_sum t f.header v.eighth h) v.aligned
@@ -45,7 +47,7 @@ step_apart f a s t w p q l =
     more : s < t → s + f.header < t + f.header
     more g = omega arith
 
--- where s does not serve, what serves is a step after it or a step before it
+-- if s is not usable, a usable start is at least a step after it or at least a step before it
 pub after_missed : (total : ℕ) (f : LayoutItem) (r : Reach) (a s t : ℕ) → Widens a f.alignment → f.header % 8 ≡ 0
     → (s + f.header) % a ≡ 0 → (Serves total f r s → ⊥) → Serves total f r t → s ≤ t → s + a ≤ t
 after_missed total f r a s t w h m not v l = elim (cases_lt s t) [
@@ -62,8 +64,8 @@ before_missed total f r a s t w h m not v l = elim (cases_lt t s) [
 
 -- ---- 2. up
 
--- d is the least place of the data at which there is room for a pad after the edge e. Where the file cannot begin at
--- the edge, what is lawful and serves is not before.
+-- d is the least place of the data that leaves room for a pad after the edge e. If the file cannot begin at the edge, a
+-- lawful start that is usable is not below the start with its data at d.
 pub from_pad : (total e : ℕ) (f : LayoutItem) (r : Reach) (a d t : ℕ) → Widens a f.alignment → f.header % 8 ≡ 0
     → ((y : ℕ) → y % a ≡ 0 → e + 24 + f.header ≤ y → d ≤ y) → (Serves total f r e → ⊥) → Lawful e f t → Serves total f r t
     → d - f.header ≤ t
@@ -95,8 +97,8 @@ data_back d h a l p = ap (λ n. n % a) (back d h l) ∙ p
     back : (d h : ℕ) → h ≤ d → (d - h) + h ≡ d
     back d h l = omega arith
 
--- d is the greatest multiple of the step at which the file ends at most at the greatest usable edge: no file that serves
--- has its data above it
+-- d is the greatest multiple of the step with which the file ends at most at the greatest usable edge: no usable start
+-- has its data above d
 pub data_most : (total : ℕ) (f : LayoutItem) (r : Reach) (a d t : ℕ) → Widens a f.alignment → f.header % 8 ≡ 0
     → ((y : ℕ) → y % a ≡ 0 → y ≤ r.greatest - up_to_8 f.size + f.header → y ≤ d) → Serves total f r t → t + f.header ≤ d
 data_most total f r a d t w h most v =
@@ -105,7 +107,7 @@ data_most total f r a d t w h most v =
     ends : (n k : ℕ) → t % 8 ≡ 0 → up_to_8 (t + n) ≤ r.greatest → t + k ≤ r.greatest - up_to_8 n + k
     ends n k p q = omega arith
 
--- where the start with its data there does not serve, what serves is a step before it
+-- if the start with its data at d is not usable, a usable start is at least a step before it
 pub below_missed : (total : ℕ) (f : LayoutItem) (r : Reach) (a d t : ℕ) → Widens a f.alignment → f.header % 8 ≡ 0 → d % a ≡ 0
     → f.header ≤ d → ((y : ℕ) → y % a ≡ 0 → y ≤ r.greatest - up_to_8 f.size + f.header → y ≤ d)
     → (Serves total f r (d - f.header) → ⊥) → Serves total f r t → t + a ≤ d - f.header
@@ -113,8 +115,9 @@ below_missed total f r a d t w h m l most not v =
     let most_data : t + f.header ≤ d = data_most total f r a d t w h most v in
     before_missed total f r a (d - f.header) t w h (data_back d f.header a l m) not v (omega (arith, most_data))
 
--- s is the greatest lawful start with which the file ends at most at the greatest usable edge. Where it does not serve,
--- it leaves that edge 8 or 16 away; so the step is not 8, and the start before it is at least 24 away.
+-- s is the greatest lawful start with which the file ends at most at the greatest usable edge. If s is not usable, the
+-- file ends 8 or 16 bytes below this edge. So the step is not 8, and the file ends at least 24 bytes below the edge if
+-- it begins a step before s.
 pub second_serves : (total : ℕ) (f : LayoutItem) (r : Reach) (a s : ℕ) → Widens a f.alignment → f.header % 8 ≡ 0
     → (IsTrue f.top → ⊥) → r.greatest % 8 ≡ 0 → (s + f.header) % a ≡ 0 → s + up_to_8 f.size ≤ r.greatest
     → r.greatest < s + up_to_8 f.size + a → a ≤ s → (Serves total f r s → ⊥) → Serves total f r (s - a)

@@ -1,4 +1,4 @@
--- Each row of a volume is followed by the rows of its contents; the volumes among the rows of a part are the volumes in
+-- Each row of a volume is followed by the rows of its contents. The volumes among the rows of a part are the volumes in
 -- this part.
 use Rattle.std.proofs.Common.{◌≡◌, ◌∙◌, ◌+◌, ℕ, List, [], ◌∷◌, ◌++◌, refl, sym, ap, subst, arith, append_assoc, append-nil}
 use Rattle.fv_tree.specs.Words.{Meaning, Volume, FileMeanings, NoFiles, MoreFiles, FileMeaning, File, ContentMeaning, Plain, Sectioned}
@@ -59,14 +59,14 @@ one_deeper n (v ∷ vs) =
     ap (λ d. record { depth = d; volume = v.volume } ∷ deeper_by n (deeper vs)) same
     ∙ ap (λ l. record { depth = v.depth + (n + 1); volume = v.volume } ∷ l) (one_deeper n vs)
 
--- volumes that are no level deeper are the same
+-- raising the depth of volumes by 0 changes nothing
 not_deeper : (vs : List Inside) → deeper_by 0 vs ≡ vs
 not_deeper [] = refl
 not_deeper (v ∷ vs) =
     let same : v.depth + 0 ≡ v.depth = omega arith in
     ap (λ d. record { depth = d; volume = v.volume } ∷ deeper_by 0 vs) same ∙ ap (λ l. v ∷ l) (not_deeper vs)
 
--- the volumes in two parts, one part after the other
+-- the volumes among the rows of two parts, one part after the other
 both : (n : ℕ) (rows others more : List TreeRow) (vs ws : List Inside)
     → ((l : List TreeRow) → volumes_of (rows ++ l) ≡ deeper_by n vs ++ volumes_of l) → volumes_of (others ++ more) ≡ deeper_by n ws ++ volumes_of more
     → volumes_of ((rows ++ others) ++ more) ≡ deeper_by n (vs ++ ws) ++ volumes_of more

@@ -26,7 +26,7 @@ pub sections_list_back : (ss : List SectionMeaning) → sections_list (sections_
 sections_list_back [] = refl
 sections_list_back (s ∷ ss) = ap (λ l. s ∷ l) (sections_list_back ss)
 
--- a list of parts is as short as the list of its items
+-- if a list has fewer than 2 ^ 63 items, so has the list of parts that is made of it
 pub few_nodes : {A : Type 0} (f : A → NodeMeaning) (xs : List A) → length xs < 2 ^ 63 → length (map f xs) < 2 ^ 63
 few_nodes f xs few = omega (arith, few, length-map xs f)
 
@@ -184,7 +184,7 @@ nest_less : (depth : ℕ) (nodes : List NodeMeaning) → AllByRecursion (NestsAt
 nest_less depth [] nest = tt
 nest_less depth (node ∷ nodes) (here, more) = (nests_less depth node here, nest_less depth nodes more)
 
--- the contents of a part that nests little are all that is left at first
+-- if a part nests within the limit, its contents are all that is left at first
 pub inside_begun : (node : NodeMeaning) (l : Level) → NestsAt 0 node → nodes_of l.held ≡ parts_in node → l.number ≡ 0 → l.nesting ≡ 0
     → length (nodes_of l.held) < 2 ^ 63 → (left_in 0 (l ∷ []) ≡ rows_inside 0 0 node) × AreLevels 0 (l ∷ [])
 inside_begun node l nests is first none few = (

@@ -1,4 +1,4 @@
-//! Command lines: the plans that they ask for.
+//! Command lines, and the plans that they ask for.
 
 use fv_arguments::parse_words;
 use fv_base::Guid;
@@ -7,13 +7,14 @@ use std::alloc::Global;
 /// The GUID that NAME means in a command line.
 const NAME: &str = "0a0a0a0a-0a0a-0a0a-0a0a-0a0a0a0a0a0a";
 
-// Appends an argument of a line.
+// Appends an argument of a line. NAME means that GUID.
 fn push_argument(alloc: Global, arguments: &mut Vec<String>, argument: &str) -> Option<()> {
     let argument = if argument == "NAME" { NAME } else { argument };
     arguments.push(String::from_str(alloc, argument).ok()?).ok()
 }
 
-/// The arguments of a line, separated by spaces, with that GUID for NAME. An empty line has none.
+/// Returns the arguments of a line, which spaces separate. NAME means that GUID. An empty line has
+/// no arguments.
 pub(crate) fn arguments_of(alloc: Global, line: &str) -> Option<Vec<String>> {
     let mut arguments = Vec::new(alloc);
     if line.is_empty() {
@@ -25,14 +26,14 @@ pub(crate) fn arguments_of(alloc: Global, line: &str) -> Option<Vec<String>> {
     Some(arguments)
 }
 
-// Whether arguments ask for a plan that is shown like this.
+// Returns whether the arguments ask for a plan that is shown as this text.
 fn ask_for(alloc: Global, arguments: &[String], wanted: &str) -> Option<bool> {
     let plan = parse_words(alloc, arguments).ok()?;
     let shown = format!(in alloc; "{plan:?}").ok()?;
     Some(shown.as_str() == wanted)
 }
 
-// The plan of a row with that GUID, as it is shown, for NAME.
+// Returns the plan of a row, in which NAME is replaced by that GUID as it is shown.
 fn with_name(alloc: Global, plan: &str) -> Option<String> {
     let Some((before, after)) = plan.split_once("NAME") else {
         return String::from_str(alloc, plan).ok();
@@ -41,7 +42,7 @@ fn with_name(alloc: Global, plan: &str) -> Option<String> {
     format!(in alloc; "{before}{name:?}{after}").ok()
 }
 
-// Command lines, each with its plan.
+// Returns command lines, each with its plan.
 fn plans() -> &'static str {
     "\
     : Plan { hex: true, command: Single { task: Normalise, at: None, file: None } }\n\
@@ -128,7 +129,8 @@ fn plans() -> &'static str {
     "
 }
 
-// Whether the command line of a row asks for the plan of the row, in which NAME means that GUID.
+// Returns whether the command line of a row asks for the plan of the row. NAME means that GUID in
+// both.
 fn asks_for_its_plan(alloc: Global, row: &str) -> Option<bool> {
     let (line, plan) = row.split_once(": ")?;
     let wanted = with_name(alloc, plan)?;

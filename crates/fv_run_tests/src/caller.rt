@@ -1,4 +1,4 @@
-//! The calls of fv_caller: an empty volume, and what a boot reads beside it.
+//! The calls of fv_caller: an empty volume, and the expression and the hand-off list of a boot.
 
 use crate::row_bytes::bytes_of;
 use fv_caller::{CallerFault, archive_volume, check_boot};
@@ -7,11 +7,11 @@ use std::alloc::Global;
 /// A hand-off information table, and the end of its list.
 const LIST: &str = "PHIT ffff080000000000";
 
-/// TRUE and END.
+/// The ops TRUE and END.
 const ALWAYS: [u8; 2] = [0x06, 0x08];
 
-// Whether the archive keeps an empty volume as it is, counts no file in it, and rejects its header
-// alone.
+// Returns whether the archive keeps an empty volume as it is, counts no files in it, and rejects
+// the volume header without the rest.
 fn archive_keeps_an_empty_volume(alloc: Global) -> Option<bool> {
     let volume = bytes_of(alloc, "empty")?;
     let kept = archive_volume(alloc, &volume).ok()?;
@@ -20,14 +20,14 @@ fn archive_keeps_an_empty_volume(alloc: Global) -> Option<bool> {
     Some(is_cut && kept.files == 0 && kept.image.as_slice() == volume.as_slice())
 }
 
-// What a boot with an empty volume, this expression and this hand-off list returns.
+// Returns the result of a boot with an empty volume, this expression and this hand-off list.
 fn boot(alloc: Global, expression: &[u8], hand_off: &str) -> Option<Result<(), CallerFault>> {
     let volume = bytes_of(alloc, "empty")?;
     let list = bytes_of(alloc, hand_off)?;
     Some(check_boot(alloc, &volume, expression, &list))
 }
 
-// Whether a boot with this expression and this hand-off list has a fault with this text.
+// Returns whether a boot with this expression and this hand-off list has a fault with this text.
 fn has_fault(alloc: Global, expression: &[u8], hand_off: &str, wanted: &str) -> Option<bool> {
     let fault = boot(alloc, expression, hand_off)?.err()?;
     let text = format!(in alloc; "{fault}").ok()?;

@@ -1,4 +1,4 @@
-//! The calls of fv_command: what runs of each command write, and how they end.
+//! The calls of fv_command: the output and the end of runs of each command.
 
 mod closing;
 mod memory;

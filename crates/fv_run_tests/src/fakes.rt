@@ -1,4 +1,4 @@
-//! Readers and writers of the tests, and the files that runs open.
+//! The readers, the writers and the files of the tests.
 
 ghost use Rattle.std.specs.Prelude.{⊤};
 
@@ -7,7 +7,7 @@ use std::alloc::Global;
 use std::io;
 use std::io::{ErrorKind, Read, Write};
 
-/// Gives bytes, at most `step` a call, and fails after `until_failure` in all.
+/// A reader that gives at most `step` bytes per call, and fails after `until_failure` bytes in all.
 #[derive(Drop)]
 pub struct FakeReader<'a> {
     /// The bytes that are still to be given.
@@ -23,7 +23,7 @@ pub struct FakeReader<'a> {
 }
 
 impl<'a> FakeReader<'a> {
-    /// A reader of all of the bytes.
+    /// Returns a reader of all of the bytes.
     pub(crate) fn new(bytes: &'a [u8], step: usize, is_interrupted: bool) -> FakeReader<'a> {
         FakeReader {
             rest: bytes,
@@ -34,7 +34,7 @@ impl<'a> FakeReader<'a> {
         }
     }
 
-    /// A reader that fails instead of giving the byte at `count`, or its end.
+    /// Returns a reader that fails instead of giving the byte at `count`, or the end.
     pub(crate) fn failing(bytes: &'a [u8], step: usize, count: usize) -> FakeReader<'a> {
         FakeReader {
             rest: bytes,
@@ -65,12 +65,12 @@ impl<'a> Read for FakeReader<'a> {
     }
 }
 
-/// Gives spaces without end.
+/// A reader that gives spaces without end.
 #[derive(Drop)]
 pub(crate) struct SpaceReader {
-    /// How often it was called.
+    /// How often the reader was called.
     pub calls: u64,
-    /// The most bytes that it was asked for.
+    /// The largest number of bytes that a call asked for.
     pub most: usize,
 }
 
@@ -83,10 +83,10 @@ impl Read for SpaceReader {
     }
 }
 
-/// Gives two digits, and is interrupted from then on.
+/// A reader that gives two digits, and is interrupted from then on.
 #[derive(Drop)]
 pub(crate) struct InterruptedReader {
-    /// How often it was called.
+    /// How often the reader was called.
     pub calls: u64,
 }
 
@@ -101,29 +101,29 @@ impl Read for InterruptedReader {
     }
 }
 
-/// Takes `room` bytes, and then fails.
+/// A writer that takes `room` bytes, and then fails.
 #[derive(Drop)]
 pub(crate) struct FakeWriter {
-    /// The bytes that it took.
+    /// The bytes that the writer took.
     taken: Vec<u8>,
-    /// Whether a call came after the first that failed.
+    /// Whether a call came after the first call that failed.
     is_late: bool,
     /// How many bytes a call takes at most.
     step: usize,
-    /// How many bytes it still takes in all.
+    /// How many more bytes the writer takes.
     room: usize,
-    /// Whether a call without room is an error, or else takes no byte.
+    /// Whether a call without room returns an error. Otherwise it takes no byte.
     is_broken: bool,
     /// Whether a call has failed, or took no byte.
     has_failed: bool,
-    /// How often it was asked to flush.
+    /// How often the writer was asked to flush.
     flushes: u64,
     /// Whether a flush fails.
     flush_fails: bool,
 }
 
 impl FakeWriter {
-    /// A writer with room for `room` bytes.
+    /// Returns a writer with room for `room` bytes.
     pub(crate) fn new(alloc: Global, step: usize, room: usize, is_broken: bool) -> FakeWriter {
         FakeWriter {
             taken: Vec::new(alloc),
@@ -137,7 +137,7 @@ impl FakeWriter {
         }
     }
 
-    /// A writer that takes all bytes, and whose flush fails.
+    /// Returns a writer that takes all bytes, and whose flush fails.
     pub(crate) fn without_flush(alloc: Global) -> FakeWriter {
         FakeWriter {
             flush_fails: true,
@@ -145,12 +145,13 @@ impl FakeWriter {
         }
     }
 
-    /// Whether it was asked once to flush.
+    /// Returns whether the writer was asked exactly once to flush.
     pub(crate) fn was_flushed(&self) -> bool {
         self.flushes == 1
     }
 
-    /// Whether it took exactly these bytes, and no call came after the first that failed.
+    /// Returns whether the writer took exactly these bytes, and no call came after the first call
+    /// that failed.
     pub(crate) fn took_only(&self, bytes: &[u8]) -> bool {
         !self.is_late && self.taken.as_slice() == bytes
     }
@@ -191,12 +192,13 @@ pub struct FakeOpener<'a> {
     second: &'a [u8],
     /// The bytes of standard input.
     standard: &'a [u8],
-    /// How many bytes each file is said to have.
+    /// The stated length of each file.
     len_hint: usize,
 }
 
 impl<'a> FakeOpener<'a> {
-    /// The files and standard input with these bytes. Each file is said to have `len_hint` bytes.
+    /// Returns an opener of files and standard input with these bytes. The stated length of each
+    /// file is `len_hint` bytes.
     pub(crate) fn new(
         first: &'a [u8],
         second: &'a [u8],

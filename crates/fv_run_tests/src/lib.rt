@@ -1,7 +1,8 @@
-//! The tests of fv_canon, fv_command, fv_arguments and fv_caller, a module a crate, by their public
-//! calls, and one module for fv_text. They try what only a caller can show: readers and writers
-//! that stop, plans, and failed allocations. The module `surface` names what users rely on, crate by
-//! crate. What the program shows is in `rows/`, and `.ci/rows` runs it.
+//! Tests of the public calls of fv_canon, fv_command, fv_arguments and fv_caller, with one module
+//! for each crate, and one for fv_text. They test what only a caller can show: readers and writers
+//! that stop, plans, and failed allocations. The module `surface` names the items that users rely
+//! on, crate by crate. The rows in `rows/` test the output of the program, and `.ci/rows` runs
+//! them.
 #![tactic(auto)]
 
 #[cfg(test)]

@@ -1,20 +1,21 @@
-//! The bytes that rows of the tables spell.
+//! The bytes that the rows of the tables spell.
 //!
-//! Digits, stars and spaces mean what they mean in the tables of fv_tests. A name is that of a row
-//! of the tables in `volumes.rt`, since a command is run on whole volumes and lists, and what it
-//! writes is compared with others.
+//! Digits, stars and spaces have the same meaning as in the tables of fv_tests. A name means the
+//! row with this name in the tables of `volumes.rt`: a command runs on whole volumes and lists, and
+//! its output is compared with others.
 
 use crate::volumes::{parts, text_named, volumes};
 use fv_base::Port;
 use fv_text::read_hex;
 use std::alloc::{AllocError, Global};
 
-/// The number that decimal digits spell.
+/// Returns the number that decimal digits spell.
 pub(crate) fn number_of(digits: &str) -> Option<u64> {
     digits.parse().ok()
 }
 
-// Appends a word, or the words of the line of the table that it names, and a space.
+// Appends a word and a space. If the word names a line of the table, the words of this line take
+// its place.
 fn push_expanded(words: &mut String, table: &str, word: &str) -> Option<()> {
     words
         .push_str(text_named(table, word).unwrap_or(word))
@@ -22,7 +23,7 @@ fn push_expanded(words: &mut String, table: &str, word: &str) -> Option<()> {
     words.push(' ').ok()
 }
 
-// The words, with the name of a line of the table replaced by the words of that line.
+// Returns the words, with each name of a line of the table replaced by the words of this line.
 fn expanded(alloc: Global, table: &str, text: &str) -> Option<String> {
     let mut words = String::new(alloc);
     for word in text.split_whitespace() {
@@ -39,7 +40,7 @@ fn push_repeated(bytes: &mut Vec<u8>, part: &[u8], count: u64) -> Option<()> {
     Some(())
 }
 
-// Appends what a word of digits spells, as often as the number after its star says.
+// Appends the bytes that a word of digits spells, as often as the number after its star states.
 fn push_word(alloc: Global, bytes: &mut Vec<u8>, word: &str) -> Option<()> {
     let (digits, number) = word.split_once('*').unwrap_or((word, "1"));
     let count = number_of(number)?;
@@ -47,7 +48,7 @@ fn push_word(alloc: Global, bytes: &mut Vec<u8>, word: &str) -> Option<()> {
     push_repeated(bytes, &part, count)
 }
 
-// The bytes of words of digits.
+// Returns the bytes that words of digits spell.
 fn spelled_bytes(alloc: Global, text: &str) -> Option<Vec<u8>> {
     let mut bytes = Vec::new(alloc);
     for word in text.split_whitespace() {
@@ -56,7 +57,7 @@ fn spelled_bytes(alloc: Global, text: &str) -> Option<Vec<u8>> {
     Some(bytes)
 }
 
-/// The bytes that words of digits and names of the tables spell.
+/// Returns the bytes that words of digits and names of the tables spell.
 pub(crate) fn bytes_of(alloc: Global, text: &str) -> Option<Vec<u8>> {
     let mut words = String::from_str(alloc, text).ok()?;
     for table in [volumes(), parts()] {
@@ -65,7 +66,7 @@ pub(crate) fn bytes_of(alloc: Global, text: &str) -> Option<Vec<u8>> {
     spelled_bytes(alloc, words.as_str())
 }
 
-/// The bytes that words spell. If memory runs out for them, it is there the second time.
+/// Returns the bytes that words spell. If memory runs out, a second try succeeds.
 pub(crate) fn bytes_in_two_tries(alloc: Global, words: &str) -> Option<Vec<u8>> {
     match bytes_of(alloc, words) {
         None => bytes_of(alloc, words),
@@ -73,7 +74,7 @@ pub(crate) fn bytes_in_two_tries(alloc: Global, words: &str) -> Option<Vec<u8>> 
     }
 }
 
-// Appends the digits as lines of 64, each with a line feed.
+// Appends the digits as lines of 64 digits, each with a line feed.
 fn push_lines(lines: &mut Vec<u8>, digits: &[u8]) -> Result<(), AllocError> {
     for line in digits.chunks(64) {
         lines.extend_from_slice(line)?;
@@ -82,7 +83,7 @@ fn push_lines(lines: &mut Vec<u8>, digits: &[u8]) -> Result<(), AllocError> {
     Ok(())
 }
 
-/// The bytes as lines of digits, 32 bytes a line.
+/// Returns the bytes as lines of digits, with 32 bytes per line.
 pub(crate) fn lines_of(alloc: Global, bytes: &[u8]) -> Option<Vec<u8>> {
     let digits = hex::encode(alloc, bytes).ok()?;
     let mut lines = Vec::new(alloc);

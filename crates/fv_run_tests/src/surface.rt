@@ -1,6 +1,6 @@
-//! The calls, types, fields and variants that users of the crates rely on, each under its crate.
-//! If one of them is renamed, removed or moved to another crate, this page does not compile. Its
-//! test calls none of them: what they do is proved, or tested elsewhere.
+//! The calls, types, fields and variants that users of the crates rely on, crate by crate. If one
+//! of them is renamed, removed or moved to another crate, this module does not compile. Its test
+//! calls none of them: their behaviour is proved, or tested elsewhere.
 
 mod formats;
 mod meanings;

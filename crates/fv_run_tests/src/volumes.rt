@@ -1,14 +1,14 @@
-//! Volumes and a hand-off list as text, in tables. A line is a name, a colon and words: digits,
-//! which a star and a number repeat, or the name of a line. After an arrow comes the expected
-//! result. Each line is in `rows/volumes.rows` too, which has more of them.
+//! Volumes and a hand-off list as text, in tables. A line is a name, a colon and words. A word is
+//! digits, which a star and a number repeat, or the name of a line. The expected result follows an
+//! arrow. `rows/volumes.rows` contains each of these lines, and more.
 //!
-//! A table is one text, which one function names: a function that names many texts is far slower to
-//! prove.
+//! Each table is a single text that only one function names: a function that names many texts is
+//! far slower to prove.
 
-/// The name of a line, its words, and what follows the arrow.
+/// The name of a line, its words, and the text after the arrow.
 pub(crate) type Row<'a> = (&'a str, &'a str, Option<&'a str>);
 
-/// The row that a line spells.
+/// Returns the row that a line spells.
 pub(crate) fn row_of(line: &str) -> Option<Row<'_>> {
     let (name, rest) = line.split_once(": ")?;
     match rest.split_once(" -> ") {
@@ -17,7 +17,7 @@ pub(crate) fn row_of(line: &str) -> Option<Row<'_>> {
     }
 }
 
-/// The words of the line with that name.
+/// Returns the words of the line with this name.
 pub(crate) fn text_named<'a>(table: &'a str, wanted: &str) -> Option<&'a str> {
     for line in table.lines() {
         let (name, text, _) = row_of(line)?;
@@ -28,8 +28,8 @@ pub(crate) fn text_named<'a>(table: &'a str, wanted: &str) -> Option<&'a str> {
     None
 }
 
-/// Heads of volumes by their length, with one block and no extended header; and the block at the
-/// start of a hand-off list.
+/// Returns volume headers, named by the length of their volume, with one block and no extended
+/// header; and the first block of a hand-off list.
 pub(crate) fn parts() -> &'static str {
     "\
     H72: 00*16 78e58c8c3d8a1c4f9935896185c32dd34800 00*6 5f465648fffe040048003ef600000002010000004800 00*10\n\
@@ -43,8 +43,8 @@ pub(crate) fn parts() -> &'static str {
     "
 }
 
-/// Volumes, two of them rejected, and a hand-off list. After an arrow are the words of a volume's
-/// image, if it is another volume, or the line of the fault.
+/// Returns volumes, two of which are rejected, and a hand-off list. After an arrow come the words
+/// of the volume's image, if it differs from the volume, or the line of the fault.
 pub(crate) fn volumes() -> &'static str {
     "\
     empty: H128 ff*56\n\

@@ -1,6 +1,8 @@
--- The faults of a stream. The steps:
--- 1. The first fault is within the bytes, or at their end (`frame_within`), and its condition holds (`frame_fails`).
--- 2. No fault is before the end of frames that join (`frame_later`). So a stream has one first fault (`one_frame_fault`).
+-- A stream has at most one first fault, which is within its bytes or at their end. The steps:
+-- 1. The first fault is within the bytes, or at their end (`frame_within`), and is one of the faults that fail
+--    (`frame_fails`).
+-- 2. No fault is before the end of frames that join (`frame_later`), so a stream has one first fault
+--    (`one_frame_fault`).
 use Rattle.std.proofs.lemmas.Grind.{common_steps}
 use Rattle.std.proofs.Common.{◌≡◌, ◌≤◌, ◌<◌, ℕ, ◌+◌, ◌-◌, List, [], ◌∷◌, ◌++◌, length, take, drop, ap, subst, arith}
 use Rattle.std.proofs.lemmas.List.{take-append-drop, length-take-le}
@@ -24,7 +26,7 @@ frame_fails b f first = grind (arith, common_steps, any_fails)
 
 -- ---- one first fault
 
--- a fault of a section header is not before the end of frames that join
+-- the fault of a section header is not before the end of frames that join
 frame_later : (b : List ℕ) (f g : Fault) → (x : IsFirstFrameFault b f) → (y : IsFirstFrameFault b g) → x.at < y.at → ⊥
 frame_later b f g x y l =
     let r = cut 0 x.frames y.frames x.tail y.tail (take x.at b) part x.split in_fours whole (some_between b x.at y.at l y.inside) in

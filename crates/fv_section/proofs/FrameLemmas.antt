@@ -1,8 +1,9 @@
--- A frame's checks hold exactly where a frame begins. The steps:
--- 1. Where the checks hold, a frame begins, the one that is read (`begins_in`).
--- 2. Where a frame begins, the checks hold, and this frame is read (`frame_reads`). So one frame at most begins some bytes (`one_frame`).
+-- The checks of a frame hold exactly if a frame begins the bytes. The steps:
+-- 1. If the checks hold, the frame that is read begins the bytes (`begins_in`).
+-- 2. If a frame begins the bytes, the checks hold, and this frame is read (`frame_reads`). So at most one frame begins
+--    the bytes (`one_frame`).
 -- 3. The verdict is the frame (`verdict_stands`, `stands_verdict`), or the first fault of the checks (`verdict_first`).
--- 4. Where a check does not hold, no frame begins (`none_stands`).
+-- 4. If a check does not hold, no frame begins the bytes (`none_stands`).
 use Rattle.std.proofs.lemmas.Grind.{common_steps}
 use Rattle.std.proofs.Common.{◌≡◌, ◌≤◌, ◌<◌, ℕ, ◌+◌, ◌-◌, List, ◌++◌, length, take, drop, refl, sym, ap, ◌∙◌, subst, arith, Bool, true}
 use Rattle.std.proofs.Common.{false, length-append, length-drop, append_assoc, drop-drop}
@@ -65,7 +66,7 @@ begins_in at r all =
 
 -- ---- from the frame to the checks
 
--- what is read where a frame begins
+-- bytes that begin with a frame are read as this frame
 pub record ReadsFrame (f : FrameForm) (r rest : List ℕ) : Type 0 where
   pub checks : (at : ℕ) → AllHold (frame_checks at r)
   pub frame_is : frame_in f.offset r ≡ f
@@ -128,11 +129,11 @@ frame_reads f r rest b =
       whole = long;
     }
 
--- how long what a frame begins is
+-- bytes that begin with a frame have its length, and the length of the rest
 pub length_begun : (f : FrameForm) (b rest : List ℕ) → BeginsFrame f b rest → length b ≡ frame_len f + length rest
 length_begun f b rest h = (frame_reads f b rest h).whole
 
--- one frame at most begins a list, at one place
+-- at most one frame begins a list of bytes, at a given offset
 pub one_frame : (f g : FrameForm) (b r s : List ℕ) → f.offset ≡ g.offset → BeginsFrame f b r → BeginsFrame g b s → (f ≡ g) × (r ≡ s)
 one_frame f g b r s o hf hg =
     let rf = frame_reads f b r hf in
@@ -140,7 +141,7 @@ one_frame f g b r s o hf hg =
     let same : f ≡ g = sym rf.frame_is ∙ ap (λ (k : ℕ). frame_in k b) o ∙ rg.frame_is in
     (same, rf.rest_is ∙ ap (λ (k : FrameForm). drop (frame_len k) b) same ∙ sym rg.rest_is)
 
--- more bytes after
+-- a frame that begins bytes also begins these bytes with more bytes after them
 pub begins_more : (f : FrameForm) (b r y : List ℕ) → BeginsFrame f b r → BeginsFrame f (b ++ y) (r ++ y)
 begins_more f b r y h = grind (arith, common_steps, append_assoc)
 
@@ -167,11 +168,11 @@ stands_verdict at b g stands =
 pub verdict_first : (at : ℕ) (r : List ℕ) (e : Fault) → frame_verdict at r ≡ Err e → IsFirstFault (frame_checks at r) e
 verdict_first at r e is = first_is (frame_checks at r) e (verdict_err (first_fault (frame_checks at r)) (frame_in at r) e is)
 
--- the verdict on all that is left of a stream is that on what is from the place on
+-- the verdict on all bytes that are left of a stream is the verdict on the bytes from the place on
 pub verdict_rest : (at : ℕ) (b : List ℕ) → frame_verdict at (take (length b - at) (drop at b)) ≡ frame_verdict at (drop at b)
 verdict_rest at b = ap (frame_verdict at) (take_rest b at)
 
--- where a check does not hold there is no frame
+-- if a check does not hold, no frame begins at the place
 pub none_stands : (which : Which) (at : ℕ) (b : List ℕ) (e : Fault) (g : FrameForm) → Fails which (frame_checks at (drop at b)) e
     → FrameStandsAt g at b → ⊥
 none_stands which at b e g bad stands =

@@ -1,7 +1,9 @@
--- What the loop over a stream keeps, what its ends say, and what a walk over the stream then reads. The steps:
--- 1. The frames up to an offset split the bytes before it, also with one frame more (`step`).
+-- The loop over a stream splits it into frames or finds its first fault, and a walk over the stream reads these frames.
+-- The steps:
+-- 1. The frames up to an offset split the bytes before it, and so do they with the next frame (`step`).
 -- 2. The loop ends at the first fault (`first_here`), or past the end, where the whole stream is split (`whole_of`).
--- 3. Where a check fails there is no split (`none_after`). The frames of a split are in the stream (`whole_within`, `split_stands`).
+-- 3. If a check fails, the stream does not split (`none_after`). The frames of a split lie in the stream
+--    (`whole_within`, `split_stands`).
 -- 4. A walk reads the frames of the split one by one (`walk_meets`, `walk_begins`).
 use Rattle.std.proofs.lemmas.Grind.{common_steps}
 use Rattle.std.proofs.Common.{◌≡◌, ℕ, zero, suc, ◌+◌, ◌-◌, ◌<◌, ◌≤◌, min, List, [], ◌∷◌, ◌++◌, length, take, drop, refl, sym, ap, ◌∙◌}
@@ -16,7 +18,7 @@ use Rattle.fv_section.specs.Words.{frames_from, offset_after, HasFrames, frame_c
 use Rattle.fv_section.proofs.FrameLemmas.{length_begun, frame_reads, none_stands}
 use Rattle.fv_section.proofs.StreamLemmas.{cut, from_least, one_more}
 
--- fewer bytes after
+-- a frame that begins bytes also begins a first part of them that contains the frame
 begins_less : (f : FrameForm) (b r : List ℕ) (k : ℕ) → BeginsFrame f b r → BeginsFrame f (take (frame_len f + k) b) (take k r)
 begins_less f b r k h =
     let e : frame_len f ≡ length (h.head ++ f.body) = omega (
@@ -35,7 +37,7 @@ begins_less f b r k h =
           ∙ take-append-add (h.head ++ f.body) r k ∙ append_assoc h.head f.body (take k r);
     }
 
--- the frames up to an offset, and the one after it
+-- the frames up to an offset, and the frame there, split the bytes up to the next offset
 pub step : (b : List ℕ) (fs : List FrameForm) (f : FrameForm) (t end at next : ℕ) → Splits fs t (take (up_to_4 end) b) → at ≡ up_to_4 end
     → FrameStandsAt f at b → next ≡ f.offset + frame_len f
     → Splits (fs ++ f ∷ []) (min (up_to_4 next) (length b) - next) (take (up_to_4 next) b)
@@ -60,16 +62,16 @@ step b fs f t end at next split here s e =
     let Q : ℕ → Type 0 = λ j. Splits (fs ++ f ∷ []) j (take (up_to_4 next) b) in
     subst Q lr (subst P (sym (ap (λ j. take j b) n ∙ joined)) h)
 
--- a frame that is at a place ends within the stream
+-- a frame at a place ends within the stream
 pub stands_within : (f : FrameForm) (b : List ℕ) (at : ℕ) → FrameStandsAt f at b → f.offset + frame_len f ≤ length b
 stands_within f b at s = omega (arith, s.offset, s.inside, length_begun f (drop at b) s.behind s.begins, length-drop at b)
 
--- the place at which the loop stops is the first fault
+-- the fault of the place at which the loop stops is the first fault
 pub first_here : (b : List ℕ) (fs : List FrameForm) (t end at : ℕ) (e : Fault) → Splits fs t (take (up_to_4 end) b) → at ≡ up_to_4 end
     → at < length b → IsFirstFault (frame_checks at (drop at b)) e → IsFirstFrameFault b e
 first_here b fs t end at e split here inside fault = grind (arith, common_steps)
 
--- past the end the stream is split
+-- past the end, the frames split the stream
 pub whole_of : (b : List ℕ) (fs : List FrameForm) (end : ℕ) → Splits fs (min (up_to_4 end) (length b) - end) (take (up_to_4 end) b)
     → length b ≤ up_to_4 end → Splits fs (length b - end) b
 whole_of b fs end split past = grind (arith, common_steps, take_all)
@@ -81,12 +83,12 @@ pub begins_of : (at : ℕ) (f : FrameForm) (fs : List FrameForm) (t : ℕ) (b : 
 begins_of at f [] t b (rest, begun, o, l, fit) = (o, rest, begun)
 begins_of at f (g ∷ fs) t b (filler, rest, begun, o, fill, more) = (o, filler ++ rest, begun)
 
--- the first frame of a split is where the split begins
+-- the first frame of a split begins where the split begins
 first_stands : (at : ℕ) (f : FrameForm) (fs : List FrameForm) (t : ℕ) (b : List ℕ) → SplitsFrom at (f ∷ fs) t (drop at b)
     → FrameStandsAt f at b
 first_stands at f fs t b split = grind (arith, common_steps, begins_of, from_least, length-drop)
 
--- where a check fails there is no split
+-- if a check fails at a place that the frames reach, the stream does not split
 pub none_after : (which : Which) (b : List ℕ) (e : Fault) (fs : List FrameForm) (t : ℕ) → FrameFault which b e → Splits fs t b → ⊥
 none_after which b e fs t here split =
     let lx : length (take here.at b) ≡ here.at = omega (arith, length-take here.at b, here.inside) in
@@ -113,7 +115,7 @@ all_within at (f ∷ g ∷ fs) t b (filler, rest, begun, o, fill, more) =
 pub whole_within : (fs : List FrameForm) (t : ℕ) (b : List ℕ) → Splits fs t b → FramesWithin (length b) fs
 whole_within fs t b h = grind (arith, common_steps, all_within)
 
--- after the first frame the others follow
+-- after the first frame of a stream, the other frames split the rest
 behind_first : (at : ℕ) (f : FrameForm) (fs : List FrameForm) (t : ℕ) (b : List ℕ) → SplitsFrom at (f ∷ fs) t (drop at b)
     → (u : ℕ) × SplitsFrom (up_to_4 (at + frame_len f)) fs u (drop (up_to_4 (at + frame_len f)) b)
 behind_first at f [] t b (rest, begun, o, l, fit) =
@@ -136,7 +138,7 @@ behind_first at f (g ∷ fs) t b (filler, rest, begun, o, fill, more) =
     sym (drop_at x rest (length x) refl) ∙ ap (drop (length x)) (sym text) ∙ drop-drop (length x) at b ∙ ap (λ n. drop n b) long in
     (t, subst (λ l. SplitsFrom (up_to_4 (at + frame_len f)) (g ∷ fs) t l) next more)
 
--- each frame of a stream is in it
+-- each frame of a stream begins at its offset
 from_stands : (at : ℕ) (fs : List FrameForm) (t : ℕ) (b : List ℕ) → SplitsFrom at fs t (drop at b)
     → AllByRecursion (λ f. FrameStandsAt f f.offset b) fs
 from_stands at [] t b split = tt
@@ -150,7 +152,7 @@ split_stands fs t b split = from_stands 0 fs t b split
 
 -- ---- the frames that a walk reads
 
--- the frames of a stream are those that a walk over as many frames reads
+-- the frames of a stream are the frames that a walk over as many frames reads
 pub walk_meets : (at : ℕ) (fs : List FrameForm) (t : ℕ) (b : List ℕ) → SplitsFrom at fs t (drop at b)
     → (frames_from (length fs) at b ≡ fs) × HasFrames (length fs) at b
 walk_meets at [] t b split = (refl, tt)
@@ -163,14 +165,14 @@ walk_meets at (f ∷ fs) t b split =
     let more = walk_meets (up_to_4 (at + frame_len f)) fs rest.0 b rest.1 in
     rw (next, is) (ap (λ l. f ∷ l) more.0, (stands, more.1))
 
--- a walk begins with all frames of the stream
+-- at its start, a walk has all frames of the stream before it
 pub walk_begins : (b : List ℕ) (n t : ℕ) → (fs : List FrameForm) × Splits fs t b × (length fs ≡ n)
     → Splits (frames_from n 0 b) t b × HasFrames n 0 b
 walk_begins b n t (fs, split, count) =
     let met = walk_meets 0 fs t b split in
     subst (λ k. Splits (frames_from k 0 b) t b × HasFrames k 0 b) count (subst (λ l. Splits l t b) (sym met.0) split, met.1)
 
--- it reads as many frames as are left
+-- a walk reads as many frames as are left
 pub walk_count : (n at : ℕ) (b : List ℕ) → length (frames_from n at b) ≡ n
 walk_count zero at b = refl
 walk_count (suc n) at b = ap suc (walk_count n (offset_after at b) b)

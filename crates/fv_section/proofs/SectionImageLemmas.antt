@@ -1,4 +1,4 @@
--- Frames that are written one after another are read again.
+-- Frames that are written one after another are read again as the same frames.
 use Rattle.std.proofs.lemmas.Grind.{common_steps}
 use Rattle.std.proofs.Common.{◌≡◌, ℕ, ◌+◌, ◌-◌, ◌*◌, ◌/◌, ◌%◌, List, [], ◌∷◌, ◌++◌, length, refl, arith, Bool, true, false}
 use Rattle.std.specs.Prelude.{replicate}
@@ -7,7 +7,7 @@ use Rattle.fv_base.proofs.Laws.{le-le_bytes}
 use Rattle.fv_section.specs.Words.{FrameForm, BeginsFrame, IsSectionHeader, frame_len, up_to_4, FitsForm, StreamsAreRead, section_head_of}
 use Rattle.fv_section.specs.Words.{stream_of}
 
--- a header that is written is that of its form, type and size
+-- a header that is written has its form, its type and its size
 pub head_is : (kind : ℕ) (extended : Bool) (n : ℕ) → FitsForm extended n → IsSectionHeader extended kind n (section_head_of kind extended n)
 head_is kind false n fits =
     record { whole = refl; kind_is = refl; says = (le-le_bytes 3 (4 + n) (omega (arith, fits)), λ e. omega (arith, fits, e)) }

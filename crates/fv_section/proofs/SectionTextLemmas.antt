@@ -1,4 +1,4 @@
--- Texts that end with a zero unit.
+-- A test decides whether bytes are a text, whose last 16-bit unit is zero.
 use Rattle.std.proofs.lemmas.Grind.{common_steps}
 use Rattle.std.proofs.Common.{◌≡◌, ◌≢◌, ◌≤◌, ℕ, ◌+◌, ◌-◌, ◌%◌, List, [], ◌∷◌, ◌++◌, length, take, drop, refl, sym, ap, ◌∙◌, subst, arith}
 use Rattle.std.proofs.Common.{true, false, length-append, length-drop}
@@ -33,7 +33,7 @@ zero_unit (x ∷ y ∷ []) l e =
     rw (a, b) refl
 zero_unit (x ∷ y ∷ z ∷ u) l e = absurd (omega (arith, l))
 
--- where the tests hold it is a text
+-- if the test holds, the bytes without the last two are a text
 pub text_found : (b : List ℕ) → is_text b ≡ true → IsText b (take (length b - 2) b)
 text_found b h =
     let all = and_split _ _ h in
@@ -51,7 +51,7 @@ text_found b h =
     even : (m k : ℕ) → 2 ≤ m → k ≡ m - 2 → m % 2 ≡ 0 → k % 2 ≡ 0
     even m k h e z = omega arith
 
--- where it is a text the tests hold
+-- if bytes are a text, the test holds
 pub text_holds : (b text : List ℕ) → IsText b text → is_text b ≡ true
 text_holds b text is =
     let n : length b ≡ length text + 2 = ap length is.joined ∙ length-append text (0 ∷ 0 ∷ []) in
@@ -69,7 +69,7 @@ text_holds b text is =
 pub text_none : (b text : List ℕ) → is_text b ≡ false → IsText b text → ⊥
 text_none b text h is = grind (arith, common_steps, text_holds)
 
--- a version is a number of two bytes and the text after it
+-- if the bytes after the first two are not a text, the bytes are not a version
 pub version_none : (b : List ℕ) (build : ℕ) (text : List ℕ) → ((t : List ℕ) → IsText (drop 2 b) t → ⊥) → IsVersion b build text → ⊥
 version_none b build text none is =
     let behind : drop 2 b ≡ is.units = ap (drop 2) is.joined ∙ drop_at is.number is.units 2 is.two in

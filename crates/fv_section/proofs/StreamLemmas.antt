@@ -1,10 +1,10 @@
--- Bytes are a stream in one way at most, and one more frame after a stream makes a stream. The steps:
+-- Bytes are a stream in at most one way, and a stream with one more frame is a stream. The steps:
 -- 1. A stream with a frame has at least 4 bytes (`from_least`).
 -- 2. Frames up to a multiple of 4 are the first frames of each stream that goes on from there (`cut`).
--- 3. Frame by frame, two splits of the same bytes are one (`one_split`).
+-- 3. Compared frame by frame, two splits of the same bytes are equal (`one_split`).
 -- 4. Frames up to a multiple of 4, and one more frame, are a stream (`one_more`).
--- 5. A stream's tail has at most 3 bytes (`tail_small`).
--- 6. Of a frame in bytes, the parts are bytes (`begun_bytes`), and the body fits the form of its header (`fits`).
+-- 5. The tail of a stream has at most 3 bytes (`tail_small`).
+-- 6. The parts of a frame in bytes are bytes (`begun_bytes`), and the body fits the form of the header (`fits`).
 use Rattle.std.proofs.Common.{◌≡◌, ℕ, ◌+◌, ◌<◌, ◌≤◌, List, [], ◌∷◌, ◌++◌, length, refl, sym, ap, ◌∙◌, subst, arith, length-append}
 use Rattle.std.proofs.Common.{append_assoc, ◌≢◌, Bool, true, false, drop, length-drop}
 use Rattle.std.proofs.lemmas.List.{length-take-le}
@@ -14,12 +14,12 @@ use Rattle.fv_section.specs.Words.{FrameForm, BeginsFrame, SplitsFrom, frame_len
 use Rattle.fv_section.specs.Words.{FitsForm}
 use Rattle.fv_section.proofs.FrameLemmas.{length_begun, size_least, one_frame, begins_more}
 
--- a stream with a frame has bytes
+-- a stream with a frame has at least 4 bytes
 pub from_least : (at : ℕ) (f : FrameForm) (fs : List FrameForm) (t : ℕ) (b : List ℕ) → SplitsFrom at (f ∷ fs) t b → 4 ≤ length b
 from_least at f [] t b (rest, begun, o, l, fit) = omega (arith, length_begun f b rest begun, size_least f)
 from_least at f (g ∷ fs) t b (filler, rest, begun, o, fill, more) = omega (arith, length_begun f b (filler ++ rest) begun, size_least f)
 
--- frames up to a multiple of 4 are the first frames of any stream that goes on from there
+-- frames up to a multiple of 4 are the first frames of each stream that goes on from there
 pub cut : (at : ℕ) (fs gs : List FrameForm) (t u : ℕ) (x y : List ℕ) → SplitsFrom at fs t x → at + length x ≡ up_to_4 (at + length x)
     → SplitsFrom at gs u (x ++ y) → 0 < length y → (more : List FrameForm) × (gs ≡ fs ++ more) × SplitsFrom (at + length x) more u y
 cut at [] gs t u x y (e, z) m hg ly =
@@ -69,7 +69,7 @@ cut at (f ∷ f' ∷ fs) (g ∷ g' ∷ gs) t u x y (filler, rest, begun, o, fill
     let r = cut (up_to_4 (at + frame_len f)) (f' ∷ fs) (g' ∷ gs) t u rest y more m' h' ly in
     (r.0, ap (λ l. g ∷ l) r.1 ∙ ap (λ h. h ∷ f' ∷ (fs ++ r.0)) (sym same.0), subst (λ k. SplitsFrom k r.0 u y) place r.2)
 
--- one way to split bytes
+-- bytes are split into frames in at most one way
 pub one_split : (at : ℕ) (fs gs : List FrameForm) (t u : ℕ) (b : List ℕ) → SplitsFrom at fs t b → SplitsFrom at gs u b → (fs ≡ gs) × (t ≡ u)
 one_split at [] [] t u b (e, z) (e', z') = (refl, z ∙ sym z')
 one_split at [] (g ∷ gs) t u b (e, z) h = absurd (omega (arith, from_least at g gs u b h, ap length e))
@@ -97,7 +97,7 @@ one_split at (f ∷ f' ∷ fs) (g ∷ g' ∷ gs) t u b (filler, rest, begun, o, 
     let q : f' ∷ fs ≡ g' ∷ gs = r.0 in
     (cc, r.1)
 
--- one more frame after frames up to a multiple of 4
+-- frames up to a multiple of 4, and one more frame, are a stream
 pub one_more : (at : ℕ) (fs : List FrameForm) (f : FrameForm) (t : ℕ) (x y r : List ℕ) → SplitsFrom at fs t x
     → at + length x ≡ up_to_4 (at + length x) → BeginsFrame f y r → f.offset ≡ at + length x
     → at + length x + frame_len f + length r ≤ up_to_4 (at + length x + frame_len f) → SplitsFrom at (fs ++ f ∷ []) (length r) (x ++ y)
@@ -130,17 +130,17 @@ tail_small at [] tail b (e, z) = omega (arith, z)
 tail_small at (f ∷ []) tail b (rest, begun, o, l, fit) = omega (arith, fit)
 tail_small at (f ∷ g ∷ fs) tail b (filler, rest, begun, o, fill, more) = tail_small (up_to_4 (at + frame_len f)) (g ∷ fs) tail rest more
 
--- ---- its bytes
+-- ---- the bytes of a stream
 
--- a frame's body and what is after it are bytes where the whole is
+-- if bytes begin with a frame, its body and the rest are bytes
 pub begun_bytes : (f : FrameForm) (b rest : List ℕ) → IsBytes b → BeginsFrame f b rest → IsBytes f.body × IsBytes rest
 begun_bytes f b rest bytes begun =
     let behind = bytes_back begun.head (f.body ++ rest) (subst IsBytes begun.text bytes) in
     (bytes_front f.body rest behind, bytes_back f.body rest behind)
 
--- ---- the forms of its headers
+-- ---- the forms of headers
 
--- a size that bytes say fits the form
+-- a size that the bytes of a header give fits its form
 pub form_fits : (extended : Bool) (n : ℕ) (h : List ℕ) → length h ≡ section_header_len extended
     → SaysSize extended (section_header_len extended + n) h
     → IsBytes h → FitsForm extended n
@@ -157,11 +157,11 @@ form_fits true n h long (full, is) bytes =
     below : (v n : ℕ) → v ≡ 8 + n → v < 0x100000000 → 8 + n ≤ 0xffffffff
     below v n e l = omega (arith, e, l)
 
--- of a header in bytes, the body fits the form
+-- the body of a header in bytes fits its form
 pub fits_form : (extended : Bool) (kind n : ℕ) (h : List ℕ) → IsBytes h → IsSectionHeader extended kind n h → FitsForm extended n
 fits_form extended kind n h bytes is = form_fits extended n h is.whole is.says bytes
 
--- of a frame in bytes, the body fits the form
+-- the body of a frame in bytes fits the form of its header
 pub fits : (f : FrameForm) (b rest : List ℕ) → IsBytes b → BeginsFrame f b rest → FitsForm f.extended (length f.body)
 fits f b rest bytes begun =
     fits_form f.extended f.kind (length f.body) begun.head (bytes_front begun.head (f.body ++ rest) (subst IsBytes begun.text bytes))

@@ -1,4 +1,4 @@
--- What a buffer holds after the bytes that were put into it.
+-- A buffer holds the bytes that were put into it, and then what it held before.
 use Rattle.std.proofs.Common.{◌≡◌, ◌∙◌, ◌⊎◌, ℕ, ◌+◌, ◌-◌, ◌<◌, ◌≤◌, List, [], ◌++◌, length, min, take, drop, ap, sym, inl, inr, arith}
 use Rattle.std.proofs.lemmas.Bool.{cases_lt}
 use Rattle.std.proofs.lemmas.List.{drop-drop, take-append-drop, take_all}
@@ -6,7 +6,7 @@ use Rattle.std.proofs.Math.ListN.{drop_of_length-le}
 use Rattle.fv_sinks.specs.Words.{buffer_name, taken_in, rest_in, BufferTakes}
 use Rattle.fv_sinks.specs.declared.buffer_sink.BufferSink.{BufferSink}
 
--- what follows some bytes in the room, of which there are as many as fit
+-- after the bytes that were put, as many as fit, the room has the same bytes as before
 pub room_left : (xs : List ℕ) (at n count : ℕ) → count ≡ min n (length xs - at) → drop (at + count) xs ≡ drop n (drop at xs)
 room_left xs at n count is = go (cases_lt n (length xs - at)) where
   go : (n < length xs - at) ⊎ (length xs - at ≤ n) → drop (at + count) xs ≡ drop n (drop at xs)
@@ -16,7 +16,8 @@ room_left xs at n count is = go (cases_lt n (length xs - at)) where
   go (inr more) =
       drop_of_length-le xs (omega (arith, is, more)) ∙ sym (drop-drop n at xs ∙ drop_of_length-le xs (omega (arith, more)))
 
--- a sink that had taken nothing of its buffer took bytes that fit: the buffer begins with them, and holds what it held after that
+-- if a sink that had put nothing into its buffer takes bytes that fit, the buffer begins with them, and then holds what
+-- it held before
 pub filled_front : (s t : BufferSink) (old bytes : List ℕ) → taken_in s ≡ [] → rest_in s ≡ old
     → BufferTakes taken_in rest_in buffer_name s bytes t → length bytes ≤ length old
     → t.buffer.now ≡ bytes ++ drop (length bytes) old

@@ -1,4 +1,5 @@
--- The laws of this crate that the crates above may cite. Each is passed on from its home; what is not here is an inner lemma.
+-- The laws of this crate that crates above may cite. Each is passed on from the module that proves it. A lemma that is
+-- not listed here is an inner one.
 
--- what a buffer holds after a sink took bytes that fit into it
+-- A buffer into which a sink put bytes that fit begins with them, and then holds what it held before.
 pub use Rattle.fv_sinks.proofs.BufferLemmas.{filled_front}

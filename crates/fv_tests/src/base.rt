@@ -1,5 +1,5 @@
-//! What no contract says: the values of the specifications, the printed texts, and readers and
-//! writers that fail in mid-stream.
+//! Tests of fv_base, of facts that its contracts do not state: the values that the specifications
+//! fix, the printed texts, and readers and writers that fail in mid-stream.
 
 mod inputs;
 mod ports;
@@ -8,7 +8,7 @@ mod sinks;
 use crate::checks::is_printed_as;
 use fv_base::{Align, Fault, FaultKind, Guid, Place, guid_at, sum8, sum16};
 
-/// The names of the two file systems and of the volume top file: their bytes and their text.
+/// The GUIDs of the two file systems and of the volume top file: the bytes and the text of each.
 const NAMES: [([u8; 16], &str); 3] = [
     (
         [
@@ -33,7 +33,7 @@ const NAMES: [([u8; 16], &str); 3] = [
     ),
 ];
 
-// Whether a name has these bytes and this text.
+// Returns whether the GUID with these bytes has this text.
 fn has_text(bytes: [u8; 16], text: &str) -> bool {
     let guid = Guid::from_bytes(bytes);
     guid.to_bytes() == bytes
@@ -48,7 +48,7 @@ fn guids_have_their_texts(rt: HostRuntime) {
     }
 }
 
-/// Each line has the forms of one name, the one with hyphens first.
+/// Each line contains the textual forms of one GUID. The form with hyphens is the first.
 const FORMS: &str = "\
     8c8ce578-8a3d-4f1c-9935-896185c32dd3 8c8ce5788a3d4f1c9935896185c32dd3 \
     {8c8ce578-8a3d-4f1c-9935-896185c32dd3} urn:uuid:8c8ce578-8a3d-4f1c-9935-896185c32dd3 \
@@ -63,7 +63,7 @@ const FORMS: &str = "\
     1BA0062E-C779-4582-8566-336AE8F78F09 1BA0062EC77945828566336AE8F78F09 \
     {1BA0062E-C779-4582-8566-336AE8F78F09}";
 
-// Whether all forms in a line are read as the first one is.
+// Returns whether all forms in a line are read as the same GUID.
 fn gives_one_guid(line: &str) -> Option<bool> {
     let mut forms = line.split_whitespace();
     let guid = Guid::parse(forms.next()?)?;
@@ -75,7 +75,6 @@ fn gives_one_guid(line: &str) -> Option<bool> {
     Some(true)
 }
 
-// The other forms of the same names.
 #[test]
 fn guids_are_parsed_from_each_form(rt: HostRuntime) {
     for line in FORMS.lines() {
@@ -83,7 +82,6 @@ fn guids_are_parsed_from_each_form(rt: HostRuntime) {
     }
 }
 
-// Texts that are not names.
 #[test]
 fn guids_are_parsed_from_no_other_text(rt: HostRuntime) {
     for text in [
@@ -110,7 +108,7 @@ fn a_guid_is_read_at_its_offset(rt: HostRuntime) {
     assert!(rt; guid_at(&bytes, 3).to_bytes() == want);
 }
 
-// Whether bytes, an even number of them, have these sums.
+// Returns whether the number of bytes is even, and the bytes have these sums.
 fn has_sums(bytes: &[u8], plain: u8, words: u16) -> bool {
     bytes.len() % 2 == 0 && sum8(bytes) == plain && sum16(bytes) == words
 }
@@ -129,7 +127,7 @@ fn sums_are_those_worked_out_by_hand(rt: HostRuntime) {
     }
 }
 
-/// The bits of an alignment, and the alignment in bytes without and with bit 0x02.
+/// The bits of each alignment code, and its alignment in bytes without and with bit 0x02.
 const ALIGNMENTS: [(u8, u64, u64); 8] = [
     (0, 1, 131_072),
     (8, 16, 262_144),
@@ -141,7 +139,7 @@ const ALIGNMENTS: [(u8, u64, u64); 8] = [
     (56, 65_536, 16_777_216),
 ];
 
-// Whether these bits have this alignment, whatever the other bits are.
+// Returns whether attributes with these bits have this alignment, whatever the other bits are.
 fn has_alignment(bits: u8, want: u64) -> bool {
     Align::from_attributes(bits).bytes() == want
         && Align::from_attributes(bits | 0xc5).bytes() == want

@@ -1,4 +1,4 @@
-//! What the tests of all modules check alike.
+//! Checks that the tests of all modules share.
 
 use std::alloc::Global;
 use std::fmt::Display;
@@ -16,7 +16,7 @@ macro_rules! assert_rows {
 
 pub(crate) use assert_rows;
 
-/// Whether a value is printed as this text.
+/// Returns whether a value is printed as this text.
 pub(crate) fn is_printed_as<T: Display>(alloc: Global, shown: &T, expected: &str) -> bool {
     match format!(in alloc; "{shown}") {
         Ok(text) => text.as_str() == expected,

@@ -1,5 +1,6 @@
-//! What no contract says: expressions worked out by hand, and the printed texts. The wrong ones are
-//! in `parts.rows` of fv_run_tests, with the fault of each, and the values in its `library.rows`.
+//! Tests of fv_depex, of facts that its contracts do not state: expressions that were worked out by
+//! hand, and the printed texts. Wrong expressions, with the fault of each, are in `parts.rows` of
+//! fv_run_tests, and the truth values in its `library.rows`.
 
 mod memory;
 mod read;
@@ -21,10 +22,10 @@ const ORDER: [u8; 16] = [
     0x1f, 0x2e, 0x3d, 0x4c, 0x5b, 0x6a, 0x79, 0x88, 0x97, 0xa6, 0xb5, 0xc4, 0xd3, 0xe2, 0xf1, 0x00,
 ];
 
-/// A body, in parts.
+/// The parts of a body.
 type Parts = &'static [&'static [u8]];
 
-// TRUE, 1000 times TRUE and AND, then NOT and END.
+// Returns TRUE, 1000 times TRUE and AND, and then NOT and END.
 fn long_expression() -> [u8; 2003] {
     let mut bytes = [0x06; 2003];
     for i in 1..2001usize {
@@ -37,7 +38,7 @@ fn long_expression() -> [u8; 2003] {
     bytes
 }
 
-// Whether an expression is written as these bytes.
+// Returns whether an expression is written as these bytes.
 fn is_written_as(alloc: Global, depex: &Depex, bytes: &[u8]) -> bool {
     match depex_bytes(alloc, depex) {
         Ok(written) => written.as_slice() == bytes,
@@ -74,7 +75,7 @@ const KINDS: [DepexFaultKind; 6] = [
     DepexFaultKind::OutOfMemory,
 ];
 
-// Whether a kind has this number, and its faults too.
+// Returns whether a kind has this number, and its faults have it too.
 fn has_number(kind: DepexFaultKind, number: u8) -> bool {
     kind.number() == number && DepexFault { kind, offset: 7 }.number() == number
 }

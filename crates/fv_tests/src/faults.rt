@@ -1,8 +1,8 @@
-//! The fault that is returned if memory runs out.
+//! The fault that a call returns if memory ran out.
 
 use fv_base::{Fault, FaultKind, Place};
 
-/// What a call returns if memory ran out.
+/// The fault that a call returns if memory ran out.
 pub(crate) const OUT_OF_MEMORY: Fault = Fault {
     kind: FaultKind::OutOfMemory,
     place: Place {

@@ -1,13 +1,13 @@
-//! What no contract says: files that bytes begin with, what remains of files, states, attribute
-//! bits, and headers that are written. Other bodies of volumes, and the fault of each change of
-//! one, are in `bodies.rows` of fv_run_tests.
+//! Tests of fv_file, of facts that its contracts do not state: bytes that begin with a file, the
+//! remains of files, states, attribute bits, and written headers. Other bodies of volumes, and the
+//! fault of each change to one of them, are in `bodies.rows` of fv_run_tests.
 
 mod begins;
 mod memory;
 mod states;
 mod written;
 
-/// The name of most files.
+/// The name of most files of the tests.
 const A: [u8; 16] = [0x0a; 16];
 
 /// The name of a pad.

@@ -1,6 +1,6 @@
-//! What no contract says: extended headers from outside, and heads that are written. Other heads and
-//! their extents are in `volumes.rows` and `library.rows` of fv_run_tests, and the fault of each
-//! change of one in its `parts.rows`.
+//! Tests of fv_head, of facts that its contracts do not state: extended headers from outside, and
+//! headers that are written. Other headers and their extents are in `volumes.rows` and
+//! `library.rows` of fv_run_tests, and the fault of each change to a header in its `parts.rows`.
 
 mod extended;
 mod memory;

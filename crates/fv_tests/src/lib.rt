@@ -1,5 +1,5 @@
-//! The tests of the public calls of `fv_base`, `fv_head`, `fv_file`, `fv_section`, `fv_depex`,
-//! `fv_hob` and `fv_tree`, a module a crate: what no contract says.
+//! Tests of the public calls of `fv_base`, `fv_head`, `fv_file`, `fv_section`, `fv_depex`, `fv_hob`
+//! and `fv_tree`, with one module for each crate. They test facts that the contracts do not state.
 #![tactic(auto)]
 
 #[cfg(test)]

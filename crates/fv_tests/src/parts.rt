@@ -1,8 +1,8 @@
-//! Bytes that are made of parts.
+//! Bytes that are joined from parts.
 
 use std::alloc::{AllocError, Global};
 
-// Appends parts to the bytes.
+// Appends the parts to the bytes.
 fn append_parts(bytes: &mut Vec<u8>, parts: &[&[u8]]) -> Result<(), AllocError> {
     for part in parts {
         bytes.extend_from_slice(part)?;
@@ -10,7 +10,7 @@ fn append_parts(bytes: &mut Vec<u8>, parts: &[&[u8]]) -> Result<(), AllocError> 
     Ok(())
 }
 
-/// The parts, and more after them, joined.
+/// Returns the parts, followed by more parts, joined.
 pub(crate) fn joined(
     alloc: Global,
     parts: &[&[u8]],

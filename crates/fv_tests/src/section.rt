@@ -1,5 +1,6 @@
-//! What neither a contract nor a run of the program says: frames at an offset, what leaves hold
-//! beside what `list` shows, headers as they are written, and memory that runs out.
+//! Tests of fv_section, of facts that neither a contract nor a run of the program states: frames at
+//! an offset, the parts of leaves that `list` does not show, written headers, and memory that runs
+//! out.
 
 mod memory;
 mod streams;

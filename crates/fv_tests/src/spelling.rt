@@ -1,9 +1,9 @@
-//! The bytes that texts spell.
+//! Bytes that are spelled as text.
 
 use std::alloc::Global;
 use std::str::from_utf8;
 
-// The byte that two hexadecimal digits are.
+// Returns the byte that two hexadecimal digits spell.
 fn byte_of_digits(digits: &[u8]) -> Option<u8> {
     u8::from_str_radix(from_utf8(digits).ok()?, 16).ok()
 }
@@ -25,8 +25,8 @@ fn push_word(bytes: &mut Vec<u8>, word: &str) -> Option<()> {
     Some(())
 }
 
-/// The bytes that a text spells. Two digits are a byte, a star and a number after a word repeat it,
-/// and spaces separate words.
+/// Returns the bytes that a text spells. Two digits are a byte, a star and a number after a word
+/// repeat it, and spaces separate words.
 pub(crate) fn spelled_bytes(alloc: Global, text: &str) -> Option<Vec<u8>> {
     let mut bytes = Vec::new(alloc);
     for word in text.split_whitespace() {
@@ -35,7 +35,7 @@ pub(crate) fn spelled_bytes(alloc: Global, text: &str) -> Option<Vec<u8>> {
     Some(bytes)
 }
 
-/// The bytes that a text spells. If memory runs out for them, it is there the second time.
+/// Returns the bytes that a text spells. If memory runs out, a second try succeeds.
 pub(crate) fn spelled_in_two_tries(alloc: Global, text: &str) -> Option<Vec<u8>> {
     match spelled_bytes(alloc, text) {
         None => spelled_bytes(alloc, text),

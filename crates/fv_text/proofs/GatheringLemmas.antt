@@ -1,9 +1,9 @@
--- Pieces that were gathered, and then put.
+-- A sink that gathers pieces has put the bytes that it took, once the gathered rest is put.
 use Rattle.std.proofs.Common.{◌≡◌, ◌∙◌, ℕ, List, [], ◌++◌, ap, subst, sym, append-nil}
 use Rattle.fv_base.specs.Words.{WalkLaws}
 use Rattle.fv_text.specs.Words.{Gathered}
 
--- what waited was put, and then some bytes
+-- the gathered bytes were put, and then more bytes directly
 pub passed_on : {S : Type 0} {takes : S → List ℕ → S → Type 0} → WalkLaws takes → (s t u : S) (p bytes q : List ℕ) → q ≡ []
     → Gathered takes s p [] t q → takes t bytes u → Gathered takes s p bytes u q
 passed_on laws s t u p bytes q none x put =
@@ -15,7 +15,7 @@ passed_on laws s t u p bytes q none x put =
       taken = laws.joined x.taken put;
     }
 
--- a sink in which nothing waited took the bytes, and then what still waited was put
+-- a sink that had gathered nothing took the bytes, and then the gathered rest was put, so all the bytes were put
 pub gathered_all : {S : Type 0} {takes : S → List ℕ → S → Type 0} → WalkLaws takes → (s t u : S) (p bytes q : List ℕ) → p ≡ []
     → Gathered takes s p bytes t q → takes t q u → takes s bytes u
 gathered_all {takes = takes} laws s t u p bytes q none x last =

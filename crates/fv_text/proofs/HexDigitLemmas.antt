@@ -1,4 +1,4 @@
--- Hexadecimal text, taken in parts.
+-- Hexadecimal text is decoded in parts: each two digits spell a byte, and a text with another character spells nothing.
 use Rattle.std.proofs.lemmas.Grind.{common_steps}
 use Rattle.std.proofs.Common.{◌≡◌, ◌<◌, ◌≤◌, ◌⊎◌, ⊎_elim, ℕ, zero, suc, ◌+◌, ◌*◌, ◌%◌, List, [], ◌∷◌, ◌++◌, length, take, drop, map, Option}
 use Rattle.std.proofs.Common.{refl, sym, ap, ◌∙◌, subst, append_assoc, append-nil, arith, length-append, drop-drop}
@@ -21,7 +21,7 @@ reads_joined (h ∷ []) b x y p q = absurd p
 reads_joined (h ∷ l ∷ a) b x y (byte, rest, pair, is, more) q =
     (byte, rest ++ y, pair, ap (λ (k : List ℕ). k ++ y) is, reads_joined a b rest y more q)
 
--- two digits for each byte
+-- the digits are twice as many as the bytes that they spell
 pub reads_count : (digits bytes : List ℕ) → DigitsSpell digits bytes → length digits ≡ 2 * length bytes
 reads_count [] bytes p = let none = ap length p in omega (arith, none)
 reads_count (h ∷ []) bytes p = absurd p
@@ -30,21 +30,21 @@ reads_count (h ∷ l ∷ digits) bytes (byte, rest, pair, is, more) =
     let long = ap length is in
     omega (arith, count, long)
 
--- after pairs of digits the rest of what is read is read
+-- if the digits of joined parts spell bytes, and the first part does, the second part does too
 pub reads_rest : (a b x y : List ℕ) → DigitsSpell a x → DigitsSpell (a ++ b) y → (z : List ℕ) × DigitsSpell b z
 reads_rest [] b x y p q = (y, q)
 reads_rest (h ∷ []) b x y p q = absurd p
 reads_rest (h ∷ l ∷ a) b x y (byte, rest, pair, is, more) (other, behind, twin, same, all) = reads_rest a b rest behind more all
 
--- what is spoilt stays so, whatever follows
+-- digits that cannot begin a text of bytes cannot do so with more digits after them
 pub spoilt_more : (a b : List ℕ) → IsSpoilt a → IsSpoilt (a ++ b)
 spoilt_more a b spoilt = grind (arith, common_steps, append_assoc)
 
--- and whatever is before it that is read
+-- digits that cannot begin a text of bytes cannot do so with digits before them that spell bytes
 pub spoilt_behind : (a b x : List ℕ) → DigitsSpell a x → IsSpoilt b → IsSpoilt (a ++ b)
 spoilt_behind a b x reads spoilt = grind (arith, common_steps, append_assoc, reads_rest)
 
--- what has a value is a digit
+-- a character with a value below 16 is a digit
 value_known : (d : ℕ) → value_or_16 d < 16 → hex_digit_value d ≡ Some (value_or_16 d)
 value_known d small = grind (arith, common_steps)
 
@@ -55,7 +55,7 @@ value_small d v is = grind arith
 nibble : (d v : ℕ) → hex_digit_value d ≡ Some v → value_or_16 d < 16
 nibble d v is = subst (λ (o : Option ℕ). unwrap_or o 16 < 16) (sym is) (value_small d v is)
 
--- what spells bytes begins with nothing but digits
+-- the characters at the start of a text that spells bytes are all digits
 pub all_digits : (a b bytes : List ℕ) → DigitsSpell (a ++ b) bytes → All IsNibble (map value_or_16 a)
 all_digits [] b bytes all = All-nil IsNibble
 all_digits (h ∷ []) [] bytes all = absurd all
@@ -65,11 +65,11 @@ all_digits (h ∷ l ∷ a) b bytes (byte, rest, pair, is, more) =
     All-cons IsNibble (value_or_16 h) (value_or_16 l ∷ map value_or_16 a) (nibble h pair.high pair.high_is)
     (All-cons IsNibble (value_or_16 l) (map value_or_16 a) (nibble l pair.low pair.low_is) (all_digits a b rest more))
 
--- the greatest value so far shows whether there was anything but digits
+-- the greatest value so far says whether all characters so far are digits
 abbrev pub Judges : ℕ → List ℕ → Type 0
 Judges most digits = (most < 16 → All IsNibble (map value_or_16 digits)) × (16 ≤ most → IsSpoilt digits)
 
--- one character more
+-- one more character is judged by the greater of its value and the greatest value so far
 pub judges_next : (digits : List ℕ) (i d most value now : ℕ) → i < length digits → value ≡ value_or_16 (get_or digits i d)
     → now ≡ max value most → Judges most (take i digits) → Judges now (take (i + 1) digits)
 judges_next digits i d most value now lt value_is now_is (right, wrong) =
@@ -95,7 +95,7 @@ judges_next digits i d most value now lt value_is now_is (right, wrong) =
       c : ℕ
       c = get_or digits i d
 
--- one digit more is replaced by its value
+-- one more digit is replaced by its value
 pub value_put : (old digits : List ℕ) (i value d : ℕ) → i < length old → length digits ≡ length old
     → take i digits ≡ map value_or_16 (take i old) → drop i digits ≡ drop i old → value ≡ value_or_16 (get_or digits i d)
     → (take (i + 1) (set digits i value) ≡ map value_or_16 (take (i + 1) old)) × (drop (i + 1) (set digits i value) ≡ drop (i + 1) old)
@@ -115,7 +115,7 @@ value_put old digits i value d lt long front rest value_is =
       at,
     )
 
--- the bytes of the values of digits are what the digits spell
+-- the bytes of the values of digits are the bytes that the digits spell
 pub joined_spell : (digits : List ℕ) → length digits % 2 ≡ 0 → All IsNibble (map value_or_16 digits)
     → DigitsSpell digits (joined_pairs (map value_or_16 digits))
 joined_spell [] even small = refl
@@ -136,7 +136,7 @@ joined_spell (h ∷ l ∷ digits) even small =
       joined_spell digits (omega (arith, even)) (All-tail IsNibble (value_or_16 l) (map value_or_16 digits) rest),
     )
 
--- pairs of values, and a pair more
+-- the bytes of pairs of values, and of one more pair
 joined_more : (values : List ℕ) (h l : ℕ) → length values % 2 ≡ 0
     → joined_pairs (values ++ h ∷ l ∷ []) ≡ joined_pairs values ++ (h * 16 + l) ∷ []
 joined_more [] h l even = refl
@@ -158,7 +158,7 @@ joined_next values i d e lt =
     let long : length front ≡ 2 * i = length-take-le (2 * i) values (omega (arith, lt)) in
     ap joined_pairs both ∙ joined_more front h l (omega (arith, long))
 
--- the pair at a place
+-- the pair at an index is two values from twice the index on
 pair_at : (k : ℕ) (values : List ℕ) (i : ℕ) (d : List ℕ) → i < k → get_or (first_chunks 2 k values) i d ≡ take 2 (drop (2 * i) values)
 pair_at zero values i d lt = absurd (omega (arith, lt))
 pair_at (suc k) values zero d lt = refl
@@ -167,7 +167,7 @@ pair_at (suc k) values (suc i) d lt =
     pair_at k (drop 2 values) i d (omega (arith, lt))
     ∙ ap (take 2) (drop-drop (2 * i) 2 values ∙ ap (λ (n : ℕ). drop n values) (sym place))
 
--- its two values
+-- each value of a pair is the value at its index in the list
 pub pair_value : (pairs : List (List ℕ)) (k : ℕ) (values : List ℕ) (i j : ℕ) (d : List ℕ) (e : ℕ) → pairs ≡ first_chunks 2 k values
     → i < k → j < 2 → get_or (get_or pairs i d) j e ≡ get_or values (2 * i + j) e
 pair_value pairs k values i j d e is lt within =
@@ -176,16 +176,16 @@ pair_value pairs k values i j d e is lt within =
     ∙ get_or-take 2 (drop (2 * i) values) j e within
     ∙ get_or-drop (2 * i) values j e
 
--- a room that is filled whole
+-- a filled room of the length of the items takes their place
 pub whole_room : (items room : List ℕ) (len : ℕ) → len ≡ length items → length room ≡ length items
     → take len (room ++ drop (length room) items) ≡ room
 whole_room items room len len_is long = grind (arith, common_steps, drop-length, append-nil, take_all)
 
--- and what was in it before
+-- the items before the start of the room are unchanged
 pub kept_front : (old fill items : List ℕ) (start n : ℕ) → start ≡ length old → start ≤ n → items ≡ take n old ++ fill
     → take start items ≡ old
 kept_front old fill items start n is le filled = grind (arith, common_steps, take_all, take-append_seam)
 
--- a digit after pairs spells nothing
+-- one digit after pairs of digits spells nothing
 pub odd_reads_nothing : (front waiting x y : List ℕ) → length waiting ≡ 1 → DigitsSpell front x → DigitsSpell (front ++ waiting) y → ⊥
 odd_reads_nothing front waiting x y one reads all = grind (arith, common_steps, reads_count, length-append)

@@ -1,4 +1,5 @@
--- What a decoder has come to, a piece of text later, and at its end.
+-- After each piece of text, a decoder holds the bytes that the text so far spells and at most one digit that waits,
+-- unless the text is wrong or spells too many bytes. At the end, this decides whether the text is accepted.
 use Rattle.std.proofs.lemmas.Grind.{common_steps}
 use Rattle.std.proofs.Common.{◌≡◌, ◌<◌, ◌≤◌, ◌⊎◌, inl, inr, List, [], ◌∷◌, ℕ, ◌+◌, ◌/◌, ◌++◌, Bool, true, false, not}
 use Rattle.std.proofs.Common.{refl, sym, ap, subst, ◌∙◌, append_assoc, append-nil, length-append, arith}
@@ -12,12 +13,14 @@ use Rattle.fv_text.specs.inner.HexDecoding.{AddsDigits, Decodes, DecodesPairs, H
 use Rattle.fv_text.proofs.HexDigitLemmas.{odd_reads_nothing, reads_count, reads_joined, spoilt_behind, spoilt_more}
 use Rattle.fv_text.proofs.WhiteSpaceLemmas.{squeezed_more}
 
--- the digits of a text and of the next piece: those that are read, those of the pairs now, and what waits
+-- the digits of a text and of the next piece are the digits that were decoded, those of the pairs now, and those that
+-- wait
 joins : (before text waiting all digits kept front : List ℕ) → squeezed before ≡ front ++ waiting → all ≡ waiting ++ squeezed text
     → all ≡ digits ++ kept → squeezed (before ++ text) ≡ front ++ (digits ++ kept)
 joins before text waiting all digits kept front was joined split = grind (arith, common_steps, squeezed_more, append_assoc)
 
--- the digits that waited and those of the next piece are pairs, which are decoded, and what waits now
+-- if the digits that waited and those of the next piece are pairs that were decoded, the decoder holds the bytes of all
+-- the text so far
 pub taken : (before text waiting all digits kept left held holds : List ℕ) (was_long is_long : Bool)
     → HoldsDigits was_long held waiting (squeezed before) → AddsDigits was_long is_long held holds digits → all ≡ waiting ++ squeezed text
     → all ≡ digits ++ kept → left ≡ kept → HoldsDigits is_long holds left (squeezed (before ++ text))
@@ -38,7 +41,7 @@ taken before text waiting all digits kept left held holds was_long is_long h add
   many_more true bytes more were are = let lt = were refl in let long = length-append bytes more in omega (arith, lt, long)
   many_more false bytes more were are = are refl
 
--- the pairs of the digits that waited and of the next piece are spoilt
+-- if these pairs cannot begin a text, all the text so far cannot
 pub taken_wrong : (before text waiting all digits kept held : List ℕ) (was_long : Bool)
     → HoldsDigits was_long held waiting (squeezed before)
     → IsSpoilt digits → all ≡ waiting ++ squeezed text → all ≡ digits ++ kept → IsSpoilt (squeezed (before ++ text))
@@ -46,14 +49,14 @@ taken_wrong before text waiting all digits kept held was_long h spoilt joined sp
     subst IsSpoilt (sym (joins before text waiting all digits kept h.front h.joined joined split))
     (spoilt_behind h.front (digits ++ kept) h.bytes h.reads (spoilt_more digits kept spoilt))
 
--- the bytes are kept, or they are too many with those of the digits
+-- the decoder keeps its bytes, or they would be too many with those of the digits
 abbrev pub MakesRoom : Decoder → Decoder → Type 0
 MakesRoom old room =
     (room.digits.items ≡ old.digits.items)
     × (((room.is_long ≡ old.is_long) × (room.bytes.items ≡ old.bytes.items))
     ⊎ ((room.is_long ≡ true) × (volume_limit < length old.bytes.items + length old.digits.items / 2)))
 
--- the bytes of the pairs, put after those that were kept
+-- the bytes of the pairs are put after the bytes that were kept
 adds_pairs : (old room : Decoder) (holds more : List ℕ) → MakesRoom old room → DigitsSpell old.digits.items more
     → holds ≡ room.bytes.items ++ more → AddsDigits old.is_long room.is_long old.bytes.items holds old.digits.items
 adds_pairs old room holds more (digits, inl (flag, same)) reads is = record {
@@ -72,12 +75,12 @@ adds_pairs old room holds more (digits, inr (flag, much)) reads is = record {
       omega (arith, count, long, much);
 }
 
--- a flag and its contrary
+-- a flag that is the contrary of another flag
 turned : (flag all : Bool) → flag ≡ not all → (flag ≡ true → all ≡ false) × (flag ≡ false → all ≡ true)
 turned flag true is = (λ up. absurd (up_is_not_down flag up is), λ down. refl)
 turned flag false is = (λ up. refl, λ down. absurd (up_is_not_down flag is down))
 
--- the pairs were all decoded, or one of them is no byte
+-- all pairs were decoded, or one of them is not a byte
 pub pairs_decoded : (old room new : Decoder) (seen : List ℕ) (all : Bool) → MakesRoom old room → seen ≡ room.digits.items
     → (all ≡ true → (more : List ℕ) × DigitsSpell seen more × (new.bytes.items ≡ room.bytes.items ++ more))
     → (all ≡ false → IsSpoilt seen) → new.is_wrong ≡ not all → new.is_long ≡ room.is_long → DecodesPairs old new
@@ -91,18 +94,18 @@ pairs_decoded old room new seen all made seen_is read wrong flag long =
           (adds_pairs old room new.bytes.items more made (subst (λ (l : List ℕ). DigitsSpell l more) digits reads) is);
     }
 
--- not empty, and no more than one
+-- a list that is not empty and has at most one item has one item
 pub one_waits : (value empty : Bool) (n len : ℕ) → value ≡ true → value ≡ not empty → empty ≡ (n == 0) → n ≡ len → n ≤ 1 → len ≡ 1
 one_waits value empty n len up is empty_is count few = grind (arith, common_steps, turned, nat_tests)
 
--- empty
+-- a list that is said to be empty is empty
 pub none_waits : (value empty : Bool) (n : ℕ) (l : List ℕ) → value ≡ false → value ≡ not empty → empty ≡ (n == 0) → n ≡ length l → l ≡ []
 none_waits value empty n [] down is empty_is count = refl
 none_waits value empty n (x ∷ l) down is empty_is count =
     let none : n ≡ 0 = (Decides-eqb n 0).0 (sym empty_is ∙ (turned value empty is).1 down) in
     absurd (omega (arith, none, count))
 
--- text that was wrong stays so
+-- a text that was wrong is still wrong with the next piece
 pub stays_wrong : (d : Decoder) (before text : List ℕ) → d.is_wrong ≡ true → Decodes d before → Decodes d (before ++ text)
 stays_wrong d before text wrong so_far = record {
   wrong = λ up. subst IsSpoilt (sym (squeezed_more before text)) (spoilt_more (squeezed before) (squeezed text) (so_far.wrong up));
@@ -111,17 +114,17 @@ stays_wrong d before text wrong so_far = record {
   waiting = so_far.waiting;
 }
 
--- no text is spelled where it is wrong
+-- a text that is wrong does not spell bytes
 pub spoilt_is_no_text : (text : List ℕ) → IsSpoilt (squeezed text) → IsNoText text
 spoilt_is_no_text text spoilt = λ bytes reads.
     spoilt [] bytes (subst (λ (l : List ℕ). DigitsSpell l bytes) (sym (append-nil (squeezed text))) reads)
 
--- nor where a digit waits
+-- a text after which a digit waits does not spell bytes
 pub odd_is_no_text : (text waiting held : List ℕ) (is_long : Bool) → length waiting ≡ 1 → HoldsDigits is_long held waiting (squeezed text)
     → IsNoText text
 odd_is_no_text text waiting held is_long one h = grind (arith, common_steps, odd_reads_nothing)
 
--- the bytes are those of the text where none waits
+-- a text after which no digit waits spells the bytes that are held
 pub whole_reads : (text waiting held : List ℕ) (is_long : Bool) → waiting ≡ [] → (h : HoldsDigits is_long held waiting (squeezed text))
     → DigitsSpell (squeezed text) h.bytes
 whole_reads text waiting held is_long none h = grind (arith, common_steps, append-nil)

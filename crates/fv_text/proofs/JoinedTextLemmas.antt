@@ -1,4 +1,4 @@
--- Texts that are put one after the other.
+-- The texts of some items, put one after the other, are the text of all of them.
 use Rattle.std.proofs.Common.{ℕ, ◌+◌, ◌<◌, ◌≤◌, List, [], ◌∷◌, ◌++◌, length, drop, get_or}
 use Rattle.std.proofs.Common.{◌≡◌, ◌∙◌, sym, ap, subst, take, append_assoc, append-nil}
 use Rattle.std.specs.Prelude.{map}
@@ -8,8 +8,8 @@ use Rattle.std.proofs.lemmas.List.{map_more, take_more}
 use Rattle.std.proofs.lemmas.List.{drop_more, drop_all}
 use Rattle.fv_base.specs.Words.{WalkLaws}
 
--- a sink took the texts of the first i of some things, so that those of the others complete the text of all; in
--- `Text n xs text` the first of the things has the number n
+-- a sink took the texts of the first i items, and the text of the others completes the text of all; in `Text n xs
+-- text`, the first item has the number n
 pub record Tells {S X : Type 0} (takes : S → List ℕ → S → Type 0) (Text : ℕ → List X → List ℕ → Type 0) (xs : List X) (i : ℕ)
     (s t : S) : Type 0 where
   pub text : List ℕ
@@ -20,7 +20,7 @@ pub tells_none : {S X : Type 0} {takes : S → List ℕ → S → Type 0} → Wa
     (s : S) → Tells takes Text xs 0 s s
 tells_none laws Text xs s = record { text = []; taken = laws.none s; on = λ rest h. h }
 
--- the text of one more
+-- the sink took the text of one more item
 pub tells_more : {S X : Type 0} {takes : S → List ℕ → S → Type 0} {Text : ℕ → List X → List ℕ → Type 0} {xs : List X} {i : ℕ} {s t u : S}
     → WalkLaws takes → (d : X) (line : List ℕ) → i < length xs
     → ((rest : List ℕ) → Text (i + 1) (drop (i + 1) xs) rest → Text i (get_or xs i d ∷ drop (i + 1) xs) (line ++ rest))
@@ -45,12 +45,12 @@ tells_all {X = X} {Text = Text} {xs = xs} {i = i} none l w =
 pub flat_next : {X A : Type 0} (f : X → List A) (xs : List X) (x : X) → flat_map f (xs ++ x ∷ []) ≡ flat_map f xs ++ f x
 flat_next f xs x = flat_map-append f xs (x ∷ []) ∙ ap (λ l. flat_map f xs ++ l) (append-nil (f x))
 
--- the texts of one item more
+-- the texts of the items up to the next index are those up to this index, and the text of the item here
 pub texts_next : {X A : Type 0} (f : X → List A) (xs : List X) (i : ℕ) (d : X) → i < length xs
     → flat_map f (take (i + 1) xs) ≡ flat_map f (take i xs) ++ f (get_or xs i d)
 texts_next f xs i d l = ap (flat_map f) (take_more xs i d l) ∙ flat_next f (take i xs) (get_or xs i d)
 
--- the texts of one item more, where the items are seen as others
+-- the texts of the mapped items up to the next index are those up to this index, and the text of the mapped item here
 pub seen_next : {X Y A : Type 0} (f : Y → List A) (see : X → Y) (xs : List X) (i : ℕ) (d : X) → i < length xs
     → flat_map f (map see (take (i + 1) xs)) ≡ flat_map f (map see (take i xs)) ++ f (see (get_or xs i d))
 seen_next f see xs i d l = ap (flat_map f) (map_more see xs i d l) ∙ flat_next f (map see (take i xs)) (see (get_or xs i d))

@@ -1,4 +1,4 @@
--- White space in hexadecimal text: the text without it, put into a room.
+-- Text is put into a room without its white space, character by character or in windows of 16 bytes.
 use Rattle.std.proofs.lemmas.Grind.{common_steps}
 use Rattle.std.proofs.Common.{◌≡◌, ◌<◌, ◌≤◌, ℕ, ◌+◌, ◌-◌, ◌*◌, List, [], ◌∷◌, ◌++◌, length, take, drop, Bool, true, false}
 use Rattle.std.proofs.Common.{refl, sym, ap, ◌∙◌, append_assoc, append-nil, arith}
@@ -18,12 +18,12 @@ squeezed_more (c ∷ a) b = go (is_space c) (squeezed_more a b) where
   go true e = e
   go false e = ap (λ (l : List ℕ). c ∷ l) e
 
--- one character more
+-- one more character is kept, or it is white space
 squeezed_next : (text : List ℕ) (at d : ℕ) → at < length text
     → squeezed (take (at + 1) text) ≡ squeezed (take at text) ++ (if is_space (get_or text at d) then [] else (get_or text at d ∷ []))
 squeezed_next text at d lt = ap squeezed (take_more text at d lt) ∙ squeezed_more (take at text) (get_or text at d ∷ [])
 
--- no more stays than there was
+-- a text without its white space is at most as long as the text
 pub squeezed_short : (text : List ℕ) → length (squeezed text) ≤ length text
 squeezed_short [] = omega arith
 squeezed_short (c ∷ text) = go (is_space c) (squeezed_short text) where
@@ -31,11 +31,11 @@ squeezed_short (c ∷ text) = go (is_space c) (squeezed_short text) where
   go true le = omega (arith, le)
   go false le = omega (arith, le)
 
--- what is greater than a space is no white space
+-- a character greater than a space is not white space
 greater_is_kept : (c : ℕ) → 32 < c → is_space c ≡ false
 greater_is_kept c lt = grind arith
 
--- a text of bytes that are greater than a space
+-- a text of characters that are all greater than a space has no white space
 pub dense : (text : List ℕ) (least : ℕ) → 32 < least → All (λ b. least ≤ b) text → squeezed text ≡ text
 dense [] least lt all = refl
 dense (c ∷ text) least lt all =
@@ -47,7 +47,7 @@ pub count_small : (s : Bool) (count : ℕ) → count ≡ (if s then 0 else 1) �
 count_small true count is = omega (arith, is)
 count_small false count is = omega (arith, is)
 
--- a byte is put after the others, or it is white space
+-- one more character is put after the others, or it is white space
 pub put_next : (base room text : List ℕ) (end at d count : ℕ) → at < length text → end < length room
     → take end room ≡ base ++ squeezed (take at text) → count ≡ (if is_space (get_or text at d) then 0 else 1)
     → take (end + count) (set room end (get_or text at d)) ≡ base ++ squeezed (take (at + 1) text)
@@ -68,7 +68,7 @@ put_next base room text end at d count lt fits so_far count_is = go (is_space c)
       ∙ append_assoc base (squeezed (take at text)) (c ∷ [])
       ∙ ap (λ (l : List ℕ). base ++ l) (sym next)
 
--- 16 bytes that are put after the others, or what is left of them without their white space
+-- the next 16 bytes are put after the others, without their white space
 pub window_put : (base room now text : List ℕ) (end to i : ℕ) → take end room ≡ base ++ squeezed (take (16 * i) text)
     → take to now ≡ take end room ++ squeezed (take (16 * i + 16 - 16 * i) (drop (16 * i) text))
     → take to now ≡ base ++ squeezed (take (16 * (i + 1)) text)
@@ -84,12 +84,12 @@ window_put base room now text end to i so_far put =
     ∙ ap squeezed (
     ap (λ (n : ℕ). take at text ++ take n (drop at text)) count ∙ sym (take-add at 16 text) ∙ ap (λ (n : ℕ). take n text) (sym place)))
 
--- bytes that are put whole, since they have no white space
+-- 16 bytes that have no white space are put as they are
 pub dense_put : (room now window : List ℕ) (end : ℕ) → length window ≡ 16 → squeezed window ≡ window
     → take (end + length window) now ≡ take end room ++ window → take (end + 16) now ≡ take end room ++ squeezed window
 dense_put room now window end long same put = grind (arith, common_steps)
 
--- and what is left of the text
+-- the rest of the text is put after the others, without its white space
 pub rest_put : (base room now text rest : List ℕ) (end to at : ℕ) → take end room ≡ base ++ squeezed (take at text)
     → rest ≡ drop at text → take to now ≡ take end room ++ squeezed rest → take to now ≡ base ++ squeezed text
 rest_put base room now text rest end to at so_far rest_is put =

@@ -1,4 +1,4 @@
--- How the run of a plan does not end, and what a new port shows.
+-- The run of a plan does not end with the status of wrong arguments, and what a new port shows.
 use Rattle.std.proofs.Common.{◌≡◌, ◌∙◌, ℕ, List, ap, Bool, true, false, cond, inl, inr, subst, sym}
 use Rattle.std.specs.Prelude.{Option, None, Some}
 use Rattle.fv_base.specs.Words.{has_erred, inner_of}
@@ -59,7 +59,7 @@ run_not_wrong p ended ports (ran, text, has, inl (is, wrote)) wrong =
     (subst (λ (s : Status). HasText p.command p.hex ports.first ports.second ended.refusal s text) (sym is ∙ wrong) has)
 run_not_wrong p ended ports (ran, text, has, inr (is, stops)) wrong = let bad : WrongWords ≡ Refused = sym wrong ∙ is in cc
 
--- the run of a plan does not end in wrong words
+-- the run of a plan does not end with the status WrongWords
 pub never_wrong : {S F : Type 0} (of_input : S → Option (List ℕ)) (of_file : F → Option (List ℕ))
     (opens : List ℕ → Option F → Type 0) (is_standard : S → Type 0) (p : Plan) (ended : Ending) (output : Change)
     → RunsOver of_input of_file opens is_standard p ended output → ended.status ≡ WrongWords → ⊥
@@ -70,7 +70,7 @@ never_wrong of_input of_file opens is_standard p ended output (first, second, is
       output = output;
     }) ran is
 
--- what a new port shows
+-- a new port shows what its inner reader or writer shows, and no error
 pub shown_new : {T : Type 0} (told : T → Option (List ℕ)) (port : Port T) (inner : T) → inner_of port ≡ inner → has_erred port ≡ false
     → shown told port ≡ seen (told inner) false
 shown_new told port inner is fine = ap (λ e. seen (told (inner_of port)) e) fine ∙ ap (λ x. seen (told x) false) is

@@ -116,7 +116,8 @@ impl<'r, R> Host<'r, R> {
 }
 
 impl<'r, R: Files> Host<'r, R> {
-    // Names a file that cannot be opened, and a folder, which can be opened but not read.
+    // Explains that a file cannot be opened, or that the path names a folder, which can be opened
+    // but not read.
     fn explain_file(&self, path: &str, file: &Option<R::File>) {
         if path == HELD {
             return;

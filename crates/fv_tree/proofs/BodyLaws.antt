@@ -1,4 +1,4 @@
--- The files of a volume are those of its cells.
+-- The files of a volume are the files of its cells.
 use Rattle.std.proofs.lemmas.Grind.{common_steps}
 use Rattle.std.proofs.Common.{◌≡◌, ◌≤◌, ◌<◌, ℕ, ◌+◌, ◌^◌, List, [], ◌∷◌, ◌++◌, length, drop, sym, ap}
 use Rattle.std.proofs.Common.{◌∙◌, subst, arith, length-append}
@@ -18,22 +18,22 @@ use Rattle.fv_tree.specs.inner.ReadingParts.{IsReadyFile, AllStored}
 use Rattle.fv_tree.specs.Words.{StandIn, Stream, MeansFile, FileForm, files_in, AreCurrent, replaced_by, Faulty, FileFault, BodyFault}
 use Rattle.fv_tree.specs.Words.{OneOf}
 
--- ---- the files as they lie in a volume
+-- ---- the files that are stored in a volume
 
--- the files of some cells are those of a volume of them
+-- the current files among some stored files are the current files of the cells that contain these files
 pub current_of : (length : ℕ) (cs : List CellForm) (standing files : List FileForm) → standing ≡ files_in cs
     → AreCurrent length standing files
     → AreCurrent length (files_in cs) files
 current_of length cs standing files is h = subst (λ (fs : List FileForm). AreCurrent length fs files) is h
 
--- ---- what the files mean
+-- ---- the meanings of the files
 
--- the first file that is rejected, of those that are in the volume
+-- if a file is the first one that is rejected, its fault is the first fault of the body
 pub files_first : (n : ℕ) (I : Faulty) (e : Extent) (volume : List ℕ) (at : Place) (fs : List FileForm) (g : Fault) → StandIn e volume fs
     → OneOf First (MeansFile (Stream n)) (λ f. FileFault I g f at) fs → BodyFault First n I e g volume at
 files_first n I e volume at fs g stand first = grind (arith, common_steps)
 
--- ---- every file is in some bytes
+-- ---- the bytes of every file lie in some bytes
 
 stored_here : (s : FileSystem) (p : Polarity) (c : CellForm) (x : List ℕ) (base end : ℕ) (cs : List CellForm) → IsBytes x
     → length x ≤ volume_limit → base + end < 2 ^ 63 → IsCell s p c x

@@ -1,4 +1,5 @@
--- What is inside something that was read nests one level less deep; the volumes in a section and in a file.
+-- The contents of a part that was read nest one level less deep than the part. The volumes in a section and in a file
+-- are the volumes in their contents.
 use Rattle.std.proofs.Common.{◌≡◌, ℕ, zero, suc, List, [], ◌∷◌, refl}
 use Rattle.std.specs.List.{AllByRecursion}
 use Rattle.fv_section.specs.Words.{FrameForm}
@@ -8,38 +9,38 @@ use Rattle.fv_tree.specs.Words.{FileForm, deeper, volumes_in_body, volumes_in_co
 use Rattle.fv_head.specs.Words.{HeadFields}
 use Rattle.fv_tree.specs.inner.NestingDepths.{NestsVolume, NestsFiles, NestsContent, NestsSections, NestsBody}
 
--- each item of the second list has one in the first
+-- each item of the second list is paired with an item of the first list
 each_paired : {A B : Type 0} (R : A → B → Type 0) (xs : List A) (ys : List B) → Pairwise R xs ys → AllByRecursion (λ y. (x : A) × R x y) ys
 each_paired R [] [] h = tt
 each_paired R [] (y ∷ ys) h = absurd h
 each_paired R (x ∷ xs) [] h = absurd h
 each_paired R (x ∷ xs) (y ∷ ys) h = ((x, h.0), each_paired R xs ys h.1)
 
--- the files of a volume
+-- the files of a volume nest no deeper than the volume
 pub nests_files : (h : HeadFields) (files : FileMeanings) (n : ℕ) → NestsVolume (Volume h files) n → NestsFiles files n
 nests_files h files n (b, d) = each_paired (MeansFile (Stream n)) d.files (files_list files) d.meanings
 
--- the data of a file
+-- the data of a file nest no deeper than the file
 pub nests_content : (m : FileMeaning) (n : ℕ) (f : FileForm) → MeansFile (Stream n) f m → NestsContent (content_of m) n
 nests_content (File name kind attributes content) n f (a, b, c, d) = (kind, f.payload, d)
 
 stream_nests : (ss : SectionMeanings) (tail n : ℕ) (b : List ℕ) → Stream n (sections_list ss) tail b → NestsSections ss n
 stream_nests ss tail n b (frames, splits, pairs) = each_paired (MeansSection n) frames (sections_list ss) pairs
 
--- the sections in a file's data
+-- the sections in a file's data nest no deeper than the data
 pub nests_sections : (ss : SectionMeanings) (tail n : ℕ) → NestsContent (Sectioned ss tail) n → NestsSections ss n
 nests_sections ss tail n (kind, payload, (held, stream)) = stream_nests ss tail n payload stream
 
--- the body of a section
+-- the body of a section nests no deeper than the section
 pub nests_body : (s : SectionMeaning) (n : ℕ) (f : FrameForm) → MeansSection n f s → NestsBody (body_of s) n
 nests_body (Section kind extended body) n f means = (f, kind, extended, means)
 
--- the sections of a group
+-- the sections of a group nest one level less deep than the group
 pub nests_group : (ss : SectionMeanings) (tail n : ℕ) → NestsBody (Group ss tail) n → (k : ℕ) × (n ≡ suc k) × NestsSections ss k
 nests_group ss tail zero (f, kind, extended, (a, b, (c, none))) = absurd none
 nests_group ss tail (suc k) (f, kind, extended, (a, b, (c, stream))) = (k, refl, stream_nests ss tail k f.body stream)
 
--- the volume in a section
+-- the volume in a section nests one level less deep than the section
 pub nests_nested : (m : Meaning) (n : ℕ) → NestsBody (Nested m) n → (k : ℕ) × (n ≡ suc k) × NestsVolume m k
 nests_nested m zero (f, kind, extended, (a, b, (c, opens, none))) = absurd none
 nests_nested m (suc k) (f, kind, extended, (a, b, (c, opens, volume))) = (k, refl, (f.body, volume))

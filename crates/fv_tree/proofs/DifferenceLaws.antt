@@ -1,9 +1,12 @@
--- Two meanings differ nowhere exactly where they are one. The steps:
--- 1. Parts differ nowhere exactly if each of them differs nowhere (`both_none`, `item_none`, `none_both`, `in_none`).
--- 2. A field that does not differ is the same field: bytes, a number, a flag (`bytes_one`, `nat_one`, `bool_one`), and what a header has
---    besides (`blocks_one`, `ext_one`). So two headers that differ nowhere are one (`head_one`).
--- 3. By recursion over the meaning two volumes that differ nowhere are one (`one_volume`).
--- 4. Back: no field differs from itself (`bytes_same` and those after it), and so no meaning does (`no_difference`).
+-- Two meanings have no difference exactly if they are equal. The steps:
+-- 1. Two pairs of parts have no difference exactly if neither pair has one (`both_none`, `item_none`, `none_both`,
+--    `in_none`).
+-- 2. Fields without a difference are equal: bytes, numbers and flags (`bytes_one`, `nat_one`, `bool_one`), the block
+--    map (`blocks_one`) and the extended header (`ext_one`). So two headers without a difference are equal
+--    (`head_one`).
+-- 3. By induction on the meaning, two volumes without a difference are equal (`one_volume`).
+-- 4. Conversely, a field does not differ from itself (`bytes_same` and the lemmas after it), and so a meaning does not
+--    differ from itself (`no_difference`).
 use Rattle.std.proofs.lemmas.Grind.{common_steps}
 use Rattle.std.proofs.Common.{◌≡◌, ℕ, ◌+◌, List, [], ◌∷◌, refl, ap, ◌∙◌, Bool, true, false, Option, Some, None, arith}
 use Rattle.std.specs.Prelude.{◌==◌, ◌&&◌}
@@ -33,7 +36,7 @@ both_none (Some d) b e = cc
 none_both : (a b : Differs) → a ≡ None → b ≡ None → option_or a b ≡ None
 none_both a b p q = rw p q
 
--- nothing differs in the first items of two lists, and nothing in the others
+-- if two lists have no difference, neither their first items nor the rests of the lists have one
 item_none : (s : Step) (a b : Differs) → option_or (under s a) b ≡ None → (a ≡ None) × (b ≡ None)
 item_none s None b e = (refl, e)
 item_none s (Some d) b e = cc
@@ -173,7 +176,7 @@ mutual
   one_body (Nested v) (Nested w) e = let p : v ≡ w = one_volume v w e in cc
   one_body _ _ e = cc
 
--- ---- and back
+-- ---- a field does not differ from itself
 
 bytes_same : (x : List ℕ) → bytes_eq x x ≡ true
 bytes_same x = (bytes_eq-Decides x x).1 refl

@@ -1,4 +1,4 @@
--- What the turns of a walk through two meanings return.
+-- What each turn of the walk through two meanings returns.
 use Rattle.std.proofs.lemmas.Grind.{common_steps}
 use Rattle.std.proofs.Common.{◌≡◌, ℕ, zero, suc, ◌≤◌, List, [], ◌∷◌, length, drop, min, refl, sym, ap, ◌∙◌, arith}
 use Rattle.std.proofs.Common.{Bool, true, false, Option, Some, None}
@@ -14,7 +14,7 @@ use Rattle.fv_tree.specs.declared.difference.Word.TheVariants as words
 use Rattle.fv_tree.specs.Words.{Meaning, Volume, FileMeaning, SectionMeaning, head_of, files_from, sections_from}
 use Rattle.fv_tree.proofs.DifferenceLaws.{no_difference}
 
--- ---- the first of two
+-- ---- the first of two differences
 
 ends_first : (a t : Differs) (w : Word) → a ≡ differ_in w → option_or a t ≡ differ_in w
 ends_first a t w p = rw p refl
@@ -33,9 +33,9 @@ entries_long (p ∷ ps) (q ∷ qs) h =
     and_false true = refl
     and_false false = refl
 
--- ---- past the last that both have
+-- ---- after the last items that both lists have
 
--- where two lists are of different lengths, one of them goes on
+-- if two lists have different lengths, one of them has items after the end of the other
 uneven : {X : Type 0} (P : List X → List X → Type 0) → ((x : X) (xs : List X) → P (x ∷ xs) []) → ((y : X) (ys : List X) → P [] (y ∷ ys))
     → (xs ys : List X) (i : ℕ) → min (length xs) (length ys) ≤ i → i ≤ min (length xs) (length ys) → (length xs ≡ length ys → ⊥)
     → P (drop i xs) (drop i ys)
@@ -48,7 +48,7 @@ uneven P first second (x ∷ xs) (y ∷ ys) zero past within ne = absurd (omega 
 uneven P first second (x ∷ xs) (y ∷ ys) (suc i) past within ne =
     uneven P first second xs ys i (omega (arith, past)) (omega (arith, within)) (λ e. ne (omega (arith, e)))
 
--- the streams have different numbers of sections
+-- if the streams have different numbers of sections, the difference is SectionCount
 pub sections_uneven : (ss rs : List SectionMeaning) (i : ℕ) (t : Differs) → min (length ss) (length rs) ≤ i
     → i ≤ min (length ss) (length rs) → (length ss ≡ length rs → ⊥)
     → sections_differ 0 (sections_from ss) (sections_from rs) ≡ sections_differ i (sections_from (drop i ss)) (sections_from (drop i rs))
@@ -59,7 +59,7 @@ sections_uneven ss rs i t past within ne e =
     ends_first (sections_differ 0 (sections_from ss) (sections_from rs)) t words.SectionCount
     (e ∙ uneven Ends (λ x xs. refl) (λ y ys. refl) ss rs i past within ne)
 
--- the volumes have different numbers of files
+-- if the volumes have different numbers of files, the difference is FileCount
 pub files_uneven : (fs gs : List FileMeaning) (i : ℕ) → min (length fs) (length gs) ≤ i → i ≤ min (length fs) (length gs)
     → (length fs ≡ length gs → ⊥)
     → files_differ 0 (files_from fs) (files_from gs) ≡ files_differ i (files_from (drop i fs)) (files_from (drop i gs))
@@ -70,7 +70,7 @@ files_uneven fs gs i past within ne e =
 
 -- ---- volumes
 
--- the headers differ
+-- if the headers differ, the difference of the volumes is in the header
 pub volume_word : (v w : Meaning) (h g : HeadFields) (o : Option Word) (word : Word) → h ≡ head_of v → g ≡ head_of w
     → in_word o ≡ head_differs h g → o ≡ Some word → difference v w ≡ differ_in word
 volume_word (Volume a fs) (Volume b gs) h g o word x y said is = grind (arith, common_steps, ends_first)
@@ -81,10 +81,10 @@ no_other v w e = ap (λ x. difference x w) e ∙ no_difference w
 none_told : (d : List Step × Word) → outermost_first (Some d) ≡ None → ⊥
 none_told d e = cc
 
--- a difference that was returned is one
+-- if a difference was returned, the meanings are different
 pub differ_told : (v w : Meaning) (o : Differs) (d : List Step × Word) → outermost_first o ≡ difference v w → o ≡ Some d → v ≡ w → ⊥
 differ_told v w o d told is e = none_told d (sym (ap outermost_first is) ∙ told ∙ no_other v w e)
 
--- and so do two with steps to where they differ
+-- if the difference has steps, the meanings are different
 pub steps_differ : (v w : Meaning) → has_steps (difference v w) ≡ true → v ≡ w → ⊥
 steps_differ v w some e = let never : true ≡ false = sym some ∙ ap has_steps (no_other v w e) in cc

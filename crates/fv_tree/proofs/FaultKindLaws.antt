@@ -1,7 +1,10 @@
--- The kinds of the faults of reading. The steps:
--- 1. The fault of each check of reading is of one of the first 21 kinds (`head_kinds`, `file_kinds`, `cell_kinds`).
--- 2. So is a fault in a body, a stream and a volume, if each fault in a section is (`layout_kind`, `stream_kind`, `volume_kind`).
--- 3. By the depth of the nesting each fault in a section is (`section_kind`), and so each fault of bytes (`stands_reading`).
+-- The faults of reading have one of the first 21 kinds. The steps:
+-- 1. Each check of a header, a file and a cell has a fault of one of these kinds (`head_kinds`, `file_kinds`,
+--    `cell_kinds`).
+-- 2. If each fault in a section has one of these kinds, then so has each fault in a body, a stream and a volume
+--    (`layout_kind`, `stream_kind`, `volume_kind`).
+-- 3. By induction on the nesting depth each fault in a section has one of these kinds (`section_kind`), and so has each
+--    fault of bytes (`stands_reading`).
 use Rattle.std.proofs.Common.{◌≡◌, ◌≢◌, ℕ, zero, suc, ◌+◌, Bool, true, false, List, take, drop, refl, sym, ap, ◌∙◌, subst, inl, inr}
 use Rattle.std.specs.Prelude.{nat_le, slice_index, Option, Some, None}
 use Rattle.std.specs.List.{AllByRecursion}
@@ -20,27 +23,28 @@ use Rattle.fv_section.specs.Words.{frame_checks, FrameForm}
 use Rattle.fv_tree.specs.Words.{Moved, LayoutFault, InSection, InStream, InVolume, FaultStands, outermost}
 use Rattle.fv_base.proofs.Laws.{fails_among, up_is_not_down}
 
--- a fault that is found in bytes, and none of memory, of input and output, or of writing: the first 21 kinds
+-- the kinds of faults that are found in bytes: the first 21 kinds, which are not about memory, input and output, or
+-- writing
 abbrev pub is_reading : FaultKind → Bool
 is_reading kind = nat_le (fault_number kind) 21
 
 abbrev IsReading : Fault → Type 0
 IsReading f = is_reading f.kind ≡ true
 
--- ---- the checks
+-- ---- the faults of the checks
 
 abbrev Kind : Check Fault → Type 0
 Kind c = IsReading c.fault
 
--- of a header
+-- the checks of a header
 head_kinds : (b : List ℕ) → AllByRecursion Kind (head_checks b)
 head_kinds b = (refl, (refl, (refl, (refl, (refl, (refl, (refl, (refl, (refl, (refl, (refl, tt)))))))))))
 
--- of a file
+-- the checks of a file
 file_kinds : (s : FileSystem) (current : Bool) (at : ℕ) (r : List ℕ) → AllByRecursion Kind (file_checks s current at r)
 file_kinds s current at r = (refl, (refl, (refl, (refl, (refl, (refl, tt))))))
 
--- of a cell, those that its state asks for
+-- the checks of a cell that depend on its state
 state_kinds : (o : Option FileState) (s : FileSystem) (at : ℕ) (r : List ℕ) → AllByRecursion Kind (state_checks o s at r)
 state_kinds None s at r = (refl, tt)
 state_kinds (Some states.Free) s at r = tt
@@ -51,17 +55,17 @@ state_kinds (Some states.DataValid) s at r = file_kinds s true at r
 state_kinds (Some states.Marked) s at r = file_kinds s true at r
 state_kinds (Some states.Deleted) s at r = file_kinds s false at r
 
--- all of them
+-- all checks of a cell
 cell_kinds : (s : FileSystem) (p : Polarity) (at : ℕ) (r : List ℕ) → AllByRecursion Kind (cell_checks s p at r)
 cell_kinds s p at r = (refl, state_kinds (state_of p (slice_index r 23)) s at r)
 
--- ---- by what is inside
+-- ---- a stream and a volume, given the same of their sections
 
--- of a fault that is moved
+-- moving a fault does not change its kind
 moved_kind : (Q : Fault → Type 0) (at : Place) (e : Fault) → ((f : Fault) → Q f → IsReading f) → Moved at Q e → IsReading e
 moved_kind Q at e kind (f, bad, is) = subst IsReading (sym is) (kind f bad)
 
--- of the layout of a body
+-- the layout of a body
 layout_kind : (x : Extent) (volume : List ℕ) (f : Fault) → LayoutFault Any x volume f → IsReading f
 layout_kind x volume f (inl bad) =
     let r : List ℕ = drop bad.at (drop x.first volume) in
@@ -70,18 +74,18 @@ layout_kind x volume f (inl bad) =
 layout_kind x volume f (inr (cells, tiles, inl (g, twin, is))) = subst IsReading (sym is) refl
 layout_kind x volume f (inr (cells, tiles, inr (none, g, top, is))) = subst IsReading (sym is) refl
 
--- of a section, at one level
+-- a section, at one level of nesting
 abbrev SectionKind : ℕ → Type 0
 SectionKind n = (e : Fault) (f : FrameForm) (at : Place) → InSection Any n e f at → IsReading e
 
--- of a stream, by its sections
+-- a stream, given the same of its sections
 stream_kind : (n : ℕ) → SectionKind n → (e : Fault) (b : List ℕ) (at : Place) → InStream Any n e b at → IsReading e
 stream_kind n inside e b at (inl moved) =
     moved_kind _ at e
     (λ f bad. fails_among Any IsReading (frame_checks bad.at (drop bad.at b)) f (refl, (refl, tt)) bad.fails) moved
 stream_kind n inside e b at (inr (frames, tail, split, (before, f, after, is, read, here))) = inside e f at here
 
--- of a volume, by the streams in it
+-- a volume, given the same of its sections
 volume_kind : (n : ℕ) → SectionKind n → (e : Fault) (b : List ℕ) (at : Place) → InVolume Any n e b at → IsReading e
 volume_kind n inside e b at (inl moved) =
     moved_kind _ at e (λ f bad. fails_among Any IsReading (head_checks b) f (head_kinds b) bad) moved
@@ -89,18 +93,18 @@ volume_kind n inside e b at (inr (h, x, front, inl moved)) = moved_kind _ at e (
 volume_kind n inside e b at (inr (h, x, front, inr (cells, tiles, right, (before, f, after, is, read, (holds, here))))) =
     stream_kind n inside e f.payload _ here
 
--- of a section
+-- a section, at every level
 section_kind : (n : ℕ) → SectionKind n
 section_kind zero e f at (which, is) = subst IsReading (sym is) refl
 section_kind (suc n) e f at (inl (group, bad)) = stream_kind n (section_kind n) e f.body _ bad
 section_kind (suc n) e f at (inr (kind, opens, bad)) = volume_kind n (section_kind n) e f.body _ bad
 
--- ---- of bytes
+-- ---- the faults of bytes
 
--- a fault whose condition holds in bytes is found there
+-- a fault whose condition holds in bytes is of a kind that is found in bytes
 pub stands_reading : (b : List ℕ) (e : Fault) → FaultStands b e → is_reading e.kind ≡ true
 stands_reading b e stands = volume_kind depth_limit (section_kind depth_limit) e b outermost stands
 
--- and is of no other kind
+-- a fault whose condition holds in bytes is not of any other kind
 pub stands_other : (b : List ℕ) (e : Fault) (k : FaultKind) → is_reading k ≡ false → FaultStands b e → e.kind ≢ k
 stands_other b e k other stands same = up_is_not_down (is_reading k) (sym (ap is_reading same) ∙ stands_reading b e stands) other

@@ -1,4 +1,4 @@
--- The condition of a first fault holds at its place.
+-- If bytes have a first fault, its condition holds at its place.
 use Rattle.std.proofs.Common.{ℕ, zero, suc, List, take, drop, inl, inr}
 use Rattle.fv_base.specs.Words.{First, Any, depth_limit}
 use Rattle.fv_base.specs.declared.fault.Fault.{Fault}
@@ -11,30 +11,30 @@ use Rattle.fv_section.specs.Words.{FrameForm}
 use Rattle.fv_tree.specs.Words.{Moved, OneOf, NamesFault, LayoutFault, FileFault, data_at, outermost, InSection, InStream, InVolume}
 use Rattle.fv_tree.specs.Words.{IsFirstOfVolume, FaultStands, FileForm}
 
--- ---- one level
+-- ---- one level of nesting
 
--- of items
+-- the first item that is rejected
 one_of : {A B : Type 0} (R : A → B → Type 0) (P Q : A → Type 0) (xs : List A) → ((x : A) → P x → Q x) → OneOf First R P xs
     → OneOf Any R Q xs
 one_of R P Q xs weak (before, x, after, is, read, bad) = (before, x, after, is, tt, weak x bad)
 
--- of the names of files
+-- the names of files
 names_stand : (len : ℕ) (fs : List FileForm) (f : Fault) → NamesFault First len fs f → NamesFault Any len fs f
 names_stand len fs f (inl (x, (before, after, is, none, has), fault)) = inl (x, (before, after, is, tt, has), fault)
 names_stand len fs f (inr (none, x, top, fault)) = inr (tt, x, top, fault)
 
--- of the layout of a body
+-- the layout of a body
 layout_stands : (x : Extent) (volume : List ℕ) (f : Fault) → LayoutFault First x volume f → LayoutFault Any x volume f
 layout_stands x volume f (inl first) = inl (cell_fails x.file_system x.polarity x.first (drop x.first volume) f first)
 layout_stands x volume f (inr (cells, tiles, names)) = inr (cells, tiles, names_stand x.length _ f names)
 
--- of faults that are moved
+-- a fault that is moved
 moved_stands : (P Q : Fault → Type 0) (at : Place) (e : Fault) → ((f : Fault) → P f → Q f) → Moved at P e → Moved at Q e
 moved_stands P Q at e weak (f, first, is) = (f, weak f first, is)
 
--- ---- by what is inside
+-- ---- a stream and a volume, given the same of their sections
 
--- at one level, the condition of the first fault of a frame holds in it
+-- at one level of nesting: if a section has a first fault, the fault's condition holds in the section
 abbrev SectionStands : ℕ → Type 0
 SectionStands n = (e : Fault) (f : FrameForm) (at : Place) → InSection First n e f at → InSection Any n e f at
 
@@ -60,6 +60,6 @@ section_stands zero e f at first = first
 section_stands (suc n) e f at (inl (group, first)) = inl (group, stream_by n (section_stands n) e f.body _ first)
 section_stands (suc n) e f at (inr (kind, opens, first)) = inr (kind, opens, volume_by n (section_stands n) e f.body _ first)
 
--- that of the first fault of bytes that were handed to a call
+-- if bytes have a first fault, its condition holds in them
 pub fault_stands : (b : List ℕ) (e : Fault) → IsFirstOfVolume b e → FaultStands b e
 fault_stands b e first = volume_by depth_limit (section_stands depth_limit) e b outermost first

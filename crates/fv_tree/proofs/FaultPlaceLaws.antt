@@ -1,8 +1,11 @@
--- The first fault of bytes is within them, or at their end, and no deeper than groups and volumes may nest. The steps:
--- 1. The data of files end within the volume that they are in (`files_end`).
--- 2. The fault of the names of files, and of the layout of a body, is within the volume (`names_within`, `layout_within`).
--- 3. So the first fault of a stream, a body and a volume is within it, if that of each section is (`stream_by`, `body_by`, `volume_by`).
--- 4. By the depth of the nesting that of each section is (`section_lies`), and so that of a volume (`first_within`).
+-- The first fault of bytes lies within them or at their end, and no deeper than groups and volumes may nest. The steps:
+-- 1. The data of a volume's files end within the volume (`files_end`).
+-- 2. A fault of the names of files, or of the layout of a body, lies within the volume (`names_within`,
+--    `layout_within`).
+-- 3. If the first fault of each section lies within the section, then the first fault of a stream, a body and a volume
+--    lies within it (`stream_by`, `body_by`, `volume_by`).
+-- 4. By induction on the nesting depth the first fault of each section lies within the section (`section_lies`), and so
+--    the first fault of bytes lies within them (`first_within`).
 use Rattle.std.proofs.lemmas.Grind.{common_steps}
 use Rattle.std.proofs.Common.{◌≡◌, ◌≢◌, ◌≤◌, ◌⊎◌, ℕ, zero, suc, ◌+◌, List, [], ◌∷◌, length, take, drop, subst, sym}
 use Rattle.std.proofs.Common.{arith, not, inl, inr}
@@ -24,7 +27,7 @@ use Rattle.fv_tree.proofs.NameLaws.{files_within, top_within, twin_within}
 
 -- ---- files
 
--- the data of a file of a volume end within it
+-- the data of a file end at or before an offset
 abbrev EndsBy : ℕ → FileForm → Type 0
 EndsBy end f = data_place f + length f.payload ≤ end
 
@@ -36,18 +39,18 @@ files_end end (Dead at len state ∷ cs) (lies, made, rest) = files_end end cs r
 files_end end (Stub at len ∷ cs) (lies, made, rest) = files_end end cs rest
 files_end end (Free at len ∷ cs) (lies, made, rest) = files_end end cs rest
 
--- ---- one level
+-- ---- one level of nesting
 
--- the fault lies within so many bytes that begin at a place, and at most so many levels deeper
+-- the fault lies within the first len bytes after a place, and at most n levels deeper than the place
 abbrev LiesIn : Place → ℕ → ℕ → Fault → Type 0
 LiesIn at len n e = (e.place.offset ≤ at.offset + len) × (e.place.depth ≤ at.depth + n)
 
--- a fault that is moved does
+-- a fault that is moved to a place lies within the bytes that begin there
 moved_lies : (P : Fault → Type 0) (at : Place) (len n : ℕ) (e : Fault) → ((f : Fault) → P f → f.place.offset ≤ len) → Moved at P e
     → LiesIn at len n e
 moved_lies P at len n e within (f, first, is) = grind (arith, common_steps)
 
--- the fault of the names of files lies within the bytes in which they begin
+-- a fault of the names of files lies within the bytes in which the files begin
 names_within : (end len : ℕ) (fs : List FileForm) (f : Fault) → AllByRecursion (λ g. g.offset ≤ end) fs → NamesFault First len fs f
     → f.place.offset ≤ end
 names_within end len fs f starts (inl (x, twin, is)) =
@@ -62,20 +65,20 @@ module _ (x : Extent) (v : List ℕ) (end : x.first + length (drop x.first v) �
   cells_lie cells tiles =
       subst (λ (n : ℕ). CellsWithin n cells) end (all_within x.file_system x.polarity x.first cells (drop x.first v) tiles)
 
-  -- so does the fault of its layout
+  -- a fault of the layout of a body lies within the volume
   layout_within : (f : Fault) → LayoutFault First x v f → f.place.offset ≤ length v
   layout_within f (inl first) =
       let low = body_within x.file_system x.polarity x.first (drop x.first v) f first in omega (arith, low, end)
   layout_within f (inr (cells, tiles, names)) =
       names_within (length v) x.length (files_in cells) f (files_within (length v) cells (cells_lie cells tiles)) names
 
--- ---- by what is inside
+-- ---- a stream and a volume, given the same of their sections
 
--- a section has its first fault within its frame
+-- the first fault of a section lies within its frame
 abbrev SectionLies : ℕ → Type 0
 SectionLies n = (e : Fault) (f : FrameForm) (at : Place) → InSection First n e f at → LiesIn at (f.offset + frame_len f) n e
 
--- a stream has it within its bytes
+-- the first fault of a stream lies within its bytes
 stream_by : (n : ℕ) → SectionLies n → (e : Fault) (b : List ℕ) (at : Place) → InStream First n e b at → LiesIn at (length b) n e
 stream_by n low e b at (inl moved) = moved_lies _ at (length b) n e (frame_within b) moved
 stream_by n low e b at (inr (frames, tail, split, (before, f, behind, is, read, first))) =
@@ -85,7 +88,7 @@ stream_by n low e b at (inr (frames, tail, split, (before, f, behind, is, read, 
     (omega (arith, lies.0, ends), lies.1)
 
 module _ (n : ℕ) (low : SectionLies n) (e : Fault) (at : Place) where
-  -- so has a body
+  -- the first fault of a body lies within the volume
   body_by : (x : Extent) (v : List ℕ) → x.first + length (drop x.first v) ≡ length v → BodyFault First n (InStream First n) x e v at
       → LiesIn at (length v) n e
   body_by x v end (inl moved) = moved_lies _ at (length v) n e (layout_within x v end) moved
@@ -96,7 +99,7 @@ module _ (n : ℕ) (low : SectionLies n) (e : Fault) (at : Place) where
       let lies = stream_by n low e f.payload (data_at at f) first in
       (omega (arith, lies.0, fits), lies.1)
 
-  -- and a volume
+  -- the first fault of a volume lies within its bytes
   volume_by : (b : List ℕ) → InVolume First n e b at → LiesIn at (length b) n e
   volume_by b (inl moved) = moved_lies _ at (length b) n e (fault_within b) moved
   volume_by b (inr (h, x, front, first)) =
@@ -116,14 +119,14 @@ section_lies (suc n) e f at (inl (group, first)) =
 section_lies (suc n) e f at (inr (kind, opens, first)) =
     let lies = volume_by n (section_lies n) e _ f.body first in (omega (arith, lies.0), omega (arith, lies.1))
 
--- ---- of bytes that were handed to a call
+-- ---- bytes that are passed to a call
 
--- their first fault lies within them, or at their end, and at most 8 levels deep
+-- their first fault lies within them or at their end, and at most 8 levels deep
 pub first_within : (b : List ℕ) (e : Fault) → IsFirstOfVolume b e → (e.place.offset ≤ length b) × (e.place.depth ≤ depth_limit)
 first_within b e first =
     let lies = volume_by depth_limit (section_lies depth_limit) e outermost b first in (omega (arith, lies.0), omega (arith, lies.1))
 
--- and so is the fault that is returned, which is their first fault or out of memory
+-- a fault that is returned lies there too, because it is their first fault or out of memory
 pub refused_within : (b : List ℕ) (e : Fault) → (e ≢ out_of_memory → IsFirstOfVolume b e)
     → (e.place.offset ≤ length b) × (e.place.depth ≤ depth_limit)
 refused_within b e first = go (want_known e) where

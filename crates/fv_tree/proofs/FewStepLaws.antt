@@ -1,7 +1,8 @@
--- Where two volumes first differ is few steps down.
--- 1. What the tests of a difference are made of keeps a bound on its steps; a step into a file or a section adds one.
--- 2. A level of nesting has two steps at most, into a file and into a section: n levels down there are 2 * n + 2.
--- 3. A meaning nests few levels deep.
+-- The path to the first difference of two volumes has at most 18 steps. The proof:
+-- 1. Each way to combine differences keeps a bound on the number of steps; a step into a file or a section adds one.
+-- 2. A level of nesting adds at most two steps, one into a file and one into a section, so n levels have at most 2 * n
+--    + 2.
+-- 3. A meaning nests at most 8 levels deep.
 use Rattle.std.proofs.lemmas.Grind.{common_steps}
 use Rattle.std.proofs.Common.{◌≤◌, ◌+◌, ◌*◌, ℕ, length, arith, Bool, true, false}
 use Rattle.std.specs.Prelude.{◌==◌, Some, None, IfSome}
@@ -24,7 +25,7 @@ use Rattle.fv_tree.proofs.DepthLaws.{nests_files, nests_content, nests_sections,
 
 -- ---- 1. bounds on the steps
 
--- they differ no more than so many steps down, if at all
+-- if there is a difference, its path has at most n steps
 abbrev Within : Differs → ℕ → Type 0
 Within None n = Unit {0}
 Within (Some d) n = length d.0 ≤ n
@@ -41,7 +42,7 @@ within_more : (d : Differs) (n k : ℕ) → n ≤ k → Within d n → Within d 
 within_more None n k less p = tt
 within_more (Some d) n k less p = omega (arith, less, p)
 
--- one item after another, a step down to each
+-- the difference of an item, one step down, and then the difference of the other items
 within_item : (s : Step) (d e : Differs) (n k : ℕ) → n + 1 ≤ k → Within d n → Within e k → Within (option_or (under s d) e) k
 within_item s None e n k less p q = q
 within_item s (Some d) e n k less p q = omega (arith, p, less)
@@ -49,7 +50,7 @@ within_item s (Some d) e n k less p q = omega (arith, p, less)
 head_few : (h g : HeadFields) (n : ℕ) → Within (head_differs h g) n
 head_few h g n = grind (arith, common_steps, within_or, within_unless)
 
--- ---- 2. two steps a level
+-- ---- 2. two steps for each level
 
 mutual
   volume_few : (v w : Meaning) (n : ℕ) → NestsVolume v n → Within (difference v w) (2 * n + 2)

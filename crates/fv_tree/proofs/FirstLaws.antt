@@ -1,8 +1,11 @@
--- Bytes have one first fault at most. The steps:
--- 1. The names of files and the layout of a body have one (`names_once`, `layout_once`), and one where it is moved (`moved_once`).
--- 2. So a stream, a body and a volume have one, if each section has (`stream_once`, `body_once`, `volume_once`).
--- 3. By the depth of the nesting each section has one (`section_once`), and so each volume (`first_once`).
--- 4. So there is one result that a reader may have (`only_answer`, `one_answer`, `sound_answer`).
+-- Bytes have at most one first fault. The steps:
+-- 1. The names of files and the layout of a body have at most one (`names_once`, `layout_once`), also if the fault is
+--    moved (`moved_once`).
+-- 2. If each section has at most one, then so have a stream, a body and a volume (`stream_once`, `body_once`,
+--    `volume_once`).
+-- 3. By induction on the nesting depth each section has at most one (`section_once`), and so has each volume
+--    (`first_once`).
+-- 4. So the result of a reader is determined by the bytes (`only_answer`, `one_answer`, `sound_answer`).
 use Rattle.std.proofs.Common.{◌≡◌, ◌≢◌, ◌≤◌, ℕ, zero, suc, List, length, take, drop, refl, sym, ap, ◌∙◌, subst, inl, inr}
 use Rattle.std.specs.Prelude.{Result, Ok, Err, IfOk, IfErr}
 use Rattle.fv_base.specs.Words.{First, Any, outer_fault, out_of_memory, depth_limit}
@@ -30,13 +33,13 @@ use Rattle.fv_tree.proofs.RefusalLaws.{StreamRefuses, layout_by, file_by, sectio
 use Rattle.fv_tree.proofs.TwinLaws.{one_twin, one_top}
 use Rattle.fv_tree.proofs.SectionShapeLaws.{group_is_no_volume}
 
--- ---- one level
+-- ---- one level of nesting
 
--- where bytes have one such fault, they have one when it is moved
+-- if bytes have at most one fault of a kind, they have at most one that is moved to a place
 moved_once : (P : Fault → Type 0) → ((f g : Fault) → P f → P g → f ≡ g) → (at : Place) (e g : Fault) → Moved at P e → Moved at P g → e ≡ g
 moved_once P once at e g (f, p, is) (f', p', is') = is ∙ ap (moved_fault at.offset at.depth) (once f f' p p') ∙ sym is'
 
--- of the names of files
+-- the names of files
 names_once : (len : ℕ) (fs : List FileForm) (e g : Fault) → NamesFault First len fs e → NamesFault First len fs g → e ≡ g
 names_once len fs e g (inl (f, twin, is)) (inl (f', twin', is')) =
     is ∙ ap (λ (h : FileForm). outer_fault kinds.DuplicateName h.offset) (one_twin f f' fs twin twin') ∙ sym is'
@@ -45,7 +48,7 @@ names_once len fs e g (inr (none, _, _, _)) (inl (f, twin, is)) = absurd (twin_n
 names_once len fs e g (inr (none, f, top, is)) (inr (_, f', top', is')) =
     is ∙ ap (λ (h : FileForm). outer_fault kinds.TopFile h.offset) (one_top len f f' fs none top top') ∙ sym is'
 
--- of the layout of a body
+-- the layout of a body
 layout_once : (x : Extent) (volume : List ℕ) (e g : Fault) → LayoutFault First x volume e → LayoutFault First x volume g → e ≡ g
 layout_once x volume e g (inl first) (inl first') =
     one_cell_fault x.file_system x.polarity x.first (drop x.first volume) e g first first'
@@ -58,18 +61,18 @@ layout_once x volume e g (inr (cells, tiles, names)) (inr (others, tiles', names
     let P : List CellForm → Type 0 = λ cs. NamesFault First x.length (files_in cs) g in
     names_once x.length (files_in cells) e g names (subst P same names')
 
--- the files of cells that are all right
+-- the current files of cells whose files have no fault
 current : (len : ℕ) (cells : List CellForm) → NoTwins (files_in cells) × TopAtEnd len (current_in (files_in cells))
     → AreCurrent len (files_in cells) (current_in (files_in cells))
 current len cells right = record { no_twins = right.0; files_are = refl; top = right.1 }
 
--- ---- by what is inside
+-- ---- a stream and a volume, given the same of their sections
 
--- at one level, a frame has one first fault
+-- at one level of nesting, a section has at most one first fault
 abbrev SectionOnce : ℕ → Type 0
 SectionOnce n = (e g : Fault) (f : FrameForm) (at : Place) → InSection First n e f at → InSection First n g f at → e ≡ g
 
--- and so has a stream
+-- at one level of nesting, a stream has at most one first fault
 abbrev StreamOnce : ℕ → Type 0
 StreamOnce n = (e g : Fault) (b : List ℕ) (at : Place) → InStream First n e b at → InStream First n g b at → e ≡ g
 
@@ -86,7 +89,7 @@ stream_once n once e g b at (inr (frames, tail, split, first)) (inr (others, tai
     once e g one.0 at one.1 one.2
 
 module _ (n : ℕ) (refused : StreamRefuses First n) (once : StreamOnce n) (e g : Fault) (at : Place) where
-  -- of a body
+  -- a body has at most one first fault
   body_once : (x : Extent) (volume : List ℕ) → BodyFault First n (InStream First n) x e volume at
       → BodyFault First n (InStream First n) x g volume at → e ≡ g
   body_once x volume (inl moved) (inl moved') = moved_once _ (layout_once x volume) at e g moved moved'
@@ -103,7 +106,7 @@ module _ (n : ℕ) (refused : StreamRefuses First n) (once : StreamOnce n) (e g 
       (current_in (files_in cells)) (file_by First n refused e at) (file_by First n refused g at) first (subst Q same first') in
       once e g (one.0).payload (data_at at one.0) one.1.1 one.2.1
 
-  -- of bytes that are to begin with a volume
+  -- bytes have at most one first fault as a volume
   volume_once : (b : List ℕ) → InVolume First n e b at → InVolume First n g b at → e ≡ g
   volume_once b (inl moved) (inl moved') = moved_once _ (one_fault (head_checks b)) at e g moved moved'
   volume_once b (inl (f, first, is)) (inr (h, x, front, _)) =
@@ -116,7 +119,7 @@ module _ (n : ℕ) (refused : StreamRefuses First n) (once : StreamOnce n) (e g 
 
 -- ---- the recursion
 
--- a section has one first fault
+-- a section has at most one first fault
 section_once : (n : ℕ) → SectionOnce n
 section_once zero e g f at (_, is) (_, is') = is ∙ sym is'
 section_once (suc n) e g f at (inl (group, first)) (inl (_, first')) = stream_once n (section_once n) e g f.body _ first first'
@@ -125,28 +128,28 @@ section_once (suc n) e g f at (inr (kind, opens, _)) (inl (group, _)) = absurd (
 section_once (suc n) e g f at (inr (kind, opens, first)) (inr (_, _, first')) =
     volume_once n (stream_refuses First n) (stream_once n (section_once n)) e g _ f.body first first'
 
--- a volume has one first fault
+-- bytes have at most one first fault as a volume, at every level
 pub first_once : (n : ℕ) (e g : Fault) (b : List ℕ) (at : Place) → InVolume First n e b at → InVolume First n g b at → e ≡ g
 first_once n e g b at first first' = volume_once n (stream_refuses First n) (stream_once n (section_once n)) e g at b first first'
 
--- ---- what is read of bytes that should begin with a volume
+-- ---- the result of reading bytes as a volume
 
 abbrev ReadsVolume : List ℕ → Result (Meaning × ℕ) Fault → Type 0
 ReadsVolume b r = Reads (λ v. Denotes depth_limit (take v.1 b) v.0) (IsFirstOfVolume b) r
 
--- they begin with no other
+-- if a volume was read, the bytes begin with no other volume
 pub only_answer : (b : List ℕ) (r : Result (Meaning × ℕ) Fault) → ReadsVolume b r → IfOk r (λ v. (v.1 ≡ length_of v.0) × (v.1 ≤ length b))
     → IfOk r (λ v. (n : ℕ) (m : Meaning) → n ≤ length b → Denotes depth_limit (take n b) m → (m ≡ v.0) × (n ≡ v.1))
 only_answer b (Ok v) read within = λ n m in_bytes d. one_beginning depth_limit n v.1 b m v.0 in_bytes d within.1 read
 only_answer b (Err g) read within = tt
 
--- where they have a first fault, it is this fault, or memory ran out
+-- if the bytes have a first fault, the result is this fault, or memory ran out
 pub one_answer : (b : List ℕ) (r : Result (Meaning × ℕ) Fault) → ReadsVolume b r → IfOk r (λ v. (v.1 ≡ length_of v.0) × (v.1 ≤ length b))
     → (f : Fault) → IsFirstOfVolume b f → IfOk r (λ v. ⊥) × IfErr r (λ g. g ≢ out_of_memory → g ≡ f)
 one_answer b (Ok v) read within f is = (fault_refuses First depth_limit v.1 f b outermost v.0 within.1 is read, tt)
 one_answer b (Err g) read within f is = (tt, λ ne. first_once depth_limit g f b outermost (read ne) is)
 
--- where the condition of a fault holds in them, they begin with none
+-- if the condition of a fault holds in the bytes, no volume was read
 pub sound_answer : (b : List ℕ) (r : Result (Meaning × ℕ) Fault) → ReadsVolume b r
     → IfOk r (λ v. (v.1 ≡ length_of v.0) × (v.1 ≤ length b)) → (f : Fault) → FaultStands b f → IfOk r (λ v. ⊥)
 sound_answer b (Ok v) read within f bad = fault_refuses Any depth_limit v.1 f b outermost v.0 within.1 bad read

@@ -1,4 +1,5 @@
--- A volume whose fixed files are marked no more begins with the same header, and cells tile its body. It is the only one.
+-- If the fixed bits of a volume's files are cleared and cells tile the new body, the bytes are the unfixed volume: they
+-- begin with the same header, cells tile their body, and no other bytes are an unfixed volume.
 use Rattle.std.proofs.Common.{◌≡◌, ℕ, ◌+◌, ◌-◌, ◌≤◌, List, ◌++◌, length, take, drop, sym, ap, ◌∙◌, subst, arith, append_assoc, [], ◌∷◌, zero, suc, inl, inr, refl}
 use Rattle.std.specs.Prelude.{◌≢◌, Option, None, Some}
 use Rattle.std.proofs.lemmas.List.{length-append, length-take-le, length-drop, take-append-drop, take-append-le, take_all}
@@ -23,7 +24,7 @@ drop-append_all (x ∷ xs) ys zero e = absurd (omega (arith, e))
 drop-append_all (x ∷ xs) ys (suc n) e = drop-append_all xs ys n (omega (arith, e))
 
 module _ (e : Extent) (b o : List ℕ) (same : take e.first o ≡ take e.first b) where
-  -- a field before the first file
+  -- the value of a field before the first file is the same
   field_kept : (at size : ℕ) → at + size ≤ e.first → field at size o ≡ field at size b
   field_kept at size low = sym (field-take at size e.first o low) ∙ ap (field at size) same ∙ field-take at size e.first b low
 
@@ -45,7 +46,7 @@ module _ (e : Extent) (b o : List ℕ) (same : take e.first o ≡ take e.first b
       let fields : le_at 52 2 o ≡ le_at 52 2 b = ap le (field_kept 52 2 (omega (arith, least, low, inside))) in
       ((before, part, drop n o, whole, offset ∙ sym fields, low, within, is, at), omega (arith, low, inside))
 
--- the same header is there
+-- the bytes begin with the same header
 pub header_kept : (b o : List ℕ) (h : HeadFields) (e : Extent) → BeginsVolume h e b → length o ≡ length b → take e.first o ≡ take e.first b
     → BeginsVolume h e o
 header_kept b o h e front long same =
@@ -61,7 +62,7 @@ header_kept b o h e front long same =
       polarity = front.polarity;
     }
 
--- the body of the volume is in its place, and all other bytes are as they were
+-- the new body is in its place, and all other bytes are unchanged
 record Kept (e : Extent) (b o body : List ℕ) : Type 0 where
   pub length_is : length o ≡ length b
   pub front : take e.first o ≡ take e.first b
@@ -85,7 +86,7 @@ kept b o body e u =
       body_is = ap (drop e.first) whole ∙ drop-append_all (take e.first b) body e.first before;
     }
 
--- and cells tile the body
+-- cells that tile the new body tile the body of the new volume
 pub tiled_there : (b o body : List ℕ) (e : Extent) (cells : List CellForm) → Unfixes e b o body
     → Tiles e.file_system e.polarity e.first cells body → BeginsTiled e cells o
 tiled_there b o body e cells u tiles =
@@ -96,14 +97,14 @@ tiled_there b o body e cells u tiles =
       tiles = subst (Tiles e.file_system e.polarity e.first cells) (sym k.body_is) tiles;
     }
 
--- the cells of the volume tile its body
+-- cells that tile the body of the new volume tile the new body
 body_tiled : (b o body : List ℕ) (e : Extent) (cells : List CellForm) → Unfixes e b o body → BeginsTiled e cells o
     → Tiles e.file_system e.polarity e.first cells body
 body_tiled b o body e cells u tiled = subst (Tiles e.file_system e.polarity e.first cells) (kept b o body e u).body_is tiled.tiles
 
--- ---- the bytes without the marks are the only ones
+-- ---- the unfixed volume is unique
 
--- other bytes without all marks have a body that cells tile, and they are the same
+-- if x is an unfixed volume, then cells tile the new body, and x is the bytes with the new body
 one_unfixed : (b o body : List ℕ) (e : Extent) → Unfixes e b o body → NoneFixed e.file_system e.polarity e.first body
     → (x : List ℕ) → IsUnfixed b x → ((cells : List CellForm) × Tiles e.file_system e.polarity e.first cells body) × (x ≡ o)
 one_unfixed b o body e u end x other =
@@ -121,7 +122,7 @@ pub only_unfixed : (b o x : List ℕ) → IsUnfixed b o → IsUnfixed b x → x 
 only_unfixed b o x (e, body, u, (cells, tiled)) other =
     (one_unfixed b o body e u (tiled_unfixed e.file_system e.polarity e.first body cells (body_tiled b o body e cells u tiled)) x other).1
 
--- where the header or a cell has another fault, there are none
+-- if the header or a cell has another fault, there is no unfixed volume
 pub none_unfixed : (b : List ℕ) (f : Fault) → UnfixStops b f → (x : List ℕ) → IsUnfixed b x → ⊥
 none_unfixed b f (inl first) x other =
     not_first (head_checks b) f first (none_faulty (head_checks b) (front_holds b other.2.head other.0 other.2.front))
@@ -129,7 +130,7 @@ none_unfixed b f (inr (e, o, body, u, here, kind)) x other =
     let one = one_unfixed b o body e u (fault_unfixed e.file_system e.polarity e.first body f here kind) x other in
     none_after First e.file_system e.polarity e.first body f one.0.0 here one.0.1
 
--- ---- the body is changed in its place
+-- ---- the body is changed in place
 
 module _ (b : List ℕ) (h : HeadFields) (e : Extent) (front : BeginsVolume h e b) where
   rest_is : drop (e.length - e.first) (drop e.first b) ≡ drop e.length b
@@ -139,7 +140,7 @@ module _ (b : List ℕ) (h : HeadFields) (e : Extent) (front : BeginsVolume h e 
   abbrev pub with_body : List ℕ → List ℕ
   with_body body = take e.first b ++ (body ++ drop (e.length - e.first) (drop e.first b))
 
-  -- the body as it is
+  -- the bytes with their own body are unchanged
   pub same_body : with_body (field e.first (e.length - e.first) b) ≡ b
   same_body =
       ap (λ (y : List ℕ). take e.first b ++ y) (take-append-drop (e.length - e.first) (drop e.first b)) ∙ take-append-drop e.first b
@@ -148,15 +149,15 @@ module _ (b : List ℕ) (h : HeadFields) (e : Extent) (front : BeginsVolume h e 
     in_place : Unfixes e b (with_body body) body
     in_place = record { head = h; front = front; places = places; marks = marks; text = ap (λ (y : List ℕ). take e.first b ++ (body ++ y)) rest_is }
 
-    -- cells tile it without its marks
+    -- if cells tile the new body, the bytes with this body are the unfixed volume
     pub is_unfixed : (cells : List CellForm) → Tiles e.file_system e.polarity e.first cells body → IsUnfixed b (with_body body)
     is_unfixed cells tiles = (e, body, in_place, (cells, tiled_there b (with_body body) body e cells in_place tiles))
 
-    -- it has another fault without some of its marks
+    -- if the new body has another fault, clearing the fixed bits stops with this fault
     pub stops_there : (f : Fault) → IsFirstCellFault e.file_system e.polarity e.first body f → f.kind ≢ kinds.Fixed → UnfixStops b f
     stops_there f here kind = inr (e, with_body body, body, in_place, here, kind)
 
--- a volume whose body cells tile has no marks
+-- if cells tile the body of a volume, it is its own unfixed volume
 pub unchanged : (b : List ℕ) (e : Extent) (cells : List CellForm) → BeginsTiled e cells b → IsUnfixed b b
 unchanged b e cells has =
     let part : drop e.first (take e.length b) ≡ field e.first (e.length - e.first) b =

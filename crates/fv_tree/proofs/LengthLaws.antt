@@ -1,4 +1,4 @@
--- A stream, a section, a body and a content have as many bytes as those that they were read from.
+-- A stream, a section, a body and a content have the length of the bytes that they were read from.
 use Rattle.std.proofs.Common.{◌≡◌, ℕ, zero, suc, ◌+◌, List, [], ◌∷◌, ◌++◌, length, refl, sym, ap, ◌∙◌, subst}
 use Rattle.std.proofs.Common.{arith, length-append}
 use Rattle.fv_base.specs.declared.guid.Guid.{Guid}
@@ -9,7 +9,7 @@ use Rattle.fv_tree.specs.Words.{MeansFile, Meaning, Volume, File, ContentMeaning
 use Rattle.fv_tree.specs.Words.{SectionMeanings, NoSections, MoreSections, BodyMeaning, Leaf, Group, Nested, sections_list, body_len}
 use Rattle.fv_tree.specs.Words.{section_len, sections_end, content_len, length_of, FileForm}
 
--- a section has as many bytes as its frame
+-- a section has the length of its frame
 abbrev pub AsLong : SectionRelation → Type 0
 AsLong R = (f : FrameForm) (s : SectionMeaning) → R f s → section_len s ≡ frame_len f
 
@@ -33,7 +33,7 @@ from_long R each at end f (g ∷ gs) s (MoreSections u us) tail b e (filler, res
     let P : ℕ → Type 0 = λ n. sections_end n (MoreSections u us) + tail ≡ at + length b in
     subst P (sym here) (go ∙ omega (arith, long, joined, fill))
 
--- the sections of a stream and its tail have as many bytes as it
+-- the sections of a stream and its tail have the length of the stream
 pub stream_long : (R : SectionRelation) → AsLong R → (ss : SectionMeanings) (tail : ℕ) (b : List ℕ) → StreamOver R (sections_list ss) tail b
     → sections_end 0 ss + tail ≡ length b
 stream_long R each NoSections tail b ([], split, p) = let e : b ≡ [] = split.0 in (let t : tail ≡ 0 = split.1 in omega
@@ -61,12 +61,12 @@ pub section_long : (n : ℕ) → AsLong (MeansSection n)
 section_long zero f s h = section_long_zero f s h
 section_long (suc n) f s h = section_long_over (MeansSection n) (Stream n) (section_long n) f s h
 
--- the body of a section has as many bytes as that of its frame
+-- the body of a section has the length of its frame's body
 pub body_long : (n : ℕ) (f : FrameForm) (k : ℕ) (body : BodyMeaning) → MeansSection n f (Section k f.extended body)
     → length f.body ≡ body_len body
 body_long n f k body h = let z = section_long n f (Section k f.extended body) h in omega (arith, z)
 
--- the content of a file has as many bytes as its data
+-- the content of a file has the length of the file's data
 pub content_long : (n : ℕ) (f : FileForm) (name : Guid) (k a : ℕ) (c : ContentMeaning) → MeansFile (Stream n) f (File name k a c)
     → length f.payload ≡ content_len c
 content_long n f name k a (Plain b) (p, q, r, (h, same)) = ap length (sym same)

@@ -1,4 +1,4 @@
--- Lists that agree item by item, and the item that is rejected.
+-- Two lists that agree item by item, and the first item that is rejected.
 use Rattle.std.proofs.Common.{◌≡◌, ℕ, ◌+◌, ◌<◌, ◌≤◌, List, [], ◌∷◌, ◌++◌, length, take, drop, get_or, map, sym, ◌∙◌}
 use Rattle.std.proofs.Common.{subst, arith, inl, inr}
 use Rattle.std.proofs.lemmas.List.{take_all, length-map, get_or-map}
@@ -7,7 +7,7 @@ use Rattle.fv_base.specs.Words.{Which, First}
 use Rattle.fv_base.proofs.Laws.{TwoCuts, at_index, more_items, seam_items, two_cuts}
 use Rattle.fv_tree.specs.Words.{Pairwise, OneOf}
 
--- one pair more
+-- two lists that agree still agree if a pair of items that agree is appended
 pub pairs_push : {A B : Type 0} (R : A → B → Type 0) (xs : List A) (ys : List B) (x : A) (y : B) → Pairwise R xs ys → R x y
     → Pairwise R (xs ++ x ∷ []) (ys ++ y ∷ [])
 pairs_push R [] [] x y p r = (r, tt)
@@ -15,7 +15,7 @@ pairs_push R [] (b ∷ ys) x y p r = absurd p
 pairs_push R (a ∷ xs) [] x y p r = absurd p
 pairs_push R (a ∷ xs) (b ∷ ys) x y p r = (p.0, pairs_push R xs ys x y p.1 r)
 
--- ---- what a loop over some items knows, which stand for others
+-- ---- what a loop over items knows, if each item has a form
 
 module _ {A B X : Type 0} (R : A → B → Type 0) (form : X → A) (items : List X) (i : ℕ) (d : X) where
   in_items : i < length items → i < length (map form items)
@@ -24,11 +24,11 @@ module _ {A B X : Type 0} (R : A → B → Type 0) (form : X → A) (items : Lis
   item_is : i < length items → get_or (map form items) i (form d) ≡ form (get_or items i d)
   item_is l = get_or-map form items i d (form d) l
 
-  -- what holds of each
+  -- what is true of each form is true of the form of item i
   pub of_item : (P : A → Type 0) → AllByRecursion P (map form items) → i < length items → P (form (get_or items i d))
   of_item P all l = subst P (item_is l) (at_index P (map form items) i (form d) all (in_items l))
 
-  -- the item at i is read
+  -- if item i is read, the lists agree up to it
   pub kept_pairs : (ys new : List B) (y : B) → i < length items → Pairwise R (take i (map form items)) ys
       → R (form (get_or items i d)) y → new ≡ ys ++ y ∷ []
       → Pairwise R (take (i + 1) (map form items)) new
@@ -37,7 +37,7 @@ module _ {A B X : Type 0} (R : A → B → Type 0) (form : X → A) (items : Lis
       let Q : List B → Type 0 = λ zs. Pairwise R (take i (map form items) ++ form (get_or items i d) ∷ []) zs in
       subst P (sym (more_items form items i d l)) (subst Q (sym e) (pairs_push R (take i (map form items)) ys (form (get_or items i d)) y pairs r))
 
-  -- it is rejected
+  -- if item i is rejected, it is the first one that is rejected
   pub first_refused : (fault : A → Type 0) (ys : List B) → i < length items → Pairwise R (take i (map form items)) ys
       → fault (form (get_or items i d)) → OneOf First R fault (map form items)
   first_refused fault ys l pairs bad = (
@@ -49,13 +49,13 @@ module _ {A B X : Type 0} (R : A → B → Type 0) (form : X → A) (items : Lis
     bad,
   )
 
-  -- all are read
+  -- at the end all items are read
   pub all_pairs : (ys : List B) → length items ≤ i → Pairwise R (take i (map form items)) ys → Pairwise R (map form items) ys
   all_pairs ys l pairs = subst (λ xs. Pairwise R xs ys) (take_all i (map form items) (omega (arith, l, length-map items form))) pairs
 
 -- ---- an item that is rejected
 
--- an item that is paired with nothing is in no list of pairs
+-- a list with an item that is paired with nothing does not agree with any list
 not_paired : {A B : Type 0} (R : A → B → Type 0) (before : List A) (x : A) (after : List A) (ys : List B) → ((y : B) → R x y → ⊥)
     → Pairwise R (before ++ (x ∷ after)) ys → ⊥
 not_paired R [] x after [] bad p = p
@@ -63,13 +63,13 @@ not_paired R [] x after (y ∷ ys) bad p = bad y p.0
 not_paired R (z ∷ zs) x after [] bad p = p
 not_paired R (z ∷ zs) x after (y ∷ ys) bad p = not_paired R zs x after ys bad p.1
 
--- where one item is rejected, not all are read
+-- if an item is rejected, not all items are read
 pub one_of_none : {A B : Type 0} (which : Which) (R : A → B → Type 0) (fault : A → Type 0) (xs : List A) (ys : List B)
     → ((x : A) (y : B) → fault x → R x y → ⊥) → OneOf which R fault xs → Pairwise R xs ys → ⊥
 one_of_none {A} which R fault xs ys bad (before, x, after, is, read, here) all =
     not_paired R before x after ys (λ y r. bad x y here r) (subst (λ (l : List A). Pairwise R l ys) is all)
 
--- two faults of the first item that is rejected are faults of one item
+-- if the first item that is rejected has two faults, they are faults of the same item
 pub first_of_once : {A B : Type 0} (R : A → B → Type 0) (P Q : A → Type 0) (xs : List A) → ((x : A) (y : B) → P x → R x y → ⊥)
     → ((x : A) (y : B) → Q x → R x y → ⊥) → OneOf First R P xs → OneOf First R Q xs → (x : A) × P x × Q x
 first_of_once {A} R P Q xs no_p no_q (before, x, after, is, (read, pairs), p) (before', y, after', is', (read', pairs'), q) =

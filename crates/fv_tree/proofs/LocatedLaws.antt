@@ -1,4 +1,5 @@
--- The files of a volume as they are stored in it: their data are in it, at their offsets, and there are no others.
+-- The files of a volume as they are stored: the data of each are in the volume at the file's offset, and there are no
+-- other files.
 use Rattle.std.proofs.lemmas.Grind.{common_steps}
 use Rattle.std.proofs.Common.{◌≡◌, ◌≤◌, ◌∙◌, ℕ, ◌+◌, ◌-◌, List, [], ◌∷◌, length, take, drop, sym, subst, arith}
 use Rattle.std.specs.List.{AllByRecursion, list_any}
@@ -15,7 +16,7 @@ use Rattle.fv_head.proofs.Laws.{first_lies, one_front}
 use Rattle.fv_tree.proofs.MeaningLaws.{one_stand}
 use Rattle.fv_tree.specs.Words.{FileForm, files_in, replaced_by, Denotes, data_place, StandIn, BeginWithFiles, HasDataIn, Meaning}
 
--- ---- where the data are
+-- ---- the places of the data
 
 one_file : (volume : List ℕ) (at : ℕ) (head : FileHead) (payload : List ℕ)
     → payload ≡ take (head.size - head.header_len) (drop (at + head.header_len) volume) → at + up_to_8 head.size ≤ length volume
@@ -31,7 +32,7 @@ all_files volume (Dead at len state ∷ cs) p l = all_files volume cs p.1 l.2
 all_files volume (Stub at len ∷ cs) p l = all_files volume cs p.1 l.2
 all_files volume (Free at len ∷ cs) p l = all_files volume cs p.1 l.2
 
--- what is in the first n bytes is in all of them
+-- data that are in the first n bytes are in all bytes
 in_front : (n : ℕ) (b : List ℕ) (fs : List FileForm) → n ≤ length b → AllByRecursion (HasDataIn (take n b)) fs
     → AllByRecursion (HasDataIn b) fs
 in_front n b [] w h = tt
@@ -56,7 +57,7 @@ located_data b h e fs front stand =
 pub begun_data : (b : List ℕ) (fs : List FileForm) → BeginWithFiles b fs → AllByRecursion (HasDataIn b) fs
 begun_data b fs (h, e, front, stand) = located_data b h e fs front stand
 
--- ---- that they are the only ones
+-- ---- the stored files are the only ones
 
 module _ (b : List ℕ) (h : HeadFields) (e : Extent) (front : BeginsVolume h e b) where
   pub located_stand : (gs : List FileForm) → BeginWithFiles b gs → StandIn e (take e.length b) gs

@@ -1,4 +1,4 @@
--- Look-ups by number: the item of an instance among those that an iterator gives.
+-- A look-up by number finds the item of this number among those that an iterator yields.
 use Rattle.std.proofs.Common.{◌≡◌, ℕ, zero, suc, ◌+◌, List, None, Option, refl, ap, arith}
 use Rattle.std.specs.Iterator.{SkipsThenYields}
 use Rattle.std.specs.Option.{option_map}
@@ -6,7 +6,7 @@ use Rattle.std.proofs.lemmas.Iterator.{YieldsList}
 use Rattle.std.proofs.lemmas.Iterator.Consumers.{nth_from_yields_List}
 use Rattle.fv_tree.specs.Words.{instance_of}
 
--- what `numbered` returns is the item of its instance
+-- `numbered` returns the item of its instance
 pub numbered_is : {S A B : Type 0} {steps : S → Option A → S → Type 0} {v : A → B} {s : S} {all : List B} (r : Option A) (n : ℕ)
     → (n ≡ 0 → r ≡ None) → ((k : ℕ) → n ≡ k + 1 → (end : S) × SkipsThenYields steps s k r end) → YieldsList steps v s all
     → option_map v r ≡ instance_of n all

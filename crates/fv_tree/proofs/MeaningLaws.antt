@@ -1,8 +1,10 @@
--- Bytes have one meaning at most. The steps:
--- 1. The files that are stored in a volume are one list (`one_stand`). What agrees with it item by item is one list too (`pairs_one`).
--- 2. So a content, a file, a volume and a section have one meaning, if what lies inside has (`content_one`, `file_one`, `volume_one`,
---    `section_one`).
--- 3. By the depth of the nesting each section has one (`sections_one`), and so each volume (`one_meaning`, `one_beginning`).
+-- Bytes have at most one meaning. The steps:
+-- 1. The files that are stored in a volume are one list (`one_stand`), and at most one list agrees with them item by
+--    item (`pairs_one`).
+-- 2. If each part inside has at most one meaning, then so have a content, a file, a volume and a section
+--    (`content_one`, `file_one`, `volume_one`, `section_one`).
+-- 3. By induction on the nesting depth each section has at most one meaning (`sections_one`), and so has each volume
+--    (`one_meaning`, `one_beginning`).
 use Rattle.std.proofs.lemmas.Grind.{common_steps}
 use Rattle.std.proofs.Common.{◌≡◌, ◌≤◌, ℕ, zero, suc, true, false, List, [], ◌∷◌, length, take, refl, sym, ap, ◌∙◌, subst, arith}
 use Rattle.fv_file.proofs.Laws.{only_one}
@@ -18,11 +20,11 @@ use Rattle.fv_tree.specs.Words.{MeansSection, Stream, Denotes}
 use Rattle.fv_tree.proofs.SectionShapeLaws.{group_is_no_volume}
 use Rattle.fv_tree.proofs.VolumePartLaws.{front_of, has_files}
 
--- the files of a volume, as they are stored in it, are one list
+-- two lists of files that are stored in a volume are equal
 pub one_stand : (e : Extent) (volume : List ℕ) (fs gs : List FileForm) → StandIn e volume fs → StandIn e volume gs → gs ≡ fs
 one_stand e volume fs gs h k = grind (arith, common_steps, only_one)
 
--- ---- what is to be shown of what lies inside
+-- ---- the statements about the parts inside
 
 abbrev SectionsOne : SectionRelation → SectionRelation → Type 0
 SectionsOne p q = (f : FrameForm) (s t : SectionMeaning) → p f s → q f t → s ≡ t
@@ -59,7 +61,7 @@ pairs_one p q one (x ∷ xs) (y ∷ ys) (z ∷ zs) h k =
 stream_one : (p q : SectionRelation) → SectionsOne p q → StreamsOne (StreamOver p) (StreamOver q)
 stream_one p q one ss ts n k b (fs, split, pairs) (gs, split', pairs') = grind (arith, common_steps, one_split, pairs_one)
 
--- ---- by what lies inside
+-- ---- a content, a file and a volume, given the same of their streams
 
 module _ (s s' : StreamRelation) (streams : StreamsOne s s') where
   content_one : (kind : ℕ) (payload : List ℕ) (c d : ContentMeaning) → MeansContent s kind payload c → MeansContent s' kind payload d → c ≡ d
@@ -128,11 +130,11 @@ sections_one (suc n) (suc k) =
     let streams = stream_one (MeansSection n) (MeansSection k) (sections_one n k) in
     section_one (Stream n) (Stream k) streams (Denotes n) (Denotes k) (volume_one (Stream n) (Stream k) streams)
 
--- bytes are a volume of one meaning
+-- bytes are a volume of at most one meaning
 pub one_meaning : (n k : ℕ) (b : List ℕ) (m j : Meaning) → Denotes n b m → Denotes k b j → m ≡ j
 one_meaning n k = volume_one (Stream n) (Stream k) (stream_one (MeansSection n) (MeansSection k) (sections_one n k))
 
--- and they begin with one volume
+-- bytes begin with at most one volume
 pub one_beginning : (n k j : ℕ) (b : List ℕ) (m v : Meaning) → k ≤ length b → Denotes n (take k b) m → j ≤ length b → Denotes n (take j b) v
     → (m ≡ v) × (k ≡ j)
 one_beginning n k j b m v within d within' d' =

@@ -1,4 +1,5 @@
--- What the walks over the files of a volume know: the files of some cells one by one, the volume top file, where files begin.
+-- What the loops over the files of a volume know: the files of the first cells, the volume top file, and where files
+-- begin.
 use Rattle.std.proofs.Common.{◌≡◌, ◌≤◌, ◌<◌, ℕ, ◌+◌, List, [], ◌∷◌, ◌++◌, length, take, get_or, map, Bool, true}
 use Rattle.std.proofs.Common.{false, refl, sym, ap, ◌∙◌, subst, arith}
 use Rattle.std.specs.Prelude.{◌&&◌, ◌||◌, not}
@@ -10,7 +11,7 @@ use Rattle.fv_file.specs.Words.{CellForm, Valid, Pad, Dead, Stub, Free, CellsWit
 use Rattle.fv_tree.specs.Words.{HasTwin, TopElsewhere, FileForm, files_in, is_top, end_of, TopAtEnd}
 use Rattle.fv_base.proofs.Laws.{in_middle, more_items}
 
--- ---- one more file
+-- ---- the files of one more cell
 
 files_in_more : (cs : List CellForm) (c : CellForm) → files_in (cs ++ c ∷ []) ≡ files_in cs ++ files_in (c ∷ [])
 files_in_more [] c = refl
@@ -46,7 +47,7 @@ top_last n fs gs f all h e = subst (TopAtEnd n) (sym e) (go fs all)
     go (x ∷ []) a = (a.0, h)
     go (x ∷ y ∷ xs) a = (a.0, go (y ∷ xs) a.1)
 
--- what the test of a place says
+-- if the test of a file's place succeeds for a volume top file, it is the last file and ends at the end
 pub placed : (top last ends : Bool) → (not top || (last && ends)) ≡ true → top ≡ true → (last ≡ true) × (ends ≡ true)
 placed true true true p h = (refl, refl)
 placed true true false p h = cc

@@ -1,4 +1,4 @@
--- Files as they are stored, and what the index of names has of them: what it says of names and marks holds of the files.
+-- Files as they are stored, and the index of their names: what the index says of names and marks is true of the files.
 use Rattle.std.proofs.Common.{◌≡◌, ◌<◌, ℕ, ◌+◌, List, [], ◌∷◌, length, take, get_or, map, Bool, true, false, cond, ◌≤◌, ◌⊎◌, refl, sym}
 use Rattle.std.proofs.Common.{ap, ◌∙◌, subst, arith, inl, inr}
 use Rattle.std.specs.Prelude.{◌||◌, ◌&&◌, not}
@@ -20,7 +20,7 @@ use Rattle.fv_tree.specs.declared.volume_files.LocatedFile.{LocatedFile}
 use Rattle.fv_tree.specs.inner.NameForms.{named_file, named_form}
 use Rattle.fv_tree.specs.declared.volume_files.Mark.TheVariants as marks
 
--- what a loop over files reads past their end
+-- the value that a loop over files reads after the last file
 abbrev pub no_file : LocatedFile
 no_file = record {
   payload = record { ref_ptr = (0, 0); now = [] };
@@ -34,7 +34,7 @@ no_file = record {
 
 -- ---- names
 
--- what files mean has their names
+-- files and their meanings have the same names
 pub read_names : (S : StreamRelation) (ss : List LocatedFile) (ms : List FileMeaning) → Pairwise (MeansFile S) (map file_form ss) ms
     → map file_name_of ms ≡ names_in (map named_file ss)
 read_names S [] [] p = refl
@@ -43,17 +43,17 @@ read_names S (s ∷ ss) [] p = absurd p
 read_names S (s ∷ ss) (File name kind attributes content ∷ ms) p =
     ap (λ (n : Guid). n ∷ map file_name_of ms) p.0.0 ∙ ap (λ (ns : List Guid). s.name ∷ ns) (read_names S ss ms p.1)
 
--- the first file of a name has the place of its name
+-- the first file with a name has the position of the first such name
 place_named : (name : Guid) (fs : List FileMeaning)
     → position_or_len (is_name name) (map file_name_of fs) ≡ position_or_len (is_named name) fs
 place_named name [] = refl
 place_named name (f ∷ fs) = ap (λ (n : ℕ). cond (not (is_named name f)) (1 + n) 0) (place_named name fs)
 
--- so a number that was found among the names is that of the file
+-- so a number that was found among the names is the number of the file
 pub looked_up : (name : Guid) (fs : List FileMeaning) → position (is_name name) (map file_name_of fs) ≡ position (is_named name) fs
 looked_up name fs = rw (place_named name fs, length-map fs file_name_of)
 
--- and the file of the number is the first of the name
+-- the file with this number is the first file with the name
 pub file_there : (test : FileMeaning → Bool) (fs : List FileMeaning) → option_and_then (slice_get fs) (position test fs) ≡ find test fs
 file_there test fs = go (cases_lt (position_or_len test fs) (length fs)) where
   at : ℕ
@@ -65,7 +65,7 @@ file_there test fs = go (cases_lt (position_or_len test fs) (length fs)) where
 
 -- ---- twins and updates
 
--- two tests that agree of each file find the same
+-- two tests that agree on each file find the same
 same_any : (p : FileForm → Bool) (q : NamedFile → Bool) → ((s : LocatedFile) → p (file_form s) ≡ q (named_file s))
     → (ss : List LocatedFile) → list_any p (map file_form ss) ≡ list_any q (map named_file ss)
 same_any p q same [] = refl
@@ -81,7 +81,7 @@ replaced_any : (s : LocatedFile) (ss : List LocatedFile)
     → list_any (replaced_by (file_form s)) (map file_form ss) ≡ list_any (names.replaced_by (named_file s)) (map named_file ss)
 replaced_any s ss = same_any (replaced_by (file_form s)) (names.replaced_by (named_file s)) (λ x. refl) ss
 
--- files without twins, and back
+-- the files have no twins exactly if their names and marks have none
 pub twins_from : (ss : List LocatedFile) → names.NoTwins (map named_file ss) → NoTwins (map file_form ss)
 twins_from [] h = tt
 twins_from (s ∷ ss) h = (twins_any s ss ∙ h.0, twins_from ss h.1)
@@ -90,7 +90,8 @@ pub twins_to : (ss : List LocatedFile) → NoTwins (map file_form ss) → names.
 twins_to [] h = tt
 twins_to (s ∷ ss) h = (sym (twins_any s ss) ∙ h.0, twins_to ss h.1)
 
--- the same of the first n files, and of the file after them
+-- if the names and marks of the first n files have no twins, these files have none; if the name and mark of the next
+-- file have a twin among them, the next file has one
 pub front_twins : (n : ℕ) (ss : List LocatedFile) → names.NoTwins (take n (map named_file ss)) → NoTwins (take n (map file_form ss))
 front_twins n ss h =
     subst NoTwins (sym (take-map file_form n ss)) (twins_from (take n ss) (subst names.NoTwins (take-map named_file n ss) h))
@@ -105,9 +106,9 @@ twin_after n ss l h =
     ∙ ap (λ (f : NamedFile). list_any (names.is_twin f) (take n (map named_file ss))) (sym (get_or-map named_file ss n no_file no_named l))
     ∙ h
 
--- ---- names that differ
+-- ---- files with different names
 
--- a test that is false of all files, as a filter
+-- a filter that drops the files of a test keeps all files if the test is false of each
 all_kept : (test : FileForm → Bool) (fs : List FileForm) → AllByRecursion (λ f. test f ≡ false) fs → filter (λ f. not (test f)) fs ≡ fs
 all_kept test [] h = refl
 all_kept test (f ∷ fs) h = rw (h.0) (ap (λ (gs : List FileForm). f ∷ gs) (all_kept test fs h.1))
@@ -118,11 +119,11 @@ none_kept all [] h = tt
 none_kept all (s ∷ ss) h = (replaced_any s all ∙ h.0, none_kept all ss h.1)
 
 module _ (ss : List LocatedFile) (es : List Entry) (index : IsIndex (names_in (map named_file ss)) es) (apart : AllApart es) where
-  -- there are no twins
+  -- the files have no twins
   pub without_twins : NoTwins (map file_form ss)
   without_twins = twins_from ss (apart_twins (map named_file ss) es index no_named no_entry apart)
 
-  -- and no file is replaced
+  -- no file is replaced, so all files are current
   pub all_current : current_in (map file_form ss) ≡ map file_form ss
   all_current =
       all_kept (λ f. list_any (replaced_by f) (map file_form ss)) (map file_form ss)
@@ -130,11 +131,11 @@ module _ (ss : List LocatedFile) (es : List Entry) (index : IsIndex (names_in (m
 
 -- ---- files whose marks change
 
--- files of the same forms have the same names and marks
+-- files with equal forms have equal names and marks
 pub same_named : (xs ys : List LocatedFile) → map file_form xs ≡ map file_form ys → map named_file xs ≡ map named_file ys
 same_named xs ys h = sym (map-map named_form file_form xs) ∙ ap (map named_form) h ∙ map-map named_form file_form ys
 
--- the number of an entry is that of a file, also after files were noted as replaced
+-- the number of an entry is the number of a file, also after files were noted as replaced
 pub file_within : (old files : List LocatedFile) (es : List Entry) → IsIndex (names_in (map named_file old)) es
     → map file_form files ≡ map file_form old → (n p : ℕ) → p < length es → ((e : Entry) → n ≡ (get_or es p e).1) → n < length files
 file_within old files es index same n p l is =
@@ -148,7 +149,7 @@ file_within old files es index same n p l is =
       length-map old named_file,
     )
 
--- what the index says of the file of a number
+-- whether a file is replaced can be read from the names and marks of the files
 pub replaced_at : (old files : List LocatedFile) (n : ℕ) (d : FileForm) → map file_form files ≡ map file_form old → n < length files
     → list_any (names.replaced_by (get_or (map named_file files) n no_named)) (map named_file files)
     ≡ list_any (replaced_by (get_or (map file_form old) n d)) (map file_form old)
@@ -158,7 +159,7 @@ replaced_at old files n d same l =
     ∙ ap (λ (f : FileForm). list_any (replaced_by f) (map file_form files)) (sym (get_or-map file_form files n no_file d l))
     ∙ ap (λ (fs : List FileForm). list_any (replaced_by (get_or fs n d)) fs) same
 
--- only a marked file is replaced
+-- only a file that is marked for update is replaced
 pub replaced_marked : (f : FileForm) (fs : List FileForm) → list_any (replaced_by f) fs ≡ true → is_marked f.head.state ≡ true
 replaced_marked f fs h =
     let r = Any-from_list_any (replaced_by f) fs h in

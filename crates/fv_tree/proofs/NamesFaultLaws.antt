@@ -1,4 +1,4 @@
--- Files with a twin, or with a volume top file that is not at the end, are those of no volume.
+-- Files with a twin, or with a volume top file that is not at the end, are not the files of a volume.
 use Rattle.std.proofs.lemmas.Grind.{common_steps}
 use Rattle.std.proofs.Common.{◌≡◌, ◌⊎◌, ℕ, List, [], ◌∷◌, ◌++◌, length-append, Bool, true, refl, subst, arith}
 use Rattle.std.proofs.Common.{inl, inr}
@@ -45,7 +45,7 @@ top_not n (x ∷ y ∷ xs) f after all top off = top_not n (y ∷ xs) f after al
 top_none : (n : ℕ) (f : FileForm) (fs : List FileForm) → TopElsewhere n f fs → TopAtEnd n fs → ⊥
 top_none n f fs (before, after, is, top, off) all = top_not n before f after (subst (TopAtEnd n) is all) top off
 
--- a volume whose files have a fault has none
+-- if the names of the files in the cells have a fault, no files are current
 pub current_none : (which : Which) (n : ℕ) (cells : List CellForm) (f : Fault) (files : List FileForm)
     → NamesFault which n (files_in cells) f → AreCurrent n (files_in cells) files → ⊥
 current_none which n cells f files (inl (x, twin, is)) all = twin_none which x (files_in cells) twin all.no_twins

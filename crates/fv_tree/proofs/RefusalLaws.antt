@@ -1,8 +1,8 @@
--- What has a fault is not read, whether it is the first or any. The steps:
--- 1. Bytes with a fault in them are no stream, no body and no volume, if no section with a fault is read (`stream_by`, `layout_by`,
---    `file_by`, `body_by`, `volume_by`).
--- 2. By the depth of the nesting no section with a fault is read (`section_refuses`), so no stream and no volume (`stream_refuses`,
---    `fault_refuses`).
+-- A part with a fault is not read. This is true of a first fault and of any fault whose condition holds. The steps:
+-- 1. If no section with a fault is read, then bytes with a fault are not a stream, not a body and not a volume
+--    (`stream_by`, `layout_by`, `file_by`, `body_by`, `volume_by`).
+-- 2. By induction on the nesting depth no section with a fault is read (`section_refuses`), so no stream and no volume
+--    with a fault is read (`stream_refuses`, `fault_refuses`).
 use Rattle.std.proofs.Common.{◌≡◌, ◌≤◌, ℕ, zero, suc, List, length, take, drop, ap, ◌∙◌, subst, inl, inr}
 use Rattle.fv_base.specs.Words.{Which}
 use Rattle.fv_base.specs.declared.fault.Fault.{Fault}
@@ -26,13 +26,13 @@ use Rattle.fv_tree.proofs.SectionShapeLaws.{group_none, nested_none, stream_bad,
 use Rattle.fv_tree.proofs.VolumePartLaws.{HasFiles, front_of, has_files}
 
 module _ (which : Which) where
-  -- ---- by what is inside
+  -- ---- a stream and a volume, given the same of their sections
 
-  -- at one level, a frame with a fault is no section
+  -- at one level of nesting, a frame with a fault is not a section
   abbrev pub SectionRefuses : ℕ → Type 0
   SectionRefuses n = (e : Fault) (f : FrameForm) (at : Place) (s : SectionMeaning) → InSection which n e f at → MeansSection n f s → ⊥
 
-  -- and bytes with a fault are no stream
+  -- at one level of nesting, bytes with a fault are not a stream
   abbrev pub StreamRefuses : ℕ → Type 0
   StreamRefuses n = (e : Fault) (b : List ℕ) (at : Place) (ss : List SectionMeaning) (t : ℕ) → InStream which n e b at → Stream n ss t b → ⊥
 
@@ -42,7 +42,7 @@ module _ (which : Which) where
       one_of_none which (MeansSection n) (λ f. InSection which n e f at) frames ss (λ f s. refused e f at s) bad
       (subst (λ (l : List FrameForm). Pairwise (MeansSection n) l ss) (one_split 0 others frames t tail b split' split).0 pairs)
 
-  -- a body with a fault of its layout has no files
+  -- cells with a fault of the layout have no files
   pub layout_by : (x : Extent) (volume : List ℕ) (f : Fault) (cells : List CellForm) (files : List FileForm) → LayoutFault which x volume f
       → Tiles x.file_system x.polarity x.first cells (drop x.first volume) → AreCurrent x.length (files_in cells) files → ⊥
   layout_by x volume f cells files (inl bad) tiles current =
@@ -52,7 +52,7 @@ module _ (which : Which) where
       current_none which x.length others f files names
       (subst (λ (l : List CellForm). AreCurrent x.length (files_in l) files) same current)
 
-  -- and so with the fault moved to where the volume begins
+  -- the same if the fault is moved to where the volume begins
   pub files_refused : (x : Extent) (volume : List ℕ) (at : Place) (e : Fault) (files : List FileForm)
       → Moved at (LayoutFault which x volume) e → StandIn x volume files → ⊥
   files_refused x volume at e files (f, bad, is) stand = layout_by x volume f stand.cells files bad stand.tiles stand.current
@@ -76,7 +76,7 @@ module _ (which : Which) where
         one_of_none which (MeansFile (Stream n)) (λ f. FileFault (InStream which n) e f at) (current_in (files_in cells)) ms
         (file_by e at) bad (subst (λ (l : List FileForm). Pairwise (MeansFile (Stream n)) l ms) current pairs)
 
-    -- bytes with a fault begin with no volume
+    -- bytes with a fault do not begin with a volume
     volume_by : (e : Fault) (b : List ℕ) (at : Place) (k : ℕ) (m : Meaning) → k ≤ length b → InVolume which n e b at
         → Denotes n (take k b) m → ⊥
     volume_by e b at k m within (inl (f, bad, is)) d =
@@ -86,7 +86,7 @@ module _ (which : Which) where
 
   -- ---- the recursion
 
-  -- a section with a fault is not read
+  -- at every level, a section with a fault is not read
   pub section_refuses : (n : ℕ) → SectionRefuses n
   section_refuses zero e f at s (inl group, is) h = too_deep f (inl group) s h
   section_refuses zero e f at s (inr (kind, opens), is) h = too_deep f (inr (record { kind = kind; opens = opens })) s h
@@ -96,11 +96,11 @@ module _ (which : Which) where
       nested_none n f (record { kind = kind; opens = opens })
       (λ k m within d. volume_by n (stream_by n (section_refuses n)) e f.body _ k m within bad d) s h
 
-  -- bytes with a fault of a stream are none
+  -- at every level, bytes with a fault are not a stream
   pub stream_refuses : (n : ℕ) → StreamRefuses n
   stream_refuses n = stream_by n (section_refuses n)
 
-  -- bytes with a fault begin with no volume
+  -- at every level, bytes with a fault do not begin with a volume
   pub fault_refuses : (n k : ℕ) (e : Fault) (b : List ℕ) (at : Place) (m : Meaning) → k ≤ length b → InVolume which n e b at
       → Denotes n (take k b) m → ⊥
   fault_refuses n k e b at m within bad d = volume_by n (stream_refuses n) e b at k m within bad d

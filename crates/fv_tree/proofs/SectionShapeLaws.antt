@@ -1,10 +1,13 @@
 -- A section is read by its shape, and a file by its type. The steps:
--- 1. A test says whether a body is opened as a volume (`opens_found`, `opens_holds`).
--- 2. So the shape says what the section is: a leaf, a group or an opened volume (`leaf_shape`, `group_shape`, `volume_shape`).
--- 3. A leaf means its bytes (`leaf_is`). A group and an opened volume mean what is read in them, one level deeper (`group_found`,
---    `nested_found`), and the first fault in them is theirs (`group_first`, `nested_first`).
--- 4. Neither is read where no level is left (`too_deep`, `deep_fault`).
--- 5. A file whose type holds sections means its stream (`stream_reads`), and nothing if its data are none (`stream_bad`).
+-- 1. A test finds whether a body is opened as a volume (`opens_found`, `opens_holds`).
+-- 2. So the shape of a section determines whether it is a leaf, a group or an opened volume (`leaf_shape`,
+--    `group_shape`, `volume_shape`).
+-- 3. The meaning of a leaf is its bytes (`leaf_is`). The meaning of a group or an opened volume is what is read in its
+--    body, one level deeper (`group_found`, `nested_found`), and the first fault in its body is its first fault
+--    (`group_first`, `nested_first`).
+-- 4. If no level is left, groups and opened volumes are not read (`too_deep`, `deep_fault`).
+-- 5. The meaning of a file whose type holds sections is its stream (`stream_reads`). If its data are not a stream, the
+--    file has no meaning (`stream_bad`).
 use Rattle.std.proofs.lemmas.Grind.{common_steps}
 use Rattle.std.proofs.Common.{◌≡◌, ℕ, zero, suc, ◌+◌, ◌≤◌, List, [], ◌∷◌, length, take, Bool, true, false, refl, sym, ap, ◌∙◌, subst, inl}
 use Rattle.std.proofs.Common.{inr, arith}
@@ -30,12 +33,12 @@ use Rattle.fv_tree.specs.Words.{sections_list, sections_from}
 use Rattle.fv_tree.specs.inner.ReadingParts.{shape_of}
 use Rattle.fv_tree.specs.declared.shape.Shape.TheVariants as shapes
 
--- the list of sections from a list is that list
+-- `sections_list` undoes `sections_from`
 pub list_back : (ss : List SectionMeaning) → sections_list (sections_from ss) ≡ ss
 list_back [] = refl
 list_back (s ∷ ss) = ap (λ l. s ∷ l) (list_back ss)
 
--- ---- the tests
+-- ---- the test of a body
 
 system_is : (b : List ℕ) (t u : Bool) → bytes_eq (field 16 16 b) (system_guid Ffs2) ≡ t → bytes_eq (field 16 16 b) (system_guid Ffs3) ≡ u
     → is_some (if t then Some Ffs2 else (if u then Some Ffs3 else None)) ≡ true → (system : FileSystem)
@@ -113,11 +116,11 @@ group_shape f h = (by_tests f (f.kind == group_kind) ((f.kind == volume_kind) &&
 pub volume_shape : (f : FrameForm) → shape_of f ≡ shapes.Volume → IsOpened f
 volume_shape f h = (by_tests f (f.kind == group_kind) ((f.kind == volume_kind) && is_one_volume f.body) refl refl).2 h
 
--- a group is no volume
+-- the type of a group is not the type of a volume
 pub group_is_no_volume : (f : FrameForm) → f.kind ≡ group_kind → f.kind ≡ volume_kind → ⊥
 group_is_no_volume f a b = omega (arith, a, b)
 
--- ---- a leaf, whatever lies inside
+-- ---- a leaf, with any relations for the parts inside
 
 leaf_over : (S : StreamRelation) (V : VolumeRelation) (f : FrameForm) → IsLeaf f → SectionOver S V f (Section f.kind f.extended (Leaf f.body))
 leaf_over S V f l = (refl, refl, (l.no_group, l.not_opened, refl))
@@ -144,7 +147,7 @@ nested_none k f o none (Section x e (Nested w)) (p, q, (k', o', d)) =
     let P : List ℕ → Type 0 = λ b. Denotes k b w in
     none (length f.body) w (omega arith) (subst P (sym (take_all (length f.body) f.body (omega arith))) d)
 
--- ---- no level is left
+-- ---- no level of nesting is left
 
 pub too_deep : (f : FrameForm) → (f.kind ≡ group_kind) ⊎ IsOpened f → (s : SectionMeaning) → MeansSection zero f s → ⊥
 too_deep f (inl g) (Section x e (Leaf b)) (p, q, (off, _, r)) = off g
@@ -154,11 +157,11 @@ too_deep f (inr o) (Section x e (Leaf b)) (p, q, (off, not, h)) = not o.kind o.o
 too_deep f (inr o) (Section x e (Group us u)) (p, q, (g', r)) = r
 too_deep f (inr o) (Section x e (Nested v)) (p, q, (k', o', r)) = r
 
--- two places are one, where their offsets and their depths are
+-- places with equal offsets and equal depths are equal
 pub one_place : (p q : Place) → p.offset ≡ q.offset → p.depth ≡ q.depth → p ≡ q
 one_place p q o d = grind (arith, common_steps)
 
--- ---- by how many levels are left
+-- ---- by the number of levels that are left
 
 pub suc_is : (n k : ℕ) → n ≡ k + 1 → suc k ≡ n
 suc_is n k e = omega (arith, e)

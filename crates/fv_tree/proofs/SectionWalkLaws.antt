@@ -1,7 +1,7 @@
 -- The walk over the sections of a file. The steps:
--- 1. What is in a file, and in a section, nests as deep as its level allows (`file_nests`, `inside_nests`).
--- 2. The innermost level apart from the others (`left_more`, `levels_more`, `levels_less`).
--- 3. The levels without an empty one (`none_left`), and after the next section (`next_left`, `next_are`).
+-- 1. The sections in a file, and in a section, nest only as deep as their level allows (`file_nests`, `inside_nests`).
+-- 2. The innermost level is split from the others (`left_more`, `levels_more`, `levels_less`).
+-- 3. An empty level is dropped (`none_left`), and the walk takes the next section (`next_left`, `next_are`).
 use Rattle.std.proofs.Common.{◌≡◌, ◌∙◌, ◌≤◌, ◌+◌, ℕ, List, [], ◌∷◌, ◌++◌, Bor, length, refl, sym, ap, subst}
 use Rattle.std.proofs.Common.{append-nil, append_assoc, arith, length-append}
 use Rattle.std.specs.List.{AllByRecursion}
@@ -20,7 +20,7 @@ each_nests : (depth n : ℕ) (ss : List SectionMeaning) → depth + n ≤ depth_
 each_nests depth n [] fits h = tt
 each_nests depth n (s ∷ ss) fits ((f, means), more) = ((n, fits, f, means), each_nests depth n ss fits more)
 
--- a list of sections is one that nests so
+-- the sections of a list nest as deep as the sections of the meaning that is made of the list
 listed : (depth : ℕ) (ss : List SectionMeaning) (us : SectionMeanings) → sections_from ss ≡ us
     → AllByRecursion (NestsAt depth) (sections_list us) → AllByRecursion (NestsAt depth) ss
 listed depth ss us is = subst (AllByRecursion (NestsAt depth)) (sym (ap sections_list is) ∙ list_back ss)
@@ -68,12 +68,12 @@ inside_is (Section kind extended (Leaf b)) = refl
 inside_is (Section kind extended (Group ss tail)) = refl
 inside_is (Section kind extended (Nested v)) = refl
 
--- an innermost level with no section has none left
+-- an innermost level without sections has none left to walk
 pub none_left : (levels : List (Bor (List SectionMeaning))) (ss : Bor (List SectionMeaning)) → ss.now ≡ []
     → left_in (levels ++ ss ∷ []) ≡ left_in levels
 none_left levels ss is = left_more levels ss ∙ ap (λ l. preorder (sections_from l) ++ left_in levels) is
 
--- there is room for a level more where the innermost has a section
+-- if the innermost level has a section, there is room for one more level
 pub next_fits : (levels : List (Bor (List SectionMeaning))) (ss : Bor (List SectionMeaning)) (s : SectionMeaning) (rest : List SectionMeaning)
     → ss.now ≡ s ∷ rest → AreLevels 0 (levels ++ ss ∷ []) → length levels ≤ depth_limit
 next_fits levels ss s rest is are =
@@ -82,7 +82,7 @@ next_fits levels ss s rest is are =
 
 module _ (levels : List (Bor (List SectionMeaning))) (ss rest inside : Bor (List SectionMeaning)) (s : SectionMeaning)
     (is : ss.now ≡ s ∷ rest.now) (within : sections_from inside.now ≡ sections_in (body_of s)) where
-  -- the first section of the innermost level is the next
+  -- the first section of the innermost level is the next section of the walk
   pub next_left : left_in (levels ++ ss ∷ []) ≡ s ∷ left_in ((levels ++ rest ∷ []) ++ inside ∷ [])
   next_left =
       let others : List SectionMeaning = preorder (sections_from rest.now) in

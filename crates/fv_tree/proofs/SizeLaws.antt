@@ -1,9 +1,9 @@
--- What is in a list is smaller than the list: why the recursions over a meaning end.
+-- The contents of a part are smaller than the part, so the recursions over a meaning end.
 use Rattle.std.proofs.Common.{◌≡◌, ℕ, zero, suc, ◌+◌, ◌<◌, ◌≤◌, List, [], ◌∷◌, length, get_or, refl, ap, arith}
 use Rattle.fv_tree.specs.Words.{FileMeaning, File, SectionMeaning, Section, content_of, files_from, sections_from, body_of}
 use Rattle.fv_tree.specs.inner.Sizes.{files_size, file_size, content_size, sections_size, section_size, body_size}
 
--- where a list is larger than its first item and the rest together, it is larger than each item
+-- if a list is larger than its first item and the rest together, it is larger than each of its items
 item_falls : {X : Type 0} (size : X → ℕ) (whole : List X → ℕ) → ((x : X) (xs : List X) → size x + whole xs + 1 ≤ whole (x ∷ xs))
     → (xs : List X) (i : ℕ) (x : X) → i < length xs → x ≡ get_or xs i x → size x + 1 ≤ whole xs
 item_falls size whole more [] i x l is = absurd (omega (arith, l))

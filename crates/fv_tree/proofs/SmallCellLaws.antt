@@ -1,4 +1,4 @@
--- Of a valid file in a volume, the length of the header, the size and the file sum follow from the other fields.
+-- The header length, the size and the file checksum of a valid file in a volume follow from its other fields.
 use Rattle.std.proofs.lemmas.Grind.{common_steps}
 use Rattle.std.proofs.Common.{◌≡◌, ◌≤◌, ◌<◌, ℕ, ◌+◌, ◌^◌, List, [], ◌∷◌, ◌++◌, length, true, refl, sym, ap, ◌∙◌, subst}
 use Rattle.std.proofs.Common.{arith, length-append}
@@ -18,7 +18,7 @@ use Rattle.fv_file.specs.declared.state.FileState.TheVariants as states
 use Rattle.fv_tree.specs.Words.{header_len_by, state_by}
 use Rattle.fv_tree.specs.inner.ReadingParts.{FollowsFrom, IsSmallCell, mark_of}
 
--- a cell, where there is none
+-- the cell that is read after the end of a list of cells
 abbrev pub no_cell : Cell
 no_cell = cells.Valid 0 (record {
   name = record { bytes = [] };
@@ -31,7 +31,7 @@ no_cell = cells.Valid 0 (record {
   state = states.Free;
 }) (record { ref_ptr = (0, 0); now = [] })
 
--- the file sum that is right is the one that follows
+-- a right file checksum is the one that follows from the attributes and the data
 sum_follows : (attributes file_sum : ℕ) (payload : List ℕ) → file_sum < 256 → file_sum_right attributes file_sum payload ≡ true
     → file_sum ≡ file_sum_for attributes payload
 sum_follows attributes file_sum payload small h = grind (arith, common_steps)

@@ -1,8 +1,11 @@
--- The first twin is one, and so is the volume top file that is not at the end: no two files that are current have one name. The steps:
--- 1. Files have one first twin (`one_twin`).
--- 2. Files without twins have none if some are left out (`no_twins_kept`), and two of them at different places are not twins (`apart`).
+-- At most one file is the first twin, and at most one is a volume top file that is not at the end, because two current
+-- files do not have the same name. The steps:
+-- 1. Files have at most one first twin (`one_twin`).
+-- 2. Files without twins still have none if some files are left out (`no_twins_kept`), and two of them at different
+--    places are not twins (`apart`).
 -- 3. Of two current files neither replaces the other, so their names differ (`names_differ`).
--- 4. Volume top files have one name, so two of them are not both current (`two_tops`), and one at most is not at the end (`one_top`).
+-- 4. Volume top files have the same name, so two of them are not both current (`two_tops`), and at most one of them is
+--    not at the end (`one_top`).
 use Rattle.std.proofs.lemmas.Grind.{common_steps}
 use Rattle.std.proofs.Common.{◌≡◌, ℕ, Bool, true, false, List, [], ◌∷◌, ◌++◌, refl, sym, ◌∙◌, subst, inl, inr, arith}
 use Rattle.std.specs.Prelude.{◌&&◌, not}
@@ -19,7 +22,7 @@ use Rattle.fv_base.proofs.Laws.{Earlier, TwoCuts, after_middle, in_middle, or_bo
 
 -- ---- the first twin
 
--- files have one first twin
+-- files have at most one first twin
 pub one_twin : (f g : FileForm) (fs : List FileForm) → HasTwin First f fs → HasTwin First g fs → f ≡ g
 one_twin f g fs (before, after, is, none, has) (before', after', is', none', has') =
     go (two_cuts before f after before' g after' (sym is ∙ is'))
@@ -31,7 +34,7 @@ one_twin f g fs (before, after, is, none, has) (before', after', is', none', has
 
 -- ---- some of the files, by a test
 
--- what finds nothing among the files finds nothing among some of them
+-- a test that is false of all files is false of the files that a filter keeps
 none_kept : (p q : FileForm → Bool) (fs : List FileForm) → list_any q fs ≡ false → list_any q (filter p fs) ≡ false
 none_kept p q [] h = refl
 none_kept p q (f ∷ fs) h =
@@ -42,7 +45,7 @@ none_kept p q (f ∷ fs) h =
     go true e here rest = rw e (or_both (q f) (list_any q (filter p fs)) here rest)
     go false e here rest = rw e rest
 
--- files without twins, of which some are kept
+-- if files have no twins, the files that a filter keeps have none
 no_twins_kept : (p : FileForm → Bool) (fs : List FileForm) → NoTwins fs → NoTwins (filter p fs)
 no_twins_kept p [] h = tt
 no_twins_kept p (f ∷ fs) h = go (p f) refl (no_twins_kept p fs h.1)
@@ -51,24 +54,24 @@ no_twins_kept p (f ∷ fs) h = go (p f) refl (no_twins_kept p fs h.1)
     go true e rest = rw e (none_kept p (is_twin f) fs h.0, rest)
     go false e rest = rw e rest
 
--- a test that finds nothing fails at each item, and finds nothing after it
+-- a test that is false of all items is false of each item, and of all items after it
 any_cut : (q : FileForm → Bool) (before : List FileForm) (f : FileForm) (after : List FileForm)
     → list_any q (before ++ (f ∷ after)) ≡ false → (q f ≡ false) × (list_any q after ≡ false)
 any_cut q before f after h = grind (arith, common_steps, or_parts, list_any-append)
 
--- of files without twins, two at different places are none
+-- if files have no twins, two of them at different places are not twins
 apart : (before : List FileForm) (f : FileForm) (mid : List FileForm) (g : FileForm) (after : List FileForm)
     → NoTwins (before ++ (f ∷ (mid ++ (g ∷ after)))) → is_twin f g ≡ false
 apart [] f mid g after none = (any_cut (is_twin f) mid g after none.0).0
 apart (h ∷ hs) f mid g after none = apart hs f mid g after none.1
 
--- ---- two files of one name are not both current
+-- ---- two files with the same name are not both current
 
--- none of these files replaces it
+-- whether none of the files replaces this file
 abbrev is_alive : List FileForm → FileForm → Bool
 is_alive fs f = not (list_any (replaced_by f) fs)
 
--- neither is the other's twin, and neither replaces the other: then the names differ
+-- if two files are not twins and neither replaces the other, their names differ
 tests_differ : (s r m k : Bool) → s ≡ true → r ≡ true → (s && beq m k) ≡ false → (s && (m && not k)) ≡ false
     → (r && (k && not m)) ≡ false → ⊥
 tests_differ true true true true p q twin over under = cc
@@ -78,7 +81,7 @@ tests_differ true true false false p q twin over under = cc
 tests_differ true false m k p q twin over under = cc
 tests_differ false r m k p q twin over under = cc
 
--- two files that are current, at different places
+-- two current files at different places have different names
 pub names_differ : (fs before : List FileForm) (f : FileForm) (mid : List FileForm) (g : FileForm) (after : List FileForm) → NoTwins fs
     → current_in fs ≡ before ++ (f ∷ (mid ++ (g ∷ after))) → same_name f g ≡ true → same_name g f ≡ true → ⊥
 names_differ fs before f mid g after none is forth back =
@@ -94,7 +97,7 @@ names_differ fs before f mid g after none is forth back =
     all = subst (λ (l : List FileForm). AllByRecursion (λ h. is_alive fs h ≡ true) l) is
         (recursion_from_All (λ h. is_alive fs h ≡ true) (filter (is_alive fs) fs) (filter_passes (is_alive fs) fs))
 
-    -- a file that is current is replaced by none that is
+    -- a current file is not replaced by a current file
     not_replaced : (h : FileForm) → is_alive fs h ≡ true → list_any (replaced_by h) whole ≡ false
     not_replaced h current =
         subst (λ (l : List FileForm). list_any (replaced_by h) l ≡ false) is
@@ -114,16 +117,16 @@ names_differ fs before f mid g after none is forth back =
 
 -- ---- the volume top file
 
--- two top files are of one name
+-- two volume top files have the same name
 top_names : (f g : FileForm) → is_top f ≡ true → is_top g ≡ true → same_name f g ≡ true
 top_names f g p q = grind (arith, common_steps, bytes_eq-Decides)
 
--- two top files at different places are not both current
+-- two volume top files at different places are not both current
 two_tops : (fs before : List FileForm) (f : FileForm) (after before' : List FileForm) (g : FileForm) (after' : List FileForm) → NoTwins fs
     → current_in fs ≡ before ++ (f ∷ after) → is_top f ≡ true → is_top g ≡ true → Earlier before f after before' g after' → ⊥
 two_tops fs before f after before' g after' none is top top' (mid, late, rest) = grind (arith, common_steps, names_differ, top_names)
 
--- one file at most that is current is a top file, so one at most is at the wrong place
+-- at most one current file is a volume top file, so at most one is at the wrong place
 pub one_top : (len : ℕ) (f g : FileForm) (fs : List FileForm) → NoTwins fs → TopElsewhere len f (current_in fs)
     → TopElsewhere len g (current_in fs) → f ≡ g
 one_top len f g fs none (before, after, is, top, off) (before', after', is', top', off') =

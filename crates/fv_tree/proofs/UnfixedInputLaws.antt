@@ -1,4 +1,4 @@
--- Why an input has no copy without the marks of its fixed files: the header or a cell has a fault (`stopped`), or bytes follow the volume
+-- Why an input has no unfixed copy: its header or a cell has a fault (`stopped`), or bytes follow its volume
 -- (`bytes_follow`).
 use Rattle.std.proofs.Common.{◌≡◌, ◌∙◌, ℕ, ◌++◌, List, length, take, drop, ap, arith, inl, inr, sym}
 use Rattle.std.specs.Prelude.{◌<◌, nat_eq, false}
@@ -14,11 +14,11 @@ use Rattle.fv_tree.specs.Words.{IsUnfixed, UnfixStops}
 use Rattle.fv_tree.specs.Words.{NotUnfixed}
 use Rattle.fv_tree.proofs.FixedMarkLaws.{none_unfixed}
 
--- the header or a cell has a fault
+-- if the header or a cell has a fault, the input has no unfixed copy
 pub stopped : (input : List ℕ) (f : Fault) → UnfixStops input f → NotUnfixed input f
 stopped input f stops = record { none = λ o to. none_unfixed input f stops o to.0; first = inl stops }
 
--- bytes follow the volume
+-- if bytes follow the volume, the input has no unfixed copy
 pub bytes_follow : (input o : List ℕ) (f : Fault) (h : HeadFields) (e : Extent) → IsUnfixed input o → BeginsVolume h e input
     → nat_eq e.length (length input) ≡ false → f ≡ outer_fault kinds.Length e.length → NotUnfixed input f
 bytes_follow input o f h e unfixed front other is =
@@ -30,7 +30,7 @@ bytes_follow input o f h e unfixed front other is =
       first = inr ((o, unfixed), (h, e, front, less, is));
     }
 
--- all of a vector was written
+-- if all of a vector is overwritten, it has the new items
 pub whole_kept : (new items : List ℕ) (n : ℕ) → length new ≡ n → take n (new ++ drop (length new) items) ≡ new
 whole_kept new items n e =
     ap (λ (k : ℕ). take k (new ++ drop (length new) items)) (sym e) ∙ take-append_seam new (drop (length new) items)

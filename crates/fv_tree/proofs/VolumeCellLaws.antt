@@ -1,4 +1,4 @@
--- Why no cells tile the body of a volume with which bytes begin.
+-- Why no cells tile the body of a volume that bytes begin with: its header or a cell has a fault.
 use Rattle.std.proofs.Common.{◌≡◌, ◌∙◌, ℕ, List, drop, inl, inr, subst, sym, take}
 use Rattle.std.specs.Prelude.{Result, Ok, Err}
 use Rattle.fv_base.specs.Words.{IsFirstFault}
@@ -8,14 +8,14 @@ use Rattle.fv_head.specs.Words.{HeadFields, BeginsVolume, head_checks}
 use Rattle.fv_head.specs.declared.extent.Extent.{Extent}
 use Rattle.fv_tree.specs.Words.{BeginsTiled, NotTiled}
 
--- the header has a fault
+-- if the header has a fault, no cells tile the body
 pub bad_header : (b : List ℕ) (f : Fault) (r : Result Extent Fault) → ((h : HeadFields) (e : Extent) → BeginsVolume h e b → r ≡ Ok e)
     → r ≡ Err f → IsFirstFault (head_checks b) f → NotTiled b f
 bad_header b f r only is first = record { none = none; first = inl first } where
   none : (e : Extent) (cs : List CellForm) → BeginsTiled e cs b → ⊥
   none e cs has = let both : Ok e ≡ Err f = sym (only has.head e has.front) ∙ is in cc
 
--- a cell has a fault
+-- if a cell has a fault, no cells tile the body
 pub bad_cell : (b : List ℕ) (h : HeadFields) (e : Extent) (f : Fault) (r : Result Extent Fault) → BeginsVolume h e b
     → ((k : HeadFields) (x : Extent) → BeginsVolume k x b → r ≡ Ok x) → r ≡ Ok e
     → ((cs : List CellForm) → Tiles e.file_system e.polarity e.first cs (drop e.first (take e.length b)) → ⊥)

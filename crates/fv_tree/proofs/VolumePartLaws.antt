@@ -1,7 +1,7 @@
--- A volume that bytes begin with is its header and its files. The steps:
--- 1. A header and files make a volume (`made`), and a volume has them (`front_of`, `has_files`).
--- 2. The fault of a header is the first fault of the bytes (`head_first`).
--- 3. A body that is opened is one volume (`opened_whole`).
+-- A volume that bytes begin with consists of its header and its files. The steps:
+-- 1. A header and files make a volume (`made`), and a volume has a header and files (`front_of`, `has_files`).
+-- 2. The first fault of a header is the first fault of the bytes (`head_first`).
+-- 3. A body that is opened is exactly one volume (`opened_whole`).
 use Rattle.std.proofs.Common.{◌≡◌, ◌≤◌, ◌⊎◌, ℕ, List, [], ◌∷◌, length, take, refl, sym, ap, ◌∙◌, subst}
 use Rattle.std.proofs.Common.{arith, inl, inr}
 use Rattle.std.specs.Prelude.{◌≢◌}
@@ -16,11 +16,11 @@ use Rattle.fv_head.proofs.Laws.{front_extent, front_same, one_front}
 use Rattle.fv_tree.specs.Words.{StandIn, Stream, StreamRelation, Denotes, MeansFile, Opens, Pairwise, FileForm, moved_fault, InVolume}
 use Rattle.fv_tree.specs.Words.{Meaning, Volume, FileMeaning, files_list, head_of, files_of, files_from}
 
--- the volume has some files, and these are their meanings
+-- the volume has some files, and the list contains their meanings
 abbrev pub HasFiles : StreamRelation → Extent → List ℕ → List FileMeaning → Type 0
 HasFiles is_stream e volume ms = (files : List FileForm) × StandIn e volume files × Pairwise (MeansFile is_stream) files ms
 
--- the list of files from a list is that list
+-- `files_list` undoes `files_from`
 pub files_list_back : (fs : List FileMeaning) → files_list (files_from fs) ≡ fs
 files_list_back [] = refl
 files_list_back (f ∷ fs) = ap (λ l. f ∷ l) (files_list_back fs)
@@ -60,7 +60,7 @@ front_of n k b m within d =
 has_of : (n k : ℕ) (b : List ℕ) (m : Meaning) → (d : Denotes n (take k b) m) → HasFiles (Stream n) d.extent (take k b) (files_of m)
 has_of n k b (Volume h fs) d = (d.files, record { cells = d.cells; tiles = d.tiles; current = d.current }, d.meanings)
 
--- the volume's files, by a header that the bytes begin with
+-- a volume that bytes begin with has the header that the bytes begin with, its length, and files in the body
 pub has_files : (n k : ℕ) (b : List ℕ) (m : Meaning) (h : HeadFields) (e : Extent) → BeginsVolume h e b → k ≤ length b
     → Denotes n (take k b) m
     → (head_of m ≡ h) × (k ≡ e.length) × HasFiles (Stream n) e (take e.length b) (files_of m)
@@ -79,7 +79,7 @@ pub head_first : (n : ℕ) (b : List ℕ) (f g : Fault) (at : Place) → (f ≡ 
 head_first n b f g at (inl want) ne is = absurd (ne want)
 head_first n b f g at (inr first) ne is = inl (f, first, is)
 
--- ---- an opened body is one volume
+-- ---- an opened body is exactly one volume
 
 pub opened_whole : (n r : ℕ) (b : List ℕ) (m : Meaning) → Opens b → r ≤ length b → Denotes n (take r b) m → Denotes n b m
 opened_whole n r b m o within d =

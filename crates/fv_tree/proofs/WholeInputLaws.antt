@@ -1,4 +1,4 @@
--- The laws of whole inputs: the volume that one is, or why it is none.
+-- The laws of whole inputs: which volume an input is, or why it is not a volume.
 use Rattle.std.proofs.lemmas.Grind.{common_steps}
 use Rattle.std.proofs.Common.{◌≡◌, ◌≢◌, ◌≤◌, ◌<◌, ℕ, List, length, take, refl, sym, ap, ◌∙◌, subst, arith, inl, inr, ◌⊎◌, true, false}
 use Rattle.std.specs.Prelude.{◌==◌}
@@ -16,11 +16,11 @@ use Rattle.fv_tree.proofs.RefusalLaws.{fault_refuses}
 
 -- ---- an input and the volume that it begins with
 
--- an input that is a volume begins with it
+-- an input that is a volume begins with this volume
 pub input_prefix : (b : List ℕ) (m : Meaning) → Denotes depth_limit b m → Denotes depth_limit (take (length b) b) m
 input_prefix b m d = subst (λ (xs : List ℕ). Denotes depth_limit xs m) (sym (take_all (length b) b (omega arith))) d
 
--- an input that begins with no volume is none
+-- an input that does not begin with a volume is not a volume
 pub volume_refused : (b : List ℕ) (f : Fault) → (f ≢ out_of_memory → IsFirstOfVolume b f) → (f ≡ out_of_memory) ⊎ NotRead b f
 volume_refused b f first =
     or_more (want_known f) (λ other. record {
@@ -28,7 +28,7 @@ volume_refused b f first =
       first = inl (first other);
     })
 
--- one that goes on after its volume is none
+-- an input that goes on after its volume is not a volume
 not_the_end : (b : List ℕ) (n : ℕ) → (n == length b) ≡ false → n ≢ length b
 not_the_end b n differs same = let bad : true ≡ false = sym (eq-eqb n (length b) same) ∙ differs in cc
 
@@ -54,18 +54,18 @@ end_refused b f v n accepted long differs is only = record {
   first = inr (goes_on b f v n accepted long differs is);
 }
 
--- one that ends with its volume is it
+-- an input that ends with the volume that it begins with is this volume
 pub end_found : (b : List ℕ) (v : Meaning) (n : ℕ) → Accepted (take n b) v → (n == length b) ≡ true → Accepted b v
 end_found b v n d same = subst (λ (xs : List ℕ). Accepted xs v) (take_all n b (omega (arith, eqb-true n (length b) same))) d
 
--- and no other volume
+-- such an input is no other volume
 pub end_only : (b : List ℕ) (v : Meaning) (n : ℕ)
     → ((k : ℕ) (m : Meaning) → k ≤ length b → Denotes depth_limit (take k b) m → (m ≡ v) × (k ≡ n)) → (m : Meaning) → Accepted b m → m ≡ v
 end_only b v n only m d = (only (length b) m (omega arith) (input_prefix b m d.1)).0
 
 -- ---- memory
 
--- memory runs out only where the input begins with the header of a volume
+-- memory runs out only if the input begins with the header of a volume
 pub ran_out : {P : Type 0} (b : List ℕ) (f : Fault) → (f ≡ out_of_memory) ⊎ P → (f ≡ out_of_memory → BeginsWithHeader b)
     → MemoryRanOut b f ⊎ P
 ran_out b f (inl want) front = inl (want, front want)
@@ -73,15 +73,15 @@ ran_out b f (inr why) front = inr why
 
 -- ---- the kinds of faults
 
--- a kind that is none of a run's own
+-- a kind that is not a fault of reading or writing a stream
 abbrev pub IsOfInput : FaultKind → Type 0
 IsOfInput kind = (kind ≢ kinds.ReadFault) × (kind ≢ kinds.WriteFault)
 
--- a fault has such a kind where it has one unless it is out of memory
+-- if a fault is of such a kind unless it is out of memory, it is of such a kind
 pub input_kind : (f : Fault) → (f ≢ out_of_memory → IsOfInput f.kind) → IsOfInput f.kind
 input_kind f known = grind (arith, common_steps, want_known)
 
--- so the kind of a fault whose condition holds is none of a run
+-- so a fault whose condition holds in the bytes is of such a kind
 pub stood_kind : (b : List ℕ) (f : Fault) → (f ≢ out_of_memory → FaultStands b f) → IsOfInput f.kind
 stood_kind b f stands =
     input_kind f (λ other. (stands_other b f kinds.ReadFault refl (stands other), stands_other b f kinds.WriteFault refl (stands other)))

@@ -44,8 +44,8 @@ pub fn unfix(bytes: &mut [u8]) -> Result<(), Fault>
     unmark_files(body, extent.first, extent.file_system, extent.polarity)
 }
 
-/// Checks whether the input is a volume of which `unfix` can make one without fixed files. Changes
-/// nothing, and takes no memory. (PI specification, volume 3, section 3.2.3.1,
+/// Checks whether the input is a volume, and whether `unfix` can take the marks away from its fixed
+/// files. Changes nothing, and takes no memory. (PI specification, volume 3, section 3.2.3.1,
 /// `FFS_ATTRIB_FIXED`.)
 ///
 /// # Errors

@@ -28,11 +28,11 @@ pub const VOLUME_TOP_FILE: [u8; 16] = [
 /// Whether a file is marked for update (`EFI_FILE_MARKED_FOR_UPDATE`).
 #[derive(Clone, Copy)]
 pub(crate) enum Mark {
-    /// It is not marked.
+    /// The file is not marked.
     Unmarked,
-    /// It is marked.
+    /// The file is marked.
     Marked,
-    /// It is marked, and one of the other files replaces it.
+    /// The file is marked, and one of the other files replaces it.
     Replaced,
 }
 
@@ -54,7 +54,7 @@ impl Mark {
         matches!(self, Mark::Marked | Mark::Replaced)
     }
 
-    /// Returns whether one of the other files replaces it.
+    /// Returns whether one of the other files replaces the file.
     pub(crate) fn is_replaced(self) -> bool
         ensures { result ≡ is_noted self }
     {
@@ -87,25 +87,25 @@ impl Mark {
 /// 3.2.3.)
 #[derive(Clone, Copy)]
 pub struct LocatedFile<'a> {
-    /// Its data, which follow the header.
+    /// The data of the file, which follow the header.
     pub payload: &'a [u8],
-    /// Its name, `Name`.
+    /// The name of the file, `Name`.
     pub name: Guid,
-    /// The offset of its header, in bytes from the volume's start.
+    /// The offset of the header, in bytes from the volume's start.
     pub offset: u32,
-    /// Its type, `Type`.
+    /// The type of the file, `Type`.
     pub kind: u8,
-    /// Its attribute bits, `Attributes`.
+    /// The attribute bits of the file, `Attributes`.
     pub attributes: FileAttributes,
-    /// Its header checksum. No call reads it, but clauses mention it.
+    /// The header checksum. No call reads it, but clauses mention it.
     pub(crate) header_sum: u8,
-    /// Whether it is marked for update.
+    /// Whether the file is marked for update.
     pub(crate) mark: Mark,
 }
 
 impl<'a> LocatedFile<'a> {
-    /// Returns the length of its header in bytes, 24 or 32. (PI specification, volume 3, section
-    /// 3.2.3.1.)
+    /// Returns the length of the file's header in bytes, 24 or 32. (PI specification, volume 3,
+    /// section 3.2.3.1.)
     pub fn header_len(&self) -> u64
         ensures is { result ≡ (file_form self.now).head.header_len }
         ensures most { result ≤ 32 }

@@ -1,7 +1,7 @@
 -- The rows of a tree that a walk has added, and what it knows of the row that holds them.
 use Rattle.std.specs.Prelude.{◌≡◌, ℕ, ◌+◌, ◌≤◌, List, [], ◌∷◌, ◌++◌, length, Some, Bool, slice_get}
 use Rattle.std.specs.List.{AllByRecursion}
-use Rattle.fv_base.specs.Words.{depth_limit}
+use Rattle.fv_base.specs.Words.{depth_limit, volume_limit}
 use Rattle.fv_section.specs.Words.{FrameForm}
 use Rattle.fv_tree.specs.Words.{BeginWithFiles, HasDataIn, FileForm, FileMeaning, ContentMeaning, SectionMeaning, Section, BodyMeaning}
 use Rattle.fv_tree.specs.Words.{MeansContent, MeansFile, MeansSection, Pairwise, Stream}
@@ -27,11 +27,13 @@ pub record IsAdded (olds news : List FvNode) (row : FvNode) (h : Holder) : Type 
   pub number : h.number ≡ length olds
   pub node : h.node ≡ row
 
--- the row has this number, and is within the input
+-- the row has this number, and is within the input, which is within the limit. Its depth is so small that 32 bits have
+-- room for it, because the header of each file and section around it takes 4 bytes at least
 pub record IsHolder (input : List ℕ) (rows : List FvNode) (h : Holder) : Type 0 where
   pub row : slice_get rows h.number ≡ Some h.node
-  pub deep : h.node.depth ≤ h.number
-  pub within : h.node.offset + h.node.len ≤ length input
+  pub deep : h.node.depth ≤ h.node.offset + 1
+  pub within : h.node.offset + h.node.length ≤ length input
+  pub short : length input ≤ volume_limit
 
 -- the bytes begin with a volume that stores its files so, their data are in the bytes, and they have these meanings
 pub record HoldsFiles (b : List ℕ) (stored : List FileForm) (files : List FileMeaning) : Type 0 where

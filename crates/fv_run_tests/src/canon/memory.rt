@@ -11,12 +11,12 @@ use fv_canon::{
 use fv_tree::{FileView, Item, Lookup, VolumeView, read_volume, section_by_type};
 use std::alloc::Global;
 
-// What a call returns if memory ran out.
+// Returns the fault that a call returns if memory ran out.
 fn out_of_memory() -> Fault {
     Fault::outer(FaultKind::OutOfMemory, 0)
 }
 
-// Whether these bytes are made, or memory ran out.
+// Returns whether these bytes are made, or memory ran out.
 fn is_made_or_memory_ran_out(made: Result<ByteList, Fault>, wanted: &[u8]) -> bool {
     match made {
         Ok(bytes) => bytes.as_slice() == wanted,
@@ -24,13 +24,13 @@ fn is_made_or_memory_ran_out(made: Result<ByteList, Fault>, wanted: &[u8]) -> bo
     }
 }
 
-// Whether the result says that a volume is its own image, or not, as expected, or memory ran out.
+// Returns whether the check that a volume is its own image has this result, or memory ran out.
 fn is_judged_or_memory_ran_out(alloc: Global, volume: &[u8], wanted: bool) -> bool {
     let judged = is_canonical(alloc, volume);
     judged == Ok(wanted) || judged == Err(out_of_memory())
 }
 
-// Whether this is said of the one volume of an image, or memory ran out.
+// Returns whether the check of an image with a single volume has this outcome, or memory ran out.
 fn is_checked_or_memory_ran_out(alloc: Global, image: &[u8], outcome: VolumeOutcome) -> bool {
     let wanted = VolumeCheck {
         offset: 0,
@@ -43,7 +43,7 @@ fn is_checked_or_memory_ran_out(alloc: Global, image: &[u8], outcome: VolumeOutc
     }
 }
 
-// Whether the files are at exactly these offsets.
+// Returns whether the files are at exactly these offsets.
 fn has_starts(places: &Layout, starts: &str) -> bool {
     let mut index = 0u32;
     for digits in starts.split_whitespace() {
@@ -56,8 +56,8 @@ fn has_starts(places: &Layout, starts: &str) -> bool {
     places.start(index).is_none()
 }
 
-// Whether the files are laid out there, or memory ran out. After that, writing the image takes no
-// more memory.
+// Returns whether the files are laid out at these offsets, or memory ran out. Once they are laid
+// out, writing the image allocates nothing.
 fn is_laid_out_or_memory_ran_out(
     alloc: Global,
     view: &VolumeView,
@@ -75,7 +75,7 @@ fn is_laid_out_or_memory_ran_out(
     is_done && &taken[..room] == image && has_starts(&places, starts)
 }
 
-// Whether a run writes the image, or nothing if memory ran out.
+// Returns whether a run writes the image, or nothing if memory ran out.
 fn run_writes_all_or_nothing(alloc: Global, volume: &[u8], image: &[u8]) -> bool {
     let mut taken = [0u8; 392];
     let room = image.len().min(392);
@@ -87,7 +87,7 @@ fn run_writes_all_or_nothing(alloc: Global, volume: &[u8], image: &[u8]) -> bool
     }
 }
 
-// Whether the image of a view is made, or memory ran out.
+// Returns whether the image of a view is made, or memory ran out.
 fn view_has_image_or_memory_ran_out(
     alloc: Global,
     volume: &[u8],
@@ -103,8 +103,8 @@ fn view_has_image_or_memory_ran_out(
     }
 }
 
-// Whether each call on a volume, its image and the starts of its files returns the right result, or
-// memory ran out.
+// Returns whether each call on a volume, its image and the starts of its files returns the right
+// result, or memory ran out.
 fn calls_are_right(alloc: Global, volume: &[u8], image: &[u8], starts: &str) -> bool {
     view_has_image_or_memory_ran_out(alloc, volume, image, starts)
         && is_made_or_memory_ran_out(normalise(alloc, volume), image)
@@ -116,8 +116,8 @@ fn calls_are_right(alloc: Global, volume: &[u8], image: &[u8], starts: &str) -> 
         && run_writes_all_or_nothing(alloc, volume, image)
 }
 
-// Whether each call on the volume of a line, its image and the starts of its files returns the
-// right result, or memory ran out.
+// Returns whether each call on the volume of a line, its image and the starts of its files returns
+// the right result, or memory ran out.
 fn calls_on_row_are_right(alloc: Global, line: &str) -> Option<bool> {
     let (name, other, starts) = row_of(line)?;
     let starts = starts?;
@@ -126,7 +126,7 @@ fn calls_on_row_are_right(alloc: Global, line: &str) -> Option<bool> {
     Some(calls_are_right(alloc, &volume, &image, starts))
 }
 
-// Whether the data of a file and the volume in it are made, or memory ran out.
+// Returns whether the data of a file and the volume in it are made, or memory ran out.
 fn parts_of_file_are_right(alloc: Global, file: &FileView, image: &[u8]) -> bool {
     let Lookup::Found(Item::Section(section)) = section_by_type(file, 0x17, 1) else {
         return false;
@@ -138,7 +138,8 @@ fn parts_of_file_are_right(alloc: Global, file: &FileView, image: &[u8]) -> bool
         && is_made_or_memory_ran_out(body_bytes(alloc, section), body)
 }
 
-// Whether those of the first file of a volume are made, or memory ran out.
+// Returns whether the data of a volume's first file and the volume in it are made, or memory ran
+// out.
 fn parts_of_volume_are_right(alloc: Global, volume: &[u8], image: &[u8]) -> bool {
     match read_volume(alloc, volume) {
         Ok((view, _)) => match view.file(0) {
@@ -149,7 +150,7 @@ fn parts_of_volume_are_right(alloc: Global, volume: &[u8], image: &[u8]) -> bool
     }
 }
 
-// Whether two volumes are compared, or nothing is written because memory ran out.
+// Returns whether two volumes are compared, or nothing is written because memory ran out.
 fn comparison_writes_all_or_nothing(alloc: Global, first: &[u8], second: &[u8]) -> bool {
     let line = b"different at file 0 attributes\n";
     let mut taken = [0u8; 31];
@@ -165,21 +166,21 @@ fn comparison_writes_all_or_nothing(alloc: Global, first: &[u8], second: &[u8]) 
     }
 }
 
-// Whether the parts of a volume are made, or memory ran out.
+// Returns whether the parts of a volume are made, or memory ran out.
 fn parts_are_right(alloc: Global) -> Option<bool> {
     let volume = bytes_in_two_tries(alloc, "nested-with-deleted-file")?;
     let image = bytes_in_two_tries(alloc, "nested-image")?;
     Some(parts_of_volume_are_right(alloc, &volume, &image))
 }
 
-// Whether two volumes are compared, or memory ran out.
+// Returns whether two volumes are compared, or memory ran out.
 fn comparison_is_right(alloc: Global) -> Option<bool> {
     let first = bytes_in_two_tries(alloc, "file-sum-zero-data")?;
     let second = bytes_in_two_tries(alloc, "file-without-data")?;
     Some(comparison_writes_all_or_nothing(alloc, &first, &second))
 }
 
-/// Volumes with their images, and the offsets of the files in these.
+/// Volumes with their images, and the offsets of the files in each image.
 const LINES: [&str; 2] = [
     "three-aligned-392: three-aligned-392-image -> 72 136 360",
     "nested-with-deleted-file: nested-image -> 72",

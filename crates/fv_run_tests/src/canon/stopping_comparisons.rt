@@ -1,4 +1,4 @@
-//! Comparisons whose readers and writer stop early, or never.
+//! Comparisons whose readers or writer stop early, or whose readers never end.
 
 use crate::fakes::{FakeReader, FakeWriter, InterruptedReader, SpaceReader};
 use crate::row_bytes::bytes_of;
@@ -10,7 +10,7 @@ use std::io::Read;
 /// The line that a comparison of the two volumes writes.
 const LINE: &[u8; 31] = b"different at file 0 attributes\n";
 
-// Whether a comparison returns this, and writes the bytes and nothing after them.
+// Returns whether a comparison returns this result, and writes these bytes and nothing after them.
 fn comparison_ends_as<R: Read + Drop, Q: Read + Drop>(
     alloc: Global,
     first: &mut Port<R>,
@@ -23,8 +23,8 @@ fn comparison_ends_as<R: Read + Drop, Q: Read + Drop>(
     returned == wanted_end.0 && writer.into_inner().took_only(wanted_end.1)
 }
 
-// Whether nothing is written if the reader of a side stops the run with this fault. What follows is
-// not read.
+// Returns whether nothing is written if the reader of a side stops the run with this fault. The
+// inputs after it are not read.
 fn writes_nothing_if_stopped<R: Read + Drop>(
     alloc: Global,
     side: Side,
@@ -43,7 +43,7 @@ fn writes_nothing_if_stopped<R: Read + Drop>(
     comparison_ends_as(alloc, &mut first, &mut stopping, writer, wanted_end)
 }
 
-// Whether nothing is written if the reader of either side fails after `count` bytes.
+// Returns whether nothing is written if the reader of either side fails after `count` bytes.
 fn writes_nothing_if_reading_fails(
     alloc: Global,
     first: &[u8],
@@ -58,8 +58,8 @@ fn writes_nothing_if_reading_fails(
         && writes_nothing_if_stopped(alloc, Side::Second, first, other, fault)
 }
 
-// Whether the run ends as expected if the writer has room for `room` bytes, and then fails or takes
-// no byte. Where it fails, every second call of the readers is interrupted.
+// Returns whether the run ends as expected if the writer takes `room` bytes, and then fails or
+// takes no byte. In the run in which it fails, every second call of the readers is interrupted.
 fn writes_as_far_as_there_is_room(
     alloc: Global,
     first: &[u8],
@@ -85,7 +85,7 @@ fn writes_as_far_as_there_is_room(
     true
 }
 
-// Whether a run stops if the reader of a side is interrupted for ever after 2 bytes.
+// Returns whether a run stops if the reader of a side is interrupted for ever after 2 bytes.
 fn gives_up_if_always_interrupted(alloc: Global, side: Side, volume: &[u8]) -> bool {
     let fault = Fault::outer(FaultKind::ReadFault, 2);
     let wanted_end = (Err((side, fault)), b"".as_slice());
@@ -100,8 +100,8 @@ fn gives_up_if_always_interrupted(alloc: Global, side: Side, volume: &[u8]) -> b
     is_stopped && stalled.into_inner().calls == 268_435_458
 }
 
-// Whether the run over two volumes stops at each of their bytes, and of the line, if a reader or
-// the writer stops there.
+// Returns whether the run over two volumes stops at each byte of the volumes and of the line, if a
+// reader or the writer stops there.
 fn stops_at_each_byte(alloc: Global, first: &[u8], second: &[u8], step: usize) -> bool {
     for count in 0..=128 {
         if !writes_nothing_if_reading_fails(alloc, first, second, step, count) {
@@ -116,15 +116,14 @@ fn stops_at_each_byte(alloc: Global, first: &[u8], second: &[u8], step: usize) -
     true
 }
 
-// Whether the run over the two volumes stops at each of their bytes, and of the line.
+// Returns whether the run over the two volumes stops at each byte of the volumes and of the line.
 fn comparison_stops_at_each_byte(alloc: Global, step: usize) -> Option<bool> {
     let first = bytes_of(alloc, "file-sum-zero-data")?;
     let second = bytes_of(alloc, "file-without-data")?;
     Some(stops_at_each_byte(alloc, &first, &second, step))
 }
 
-// Whether the run over the first volume stops if the reader of a side does not end, or is always
-// interrupted.
+// Returns whether the run stops if the reader of a side does not end, or is always interrupted.
 fn comparison_stops_without_end(alloc: Global, side: Side) -> bool {
     let fault = Fault::outer(FaultKind::Length, 268_435_456);
     let endless = SpaceReader { calls: 0, most: 0 };

@@ -6,10 +6,10 @@ use fv_base::{Fault, FaultKind, Port};
 use fv_canon::run_normalise;
 use std::alloc::Global;
 
-/// Images with an extended header, a pad before an aligned file, and a volume inside.
+/// The names of images with an extended header, a pad before an aligned file, and a volume inside.
 const IMAGES: [&str; 3] = ["ext-header-image", "misaligned-file-image", "nested-image"];
 
-// Whether a run returns this, and writes the bytes and nothing after them.
+// Returns whether a run returns this result, and writes these bytes and nothing after them.
 fn run_ends_as(
     alloc: Global,
     reader: FakeReader<'_>,
@@ -23,7 +23,7 @@ fn run_ends_as(
     returned == outcome && writer.into_inner().took_only(wanted)
 }
 
-// Whether nothing is written if the reader fails after `count` bytes.
+// Returns whether nothing is written if the reader fails after `count` bytes.
 fn writes_nothing_if_reading_fails(alloc: Global, image: &[u8], step: usize, count: usize) -> bool {
     let reader = FakeReader::failing(image, step, count);
     let writer = FakeWriter::new(alloc, step, usize::MAX, true);
@@ -31,8 +31,8 @@ fn writes_nothing_if_reading_fails(alloc: Global, image: &[u8], step: usize, cou
     run_ends_as(alloc, reader, writer, Err(fault), b"")
 }
 
-// Whether as many bytes are written as the writer has room for. When it is full it fails, or takes
-// no byte.
+// Returns whether as many bytes are written as the writer has room for. When the writer is full, it
+// fails or takes no byte.
 fn writes_as_far_as_there_is_room(alloc: Global, image: &[u8], step: usize, room: usize) -> bool {
     let fault = Fault::outer(FaultKind::WriteFault, room as u64);
     let wanted = &image[..room.min(image.len())];
@@ -46,7 +46,7 @@ fn writes_as_far_as_there_is_room(alloc: Global, image: &[u8], step: usize, room
     true
 }
 
-// Whether the image is written, also if every second call of the reader is interrupted.
+// Returns whether the image is written, also if every second call of the reader is interrupted.
 fn is_written(alloc: Global, image: &[u8], step: usize) -> bool {
     for is_interrupted in [false, true] {
         let reader = FakeReader::new(image, step, is_interrupted);
@@ -58,7 +58,7 @@ fn is_written(alloc: Global, image: &[u8], step: usize) -> bool {
     true
 }
 
-// Whether only the first bytes of the image are written if the reader or the writer stops.
+// Returns whether only the first bytes of the image are written if the reader or the writer stops.
 fn stops_at_each_byte(alloc: Global, image: &[u8], step: usize) -> bool {
     for count in 0..image.len() {
         if !writes_nothing_if_reading_fails(alloc, image, step, count)
@@ -70,7 +70,7 @@ fn stops_at_each_byte(alloc: Global, image: &[u8], step: usize) -> bool {
     writes_nothing_if_reading_fails(alloc, image, step, image.len())
 }
 
-// Whether an image is written, and only its first bytes if the reader or the writer stops.
+// Returns whether an image is written, and only its first bytes if the reader or the writer stops.
 fn run_stops_at_each_byte(alloc: Global, name: &str, step: usize) -> bool {
     match bytes_of(alloc, name) {
         Some(image) => {

@@ -1,4 +1,4 @@
-//! How a run ends that writes a single line about what is wrong.
+//! The end of runs that write only the line of an error.
 
 use super::runs::{Input, ends_as};
 use crate::fakes::FakeWriter;
@@ -7,8 +7,8 @@ use fv_command::{Refusal, Status, refuse, say};
 use fv_plan::{Command, Plan, Task};
 use std::alloc::Global;
 
-// Whether a run that reports a wrong command line ends with this status and writes these bytes, if
-// the writer has room for `room` bytes.
+// Returns whether a run that reports a wrong command line ends with this status and writes these
+// bytes, if the writer has room for `room` bytes.
 fn is_closed_as(alloc: Global, room: usize, wanted: &[u8], ended: Status) -> bool {
     let mut writer = Port::new(FakeWriter::new(alloc, 5, room, true));
     let status = say(&mut writer, "wrong words\n", Status::WrongWords);
@@ -22,14 +22,15 @@ fn a_run_is_closed_once(rt: HostRuntime) {
     assert!(rt; is_closed_as(alloc, 11, b"wrong words", Status::Refused));
 }
 
-// Whether a run that reports a wrong command line is refused if the flush after the line fails.
+// Returns whether a run that reports a wrong command line is refused if the flush after the line
+// fails.
 fn needs_its_flush(alloc: Global) -> bool {
     let mut writer = Port::new(FakeWriter::without_flush(alloc));
     let status = say(&mut writer, "wrong words\n", Status::WrongWords);
     status == Status::Refused && writer.into_inner().took_only(b"wrong words\n")
 }
 
-// Whether a search for volumes in no bytes is refused if the flush after its lines fails.
+// Returns whether a search for volumes in no bytes is refused if the flush after its lines fails.
 fn search_needs_its_flush(alloc: Global) -> bool {
     let command = Command::Single {
         task: Task::Scan,
@@ -57,7 +58,7 @@ fn a_failed_flush_is_a_refusal(rt: HostRuntime) {
     assert!(rt; search_needs_its_flush(alloc));
 }
 
-// Whether a run that ran out of memory is refused with its line.
+// Returns whether a run that ran out of memory is refused, and writes the line of this fault.
 fn is_refused_with_its_line(alloc: Global) -> bool {
     let mut writer = Port::new(Vec::new(alloc));
     let refusal = Refusal::Input(Fault::outer(FaultKind::OutOfMemory, 0));

@@ -16,7 +16,7 @@ const LIST: &[u8; 250] = b"volume ffs2 length 128 files 1 sha256 \
 /// The output if memory ran out.
 const LINE: &[u8; 14] = b"fault 24 at 0\n";
 
-// The plan to list a volume with digests.
+// Returns the plan that lists a volume with digests.
 fn list_with_sums() -> Plan {
     let command = Command::Single {
         task: Task::ListSums,
@@ -29,8 +29,8 @@ fn list_with_sums() -> Plan {
     }
 }
 
-// Whether the volume is listed with digests, or only the line of the fault is written because
-// memory ran out.
+// Returns whether the volume is listed with digests, or only the line of the fault is written
+// because memory ran out.
 fn is_listed_or_memory_ran_out(alloc: Global, volume: &[u8]) -> bool {
     let mut taken = [0u8; 250];
     let mut writer = Port::new(taken.as_mut_slice());

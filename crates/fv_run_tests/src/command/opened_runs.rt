@@ -1,4 +1,4 @@
-//! Runs over the inputs that a command line names, which are opened by their paths.
+//! Runs over the inputs that a command line names. They are opened by their paths.
 
 use crate::arguments::arguments_of;
 use crate::fakes::{FakeOpener, FakeWriter};
@@ -9,8 +9,8 @@ use fv_command::run_over;
 use fv_plan::Plan;
 use std::alloc::Global;
 
-// Command lines, each with the status and the line that its run ends with. The volume in `a.fv` has
-// 128 bytes, that in `b.fv` 160, and that of standard input 136.
+// Returns command lines, each with the status and the line with which its run ends. The volume in
+// `a.fv` has 128 bytes, the one in `b.fv` 160, and the one on standard input 136.
 fn opened_runs() -> &'static str {
     "\
     fv list a.fv -> 0 volume ffs2 length 128 files 0\n\
@@ -24,8 +24,8 @@ fn opened_runs() -> &'static str {
     "
 }
 
-// Whether a run of the plan ends with the status, writes this line, and returns a refusal exactly
-// if it is refused.
+// Returns whether a run of the plan ends with the status, writes this line, and returns a refusal
+// exactly if the status is 2.
 fn plan_ends_as(
     alloc: Global,
     opener: &FakeOpener<'_>,
@@ -44,7 +44,7 @@ fn plan_ends_as(
     )
 }
 
-// Whether the run of a row ends as the row says.
+// Returns whether the run of a row ends as the row states.
 fn row_ends_as_it_says(alloc: Global, opener: &FakeOpener<'_>, row: &str) -> Option<bool> {
     let (line, wanted) = row.split_once(" -> ")?;
     let (status, text) = wanted.split_once(' ')?;
@@ -53,8 +53,8 @@ fn row_ends_as_it_says(alloc: Global, opener: &FakeOpener<'_>, row: &str) -> Opt
     plan_ends_as(alloc, opener, &plan, (number_of(status)?, text))
 }
 
-// Whether the run of a row ends as the row says, over two files that are said to have `len_hint`
-// bytes, and standard input.
+// Returns whether the run of a row ends as the row states. It has standard input and two files,
+// whose stated length is `len_hint` bytes.
 fn opens_what_it_names(alloc: Global, len_hint: usize, row: &str) -> Option<bool> {
     let first = bytes_of(alloc, "empty")?;
     let second = bytes_of(alloc, "H160 ff*88")?;
@@ -73,7 +73,7 @@ fn a_run_opens_what_it_names(rt: HostRuntime) {
     }
 }
 
-// A length that is not known, too small or too large, by any number of bytes, changes nothing.
+// The stated length may be unknown, too small or too large, by any number of bytes.
 #[test]
 fn a_wrong_length_changes_nothing(rt: HostRuntime) {
     for len_hint in [0, 127, 1000, usize::MAX] {

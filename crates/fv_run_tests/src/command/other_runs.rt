@@ -1,6 +1,7 @@
-//! Small runs of each command. Each is a row of `rows/` too, which `.ci/rows` runs.
+//! Small runs of each command. Each of them is also a row of `rows/`, which `.ci/rows` runs.
 
-/// Runs of each command whose readers and writers fail after each byte in turn.
+/// Returns runs of each command. The test lets their readers and writers fail after each byte in
+/// turn.
 pub(crate) fn small_runs() -> &'static str {
     "\
     normalise: two-sections -> 0 =two-sections-image\n\

@@ -1,10 +1,10 @@
-//! Runs of a plan, as the lines of a table describe them.
+//! Runs of a plan, which the lines of a table describe.
 //!
-//! A line is a command, a colon, its inputs, with an ampersand before the second, and after an
-//! arrow the status and what is written. An input is words that spell it, or text after an
-//! apostrophe, which is only read as hexadecimal text. The output is given as lines that end with a
-//! bar, or, after an equals sign, words that spell bytes. `commands` has the command line of each
-//! command. `rows/README.md` has the notation of more of them.
+//! A line is a command, a colon and the inputs, with an ampersand before the second input; then an
+//! arrow, the status and the output. An input is words that spell its bytes, or text after an
+//! apostrophe, which is only read as hexadecimal text. The output is lines that end with a bar, or,
+//! after an equals sign, words that spell bytes. `commands` contains the command line of each
+//! command. The tables in `rows/` contain more runs; `rows/README.md` describes their notation.
 
 use crate::arguments::arguments_of;
 use crate::row_bytes::{bytes_of, lines_of, number_of};
@@ -13,23 +13,23 @@ use fv_arguments::parse_words;
 use fv_plan::Plan;
 use std::alloc::Global;
 
-/// A run, and how it ends.
+/// A run, and its expected end.
 #[derive(Drop)]
 pub(crate) struct Run {
-    /// The task of the run.
+    /// The plan of the run.
     pub plan: Plan,
     /// The bytes of the first input.
     pub first: Vec<u8>,
-    /// The bytes of the second input, or none.
+    /// The bytes of the second input. They are empty if there is no second input.
     pub second: Vec<u8>,
     /// The exit status.
     pub status: u64,
-    /// The bytes that are written.
+    /// The bytes that the run writes.
     pub written: Vec<u8>,
 }
 
-// The commands of the runs, each with its command line. The paths name no files: the readers of a
-// test take their place.
+// Returns the commands of the runs, each with its command line. The paths do not name files: the
+// readers of a test take their place.
 fn commands() -> &'static str {
     "\
     normalise: fv normalise\n\
@@ -52,14 +52,14 @@ fn commands() -> &'static str {
     "
 }
 
-// The plan of a command.
+// Returns the plan of a command.
 fn plan_of(alloc: Global, hex: bool, command: &str) -> Option<Plan> {
     let words = arguments_of(alloc, text_named(commands(), command)?)?;
     let plan = parse_words(alloc, &words).ok()?;
     Some(Plan { hex, ..plan })
 }
 
-// The bytes that are read or written for words that spell some: these bytes, or their digits.
+// Returns the bytes that words spell or, if `hex` is set, their digits as lines of text.
 fn shown(alloc: Global, hex: bool, words: &str) -> Option<Vec<u8>> {
     let bytes = bytes_of(alloc, words)?;
     if hex {
@@ -69,7 +69,7 @@ fn shown(alloc: Global, hex: bool, words: &str) -> Option<Vec<u8>> {
     }
 }
 
-// The bytes of an input.
+// Returns the bytes of an input.
 fn input_of(alloc: Global, hex: bool, text: &str) -> Option<Vec<u8>> {
     match text.strip_prefix('\'') {
         Some(text) => Vec::from_slice(alloc, text.as_bytes()).ok(),
@@ -77,7 +77,7 @@ fn input_of(alloc: Global, hex: bool, text: &str) -> Option<Vec<u8>> {
     }
 }
 
-// The bytes of lines that end with a bar.
+// Returns the bytes of lines that end with a bar.
 fn lines_in(alloc: Global, text: &str) -> Option<Vec<u8>> {
     let mut bytes = Vec::from_slice(alloc, text.as_bytes()).ok()?;
     for byte in bytes.as_mut_slice() {
@@ -88,7 +88,7 @@ fn lines_in(alloc: Global, text: &str) -> Option<Vec<u8>> {
     Some(bytes)
 }
 
-// The bytes that are written.
+// Returns the bytes that the run writes.
 fn output_of(alloc: Global, hex: bool, text: &str) -> Option<Vec<u8>> {
     match text.strip_prefix('=') {
         Some(words) => shown(alloc, hex, words),
@@ -96,10 +96,10 @@ fn output_of(alloc: Global, hex: bool, text: &str) -> Option<Vec<u8>> {
     }
 }
 
-// A command with its two inputs, and the status with what is written.
+// A command with its two inputs, and the status with the output.
 type Texts<'a> = ((&'a str, &'a str, &'a str), (u64, &'a str));
 
-// The texts of a line.
+// Returns the texts of a line.
 fn texts_of(line: &str) -> Option<Texts<'_>> {
     let (command, rest) = line.split_once(": ")?;
     let (inputs, wanted) = rest.split_once(" -> ")?;
@@ -108,14 +108,14 @@ fn texts_of(line: &str) -> Option<Texts<'_>> {
     Some(((command, first, second), (number_of(status)?, text)))
 }
 
-// The bytes of two inputs.
+// Returns the bytes of two inputs.
 fn inputs_of(alloc: Global, hex: bool, first: &str, second: &str) -> Option<(Vec<u8>, Vec<u8>)> {
     let first = input_of(alloc, hex, first)?;
     let second = input_of(alloc, hex, second)?;
     Some((first, second))
 }
 
-// The plan of a command, and the bytes that are written.
+// Returns the plan of a command, and the bytes that its run writes.
 fn plan_and_output_of(
     alloc: Global,
     hex: bool,
@@ -127,7 +127,7 @@ fn plan_and_output_of(
     Some((plan, written))
 }
 
-/// The run that a line describes, over bytes or hexadecimal text.
+/// Returns the run that a line describes, over bytes or hexadecimal text.
 pub(crate) fn run_of(alloc: Global, hex: bool, line: &str) -> Option<Run> {
     let ((command, first, second), (status, text)) = texts_of(line)?;
     let (first, second) = inputs_of(alloc, hex, first, second)?;
@@ -141,7 +141,7 @@ pub(crate) fn run_of(alloc: Global, hex: bool, line: &str) -> Option<Run> {
     })
 }
 
-/// Whether an input of a line is text, which is not read as bytes.
+/// Returns whether an input of a line is text, which is not read as bytes.
 pub(crate) fn has_text(line: &str) -> bool {
     line.split_once('\'').is_some()
 }

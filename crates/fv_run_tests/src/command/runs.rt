@@ -9,16 +9,16 @@ use fv_plan::{Command, Plan};
 use std::alloc::Global;
 use std::io::Read;
 
-/// How many bytes at most a reader gives, or a writer takes, at once.
+/// The largest numbers of bytes that a reader gives, or a writer takes, in one call.
 const STEPS: [usize; 3] = [1, 3, 65_536];
 
 /// An input that can be read, or a file that does not exist.
 pub(crate) type Input<'a> = Source<FakeReader<'a>, FakeReader<'a>>;
 
-/// The words that the line of a fault begins with.
+/// The words with which the line of a fault begins.
 const FAULT_WORDS: [&str; 4] = ["fault ", "hob fault ", "first fault ", "second fault "];
 
-// Whether the bytes are the whole line of a fault.
+// Returns whether the bytes are the line of a fault.
 fn is_fault_line(bytes: &[u8]) -> bool {
     for words in FAULT_WORDS {
         if bytes.starts_with(words.as_bytes()) && bytes.ends_with(b"\n") {
@@ -28,9 +28,9 @@ fn is_fault_line(bytes: &[u8]) -> bool {
     false
 }
 
-/// Whether a run of the plan ends with the status, writes these bytes and nothing after them, and
-/// then asks once for a flush, unless it is refused. If they are the line of a fault, the refusal is
-/// returned.
+/// Returns whether a run of the plan ends with the status, writes these bytes and nothing after
+/// them, and then flushes the writer once, unless it is refused. If the bytes are the line of a
+/// fault, the run must return the refusal.
 pub(crate) fn ends_as<First: Read + Drop, Second: Read + Drop>(
     alloc: Global,
     plan: &Plan,
@@ -49,7 +49,7 @@ pub(crate) fn ends_as<First: Read + Drop, Second: Read + Drop>(
         && (ending.refusal.is_some() || !is_fault_line(wanted.1))
 }
 
-// Whether the run ends as expected if its readers give `step` bytes at once.
+// Returns whether the run ends as expected if its readers give at most `step` bytes per call.
 fn run_ends_by_steps(alloc: Global, run: &Run, step: usize) -> bool {
     let first = Input::File(FakeReader::new(&run.first, step, true));
     let second = Input::Standard(FakeReader::new(&run.second, step, false));
@@ -63,8 +63,8 @@ fn run_ends_by_steps(alloc: Global, run: &Run, step: usize) -> bool {
     )
 }
 
-// Whether the run ends as Refused if a writer that takes `step` bytes at once has no more room, and
-// writes what there is room for.
+// Returns whether the run ends as Refused if its writer, which takes at most `step` bytes per call,
+// has room for only `room` bytes; and whether it writes these bytes.
 fn run_ends_without_room(
     alloc: Global,
     run: &Run,
@@ -79,7 +79,7 @@ fn run_ends_without_room(
     ends_as(alloc, &run.plan, (first, second), writer, wanted)
 }
 
-// The line of a reader that fails after `count` bytes.
+// Returns the line for a reader that fails after `count` bytes.
 fn line_at(alloc: Global, run: &Run, side: &str, count: usize) -> Option<String> {
     let side = match run.plan.command {
         Command::Compare { .. } => side,
@@ -88,8 +88,8 @@ fn line_at(alloc: Global, run: &Run, side: &str, count: usize) -> Option<String>
     format!(in alloc; "{side}fault 25 at {count}\n").ok()
 }
 
-// Whether the run ends as Refused if the reader of its first input fails there. What follows is not
-// read.
+// Returns whether the run ends as Refused if the reader of its first input fails after `count`
+// bytes. The second input is not read.
 fn stops_at_first(alloc: Global, run: &Run, step: usize, count: usize) -> bool {
     let Some(line) = line_at(alloc, run, "first ", count) else {
         return false;
@@ -100,7 +100,8 @@ fn stops_at_first(alloc: Global, run: &Run, step: usize, count: usize) -> bool {
     ends_as(alloc, &run.plan, inputs, writer, (2, line.as_bytes()))
 }
 
-// Whether the run ends as Refused if the reader of its second input fails there.
+// Returns whether the run ends as Refused if the reader of its second input fails after `count`
+// bytes.
 fn stops_at_second(alloc: Global, run: &Run, step: usize, count: usize) -> bool {
     let Some(line) = line_at(alloc, run, "second ", count) else {
         return false;
@@ -117,8 +118,8 @@ fn stops_at_second(alloc: Global, run: &Run, step: usize, count: usize) -> bool 
     )
 }
 
-// Whether the run ends as it should by steps of this size, and stops at each byte of its inputs if
-// a reader stops there. A second input without bytes is none.
+// Returns whether the run ends as expected with steps of this size, and stops at each byte of its
+// inputs if a reader stops there. A second input without bytes does not count as an input.
 fn stops_by_steps(alloc: Global, run: &Run, step: usize) -> bool {
     for count in 0..=run.first.len() {
         if !stops_at_first(alloc, run, step, count) {
@@ -133,8 +134,8 @@ fn stops_by_steps(alloc: Global, run: &Run, step: usize) -> bool {
     run_ends_by_steps(alloc, run, step)
 }
 
-// Whether the run ends as it should, however few bytes are read and written at once, and stops at
-// each byte of its inputs and of its output, however the writer stops.
+// Returns whether the run ends as expected, however few bytes are read and written in one call, and
+// stops at each byte of its inputs and of its output, however the writer stops.
 fn run_stops_at_each_byte(alloc: Global, run: &Run) -> bool {
     for step in STEPS {
         if !stops_by_steps(alloc, run, step) {
@@ -151,7 +152,7 @@ fn run_stops_at_each_byte(alloc: Global, run: &Run) -> bool {
     true
 }
 
-// Whether the run of a line, over bytes or over hexadecimal text, stops like this.
+// Returns whether the run of a line, over bytes or over hexadecimal text, stops like this.
 fn row_stops_at_each_byte(alloc: Global, hex: bool, line: &str) -> bool {
     match run_of(alloc, hex, line) {
         Some(run) => run_stops_at_each_byte(alloc, &run),
@@ -159,7 +160,7 @@ fn row_stops_at_each_byte(alloc: Global, hex: bool, line: &str) -> bool {
     }
 }
 
-// A line with text is only read as hexadecimal text.
+// A line with text is only run over hexadecimal text.
 #[test]
 fn runs_stop_with_their_readers_and_writers(rt: HostRuntime) {
     for line in small_runs().lines() {

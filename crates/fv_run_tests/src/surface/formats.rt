@@ -24,7 +24,7 @@ fn name_extent(extent: Extent) {
     } = extent;
 }
 
-/// Names what fv_head has.
+/// Names the items of fv_head.
 pub(super) fn name_head() {
     let _ = (verify_fv, read_head, head_bytes, ext_bytes);
     let _ = (write_head::<&mut [u8]>, write_ext::<&mut [u8]>);
@@ -94,7 +94,7 @@ fn name_cell(cell: &Cell<'_>) {
     }
 }
 
-/// Names what fv_file has.
+/// Names the items of fv_file.
 pub(super) fn name_file() {
     let _ = (file_state, verify_ffs_file, cells);
     let _ = (file_head_bytes, pad_head_bytes);
@@ -112,7 +112,7 @@ fn name_frame(frame: Frame<'_>) {
     } = frame;
 }
 
-/// Names what fv_section has.
+/// Names the items of fv_section.
 pub(super) fn name_section() {
     let _ = (next_frame, frames, section_head_bytes);
     let _ = (ui_text, version, freeform);

@@ -1,4 +1,4 @@
-//! The names of fv_tree and fv_canon, and those of the crates that the program is made of.
+//! The names of fv_tree and fv_canon, and of the crates that the program consists of.
 
 use fv_arguments::{WordFault, parse_words};
 use fv_canon::{
@@ -66,7 +66,7 @@ fn name_difference(step: Step, word: Word) {
     }
 }
 
-/// Names what fv_tree has.
+/// Names the items of fv_tree.
 pub(super) fn name_tree() {
     let _ = (read_volume, next_file, file_by_name, file_by_type);
     let _ = (section_by_type, scan, volumes, first_difference);
@@ -89,7 +89,7 @@ fn name_sides(side: Side) {
     }
 }
 
-/// Names what fv_canon has.
+/// Names the items of fv_canon.
 pub(super) fn name_canon() {
     let _ = (layout, Layout::start);
     let _ = (canonical, normalise, is_canonical, normalise_image);
@@ -115,7 +115,7 @@ fn name_plan(plan: &Plan) {
     let Plan { hex: _, command: _ } = plan;
 }
 
-/// Names what the program is made of: the calls of fv_arguments and fv_command.
+/// Names the items that the program consists of: the calls of fv_arguments and fv_command.
 pub(super) fn name_program() {
     let _ = (parse_words, run_plan::<&[u8], &[u8], &mut [u8]>);
     let _ = name_plan;

@@ -61,7 +61,7 @@ fn name_flash(polarity: Polarity, file_system: FileSystem) {
     }
 }
 
-/// Names what fv_base has.
+/// Names the items of fv_base.
 pub(super) fn name_base() {
     let _ = (Guid::from_bytes, Guid::to_bytes, Guid::parse, Guid::text);
     let _ = (sum8, sum16);
@@ -107,7 +107,7 @@ fn name_depex_fault(fault: DepexFault) {
     }
 }
 
-/// Names what fv_depex has.
+/// Names the items of fv_depex.
 pub(super) fn name_depex() {
     let _ = (read_depex, depex_bytes, evaluate);
     let _ = (Depex::phase, Depex::ops, Depex::rest);
@@ -198,7 +198,7 @@ fn name_span(span: Span) {
     let Span { base: _, length: _ } = span;
 }
 
-/// Names what fv_hob has.
+/// Names the items of fv_hob.
 pub(super) fn name_hob() {
     let _ = (read_hobs, hob_bytes, volume_hobs);
     let _ = (Hob::reserved, Hob::kind, Hob::code, Hob::length);

@@ -1,5 +1,5 @@
-//! Inputs that come in pieces, fail, are too long or never end; how often a reader is called, and
-//! for how many bytes.
+//! Inputs that come in pieces, fail, are too long or never end; and how often a reader is called,
+//! and for how many bytes.
 
 use super::ports::FailingReader;
 use fv_base::{Fault, FaultKind, Port, read_input};
@@ -7,8 +7,9 @@ use std::alloc::Global;
 use std::io;
 use std::io::{ErrorKind, Read};
 
-/// Gives `left` bytes, as many as it is asked for, and then nothing, or `Interrupted` for ever. It
-/// counts its calls, and keeps the size of the largest buffer that was passed in.
+/// A reader that gives `left` bytes, as many as each call asks for, and then nothing, or
+/// `Interrupted` for ever. It counts its calls, and keeps the size of the largest buffer that was
+/// passed in.
 #[derive(Drop)]
 struct CountingReader {
     left: usize,
@@ -30,7 +31,7 @@ impl Read for CountingReader {
     }
 }
 
-// A reader of `left` bytes, which counts, in a port of this room.
+// Returns a reader of `left` bytes that counts its calls, in a port with this room.
 fn counting_reader(left: usize, ends: bool, room: usize) -> Port<CountingReader> {
     let reader = CountingReader {
         left,
@@ -41,14 +42,14 @@ fn counting_reader(left: usize, ends: bool, room: usize) -> Port<CountingReader>
     Port::with_room(reader, room)
 }
 
-// Writes bytes that all differ from their neighbours.
+// Fills the buffer with bytes, each different from its neighbours.
 fn count_up(bytes: &mut [u8]) {
     for i in 0..bytes.len() {
         bytes[i] = (i % 251) as u8;
     }
 }
 
-// Whether bytes are read to their end through a port of this room.
+// Returns whether the bytes are read to their end through a port with this room.
 fn is_read_whole(alloc: Global, bytes: &[u8], room: usize) -> bool {
     let mut reader = Port::with_room(bytes, room);
     match read_input(alloc, &mut reader) {
@@ -57,7 +58,7 @@ fn is_read_whole(alloc: Global, bytes: &[u8], room: usize) -> bool {
     }
 }
 
-// Whether this many bytes are read to their end through a port of this room.
+// Returns whether this many bytes are read to their end through a port with this room.
 fn are_read(alloc: Global, length: usize, room: usize) -> bool {
     match vec![in alloc; 0; length] {
         Ok(mut bytes) => {
@@ -68,7 +69,8 @@ fn are_read(alloc: Global, length: usize, room: usize) -> bool {
     }
 }
 
-// Whatever the room of the port: none, too little, as much as there is, or more than an input has.
+// The room of the port does not matter: it may be none, too little, just enough, or more than any
+// input needs.
 #[test]
 fn inputs_are_read_to_their_end(rt: HostRuntime) {
     for length in [0, 1, 1000, 65_536, 200_000] {
@@ -78,14 +80,14 @@ fn inputs_are_read_to_their_end(rt: HostRuntime) {
     }
 }
 
-// A thousand bytes that all differ from their neighbours.
+// Returns 1000 bytes, each different from its neighbours.
 fn first_thousand() -> [u8; 1000] {
     let mut bytes = [0; 1000];
     count_up(&mut bytes);
     bytes
 }
 
-// A reader that fails after `good` of the bytes.
+// Returns a reader that fails after `good` of the bytes.
 fn failing_reader<'a>(bytes: &'a [u8], good: usize) -> Port<FailingReader<'a>> {
     Port::new(FailingReader {
         bytes,
@@ -94,7 +96,8 @@ fn failing_reader<'a>(bytes: &'a [u8], good: usize) -> Port<FailingReader<'a>> {
     })
 }
 
-// Whether all of the bytes are read by a reader that fails only after them, and has failed.
+// Returns whether all bytes are read, and the port remembers an error. An interruption is an error
+// too.
 fn is_read_on(alloc: Global, bytes: &[u8], good: usize) -> bool {
     let mut reader = failing_reader(bytes, good);
     match read_input(alloc, &mut reader) {
@@ -103,13 +106,14 @@ fn is_read_on(alloc: Global, bytes: &[u8], good: usize) -> bool {
     }
 }
 
-// The reader fails only after one more byte than there are, so its end is read too.
+// The reader fails only after one byte more than there are, so the reading finds the end of the
+// input.
 #[test]
 fn reading_goes_on_after_an_interruption(rt: HostRuntime) {
     assert!(rt; is_read_on(rt.alloc(), &first_thousand(), 1001));
 }
 
-// Whether a read that fails after `good` of the bytes is reported there.
+// Returns whether a read that fails after `good` of the bytes is reported at this offset.
 fn fails_after(alloc: Global, bytes: &[u8], good: usize) -> bool {
     let mut reader = failing_reader(bytes, good);
     match read_input(alloc, &mut reader) {
@@ -126,7 +130,7 @@ fn a_failed_read_is_reported_at_its_offset(rt: HostRuntime) {
     }
 }
 
-// How many bytes are read, or the fault.
+// Returns the number of bytes that are read, or the fault.
 fn read_count(alloc: Global, reader: &mut Port<CountingReader>) -> Result<usize, Fault> {
     match read_input(alloc, reader) {
         Ok(got) => Ok(got.len()),
@@ -134,8 +138,8 @@ fn read_count(alloc: Global, reader: &mut Port<CountingReader>) -> Result<usize,
     }
 }
 
-// Whether reading has this outcome after this many calls, of which the largest asks for this many
-// bytes.
+// Returns whether reading has this outcome after this many calls, the largest of which asks for
+// this many bytes.
 fn is_read_in(
     alloc: Global,
     mut reader: Port<CountingReader>,
@@ -149,7 +153,8 @@ fn is_read_in(
 }
 
 // Each call asks for a sixteenth of the port's room, but for at least 16,384 and at most 65,536
-// bytes, and for 65,536 if the room is 0. There are no more calls than the bytes and the end need.
+// bytes, and for 65,536 bytes if the room is 0. There are only as many calls as the bytes and the
+// end need.
 #[test]
 fn each_read_asks_for_a_sixteenth_of_the_room(rt: HostRuntime) {
     for (room, asked, bytes, calls) in [
@@ -170,7 +175,8 @@ fn each_read_asks_for_a_sixteenth_of_the_room(rt: HostRuntime) {
     }
 }
 
-// As many bytes as a volume may have are accepted, and one more is Length at the limit.
+// An input with as many bytes as a volume may have is accepted. One byte more is the fault Length
+// at the limit.
 #[test]
 fn an_input_longer_than_the_limit_is_rejected(rt: HostRuntime) {
     let limit = 268_435_456;
@@ -181,8 +187,8 @@ fn an_input_longer_than_the_limit_is_rejected(rt: HostRuntime) {
     assert!(rt; is_read_in(rt.alloc(), long, Err(fault), 16_385, 16_384));
 }
 
-// Reading stops if the reader is interrupted for ever. (So many calls take a second or two when
-// built, and too long under `rt try`.)
+// Reading stops if the reader is interrupted for ever. (So many calls take a second or two in a
+// built test, and too long under `rt try`.)
 #[test]
 fn reading_ends_if_every_call_is_interrupted(rt: HostRuntime) {
     let reader = counting_reader(10, false, 0);

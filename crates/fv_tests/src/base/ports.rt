@@ -1,11 +1,13 @@
-//! Ports over readers and writers that fail: what they pass on, and what they remember.
+//! Ports over readers and writers that fail: which results they pass on, and which errors they
+//! remember.
 
 use fv_base::Port;
 use std::alloc::Global;
 use std::io;
 use std::io::{ErrorKind, Read, Write};
 
-/// Gives one byte a call, returns `Interrupted` at every third call, and fails after `good` bytes.
+/// A reader that gives one byte per call, returns `Interrupted` at every third call, and fails
+/// after `good` bytes.
 #[derive(Drop)]
 pub(super) struct FailingReader<'a> {
     pub(super) bytes: &'a [u8],
@@ -28,7 +30,8 @@ impl<'a> Read for FailingReader<'a> {
     }
 }
 
-/// Takes at most `step` bytes a call and `room` in all, and then none: it fails, or returns 0.
+/// A writer that takes at most `step` bytes per call and `room` bytes in all. After that each call
+/// fails, or returns 0.
 #[derive(Drop)]
 pub(super) struct LimitedWriter {
     pub(super) taken: Vec<u8>,
@@ -53,7 +56,7 @@ impl Write for LimitedWriter {
     }
 }
 
-// What a call returned: a count, or the kind of its error.
+// Returns the count that a call returned, or the kind of its error.
 fn count_or_error_kind(outcome: io::Result<usize>) -> Result<usize, ErrorKind> {
     match outcome {
         Ok(count) => Ok(count),
@@ -79,7 +82,7 @@ fn a_port_has_the_room_that_it_is_made_with(rt: HostRuntime) {
     assert!(rt; Port::new([1u8, 2, 3].as_slice()).room() == 0);
 }
 
-// Whether a read has this outcome, and is remembered if it failed.
+// Returns whether a read has this outcome, and the port remembers an error if the read failed.
 fn is_read_as(
     reader: &mut Port<FailingReader>,
     buf: &mut [u8],
@@ -89,7 +92,7 @@ fn is_read_as(
     count_or_error_kind(reader.read(buf)) == want && reader.erred() == failed
 }
 
-// The same error is passed on: no contract says which it is.
+// The port passes on the reader's own error, which no contract states.
 #[test]
 fn a_port_remembers_a_read_that_failed(rt: HostRuntime) {
     let mut buf = [0u8; 4];
@@ -119,7 +122,7 @@ fn a_port_writes_what_it_is_given(rt: HostRuntime) {
     assert!(rt; writer.into_inner().as_slice() == [7u8, 8].as_slice());
 }
 
-// A writer that has taken nothing.
+// Returns a port over a writer that has taken nothing.
 pub(super) fn limited_writer(
     alloc: Global,
     step: usize,
@@ -134,7 +137,7 @@ pub(super) fn limited_writer(
     })
 }
 
-// Whether a write has this outcome, and then a write has failed, or none has.
+// Returns whether a write has this outcome, and afterwards the port's error flag has this value.
 fn is_written_as(
     writer: &mut Port<LimitedWriter>,
     bytes: &[u8],
@@ -144,7 +147,7 @@ fn is_written_as(
     count_or_error_kind(writer.write(bytes)) == want && writer.erred() == erred
 }
 
-// Whether three of four bytes are taken, and the write of the last has this outcome.
+// Returns whether three of four bytes are taken, and the write of the fourth has this outcome.
 fn is_last_written_as(alloc: Global, fails: bool, last: Result<usize, ErrorKind>) -> bool {
     let mut writer = limited_writer(alloc, 2, 3, fails);
     let is_right = is_written_as(&mut writer, &[1, 2, 3, 4], Ok(2), false)
@@ -154,7 +157,8 @@ fn is_last_written_as(alloc: Global, fails: bool, last: Result<usize, ErrorKind>
     is_right && taken.as_slice() == [1u8, 2, 3].as_slice()
 }
 
-// A write that takes no byte though some were given has failed too. The same error is passed on.
+// A write that takes no byte although some were given has failed too. The port passes on the
+// writer's own error.
 #[test]
 fn a_port_remembers_a_write_that_failed(rt: HostRuntime) {
     assert!(rt; is_last_written_as(rt.alloc(), false, Ok(0)));

@@ -1,13 +1,13 @@
-//! What sinks keep and write, and where they stop.
+//! Which bytes sinks keep and write, and where they stop.
 
 use super::ports::{LimitedWriter, limited_writer};
 use fv_base::{ByteList, Fault, FaultKind, ListSink, Polarity, Port, Sink, WriteSink, fill};
 use std::alloc::Global;
 
-/// The lengths of the fills.
+/// The numbers of bytes of the fills.
 const COUNTS: [usize; 4] = [0, 1, 65_536, 200_000];
 
-// Whether bytes are a byte `count` times, and then 1 and 2.
+// Returns whether the bytes are `count` times this byte, and then 1 and 2.
 fn is_fill(bytes: &[u8], byte: u8, count: usize) -> bool {
     match bytes.split_at_checked(count) {
         Some((first, rest)) => rest == [1u8, 2].as_slice() && first.iter().all(|one| *one == byte),
@@ -15,7 +15,7 @@ fn is_fill(bytes: &[u8], byte: u8, count: usize) -> bool {
     }
 }
 
-// Whether a list has kept a fill.
+// Returns whether a list has kept a fill, and then 1 and 2.
 fn has_kept(list: ListSink, byte: u8, count: usize) -> bool {
     match list.finish() {
         Ok(bytes) => is_fill(bytes.as_slice(), byte, count),
@@ -23,7 +23,7 @@ fn has_kept(list: ListSink, byte: u8, count: usize) -> bool {
     }
 }
 
-// Whether a list keeps a fill of erased bytes.
+// Returns whether a list keeps a fill of erased bytes.
 fn is_kept(alloc: Global, polarity: Polarity, count: usize) -> bool {
     match ListSink::with_room(alloc, count) {
         Ok(mut list) => {
@@ -44,8 +44,8 @@ fn list_sinks_keep_fills(rt: HostRuntime) {
     }
 }
 
-// Whether a fill of erased bytes and two more are written, and no other byte after them. The fault of a byte
-// for which there is no room says how many were written.
+// Returns whether a fill of erased bytes and two more bytes are written, and no byte after them.
+// The fault of the first byte without room contains the number of written bytes.
 fn is_room_filled(port: &mut Port<LimitedWriter>, polarity: Polarity, count: usize) -> bool {
     let mut sink = WriteSink::new(port);
     fill(&mut sink, polarity.erased(), count as u64);
@@ -56,7 +56,7 @@ fn is_room_filled(port: &mut Port<LimitedWriter>, polarity: Polarity, count: usi
     filled == Ok(()) && sink.outcome() == Err(stopped)
 }
 
-// Whether a fill is written where there is just enough room.
+// Returns whether a fill is written if there is just enough room.
 fn is_written(alloc: Global, polarity: Polarity, count: usize) -> bool {
     let mut port = limited_writer(alloc, usize::MAX, count.saturating_add(2), false);
     let is_filled = is_room_filled(&mut port, polarity, count);
@@ -78,7 +78,7 @@ fn erased_bytes_have_their_values(rt: HostRuntime) {
     assert!(rt; Polarity::Ones.erased() == 0xff && Polarity::Zeros.erased() == 0);
 }
 
-// Whether a list is copied with the bytes 1 and 2.
+// Returns whether a copy of the list has the bytes 1 and 2.
 fn is_copied(alloc: Global, list: &ByteList) -> bool {
     match ByteList::from_slice(alloc, list.as_slice()) {
         Ok(copy) => copy.as_slice() == b"\x01\x02".as_slice(),
@@ -86,7 +86,8 @@ fn is_copied(alloc: Global, list: &ByteList) -> bool {
     }
 }
 
-// Whether the list of a vector of these bytes has them, and so has a copy.
+// Returns whether the list of a vector with the bytes 1 and 2 has these bytes, and a copy of it has
+// them too.
 fn are_listed(alloc: Global) -> bool {
     match [1u8, 2].to_vec(alloc) {
         Ok(bytes) => {
@@ -102,7 +103,7 @@ fn byte_lists_have_their_bytes(rt: HostRuntime) {
     assert!(rt; are_listed(rt.alloc()));
 }
 
-// Whether a sink stops after this many erased bytes, and writes no more.
+// Returns whether a sink stops after this many erased bytes, and writes nothing more.
 fn stops_after(port: &mut Port<LimitedWriter>, room: usize) -> bool {
     let mut sink = WriteSink::new(port);
     fill(&mut sink, 0xff, 200_000);
@@ -112,12 +113,12 @@ fn stops_after(port: &mut Port<LimitedWriter>, room: usize) -> bool {
     filled == stopped && sink.outcome() == stopped
 }
 
-// Whether bytes are this many erased bytes.
+// Returns whether the bytes are this many erased bytes.
 fn are_erased(bytes: &[u8], count: usize) -> bool {
     bytes.len() == count && bytes.iter().all(|byte| *byte == 0xff)
 }
 
-// Whether a sink stops where the room of its writer ends.
+// Returns whether a sink stops where the room of its writer ends.
 fn stops_where_room_ends(alloc: Global, fails: bool, room: usize) -> bool {
     let mut port = limited_writer(alloc, 1000, room, fails);
     let is_stopped = stops_after(&mut port, room) && port.erred();

@@ -7,13 +7,13 @@ use fv_base::Guid;
 use fv_depex::{Depex, DepexFault, DepexFaultKind, Phase, depex_bytes, evaluate, read_depex};
 use std::alloc::Global;
 
-/// What a call returns if memory ran out.
+/// The fault that a call returns if memory ran out.
 const OUT_OF_MEMORY: DepexFault = DepexFault {
     kind: DepexFaultKind::OutOfMemory,
     offset: 0,
 };
 
-/// FALSE, five times TRUE, four times AND, OR and END, and two bytes after it.
+/// FALSE, five times TRUE, four times AND, OR and END, and two bytes after END.
 const SEVERAL: [u8; 14] = [
     0x07, 0x06, 0x06, 0x06, 0x06, 0x06, 0x03, 0x03, 0x03, 0x03, 0x04, 0x08, 0xff, 0xff,
 ];
@@ -21,7 +21,7 @@ const SEVERAL: [u8; 14] = [
 /// Bodies, and their values if A is installed.
 const BODIES: [(&[u8], bool); 2] = [(&NOT_A, false), (&SEVERAL, true)];
 
-// Whether an expression is written as it was, or memory ran out.
+// Returns whether an expression is written as it was read, or memory ran out.
 fn is_written_or_out_of_memory(alloc: Global, depex: &Depex, bytes: &[u8]) -> bool {
     match depex_bytes(alloc, depex) {
         Ok(written) => written.as_slice() == bytes,
@@ -29,14 +29,15 @@ fn is_written_or_out_of_memory(alloc: Global, depex: &Depex, bytes: &[u8]) -> bo
     }
 }
 
-// Whether an expression has this value, and is written as it was, or memory ran out.
+// Returns whether an expression has this truth value and is written as it was read, or memory ran
+// out.
 fn has_value_or_out_of_memory(alloc: Global, depex: &Depex, bytes: &[u8], value: bool) -> bool {
     let truth = evaluate(alloc, depex, &[Guid::from_bytes(A)]);
     let is_right = truth == Ok(Some(value)) || truth == Err(OUT_OF_MEMORY);
     is_written_or_out_of_memory(alloc, depex, bytes) && is_right
 }
 
-// Whether a body is read and has this value, or memory ran out.
+// Returns whether a body is read and has this truth value, or memory ran out.
 fn is_read_or_out_of_memory(alloc: Global, bytes: &[u8], value: bool) -> bool {
     match read_depex(alloc, bytes, Phase::Dxe) {
         Ok(depex) => has_value_or_out_of_memory(alloc, &depex, bytes, value),

@@ -12,10 +12,10 @@ pub(super) const NOT_A: [u8; 19] = [
     0x0a, 0x05, 0x08,
 ];
 
-/// An op: its code, and the bytes of its GUID if it carries one.
+/// The code of an op, and the bytes of its GUID if it has one.
 type ExpectedOp = (u8, &'static [u8]);
 
-/// The phase, the body, its ops, and the bytes after END.
+/// A phase, a body, the ops of the body, and the bytes after END.
 type ReadRow = (Phase, Parts, &'static [ExpectedOp], &'static [u8]);
 
 /// Expressions that are read.
@@ -78,7 +78,7 @@ const READ: &[ReadRow] = &[
     ),
 ];
 
-// Whether an op carries the GUID with these bytes, or no GUID if there are no bytes.
+// Returns whether an op has the GUID with these bytes, or no GUID if there are no bytes.
 fn has_operand(op: &Op, operand: &[u8]) -> bool {
     match op {
         Op::Before(guid) | Op::After(guid) | Op::Push(guid) => {
@@ -89,7 +89,7 @@ fn has_operand(op: &Op, operand: &[u8]) -> bool {
     }
 }
 
-// How many ops from the first on are these, in this order.
+// Returns how many of the first ops are the expected ones, in this order.
 fn count_matching(found: &[Op], ops: &[ExpectedOp]) -> usize {
     let mut at = 0;
     for op in found {
@@ -100,7 +100,7 @@ fn count_matching(found: &[Op], ops: &[ExpectedOp]) -> usize {
     at
 }
 
-// Whether an expression is that of a row.
+// Returns whether an expression is the expression of a row.
 fn is_expression_of(depex: &Depex, row: &ReadRow) -> bool {
     let (phase, _, ops, rest) = *row;
     depex.phase() == phase
@@ -109,7 +109,7 @@ fn is_expression_of(depex: &Depex, row: &ReadRow) -> bool {
         && depex.rest() == rest
 }
 
-// Whether a body is read as a row says.
+// Returns whether the bytes are read as a row states.
 fn is_read_as(alloc: Global, bytes: &[u8], row: &ReadRow) -> bool {
     match read_depex(alloc, bytes, row.0) {
         Ok(depex) => is_expression_of(&depex, row),
@@ -117,7 +117,7 @@ fn is_read_as(alloc: Global, bytes: &[u8], row: &ReadRow) -> bool {
     }
 }
 
-// Whether the body of a row is read as the row says.
+// Returns whether the body of a row is read as the row states.
 fn is_row_read(alloc: Global, row: &ReadRow) -> bool {
     match joined(alloc, row.1, &[]) {
         Ok(bytes) => is_read_as(alloc, bytes.as_slice(), row),
@@ -125,7 +125,8 @@ fn is_row_read(alloc: Global, row: &ReadRow) -> bool {
     }
 }
 
-// The rows. What names a large constant is proved with all of it, so only this function does.
+// Returns the rows. A function that names a large constant is proved with the whole constant, so no
+// other function names this one.
 fn read_rows() -> &'static [ReadRow] {
     READ
 }
@@ -135,7 +136,7 @@ fn expressions_are_read(rt: HostRuntime) {
     assert_rows!(rt; read_rows(), |row| is_row_read(rt.alloc(), row));
 }
 
-// Whether a body has this many ops, and no bytes after END.
+// Returns whether a body has this many ops, and no bytes after END.
 fn has_ops(alloc: Global, bytes: &[u8], phase: Phase, count: usize) -> bool {
     match read_depex(alloc, bytes, phase) {
         Ok(depex) => depex.ops().len() == count && depex.rest().is_empty(),

@@ -6,7 +6,7 @@ use crate::parts::joined;
 use fv_depex::{Phase, read_depex};
 use std::alloc::Global;
 
-/// Bodies, and their phases.
+/// The bodies and their phases.
 const BODIES: &[(Phase, Parts)] = &[
     (Phase::Pei, &[&[0x02], &A, &[0x05, 0x08]]),
     (Phase::Dxe, &[&[0x00], &A, &[0x08]]),
@@ -16,7 +16,7 @@ const BODIES: &[(Phase, Parts)] = &[
     (Phase::Dxe, &[&[0x09, 0x02], &A, &[0x08, 0x00]]),
     (Phase::Dxe, &[&[0x01], &B, &[0x08, 0x09, 0x06, 0x08]]),
     (Phase::Pei, &[&[0x02], &ORDER, &[0x08]]),
-    // Those whose values are in `library.rows` of fv_run_tests.
+    // The bodies whose truth values are in `library.rows` of fv_run_tests.
     (Phase::Dxe, &[&[0x06, 0x08]]),
     (Phase::Dxe, &[&[0x07, 0x08]]),
     (Phase::Dxe, &[&[0x09, 0x06, 0x08]]),
@@ -53,7 +53,7 @@ const BODIES: &[(Phase, Parts)] = &[
     ),
 ];
 
-// Whether a body is written as it was read.
+// Returns whether a body is written as it was read.
 fn is_written_back(alloc: Global, bytes: &[u8], phase: Phase) -> bool {
     match read_depex(alloc, bytes, phase) {
         Ok(depex) => is_written_as(alloc, &depex, bytes),
@@ -61,7 +61,7 @@ fn is_written_back(alloc: Global, bytes: &[u8], phase: Phase) -> bool {
     }
 }
 
-// Whether a body in parts is written as it was read.
+// Returns whether a body that is given in parts is written as it was read.
 fn parts_are_written_back(alloc: Global, parts: Parts, phase: Phase) -> bool {
     match joined(alloc, parts, &[]) {
         Ok(bytes) => is_written_back(alloc, bytes.as_slice(), phase),
@@ -69,7 +69,8 @@ fn parts_are_written_back(alloc: Global, parts: Parts, phase: Phase) -> bool {
     }
 }
 
-// The bodies. What names a large constant is proved with all of it, so only this function does.
+// Returns the bodies. A function that names a large constant is proved with the whole constant, so
+// no other function names this one.
 fn bodies() -> &'static [(Phase, Parts)] {
     BODIES
 }

@@ -6,16 +6,16 @@ use bitflags::Flags;
 use fv_base::{Fault, FaultKind, FileSystem, Guid, Polarity};
 use fv_file::{FileAttributes, FileHead, FileState, verify_ffs_file};
 
-/// A file or a pad: its name, the eight bytes after that and its data; and then, of its header, the
-/// size of the file, the length of the header and the state.
+/// A file or a pad: its name, the eight bytes after the name, and its data; then the size of the
+/// file, the length of its header, and its state.
 type FileRow = ([u8; 16], u64, &'static [u8], u64, u64, FileState);
 
 /// Files and pads in FFS3.
 const FILES: &[FileRow] = &[
-    // Files without data, of which the second is marked.
+    // Two files without data. The second is marked for update.
     (A, 0x47aa_0100_1800_00f8, &[], 24, 24, FileState::DataValid),
     (A, 0x47aa_0100_1800_00f0, &[], 24, 24, FileState::Marked),
-    // A file with its sum, and no filler.
+    // A file with a file checksum, and without filler.
     (
         A,
         0x03f6_0140_1c00_00f8,
@@ -24,7 +24,7 @@ const FILES: &[FileRow] = &[
         24,
         FileState::DataValid,
     ),
-    // A byte of data, and other bytes after the file.
+    // A file with one byte of data, and other bytes after the file.
     (
         A,
         0x46aa_0100_1900_00f8,
@@ -33,7 +33,7 @@ const FILES: &[FileRow] = &[
         24,
         FileState::DataValid,
     ),
-    // A pad, and one that may not be moved, with a wrong file sum.
+    // A pad, and a pad with the fixed bit and a wrong file checksum.
     (P, 0x08aa_f000_1800_00f8, &[], 24, 24, FileState::DataValid),
     (P, 0x0455_f004_1800_00f8, &[], 24, 24, FileState::DataValid),
     // A large file.
@@ -47,8 +47,8 @@ const FILES: &[FileRow] = &[
     ),
 ];
 
-/// A fault and its offset, and the eight bytes that follow the name in headers which are rejected
-/// with it in FFS2.
+/// A fault and its offset, and the eight bytes after the name in headers that are rejected with
+/// this fault in FFS2.
 type RejectedRow = (FaultKind, u64, &'static [u64]);
 
 /// Headers that are rejected.
@@ -57,35 +57,35 @@ const REJECTED: &[RejectedRow] = &[
         FaultKind::FileState,
         23,
         &[
-            // State has bit 0x40, and all bits.
+            // A State with bit 0x40, and a State with all bits.
             0x47aa_0100_1800_00b8,
             0x47aa_0100_1800_0000,
-            // Data that were never finished, a deleted file, and a State byte that is erased.
+            // A file whose data are not complete, a deleted file, and an erased State byte.
             0x47aa_0100_1800_00fc,
             0x47aa_0100_1800_00e8,
             0x47aa_0100_1800_00ff,
-            // A header that was begun, and one that is invalid.
+            // A header under construction, and an invalid header.
             0xffff_ffff_ffff_fffe,
             0xffff_ffff_ffff_ffde,
         ],
     ),
     // A large file.
     (FaultKind::LargeFile, 19, &[0x47aa_0101_1800_00f8]),
-    // The header sum is off by one.
+    // The header checksum is off by one.
     (FaultKind::FileHeaderSum, 0, &[0x48aa_0100_1800_00f8]),
-    // A size of 23, and of 64.
+    // Sizes of 23 and of 64.
     (
         FaultKind::FileSize,
         20,
         &[0x48aa_0100_1700_00f8, 0x1faa_0100_4000_00f8],
     ),
-    // A file that may not be moved.
+    // A file with the fixed bit.
     (FaultKind::Fixed, 19, &[0x43aa_0104_1800_00f8]),
-    // The file sum is not 0xAA.
+    // A file checksum that is not 0xAA.
     (FaultKind::FileSum, 17, &[0x47ab_0100_1800_00f8]),
 ];
 
-// A name, the eight bytes after it, at most 32 other bytes, and then erased bytes.
+// Returns a name, the eight bytes after it, at most 32 other bytes, and then erased bytes.
 fn with_fields(name: [u8; 16], fields: u64, more: &[u8]) -> [u8; 56] {
     let mut bytes = [0xff; 56];
     let count = more.len().min(32);
@@ -95,12 +95,14 @@ fn with_fields(name: [u8; 16], fields: u64, more: &[u8]) -> [u8; 56] {
     bytes
 }
 
-// The rows. What names a large constant is proved with all of it, so only this function does.
+// Returns the rows. A function that names a large constant is proved with the whole constant, so no
+// other function names this one.
 fn files() -> &'static [FileRow] {
     FILES
 }
 
-// The header that a row describes: its sums, its type and its attribute bits follow the name.
+// Returns the header that a row describes. Its checksums, its type and its attribute bits follow
+// the name.
 fn head_of(row: &FileRow) -> FileHead {
     let (name, fields, _, size, header_len, state) = *row;
     let [header_sum, file_sum, kind, attributes, ..] = fields.to_be_bytes();
@@ -116,7 +118,7 @@ fn head_of(row: &FileRow) -> FileHead {
     }
 }
 
-// Whether the bytes of a row begin with its file.
+// Returns whether the bytes of a row begin with its file.
 fn is_found(row: &FileRow) -> bool {
     let (name, fields, more, ..) = *row;
     let bytes = with_fields(name, fields, more);
@@ -124,7 +126,8 @@ fn is_found(row: &FileRow) -> bool {
     verify_ffs_file(&bytes[..end], FileSystem::Ffs3, Polarity::Ones) == Ok(head_of(row))
 }
 
-// The fault of the first bytes of a file with the name of most, if they begin with none.
+// Returns the fault of the first `count` bytes of a file with the name A, if they do not begin with
+// a file.
 fn fault_of(
     fields: u64,
     more: &[u8],
@@ -136,12 +139,12 @@ fn fault_of(
     verify_ffs_file(&bytes[..count.min(56)], system, polarity).err()
 }
 
-// The headers that are rejected.
+// Returns the rejected headers.
 fn rejected() -> &'static [RejectedRow] {
     REJECTED
 }
 
-// Whether the headers of a row are rejected with its fault.
+// Returns whether the headers of a row are rejected with its fault.
 fn is_rejected(row: &RejectedRow) -> bool {
     let (kind, offset, headers) = *row;
     let fault = Some(Fault::outer(kind, offset));
@@ -159,13 +162,14 @@ fn bytes_have_their_header_or_their_fault(rt: HostRuntime) {
     assert_rows!(rt; rejected(), |row| is_rejected(row));
 }
 
-/// What follows the name of a file of 28 bytes, and of a large one of 32: eight bytes, and more.
+/// The bytes after the name of a file of 28 bytes, and of a large file of 32 bytes: eight bytes of
+/// the header, and the rest.
 const WHOLE: [(u64, &[u8]); 2] = [
     (0x03f6_0140_1c00_00f8, &[1, 2, 3, 4]),
     (0x3eaa_0101_0000_00f8, &[32, 0, 0, 0, 0, 0, 0, 0]),
 ];
 
-// Some bytes of a file are missing.
+// A file is rejected if some of its bytes are missing.
 #[test]
 fn incomplete_files_are_rejected(rt: HostRuntime) {
     let fault = Some(Fault::outer(FaultKind::FileSize, 20));

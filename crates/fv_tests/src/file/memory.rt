@@ -1,4 +1,4 @@
-//! What remains of files, with failed allocations: `.ci/memory` makes each allocation of the test
+//! The remains of files, and failed allocations: `.ci/memory` makes each allocation of the test
 //! fail in turn, and no wrong result may be returned.
 
 use super::written::{file_head, is_joined, pad_head};
@@ -11,16 +11,16 @@ use fv_file::FileState::{Construction, DataValid, Deleted, Free, HeaderValid, Ma
 use fv_file::{Cell, FileState, cells, file_state, verify_ffs_file};
 use std::alloc::Global;
 
-/// The state, the offset and the length of a cell. A stub is as if it were under construction.
+/// The state, the offset and the length of a cell. A stub is listed as a header under construction.
 type CellRow = (FileState, u64, u64);
 
-/// A volume whose body begins at 72, and its cells.
+/// A volume whose body begins at 72, and the cells of the body.
 type BodyRow = (&'static str, &'static [CellRow]);
 
-/// Bodies with files that are not valid or are marked, and with headers that were never finished.
-/// Erased bits are ones.
+/// Volumes with files that are not valid or that are marked for update, and with headers that were
+/// not completed. Erased bytes are ones.
 const BODIES_OF_ONES: &[BodyRow] = &[
-    // A deleted file, a marked one and two that are valid.
+    // A deleted file, a marked file and two other valid files.
     (
         "00*72 0c*16 1faa0100200000e8 00*8 0a*16 3faa0100200000f0 01*8 0b*16 37aa0100180000f8 0a*16 3faa0100200000f8 02*8 ff*64",
         &[
@@ -31,12 +31,12 @@ const BODIES_OF_ONES: &[BodyRow] = &[
             (Free, 192, 64),
         ],
     ),
-    // A file whose data were never finished.
+    // A file whose data are not complete.
     (
         "00*72 0a*16 47aa0100180000fc ff*32",
         &[(HeaderValid, 72, 24), (Free, 96, 32)],
     ),
-    // A deleted file that may not be moved, whose file sum is wrong, and filler.
+    // A deleted file with the fixed bit and a wrong file checksum, and filler.
     (
         "00*72 0a*16 42ab0104190000e8 ff*32",
         &[(Deleted, 72, 32), (Free, 104, 24)],
@@ -46,7 +46,7 @@ const BODIES_OF_ONES: &[BodyRow] = &[
         "00*72 ff*16 08aaf000180000e8 ff*32",
         &[(Deleted, 72, 24), (Free, 96, 32)],
     ),
-    // A file, and a header that was begun, of 32 bytes and of 24.
+    // A file, and then headers under construction, of 32 and of 24 bytes.
     (
         "00*72 0a*16 47aa0100180000f8 ff*16 fffffffffffffffe ff*8",
         &[(DataValid, 72, 24), (Construction, 96, 32)],
@@ -55,28 +55,29 @@ const BODIES_OF_ONES: &[BodyRow] = &[
         "00*72 0a*16 47aa0100180000f8 ff*16 fffffffefffffffe ff*8",
         &[(DataValid, 72, 24), (Construction, 96, 24), (Free, 120, 8)],
     ),
-    // A header that was given up, and a file.
+    // An abandoned header, and a file.
     (
         "00*72 0a*16 00000104000000de 0b*16 37aa0100180000f8",
         &[(Construction, 72, 24), (DataValid, 96, 24)],
     ),
 ];
 
-/// The same where erased bits are zeros.
+/// The same if erased bytes are zeros.
 const BODIES_OF_ZEROS: &[BodyRow] = &[
-    // A marked file and a deleted one.
+    // A marked file and a deleted file.
     (
         "00*72 0a*16 47aa01001800000f 0b*16 37aa010018000017 00*8",
         &[(Marked, 72, 24), (Deleted, 96, 24), (Free, 120, 8)],
     ),
-    // Headers of 24 and of 32 bytes that were begun.
+    // Headers under construction, of 24 and of 32 bytes.
     (
         "00*72 00*16 0000000000000001 00*16 0000000100000001 00*8",
         &[(Construction, 72, 24), (Construction, 96, 32)],
     ),
 ];
 
-// The rows. What names a large constant is proved with all of it, so only this function does.
+// Returns the rows. A function that names a large constant is proved with the whole constant, so no
+// other function names these.
 fn bodies(polarity: Polarity) -> &'static [BodyRow] {
     match polarity {
         Polarity::Ones => BODIES_OF_ONES,
@@ -84,7 +85,7 @@ fn bodies(polarity: Polarity) -> &'static [BodyRow] {
     }
 }
 
-// Whether a cell is not a pad, and has this state, offset and length.
+// Returns whether a cell is not a pad, and has this state, offset and length.
 fn is_cell(cell: &Cell, wanted: CellRow) -> bool {
     match *cell {
         Cell::Valid { offset, head, .. } => wanted == (head.state, offset, head.size),
@@ -95,7 +96,7 @@ fn is_cell(cell: &Cell, wanted: CellRow) -> bool {
     }
 }
 
-// Whether cells are these.
+// Returns whether the cells are the expected ones.
 fn are_cells(found: &[Cell], wanted: &[CellRow]) -> bool {
     let mut is_same = found.len() == wanted.len();
     for i in 0..found.len().min(wanted.len()) {
@@ -104,7 +105,7 @@ fn are_cells(found: &[Cell], wanted: &[CellRow]) -> bool {
     is_same
 }
 
-// Whether a volume has these cells, or memory ran out.
+// Returns whether a volume has these cells, or memory ran out.
 fn has_cells_or_out_of_memory(
     alloc: Global,
     bytes: &[u8],
@@ -121,7 +122,8 @@ fn has_cells_or_out_of_memory(
     }
 }
 
-// Whether the volume of a row is cut into its cells in both file systems, or memory ran out.
+// Returns whether the volume of a row is split into its cells in both file systems, or memory ran
+// out.
 fn is_row_cut(alloc: Global, polarity: Polarity, row: &BodyRow) -> bool {
     let (text, wanted) = *row;
     match spelled_in_two_tries(alloc, text) {
@@ -133,7 +135,7 @@ fn is_row_cut(alloc: Global, polarity: Polarity, row: &BodyRow) -> bool {
     }
 }
 
-// Whether the calls that take no memory return the right results.
+// Returns whether the calls that do not allocate return the right results.
 fn calls_without_memory_are_right() -> bool {
     let polarity = Polarity::Ones;
     let (Some(file), Some(pad)) = (

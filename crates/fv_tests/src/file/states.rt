@@ -4,8 +4,8 @@ use bitflags::Flags;
 use fv_base::Polarity;
 use fv_file::{FileAttributes, FileState, file_state};
 
-/// The states by the highest bit that was written: each with the least number of written bits that
-/// has it.
+/// The states by the highest bit that is written. Each row begins with the least value that has
+/// this bit.
 const STATES: [(u8, Option<FileState>); 8] = [
     (0x00, Some(FileState::Free)),
     (0x01, Some(FileState::Construction)),
@@ -17,7 +17,7 @@ const STATES: [(u8, Option<FileState>); 8] = [
     (0x40, None),
 ];
 
-// The state of the highest bit of a number of written bits.
+// Returns the state of the highest bit in the written bits.
 fn highest(written: u8) -> Option<FileState> {
     let mut state = None;
     for (from, some) in STATES {
@@ -28,7 +28,7 @@ fn highest(written: u8) -> Option<FileState> {
     state
 }
 
-// Where erased bytes are ones, the State byte is the inverse of the written bits: 0xf8 of 0x07.
+// If erased bytes are ones, the State byte is the inverse of the written bits: 0xf8 for 0x07.
 #[test]
 fn the_highest_written_bit_is_the_state(rt: HostRuntime) {
     for written in 0..=255u8 {
@@ -56,7 +56,7 @@ fn files_are_alive_in_two_states(rt: HostRuntime) {
     }
 }
 
-// Whether the bits are read as this, with and without bit 0x01.
+// Returns whether the bits are read as these attributes, with and without bit 0x01.
 fn has_attributes(bits: u8, is_large: bool, is_fixed: bool, is_summed: bool, without: u8) -> bool {
     let attributes = FileAttributes::from_bits_retain(bits);
     attributes.bits() == bits

@@ -1,18 +1,20 @@
-//! Headers that are written.
+//! Written headers.
 
 use super::{A, P};
 use bitflags::Flags;
 use fv_base::{FileSystem, Guid, Polarity};
 use fv_file::{FileAttributes, HeadBytes, file_head_bytes, pad_head_bytes, verify_ffs_file};
 
-/// A file: the type, the attribute bits, the number of bytes of the data, the file sum, the
-/// polarity, and what follows the name: eight bytes, and eight more or 0.
+/// A file: the type, the attribute bits, the length of the data, the file checksum and the
+/// polarity; then the bytes after the name as two numbers of eight bytes, of which the second may
+/// be 0 for no bytes.
 type FileRow = (u8, u8, u64, u8, Polarity, u64, u64);
 
-/// A pad: the size, the polarity and the eight bytes that follow the name.
+/// A pad: its size, its polarity and the eight bytes after its name.
 type PadRow = (u64, Polarity, u64);
 
-// The header of a file with this type, these attribute bits, data and file sum, if there is one.
+// Returns the header of a file with this type, these attribute bits, this much data and this file
+// checksum, if there is such a header.
 pub(super) fn file_head(
     kind: u8,
     attributes: u8,
@@ -28,7 +30,7 @@ pub(super) fn file_head(
     Some(file_head_bytes(name, kind, attributes, data_len, file_sum, polarity))
 }
 
-// The header of a pad of this size, if there is one.
+// Returns the header of a pad of this size, if there is such a header.
 pub(super) fn pad_head(size: u64, polarity: Polarity) -> Option<HeadBytes> {
     if size < 24 || size > 0xff_ffff {
         return None;
@@ -36,12 +38,12 @@ pub(super) fn pad_head(size: u64, polarity: Polarity) -> Option<HeadBytes> {
     Some(pad_head_bytes(size, polarity))
 }
 
-// Whether the bytes are these parts, joined.
+// Returns whether the bytes are the name followed by the fields.
 pub(super) fn is_joined(bytes: &[u8], name: [u8; 16], fields: &[u8]) -> bool {
     bytes.len() >= 16 && &bytes[..16] == name.as_slice() && &bytes[16..] == fields
 }
 
-// Whether a file without data, or a pad, with these fields is read from its header.
+// Returns whether a header of 24 bytes is read as a file or a pad with these fields.
 fn is_read_back(
     bytes: &[u8],
     name: [u8; 16],
@@ -60,7 +62,8 @@ fn is_read_back(
         && found.file_sum == file_sum
 }
 
-// Whether the bytes are a name and these numbers, of which the second may be missing.
+// Returns whether the bytes are a name followed by these numbers. The second number is missing if
+// it is 0.
 fn is_joined_of(bytes: &[u8], name: [u8; 16], first: u64, second: u64) -> bool {
     let mut fields = [0; 16];
     fields[..8].copy_from_slice(&first.to_be_bytes());
@@ -69,8 +72,8 @@ fn is_joined_of(bytes: &[u8], name: [u8; 16], first: u64, second: u64) -> bool {
     is_joined(bytes, name, &fields[..len])
 }
 
-// Whether the header of the file of a row is written as expected and, if there are no data, read
-// back.
+// Returns whether the header of a row's file is written as expected and, if the file has no data,
+// is read back.
 fn file_head_is_written(row: FileRow) -> bool {
     let (kind, attributes, data_len, file_sum, polarity, first, second) = row;
     let Some(head) = file_head(kind, attributes, data_len, file_sum, polarity) else {
@@ -81,8 +84,8 @@ fn file_head_is_written(row: FileRow) -> bool {
         && (data_len != 0 || is_read_back(bytes, A, kind, attributes, file_sum, polarity))
 }
 
-// Whether the header of the pad of a row is written as expected and, if there are no data, read
-// back.
+// Returns whether the header of a row's pad is written as expected and, if the pad has no data, is
+// read back.
 fn pad_head_is_written(row: PadRow) -> bool {
     let (size, polarity, first) = row;
     let Some(head) = pad_head(size, polarity) else {
@@ -93,8 +96,9 @@ fn pad_head_is_written(row: PadRow) -> bool {
         && (size != 24 || is_read_back(bytes, P, 0xf0, 0, 0xaa, polarity))
 }
 
-// Two files have the most data with a short header, and one byte more. The last two have the most
-// data, which make a file of 256 MiB; the second has all other attribute bits.
+// The data of one file are the longest that fit a short header, and those of another are one byte
+// longer. The last two files have the most data, and are 256 MiB long; the second of them has all
+// other attribute bits.
 #[test]
 fn headers_are_written(rt: HostRuntime) {
     let (ones, zeros) = (Polarity::Ones, Polarity::Zeros);

@@ -1,4 +1,4 @@
-//! Volumes with an extended header: from outside, and changed.
+//! Volumes with an extended header: one from outside, and changed copies of it.
 
 use crate::checks::assert_rows;
 use crate::parts::overwrite;
@@ -8,10 +8,10 @@ use fv_head::{
 };
 use std::alloc::Global;
 
-/// The name in each of the volumes.
+/// The name in the extended header of each of the volumes.
 const NAME: [u8; 16] = [0x0e; 16];
 
-/// A volume whose extended header follows the header, and holds a used size of 0.
+/// A volume whose extended header follows the volume header, and contains a used size of 0.
 pub(super) const BARE: [u8; 192] = [
     0x00, 0x00, 0x00, 0x00, 0x00, 0x00, 0x00, 0x00, 0x00, 0x00, 0x00, 0x00, 0x00, 0x00, 0x00, 0x00,
     0x78, 0xe5, 0x8c, 0x8c, 0x3d, 0x8a, 0x1c, 0x4f, 0x99, 0x35, 0x89, 0x61, 0x85, 0xc3, 0x2d, 0xd3,
@@ -27,8 +27,8 @@ pub(super) const BARE: [u8; 192] = [
     0xff, 0xff, 0xff, 0xff, 0xff, 0xff, 0xff, 0xff, 0xff, 0xff, 0xff, 0xff, 0xff, 0xff, 0xff, 0xff,
 ];
 
-/// What follows the first 48 bytes in its canonical image: the extended header is in a pad file, and
-/// the used size is 152.
+/// The bytes after the first 48 in the canonical image of this volume. The extended header is in a
+/// pad file, and the used size is 152.
 const MOVED: [u8; 144] = [
     0x48, 0x00, 0xee, 0xf4, 0x60, 0x00, 0x00, 0x02, 0x01, 0x00, 0x00, 0x00, 0xc0, 0x00, 0x00, 0x00,
     0x00, 0x00, 0x00, 0x00, 0x00, 0x00, 0x00, 0x00, 0xff, 0xff, 0xff, 0xff, 0xff, 0xff, 0xff, 0xff,
@@ -41,22 +41,23 @@ const MOVED: [u8; 144] = [
     0xff, 0xff, 0xff, 0xff, 0xff, 0xff, 0xff, 0xff, 0xff, 0xff, 0xff, 0xff, 0xff, 0xff, 0xff, 0xff,
 ];
 
-/// The bare volume becomes the canonical image.
+/// The changes that turn the bare volume into its canonical image.
 const AS_IMAGE: &[(usize, &[u8])] = &[(48, &MOVED)];
 
-/// The same with a used size of 0, and zeros up to the first file.
+/// The same changes with a used size of 0, and with zeros up to the first file.
 const IN_PAD: &[(usize, &[u8])] = &[(48, &MOVED), (120, &[0x00; 8])];
 
-/// The bare volume with no entry, but with a tail of 5 bytes.
+/// The changes that leave the bare volume without an entry, but with a tail of 5 bytes.
 const TAIL_ONLY: &[(usize, &[u8])] = &[
     (88, &[0x19, 0x00, 0x00, 0x00, 0x03, 0x00, 0x01, 0x00, 0xaa]),
     (97, &[0xff; 39]),
 ];
 
-/// Its tail.
+/// The tail of 5 bytes.
 const TAIL: [u8; 5] = [0x03, 0x00, 0x01, 0x00, 0xaa];
 
-/// A volume of 104 bytes, whose extended header has neither entries nor a tail.
+/// The changes that make a volume of 104 bytes, whose extended header has neither entries nor a
+/// tail.
 const WITHOUT_ROOM: &[(usize, &[u8])] = &[
     (32, &[0x68]),
     (50, &[0xb6, 0xf5]),
@@ -65,7 +66,7 @@ const WITHOUT_ROOM: &[(usize, &[u8])] = &[
     (92, &[0xff; 12]),
 ];
 
-/// An extended header without entries at 77, after other bytes.
+/// The changes that move an extended header without entries to offset 77, after other bytes.
 const AT_77: &[(usize, &[u8])] = &[
     (50, &[0x01, 0xf5, 0x4d]),
     (72, &[0x01, 0x02, 0x03, 0x04, 0x05]),
@@ -79,29 +80,30 @@ type Changes = &'static [(usize, &'static [u8])];
 /// The type and the payload of each entry.
 type Entries = &'static [(u16, &'static [u8])];
 
-/// The bytes that are changed in the bare volume; then where its first file may begin, and the
-/// entries and the tail of its extended header; and then how long that is.
+/// The changes to the bare volume; then the offset at which its first file may begin, and the
+/// entries and the tail of its extended header; and then the length of the extended header.
 type ReadRow = (Changes, u64, Entries, &'static [u8], u32);
 
-/// Extended headers that are read.
+/// The rows of extended headers that are read.
 const READ: &[ReadRow] = &[
     (&[], 104, &[(3, &[0; 4])], &[], 28),
     (IN_PAD, 128, &[(3, &[0; 4])], &[], 28),
     (AS_IMAGE, 128, &[(3, &[0; 4])], &[], 28),
     (TAIL_ONLY, 104, &[], &TAIL, 25),
-    // No room is left for the pad file of a canonical image, but the head is accepted.
+    // There is no room for the pad file of a canonical image, but the header is accepted.
     (WITHOUT_ROOM, 96, &[], &[], 20),
-    // The bytes between the header and an extended header that is not aligned are not read.
+    // The bytes between the volume header and a misaligned extended header are not read.
     (AT_77, 104, &[], &[], 20),
-    // No room for an entry, and just enough for the header of one whose size is too large.
+    // There is no room for an entry, and then just enough for the header of an entry whose size is
+    // too large.
     (&[(88, &[0x14])], 96, &[], &[], 20),
     (&[(88, &[0x18])], 96, &[], &[8, 0, 3, 0], 24),
-    // A size of 3, and one that goes one byte past the header.
+    // An entry size of 3, and one that ends one byte after the extended header.
     (&[(92, &[0x03])], 104, &[], &[3, 0, 3, 0, 0, 0, 0, 0], 28),
     (&[(92, &[0x09])], 104, &[], &[9, 0, 3, 0, 0, 0, 0, 0], 28),
     // An entry without a payload, and then a tail of 4 bytes.
     (&[(92, &[0x04])], 104, &[(3, &[])], &[0, 0, 0, 0], 28),
-    // A type 3 entry with 5 bytes, and with 4, and a type 2 entry with 4.
+    // A type 3 entry with 5 bytes, one with 4, and a type 2 entry with 4.
     (
         &[(88, &[0x1d]), (92, &[0x09]), (96, &[1, 2, 3, 4, 5])],
         104,
@@ -119,7 +121,7 @@ const READ: &[ReadRow] = &[
     ),
 ];
 
-// The header of the canonical image.
+// Returns the volume header of the canonical image.
 pub(super) fn image_head() -> [u8; 72] {
     let mut bytes = [0; 72];
     bytes[..48].copy_from_slice(&BARE[..48]);
@@ -127,19 +129,19 @@ pub(super) fn image_head() -> [u8; 72] {
     bytes
 }
 
-// The extended header of the canonical image, at 96.
+// Returns the extended header of the canonical image, which is at 96.
 pub(super) fn image_ext() -> &'static [u8] {
     &MOVED[48..76]
 }
 
-// Writes parts over the bytes at their offsets.
+// Writes each part over the bytes at its offset.
 fn overwrite_each(bytes: &mut [u8], changes: &[(usize, &[u8])]) {
     for (at, part) in changes {
         overwrite(bytes, *at, part);
     }
 }
 
-// Whether a head has an extended header with these entries and this tail.
+// Returns whether a header has an extended header with these entries and this tail.
 pub(super) fn has_ext(head: &VolumeHead, entries: &[(u16, &[u8])], tail: &[u8]) -> bool {
     let Some(ext) = head.ext() else {
         return false;
@@ -153,8 +155,8 @@ pub(super) fn has_ext(head: &VolumeHead, entries: &[(u16, &[u8])], tail: &[u8]) 
     ext.tail() == tail && is_same && ext.name().to_bytes() == NAME
 }
 
-// Whether a head has an extended header of this length, after which the first file of its canonical
-// image may begin: at a multiple of 8, after 72 + 24 bytes and the extended header.
+// Returns whether a header has an extended header of this length. The first file of its canonical
+// image may then begin at the next multiple of 8 after 72 + 24 bytes and the extended header.
 fn has_length(head: &VolumeHead, length: u32) -> bool {
     let edge = (72 + 24 + u64::from(length) + 7) / 8 * 8;
     match head.ext() {
@@ -163,7 +165,7 @@ fn has_length(head: &VolumeHead, length: u32) -> bool {
     }
 }
 
-// Whether a head and its extent are those of a row, in a volume of this length.
+// Returns whether a header and its extent are those of a row, in a volume of this length.
 fn is_head_of(head: &VolumeHead, found: Extent, volume_len: u64, row: &ReadRow) -> bool {
     let (_, first, entries, tail, length) = *row;
     let extent = Extent {
@@ -176,7 +178,7 @@ fn is_head_of(head: &VolumeHead, found: Extent, volume_len: u64, row: &ReadRow) 
     found == extent && has_ext(head, entries, tail) && has_length(head, length)
 }
 
-// Whether the bytes are read as a row says.
+// Returns whether the bytes are read as a row states.
 fn is_read_as(alloc: Global, bytes: &[u8], row: &ReadRow) -> bool {
     match read_head(alloc, bytes) {
         Ok((head, found)) => {
@@ -186,8 +188,8 @@ fn is_read_as(alloc: Global, bytes: &[u8], row: &ReadRow) -> bool {
     }
 }
 
-// Whether the bare volume, changed as a row says, is read as the row says. The byte at 32 is the
-// length of each.
+// Returns whether the bare volume, changed as a row states, is read as the row states. The byte at
+// 32 is the length of each changed volume.
 fn is_row_read(alloc: Global, row: &ReadRow) -> bool {
     let mut bytes = BARE;
     overwrite_each(&mut bytes, row.0);
@@ -195,7 +197,8 @@ fn is_row_read(alloc: Global, row: &ReadRow) -> bool {
     is_read_as(alloc, &bytes[..end], row)
 }
 
-// The rows. What names a large constant is proved with all of it, so only this function does.
+// Returns the rows. A function that names a large constant is proved with the whole constant, so no
+// other function names this one.
 fn read_rows() -> &'static [ReadRow] {
     READ
 }
@@ -205,7 +208,7 @@ fn extended_headers_are_read(rt: HostRuntime) {
     assert_rows!(rt; read_rows(), |row| is_row_read(rt.alloc(), row));
 }
 
-// Writes the head, or the extended header with a used size of 152, until `full` has no more room.
+// Writes the volume header, or the extended header with a used size of 152, until `full` is full.
 pub(super) fn write_to(head: &VolumeHead, is_ext: bool, full: &mut [u8]) -> Result<(), Fault> {
     let mut port = Port::new(full);
     match head.ext() {
@@ -214,7 +217,7 @@ pub(super) fn write_to(head: &VolumeHead, is_ext: bool, full: &mut [u8]) -> Resu
     }
 }
 
-// Whether as many bytes of these are written as there is room for.
+// Returns whether as many of these bytes are written as there is room for.
 fn is_written_until(head: &VolumeHead, is_ext: bool, whole: &[u8], room: usize) -> bool {
     let mut taken = [0u8; 72];
     let outcome = write_to(head, is_ext, &mut taken[..room.min(72)]);
@@ -226,7 +229,8 @@ fn is_written_until(head: &VolumeHead, is_ext: bool, whole: &[u8], room: usize) 
     outcome == expected && taken.get(..room) == whole.get(..room)
 }
 
-// Whether this is so of the bare volume for each room up to that of all of the bytes.
+// Returns whether the header of the bare volume is written like this for each room up to its
+// length.
 fn stops_where_room_ends(alloc: Global, is_ext: bool, whole: &[u8]) -> bool {
     match read_head(alloc, &BARE) {
         Ok((head, _)) => {

@@ -1,5 +1,5 @@
-//! The fields of a head, and failed allocations: `.ci/memory` makes each allocation of the test fail
-//! in turn, and no wrong result may be returned.
+//! The fields of a header, and failed allocations: `.ci/memory` makes each allocation of the test
+//! fail in turn, and no wrong result may be returned.
 
 use super::extended::{BARE, has_ext, image_ext, image_head, write_to};
 use crate::faults::OUT_OF_MEMORY;
@@ -19,7 +19,7 @@ const EXTENT: Extent = Extent {
     polarity: Polarity::Ones,
 };
 
-// Whether these bytes are made, or memory ran out.
+// Returns whether these bytes are made, or memory ran out.
 fn is_expected_or_out_of_memory(made: Result<ByteList, Fault>, wanted: &[u8]) -> bool {
     match made {
         Ok(bytes) => bytes.as_slice() == wanted,
@@ -27,7 +27,7 @@ fn is_expected_or_out_of_memory(made: Result<ByteList, Fault>, wanted: &[u8]) ->
     }
 }
 
-// Whether a head has the fields of the bare volume.
+// Returns whether a header has the fields of the bare volume.
 fn has_fields(head: &VolumeHead) -> bool {
     let is_named = *head.zero_vector() == [0u8; 16] && head.file_system() == FileSystem::Ffs2;
     let bits = head.attributes();
@@ -37,8 +37,8 @@ fn has_fields(head: &VolumeHead) -> bool {
     is_named && has_bits && is_long && has_blocks && head.reserved() == 0
 }
 
-// Whether the head of the image is made, and the extended header with its used size and with one
-// of 0, or memory ran out.
+// Returns whether the volume header of the canonical image is made, and the extended header with
+// its used size and with a used size of 0, or memory ran out.
 fn has_heads_or_out_of_memory(alloc: Global, head: &VolumeHead) -> bool {
     let Some(ext) = head.ext() else {
         return false;
@@ -48,14 +48,14 @@ fn has_heads_or_out_of_memory(alloc: Global, head: &VolumeHead) -> bool {
         && is_expected_or_out_of_memory(ext_bytes(alloc, ext, 0), &BARE[72..100])
 }
 
-// Whether these bytes are written if there is just enough room for them.
+// Returns whether these bytes are written if there is just enough room for them.
 fn is_written(head: &VolumeHead, is_ext: bool, wanted: &[u8]) -> bool {
     let mut taken = [0u8; 72];
     let room = wanted.len().min(72);
     write_to(head, is_ext, &mut taken[..room]) == Ok(()) && &taken[..room] == wanted
 }
 
-// Whether the calls that take no memory return the right results.
+// Returns whether the calls that do not allocate return the right results.
 fn calls_without_memory_are_right(head: &VolumeHead) -> bool {
     verify_fv(&BARE) == Ok(EXTENT)
         && is_one_volume(&BARE)
@@ -64,7 +64,7 @@ fn calls_without_memory_are_right(head: &VolumeHead) -> bool {
         && is_written(head, true, image_ext())
 }
 
-// Whether the bare volume is read and made again, or memory ran out.
+// Returns whether the bare volume is read, and its headers are made again, or memory ran out.
 fn is_read_or_out_of_memory(alloc: Global) -> bool {
     match read_head(alloc, &BARE) {
         Ok((head, extent)) => {

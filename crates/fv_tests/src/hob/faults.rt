@@ -1,9 +1,9 @@
-//! The texts and the numbers of faults.
+//! The texts and the numbers of the faults.
 
 use crate::checks::is_printed_as;
 use fv_hob::{HobFault, HobFaultKind};
 
-/// The kinds of faults, and the texts of these at 56.
+/// The kinds of faults, and the text of a fault of each kind at offset 56.
 const TEXTS: &[(HobFaultKind, &str)] = &[
     (
         HobFaultKind::Short,

@@ -1,10 +1,11 @@
-//! Lists, and what is found in them.
+//! Lists, and the blocks in them.
 
 use super::{A, B, DATA, END, HANDOFF, LIST, OTHER_BODY, Parts, REST, SHORTEST, TYPES};
 use fv_base::Guid;
 use fv_hob::{Handoff, Hob, HobKind, MemoryAllocation, Resource, Span};
 
-/// What a block says. There is one allocation and one resource, both in the list of all types.
+/// The content of a block. There is only one allocation and one resource, both in the list of all
+/// types.
 pub(super) enum Said {
     Handoff(Handoff),
     Allocation,
@@ -20,20 +21,20 @@ pub(super) enum Said {
     Other(u16, &'static [u8]),
 }
 
-/// The reserved field, the type and the length of a block, and what it says.
+/// The reserved field, the type, the length and the content of a block.
 pub(super) type Block = (u32, u16, u16, Said);
 
-/// A list, and what is found in it.
+/// A list, and the values that it is read as.
 pub(super) struct Known {
-    /// The list.
+    /// The bytes of the list, in parts.
     pub parts: Parts,
-    /// How many bytes it has.
+    /// The length of the list.
     pub length: u64,
-    /// Its blocks.
+    /// The blocks of the list.
     pub blocks: &'static [Block],
 }
 
-/// The table at the start of each list.
+/// The hand-off information table at the start of each list.
 const TABLE: Said = Said::Handoff(Handoff {
     version: 9,
     boot_mode: 0,
@@ -44,7 +45,7 @@ const TABLE: Said = Said::Handoff(Handoff {
     end_of_list: 0x0800_0098,
 });
 
-/// The second table in the list of all types.
+/// The second hand-off information table in the list of all types.
 const SECOND: Said = Said::Handoff(Handoff {
     version: 0xc3c2_c1c0,
     boot_mode: 0xc7c6_c5c4,
@@ -55,7 +56,7 @@ const SECOND: Said = Said::Handoff(Handoff {
     end_of_list: 0xefee_edec_ebea_e9e8,
 });
 
-/// The list.
+/// The list of 160 bytes.
 pub(super) const KNOWN_LIST: Known = Known {
     parts: LIST,
     length: 160,
@@ -126,7 +127,7 @@ const KNOWN_SHORTEST: Known = Known {
     blocks: &[(0, 0x0001, 56, TABLE), (0, 0xffff, 8, Said::End)],
 };
 
-/// A list with a volume of 16 bytes, whose address is 8 below 2 ^ 64.
+/// A list with a volume of 16 bytes, whose address is 8 less than 2 ^ 64.
 const KNOWN_WRAPS: Known = Known {
     parts: &[
         &HANDOFF,
@@ -143,15 +144,16 @@ const KNOWN_WRAPS: Known = Known {
     ],
 };
 
-/// All of them.
+/// All known lists.
 const LISTS: &[Known] = &[KNOWN_LIST, KNOWN_TYPES, KNOWN_SHORTEST, KNOWN_WRAPS];
 
-// The lists. What names a large constant is proved with all of it, so only this function does.
+// Returns the lists. A function that names a large constant is proved with the whole constant, so
+// no other function names this one.
 pub(super) fn lists() -> &'static [Known] {
     LISTS
 }
 
-// Whether it is the allocation.
+// Returns whether this is the allocation of the list of all types.
 fn is_allocation(said: &MemoryAllocation) -> bool {
     said.name == Guid::from_bytes(A)
         && said.base == 0x2726_2524_2322_2120
@@ -161,7 +163,7 @@ fn is_allocation(said: &MemoryAllocation) -> bool {
         && said.rest.as_slice() == REST
 }
 
-// Whether it is the resource.
+// Returns whether this is the resource of the list of all types.
 fn is_resource(said: &Resource) -> bool {
     *said
         == Resource {
@@ -173,7 +175,7 @@ fn is_resource(said: &Resource) -> bool {
         }
 }
 
-// Whether a block with this content says this.
+// Returns whether a block of this kind has this content.
 fn has_content(kind: &HobKind, said: &Said) -> bool {
     match (kind, said) {
         (HobKind::Handoff(count_found), Said::Handoff(fields)) => *count_found == *fields,
@@ -217,7 +219,7 @@ fn has_content(kind: &HobKind, said: &Said) -> bool {
     }
 }
 
-// Where the volume that a block describes is, if it describes one.
+// Returns the place of the volume that a block describes, if it describes one.
 fn span_of(said: &Said) -> Option<Span> {
     match said {
         Said::Volume(base, length) | Said::Volume2(base, length, _, _) => Some(Span {
@@ -228,7 +230,7 @@ fn span_of(said: &Said) -> Option<Span> {
     }
 }
 
-// Whether a block is this one.
+// Returns whether a block is the expected one.
 fn is_block(hob: &Hob, block: &Block) -> bool {
     let (reserved, code, length, said) = block;
     hob.reserved() == *reserved
@@ -238,7 +240,7 @@ fn is_block(hob: &Hob, block: &Block) -> bool {
         && has_content(hob.kind(), said)
 }
 
-// How many of these blocks are found, in this order.
+// Returns how many of these blocks are found, in this order.
 fn count_found(hobs: &[Hob], blocks: &[Block]) -> usize {
     let mut at = 0;
     for hob in hobs {
@@ -249,14 +251,14 @@ fn count_found(hobs: &[Hob], blocks: &[Block]) -> usize {
     at
 }
 
-// Whether the blocks and the length that are found are those of a list.
+// Returns whether the blocks and the length that were read are those of a known list.
 pub(super) fn is_found(hobs: &[Hob], length: u64, known: &Known) -> bool {
     length == known.length
         && hobs.len() == known.blocks.len()
         && count_found(hobs, known.blocks) == hobs.len()
 }
 
-// Whether the volumes are those that the blocks describe, in their order.
+// Returns whether the volumes are those that the blocks describe, in the same order.
 pub(super) fn are_described(volumes: &[Span], blocks: &[Block]) -> bool {
     let mut at = 0;
     for (_, _, _, said) in blocks {

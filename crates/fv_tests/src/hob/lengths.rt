@@ -1,12 +1,12 @@
-//! Blocks of each length that their type may have are written back. That they are read with that
-//! length, and no others, is in `lengths.rows` of fv_run_tests.
+//! Blocks of each length that their type allows are written back. The rows in `lengths.rows` of
+//! fv_run_tests check that they are read with this length, and that other lengths are rejected.
 
 use super::{END, HANDOFF, header_of, is_list_written_as};
 use crate::parts::overwrite;
 use fv_hob::read_hobs;
 use std::alloc::{AllocError, Global};
 
-/// A type, and lengths that its blocks may have.
+/// The types, and for each type some lengths that its blocks may have.
 const LENGTHS: &[(u16, &[u16])] = &[
     (0x0001, &[56]),
     (0x0002, &[48, 56, 0xfff8]),
@@ -18,7 +18,7 @@ const LENGTHS: &[(u16, &[u16])] = &[
     (0x0009, &[56]),
     (0x000b, &[24]),
     (0xfffe, &[8, 16, 0xfff8]),
-    // Types that have no kind of their own.
+    // Types without a kind of their own.
     (0x0000, &[8, 16]),
     (0x0008, &[8, 24]),
     (0x000a, &[8, 56]),
@@ -26,7 +26,7 @@ const LENGTHS: &[(u16, &[u16])] = &[
     (0xfffd, &[8, 48]),
 ];
 
-// A list whose second block has this type, this length field, and zeros after its header.
+// Returns a list whose second block has this type, this length field, and zeros after its header.
 fn list_with(alloc: Global, code: u16, length: u16) -> Result<Vec<u8>, AllocError> {
     let end = 56 + usize::from(length.max(8));
     let mut bytes = vec![in alloc; 0; end + 8]?;
@@ -36,7 +36,7 @@ fn list_with(alloc: Global, code: u16, length: u16) -> Result<Vec<u8>, AllocErro
     Ok(bytes)
 }
 
-// Whether the bytes are read as a list, and written as they were.
+// Returns whether the bytes are read as a list, and written as they were.
 fn is_written_back(alloc: Global, bytes: &[u8]) -> bool {
     match read_hobs(alloc, bytes) {
         Ok((list, _)) => is_list_written_as(alloc, &list, bytes),
@@ -44,7 +44,7 @@ fn is_written_back(alloc: Global, bytes: &[u8]) -> bool {
     }
 }
 
-// Whether a list with such a block is read, and written as it was.
+// Returns whether a list with such a block is read, and written as it was.
 fn is_block_written_back(alloc: Global, code: u16, length: u16) -> bool {
     match list_with(alloc, code, length) {
         Ok(bytes) => is_written_back(alloc, bytes.as_slice()),

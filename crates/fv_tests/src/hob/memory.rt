@@ -7,13 +7,13 @@ use crate::parts::overwrite;
 use fv_hob::{HobFault, HobFaultKind, HobList, hob_bytes, read_hobs, volume_hobs};
 use std::alloc::Global;
 
-/// What a call returns if memory ran out.
+/// The fault that a call returns if memory ran out.
 const OUT_OF_MEMORY: HobFault = HobFault {
     kind: HobFaultKind::OutOfMemory,
     offset: 0,
 };
 
-// Writes the parts, joined, over the bytes.
+// Writes the joined parts over the bytes.
 fn overwrite_joined(bytes: &mut [u8], parts: Parts) {
     let mut at = 0usize;
     for part in parts {
@@ -22,7 +22,7 @@ fn overwrite_joined(bytes: &mut [u8], parts: Parts) {
     }
 }
 
-// Whether a list is written as these bytes, or memory ran out.
+// Returns whether a list is written as these bytes, or memory ran out.
 fn is_written_or_out_of_memory(alloc: Global, list: &HobList, wanted: &[u8]) -> bool {
     match hob_bytes(alloc, list) {
         Ok(bytes) => bytes.as_slice() == wanted,
@@ -30,7 +30,7 @@ fn is_written_or_out_of_memory(alloc: Global, list: &HobList, wanted: &[u8]) -> 
     }
 }
 
-// Whether a list describes the volumes of these blocks, or memory ran out.
+// Returns whether a list describes the volumes of these blocks, or memory ran out.
 fn has_volumes_or_out_of_memory(alloc: Global, list: &HobList, blocks: &[Block]) -> bool {
     match volume_hobs(alloc, list) {
         Ok(spans) => are_described(spans.as_slice(), blocks),
@@ -38,13 +38,14 @@ fn has_volumes_or_out_of_memory(alloc: Global, list: &HobList, blocks: &[Block])
     }
 }
 
-// Whether a list is this one and is written as it was, or memory ran out.
+// Returns whether a list describes the volumes of a known list and is written as these bytes, or
+// memory ran out.
 fn is_known_or_out_of_memory(alloc: Global, list: &HobList, bytes: &[u8], known: &Known) -> bool {
     has_volumes_or_out_of_memory(alloc, list, known.blocks)
         && is_written_or_out_of_memory(alloc, list, bytes)
 }
 
-// Whether the bytes are read as this list and written as it was, or memory ran out.
+// Returns whether the bytes are read as the known list and written as they were, or memory ran out.
 fn is_read_or_out_of_memory(alloc: Global, bytes: &[u8], known: &Known) -> bool {
     match read_hobs(alloc, bytes) {
         Ok((list, length)) => {
@@ -55,14 +56,15 @@ fn is_read_or_out_of_memory(alloc: Global, bytes: &[u8], known: &Known) -> bool 
     }
 }
 
-// Whether this is so of the list.
+// Returns whether the list of 160 bytes is read and written as it was, or memory ran out.
 fn is_list_read_or_out_of_memory(alloc: Global) -> bool {
     let mut bytes = [0u8; 160];
     overwrite_joined(&mut bytes, LIST);
     is_read_or_out_of_memory(alloc, &bytes, &KNOWN_LIST)
 }
 
-// Whether this is so of the list of all types. Only the body of the unused block is not kept.
+// Returns whether the list of all types is read and written as it was, or memory ran out. Only the
+// body of the unused block is not kept.
 fn are_types_read_or_out_of_memory(alloc: Global) -> bool {
     let mut bytes = [0u8; 448];
     overwrite_joined(&mut bytes, TYPES);

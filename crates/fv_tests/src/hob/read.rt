@@ -6,7 +6,7 @@ use crate::parts::{joined, overwrite};
 use fv_hob::{HobList, read_hobs, volume_hobs};
 use std::alloc::Global;
 
-// Whether a list describes the volumes of these blocks.
+// Returns whether a list describes the volumes of these blocks.
 fn has_volumes(alloc: Global, list: &HobList, blocks: &[Block]) -> bool {
     match volume_hobs(alloc, list) {
         Ok(spans) => are_described(spans.as_slice(), blocks),
@@ -14,7 +14,8 @@ fn has_volumes(alloc: Global, list: &HobList, blocks: &[Block]) -> bool {
     }
 }
 
-// Whether the bytes are read as a list that describes its volumes and is written as these bytes.
+// Returns whether the bytes are read as a known list, which describes its volumes and is written as
+// the bytes `written`.
 fn is_read_as(alloc: Global, bytes: &[u8], known: &Known, written: &[u8]) -> bool {
     match read_hobs(alloc, bytes) {
         Ok((list, length)) => {
@@ -26,8 +27,8 @@ fn is_read_as(alloc: Global, bytes: &[u8], known: &Known, written: &[u8]) -> boo
     }
 }
 
-// Whether the bytes are read as a list, and written as it was. Only the body of the unused block,
-// which is at 312, is not kept.
+// Returns whether the bytes are read as a known list, and the list is written as it was. Only the
+// body of the unused block, which is at 312, is not kept.
 fn is_written_back(alloc: Global, bytes: &[u8], known: &Known) -> bool {
     match joined(alloc, known.parts, &[]) {
         Ok(mut written) => {
@@ -38,7 +39,7 @@ fn is_written_back(alloc: Global, bytes: &[u8], known: &Known) -> bool {
     }
 }
 
-// Whether a list is read and written if the first parts of FURTHER follow, this many.
+// Returns whether a list is read and written if the first `more` parts of FURTHER follow it.
 fn is_read_before(alloc: Global, known: &Known, more: usize) -> bool {
     match joined(alloc, known.parts, &FURTHER[..more.min(FURTHER.len())]) {
         Ok(bytes) => is_written_back(alloc, bytes.as_slice(), known),

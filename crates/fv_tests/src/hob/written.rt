@@ -11,7 +11,7 @@ const VOLUME: [u8; 24] = [
     0x10, 0x00, 0x00, 0x00, 0x00, 0x00, 0x00, 0x00,
 ];
 
-// A list of 1000 volumes of 16 bytes, at the addresses 0 to 999.
+// Returns a list of 1000 volumes of 16 bytes, at the addresses 0 to 999.
 fn long_list() -> [u8; 24064] {
     let mut bytes = [0; 24064];
     overwrite(&mut bytes, 0, &HANDOFF);
@@ -25,7 +25,7 @@ fn long_list() -> [u8; 24064] {
     bytes
 }
 
-// How many spans from the first on are at 0, at 1 and so on, and have 16 bytes.
+// Returns how many of the first spans have 16 bytes and are at 0, at 1 and so on.
 fn count_in_order(spans: &[Span]) -> u64 {
     let mut at = 0u64;
     for span in spans {
@@ -36,7 +36,7 @@ fn count_in_order(spans: &[Span]) -> u64 {
     at
 }
 
-// Whether a list describes the volumes of the long list.
+// Returns whether a list describes the volumes of the long list.
 fn has_thousand_volumes(alloc: Global, list: &HobList) -> bool {
     match volume_hobs(alloc, list) {
         Ok(spans) => { spans.as_slice().len() == 1000 && count_in_order(spans.as_slice()) == 1000 }
@@ -44,7 +44,7 @@ fn has_thousand_volumes(alloc: Global, list: &HobList) -> bool {
     }
 }
 
-// Whether the bytes are read as the long list, which is written as it was.
+// Returns whether the bytes are read as the long list, which is written as it was.
 fn is_long_list(alloc: Global, bytes: &[u8]) -> bool {
     match read_hobs(alloc, bytes) {
         Ok((list, length)) => {

@@ -14,7 +14,7 @@ const NINE: [u8; 36] = [
     0x04, 0x00, 0x00, 0x19,
 ];
 
-/// Their frames.
+/// The frames of the nine sections.
 const NINE_FRAMES: [ExpectedFrame<'static>; 9] = [
     (0, 0x19, false, &[]),
     (4, 0x19, false, &[]),
@@ -27,7 +27,7 @@ const NINE_FRAMES: [ExpectedFrame<'static>; 9] = [
     (32, 0x19, false, &[]),
 ];
 
-// Whether a stream is split into these frames and this tail, or memory ran out.
+// Returns whether a stream is split into these frames and this tail, or memory ran out.
 fn is_split_or_out_of_memory(
     alloc: Global,
     stream: &[u8],
@@ -38,7 +38,7 @@ fn is_split_or_out_of_memory(
     found == Ok(true) || found == Err(OUT_OF_MEMORY)
 }
 
-// Whether a walk over the two sections counts the frames that are left.
+// Returns whether a walk over the two sections counts the frames that are left.
 fn walk_counts_frames() -> bool {
     let Ok(mut walk) = FrameWalk::of(&PAIR[..15]) else {
         return false;
@@ -54,22 +54,22 @@ const FREEFORM: [u8; 17] = [
     0x01,
 ];
 
-/// The body of another, which is its GUID.
+/// The body of a freeform section that contains only its GUID.
 const GUID: [u8; 16] = [
     0x10, 0x11, 0x12, 0x13, 0x14, 0x15, 0x16, 0x17, 0x18, 0x19, 0x1a, 0x1b, 0x1c, 0x1d, 0x1e, 0x1f,
 ];
 
-// Whether the body has this text.
+// Returns whether the body has this text.
 fn has_text(body: &[u8], text: &[u8]) -> bool {
     ui_text(body) == Some(text)
 }
 
-// Whether the body has this build number and text.
+// Returns whether the body has this build number and text.
 fn has_version(body: &[u8], number: u16, text: &[u8]) -> bool {
     version(body) == Some((number, text))
 }
 
-// Whether the body has the bytes of this GUID, and these after them.
+// Returns whether the body has this GUID, and these bytes after it.
 fn has_freeform_parts(body: &[u8], name: &[u8], bytes: &[u8]) -> bool {
     match freeform(body) {
         Some((guid, rest)) => {
@@ -80,7 +80,7 @@ fn has_freeform_parts(body: &[u8], name: &[u8], bytes: &[u8]) -> bool {
     }
 }
 
-// Whether the calls that take no memory return the right results for texts.
+// Returns whether the calls that do not allocate return the right results for texts.
 fn texts_are_right() -> bool {
     has_text(
         &[0x41, 0x00, 0x42, 0x00, 0x00, 0x00],
@@ -89,14 +89,14 @@ fn texts_are_right() -> bool {
         && has_version(&[0x34, 0x12, 0x00, 0x00], 0x1234, &[])
 }
 
-// Whether the calls that take no memory return the right results for freeform bodies.
+// Returns whether the calls that do not allocate return the right results for freeform bodies.
 fn freeforms_are_right() -> bool {
     has_freeform_parts(&FREEFORM, &[0x0a; 16], &[0x01])
         && has_freeform_parts(&FREEFORM[..16], &[0x0a; 16], &[])
         && has_freeform_parts(&GUID, &GUID, &[])
 }
 
-// Whether the calls that take no memory return the right results for sections.
+// Returns whether the calls that do not allocate return the right results for sections.
 fn sections_are_right() -> bool {
     has_frame_at(&PAIR, 8, &Some((8, 0x19, false, &[0x01, 0x02])))
         && walk_counts_frames()

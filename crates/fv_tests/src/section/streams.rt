@@ -1,4 +1,4 @@
-//! Frames of a stream, and those at its offsets.
+//! The frames of a stream, and the frame at each offset.
 
 use fv_base::Fault;
 use fv_section::{Frame, frames, next_frame};
@@ -13,7 +13,7 @@ pub(super) const PAIR: [u8; 17] = [
     0xee,
 ];
 
-/// Their frames.
+/// The frames of the two sections.
 pub(super) const PAIR_FRAMES: [ExpectedFrame<'static>; 2] = [
     (0, 0x19, false, &[0x5a]),
     (8, 0x19, false, &[0x01, 0x02]),
@@ -28,20 +28,20 @@ const PLACES: [(&[u8], u64, Option<ExpectedFrame<'static>>); 7] = [
         0,
         Some((0, 0x19, false, &[])),
     ),
-    // The end, and offsets past it.
+    // The end of the stream, and offsets past the end.
     (&[0x04, 0x00, 0x00, 0x19, 0x00, 0x00], 6, None),
     (&[0x04, 0x00, 0x00, 0x19, 0x00, 0x00], 8, None),
     (&[0x04, 0x00, 0x00, 0x19, 0x00, 0x00], u64::MAX, None),
     (&[], 0, None),
 ];
 
-// Whether a frame is the expected one.
+// Returns whether a frame is the expected one.
 fn is_frame(frame: &Frame, expected: &ExpectedFrame) -> bool {
     let (offset, kind, extended, body) = *expected;
     frame.offset == offset && frame.kind == kind && frame.extended == extended && frame.body == body
 }
 
-// Whether a stream is split into the expected frames and this tail.
+// Returns whether a stream is split into the expected frames and this tail.
 pub(super) fn is_split(
     alloc: Global,
     stream: &[u8],
@@ -61,7 +61,7 @@ pub(super) fn is_split(
     Ok(true)
 }
 
-// Whether this frame, or none, is at an offset of the stream.
+// Returns whether the expected frame, or none, is at an offset of the stream.
 pub(super) fn has_frame_at(stream: &[u8], at: u64, expected: &Option<ExpectedFrame>) -> bool {
     match (next_frame(stream, at), expected) {
         (Ok(Some(frame)), Some(one)) => is_frame(&frame, one),

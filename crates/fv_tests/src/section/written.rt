@@ -1,13 +1,13 @@
-//! Headers as they are written.
+//! Written headers.
 
 use fv_section::{SectionHead, section_head_bytes};
 
-/// The type, whether the header is extended, how long the body is, and the header's bytes.
+/// The type, whether the header is extended, the length of the body, and the header's bytes.
 const HEADS: [(u8, bool, u64, &[u8]); 8] = [
     (0x19, false, 1, &[0x05, 0x00, 0x00, 0x19]),
     (0x17, false, 0, &[0x04, 0x00, 0x00, 0x17]),
     (0x15, false, 0x1234, &[0x38, 0x12, 0x00, 0x15]),
-    // The greatest size of a short header.
+    // The largest size of a short header.
     (0x19, false, 0xff_fffa, &[0xfe, 0xff, 0xff, 0x19]),
     // An extended header may have any size.
     (
@@ -28,7 +28,7 @@ const HEADS: [(u8, bool, u64, &[u8]); 8] = [
         0x1234_5678,
         &[0xff, 0xff, 0xff, 0x15, 0x80, 0x56, 0x34, 0x12],
     ),
-    // The greatest size of all.
+    // The largest size of all.
     (
         0x17,
         true,
@@ -37,7 +37,7 @@ const HEADS: [(u8, bool, u64, &[u8]); 8] = [
     ),
 ];
 
-// The header of a section whose size fits in the form; None if it does not fit.
+// Returns the header of a section if its size fits the form of the header.
 fn head_of(kind: u8, extended: bool, body_len: u64) -> Option<SectionHead> {
     if extended && body_len <= 0xffff_fff7 {
         Some(section_head_bytes(kind, true, body_len))
@@ -48,7 +48,7 @@ fn head_of(kind: u8, extended: bool, body_len: u64) -> Option<SectionHead> {
     }
 }
 
-// Whether these bytes are the header that is written.
+// Returns whether the header is written as these bytes.
 pub(super) fn is_written(kind: u8, extended: bool, body_len: u64, bytes: &[u8]) -> bool {
     let Some(head) = head_of(kind, extended, body_len) else {
         return false;

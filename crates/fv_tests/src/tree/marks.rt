@@ -1,11 +1,11 @@
-//! Volumes without the marks of their fixed files.
+//! Volumes whose fixed files lose their marks: `unfix` clears the fixed bit.
 
 use crate::checks::assert_rows;
 use crate::spelling::spelled_bytes;
 use fv_tree::unfix;
 use std::alloc::Global;
 
-/// A volume, the bytes that `unfix` leaves, and the number of the fault and its offset, if there is
+/// A volume, the bytes that `unfix` leaves, and the number and the offset of the fault, if there is
 /// one.
 type UnfixRow = (&'static str, &'static str, Option<(u8, u64)>);
 
@@ -28,13 +28,13 @@ const ROWS: &[UnfixRow] = &[
         "00*16 78e58c8c3d8a1c4f9935896185c32dd380 00*7 5f465648fffe04004800cef5000000020100000080 00*11 0a*15 4e03aa0100180000f8 ff*32",
         None,
     ),
-    // A pad with the bit.
+    // A pad with the fixed bit.
     (
         "00*16 78e58c8c3d8a1c4f9935896185c32dd380 00*7 5f465648fffe04004800cef5000000020100000080 00*11 ff*16 04aaf004180000f8 ff*32",
         "00*16 78e58c8c3d8a1c4f9935896185c32dd380 00*7 5f465648fffe04004800cef5000000020100000080 00*11 ff*16 04aaf004180000f8 ff*32",
         None,
     ),
-    // A deleted file with the bit, and a file.
+    // A deleted file with the fixed bit, and a file.
     (
         "00*16 78e58c8c3d8a1c4f9935896185c32dd380 00*7 5f465648fffe04004800cef5000000020100000080 00*11 0a*16 43aa0104180000e8 0b*16 37aa0100180000f8 ff*8",
         "00*16 78e58c8c3d8a1c4f9935896185c32dd380 00*7 5f465648fffe04004800cef5000000020100000080 00*11 0a*16 43aa0104180000e8 0b*16 37aa0100180000f8 ff*8",
@@ -58,7 +58,7 @@ const ROWS: &[UnfixRow] = &[
         "00*16 78e58c8c3d8a1c4f9935896185c32dd30001 00*6 5f465648fffe04004800cef400000002010000000001 00*10 0a*16 79ea0b409c0000f884000017 00*16 78e58c8c3d8a1c4f9935896185c32dd380 00*7 5f465648fffe04004800cef5000000020100000080 00*11 0b*16 33aa0104180000f8 ff*60",
         None,
     ),
-    // A file checksum that is wrong: the mark stays.
+    // A wrong file checksum: the mark stays.
     (
         "00*16 78e58c8c3d8a1c4f9935896185c32dd380 00*7 5f465648fffe04004800cef5000000020100000080 00*11 0a*16 43ab0104180000f8 ff*32",
         "00*16 78e58c8c3d8a1c4f9935896185c32dd380 00*7 5f465648fffe04004800cef5000000020100000080 00*11 0a*16 43ab0104180000f8 ff*32",
@@ -94,7 +94,7 @@ const ROWS: &[UnfixRow] = &[
         "00*16 78e58c8c3d8a1c4f9935896185c32dd3c0 00*7 5f465648fffe040048004ef50000000201000000c0 00*11 0a*16 47aa0100180000f8 ff*16 f8aaf000280000f8 ff*16 0b*16 2faa0108180000f8 0c*16 1faa0100200000f8 00*8",
         None,
     ),
-    // A marked file whose data are not aligned, which is not checked.
+    // A marked file whose data are not aligned. The alignment is not checked.
     (
         "00*16 78e58c8c3d8a1c4f9935896185c32dd3a0 00*7 5f465648fffe040048008ef50000000201000000a0 00*11 0a*16 47aa0100180000f8 0b*16 2baa010c180000f8 ff*40",
         "00*16 78e58c8c3d8a1c4f9935896185c32dd3a0 00*7 5f465648fffe040048008ef50000000201000000a0 00*11 0a*16 47aa0100180000f8 0b*16 2faa0108180000f8 ff*40",

@@ -1,4 +1,4 @@
-//! Views: the slices that they lend.
+//! The slices that a view lends.
 
 use super::view_of;
 use crate::spelling::spelled_bytes;
@@ -15,7 +15,7 @@ const SECTION: &str =
     "00*16 78e58c8c3d8a1c4f9935896185c32dd3 6800 00*6 5f465648 fffe0400 4800fef5 00000002 01000000 68000000 00*8 \
      0a*16 41aa02001d0000f8 050000195affffff";
 
-// The data of the first file of a volume, or the body of the file's first section.
+// Returns the data of the first file of a volume, or the body of the first section in it.
 fn part_of<'a>(view: &VolumeView<'a>) -> Option<&'a [u8]> {
     let file = view.file(0)?;
     match file.content() {
@@ -24,7 +24,7 @@ fn part_of<'a>(view: &VolumeView<'a>) -> Option<&'a [u8]> {
     }
 }
 
-// A part of the first file of a volume, taken from a view that is dropped before the part is used.
+// Returns a part of the first file of a volume. The view is dropped before the part is used.
 fn first_part(alloc: Global, volume: &[u8]) -> Option<&[u8]> {
     let view = view_of(alloc, volume).ok()?;
     let part = part_of(&view);
@@ -32,7 +32,7 @@ fn first_part(alloc: Global, volume: &[u8]) -> Option<&[u8]> {
     part
 }
 
-// Whether the part is one byte of the input, which is dropped after it.
+// Returns whether the part is this one byte of the input. The input is dropped only afterwards.
 fn part_is(alloc: Global, text: &str, byte: u8) -> Option<bool> {
     let input = spelled_bytes(alloc, text)?;
     let part = first_part(alloc, &input)?;

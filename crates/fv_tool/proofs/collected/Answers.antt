@@ -3,7 +3,7 @@ use Rattle.std.proofs.IntoIterSteps.{All-taken}
 use Rattle.std.specs.Vec.Iter.{into_iter_items}
 use Rattle.fv_tool.proofs.collected.Goals as goal
 
--- the words that were taken are all
+-- when the loop ends, all arguments were taken
 pub returns-clause-ok : goal.returns-clause-ok
 returns-clause-ok c =
     let it = c.into_iter-word-iterator in

@@ -3,7 +3,7 @@ use Rattle.std.specs.Prelude.{◌↔◌}
 use Rattle.fv_base.specs.Words.{AllAre}
 use Rattle.fv_base.proofs.erased.all_are.Given as goal
 
--- what is left decides for all
+-- the bytes that are left decide whether all bytes are `byte`
 abbrev pub invariant-loop-rest : goal.invariant-loop-rest
 invariant-loop-rest l = AllAre l.fn.byte l.rest ↔ AllAre l.fn.byte l.fn.bytes
 

@@ -7,11 +7,11 @@ use Rattle.fv_base.proofs.TestLemmas.{or_parts}
 use Rattle.fv_base.proofs.input.read_to_end.Goals as goal
 use Rattle.fv_base.proofs.input.read_to_end.Goals.{in-Ok+else-count-from+in_ok-take-in-Ok, in-Err}
 
--- how long the bytes are with those of a read after them
+-- the number of bytes grows by the n bytes of a read
 with_piece : (bytes buf : List ℕ) (n : ℕ) → n ≡ length (take n buf) → length (bytes ++ take n buf) ≡ length bytes + n
 with_piece bytes buf n long = length-append bytes (take n buf) ∙ ap (λ k. length bytes + k) (sym long)
 
--- what holds anyway holds of the error too, if there is one of this kind
+-- a property that holds anyway also holds for an error of a kind
 of_error : {A E : Type 0} (r : Result A E) (K : E → Type 0) (P : Type 0) → P → IfErr r (λ e. K e → P)
 of_error (Ok a) K P p = tt
 of_error (Err e) K P p = λ _. p

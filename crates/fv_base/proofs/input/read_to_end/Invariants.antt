@@ -3,8 +3,8 @@ use Rattle.std.specs.Io.KnownBytes.{Consumes}
 use Rattle.fv_base.specs.Words.{inner_of, has_erred}
 use Rattle.fv_base.proofs.input.read_to_end.Given as goal
 
--- what the reader gave so far is what the collector holds, what the collector had memory for at first it still has
--- memory for, and without an error each read gave a byte
+-- the collector holds the bytes that the reader has given so far; if it lacks memory for n bytes now, it lacked it at
+-- the start; and without an error, each read gave at least one byte
 abbrev pub invariant-loop-turn : goal.invariant-loop-turn
 invariant-loop-turn g l =
     (bytes : List ℕ)

@@ -9,11 +9,11 @@ use Rattle.fv_c.proofs.extract.put_extracted.Goals as goal
 
 pub returns-clause-err : goal.returns-clause-err
 returns-clause-err c =
-    IfErr-weaker c.put_part.result _ _
-    (λ f stops. extract_stops c.args.file c.args.section c.args.input.now c.in_ok-volume.volume f c.in_ok-volume.ensures.found stops)
-    c.put_part.ensures.err
+    IfErr-weaker c.put_row.result _ _
+    (λ f stops. extract_stops c.args.row c.args.volume.now c.in_ok-view.view f c.in_ok-view.ensures.found stops)
+    c.put_row.ensures.err
 
 pub returns-clause-memory : goal.returns-clause-memory
 returns-clause-memory c =
-    IfErr-weaker c.put_part.result _ (λ (f : Fault). f ≡ out_of_memory → BeginsWithHeader c.args.input.now)
-    (λ f why same. header_of c.args.input.now c.in_ok-volume.volume c.in_ok-volume.ensures.found) c.put_part.ensures.err
+    IfErr-weaker c.put_row.result _ (λ (f : Fault). f ≡ out_of_memory → BeginsWithHeader c.args.volume.now)
+    (λ f why same. header_of c.args.volume.now c.in_ok-view.view c.in_ok-view.ensures.found) c.put_row.ensures.err

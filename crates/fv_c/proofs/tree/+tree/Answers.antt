@@ -12,7 +12,7 @@ use Rattle.fv_rows.specs.Words.{FileNode, SectionNode}
 use Rattle.fv_c.specs.TreeParts.{tree_in_content, tree_in_body}
 use Rattle.fv_c.specs.ReportedTree.{bytes_at}
 use Rattle.fv_c.specs.inner.Trees.{Grows, HoldsFiles, IsHolder}
-use Rattle.fv_c.proofs.FileRowLaws.{files_held, files_long, only_memory}
+use Rattle.fv_c.proofs.StoredFiles.{files_held, files_long, only_memory}
 use Rattle.fv_c.proofs.TreeGrowth.{holder_later, walk_begun, walk_ended, walk_more}
 use Rattle.fv_c.proofs.TreeRows.{FileAt, SectionAt, Step, file_fits, file_holds, file_step}
 use Rattle.fv_c.proofs.TreeRows.{frames_begun, frames_last, frames_more, frames_none, group_holds, nested_accepted, nested_step}
@@ -42,9 +42,7 @@ add_files-file_node-node-requires-clause-offset t c =
     file_fits (file_here t c) c.requires.holder.within _ short
 
 pub add_files-file_node-node-requires-clause-depth : goal.add_files-file_node-node-requires-clause-depth
-add_files-file_node-node-requires-clause-depth t c =
-    let small = c.args.rows.now.small in
-    omega (arith, not_deep c.requires.holder, small)
+add_files-file_node-node-requires-clause-depth t c = not_deep c.requires.holder
 
 -- the file has a row
 file_added : (t : ℕ) (c : add_files-In_ok-added t) → Step c.args.input.now c.loop-number.rows.items c.add_row.new.rows.items c.in_ok-added.added
@@ -124,9 +122,7 @@ add_sections-section_node-node-requires-clause-offset t c =
     section_fits (section_here t d) c.requires.holder.within short
 
 pub add_sections-section_node-node-requires-clause-depth : goal.add_sections-section_node-node-requires-clause-depth
-add_sections-section_node-node-requires-clause-depth t c =
-    let small = c.args.rows.now.small in
-    omega (arith, not_deep c.requires.holder, small)
+add_sections-section_node-node-requires-clause-depth t c = not_deep c.requires.holder
 
 -- the section has a row
 section_added : (t : ℕ) (c : add_sections-In_ok-added t) → Step c.args.input.now c.loop-number.rows.items c.add_row.new.rows.items
@@ -148,7 +144,7 @@ add_sections-add_body-requires t c =
     let falls = section_body_falls c.args.sections.now c.loop-number.number c.index-sections-number.result c.loop-number-test.true
     c.index-sections-number.is in (
       omega (arith, c.decreases, falls),
-      ((section_added t e).holder, section_holds (section_here t d) c.requires.holder.within c.section_node-node.ensures c.in_ok-added.ensures),
+      ((section_added t e).holder, section_holds (section_here t d) c.requires.holder.within (section_holder t d) c.section_node-node.ensures c.in_ok-added.ensures),
     )
 
 pub add_sections-loop-number-preserved : goal.add_sections-loop-number-preserved
@@ -183,9 +179,7 @@ add_body-add_sections-requires t c =
     )
 
 pub add_body-overflow_add-node : goal.add_body-overflow_add-node
-add_body-overflow_add-node t c =
-    let small = c.args.rows.now.small in
-    omega (arith, not_deep c.requires.holder, small)
+add_body-overflow_add-node t c = omega (arith, not_deep c.requires.holder)
 
 module _ (t : ℕ) (c : add_body-In_ok-added-in-Nested t) where
   bytes_small : IsBytes c.args.input.now
@@ -195,13 +189,13 @@ module _ (t : ℕ) (c : add_body-In_ok-added-in-Nested t) where
   nested_added : Step c.args.input.now c.args.rows.now.items c.add_row.new.rows.items c.in_ok-added-in-Nested.added
       (volume_row c.args.holder.now c.in-Nested.volume.now)
   nested_added = nested_step c.args.input.now c.args.holder.now c.in-Nested.volume.now (body_of c.args.section.now) c.requires.holder.within
-      c.requires.body c.requires.len c.in-Nested.ensures bytes_small c.requires.holder c.volume_node-nested.ensures
+      c.requires.body c.requires.long c.requires.depth c.in-Nested.ensures bytes_small c.requires.holder c.volume_node-nested.ensures
       c.in_ok-added-in-Nested.ensures
 
   -- its bytes are a volume
   nested_read : Accepted (bytes_at c.args.input.now c.in_ok-added-in-Nested.added.node) c.in-Nested.volume.now
   nested_read = nested_accepted c.args.input.now c.args.holder.now c.in-Nested.volume.now (body_of c.args.section.now)
-      c.requires.holder.within c.requires.body c.requires.len c.in-Nested.ensures bytes_small c.volume_node-nested.ensures
+      c.requires.holder.within c.requires.body c.requires.long c.requires.depth c.in-Nested.ensures bytes_small c.volume_node-nested.ensures
       c.in_ok-added-in-Nested.ensures
 
 pub add_body-bytes_of_row-requires : goal.add_body-bytes_of_row-requires

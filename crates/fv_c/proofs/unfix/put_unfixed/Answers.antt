@@ -14,10 +14,10 @@ unfixed (Err f) input old new o to same done none = absurd (none o (subst (λ (b
 pub returns : goal.returns
 returns c =
     let volume = c.requires.volume in
-    let copied : c.copy_from_slice.new.self ≡ c.args.input.now = c.copy_from_slice.ensures.after in
-    let made = unfixed c.unfix-done.result c.args.input.now c.copy_from_slice.new.self c.unfix-done.new.bytes volume.0 volume.1.0 copied
+    let copied : c.copy_from_slice.new.self ≡ c.args.volume.now = c.copy_from_slice.ensures.after in
+    let made = unfixed c.unfix-done.result c.args.volume.now c.copy_from_slice.new.self c.unfix-done.new.bytes volume.0 volume.1.0 copied
     c.unfix-done.ensures.done c.unfix-done.ensures.none in
-    let long : length c.unfix-done.new.bytes ≡ length c.args.input.now = c.unfix-done.auto.bytes ∙ ap length copied in
+    let long : length c.unfix-done.new.bytes ≡ length c.args.volume.now = c.unfix-done.auto.bytes ∙ ap length copied in
     let split = c.split_at_mut-front.ensures in
     let rest : drop (length c.unfix-done.new.bytes) c.args.buffer.now ≡ c.split_at_mut-front.result.1.now =
     ap (drop (length c.unfix-done.new.bytes)) split.value ∙ drop_at _ _ (length c.unfix-done.new.bytes) (split.front_len ∙ sym long) in

@@ -21,7 +21,7 @@ bounds-own-last c =
     c.args.own.now c.requires.1.follow ∙ length-map c.args.files.now layout_item in
     omega (arith, some, same)
 
--- the last file ends where the used bytes end, within the volume
+-- the last file ends where the used bytes end, within the limit of a volume's length
 last_end : (c : After-data_len) → let end : ℕ = get_or c.args.own.now (length c.args.files.now - 1) 0 + size_for c.data_len.result in
     (end ≡ used_by c.args.first c.args.files.now c.args.own.now) × (end ≤ volume_limit)
 last_end c =

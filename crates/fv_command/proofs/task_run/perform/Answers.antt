@@ -2,7 +2,7 @@ use Rattle.std.proofs.Common.{refl}
 use Rattle.std.proofs.lemmas.Result.{err_from_is_err_and}
 use Rattle.fv_command.proofs.task_run.perform.Goals as goal
 
--- the image of a volume
+-- `normalise` of a volume
 pub returns-in_err-lay_out_volume-in-Normalise : goal.returns-in_err-lay_out_volume-in-Normalise
 returns-in_err-lay_out_volume-in-Normalise g c =
     let p = err_from_is_err_and c.from_residual.result c.from_residual.ensures.1 in
@@ -13,7 +13,7 @@ returns-in_ok-lay_out_volume-in-Normalise g c =
     let put = c.put_shown_image-in-Normalise.ensures in
     rw c.in-Normalise.is (put.1, (put.0, (_, c.in_ok-lay_out_volume-in-Normalise.ensures.found, put.2), put.3), put.4)
 
--- a flash image with its volumes renewed
+-- `normalise --all` of a flash image
 pub returns-in_err-lay_out_image-in-NormaliseAll : goal.returns-in_err-lay_out_image-in-NormaliseAll
 returns-in_err-lay_out_image-in-NormaliseAll g c =
     let residual = c.from_residual-in_err-lay_out_image-in-NormaliseAll in

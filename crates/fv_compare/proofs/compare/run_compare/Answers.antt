@@ -6,7 +6,7 @@ use Rattle.fv_compare.proofs.CompareLaws.{run_compares, run_stops, unread_kind, 
 use Rattle.fv_base.proofs.Laws.{err_is}
 use Rattle.fv_compare.proofs.compare.run_compare.Goals as goal
 
--- ---- the first input is not read, or is no volume
+-- ---- the first input is not read, or is not a volume
 
 pub returns-in_err-input-clause-err : goal.returns-in_err-input-clause-err
 returns-in_err-input-clause-err g c =
@@ -30,7 +30,7 @@ returns-in_err-view-clause-err g c =
     rw (err_is c.from_residual-in_err-view.ensures.1) (first_refused _ _ _ _ _ _ _ c.in_err-view.ensures.err.0 c.in_ok-input.ensures.ok
     (rw c.deref.ensures.value at c.in_err-view.ensures.err.1))
 
--- ---- nor the second
+-- ---- the second input is not read, or is not a volume
 
 pub returns-in_err-other_input-clause-err : goal.returns-in_err-other_input-clause-err
 returns-in_err-other_input-clause-err g c =
@@ -57,7 +57,7 @@ returns-in_err-other-clause-err g c =
     c.in_ok-input.ensures.ok (rw c.deref.ensures.value at c.in_ok-view.ensures.ok)
     c.in_ok-other_input.ensures.ok (rw c.deref-2.ensures.value at c.in_err-other.ensures.err.1))
 
--- ---- both are compared
+-- ---- both inputs are compared
 
 pub returns-clause-ok : goal.returns-clause-ok
 returns-clause-ok g c =

@@ -29,7 +29,7 @@ returns-in_err-check-2-clause-is c =
     (sym (header_cut _ _ _ c.args.rest.now (sym c.may_be_large.ensures ∙ c.in_ok-check.ensures.ok)
     (rw c.header_len_at-header_len.ensures at c.in_err-check-2.ensures.err.0)))
 
--- where the data may be checked, the header is right
+-- if the data may be checked, the header is right
 header_right : (c : In_ok-check-4) → IsHeaderRight c.args.system c.args.rest.now
 header_right c = record {
   form = sym c.may_be_large.ensures ∙ c.in_ok-check.ensures.ok;
@@ -38,7 +38,7 @@ header_right c = record {
   size = rw c.head_in-head.ensures at (sym c.has_file_size.ensures ∙ c.in_ok-check-4.ensures.ok);
 }
 
--- where they are, they are not skipped
+-- if the data are checked, the checks of the file do not skip them
 checked : (c : After-is_fixed) → skips_data (is_alive c.args.state) c.args.rest.now ≡ false
 checked c = is_not_skipped _ _ (rw c.head_in-head.ensures at (sym c.checks_data.ensures ∙ c.if-checks_data.true))
 

@@ -7,7 +7,7 @@ use Rattle.fv_file.proofs.UnmarkLemmas.{Unmarked, cell_long, one_further, one_le
 use Rattle.fv_file.proofs.unmark.take_marks.Goals.{After-unmark_at, After-stride_at-at}
 use Rattle.fv_file.proofs.unmark.take_marks.Goals as goal
 
--- a cell is here, and is not fixed
+-- a cell begins here, and is not a fixed file
 here : (c : After-unmark_at) → Unmarked c.args.system c.args.polarity c.args.first c.args.body.now c.unmark_at.new.body c.loop-system.at
     × ((cell : CellForm) × (cell_verdict c.args.system c.args.polarity (c.args.first + c.loop-system.at) (drop c.loop-system.at c.unmark_at.new.body) ≡ Ok cell))
 here c =
@@ -16,7 +16,7 @@ here c =
       unmarked_cell _ _ _ _ _ _ _ c.requires.accepted c.loop-system.invariant used c.unmark_at.ensures.step c.unmark_at.ensures.plain,
     )
 
--- a cell further
+-- after this cell, the marks up to the next place are removed
 further : (c : After-stride_at-at)
     → Unmarked c.args.system c.args.polarity c.args.first c.args.body.now c.unmark_at.new.body (c.loop-system.at + c.stride_at-at.result)
     × (0 < c.stride_at-at.result) × (c.loop-system.at + c.stride_at-at.result ≤ length c.unmark_at.new.body)

@@ -9,7 +9,7 @@ use Rattle.fv_file.proofs.UnmarkLemmas.{FixedThere, fixed_there, fixed_least, no
 use Rattle.fv_file.proofs.unmark.unmark_at.Goals.{Then-eq}
 use Rattle.fv_file.proofs.unmark.unmark_at.Goals as goal
 
--- the file is fixed
+-- the fault of the file is Fixed, at its attributes
 fixed : (c : Then-eq)
     → (cell_verdict c.args.system c.args.polarity (c.args.first + c.args.at) (drop c.args.at c.args.body.now) ≡ Err c.in-Err.fault)
     × FixedThere c.args.polarity (c.args.first + c.args.at) (drop c.args.at c.args.body.now) c.in-Err.fault

@@ -11,7 +11,7 @@ use Rattle.fv_file.proofs.UnmarkLemmas.{FixedThere, fixed_there}
 use Rattle.fv_file.proofs.unmark_check.span_unmarked.Goals.{Then-eq}
 use Rattle.fv_file.proofs.unmark_check.span_unmarked.Goals as goal
 
--- the file is fixed
+-- the fault of the file is Fixed, at its attributes
 record Known (c : Then-eq) : Type 0 where
   pub kind : c.in-Err.fault.kind ≡ kinds.Fixed
   pub there : FixedThere c.args.polarity c.args.at c.args.rest.now c.in-Err.fault

@@ -5,7 +5,7 @@ use Rattle.fv_file.proofs.MarkWalkLemmas.{Walked, walk_begins, walk_ends, walk_o
 use Rattle.fv_file.proofs.unmark_check.verify_unmarked.Goals.{In_ok-span}
 use Rattle.fv_file.proofs.unmark_check.verify_unmarked.Goals as goal
 
--- a cell further
+-- after this cell, the marks up to the next place are removed
 further : (c : In_ok-span)
     → Walked c.args.system c.args.polarity c.args.first c.args.body.now (c.loop-system.at + c.in_ok-span.span)
     × (0 < c.in_ok-span.span) × (c.loop-system.at + c.in_ok-span.span ≤ length c.args.body.now)

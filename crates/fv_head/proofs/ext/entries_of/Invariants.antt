@@ -2,7 +2,7 @@ use Rattle.std.proofs.Common.{ℕ, List, ◌++◌, length}
 use Rattle.fv_head.specs.Words.{SplitsEntries}
 use Rattle.fv_head.proofs.ext.entries_of.Given as goal
 
--- the entries so far, before those that the rest has, are those of all the bytes
+-- the entries so far, followed by entries that split the rest, split all the bytes
 abbrev pub invariant-loop-len : goal.invariant-loop-len
 invariant-loop-len l = (es : List (ℕ × List ℕ)) (tail : List ℕ) → SplitsEntries es tail l.rest
     → SplitsEntries (l.entries.items ++ es) tail l.fn.bytes

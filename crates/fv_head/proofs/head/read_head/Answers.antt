@@ -10,7 +10,7 @@ returns-clause-only c = λ h e front.
     let same = one_front c.args.bytes.now _ h _ e c.in_ok-head.ensures.ok front in
     inl (rw (same.0, same.1) refl)
 
--- the fault of a header that is rejected is not out of memory
+-- the fault of a rejected header is not OutOfMemory
 pub returns-in_err-extent-clause-memory : goal.returns-in_err-extent-clause-memory
 returns-in_err-extent-clause-memory c =
     rw (err_is c.from_residual.ensures.1)

@@ -7,7 +7,7 @@ use Rattle.fv_head.proofs.HeadImageLemmas.{canonical_is, canonical_only, canonic
 use Rattle.fv_head.proofs.head_image.head_bytes.Goals.{After-finish}
 use Rattle.fv_head.proofs.head_image.head_bytes.Goals as goal
 
--- what is put is the head of the canonical image
+-- the bytes that were put are the canonical head
 is_head : (c : After-finish) → IfOk c.finish.result (λ bytes. bytes ≡ canonical_head c.args.head.now)
 is_head c = kept_whole _ _ _ _ _ _ c.in_ok-out.ensures.0 c.in_ok-out.ensures.1 c.put_head.ensures.bytes c.finish.ensures.ok
 

@@ -2,7 +2,7 @@ use Rattle.fv_lines.specs.inner.LineRuns.{PutsNotes}
 use Rattle.fv_lines.specs.Words.{sections_depexes}
 use Rattle.fv_lines.proofs.depex_notes.put_file.Given as goal
 
--- once the notes of the sections that are left are put, those of all are
+-- once the notes of the sections that are left are put, the notes of all sections are put
 abbrev pub invariant-loop-section : goal.invariant-loop-section
 invariant-loop-section g l =
     (goal.iterator-loop-section g).can_next l.section-iterator

@@ -4,7 +4,7 @@ use Rattle.fv_base.specs.Words.{words_of}
 use Rattle.fv_lines.specs.Words.{unit_text}
 use Rattle.fv_lines.proofs.leaf_text.put_units.Given as goal
 
--- the text so far, and that of the units to come, make the whole
+-- the text so far, followed by the text of the units that are left, is the text of all units
 abbrev pub invariant-loop-rest : goal.invariant-loop-rest
 invariant-loop-rest g l =
     (text : List ℕ) × g.S.Sink.takes l.initial.out text l.out

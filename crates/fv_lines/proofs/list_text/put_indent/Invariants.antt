@@ -1,7 +1,7 @@
 use Rattle.fv_lines.specs.Words.{spaces}
 use Rattle.fv_lines.proofs.list_text.put_indent.Given as goal
 
--- once the spaces that are left are put, all are
+-- once the spaces that are left are put, all spaces are put
 abbrev pub invariant-loop-left : goal.invariant-loop-left
 invariant-loop-left g l = (end : _) → g.S.Sink.takes l.out (spaces l.left) end → g.S.Sink.takes l.initial.out (spaces l.fn.depth) end
 

@@ -1,7 +1,7 @@
 use Rattle.fv_lines.specs.inner.LineRuns.{PutsRows}
 use Rattle.fv_lines.proofs.list_text.put_list_with.Given as goal
 
--- the digests of the rows that are left are at hand; once their lines are put, those of all rows are
+-- the digests cover the rows that are left; once the lines of these rows are put, the lines of all rows are put
 abbrev pub invariant-loop-row : goal.invariant-loop-row
 invariant-loop-row g l =
     (goal.iterator-loop-row g).can_next l.row-iterator

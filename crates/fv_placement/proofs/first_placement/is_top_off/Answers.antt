@@ -7,7 +7,7 @@ use Rattle.fv_placement.proofs.first_placement.is_top_off.Goals as goal
 use Rattle.fv_placement.proofs.first_placement.is_top_off.Goals.{else-item-via-then-item+else-is_off, else-item-via-else-item}
 use Rattle.fv_placement.proofs.UsableStartLaws.{not_true}
 
--- an item that is off is found, and one that is not is passed over
+-- an item that is off is found, and an item that is not off is passed over
 found : (total : ℕ) (fs : List LayoutItem) (i : ℕ) (d : LayoutItem) → i < length fs → (TopOff total (drop i fs) → TopOff total fs)
     → IsTrue (get_or fs i d).top → IsOff total (get_or fs i d) → TopOff total fs
 found total fs i d l back top off = back (subst (TopOff total) (sym (drop_more fs i d l)) (inl (top, off)))

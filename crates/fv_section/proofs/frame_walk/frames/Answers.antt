@@ -10,7 +10,7 @@ some_bytes : (fs : List FrameForm) (f : FrameForm) (more : List FrameForm) (t : 
 some_bytes [] f more t b split = omega (arith, from_least 0 f more t b split)
 some_bytes (g ∷ fs) f more t b split = omega (arith, from_least 0 g (fs ++ f ∷ more) t b split)
 
--- and so has one of which some frames are left
+-- a stream of which some frames are left has bytes
 some_left : (fs : List FrameForm) (count t : ℕ) (b : List ℕ) → Splits fs t b → count ≡ length fs → (count ≡ 0 → ⊥) → 0 < length b
 some_left [] count t b split is some = absurd (some is)
 some_left (f ∷ fs) count t b split is some = omega (arith, from_least 0 f fs t b split)

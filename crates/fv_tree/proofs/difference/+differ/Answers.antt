@@ -7,7 +7,7 @@ use Rattle.fv_tree.proofs.DifferenceWalkLaws.{files_uneven, sections_uneven, vol
 use Rattle.fv_tree.proofs.SizeLaws.{section_falls, body_falls, file_falls, content_falls}
 use Rattle.fv_tree.proofs.difference.+differ.Goals as goal
 
--- ---- what is compared is smaller
+-- ---- the parts that are compared are smaller
 
 pub body_difference-stream_difference-requires : goal.body_difference-stream_difference-requires
 body_difference-stream_difference-requires t c =

@@ -6,7 +6,7 @@ use Rattle.fv_base.specs.declared.fault.Fault.{Fault}
 use Rattle.fv_tree.proofs.FixedMarkLaws.{is_unfixed, none_unfixed, only_unfixed, same_body, stops_there, unchanged, with_body}
 use Rattle.fv_tree.proofs.fixed_marks.unfix.Goals as goal
 
--- a fact that holds after Ok, and after an error
+-- a fact that holds after Ok and after an error holds always
 always : {A P : Type 0} (r : Result A Fault) → OnOk r P → IfErr r (λ _. P) → P
 always (Ok x) done kept = done
 always (Err f) done kept = kept

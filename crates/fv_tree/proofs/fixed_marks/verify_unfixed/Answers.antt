@@ -7,7 +7,7 @@ use Rattle.fv_tree.proofs.UnfixedInputLaws.{bytes_follow, stopped}
 use Rattle.fv_tree.proofs.fixed_marks.verify_unfixed.Goals.{In_ok-verify_unmarked}
 use Rattle.fv_tree.proofs.fixed_marks.verify_unfixed.Goals as goal
 
--- the volume without its marks
+-- if the cells of the changed body are read, the input has an unfixed copy
 made : (c : In_ok-verify_unmarked) → (o : List ℕ) × IsUnfixed c.args.input.now o
 made c =
     let found = c.in_ok-extent.ensures.found in

@@ -102,7 +102,7 @@ read_file-returns-in_err-content t c = rw (err_is c.from_residual.ensures.1) c.i
 pub read_file-overflow_cast-file : goal.read_file-overflow_cast-file
 read_file-overflow_cast-file t c = omega (arith, c.requires.small)
 
--- the file means what is made of it
+-- the view that is made of the file is its meaning
 file_means : (t : ℕ) (c : read_file-After-without_large-attributes t) → MeansFile (Stream c.args.at.left) (file_form c.args.file.now)
     (File c.args.file.now.name c.args.file.now.kind c.without_large-attributes.result.0 (content_view c.in_ok-content.content))
 file_means t c = (refl, refl, c.without_large-attributes.ensures, c.in_ok-content.ensures)
@@ -193,7 +193,7 @@ pub read_with_files-returns-in_err-views-clause-memory : goal.read_with_files-re
 read_with_files-returns-in_err-views-clause-memory t c =
     rw (err_is c.from_residual-in_err-views.ensures.1) (λ want. (c.in-Ok.read.0, c.in-Ok.read.1, c.in-Ok.ensures.found))
 
--- the volume that is read has this meaning
+-- the view that is made of the volume is its meaning
 volume_made : (t : ℕ) (c : read_with_files-In_ok-views t) → Denotes c.args.at.left (take c.in-Ok.read.1.length c.args.bytes.now)
     (Volume c.in-Ok.read.0 (files_from c.in_ok-views.views.items))
 volume_made t c =
@@ -309,7 +309,7 @@ read_section-returns-in_err-sections-in-Group t c =
 pub read_section-overflow_cast-len : goal.read_section-overflow_cast-len
 read_section-overflow_cast-len t c = omega (arith, frame_small (framed.frame_form c.args.frame.now) c.requires.stored)
 
--- the group means what is made of it
+-- the view that is made of the group is its meaning
 group_means : (t : ℕ) (c : read_section-In_ok-sections-in-Group t) → MeansSection c.args.at.left (framed.frame_form c.args.frame.now)
     (Section c.args.frame.now.kind c.args.frame.now.extended
     (Group (sections_from c.in_ok-sections-in-Group.sections.items) c.in_ok-sections-in-Group.tail))
@@ -370,7 +370,7 @@ read_section-returns-in_err-volume-in-Volume t c =
 pub read_section-returns-in_err-nested-in-Volume : goal.read_section-returns-in_err-nested-in-Volume
 read_section-returns-in_err-nested-in-Volume t c = rw (err_is c.from_residual-in_err-nested-in-Volume.ensures.1) (λ ne. absurd (ne refl))
 
--- the opened volume means what is made of it
+-- the view that is made of the opened volume is its meaning
 nested_means : (t : ℕ) (c : read_section-In_ok-nested-in-Volume t) → MeansSection c.args.at.left (framed.frame_form c.args.frame.now)
     (Section c.args.frame.now.kind c.args.frame.now.extended (Nested c.in_ok-nested-in-Volume.nested.value))
 nested_means t c =

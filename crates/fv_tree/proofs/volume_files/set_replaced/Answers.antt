@@ -14,21 +14,21 @@ use Rattle.fv_tree.specs.inner.ReadingParts.{is_noted}
 use Rattle.fv_tree.proofs.NamedLaws.{file_within, no_file, replaced_at, replaced_marked, same_named, twins_to}
 use Rattle.fv_tree.proofs.volume_files.set_replaced.Goals as goal
 
--- one of the files replaces the file of that number
+-- one of the files replaces file number n
 abbrev is_replaced : List FileForm → FileForm → ℕ → Bool
 is_replaced fs d n = list_any (replaced_by (get_or fs n d)) fs
 
--- of the files of the first entries it is noted whether one of the files replaces them
+-- each file of the first entries is noted as replaced exactly if one of the files replaces it
 abbrev Noted : List FileForm → List Entry → List LocatedFile → ℕ → Type 0
 Noted fs es files place =
     (s : LocatedFile) (d : FileForm) (e : Entry) (p : ℕ) → p < place
     → is_noted (get_or files (get_or es p e).1 s).mark ≡ is_replaced fs d (get_or es p e).1
 
--- the file with another mark
+-- the file, with another mark
 abbrev with_mark : LocatedFile → Mark → LocatedFile
 with_mark s m = record s { mark = m }
 
--- the form of a file whose mark is m, where the mark of the file s has the state of m
+-- a mark of the same state does not change the form of a file
 marked_form : (s : LocatedFile) (m : Mark) → state_by m ≡ state_by s.mark → file_form (with_mark s m) ≡ file_form s
 marked_form s m same = rw same refl
 
@@ -83,7 +83,7 @@ bounds-files-number-in-loop-place c =
     file_within c.args.files.now c.loop-place.files (entries_of c.args.index.now) c.requires.index c.loop-place.invariant.same
     c.number_at-number.result c.loop-place.place (omega arith) c.number_at-number.ensures
 
--- what the index says of the file of an entry
+-- the result of the index for an entry says whether its file is replaced
 said : (old files : List LocatedFile) (es : List Entry) (place n : ℕ) (t : Bool) → map file_form files ≡ map file_form old
     → n < length files → ((e : Entry) → n ≡ (get_or es place e).1)
     → ((d : NamedFile) (e : Entry) → t ≡ list_any (names.replaced_by (get_or (map named_file files) (get_or es place e).1 d)) (map named_file files))
@@ -93,7 +93,7 @@ said old files es place n t same l number is d =
     ∙ ap (λ (k : ℕ). list_any (names.replaced_by (get_or (map named_file files) k no_named)) (map named_file files)) (sym (number no_entry))
     ∙ replaced_at old files n d same l
 
--- only a marked file is replaced
+-- only a file that is marked for update is replaced
 marked_so : (old files : List LocatedFile) (n : ℕ) (t : Bool) → map file_form files ≡ map file_form old → n < length files
     → t ≡ is_replaced (map file_form old) (file_form no_file) n → t ≡ true
     → is_marked (state_by (get_or files n no_file).mark) ≡ true

@@ -18,7 +18,7 @@ IsCut es key place = IsPartitionPoint (λ e. entry_cmp e (key, 0) ≡ Less) (λ 
 abbrev Cuts : List Entry → Halves → ℕ → Type 0
 Cuts es key place = IsNonDecreasingBy (λ e. ordering_index (entry_cmp e (key, 0))) es → IsCut es key place
 
--- what the search says, of the name and of the entries
+-- the search says where the name cuts the entries
 cuts_there : (es found : List Entry) (key name : Halves) (place : ℕ) → found ≡ es → key ≡ name → Cuts found key place
     → IsNonDecreasingBy (λ e. ordering_index (entry_cmp e (name, 0))) es → IsCut es name place
 cuts_there es found key name place same is cuts rising =

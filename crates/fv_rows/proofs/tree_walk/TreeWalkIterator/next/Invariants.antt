@@ -2,7 +2,7 @@ use Rattle.std.proofs.Common.{◌≡◌, length}
 use Rattle.fv_rows.specs.RowWalks.{AreLevels, left_in}
 use Rattle.fv_rows.proofs.tree_walk.TreeWalkIterator.next.Given as goal
 
--- no row was taken yet
+-- the levels are well formed, and no row has been taken from them yet
 abbrev pub invariant-loop-level : goal.invariant-loop-level
 invariant-loop-level l = record {
   levels : AreLevels 0 l.self-inside.levels;

@@ -5,7 +5,7 @@ use Rattle.fv_text.proofs.WhiteSpaceLemmas.{squeezed_short}
 use Rattle.fv_text.proofs.HexInLemmas.{stays_wrong, taken, taken_wrong}
 use Rattle.fv_text.proofs.hex_text.DecoderCollector.take.Goals as goal
 
--- the digit that waited and those of a piece, in pairs, are no more than the bytes that a volume may have
+-- the pairs of the digit that waited and of the digits of a piece are at most as many as the bytes of a volume
 few_digits : (was now pairs : ℕ) (waiting all piece : List ℕ) → was ≡ length waiting → now ≡ length all → all ≡ waiting ++ squeezed piece
     → pairs ≤ now → was ≤ 1 → length piece ≤ read_limit → pairs ≤ volume_limit
 few_digits was now pairs waiting all piece was_is now_is joined room waited short =

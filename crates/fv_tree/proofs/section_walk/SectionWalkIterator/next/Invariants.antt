@@ -2,7 +2,7 @@ use Rattle.std.proofs.Common.{◌≡◌, length}
 use Rattle.fv_tree.specs.Words.{AreLevels, left_in}
 use Rattle.fv_tree.proofs.section_walk.SectionWalkIterator.next.Given as goal
 
--- no section was taken yet
+-- the levels are well formed, and no section has been taken from them yet
 abbrev pub invariant-loop-level : goal.invariant-loop-level
 invariant-loop-level l = record {
   levels : AreLevels 0 l.self-inside.levels;

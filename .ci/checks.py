@@ -1,0 +1,42 @@
+"""The parts that the checks in Python share: the folder of the repository, its files, and the form of a report."""
+
+from __future__ import annotations
+
+import glob
+import os
+import re
+from pathlib import Path
+
+ROOT = Path(__file__).resolve().parents[1]
+
+
+def read(path: str | Path) -> str:
+    """Returns the text of a file."""
+    with open(path, encoding="utf-8") as file:
+        return file.read()
+
+
+def found_by(*patterns: str) -> list[str]:
+    """Returns the files with such names, without those that are built."""
+    found = {path for pattern in patterns for path in glob.glob(pattern, recursive=True)}
+    return sorted(path for path in found if not re.search(r"(^|/)(?:out|target)/", path))
+
+
+def scripts(*patterns: str) -> list[str]:
+    """Returns the scripts and modules in Python among the files with such names."""
+    files = [path for path in found_by(*patterns) if os.path.isfile(path)]
+    return [path for path in files if path.endswith(".py") or re.match(r"#!.*python", first_line(path))]
+
+
+def first_line(path: str) -> str:
+    """Returns the first line of a file. Bytes that are not text are replaced."""
+    with open(path, encoding="utf-8", errors="replace") as file:
+        return file.readline(200)
+
+
+def report(name: str, wrong: list[str], summary: str = "") -> int:
+    """Prints the findings of a check, each after the name of the check, and then a summary if there is one. Returns the
+    exit status."""
+    for line in [*wrong, *[summary] * bool(summary)]:
+        print(f"{name}: {line}")
+    return 1 if wrong else 0

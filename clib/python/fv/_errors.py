@@ -1,0 +1,113 @@
+"""The faults of an input, and the exceptions that the calls raise."""
+
+from __future__ import annotations
+
+import enum
+from dataclasses import dataclass
+
+from . import _native as native
+from ._library import result_text
+
+
+class FaultCode(enum.IntEnum):
+    """The codes of the faults. docs/FAULTS.md explains each fault. The codes from 0x200 on are faults of dependency
+    expressions, and those from 0x300 on are faults of hand-off lists."""
+
+    TRUNCATED = native.FAULT_TRUNCATED
+    SIGNATURE = native.FAULT_SIGNATURE
+    FILE_SYSTEM = native.FAULT_FILE_SYSTEM
+    REVISION = native.FAULT_REVISION
+    HEADER_LENGTH = native.FAULT_HEADER_LENGTH
+    HEADER_SUM = native.FAULT_HEADER_SUM
+    BLOCK_MAP = native.FAULT_BLOCK_MAP
+    LENGTH = native.FAULT_LENGTH
+    EXT_HEADER = native.FAULT_EXT_HEADER
+    FILE_STATE = native.FAULT_FILE_STATE
+    FILE_HEADER_SUM = native.FAULT_FILE_HEADER_SUM
+    FILE_SIZE = native.FAULT_FILE_SIZE
+    LARGE_FILE = native.FAULT_LARGE_FILE
+    FILE_SUM = native.FAULT_FILE_SUM
+    FIXED = native.FAULT_FIXED
+    FREE_SPACE = native.FAULT_FREE_SPACE
+    DUPLICATE_NAME = native.FAULT_DUPLICATE_NAME
+    TOP_FILE = native.FAULT_TOP_FILE
+    SECTION_SIZE = native.FAULT_SECTION_SIZE
+    SECTION_TAIL = native.FAULT_SECTION_TAIL
+    DEPTH = native.FAULT_DEPTH
+    NO_ROOM = native.FAULT_NO_ROOM
+    TOP_ALIGNMENT = native.FAULT_TOP_ALIGNMENT
+    DEPEX_SHORT = native.FAULT_DEPEX_SHORT
+    DEPEX_OPCODE = native.FAULT_DEPEX_OPCODE
+    DEPEX_STACK = native.FAULT_DEPEX_STACK
+    DEPEX_NO_END = native.FAULT_DEPEX_NO_END
+    DEPEX_POSITION = native.FAULT_DEPEX_POSITION
+    HOB_SHORT = native.FAULT_HOB_SHORT
+    HOB_LENGTH = native.FAULT_HOB_LENGTH
+    HOB_FIRST = native.FAULT_HOB_FIRST
+    HOB_SHAPE = native.FAULT_HOB_SHAPE
+    HOB_NO_END = native.FAULT_HOB_NO_END
+
+
+@dataclass(frozen=True, slots=True)
+class Fault:
+    """The reason why an input is rejected.
+
+    `code` is a FaultCode, or an int if the library is newer than this package and has further faults. `offset` is the
+    place of the fault, in bytes from the first byte of the input. `depth` is the number of groups and opened volumes
+    around it. `input` is 1 if the second input of volume_compare is rejected, otherwise 0."""
+
+    code: FaultCode | int
+    offset: int
+    depth: int = 0
+    input: int = 0
+
+    @property
+    def number(self) -> int:
+        """Returns the number of the fault in docs/FAULTS.md and in the lines of fvtool. Volumes, dependency expressions
+        and hand-off lists are numbered separately."""
+        return self.code & 0xFF
+
+    @property
+    def text(self) -> str:
+        """Returns a sentence that explains the fault."""
+        return result_text(self.code)
+
+    def __str__(self) -> str:
+        """Returns the fault as a line of fvtool has it."""
+        return f"fault {self.number} at {self.offset}" + (" of the second input" if self.input else "")
+
+
+class Error(Exception):
+    """The base class of the exceptions of this package."""
+
+
+class FaultError(Error, ValueError):
+    """An input is rejected. `fault` is the reason, and the text of the exception explains it."""
+
+    def __init__(self, fault: Fault) -> None:
+        super().__init__(fault)
+        self.fault = fault
+
+    def __str__(self) -> str:
+        return f"{self.fault}: {self.fault.text}"
+
+
+def fault_of(offset: int, result: int, depth: int, side: int) -> Fault:
+    """Returns a fault by the fields of the structure that a call writes."""
+    try:
+        return Fault(FaultCode(result), offset, depth, side)
+    except ValueError:
+        return Fault(result, offset, depth, side)
+
+
+def check(result: int, fault: native.Fault) -> None:
+    """Raises an exception unless the result of a call is 0. The fault is the structure that the call has written."""
+    if result == native.OK:
+        return
+    if result == native.OUT_OF_MEMORY:
+        raise MemoryError(result_text(result))
+    if result == native.NOT_FOUND:
+        raise IndexError(result_text(result))
+    if result in (native.BUFFER_TOO_SMALL, native.BAD_ARGUMENT):
+        raise Error(result_text(result))
+    raise FaultError(fault_of(fault.offset, fault.result, fault.depth, fault.input))

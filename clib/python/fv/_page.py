@@ -1,0 +1,511 @@
+"""Writes the HTML page of fv-map. It has no script, and nothing from outside. The texts of an image are not trusted:
+all are escaped, and characters that cannot be seen are shown as numbers."""
+
+from __future__ import annotations
+
+import html
+import os
+import re
+from collections.abc import Iterator
+from pathlib import Path
+
+from ._errors import Fault
+from ._sheet import Change, Drawing, Row, Sheet, SheetNames
+from .shown import printable
+
+MOST_VOLUMES = 250  # volumes of a page
+MOST_DRAWN = 1000  # files of a volume that are drawn as areas
+MOST_ROWS = 5000  # rows of a table
+MOST_SECTIONS, MOST_CLOSED = 8, 4  # sections that the row of a file names, and sections that are not opened
+
+# The classes of the colours by the types of files.
+COLORS = {
+    0x01: "raw",
+    0x02: "free-form",
+    0x03: "core",
+    0x04: "core",
+    0x05: "core",
+    0x06: "pei",
+    0x07: "dxe",
+    0x08: "pei",
+    0x09: "app",
+    0x0A: "mm",
+    0x0B: "image",
+    0x0C: "mm",
+    0x0D: "core",
+    0x0E: "mm",
+    0x0F: "core",
+}
+LEGEND = {
+    "core": "core (SEC, PEI, DXE, MM)",
+    "pei": "PEI module",
+    "dxe": "DXE driver",
+    "mm": "MM driver",
+    "app": "application",
+    "image": "volume image",
+    "free-form": "freeform",
+    "raw": "raw",
+    "other": "another type",
+    "pad": "pad",
+    "deleted": "deleted or unfinished",
+    "header": "header",
+    "free": "free",
+    "bad": "rejected volume",
+    "none": "no volume",
+    "unread": "not shown",
+}
+# Parts of a volume that are not among its files: their names, and the classes of their colours.
+GONE = {
+    "file": ("superseded file", "deleted"),
+    "deleted": ("deleted file", "deleted"),
+    "unfinished": ("unfinished file", "deleted"),
+}
+
+
+def amount(count: int) -> str:
+    """Returns a number of bytes with a unit."""
+    if count >= 1 << 20:
+        return f"{count / (1 << 20):.2f} MiB"
+    return f"{count / 1024:.1f} KiB" if count >= 1024 else f"{count} B"
+
+
+def offset(at: int) -> str:
+    """Returns an offset in decimal and hexadecimal."""
+    return f"{at} ({at:#x})"
+
+
+def name_of(path: str, other: str | None) -> str:
+    """Returns the file name of an image, with as much of its path as distinguishes it from the other image."""
+    ours, theirs = (Path(os.path.abspath(it)).parts for it in (path, other or path))
+    count = 1
+    while ours != theirs and ours[-count:] == theirs[-count:]:
+        count += 1
+    return printable(os.path.join(*ours[-count:]))
+
+
+def bytes_of(count: int) -> str:
+    """Returns a number of bytes with a unit, and the exact number."""
+    return f"{amount(count)} ({count:,} bytes)"
+
+
+def percent(part: int, whole: int) -> str:
+    """Returns a part of a whole in percent."""
+    return f"{100 * part / whole:.1f} %" if whole else "0 %"
+
+
+def offset_cells(at: int) -> str:
+    """Returns two cells of a table: an offset in decimal and hexadecimal."""
+    return f'<td class="n mono">{at}<td class="n mono">{at:#x}'
+
+
+def text(value: object) -> str:
+    """Returns text for the page. Nothing from the image is taken for markup."""
+    return html.escape(str(value), quote=True)
+
+
+def breakable(name: str) -> str:
+    """Returns a name for the page, which may be broken between its words."""
+    return "<wbr>".join(text(it) for it in re.split(r"(?<=[a-z0-9])(?=[A-Z])", name))
+
+
+def fault_of(fault: Fault) -> str:
+    """Returns a fault, its offset in decimal and hexadecimal, and its meaning."""
+    return f"fault {fault.number} at {offset(fault.offset)}: {fault.text}"
+
+
+Box = tuple[float, float, float, float]
+Stripe = tuple[int, int, str, str, str]  # a part of a strip: offset, length, colour, title, the place that it leads to
+
+
+def worst_side(areas: list[float], short: float) -> float:
+    """Returns how far from a square the worst of a row of rectangles is."""
+    side = sum(areas) / short
+    return max(max(side * side / area, area / (side * side)) for area in areas)
+
+
+def squarified(sizes: list[int], box: Box) -> Iterator[Box]:
+    """Yields rectangles of these sizes, the largest first, that are almost squares and fill a box."""
+    x, y, width, height = box
+    scale = width * height / sum(sizes)
+    rest = [size * scale for size in sizes]
+    while rest:
+        short, count = min(width, height), 1
+        while count < len(rest) and worst_side(rest[: count + 1], short) <= worst_side(rest[:count], short):
+            count += 1
+        side, along = sum(rest[:count]) / short, 0.0
+        for area in rest[:count]:
+            if width >= height:
+                yield x, y + along, side, area / side
+            else:
+                yield x + along, y, area / side, side
+            along += area / side
+        x, y, width, height = (
+            (x + side, y, width - side, height) if width >= height else (x, y + side, width, height - side)
+        )
+        rest = rest[count:]
+
+
+class Page:
+    """The lines of the page."""
+
+    def __init__(self, names: SheetNames) -> None:
+        self._names = names
+        self._lines: list[str] = []
+        self._used: set[str] = set()
+        self._marks: set[str] = set()
+        self._anchors: dict[int, str] = {}
+        self._legend_at = 0
+
+    def add(self, *lines: str) -> None:
+        """Adds lines of markup."""
+        self._lines += lines
+
+    def color(self, name: str) -> str:
+        """Returns the class of a colour, and adds the colour to the legend."""
+        self._used.add(name)
+        return f"k-{name}"
+
+    def anchor(self, what: Sheet | Row) -> str:
+        """Returns the name of the place of a volume or of a file's row on the page."""
+        letter = "v" if isinstance(what, Sheet) else "f"
+        return self._anchors.setdefault(id(what), f"{letter}{len(self._anchors)}")
+
+    def head(self, drawing: Drawing, name: str) -> None:
+        """Adds the head of the page, which says what image it is."""
+        size, count = len(drawing.data), len(drawing.sheets)
+        total = sum(sheet.volume.length for sheet in drawing.sheets)
+        self.add(f"<header><h1>{text(name)}</h1>")
+        self.add(f"<p>{text(bytes_of(size))}, {count} volume{'s' * (count != 1)} in {percent(total, size)} of it</p>")
+        self.add(f'<p class="mono dim">SHA-256 {drawing.digest}</p></header>')
+
+    def strip(self, parts: list[Stripe], whole: int) -> None:
+        """Adds the parts of a whole. Parts too thin to be seen are drawn as one, except those that are not volumes."""
+        self.add('<div class="strip">')
+        thin = whole / 1200
+        at, length, color, title, place = 0, 0, "", "", ""
+        for part in [*parts, (whole, 0, "", "", "")]:
+            are_thin = 0 < length < thin and 0 < part[1] < thin and part[0] == at + length
+            if are_thin and "none" not in (color, part[2]):
+                length, title = length + part[1], "several parts"
+                continue
+            if length:
+                self.part((at, length, color, title, place), whole)
+            at, length, color, title, place = part
+        self.add("</div>")
+        self.add(f'<div class="ends"><span>{offset(0)}</span><span>{offset(whole)}</span></div>')
+
+    def part(self, part: Stripe, whole: int) -> None:
+        """Adds a part of a strip, with its name on it if there is room."""
+        at, length, color, title, place = part
+        sides = f"left:{100 * at / whole:.4f}%;right:{100 * (whole - at - length) / whole:.4f}%"
+        about = text(f"{title}\nat {offset(at)}, {amount(length)}")
+        edge = " edge" if length > whole / 200 else ""
+        label = f"{title} {amount(length)}"
+        shown = text(label) if len(label) < 130 * length / whole else ""
+        tag, link = ("a", f' href="#{place}"') if place else ("i", "")
+        self.add(f'<{tag}{link} class="{self.color(color)}{edge}" style="{sides}" title="{about}">{shown}</{tag}>')
+
+    def flash(self, drawing: Drawing) -> None:
+        """Adds the section of the image: where its volumes are, and the parts that are not volumes."""
+        stripes: list[tuple[Stripe, Sheet | None]] = []
+        end = 0
+        for sheet in drawing.sheets:
+            at, length = sheet.volume.offset, sheet.volume.length
+            stripes.append(((end, at - end, "none", "no volume", ""), None))
+            color = "bad" if sheet.volume.fault else "image"
+            stripes.append(((at, length, color, self._names.volume(sheet), self.anchor(sheet)), sheet))
+            end = at + length
+        stripes.append(((end, drawing.unread - end, "none", "no volume", ""), None))
+        stripes.append(((drawing.unread, len(drawing.data) - drawing.unread, "unread", "not shown", ""), None))
+        stripes = [it for it in stripes if it[0][1]]
+        self.add("<section><h2>The image</h2>")
+        if not drawing.sheets:
+            self.add("<p>No firmware volume was found in this image.</p>")
+        self.strip([stripe for stripe, _ in stripes], len(drawing.data))
+        self.add('<div class="wide"><table><tr><th>Volume<th class="n" colspan="2">Offset<th class="n">Size')
+        self.add('<th class="n">Files<th>Used<th class="n">Pads<th class="n">Free<th>Verdict</tr>')
+        for (at, length, _, title, _), its in stripes:
+            if its:
+                self.rows(its, 0)
+            else:
+                cells = f'{title}{offset_cells(at)}<td class="n">{amount(length)}<td colspan="5">'
+                self.add(f'<tr class="dim"><td class="name">{cells}</tr>')
+        self.add("</table></div></section>")
+
+    def rows(self, sheet: Sheet, depth: int) -> None:
+        """Adds the row of a volume to the table of volumes, and the rows of the volumes inside."""
+        at, length = sheet.volume.offset, sheet.volume.length
+        self.add(
+            f'<tr><td class="name" style="padding-left:{18 * depth}px"><a href="#{self.anchor(sheet)}">'
+            f'{text(self._names.volume(sheet))}</a>{offset_cells(at)}<td class="n">{amount(length)}'
+        )
+        if sheet.stretches:
+            used = sheet.sum_of("header", "file")
+            width = f"width:{100 * used / length:.1f}%"
+            meter = f'<span class="meter"><i style="{width}"></i></span> {percent(used, length)}'
+            rest = "".join(f'<td class="n">{amount(sheet.sum_of(what))}' for what in ("pad", "free"))
+            self.add(f'<td class="n">{len(sheet.rows)}<td>{meter}{rest}')
+        else:
+            self.add("<td><td><td><td>")
+        self.add(f"<td>{self.verdict(sheet)}</tr>")
+        for row in sheet.rows:
+            for held in row.held:
+                for inner in held.volumes:
+                    self.rows(inner, depth + 1)
+
+    def verdict(self, sheet: Sheet) -> str:
+        """Returns the verdict on a volume: whether it is its own canonical image, or its fault; and how many of its
+        files are fixed."""
+        if sheet.volume.fault:
+            return f'<span class="chip bad">{text(fault_of(sheet.volume.fault))}</span>'
+        kind, verdict = ("good", "canonical") if sheet.is_canonical else ("fair", "not canonical")
+        fixed = f' <span class="chip fair">{sheet.fixed}</span>' if sheet.fixed else ""
+        return f'<span class="chip {kind}">{verdict}</span>{fixed}'
+
+    def volume(self, sheet: Sheet, inside: str = "") -> None:
+        """Adds a volume: its figures, where its parts are, how large its files are, and the volumes in them."""
+        self.add(f'<section id="{self.anchor(sheet)}"><h2>{text(self._names.volume(sheet))} {self.verdict(sheet)}</h2>')
+        volume = sheet.volume
+        facts = [f"{inside}at {offset(volume.offset)}", bytes_of(volume.length), volume.type_name]
+        whats = {"file": "files", "pad": "pads", "free": "free"}
+        facts += [f"{name} {amount(sheet.sum_of(what))}" for what, name in whats.items() if sheet.sum_of(what)]
+        gone = sheet.sum_of("deleted", "unfinished")
+        facts += [f"deleted or unfinished {amount(gone)}"] if gone else []
+        self.add(f"<p>{text(' · '.join(fact for fact in facts if fact))}</p>")
+        self.places(sheet)
+        if len(sheet.rows) > 2 and any(row.file.length for row in sheet.rows):
+            self.add('<p class="label">How large the files are</p>')
+            self.areas(sheet)
+        if sheet.rows:
+            self.table(sheet)
+        for row in sheet.rows:
+            for held in row.held:
+                size = amount(held.size)
+                if held.packed != held.size:
+                    size = f"{amount(held.packed)} unpacked to {size}"
+                for inner in held.volumes:
+                    self.volume(inner, f"in {self._names.file(row.file)} ({held.how}, {size}) ")
+        self.add("</section>")
+
+    def places(self, sheet: Sheet) -> None:
+        """Adds where the parts of a volume are, and where they were before."""
+        if not sheet.stretches:
+            return
+        label = "Where it lies"
+        if sheet.before and sheet.before.stretches and sheet.before.stretches != sheet.stretches:
+            self.add('<p class="label">Where it lay before</p>')
+            self.stretches(sheet.before, False)
+            label = "Where it lies now"
+        self.add(f'<p class="label">{label}</p>')
+        self.stretches(sheet, True)
+
+    def stretches(self, sheet: Sheet, is_drawn: bool) -> None:
+        """Adds the parts of a volume as a strip. The parts of the drawn image lead to the rows of its files."""
+        rows = {row.at: row for row in sheet.rows}
+        stripes: list[Stripe] = []
+        for it in sheet.stretches:
+            row, place = rows.get(it.at), ""
+            if row:
+                name, color = self._names.file(row.file), COLORS.get(it.kind, "other")
+                place = self.anchor(row) if is_drawn else ""
+            else:
+                name, color = GONE.get(it.what, (it.what, it.what))
+            stripes.append((it.at, it.length, color, name, place))
+        self.strip(stripes, sheet.volume.length)
+
+    def areas(self, sheet: Sheet) -> None:
+        """Adds files as rectangles of their sizes. The style hides a name that has no room."""
+        rows = sorted((row for row in sheet.rows if row.file.length), key=lambda it: -it.file.length)[:MOST_DRAWN]
+        height = 560 if len(rows) > 40 else 340 if len(rows) > 8 else 180
+        total = sum(row.file.length for row in rows)
+        boxes = squarified([row.file.length for row in rows], (0, 0, 1100, height))
+        self.add(f'<div class="areas" style="height:{height}px" role="group" aria-label="sizes of files">')
+        for row, box in zip(rows, boxes):
+            self.area(row, box, total)
+        self.add("</div>")
+
+    def area(self, row: Row, box: Box, total: int) -> None:
+        """Adds a file as a rectangle of its size, a part of the total. The rectangle leads to the row of the file."""
+        x, y, width, tall = box
+        file, name = row.file, self._names.file(row.file)
+        share = f"{bytes_of(file.length)}, {percent(file.length, total)} of the files"
+        about = f"{name}\n{file.type_name}\n{share}\n{file.guid}"
+        if row.mark:
+            about += f"\n{row.mark}"
+            self._marks.add(row.mark)
+        sides = f"left:{x / 11:.3f}%;top:{y:.1f}px;width:{width / 11:.3f}%;height:{tall:.1f}px"
+        color = self.color(COLORS.get(file.kind, "other"))
+        place = f'href="#{self.anchor(row)}"'
+        self.add(f'<a {place} style="{sides}" title="{text(about)}"><span class="{color} {row.mark}">')
+        self.add(f"<b>{breakable(name)}</b><small>{amount(file.length)}</small></span></a>")
+
+    def table(self, sheet: Sheet) -> None:
+        """Adds the table of the files of a volume, in their order."""
+        most = max(row.file.length for row in sheet.rows) or 1
+        count = f"{len(sheet.rows)} file{'s' * (len(sheet.rows) != 1)}"
+        self.add(f'<details open><summary>{count}</summary><div class="wide"><table>')
+        self.add('<tr><th class="n" colspan="2">Offset<th>Name<th>Type<th class="n">Size<th><th>Sections<th>GUID')
+        self.add("<th>SHA-256</tr>")
+        for row in sheet.rows[:MOST_ROWS]:
+            self.file_row(row, most)
+        self.add("</table></div></details>")
+
+    def file_row(self, row: Row, most: int) -> None:
+        """Adds the row of a file. The largest file has `most` bytes."""
+        file = row.file
+        parts = [f"{it.type_name} {amount(it.length)}" for it in file.sections[:MOST_SECTIONS]]
+        parts += ["…"] if len(file.sections) > MOST_SECTIONS else []
+        parts += [f"(not opened: {it})" for it in row.closed[:MOST_CLOSED]]
+        mark = f' <span class="chip {row.mark}">{row.mark}</span>' if row.mark else ""
+        width = max(50 * file.length / most, 1)
+        bar = f'<i class="bar {self.color(COLORS.get(file.kind, "other"))}" style="width:{width:.0f}px"></i>'
+        self.add(
+            f'<tr id="{self.anchor(row)}">{offset_cells(row.at)}'
+            f'<td class="name">{breakable(self._names.file(file))}{mark}<td>{text(file.type_name)}'
+            f'{", fixed" * file.is_fixed}<td class="n" title="{file.length:,} bytes">{amount(file.length)}<td>{bar}'
+            f'<td class="long dim">{text(", ".join(parts))}<td class="mono dim">{text(file.guid)}'
+            f'<td class="mono dim">{row.digest.hex() if row.digest else ""}</tr>'
+        )
+
+    def against(self, old: Drawing, new: Drawing, found: list[Change]) -> None:
+        """Adds which image is which, and what came, went and changed."""
+        self.add(f"<section><h2>Against {text(name_of(old.path, new.path))}</h2>")
+        self.add('<div class="wide"><table><tr><th><th>Image<th class="n">Size<th>SHA-256</tr>')
+        for when, drawing, other in (("before", old, new), ("now", new, old)):
+            self.add(f'<tr><td>{when}<td class="name">{text(name_of(drawing.path, other.path))}')
+            self.add(f'<td class="n">{text(bytes_of(len(drawing.data)))}<td class="mono dim">{drawing.digest}</tr>')
+        self.add("</table></div>")
+        if old.data == new.data:
+            self.add("<p>The two have the same bytes.</p>")
+        counts = {kind: sum(it.kind == kind for it in found) for kind in ("came", "went", "changed")}
+        self.add("<p>", *[f'<span class="chip {kind}">{count} {kind}</span>' for kind, count in counts.items()], "</p>")
+        if found:
+            self.changes(found)
+        self.add("</section>")
+
+    def changes(self, found: list[Change]) -> None:
+        """Adds the table of the files that came, went or changed."""
+        self.add('<div class="wide"><table>')
+        self.add('<tr><th><th>File<th class="n">Before<th class="n">Now<th class="n">By<th>In</tr>')
+        for it in found[:MOST_ROWS]:
+            row = it.new or it.old
+            sizes = [f'<td class="n">{amount(side.file.length) if side else "–"}' for side in (it.old, it.new)]
+            by = f"{'+' if it.by > 0 else '−' if it.by < 0 else ''}{amount(abs(it.by))}"
+            name = breakable(self._names.file(row.file)) if row else ""
+            name = f'<a href="#{self.anchor(it.new)}">{name}</a>' if it.new else name
+            self.add(
+                f'<tr><td><span class="chip {it.kind}">{it.kind}</span><td class="name">{name}'
+                f'{"".join(sizes)}<td class="n" title="{it.by:+,} bytes">{by}<td class="long dim">{text(it.where)}</tr>'
+            )
+        self.add("</table></div>")
+
+    def legend(self) -> str:
+        """Returns the legend of the colours on the page."""
+        shown = [f'<span><i class="k-{key}"></i>{text(it)}</span>' for key, it in LEGEND.items() if key in self._used]
+        shown += [f'<span><i class="mark {it}"></i>{it}</span>' for it in ("came", "changed") if it in self._marks]
+        return f'<p class="legend">{"".join(shown)}</p>'
+
+    def begin_legend(self) -> None:
+        """Keeps a place for the legend, which is known when everything else is on the page."""
+        self._legend_at = len(self._lines)
+
+    def whole(self, title: str) -> str:
+        """Returns the page."""
+        start = START.replace("@TITLE@", text(title)).replace("@STYLE@", STYLE)
+        before, after = self._lines[: self._legend_at], self._lines[self._legend_at :]
+        return "\n".join([start, *before, self.legend(), *after, "</body></html>\n"])
+
+
+def page_of(names: SheetNames, drawing: Drawing, other: Drawing | None, found: list[Change]) -> str:
+    """Returns the page of an image, which shows what changed since the other image if there is one."""
+    name = name_of(drawing.path, other.path if other else None)
+    page = Page(names)
+    page.head(drawing, name)
+    if drawing.is_cut or (other and other.is_cut):
+        page.add(f"<p>Not all is shown: there are more than {MOST_VOLUMES} volumes.</p>")
+    page.begin_legend()
+    page.flash(drawing)
+    if other:
+        page.against(other, drawing, found)
+    for sheet in drawing.sheets:
+        page.volume(sheet)
+    return page.whole(name)
+
+
+START = """<!doctype html>
+<html lang="en"><head><meta charset="utf-8">
+<meta http-equiv="Content-Security-Policy" content="default-src 'none'; style-src 'unsafe-inline'">
+<meta name="viewport" content="width=device-width"><title>@TITLE@</title><style>@STYLE@</style></head><body>"""
+
+STYLE = """
+:root{color-scheme:light dark;--page:#fbfbfa;--card:#fff;--text:#1d2126;--dim:#5d6670;--line:#dfe2e5;--link:#2b5f92;
+--free:#eceeef;--pad:#c9cdd1;--header:#8d959d;--none:#f0dfb8;--hatch:#dcc48d;--good:#2f7047;--fair:#8a5c00;
+--bad:#a63a3a;--edge:#ffb000;--shade:#0004}
+@media(prefers-color-scheme:dark){:root{--page:#15181b;--card:#1c2024;--text:#e4e7ea;--dim:#9aa4ad;--line:#343a40;
+--link:#86b6e6;--free:#2a2f34;--pad:#4a5158;--header:#7b848c;--none:#40361f;--hatch:#5a4c2c;--good:#6fc08c;
+--fair:#e0b053;--bad:#ee8585;--edge:#ffc64d;--shade:#fff3}
+}
+*{box-sizing:border-box}
+body{margin:0 auto;max-width:1180px;padding:24px 28px 40px;background:var(--page);color:var(--text);
+font:15px/1.5 system-ui,"Segoe UI","Noto Sans","DejaVu Sans",sans-serif}
+h1{font-size:25px;line-height:1.2;margin:0 0 4px}h2{font-size:18px;margin:0 0 2px}p{margin:2px 0 6px}
+h1,h2,p{overflow-wrap:anywhere}
+header{margin-bottom:14px}header p,section>p{color:var(--dim)}.dim{color:var(--dim)}
+.mono{font-family:ui-monospace,"DejaVu Sans Mono",monospace;font-size:.87em}
+section{background:var(--card);border:1px solid var(--line);border-radius:8px;padding:14px 18px 16px;margin:14px 0}
+section section{margin:16px 0 0;border-left:4px solid var(--header);border-radius:0 8px 8px 0}
+.label{font-size:13px;font-weight:600;margin:10px 0 3px;color:var(--text)!important}
+.strip{position:relative;height:26px;background:var(--card);border-radius:3px;overflow:hidden;outline:1px solid
+var(--line)}
+.strip>*{position:absolute;top:0;bottom:0;overflow:hidden;white-space:nowrap;text-overflow:ellipsis;padding-left:7px;
+color:#fff;font-style:normal;font-size:12.5px;line-height:26px} .strip>:empty{padding:0}
+.strip a{text-decoration:none}.strip .edge{box-shadow:inset -1px 0 var(--card)}
+.strip .k-free,.strip .k-pad,.strip .k-none,.strip .k-unread{color:var(--text)} .strip .k-header{color:#15181b}
+.ends{display:flex;justify-content:space-between;gap:12px;color:var(--dim);
+font:12px/1.5 ui-monospace,"DejaVu Sans Mono",monospace}
+.areas{position:relative}
+.areas a{position:absolute;padding:0 1.5px 1.5px 0;overflow:hidden;container-type:size;text-decoration:none}
+a:focus-visible{outline:3px solid var(--edge);outline-offset:-3px;z-index:1}tr:target td{background:var(--free)}
+.areas span{display:block;height:100%;overflow:hidden;padding:2px 2px 0 5px;color:#fff;font-size:12.5px;
+line-height:15px}
+.areas b{display:-webkit-box;-webkit-box-orient:vertical;-webkit-line-clamp:1;overflow:hidden;text-overflow:ellipsis;
+font-weight:600}.areas small{display:block;font-size:11.5px;white-space:nowrap}
+@container(min-height:52px){.areas b{-webkit-line-clamp:2}}
+@container(min-height:68px){.areas b{-webkit-line-clamp:3}}
+@container(max-width:60px){.areas span{padding-left:3px}.areas b{font-size:11px}}
+@container(max-width:66px) or (max-height:36px){.areas small{display:none}}
+@container(max-width:42px) or (max-height:20px){.areas b{display:none}.areas span{padding:0}}
+.wide{overflow-x:auto;margin-top:6px;
+background:linear-gradient(90deg,var(--card) 50%,transparent) 0/40px 100% local,
+linear-gradient(270deg,var(--card) 50%,transparent) 100%/40px 100% local,
+linear-gradient(90deg,var(--shade),transparent) 0/12px 100% scroll,
+linear-gradient(270deg,var(--shade),transparent) 100%/12px 100% scroll;background-repeat:no-repeat}
+.wide+p{margin-top:8px}
+table{border-collapse:collapse;width:100%;font-size:13.5px}
+th,td{padding:3px 10px 3px 0;vertical-align:baseline;border-bottom:1px solid var(--line);white-space:nowrap}
+th{text-align:left;color:var(--dim);font-weight:600} th:last-child,td:last-child{padding-right:0}
+td.name,td.long{white-space:normal;overflow-wrap:anywhere;min-width:150px} td.long{min-width:200px}
+.n{text-align:right;font-variant-numeric:tabular-nums}
+details{margin-top:8px}summary{cursor:pointer;color:var(--link);font-size:14px}a{color:var(--link)}
+.meter{display:inline-block;width:90px;height:9px;background:var(--free);border-radius:2px;vertical-align:1px}
+.meter i{display:block;height:100%;background:var(--link);border-radius:2px}
+.bar{display:inline-block;height:9px;border-radius:1px}
+.chip{display:inline-block;border:1px solid currentColor;border-radius:9px;padding:0 8px;font-size:12px;font-weight:600;
+line-height:17px;vertical-align:1px;margin-right:6px;white-space:nowrap} h2 .chip{white-space:normal}
+.chip.good,.chip.came{color:var(--good)} .chip.fair,.chip.changed{color:var(--fair)}
+.chip.bad,.chip.went{color:var(--bad)}
+.legend{font-size:13px;color:var(--dim)}.legend span{display:inline-block;margin-right:16px}
+.legend i{display:inline-block;width:12px;height:12px;margin-right:5px;vertical-align:-1px;border-radius:2px}
+.k-core{background:#98404c}.k-pei{background:#8d6114}.k-dxe{background:#35618f}.k-mm{background:#6a5598}
+.k-app{background:#1c7069}.k-image{background:#56687c}.k-free-form{background:#537338}.k-raw{background:#75695c}
+.k-other{background:#6b6b6b}.k-bad{background:#a63a3a}.k-header{background:var(--header)}
+.k-pad{background:var(--pad)}.k-free{background:var(--free)}
+.k-deleted{background:#33373b;outline:1px solid var(--dim);outline-offset:-1px}
+.k-none{background:repeating-linear-gradient(135deg,var(--none) 0 6px,var(--hatch) 6px 8px)}
+.k-unread{background:var(--card);outline:1px dashed var(--dim);outline-offset:-1px}
+.legend .k-free{outline:1px solid var(--line);outline-offset:-1px}
+.legend i.mark{width:22px;border:2px solid var(--edge)}.legend i.changed{border-style:dashed}
+.areas .came{border:3px solid var(--edge)}.areas .changed{border:2px dashed var(--edge)}
+@media(max-width:700px){body{padding:14px 12px 24px}section{padding:10px 10px 12px}section section{padding-left:8px}
+td.long{min-width:520px}}
+"""

@@ -1,0 +1,94 @@
+"""Limits how much of an image is read and opened. An image is not trusted: 64 KiB of LZMA can hold 256 MiB, and these
+can hold more of the same."""
+
+from __future__ import annotations
+
+import contextlib
+from collections.abc import Iterator
+from dataclasses import dataclass
+
+
+@dataclass(frozen=True)
+class Limits:
+    """The limits for one image."""
+
+    total: int = 1 << 30  # bytes of the image and of all opened contents
+    section: int = 1 << 28  # bytes that one section holds
+    slow: int = 1 << 25  # bytes in all sections that Python itself has to unpack
+    wasted: int = 1 << 30  # bytes that are unpacked or read, but not kept
+    sections: int = 1_000  # sections that are opened
+    parts: int = 100_000  # volumes, files and sections
+    depth: int = 8  # opened sections inside one another, and groups inside one another
+    memory: int = 1 << 29  # bytes of memory for a decoder of LZMA
+
+    @property
+    def tried(self) -> int:
+        """Returns how many parts may be read, including the parts of sections that are then not opened."""
+        return 10 * self.parts
+
+
+class Full(Exception):
+    """An image exceeds a limit. The text names the limit."""
+
+
+class Budget:
+    """The rest of the limits for one image. A reader takes something before it uses it. Each method raises Full if
+    nothing is left."""
+
+    def __init__(self, limits: Limits, size: int) -> None:
+        self.limits = limits
+        self._left = limits.total
+        self._slow = limits.slow
+        self._wasted = limits.wasted
+        self._parts = self._tried = self._sections = 0
+        self.keep(size)
+
+    def check(self, count: int) -> None:
+        """Checks that this many bytes may be kept."""
+        if count > self._left:
+            raise Full(f"{self.limits.total} bytes")
+
+    def keep(self, count: int) -> None:
+        """Takes bytes of the image, or of the contents of a section."""
+        self.check(count)
+        self._left -= count
+
+    def waste(self, count: int) -> None:
+        """Takes bytes that were unpacked or read, but are not kept. The next section is not opened if none is left."""
+        self._wasted -= count
+
+    def work(self, count: int) -> None:
+        """Takes bytes that Python itself unpacks."""
+        if count > self._slow:
+            raise Full(f"{self.limits.slow} bytes of slow compression")
+        self._slow -= count
+
+    def count(self, parts: int) -> None:
+        """Takes parts."""
+        self._parts += parts
+        self._tried += parts
+        if self._parts > self.limits.parts or self._tried > self.limits.tried:
+            raise Full(f"{self.limits.parts} parts")
+
+    @contextlib.contextmanager
+    def attempt(self) -> Iterator[None]:
+        """Gives the parts back that are taken in the block if a limit or the memory ends it. They still count as
+        tried."""
+        parts = self._parts
+        try:
+            yield
+        except (Full, MemoryError):
+            self._parts = parts
+            raise
+
+    def may_try(self) -> bool:
+        """Returns whether something may be read that may then not be kept."""
+        return self._wasted > 0 and self._tried <= self.limits.tried
+
+    def open(self) -> None:
+        """Takes a section that is opened."""
+        if self._sections == self.limits.sections:
+            raise Full(f"{self.limits.sections} sections")
+        if not self.may_try():
+            raise Full(f"{self.limits.wasted} bytes that are not kept")
+        self._sections += 1

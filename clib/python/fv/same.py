@@ -1,0 +1,368 @@
+"""Reports whether two firmware volumes or two flash images mean the same, and which files differ.
+
+Equal bytes always mean the same. Two flash images mean the same if each volume means the same as the volume at its
+place in the other image, and all other bytes are equal. A volume with fixed files is compared without their marks; if
+only marks differ, it is different too. A rejected volume has no meaning: its bytes are compared, and its line has the
+fault. With --open, sections that differ are opened if they are compressed, so the drivers in them are named. A file
+name that begins with a hyphen comes after `--`.
+
+Each volume that differs or is rejected has a line, and after it each of its files: `changed`, `only in the first` or
+`only in the second`, the GUIDs of the files around it and its own GUID, and its name. A name in quotes is that of its
+user interface section, and a name in parentheses is EDK II's name for its GUID.
+
+With --json the output is an object: `verdict`; `fault`, why the inputs were not compared, or null; `is_other_layout`,
+whether the two have volumes at different offsets or of different lengths; `other_bytes`, the offset of the first byte
+outside of volumes that differs, or null; and `volumes`, each with its offsets, length, verdict, name, `difference` as
+`fvtool compare` writes it, faults, how many files are fixed on each side, and the files that differ.
+
+Exit status 0: `same`. 1: `different`, with a line for each part that differs. 2: `rejected`, since a volume is rejected
+and its bytes differ; or the inputs were not compared, since one cannot be read (`fault 25 at 0`), has more than 1 GiB
+or 100,000 parts (`not compared: more than ..`), or memory ran out (`fault 24 at 0`). 3: the arguments are wrong. 4: the
+library libfv cannot be used, or the output cannot be written."""
+
+from __future__ import annotations
+
+import json
+from collections.abc import Callable, Iterable, Iterator, Sequence
+from dataclasses import asdict, dataclass, field
+from typing import Any
+
+from . import cli
+from ._calls import image_scan, volume_compare
+from .images import Content, File, Opened, Reader, Section, Volume, leaves, volumes_in
+from .limits import Full, Limits
+from .names import Names
+from .shown import printable, quoted
+
+NAME = "fv-same"
+SAME, DIFFERENT, REJECTED = "same", "different", "rejected"
+ONLY_FIRST, ONLY_SECOND = "only in the first", "only in the second"
+EQUAL_BYTES, OTHER_BYTES = "equal bytes", "bytes differ"
+NOT_OPENED = "not opened"
+STATUS = {SAME: cli.DONE, DIFFERENT: cli.OTHER, REJECTED: cli.REJECTED}
+
+
+@dataclass
+class Change:
+    """A file that only one of two volumes contains, or that has changed: the GUIDs of the files around it and its own
+    GUID, its readable name, the known name of its GUID, the types of its sections that differ, and what was opened in
+    it."""
+
+    change: str
+    guids: list[str]
+    name: str = ""
+    known: str = ""
+    sections: list[str] = field(default_factory=list)
+    opened: list[Inside] = field(default_factory=list)
+
+
+@dataclass
+class Pair:
+    """Two volumes and their differences, or a volume that only one of the inputs contains. For rejected volumes it has
+    the faults, and the offset in the first input of the first byte that differs. Offsets count from the first byte of
+    the input, or of the contents of a section. `fixed` is how many files of each side are marked fixed."""
+
+    offset: int
+    other_offset: int
+    length: int
+    verdict: str
+    name: str = ""
+    difference: str | None = None
+    faults: list[str] = field(default_factory=list)
+    first_byte: int | None = None
+    fixed: list[int] = field(default_factory=list)
+    files: list[Change] = field(default_factory=list)
+    is_other_order: bool = False
+
+
+@dataclass
+class Inside:
+    """The differences in the contents of two opened sections, or the reason why one was not opened."""
+
+    how: str
+    verdict: str
+    reason: str | None = None
+    sections: list[str] = field(default_factory=list)
+    volumes: list[Pair] = field(default_factory=list)
+    opened: list[Inside] = field(default_factory=list)
+
+
+@dataclass
+class Report:
+    """The result for two inputs. `other_bytes` is the offset of the first byte outside of volumes that differs."""
+
+    verdict: str = SAME
+    fault: str | None = None
+    is_other_layout: bool = False
+    volumes: list[Pair] = field(default_factory=list)
+    other_bytes: int | None = None
+
+
+def compare_images(first: bytes, second: bytes, is_open: bool = False, limits: Limits = Limits()) -> Report:
+    """Returns the differences between two images. Raises Full if one of them exceeds a limit."""
+    if first == second:
+        return Report()
+    readers = Reader(first, limits), Reader(second, limits)
+    return Comparison(readers, is_open, Names()).report(readers[0].image(), readers[1].image())
+
+
+class Comparison:
+    """A comparison of two images. Their readers open sections where two files differ."""
+
+    def __init__(self, readers: tuple[Reader, Reader], is_open: bool, names: Names) -> None:
+        self._readers = readers
+        self._is_open = is_open
+        self._names = names
+
+    def report(self, first: Content, second: Content) -> Report:
+        """Returns the differences between the two images."""
+        old, new = ({it.offset: it for it in image.volumes} for image in (first, second))
+        lengths = [{at: it.length for at, it in volumes.items()} for volumes in (old, new)]
+        report = Report(is_other_layout=lengths[0] != lengths[1])
+        for at in sorted({*old, *new}):
+            if at in old and at in new:
+                report.volumes.append(self._pair(old[at], new[at], 0))
+            else:
+                verdict, volume = (ONLY_FIRST, old[at]) if at in old else (ONLY_SECOND, new[at])
+                fixed = [len(volumes[at].fixed) if at in volumes else 0 for volumes in (old, new)]
+                report.volumes.append(Pair(at, at, volume.length, verdict, fixed=fixed))
+        if not report.is_other_layout:
+            report.other_bytes = _other_bytes(first, second)
+        report.verdict = _verdict(report)
+        return report
+
+    def _pair(self, old: Volume, new: Volume, depth: int) -> Pair:
+        """Returns the differences between two volumes."""
+        pair = Pair(old.offset, new.offset, old.length, SAME, self._names.of(new.guid), faults=_faults(old, new))
+        pair.fixed = [len(old.fixed), len(new.fixed)]
+        if pair.faults:
+            is_equal = old.body == new.body
+            pair.verdict = EQUAL_BYTES if is_equal else OTHER_BYTES
+            pair.first_byte = None if is_equal else old.offset + first_difference(old.body, new.body)
+        elif difference := _difference(old, new):
+            pair.verdict, pair.difference = DIFFERENT, difference
+            pair.files = self._changes(old, new, [], depth)
+            pair.is_other_order = [it.guid for it in old.files] != [it.guid for it in new.files]
+        return pair
+
+    def _changes(self, first: Volume, second: Volume, around: list[str], depth: int) -> list[Change]:
+        """Returns the files that differ between two volumes."""
+        old, new = ({file.guid: file for file in volume.files} for volume in (first, second))
+        found = [self._change(ONLY_FIRST, file, around) for guid, file in old.items() if guid not in new]
+        found += [self._change(ONLY_SECOND, file, around) for guid, file in new.items() if guid not in old]
+        for guid, file in old.items():
+            if guid in new:
+                found += self._changed(file, new[guid], around, depth)
+        return found
+
+    def _change(self, change: str, file: File, around: list[str]) -> Change:
+        """Returns a file that differs."""
+        return Change(change, [*around, str(file.guid)], file.name, self._names.of(file.guid))
+
+    def _changed(self, old: File, new: File, around: list[str], depth: int) -> list[Change]:
+        """Returns the differences between two files with one name. If only files inside differ, returns only these."""
+        inner: list[Change] = []
+        is_changed = _own(old) != _own(new)
+        for one, two in zip(volumes_in(old.sections), volumes_in(new.sections)):
+            if volume_compare(one.body, two.body):
+                files = self._changes(one, two, [*around, str(new.guid)], depth)
+                is_changed = is_changed or not files
+                inner += files
+        if not is_changed:
+            return inner
+        opened = self._opened(old.sections, new.sections, depth) if self._is_open else []
+        change = self._change("changed", new, around)
+        change.sections, change.opened = _other_sections(old.sections, new.sections), opened
+        return [change, *inner]
+
+    def _opened(self, old: list[Section], new: list[Section], depth: int) -> list[Inside]:
+        """Returns the differences in the sections that can be opened."""
+        packed = ([it for it in leaves(sections) if it.is_packed] for sections in (old, new))
+        return [self._section(one, two, depth) for one, two in zip(*packed) if one.body != two.body]
+
+    def _section(self, old: Section, new: Section, depth: int) -> Inside:
+        """Opens two sections, and returns their differences."""
+        for reader, section in zip(self._readers, (old, new)):
+            reader.open(section, depth)
+        if old.opened and new.opened:
+            return self._inside(old.opened, new.opened, depth + 1)
+        return Inside(old.type_name, NOT_OPENED, old.closed or new.closed)
+
+    def _inside(self, old: Opened, new: Opened, depth: int) -> Inside:
+        """Returns the differences between the contents of two sections."""
+        volumes = old.every_volume(), new.every_volume()
+        pairs = [self._pair(one, two, depth) for one, two in zip(*volumes)]
+        found = Inside(new.way.name, DIFFERENT, None, _other_sections(old.sections, new.sections))
+        found.volumes = [it for it in pairs if it.verdict not in (SAME, EQUAL_BYTES)]
+        found.opened = self._opened(old.sections, new.sections, depth)
+        others = [[it.body for it in opened.others] for opened in (old, new)]
+        is_like = old.way == new.way and len(volumes[0]) == len(volumes[1]) and others[0] == others[1]
+        if is_like and not found.sections and not found.volumes:
+            found.verdict = SAME
+        return found
+
+
+def first_difference(one: bytes, two: bytes) -> int:
+    """Returns the offset of the first byte that differs."""
+    low, high = 0, min(len(one), len(two))
+    while low < high:
+        middle = (low + high) // 2
+        if one[low : middle + 1] == two[low : middle + 1]:
+            low = middle + 1
+        else:
+            high = middle
+    return low
+
+
+def _verdict(report: Report) -> str:
+    """Returns the verdict of a report."""
+    verdicts = {it.verdict for it in report.volumes} - {SAME, EQUAL_BYTES}
+    if OTHER_BYTES in verdicts:
+        return REJECTED
+    return DIFFERENT if verdicts or report.is_other_layout or report.other_bytes is not None else SAME
+
+
+def _difference(old: Volume, new: Volume) -> str | None:
+    """Returns where two volumes without the marks of fixed files first differ, as `fvtool compare` does. If they do not
+    differ but the marks of a file do, names the attributes of the first such file. Returns None if nothing differs."""
+    if old.body == new.body:
+        return None
+    marks = (one.is_fixed != two.is_fixed for one, two in zip(old.files, new.files))
+    marked = (f"different at file {number} attributes" for number, differ in enumerate(marks) if differ)
+    return volume_compare(old.plain, new.plain) or next(marked, None)
+
+
+def _faults(old: Volume, new: Volume) -> list[str]:
+    """Returns the faults of two volumes with their sides, as `fvtool compare` writes them; a fault of both once."""
+    faults = [str(it.fault) if it.fault else "" for it in (old, new)]
+    if faults[0] == faults[1]:
+        return faults[:1] if faults[0] else []
+    return [f"{side} {fault}" for side, fault in zip(("first", "second"), faults) if fault]
+
+
+def _contents(sections: Iterable[Section]) -> list[Any]:
+    """Returns a value that is equal for equal sections, whatever volumes they hold."""
+    return [
+        (it.kind, it.header_length, "" if it.volume else _contents(it.sections) if it.sections else it.body)
+        for it in sections
+    ]
+
+
+def _own(file: File) -> Any:
+    """Returns a value that is equal for equal files, whatever volumes they hold."""
+    return file.kind, file.attributes, _contents(file.sections) if file.sections else file.body
+
+
+def _other_sections(old: list[Section], new: list[Section]) -> list[str]:
+    """Returns the types of the sections that differ, or that only one side has. Volumes in them are not compared."""
+    both = list(leaves(old)), list(leaves(new))
+    shared = min(map(len, both))
+    kinds = [one.type_name for one, two in zip(*both) if _contents([one]) != _contents([two])]
+    return list(dict.fromkeys(kinds + [it.type_name for sections in both for it in sections[shared:]]))
+
+
+def _other_bytes(first: Content, second: Content) -> int | None:
+    """Returns the offset of the first byte outside of volumes that differs. Both have volumes at the same places."""
+    starts = [0, *(it.offset + it.length for it in first.volumes)]
+    ends = [*(it.offset for it in first.volumes), max(len(first.data), len(second.data))]
+    for start, end in zip(starts, ends):
+        one, two = first.data[start:end], second.data[start:end]
+        if one != two:
+            return start + first_difference(one, two)
+    return None
+
+
+def report_lines(report: Report) -> Iterator[str]:
+    """Yields the lines of a report."""
+    if report.fault:
+        yield report.fault
+        return
+    yield report.verdict
+    if report.is_other_layout:
+        yield "the volumes are at other places, or have other lengths"
+    for pair in report.volumes:
+        yield from _pair_lines(pair)
+    if report.other_bytes is not None:
+        yield f"other bytes differ, first at {report.other_bytes}"
+
+
+def _indented(lines: Iterable[str]) -> Iterator[str]:
+    return (f"  {line}" for line in lines)
+
+
+def _pair_lines(pair: Pair) -> Iterator[str]:
+    """Yields the lines of a volume that differs or is rejected."""
+    if pair.verdict == SAME:
+        return
+    if pair.verdict in (ONLY_FIRST, ONLY_SECOND):
+        yield f"{pair.verdict}: volume at {pair.offset} length {pair.length}"
+        return
+    other = f" and at {pair.other_offset}" if pair.other_offset != pair.offset else ""
+    name = f" ({pair.name})" if pair.name else ""
+    first = [f"first at {pair.first_byte}"] if pair.first_byte is not None else []
+    what = pair.difference or ", ".join([pair.verdict, *first, *pair.faults])
+    yield f"volume at {pair.offset}{other}{name}: {what}"
+    lines = [line for it in pair.files for line in _change_lines(it)]
+    yield from _indented(lines or (["the files are in another order"] if pair.is_other_order else []))
+
+
+def _change_lines(change: Change) -> Iterator[str]:
+    """Yields the lines of a file that differs."""
+    name = f" {quoted(change.name)}" if change.name else f" ({change.known})" if change.known else ""
+    yield f"{change.change}: {'/'.join(change.guids)}{name}"
+    for inside in change.opened:
+        yield from _indented(_inside_lines(inside))
+
+
+def _inside_lines(inside: Inside) -> Sequence[str]:
+    """Returns the lines for the contents of two sections."""
+    if inside.verdict == NOT_OPENED:
+        return [f"{NOT_OPENED}: {inside.how}: {inside.reason}"]
+    if inside.verdict == SAME:
+        return [f"{inside.how}: packed in another way, what it holds is the same"]
+    lines = [f"{inside.how}: other sections: {', '.join(inside.sections)}"] if inside.sections else []
+    for parts in (*map(_pair_lines, inside.volumes), *map(_inside_lines, inside.opened)):
+        first, *rest = parts
+        lines += [f"{inside.how}, {first}", *rest]
+    return lines or [f"{inside.how}: different after its sections"]
+
+
+def compare_files(names: Sequence[str], is_open: bool, say: Callable[[str], None]) -> Report:
+    """Compares two files, and returns the report. `say` takes a remark about a file."""
+    try:
+        first, second = (cli.read(name, say, Limits().total) for name in names)
+        if first != second:
+            for name, image in zip(names, (first, second)):
+                if not image_scan(image):
+                    say(f"{printable(name)} has no volume, so its bytes are compared")
+        return compare_images(first, second, is_open)
+    except cli.Unread as line:
+        return Report(REJECTED, str(line))
+    except Full as what:
+        return Report(REJECTED, f"not compared: more than {what}")
+    except MemoryError:
+        return Report(REJECTED, "fault 24 at 0")
+
+
+def parser() -> cli.Parser:
+    """Returns the arguments of the command."""
+    made = cli.Parser(NAME, __doc__)
+    made.add_argument("first", metavar="A", help="a flash image or a firmware volume")
+    made.add_argument("second", metavar="B", help="another flash image or firmware volume")
+    made.add_argument("--open", action="store_true", help="open compressed sections where two files differ")
+    made.add_argument("--json", action="store_true", help="write a JSON object")
+    return made
+
+
+@cli.command(NAME)
+def main(words: list[str]) -> int:
+    """Runs the command."""
+    given = parser().parse_args(words)
+    cli.limit_memory()
+    report = compare_files((given.first, given.second), given.open, lambda what: cli.complain(NAME, what))
+    print(json.dumps(asdict(report), indent=2) if given.json else "\n".join(report_lines(report)))
+    return STATUS[report.verdict]
+
+
+if __name__ == "__main__":
+    raise SystemExit(main())

@@ -1,0 +1,23 @@
+"""Shows the texts of an image so that no character in them controls the terminal or begins another line."""
+
+from __future__ import annotations
+
+import re
+
+LONGEST_NAME = 60  # characters of a text that a file name takes
+
+
+def printable(text: str) -> str:
+    """Returns a text with the number in place of each character that cannot be seen: a line feed, an escape sequence, a
+    character that changes the direction of a line, a byte of a name that is not UTF-8."""
+    return "".join(it if it.isprintable() else f"\\u{ord(it):04x}" for it in text)
+
+
+def quoted(text: str) -> str:
+    """Returns a text in quotes, as `fvtool list` shows it."""
+    return '"' + "".join(it if " " <= it <= "~" and it not in '"\\' else f"\\u{ord(it):04x}" for it in text) + '"'
+
+
+def file_name(text: str) -> str:
+    """Returns a text in a form that can be part of a file name: letters, digits and `._+-`."""
+    return re.sub(r"[^A-Za-z0-9._+-]+", "_", text)[:LONGEST_NAME]

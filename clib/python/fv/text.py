@@ -1,0 +1,187 @@
+"""Writes the meaning of the volumes of an image as lines that git can compare.
+
+    git config diff.fv.textconv fv-text
+
+Each volume has the lines of `fvtool list --sums`, without the numbers of files and sections, because an extra file
+would change every line after it. A volume with fixed files is listed without their marks, and the lines say which files
+are fixed. With --open, compressed sections have lines too. A rejected volume, a file without a volume, and an image
+with more than 100,000 parts are shown by their digests. All bytes outside of volumes share one digest. The last
+argument is the name of the image, even if it begins with a hyphen.
+
+Exit status 0: the lines are written, whatever the image is. 2: the image cannot be read, or has more than 1 GiB. 3: the
+arguments are wrong. 4: the library libfv cannot be used, the output cannot be written, or memory ran out. git stops at
+any status except 0, so nothing wrong gets into its cache."""
+
+from __future__ import annotations
+
+import hashlib
+import struct
+import uuid
+from collections import Counter
+from collections.abc import Iterable, Iterator
+from dataclasses import replace
+
+from . import cli, images
+from ._calls import volume_tree, volume_tree_digests
+from ._errors import FaultError
+from ._types import Node, NodeKind
+from .images import Content, File, Opened, Section, Volume, files_in, leaves
+from .limits import Full
+from .names import GROUP, SUBTYPE, UI, VERSION
+from .shown import quoted
+
+NAME = "fv-text"
+
+
+def lines(image: Content, is_open: bool) -> Iterator[str]:
+    """Yields the lines of an image. With --open it was read with its sections opened."""
+    for volume in image.volumes:
+        yield from _volume(volume)
+    yield f"other bytes {_sum(*(it.body for it in image.others))}"
+    if is_open:
+        for _, file in files_in(image):
+            for section in leaves(file.sections):
+                if section.opened or section.closed:
+                    yield f"in file {file.guid}:"
+                    yield from _packed(section, 1)
+
+
+def _sum(*data: bytes) -> str:
+    """Returns the digest of some bytes, one after another."""
+    digest = hashlib.sha256()
+    for part in data:
+        digest.update(part)
+    return f"sha256 {digest.hexdigest()}"
+
+
+def _indented(found: Iterable[str], depth: int) -> Iterator[str]:
+    return (f"{'  ' * depth}{line}" for line in found)
+
+
+def _volume(volume: Volume) -> Iterator[str]:
+    """Yields the lines of a volume. The first line has its place. The offset of a fault counts from its first byte."""
+    yield f"volume at {volume.offset} length {volume.length}"
+    try:
+        if volume.fault:
+            raise FaultError(replace(volume.fault, offset=volume.fault.offset - volume.offset))
+        yield from _list(volume)
+    except FaultError as error:
+        yield f"{error.fault}, {_sum(volume.body)} as stored"
+
+
+def _list(volume: Volume) -> Iterator[str]:
+    """Yields the lines of `list --sums`. Raises FaultError before the first line if the volume does not fit."""
+    data = volume.plain
+    digests, nodes = volume_tree_digests(data), volume_tree(data)
+    counts = Counter(node.parent for node in nodes if node.kind == NodeKind.FILE)
+    if volume.fixed:
+        yield f"{len(volume.fixed)} of {len(volume.files)} files fixed"
+    files = iter(volume.files)
+    for row, (node, digest) in enumerate(zip(nodes, digests)):
+        file = next(files) if node.depth == 1 else None
+        ending = f" sha256 {digest.hex()}" if digest else ""
+        yield f"{'  ' * node.depth}{_line(node, counts[row], data)}{ending}{_fixed(file)}"
+
+
+def _fixed(file: File | None) -> str:
+    """Returns how the line of a file ends that is fixed."""
+    return " fixed" if file and file.is_fixed else ""
+
+
+def _line(node: Node, files: int, data: bytes) -> str:
+    """Returns the line of a row of a tree, without its digest. `files` is how many files a volume has."""
+    if node.kind == NodeKind.VOLUME:
+        name = f" name {node.guid}" if node.guid else ""
+        return f"volume ffs{node.file_system} length {node.length} files {files}{name}"
+    if node.kind == NodeKind.FILE:
+        # The list has bit 0x01 too, which says that the file has a large header.
+        attributes = (node.attributes or 0) | (node.header_length == 32)
+        return f"file {node.guid} type {node.efi_type:02x} attributes {attributes:02x} data {node.length}"
+    body = data[node.offset : node.offset + node.length]
+    return _section_line(node.efi_type or 0, node.header_length, body)
+
+
+def _section_line(kind: int, header_length: int, body: bytes) -> str:
+    """Returns the line of a section, without its digest."""
+    form = "extended" if header_length == 8 else "short"
+    return f"section type {kind:02x} {form} body {len(body)}{_detail(kind, body)}"
+
+
+def _detail(kind: int, body: bytes) -> str:
+    """Returns the build number, the text or the GUID of a body that has the form of its type."""
+    if kind == VERSION and len(body) >= 2:
+        return f" version {struct.unpack_from('<H', body)[0]}"
+    if kind == UI and len(body) % 2 == 0 and body[-2:] == b"\0\0":
+        return f" ui {quoted(body[:-2].decode('utf-16-le', 'surrogatepass'))}"
+    if kind == SUBTYPE and len(body) >= 16:
+        return f" subtype {uuid.UUID(bytes_le=body[:16])}"
+    return ""
+
+
+def _packed(section: Section, depth: int) -> Iterator[str]:
+    """Yields the lines of a section that may be opened, and of its contents."""
+    if section.opened:
+        yield from _indented([f"{section.opened.way.name}:"], depth)
+        yield from _opened(section.opened, depth + 1)
+    else:
+        yield from _indented([f"not opened: {section.closed}, {_sum(section.body)}"], depth)
+
+
+def _opened(content: Opened, depth: int) -> Iterator[str]:
+    """Yields the lines of the contents of a section."""
+    yield from _sections(content.sections, depth)
+    for volume in content.volumes:
+        yield from _indented(_volume(volume), depth)
+    if content.others:
+        yield from _indented([f"other bytes {_sum(*(it.body for it in content.others))}"], depth)
+
+
+def _sections(sections: Iterable[Section], depth: int) -> Iterator[str]:
+    """Yields the lines of the sections in the contents of a section."""
+    for section in sections:
+        line = _section_line(section.kind, section.header_length, section.body)
+        if section.volume:
+            yield from _indented([line, *_indented(_volume(section.volume), 1)], depth)
+        elif section.kind == GROUP:
+            yield from _indented([line], depth)
+            yield from _sections(section.sections, depth + 1)
+        elif section.is_packed:
+            yield from _indented([line], depth)
+            yield from _packed(section, depth + 1)
+        else:
+            yield from _indented([f"{line} {_sum(section.body)}"], depth)
+
+
+def shown(data: bytes, is_open: bool) -> Iterator[str]:
+    """Yields the lines of an image. An image that has no volume, or too many parts, is shown by its digest."""
+    try:
+        image = images.read(data) if is_open else images.Reader(data).image()
+    except Full as what:
+        yield f"more than {what}, {len(data)} bytes, {_sum(data)}"
+        return
+    if image.volumes:
+        yield from lines(image, is_open)
+    else:
+        yield f"no volume, {len(data)} bytes, {_sum(data)}"
+
+
+def parser() -> cli.Parser:
+    """Returns the arguments of the command."""
+    made = cli.Parser(NAME, __doc__)
+    made.add_argument("image", metavar="IMAGE", help="a flash image or a firmware volume")
+    made.add_argument("--open", action="store_true", help="list the contents of compressed sections too")
+    return made
+
+
+@cli.command(NAME)
+def main(words: list[str]) -> int:
+    """Runs the command."""
+    given = parser().parse_args(cli.with_name_last(words))
+    cli.limit_memory()
+    for line in shown(cli.read_for(NAME, given.image), given.open):
+        print(line)
+    return cli.DONE
+
+
+if __name__ == "__main__":
+    raise SystemExit(main())

@@ -1,0 +1,71 @@
+//! Rows: the structures that calls write, with getters.
+
+use libfv_sys as sys;
+
+/// A row, which a call of libfv writes.
+///
+/// # Safety
+///
+/// The type must have the layout of its structure of `fv.h`.
+pub(crate) unsafe trait Row: Sized {
+    /// The structure of `fv.h`.
+    type Raw;
+}
+
+/// Defines a row over a structure of `fv.h`. Its getters decide whether two rows are equal.
+macro_rules! row {
+    ($(#[$attribute:meta])* $name:ident($raw:ident) { $($getter:ident),* $(,)? }) => {
+        $(#[$attribute])*
+        #[derive(Clone, Copy)]
+        #[repr(transparent)]
+        pub struct $name(libfv_sys::$raw);
+
+        // SAFETY: the structure is its only field, and the type is transparent.
+        unsafe impl crate::row::Row for $name {
+            type Raw = libfv_sys::$raw;
+        }
+
+        impl PartialEq for $name {
+            fn eq(&self, other: &$name) -> bool {
+                $(self.$getter() == other.$getter())&&*
+            }
+        }
+
+        impl Eq for $name {}
+
+        impl std::hash::Hash for $name {
+            fn hash<H: std::hash::Hasher>(&self, state: &mut H) {
+                $(self.$getter().hash(state);)*
+            }
+        }
+
+        impl std::fmt::Debug for $name {
+            fn fmt(&self, f: &mut std::fmt::Formatter<'_>) -> std::fmt::Result {
+                f.debug_struct(stringify!($name))
+                    $(.field(stringify!($getter), &self.$getter()))*
+                    .finish()
+            }
+        }
+    };
+}
+pub(crate) use row;
+
+/// Reports a value that `fv.h` does not have. Its kinds get no new member in 2.x.
+pub(crate) fn unknown(what: &str, value: u32) -> ! {
+    panic!("libfv returned an unknown {what}: {value}")
+}
+
+/// Returns a field of the input that has 8 or 16 bits there.
+pub(crate) fn narrow<T: TryFrom<u32>>(value: u32, what: &str) -> T {
+    T::try_from(value).unwrap_or_else(|_| unknown(what, value))
+}
+
+/// Returns the bytes from an offset of the input.
+pub(crate) fn range(offset: u64, length: u64) -> std::ops::Range<usize> {
+    offset as usize..(offset + length) as usize
+}
+
+/// Returns a GUID, or `None` for zeros, which are written in place of a GUID.
+pub(crate) fn guid_or_none(raw: sys::fv_guid) -> Option<crate::Guid> {
+    (raw.bytes != [0; 16]).then_some(crate::Guid::from_bytes_le(raw.bytes))
+}

@@ -1,0 +1,193 @@
+/* The calls of fv.h, over those that are proved. Each call checks its pointers, sizes and choices, and passes them on
+ * to the proved call of the same name that begins with fvp_ and has the same parameters. It reads no byte of an input,
+ * and changes no result. This file is not proved: tests/arguments.c and tests/layer.c try it.
+ *
+ * The proved calls take slices and references, as Rattle and Rust do. So none of their pointers may be NULL, each must
+ * be aligned, a slice has at most half of the addresses, and what is written must not overlap anything else. */
+#include "fv.h"
+#include <stdbool.h>
+
+fv_result fvp_header_read(const void *, size_t, fv_header *, fv_fault *);
+fv_result fvp_image_scan(const void *, size_t, fv_header *, size_t, size_t *, fv_fault *);
+fv_result fvp_image_check(const void *, size_t, fv_volume_check *, size_t, size_t *, fv_fault *);
+fv_result fvp_image_normalise(const void *, size_t, void *, size_t, fv_fault *);
+fv_result fvp_volume_is_canonical(const void *, size_t, uint32_t *, fv_fault *);
+fv_result fvp_volume_normalise(const void *, size_t, void *, size_t, fv_fault *);
+fv_result fvp_volume_unfix(const void *, size_t, void *, size_t, fv_fault *);
+fv_result fvp_volume_digest(const void *, size_t, fv_sha256 *, fv_fault *);
+fv_result fvp_volume_compare(const void *, size_t, const void *, size_t, char *, size_t, fv_comparison *, fv_fault *);
+fv_result fvp_volume_cells(const void *, size_t, fv_cell *, size_t, size_t *, fv_fault *);
+fv_result fvp_volume_tree(const void *, size_t, fv_node *, size_t, size_t *, fv_fault *);
+fv_result fvp_volume_tree_digests(const void *, size_t, fv_sha256 *, size_t, size_t *, fv_fault *);
+fv_result fvp_volume_extract(const void *, size_t, size_t, void *, size_t, size_t *, fv_fault *);
+fv_result fvp_depex_evaluate(const void *, size_t, uint32_t, const fv_guid *, size_t, uint32_t *, fv_fault *);
+fv_result fvp_hobs_read(const void *, size_t, fv_hob *, size_t, size_t *, size_t *, fv_fault *);
+
+/* An argument: its address, the number of its elements, their size and alignment, and whether the call writes to it. */
+struct span {
+    const void *at;
+    size_t count, size, align;
+    bool is_result;
+};
+
+#define BYTES(pointer, count) {(pointer), (count), 1, 1, false}
+#define BUFFER(pointer, count) {(pointer), (count), 1, 1, true}
+#define ROWS(pointer, count) {(pointer), (count), sizeof *(pointer), _Alignof(__typeof__(*(pointer))), true}
+#define RESULT(pointer) ROWS(pointer, 1)
+
+/* Whether this argument on its own is not allowed. */
+static bool is_bad(const struct span *span)
+{
+    uintptr_t at = (uintptr_t)span->at;
+    if (at % span->align) return true;
+    if (!span->count) return false;
+    return !at || span->count > SIZE_MAX / 2 / span->size || span->count * span->size > UINTPTR_MAX - at;
+}
+
+/* Whether these two arguments, each of which is allowed, have a byte in common. */
+static bool overlap(const struct span *a, const struct span *b)
+{
+    uintptr_t x = (uintptr_t)a->at, y = (uintptr_t)b->at;
+    if (!a->count || !b->count) return false;
+    return x <= y ? y - x < a->count * a->size : x - y < b->count * b->size;
+}
+
+/* Whether one of the arguments is not allowed, or overlaps one to which the call writes. */
+static bool are_bad(const struct span *spans, size_t count)
+{
+    for (size_t i = 0; i < count; i++) {
+        if (is_bad(&spans[i])) return true;
+        for (size_t j = 0; j < i; j++)
+            if ((spans[i].is_result || spans[j].is_result) && overlap(&spans[i], &spans[j])) return true;
+    }
+    return false;
+}
+
+/* Returns FV_BAD_ARGUMENT from the call if one of these arguments is bad, or `fault`. A fault that the caller does not
+ * ask for is written to a variable of the call. */
+#define CHECK(...)                                                                             \
+    fv_fault unwanted;                                                                         \
+    if (!fault) fault = &unwanted;                                                             \
+    const struct span spans[] = {RESULT(fault), __VA_ARGS__};                                  \
+    if (are_bad(spans, sizeof spans / sizeof *spans)) return FV_BAD_ARGUMENT
+
+/* What an empty argument leads to if it is NULL: aligned for each type of fv.h, and neither read nor written. */
+static _Alignas(16) uint8_t nothing[16];
+
+static const void *input(const void *pointer)
+{
+    return pointer ? pointer : nothing;
+}
+
+static void *buffer_of(void *pointer)
+{
+    return pointer ? pointer : nothing;
+}
+
+fv_result fv_header_read(const void *bytes, size_t size, fv_header *header, fv_fault *fault)
+{
+    CHECK(BYTES(bytes, size), RESULT(header));
+    return fvp_header_read(input(bytes), size, header, fault);
+}
+
+fv_result fv_image_scan(const void *image, size_t size, fv_header *rows, size_t room, size_t *count, fv_fault *fault)
+{
+    CHECK(BYTES(image, size), ROWS(rows, room), RESULT(count));
+    return fvp_image_scan(input(image), size, buffer_of(rows), room, count, fault);
+}
+
+fv_result fv_image_check(const void *image, size_t size, fv_volume_check *rows, size_t room, size_t *count,
+                         fv_fault *fault)
+{
+    CHECK(BYTES(image, size), ROWS(rows, room), RESULT(count));
+    return fvp_image_check(input(image), size, buffer_of(rows), room, count, fault);
+}
+
+fv_result fv_image_normalise(const void *image, size_t size, void *buffer, size_t buffer_size, fv_fault *fault)
+{
+    CHECK(BYTES(image, size), BUFFER(buffer, buffer_size));
+    return fvp_image_normalise(input(image), size, buffer_of(buffer), buffer_size, fault);
+}
+
+fv_result fv_volume_is_canonical(const void *volume, size_t size, uint32_t *canonical, fv_fault *fault)
+{
+    CHECK(BYTES(volume, size), RESULT(canonical));
+    return fvp_volume_is_canonical(input(volume), size, canonical, fault);
+}
+
+fv_result fv_volume_normalise(const void *volume, size_t size, void *buffer, size_t buffer_size, fv_fault *fault)
+{
+    CHECK(BYTES(volume, size), BUFFER(buffer, buffer_size));
+    return fvp_volume_normalise(input(volume), size, buffer_of(buffer), buffer_size, fault);
+}
+
+fv_result fv_volume_unfix(const void *volume, size_t size, void *buffer, size_t buffer_size, fv_fault *fault)
+{
+    CHECK(BYTES(volume, size), BUFFER(buffer, buffer_size));
+    return fvp_volume_unfix(input(volume), size, buffer_of(buffer), buffer_size, fault);
+}
+
+fv_result fv_volume_digest(const void *volume, size_t size, fv_sha256 *digest, fv_fault *fault)
+{
+    CHECK(BYTES(volume, size), RESULT(digest));
+    return fvp_volume_digest(input(volume), size, digest, fault);
+}
+
+fv_result fv_volume_compare(const void *first, size_t first_size, const void *second, size_t second_size, char *text,
+                            size_t text_size, fv_comparison *found, fv_fault *fault)
+{
+    CHECK(BYTES(first, first_size), BYTES(second, second_size), BUFFER(text, text_size), RESULT(found));
+    return fvp_volume_compare(input(first), first_size, input(second), second_size, buffer_of(text), text_size, found,
+                              fault);
+}
+
+fv_result fv_volume_cells(const void *volume, size_t size, fv_cell *rows, size_t room, size_t *count, fv_fault *fault)
+{
+    CHECK(BYTES(volume, size), ROWS(rows, room), RESULT(count));
+    return fvp_volume_cells(input(volume), size, buffer_of(rows), room, count, fault);
+}
+
+fv_result fv_volume_tree(const void *volume, size_t size, fv_node *rows, size_t room, size_t *count, fv_fault *fault)
+{
+    CHECK(BYTES(volume, size), ROWS(rows, room), RESULT(count));
+    return fvp_volume_tree(input(volume), size, buffer_of(rows), room, count, fault);
+}
+
+fv_result fv_volume_tree_digests(const void *volume, size_t size, fv_sha256 *rows, size_t room, size_t *count,
+                                 fv_fault *fault)
+{
+    CHECK(BYTES(volume, size), ROWS(rows, room), RESULT(count));
+    return fvp_volume_tree_digests(input(volume), size, buffer_of(rows), room, count, fault);
+}
+
+fv_result fv_volume_extract(const void *volume, size_t size, size_t row, void *buffer, size_t buffer_size,
+                            size_t *length, fv_fault *fault)
+{
+    CHECK(BYTES(volume, size), BUFFER(buffer, buffer_size), RESULT(length));
+    return fvp_volume_extract(input(volume), size, row, buffer_of(buffer), buffer_size, length, fault);
+}
+
+fv_result fv_depex_evaluate(const void *expression, size_t size, uint32_t phase, const fv_guid *installed,
+                            size_t installed_count, uint32_t *value, fv_fault *fault)
+{
+    if (phase > FV_PHASE_DXE) return FV_BAD_ARGUMENT;
+    CHECK(BYTES(expression, size), {installed, installed_count, sizeof *installed, 1, false}, RESULT(value));
+    return fvp_depex_evaluate(input(expression), size, phase, input(installed), installed_count, value, fault);
+}
+
+fv_result fv_hobs_read(const void *list, size_t size, fv_hob *rows, size_t room, size_t *count, size_t *list_length,
+                       fv_fault *fault)
+{
+    CHECK(BYTES(list, size), ROWS(rows, room), RESULT(count), RESULT(list_length));
+    return fvp_hobs_read(input(list), size, buffer_of(rows), room, count, list_length, fault);
+}
+
+uint32_t fv_version_number(void)
+{
+    return FV_VERSION_NUMBER;
+}
+
+const char *fv_version(void)
+{
+    return FV_VERSION;
+}

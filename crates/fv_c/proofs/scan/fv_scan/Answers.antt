@@ -1,8 +1,0 @@
-use Rattle.std.proofs.Common.{rules}
-use Rattle.fv_c.proofs.scan.fv_scan.Goals as goal
-
-pub returns-clause-ok : goal.returns-clause-ok
-returns-clause-ok c = search rules fits 300 steps 1000000
-
-pub returns-clause-small : goal.returns-clause-small
-returns-clause-small c = search rules fits 300 steps 1000000

@@ -1,0 +1,14 @@
+use Rattle.std.proofs.Common.{List, ◌++◌}
+use Rattle.fv_canon.specs.declared.image_digests.ImageDigests.{ImageDigests}
+use Rattle.fv_canon.specs.inner.Digests.{Covers}
+use Rattle.fv_c.proofs.WalkRows.{AreRowDigests}
+use Rattle.fv_c.specs.declared.canonical.FvSha256.{FvSha256}
+use Rattle.fv_c.proofs.tree_digests.row_digests.Given as goal
+
+-- the digests cover the rows that are left; the digests of these rows, after those that are added, are those of all rows
+abbrev pub invariant-loop-row : goal.invariant-loop-row
+invariant-loop-row l =
+    goal.iterator-loop-row.can_next l.row-iterator
+    × goal.iterator-loop-row.is_finite l.row-iterator
+    × Covers (λ (d : ImageDigests). d.starts.now) l.digests l.row-iterator
+    × ((others : List FvSha256) → AreRowDigests others l.row-iterator → AreRowDigests (l.found.items ++ others) l.initial.row-iterator)

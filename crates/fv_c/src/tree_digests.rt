@@ -1,0 +1,96 @@
+//! The SHA-256 digests of the parts of a volume. A digest is computed from the bytes as the walk over
+//! the part puts them: no bytes are kept in memory.
+
+ghost use Rattle.std.specs.Prelude.{◌≡◌, ◌≢◌, ◌<◌, ◌++◌, ℕ, List, length, drop, IfOk, IfErr};
+ghost use Rattle.fv_base.specs.Words.{OrMemory, fault_number, out_of_memory};
+ghost use Rattle.fv_base.specs.declared.fault.Fault.{Fault};
+ghost use Rattle.fv_canon.specs.Words.{LaysVolume, NormalisesTo, Refuses};
+ghost use Rattle.fv_c.specs.Reports.{BeginsWithHeader, reported_fault, no_fault};
+ghost use Rattle.fv_c.specs.TreeParts.{tree_rows};
+ghost use Rattle.fv_c.specs.ReportedDigests.{AreDigests, HasTreeDigests};
+
+use crate::buffer::put_found;
+use crate::canonical::FvSha256;
+use crate::reports::{FvFault, refused};
+use fv_base::Fault;
+use fv_canon::{ImageDigests, lay_out_volume};
+use fv_rows::{Digests, TreeWalk};
+use fv_tree::VolumeView;
+use std::alloc::{AllocError, Global};
+
+// Returns the digests of the rows of a volume. `starts` are the starts of its layout.
+fn row_digests(
+    alloc: Global,
+    volume: &VolumeView<'_>,
+    starts: &[u64],
+) -> Result<Vec<FvSha256>, AllocError>
+    requires { LaysVolume volume.now starts.now }
+    ensures { IfOk result (λ v. AreDigests v.items (tree_rows volume.now)) }
+{
+    let mut found = Vec::new(alloc);
+    let mut digests = ImageDigests::new(starts);
+    for row in TreeWalk::of(volume) {
+        let digest = digests.next_digest(&row);
+        found.push(FvSha256 {
+            bytes: digest.unwrap_or([0; 32]),
+        })?;
+    }
+    Ok(found)
+}
+
+// Reads the input as a volume, lays it out, and returns the digests of the rows of its tree.
+fn digests_in(alloc: Global, volume: &[u8]) -> Result<Vec<FvSha256>, Fault>
+    ensures ok { IfOk result (λ v. HasTreeDigests volume.now v.items) }
+    ensures err { IfErr result (OrMemory (Refuses volume.now)) }
+    ensures fits { (image : List ℕ) → NormalisesTo volume.now image → IfErr result (λ f. f ≡ out_of_memory) }
+    ensures memory { IfErr result (λ f. f ≡ out_of_memory → BeginsWithHeader volume.now) }
+{
+    let laid = lay_out_volume(alloc, volume)?;
+    let digests = row_digests(alloc, laid.volume(), laid.layout().starts())?;
+    Ok(digests)
+}
+
+/// Writes the SHA-256 digests of the parts of a volume, which is the whole input, to the start of
+/// `rows`: one for each row of `fvp_volume_tree`, in the same order. A volume's digest covers its
+/// canonical image, a file's digest its data as the canonical image holds them, and a section's
+/// digest its body. A section that holds sections or a volume has 32 zero bytes instead. `count` is
+/// the number of digests. Returns 0. The input is read and laid out once, and no image is kept in
+/// memory. (PI specification, volume 3, sections 3.2.1, 3.2.3 and 3.2.4.)
+///
+/// # Errors
+///
+/// 256 if `rows` has fewer elements than `count`. The number of the first fault, which is in
+/// `fault`: a fault of `normalise`; 24 if memory runs out. `count` is unchanged then. `rows` is
+/// unchanged in both cases.
+#[unsafe(no_mangle)]
+pub extern "C" fn fvp_volume_tree_digests(
+    alloc: Global,
+    volume: &[u8],
+    rows: &mut [FvSha256],
+    count: &mut u64,
+    fault: &mut FvFault,
+) -> u32
+    // The buffer begins with the digests, and holds what it held after them.
+    ensures ok { result ≡ 0 → (digests : List FvSha256) × HasTreeDigests volume.now digests
+        × (count.new ≡ length digests)
+        × (rows.new ≡ digests ++ drop (length digests) rows.old) × (fault.new ≡ no_fault) }
+
+    ensures kept { result ≢ 0 → rows.new ≡ rows.old }
+    ensures small { result ≡ 256 → (digests : List FvSha256) × HasTreeDigests volume.now digests
+        × (count.new ≡ length digests)
+        × (length rows.old < length digests) × (fault.new ≡ no_fault) }
+
+    // Any other fault is out of memory, only if the input begins with the header of a volume, or
+    // the first of the input.
+    ensures err { result ≢ 0 → result ≢ 256 → (f : Fault) × OrMemory (Refuses volume.now) f
+        × (f ≡ out_of_memory → BeginsWithHeader volume.now)
+        × (result ≡ fault_number f.kind) × (fault.new ≡ reported_fault f) × (count.new ≡ count.old) }
+
+    // If the input has an image, only memory or the buffer can be too small.
+    ensures fits { (image : List ℕ) → NormalisesTo volume.now image → result ≢ 0 → result ≢ 256 → result ≡ 24 }
+{
+    match digests_in(alloc, volume) {
+        Ok(digests) => put_found(digests.as_slice(), rows, count, fault),
+        Err(f) => refused(f, fault),
+    }
+}
