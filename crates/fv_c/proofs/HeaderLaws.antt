@@ -1,4 +1,5 @@
--- What is read from the header of a volume at its offsets: Attributes, and FvName of the extended header.
+-- Proves that the bytes at the offsets of Attributes (`attributes_are`) and of the extended header's FvName (`no_name`,
+-- `some_name`) are these fields of the header that was read (PI specification, volume 3, sections 3.2.1.1 and 3.2.1.2).
 use Rattle.std.proofs.Common.{◌≡◌, ◌≢◌, ◌≤◌, ◌∙◌, ◌+◌, ℕ, List, ◌++◌, ap, append_assoc, arith, drop, length, length-append, refl, sym, take}
 use Rattle.std.specs.Prelude.{Option, None, Some, replicate}
 use Rattle.std.proofs.lemmas.List.{drop_at, take_at}
@@ -9,13 +10,13 @@ use Rattle.fv_head.specs.declared.extent.Extent.{Extent}
 use Rattle.fv_head.proofs.Laws.{front_lies}
 use Rattle.fv_c.specs.ReportedHeaders.{volume_name}
 
--- Attributes are the attributes
+-- the 4 bytes at offset 44 are Attributes
 pub attributes_are : (h : HeadFields) (e : Extent) (b : List ℕ) → BeginsVolume h e b → le_at 44 4 b ≡ h.attributes
 attributes_are h e b front =
     let least = (front_lies b h e front).least in
     ap le (sym (field-take 44 4 e.header_len b (omega (arith, least)))) ∙ front.head.attributes
 
--- without an extended header, there is no name
+-- if ExtHeaderOffset is 0, the volume has no name
 no_name : (x : Option Extension) (e : Extent) (b : List ℕ) → 64 ≤ e.header_len → HasExt x e b → le_at 52 2 b ≡ 0
     → replicate 16 0 ≡ volume_name x
 no_name None e b least ext none = refl
@@ -26,7 +27,7 @@ pub name_none : (h : HeadFields) (e : Extent) (b : List ℕ) → BeginsVolume h 
     → replicate 16 0 ≡ volume_name h.ext
 name_none h e b front none = no_name h.ext e b (front_lies b h e front).least front.ext none
 
--- the name is the first 16 bytes of the extended header
+-- if ExtHeaderOffset is not 0, the name is the first 16 bytes at this offset
 some_name : (x : Option Extension) (e : Extent) (b : List ℕ) → HasExt x e b → le_at 52 2 b ≢ 0
     → (le_at 52 2 b + 16 ≤ length b) × (field (le_at 52 2 b) 16 b ≡ volume_name x)
 some_name None e b (none, first) some = absurd (some none)

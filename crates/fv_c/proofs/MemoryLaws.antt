@@ -1,4 +1,6 @@
--- What is read begins as it must where memory can run out.
+-- Proves the conditions of the clauses on memory: memory can run out only if the bytes begin with a volume header
+-- (`header_of`), with a hand-off information table (`begins_table`) or with a valid first op (`begins_first`), or if a
+-- volume begins in the image (`checked_place`).
 use Rattle.std.proofs.Common.{◌≡◌, ◌≢◌, ◌≤◌, ◌∙◌, ◌++◌, [], ◌∷◌, ℕ, List, ap, drop, length, map, refl, sym, take, append_assoc}
 use Rattle.std.specs.List.{AllByRecursion}
 use Rattle.std.proofs.lemmas.List.{take-append-drop}
@@ -22,7 +24,7 @@ use Rattle.fv_c.specs.Reports.{BeginsWithHeader}
 pub header_of : (b : List ℕ) (m : Meaning) → Accepted b m → BeginsWithHeader b
 header_of b m accepted = (head_of m, accepted.1.extent, accepted.1.front)
 
--- a list of blocks begins with a hand-off information table
+-- a list of hand-off blocks begins with a hand-off information table (PHIT)
 table_of : (all front : List HobForm) (last : HobForm) (n : ℕ) (b : List ℕ) → all ≡ front ++ last ∷ [] → JoinsHobs all (take n b)
     → BeginWithTable all → BeginsTable b
 table_of [] [] last n b e joined begins = cc
@@ -40,7 +42,7 @@ table_of (h ∷ hs) front last n b e (c, rest, is, hob, more) begins = (
 pub begins_table : (all : List HobForm) (n : ℕ) (b : List ℕ) → IsHobList all (take n b) → BeginsTable b
 begins_table all n b list = table_of all list.front list.last n b list.ends list.joined list.begins
 
--- an expression begins with an op that may be the first
+-- a dependency expression begins with an op that may be the first
 first_of : (phase : Phase) (stage : Stage) (front : List Op) (rest b : List ℕ) → OpPath phase stages.Start front stage
     → OpFits phase stage ops.End → b ≡ ops_bytes (front ++ ops.End ∷ []) ++ rest → BeginsFirstOp phase b
 first_of phase stage [] rest b path ended is = (
@@ -61,7 +63,7 @@ begins_first phase all rest b spells =
     let e = whole_ended phase all rest b spells in
     first_of phase e.stage e.front rest b e.path e.ended (spells.joined ∙ ap (λ (l : List Op). ops_bytes l ++ rest) e.joined)
 
--- an image has a volume if something is said of one
+-- a volume begins in the image if its checks are not empty
 place_of : (b places : List ℕ) (checks : List VolumeCheck) → map (λ (c : VolumeCheck). c.offset) checks ≡ places
     → AllByRecursion (IsPlace b) places → checks ≢ [] → (place : ℕ) × IsPlace b place
 place_of b [] [] same at some = absurd (some refl)

@@ -1,4 +1,8 @@
--- The part of a row of a tree.
+-- Proves the results of `fvp_volume_extract` (`extract_done`, `extract_small`, `extract_absent`, `extract_stops`) from
+-- what `put_row` returns (`PutsPart`, `StopsPart`). The steps:
+-- 1. A part is in the buffer, or the buffer is too short and unchanged (`part_put`, `part_kept`).
+-- 2. `PutsPart` and `StopsPart` hold for the row's part (`puts_none`, `puts_part`, `stops_part`).
+-- 3. The clauses follow for the input whose meaning is the tree's.
 use Rattle.std.proofs.Common.{◌≡◌, ◌∙◌, ◌⊎◌, ◌<◌, ◌≤◌, ◌++◌, ℕ, zero, suc, List, [], ◌∷◌, length, drop, Some, None}
 use Rattle.std.proofs.Common.{refl, sym, subst, inl, inr, arith}
 use Rattle.std.specs.Prelude.{Option, option_map, slice_get}
@@ -17,7 +21,7 @@ use Rattle.fv_c.specs.inner.Rows.{IsWritten, PutsPart, StopsPart}
 
 -- ---- no such row
 
--- a tree without a row of this number has at most this many rows
+-- a tree has at most n rows if it has no row n
 no_row : (row : ℕ) (m : Meaning) → part_at row m ≡ None → length (tree_rows m) ≤ row
 no_row row m none = go (tree_rows m) row none where
   go : (rows : List TreeRow) (i : ℕ) → option_map (λ (r : TreeRow). r.node) (slice_get rows i) ≡ None → length rows ≤ i
@@ -31,7 +35,7 @@ no_row row m none = go (tree_rows m) row none where
 pub image_long : (m : Meaning) (image : List ℕ) → IsImage m image → length image ≡ (head_of m).length
 image_long (Volume h files) image is = is.4.length_is
 
--- a volume that is laid out has an image
+-- if a layout exists, each volume fits, and the outermost volume has an image (`laid_image`)
 laid_fit : (vs : List Inside) (starts : List ℕ) → Laid AreStarts vs starts → AllFit vs
 laid_fit [] starts laid = tt
 laid_fit (v ∷ vs) starts (own, inner, joined, are, laid) = ((own, are), laid_fit vs inner laid)
@@ -39,7 +43,7 @@ laid_fit (v ∷ vs) starts (own, inner, joined, are, laid) = ((own, are), laid_f
 pub laid_image : WhatFitsHasAnImage → (m : Meaning) (l : Places) → IsMeaning m → IsLayout m l → (image : List ℕ) × IsImage m image
 laid_image law m l is laid = (law m is).0 (laid_fit (volumes_in m) (l.own ++ l.inner) laid.0)
 
--- all bytes of a part were put into a buffer that is long enough
+-- if the buffer is long enough, all bytes of the part are in it
 pub part_put : (P : List ℕ → Type 0) (s t : BufferSink) (old new bytes : List ℕ) (total : ℕ) → taken_in s ≡ [] → rest_in s ≡ old → P bytes
     → BufferTakes taken_in rest_in buffer_name s bytes t → length bytes ≡ total → total ≤ length old
     → new ≡ t.buffer.now → (all : List ℕ) × P all × (total ≡ length all) × IsWritten all old new 0
@@ -57,7 +61,7 @@ part_put P s t old new bytes total none all is put long fits same =
       },
     )
 
--- the buffer is too short for a part, and is as it was
+-- if the buffer is too short, it is unchanged
 pub part_kept : (P : List ℕ → Type 0) (old bytes : List ℕ) (total : ℕ) → P bytes → length bytes ≡ total → length old < total
     → (all : List ℕ) × P all × (total ≡ length all) × IsWritten all old old 256
 part_kept P old bytes total is long less = (
@@ -93,19 +97,19 @@ stopped_part None f memory = inl memory
 stopped_part (Some q) f (inl memory) = inl memory
 stopped_part (Some q) f (inr unfit) = inr (q, refl, unfit)
 
--- an error of a part, by the volume that the input is
+-- an error is out of memory, the input's fault, or the fault of the first volume in the part that does not fit
 pub extract_stops : (row : ℕ) (input : List ℕ) (m : Meaning) (f : Fault) → Accepted input m → StopsPart (part_at row m) f
     → (f ≡ out_of_memory) ⊎ (NotRead input f ⊎ HasUnfitRow row input f)
 extract_stops row input m f accepted stops =
     or_more (stopped_part (part_at row m) f stops) (λ p. inr (m, p.0, accepted, p.1, p.2))
 
--- a part that was put, by the volume that the input is
+-- the results of a call that rejects nothing
 module _ (row : ℕ) (input old new : List ℕ) (before after r : ℕ) where
-  -- the input is a volume, and its part was put, or it has none
+  -- the input is a volume, and the buffer was filled from the row's part, or the tree has no such row
   abbrev pub Extracted : Type 0
   Extracted = (m : Meaning) × Accepted input m × PutsPart (part_at row m) old new before after r
 
-  -- the part is in the buffer, or the input has none
+  -- the part was put into the buffer, or the tree has no such row and nothing has changed
   found : Extracted → ((p : NodeMeaning) × (bytes : List ℕ) × ExtractsTo row input bytes × (after ≡ length bytes)
       × IsWritten bytes old new r)
       ⊎ (HasNoRow row input × (r ≡ 257) × (new ≡ old) × (after ≡ before))

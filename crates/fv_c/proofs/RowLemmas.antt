@@ -1,8 +1,8 @@
--- A list that a loop makes of another, item by item.
+-- Proves that a loop which pushes f of each item in turn makes the list `map f xs`.
 use Rattle.std.proofs.Common.{◌≡◌, ◌∙◌, ◌<◌, ◌+◌, ℕ, List, [], ◌∷◌, ◌++◌, length, take, get_or, map, sym, ap}
 use Rattle.std.proofs.lemmas.List.{map-append, take_more}
 
--- one item more
+-- if the rows are made from the first i items, then after one more push they are made from the first i + 1
 pub row_more : {A B : Type 0} (f : A → B) (xs : List A) (i : ℕ) (d : A) (rows more : List B) (row : B) → i < length xs
     → rows ≡ map f (take i xs) → row ≡ f (get_or xs i d) → more ≡ rows ++ row ∷ [] → more ≡ map f (take (i + 1) xs)
 row_more f xs i d rows more row less before is pushed =

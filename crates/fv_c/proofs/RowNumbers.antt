@@ -1,4 +1,4 @@
--- Rows by their numbers, and what is said of the row of a number.
+-- Proves how a row is looked up by its number in rows that are numbered from n on.
 use Rattle.std.proofs.Common.{◌≡◌, ◌∙◌, ℕ, ◌+◌, ◌<◌, List, [], ◌∷◌, ◌++◌, length, Some, None, true, false, cond, refl, sym, ap}
 use Rattle.std.proofs.Common.{append-nil, arith, suc, zero}
 use Rattle.std.proofs.lemmas.Bool.{eq-eqb, eqb-true, ne_eqb}
@@ -23,7 +23,8 @@ row_is_at n (r ∷ rows) (suc i) =
     ap (λ (t : Bool). cond t (Some r) (row_at (n + 1) rows (n + suc i))) (ne_eqb n (n + suc i) (λ e. omega arith))
     ∙ ap (row_at (n + 1) rows) next ∙ row_is_at (n + 1) rows i
 
--- what is said of a row of two lists, and nothing of no row, is said of one of them
+-- a list that depends on the row with the number k, and is empty if there is no such row, is the list for the first
+-- rows and then the list for the others: one of the two is empty
 pub in_either : {A : Type 0} (under : Option A → List A) → under None ≡ [] → (k n : ℕ) (a b : List A)
     → under (row_at n (a ++ b) k) ≡ under (row_at n a k) ++ under (row_at (n + length a) b k)
 in_either under none k n [] b =

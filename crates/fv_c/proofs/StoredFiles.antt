@@ -1,4 +1,4 @@
--- The files that a volume stores.
+-- Proves that the files which a volume stores are the files of its meaning, in order (`files_held`).
 use Rattle.std.proofs.Common.{◌≡◌, ◌∙◌, List, length, map, sym, subst, ℕ}
 use Rattle.std.specs.Prelude.{◌≢◌}
 use Rattle.std.proofs.lemmas.List.{length-map}
@@ -13,7 +13,7 @@ use Rattle.fv_tree.proofs.Laws.{begun_data, files_list_back, one_files, volume_f
 use Rattle.fv_c.specs.inner.Trees.{HoldsFiles}
 use Rattle.fv_c.proofs.TreeGrowth.{pairs_long}
 
--- a volume that was read stores these files, and they have the meanings that were read
+-- if a volume was read and found to store the files fs, then these files have the meanings that were read
 pub files_held : (b : List ℕ) (m : Meaning) (h : HeadFields) (ms : List FileMeaning) (fs : List FileForm) → Accepted b m
     → m ≡ Volume h (files_from ms) → BeginWithFiles b fs → HoldsFiles b fs ms
 files_held b m h ms fs accepted made found =
@@ -25,13 +25,13 @@ files_held b m h ms fs accepted made found =
           (subst (λ (l : List FileMeaning). Pairwise (MeansFile (Stream depth_limit)) v.files l) (files_list_back ms) v.meanings);
     }
 
--- as many
+-- there are as many stored files as meanings
 pub files_long : {b : List ℕ} {ms : List FileMeaning} (stored : List LocatedFile) → HoldsFiles b (map file_form stored) ms
     → length stored ≡ length ms
 files_long {ms = ms} stored held =
     sym (length-map stored file_form) ∙ pairs_long (MeansFile (Stream depth_limit)) (map file_form stored) ms held.means
 
--- only memory can run out
+-- finding the files of a volume that was read can fail only if memory runs out
 pub only_memory : (b : List ℕ) (m : Meaning) (f : Fault) → Accepted b m
     → (f ≢ out_of_memory → (gs : List FileForm) → BeginWithFiles b gs → ⊥) → f ≡ out_of_memory
 only_memory b m f accepted none =

@@ -1,4 +1,5 @@
--- Which bytes of the input are at the places of the rows of a tree.
+-- Proves which bytes of the input are at the places of a tree's rows: a volume with the meaning of its row
+-- (`volume_bytes`), the plain data of a file (`file_bytes`), and the bytes in a section (`section_bytes`).
 use Rattle.std.proofs.Common.{◌≡◌, ◌∙◌, ℕ, List, Some, sym, subst}
 use Rattle.fv_base.specs.Words.{depth_limit}
 use Rattle.fv_section.specs.Words.{FrameForm}

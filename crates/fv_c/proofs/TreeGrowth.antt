@@ -1,7 +1,9 @@
--- How the rows of a tree grow. The steps:
--- 1. What is said of a row stays true where more rows follow (`node_later`, `holder_later`).
--- 2. So what was added, and then what was added after it, has been added (`grow_none`, `grow_one`, `grow_more`).
--- 3. A walk over files or over sections adds them one by one (`Walks`, `walk_more`).
+-- Proves that rows which are added in turn are, together, the rows of a tree (`grow_more`, `walk_ended`). The steps:
+-- 1. A row keeps its properties if rows are added after it (`node_later`, `holder_later`).
+-- 2. `Grows` holds for no rows, for one row, and for rows that are added after others (`grow_none`, `grow_one`,
+--    `grow_more`).
+-- 3. A loop over files or over sections adds their rows in turn (`walk_begun`, `walk_more`), until all are added
+--    (`walk_ended`).
 use Rattle.std.proofs.Common.{◌≡◌, ◌∙◌, ℕ, zero, suc, ◌+◌, ◌<◌, ◌≤◌, List, [], ◌∷◌, ◌++◌, length, drop, get_or, Some, refl, sym, ap, subst}
 use Rattle.std.proofs.Common.{append-nil, append_assoc, length-append}
 use Rattle.std.specs.Prelude.{slice_get}
@@ -78,7 +80,7 @@ module _ (input : List ℕ) where
   grow_long xs ys t g =
       ap length g.joined ∙ length-append xs g.added ∙ ap (λ (k : ℕ). length xs + k) (pairs_long (IsNodeIn input ys) g.added t g.nodes)
 
-  -- a holder stays one
+  -- a holder is still a holder after more rows have been added
   pub holder_later : (xs ys : List FvNode) (t : List TreeRow) (h : Holder) → Grows input xs ys t → IsHolder input xs h → IsHolder input ys h
   holder_later xs ys t h g is = record {
     row = ap (λ (rows : List FvNode). slice_get rows h.number) g.joined ∙ get_later xs g.added h.number h.node is.row;
@@ -89,7 +91,8 @@ module _ (input : List ℕ) where
 
 -- ---- a loop
 
--- the rows have grown by some parts, and those and the parts from i on are all
+-- `rows` are `olds` and the rows of the first i parts: `tree`, followed by the rows of the parts from i on, is the rows
+-- of all parts
 pub record Walks {X B : Type 0} (k : Siblings X B) (input : List ℕ) (olds rows : List FvNode) (parent depth : ℕ) (xs : List X) (i : ℕ) : Type 0 where
   pub tree : List TreeRow
   pub grown : Grows input olds rows tree

@@ -1,11 +1,15 @@
--- What nests n deep nests one level deeper too. So what is in a group, or in an opened volume, is read at the depth of what holds it.
+-- Proves that the sections of a group (`in_group`) and a nested volume (`in_nested`) have their meaning also at the
+-- depth of the part that holds them. The steps:
+-- 1. The definitions of meanings keep holding if the relations on inner parts are replaced by weaker ones
+--    (`section_lifts`, `volume_lifts`).
+-- 2. So a meaning with at most n levels inside is also a meaning with at most n + 1 levels inside (`lift`).
 use Rattle.std.proofs.Common.{ℕ, zero, suc, List, [], ◌∷◌, Bool}
 use Rattle.fv_section.specs.Words.{FrameForm}
 use Rattle.fv_tree.specs.Words.{Denotes, FileForm, FileMeaning, File, ContentMeaning, Plain, Sectioned, Meaning, SectionMeaning, Section}
 use Rattle.fv_tree.specs.Words.{SectionMeanings, Leaf, Group, Nested, MeansContent, MeansFile, MeansSection, Pairwise, SectionOver}
 use Rattle.fv_tree.specs.Words.{SectionRelation, StreamRelation, VolumeRelation, Stream, StreamOver, VolumeOver, sections_list, files_of}
 
--- what is said of each two items is said in another way
+-- if R implies S, and R holds item by item, then S holds item by item
 pub pairs_map : {A B : Type 0} (R S : A → B → Type 0) → ((x : A) (y : B) → R x y → S x y) → (xs : List A) (ys : List B)
     → Pairwise R xs ys → Pairwise S xs ys
 pairs_map R S up [] [] p = tt
@@ -61,14 +65,12 @@ lift (suc n) =
     let streams = stream_lifts (MeansSection n) (MeansSection (suc n)) (lift n) in
     section_lifts (Stream n) (Stream (suc n)) streams (Denotes n) (Denotes (suc n)) (volume_lifts (Stream n) (Stream (suc n)) streams)
 
--- the sections of a group
 pub in_group : (n : ℕ) (f : FrameForm) (kind : ℕ) (extended : Bool) (ss : SectionMeanings) (tail : ℕ)
     → MeansSection n f (Section kind extended (Group ss tail)) → Stream n (sections_list ss) tail f.body
 in_group zero f kind extended ss tail (a, b, (c, d)) = absurd d
 in_group (suc n) f kind extended ss tail (a, b, (c, d)) =
     stream_lifts (MeansSection n) (MeansSection (suc n)) (lift n) (sections_list ss) tail f.body d
 
--- the volume in a section
 pub in_nested : (n : ℕ) (f : FrameForm) (kind : ℕ) (extended : Bool) (m : Meaning)
     → MeansSection n f (Section kind extended (Nested m)) → Denotes n f.body m
 in_nested zero f kind extended m (a, b, (c, d, e)) = absurd e

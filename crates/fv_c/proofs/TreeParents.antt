@@ -1,6 +1,8 @@
--- The rows of a tree with the parent n are the parts that row n holds. The steps:
--- 1. Rows that are so, as some parts in preorder (`Good`): none (`good_none`), and one more part with what it holds (`good_more`).
--- 2. So are the rows of a volume (`good_volume`), whose first is held by no row.
+-- Proves that the rows with the parent n are exactly the parts that row n holds, in order (`held_are`), and that only
+-- the first row has no holder (`first_is`). The steps:
+-- 1. `Good` states this, and what its proof needs, of the rows of consecutive parts. It holds for no parts
+--    (`good_none`), and after one more part is put in front (`good_more`).
+-- 2. By recursion it holds for the rows of a volume (`good_volume`), of files, of sections and of bodies.
 use Rattle.std.proofs.Common.{◌≡◌, ◌∙◌, ◌⊎◌, ℕ, ◌+◌, ◌≤◌, List, [], ◌∷◌, ◌++◌, length, Some, true, false, cond, map, refl, sym, ap}
 use Rattle.std.proofs.Common.{append-nil, arith, inl, inr, subst}
 use Rattle.std.proofs.lemmas.Bool.{eq-eqb, eqb-true, eqb-false, ne_eqb}
@@ -17,7 +19,7 @@ use Rattle.fv_c.specs.TreeParts.{rows_of_parts, tree_of_sections, tree_of_volume
 
 -- ---- a row
 
--- a row of two lists is in one of them
+-- the row with the number k is looked up in the first list, and then in the second
 held_either : (k n : ℕ) (a b : List TreeRow) → rows_held k (row_at n (a ++ b) k)
     ≡ rows_held k (row_at n a k) ++ rows_held k (row_at (n + length a) b k)
 held_either k = in_either (rows_held k) refl k
@@ -36,17 +38,18 @@ is_held n depth number node =
 
 -- ---- some parts in preorder
 
--- the test fails at each row that is this deep and has at least this parent
+-- the test fails at each row whose parent is at least `parent` and whose depth is at least `depth`
 abbrev FailsFrom : (TreeRow → Bool) → ℕ → ℕ → Type 0
 FailsFrom test parent depth = (r : TreeRow) → parent ≤ r.parent → depth ≤ r.depth → test r ≡ false
 
--- the test passes at each row with this parent and this depth
+-- the test passes at each row whose parent is `parent` and whose depth is `depth`
 abbrev PassesAt : (TreeRow → Bool) → ℕ → ℕ → Type 0
 PassesAt test parent depth =
     (number : ℕ) (node : NodeMeaning) → test (record { parent = parent; depth = depth; number = number; node = node }) ≡ true
 
--- these are rows of these parts, numbered from n on, with what they hold: a test that fails from their parent on passes at none; one that
--- passes at them and fails further inside passes at their own; and the rows that row k holds are those that it should hold
+-- `rows`, numbered from n on, are the rows of these parts and of all parts inside them. `none`: a test that fails from
+-- their parent on selects no row. `own`: a test that passes at these parts and fails further inside selects exactly
+-- their own rows. `inner`: the rows that say that row k holds them are the rows that row k should hold
 record Good (n parent depth number : ℕ) (nodes : List NodeMeaning) (rows : List TreeRow) : Type 0 where
   none : (test : TreeRow → Bool) → FailsFrom test parent depth → parent ≤ n → filter test rows ≡ []
   own : (test : TreeRow → Bool) → PassesAt test parent depth → FailsFrom test n (depth + 1)

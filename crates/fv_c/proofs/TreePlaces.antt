@@ -1,6 +1,7 @@
--- Where the parts of a volume lie in the input. The steps:
--- 1. A part of a row's bytes is a part of the input (`part_of`).
--- 2. So the data of a file lie in the input (`file_lies`), and the body of a section (`frame_lies`).
+-- Proves where the data of files and the bodies of sections lie in the input (`file_lies`, `frame_lies`). The steps:
+-- 1. Bytes that lie in a part of the input lie in the input (`part_of`).
+-- 2. The data of a file lie in its volume, and the body of a section in its stream (`frame_in_stream`), and these are
+--    parts of the input.
 use Rattle.std.proofs.lemmas.Grind.{common_steps}
 use Rattle.std.proofs.Common.{◌≡◌, ◌∙◌, ℕ, ◌+◌, ◌≤◌, List, ◌++◌, length, take, drop, refl, sym, ap, arith, length-drop}
 use Rattle.std.proofs.lemmas.List.{length-take-le}
@@ -21,7 +22,7 @@ long_field at n input within = length-take-le n (drop at input) (omega (arith, w
 pub field_bytes : (at n : ℕ) (input : List ℕ) → IsBytes input → IsBytes (field at n input)
 field_bytes at n input small = bytes_take n (drop at input) (bytes_drop at input small)
 
--- a part of a part is a part
+-- bytes at offset i of a part that lies at `at` are at offset at + i of the input
 pub part_of : (input : List ℕ) (at n i : ℕ) (b : List ℕ) → at + n ≤ length input → LieAt (field at n input) i b → LieAt input (at + i) b
 part_of input at n i b within (inside, is) =
     let long = long_field at n input within in
@@ -35,7 +36,7 @@ pub file_lies : (input : List ℕ) (at n : ℕ) (f : FileForm) → at + n ≤ le
     → LieAt input (at + data_place f) f.payload
 file_lies input at n f within h = part_of input at n (data_place f) f.payload within h
 
--- a frame that is in a stream
+-- the body of a frame in a stream lies after the frame's header
 frame_in_stream : (f : FrameForm) (b : List ℕ) → FrameStandsAt f f.offset b → LieAt b (body_place f) f.body
 frame_in_stream f b s =
     let h = s.begins.head in
@@ -52,6 +53,6 @@ pub frame_lies : (input : List ℕ) (at n : ℕ) (f : FrameForm) → at + n ≤ 
 frame_lies input at n f within s =
     part_of input at n (body_place f) f.body within (frame_in_stream f (field at n input) s)
 
--- the length of a volume is that in its header
+-- the length of a volume is the FvLength of its header
 pub length_in_head : (m : Meaning) → (head_of m).length ≡ length_of m
 length_in_head (Volume h files) = refl

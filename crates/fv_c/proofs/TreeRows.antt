@@ -1,8 +1,10 @@
--- The rows that a walk over a tree adds. The steps:
--- 1. Items of two lists that agree, and what is at one place of both (`pair_at`).
--- 2. A row for a part (`new_step`), also one that a row holds (`held_step`): a file (`file_step`), a section (`section_step`) and a volume in
---    a section (`nested_step`). It lies where it should, and holds what the next call walks over.
--- 3. The first row, of the volume that the input is (`root_step`), and all rows (`tree_found`).
+-- Proves that each row that the walk over a tree adds is the next row of the tree (`file_step`, `section_step`,
+-- `nested_step`, `root_step`), so that all of them are the rows of the tree (`tree_found`). The steps:
+-- 1. If two lists agree item by item, their items at one place agree (`pair_at`).
+-- 2. A new row is the row of its part (`new_step`), also if another row holds it (`held_step`): a file (`file_step`), a
+--    section (`section_step`), or a volume in a section (`nested_step`). Its part lies at the row's offset, and
+--    contains the parts that the next call walks over.
+-- 3. The first row is the row of the volume that the input is (`root_step`).
 use Rattle.std.proofs.Common.{◌≡◌, ◌∙◌, ℕ, zero, suc, ◌+◌, ◌<◌, ◌≤◌, List, [], ◌∷◌, ◌++◌, length, drop, get_or, Some, refl, sym, ap, subst}
 use Rattle.std.proofs.Common.{arith, length-append}
 use Rattle.std.specs.Prelude.{slice_get, map, Bool, true, false, option_map, ◌^◌}
@@ -60,7 +62,7 @@ item_at xs i x l is = slice_get_read xs (length xs) i x refl l is
 
 -- ---- a row more
 
--- the row of a part has been added, as the holder `added`
+-- one row, for this part of the tree, has been added to `rows`, and `added` is the row and its number
 pub record Step (input : List ℕ) (rows news : List FvNode) (added : Holder) (row : TreeRow) : Type 0 where
   pub holder : IsHolder input news added
   pub grown : Grows input rows news (row ∷ [])
@@ -68,7 +70,7 @@ pub record Step (input : List ℕ) (rows news : List FvNode) (added : Holder) (r
   pub deep : added.node.depth ≡ row.depth
   pub long : length news ≡ length rows + 1
 
--- what the row holds has been added after it
+-- a row, and then the rows inside its part, have been added
 pub step_rows : {input : List ℕ} {rows mid news : List FvNode} {added : Holder} {parent depth number : ℕ} {node : NodeMeaning} (inside : TreeRows)
     → Step input rows mid added (record { parent = parent; depth = depth; number = number; node = node })
     → Grows input mid news (inside (length mid) added.number (added.node.depth + 1) 0)
@@ -81,7 +83,7 @@ step_rows {input} {rows} {mid} {news} {added} {parent} {depth} {number} {node} i
     grow_more input rows mid news (record { parent = parent; depth = depth; number = number; node = node } ∷ [])
     (inside (length rows + 1) (length rows) (depth + 1) 0) step.grown (subst (Grows input mid news) same grown)
 
--- the depth of a row has room in 32 bits
+-- the depth of a row, plus 1, fits in 32 bits
 pub not_deep : {input : List ℕ} {rows : List FvNode} {h : Holder} → IsHolder input rows h → h.node.depth < 2 ^ 31
 not_deep holder = omega (arith, holder.deep, holder.within, holder.short)
 
@@ -104,7 +106,7 @@ module _ {input : List ℕ} {rows news : List FvNode} {node : FvNode} {added : H
         long = ap length joined ∙ length-append rows (made ∷ []);
       }
 
-  -- a row that h holds, which is a row before it, and has the property
+  -- a row that h holds: h is an earlier row, and has the property P
   pub held_step : (h : Holder) → IsHolder input rows h → (offset stored number : ℕ) (part : NodeMeaning) (P : FvNode → Type 0)
       → let row : TreeRow = record { parent = h.number; depth = h.node.depth + 1; number = number; node = part } in
       node ≡ reported_node offset stored row → reported_node offset stored row ≡ reported_node offset (node_header_length stored part) row
@@ -133,7 +135,7 @@ file_content : (f : FileForm) (m : FileMeaning) (b : List ℕ) → MeansFile (St
 file_content f (File name kind attributes content) b (p, q, r, means) is =
     (kind, subst (λ (l : List ℕ). MeansContent (Stream depth_limit) kind l content) (sym is) means)
 
--- file i of the volume in the row h, and its meaning
+-- the volume in the row h stores these files with these meanings, and m is the meaning of file i
 pub record FileAt (input : List ℕ) (h : Holder) (stored : List LocatedFile) (ms : List FileMeaning) (i : ℕ) (m : FileMeaning) : Type 0 where
   pub volume : HoldsFiles (bytes_at input h.node) (map file_form stored) ms
   pub inside : i < length ms
@@ -141,7 +143,7 @@ pub record FileAt (input : List ℕ) (h : Holder) (stored : List LocatedFile) (m
 
 module _ {input : List ℕ} {h : Holder} {stored : List LocatedFile} {ms : List FileMeaning} {i : ℕ} {m : FileMeaning}
     (here : FileAt input h stored ms i m) (within : h.node.offset + h.node.length ≤ length input) (other : LocatedFile) where
-  -- as it is stored
+  -- file i, as the volume stores it
   abbrev pub form : FileForm
   form = file_form (get_or stored i other)
 
@@ -211,7 +213,7 @@ section_long f (Section kind extended body) means =
 section_body : (f : FrameForm) (s : SectionMeaning) (b : List ℕ) → MeansSection depth_limit f s → b ≡ f.body → HoldsBody b (body_of s)
 section_body f (Section kind extended body) b means is = (f, kind, extended, means, is)
 
--- these frames of the stream are left, after those of the first i sections
+-- `left` are the frames of the stream after the frames of the first i sections
 abbrev pub FramesLeft : List ℕ → List SectionMeaning → ℕ → List FrameForm → Type 0
 FramesLeft b ss i left =
     (frames : List FrameForm) × (tail : ℕ) × Splits frames tail b × Pairwise (MeansSection depth_limit) frames ss × (left ≡ drop i frames)
@@ -235,12 +237,12 @@ frames_more b ss i left more f (frames, tail, split, pairs, are) is = (frames, t
       let one : suc i ≡ i + 1 = omega arith in
       rest frames i (sym is ∙ are) ∙ ap (λ (k : ℕ). drop k frames) one
 
--- the stream has frames
+-- a stream of sections can be split into frames
 pub frames_none : (b cut : List ℕ) (ss : List SectionMeaning) → cut ≡ b → HoldsSections b ss
     → ((fs : List FrameForm) (tail : ℕ) → Splits fs tail cut → ⊥) → ⊥
 frames_none b cut ss is (tail, (frames, split, pairs)) none = none frames tail (subst (Splits frames tail) (sym is) split)
 
--- each section has a frame
+-- if no frame is left after i sections, there are at most i sections
 pub frames_last : (b : List ℕ) (ss : List SectionMeaning) (i : ℕ) (left : List FrameForm) → FramesLeft b ss i left → left ≡ [] → length ss ≤ i
 frames_last b ss i left (frames, tail, split, pairs, are) none = go frames ss i pairs (sym none ∙ are) where
   go : (xs : List FrameForm) (ys : List SectionMeaning) (k : ℕ) → Pairwise (MeansSection depth_limit) xs ys → [] ≡ drop k xs → length ys ≤ k
@@ -250,7 +252,7 @@ frames_last b ss i left (frames, tail, split, pairs, are) none = go frames ss i 
   go (x ∷ xs) (y ∷ ys) zero p e = cc
   go (x ∷ xs) (y ∷ ys) (suc k) p e = omega (arith, go xs ys k p.1 e)
 
--- these are the frames that are left of the stream in the row h, f is the first of them, and s is its meaning
+-- after i sections of the stream in the row h the frames `left` remain. f is the first of them, and s is its meaning
 pub record SectionAt (input : List ℕ) (h : Holder) (ss : List SectionMeaning) (i : ℕ) (left more : List FrameForm) (f : FrameForm)
     (s : SectionMeaning) : Type 0 where
   pub walk : FramesLeft (bytes_at input h.node) ss i left
@@ -317,7 +319,7 @@ sections_list_back : (ss : List SectionMeaning) → sections_list (sections_from
 sections_list_back [] = refl
 sections_list_back (s ∷ ss) = ap (λ (l : List SectionMeaning). s ∷ l) (sections_list_back ss)
 
--- the sections of a group
+-- the bytes of a group are a stream of its sections
 pub group_holds : (b : List ℕ) (body : BodyMeaning) (ss : List SectionMeaning) (tail : ℕ) → HoldsBody b body
     → Group (sections_from ss) tail ≡ body → HoldsSections b ss
 group_holds b body ss tail (f, kind, extended, means, is) same =
@@ -329,7 +331,7 @@ group_holds b body ss tail (f, kind, extended, means, is) same =
           (in_group depth_limit f kind extended (sections_from ss) tail group)),
     )
 
--- the sections in a file
+-- the data of a file that has sections are a stream of these sections
 pub stream_holds : (b : List ℕ) (content : ContentMeaning) (ss : List SectionMeaning) (tail : ℕ) → HoldsContent b content
     → Sectioned (sections_from ss) tail ≡ content → HoldsSections b ss
 stream_holds b content ss tail (kind, means) same =
@@ -372,12 +374,12 @@ module _ (input : List ℕ) (h : Holder) (m : Meaning) (body : BodyMeaning) (wit
       one_more : (n : ℕ) → n + 1 ≡ 0 → ⊥
       one_more n e = omega (arith, e)
 
-  -- the bytes of its row are the volume
+  -- the bytes at the place of the nested volume's row are this volume
   pub nested_accepted : {rows news : List FvNode} {node : FvNode} {added : Holder} → node ≡ node_of_volume h m → IsAdded rows news node added
       → Accepted (bytes_at input added.node) m
   nested_accepted made push = subst (λ (n : FvNode). Accepted (bytes_at input n) m) (sym (push.node ∙ made)) accepted
 
--- the rows of a volume are its own, and then those of its files
+-- the rows of a volume are its own row, and then the rows of its files
 pub volume_rows : {input : List ℕ} {rows mid news : List FvNode} {added : Holder} {parent depth : ℕ} {m : Meaning}
     (hd : HeadFields) (files : List FileMeaning) → m ≡ Volume hd (files_from files)
     → Step input rows mid added (record { parent = parent; depth = depth; number = 0; node = VolumeNode m })
@@ -417,7 +419,7 @@ module _ {input : List ℕ} {m : Meaning} (accepted_input : Accepted input m) wh
         placed = (subst (λ (b : List ℕ). Accepted b m) (sym all_bytes) accepted_input, (λ _. refl, λ ne. absurd (ne refl)));
       })
 
-  -- the bytes of its row are the input
+  -- the bytes at the place of the first row are the input
   pub root_bytes : {rows news : List FvNode} {node : FvNode} {added : Holder} → node ≡ node_of_root → IsAdded rows news node added
       → bytes_at input added.node ≡ input
   root_bytes made push = ap (bytes_at input) (push.node ∙ made) ∙ all_bytes

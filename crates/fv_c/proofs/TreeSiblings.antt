@@ -1,4 +1,5 @@
--- Parts that follow one another in a tree: the files of a volume, and the sections of a stream.
+-- Describes the files of a volume and the sections of a stream in one way (`Siblings`), so that the loops over them
+-- share one proof.
 use Rattle.std.proofs.Common.{◌≡◌, ◌∙◌, ℕ, ◌+◌, ◌<◌, List, [], ◌∷◌, ◌++◌, length, drop, get_or, refl, ap}
 use Rattle.fv_base.proofs.Laws.{item_at}
 use Rattle.fv_tree.specs.Words.{FileMeaning, File, ContentMeaning, SectionMeaning, Section, BodyMeaning, files_from, sections_from}
@@ -7,12 +8,13 @@ use Rattle.fv_rows.specs.Words.{NodeMeaning, FileNode, SectionNode}
 use Rattle.fv_c.specs.TreeParts.{tree_of_files, tree_in_content, tree_of_sections, tree_in_body}
 use Rattle.fv_c.specs.inner.Trees.{TreeRows}
 
--- the rows of a part: its own, and then those of what it holds
+-- the rows of a part: its own row, and then the rows inside it
 abbrev pub part_rows : NodeMeaning → TreeRows → TreeRows
 part_rows node inside = λ n parent depth number.
     record { parent = parent; depth = depth; number = number; node = node } ∷ inside (n + 1) n (depth + 1) 0
 
--- the rows of some parts, what one of them is, what it holds, and the rows of that
+-- a kind of consecutive parts: the rows of a list of them (`rows`), the part that an item of the list is (`node`), the
+-- contents of an item (`held`), and the rows inside these contents (`inside`)
 pub record Siblings (X B : Type 0) : Type 0 where
   pub rows : List X → TreeRows
   pub node : X → NodeMeaning
@@ -43,7 +45,7 @@ sections = record {
   more = elim [ Section kind extended body ↦ λ ss n parent depth number. refl ];
 }
 
--- the parts from i on are part i, and those after it
+-- the rows of the parts from i on are the rows of part i, and then the rows of the parts after it
 pub rows_from : {X B : Type 0} (k : Siblings X B) (xs : List X) (i : ℕ) (x : X) → i < length xs → x ≡ get_or xs i x
     → (n parent depth number : ℕ) → k.rows (drop i xs) n parent depth number
     ≡ part_rows (k.node x) (k.inside (k.held x)) n parent depth number

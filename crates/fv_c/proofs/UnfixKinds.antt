@@ -1,4 +1,7 @@
--- The kinds of the faults of an input whose marks cannot be taken away: the first 16, except Fixed.
+-- Proves that the first fault of an input whose marks of fixed files cannot be taken away has a number of at most 16,
+-- and is not Fixed (`kept_number`). The steps:
+-- 1. Each check of a header and of a cell has a fault of such a kind, or Fixed (`head_kinds`, `cell_kinds`).
+-- 2. So has the first fault (`kept`), which is not Fixed.
 use Rattle.std.proofs.Common.{◌≡◌, ◌≤◌, ◌⊎◌, ◌+◌, ℕ, List, Bool, true, false, arith, drop, inl, inr, refl, subst, sym}
 use Rattle.std.specs.Prelude.{◌≢◌, ◌&&◌, ◌==◌, nat_le, not, slice_index, None, Option, Some}
 use Rattle.std.specs.List.{AllByRecursion}
@@ -17,14 +20,14 @@ use Rattle.fv_file.specs.declared.state.FileState.TheVariants as states
 use Rattle.fv_head.specs.Words.{head_checks}
 use Rattle.fv_tree.specs.Words.{IsFirstOfMarked}
 
--- one of these kinds
+-- the number of the kind is at most 16, and is not 15, the number of Fixed
 is_kept : FaultKind → Bool
 is_kept kind = nat_le (fault_number kind) 16 && not (fault_number kind == 15)
 
 abbrev IsKept : Fault → Type 0
 IsKept f = is_kept f.kind ≡ true
 
--- one of them, or Fixed
+-- the kind is one of these, or Fixed
 abbrev IsOfCell : Fault → Type 0
 IsOfCell f = (is_kept f.kind ≡ true) ⊎ (f.kind ≡ kinds.Fixed)
 
@@ -66,7 +69,6 @@ kept input f (inl (inr (e, o, body, u, fault, other))) =
     (cell_kinds e.file_system e.polarity (e.first + fault.at) r) fault.fails) other
 kept input f (inr (unfixed, (h, e, front, less, is))) = subst IsKept (sym is) refl
 
--- the number is at most 16, and not 15, the number of Fixed
 pub kept_number : (input : List ℕ) (f : Fault) → IsFirstOfMarked input f → (fault_number f.kind ≤ 16) × (fault_number f.kind ≢ 15)
 unfolding is_kept
 kept_number input f first =

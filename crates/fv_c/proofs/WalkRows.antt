@@ -1,4 +1,5 @@
--- The rows that `TreeWalk` returns have the same parts as the rows of the tree.
+-- Proves that the rows that `TreeWalk` returns have the same parts, in the same order, as the rows of the tree
+-- (`same_parts`), and so the same digests (`tree_digests`).
 use Rattle.std.proofs.Common.{◌≡◌, ◌∙◌, ℕ, ◌+◌, List, [], ◌∷◌, ◌++◌, length, map, refl, ap, subst, sym}
 use Rattle.std.proofs.lemmas.List.{map-append}
 use Rattle.std.proofs.lemmas.Option.{slice_get-map}
@@ -63,13 +64,12 @@ mutual
   same_body n p d s (Group ss tail) = same_sections n p d s 0 ss
   same_body n p d s (Nested v) = same_volume n p d s v
 
--- the rows of a volume have these parts, in both
 pub same_parts : (m : Meaning) → map part (tree_rows m) ≡ map of_row (rows_of m)
 same_parts m = same_volume 0 _ 0 0 m
 
 -- ---- the digests
 
--- one digest for each row, or each part, in the same order
+-- the digests of these rows, or of these parts, in the same order
 abbrev pub AreRowDigests : List FvSha256 → List Row → Type 0
 AreRowDigests digests rows = Pairwise (λ (d : FvSha256) (r : Row). IsReportedDigest r.node d.bytes) digests rows
 
@@ -94,7 +94,7 @@ tree_digests m digests are =
 
 -- ---- one row
 
--- the part of the row of the tree with this number is that of the row that the walk returns
+-- row n of the tree has the same part as row n of the walk
 pub part_found : (m : Meaning) (row : ℕ) (o : Option Row) → o ≡ slice_get (rows_of m) row → part_at row m ≡ option_map of_row o
 part_found m row o is =
     sym (slice_get-map part (tree_rows m) row) ∙ ap (λ (l : List NodeMeaning). slice_get l row) (same_parts m)
