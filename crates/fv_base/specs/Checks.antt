@@ -42,8 +42,8 @@ is_guard _ = false
 abbrev pub GuardsHold : List (Check Fault) → Type 0
 GuardsHold cs = AllByRecursion (λ c. is_guard c.fault.kind ≡ true → c.holds ≡ true) cs
 
--- which faults are meant: only the first, before which everything that is read is right; or any fault whose condition
--- holds at its place, whatever else is wrong
+-- which faults a statement is about. `First`: only the first fault, before which all checks hold. `Any`: any fault
+-- whose own check does not hold at its place, whatever else is wrong
 pub data Which : Type 0 where
   First : Which
   Any : Which

@@ -1,4 +1,5 @@
--- The value of an erased byte of flash memory, and lists of bytes that all have one value.
+-- The value of an erased byte of flash memory (PI specification, volume 3, section 3.2.1.1, EFI_FVB2_ERASE_POLARITY),
+-- and lists of bytes that all have one value.
 use Rattle.std.specs.List.{AllByRecursion}
 use Rattle.std.specs.Prelude.{ℕ, ◌≡◌, List}
 use Rattle.fv_base.specs.declared.flash.Polarity.{Polarity}

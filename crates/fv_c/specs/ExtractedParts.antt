@@ -1,4 +1,5 @@
--- Extracted parts as C receives them: a volume, the data of a file, or the body of a section.
+-- Extracted parts as C receives them: a volume, the data of a file, or the body of a section (PI specification, volume
+-- 3, sections 3.2.1, 3.2.3 and 3.2.4).
 use Rattle.std.specs.Prelude.{◌≡◌, ◌≤◌, ℕ, List, length, Option, Some, option_map, slice_get}
 use Rattle.fv_base.specs.declared.fault.Fault.{Fault}
 use Rattle.fv_canon.specs.Words.{IsImage, IsData, IsBodyImage, FirstUnfit}
@@ -11,8 +12,8 @@ use Rattle.fv_c.specs.TreeParts.{TreeRow, tree_rows}
 abbrev pub part_at : ℕ → Meaning → Option NodeMeaning
 part_at row m = option_map (λ (r : TreeRow). r.node) (slice_get (tree_rows m) row)
 
--- the bytes are the part, as the canonical image of its volume has it: the canonical image of a volume, the data of a
--- file, or the body of a section
+-- the bytes are the part as the canonical image of its volume contains it: the canonical image of a volume, the data of
+-- a file, or the body of a section
 abbrev pub IsNodeImage : NodeMeaning → List ℕ → Type 0
 IsNodeImage (VolumeNode m) bytes = IsImage m bytes
 IsNodeImage (FileNode f) bytes = IsData (content_of f) bytes
@@ -29,12 +30,12 @@ abbrev pub ExtractsTo : ℕ → List ℕ → List ℕ → Type 0
 ExtractsTo row input bytes =
     (m : Meaning) × (node : NodeMeaning) × Accepted input m × (part_at row m ≡ Some node) × IsNodeImage node bytes
 
--- the input is a volume whose tree has no such row: it has at most this many rows
+-- the input is a volume whose tree has no row with this number: it has at most `row` rows
 abbrev pub HasNoRow : ℕ → List ℕ → Type 0
 HasNoRow row input = (m : Meaning) × Accepted input m × (length (tree_rows m) ≤ row)
 
--- the input is a volume whose tree has this row, and this is the fault of the first volume in the part of the row that
--- does not fit
+-- the input is a volume whose tree has this row, and f is the fault of the first volume inside the row's part that does
+-- not fit
 abbrev pub HasUnfitRow : ℕ → List ℕ → Fault → Type 0
 HasUnfitRow row input f =
     (m : Meaning) × (node : NodeMeaning) × Accepted input m × (part_at row m ≡ Some node)

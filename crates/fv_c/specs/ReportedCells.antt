@@ -1,4 +1,4 @@
--- The cells of a volume, as they are reported to C.
+-- The cells of a volume, as they are reported to C (PI specification, volume 3, sections 3.2.2 and 3.2.3).
 use Rattle.std.specs.Prelude.{ℕ, replicate}
 use Rattle.fv_base.specs.Words.{bytes_of}
 use Rattle.fv_file.specs.Words.{CellForm, Valid, Pad, Dead, Stub, Free, attribute_bits, file_header_len, is_large}
@@ -7,7 +7,8 @@ use Rattle.fv_file.specs.declared.state.FileState.{FileState}
 use Rattle.fv_file.specs.declared.state.FileState.TheVariants as states
 use Rattle.fv_c.specs.declared.cells.FvCell.{FvCell}
 
--- a file or a pad: its offset, its number, and its header, which has 32 bytes in a large file and 24 in any other
+-- the report of a file or a pad: its offset, the number of its kind, and the fields of its header, which has 32 bytes
+-- in a large file and 24 bytes in any other
 abbrev pub of_file : ℕ → ℕ → FileHead → FvCell
 of_file at kind head = record {
   offset = at;
@@ -20,7 +21,7 @@ of_file at kind head = record {
   reserved = 0;
 }
 
--- bytes of no valid file: their offset, their number, and their length
+-- the report of a cell that is not a valid file or a pad: its offset, the number of its kind, and its length
 abbrev pub of_bytes : ℕ → ℕ → ℕ → FvCell
 of_bytes at kind len = record {
   offset = at;
@@ -33,13 +34,12 @@ of_bytes at kind len = record {
   reserved = 0;
 }
 
--- the number of a file that is not valid, by its state: 3 if it was deleted, else 4, as of a header that was never
--- finished
+-- the number for a dead file: 3 if it was deleted, and otherwise 4, because its data were never finished
 abbrev pub dead_number : FileState → ℕ
 dead_number states.Deleted = 3
 dead_number _ = 4
 
--- a cell
+-- the report of a cell
 abbrev pub reported_cell : CellForm → FvCell
 reported_cell (Valid at head payload) = of_file at 1 head
 reported_cell (Pad at head payload) = of_file at 2 head

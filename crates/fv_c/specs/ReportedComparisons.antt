@@ -4,11 +4,11 @@ use Rattle.fv_compare.specs.Words.{compare_line}
 use Rattle.fv_tree.specs.Words.{Differs, Meaning, difference}
 use Rattle.fv_c.specs.declared.compare.FvComparison.{FvComparison}
 
--- the text that says where two volumes first differ: the line for them without its last byte, the line feed
+-- the text of a comparison: the line of `compare` without the line feed at its end
 abbrev pub compare_text : Differs → List ℕ
 compare_text d = take (length (compare_line d) - 1) (compare_line d)
 
--- whether the two volumes have the same meaning, and the length of the text that says where they first differ
+-- `found` reports whether two volumes have the same meaning, and how long the text of their comparison is
 pub record IsReported (m k : Meaning) (found : FvComparison) : Type 0 where
   pub same : (found.same ≡ 1) ↔ (m ≡ k)
   pub flag : found.same ≤ 1

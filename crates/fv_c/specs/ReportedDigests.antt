@@ -7,12 +7,12 @@ use Rattle.fv_rows.specs.Words.{NodeMeaning}
 use Rattle.fv_c.specs.TreeParts.{TreeRow, tree_rows}
 use Rattle.fv_c.specs.declared.canonical.FvSha256.{FvSha256}
 
--- the digest of a part that is reported: 32 zero bytes if the part has no digest
+-- the bytes are the digest of the part, or 32 zero bytes if the part has no digest
 abbrev pub IsReportedDigest : NodeMeaning → List ℕ → Type 0
 IsReportedDigest node bytes =
     (digest : Option (List ℕ)) × NodeDigest node digest × (bytes ≡ unwrap_or digest (replicate 32 0))
 
--- one digest for each row, in the same order
+-- there is one digest for each row, in the order of the rows
 abbrev pub AreDigests : List FvSha256 → List TreeRow → Type 0
 AreDigests digests rows = Pairwise (λ (d : FvSha256) (r : TreeRow). IsReportedDigest r.node d.bytes) digests rows
 

@@ -13,7 +13,7 @@ abbrev pub volume_name : Option Extension → List ℕ
 volume_name None = replicate 16 0
 volume_name (Some x) = bytes_of x.name
 
--- the header and the extent of a volume that begins at an offset
+-- the row for a volume at the offset `at`, with the fields h of its header and the extent e
 abbrev pub reported_header : ℕ → HeadFields → Extent → FvHeader
 reported_header at h e = record {
   offset = at;
@@ -27,17 +27,17 @@ reported_header at h e = record {
   reserved = 0;
 }
 
--- a volume begins at the row's offset in b, and the row is its header
+-- a volume begins at the row's offset in b, and the row describes its header
 abbrev pub IsHeaderIn : List ℕ → FvHeader → Type 0
 IsHeaderIn b row =
     (h : HeadFields) × (e : Extent) × BeginsVolume h e (drop row.offset b) × (row ≡ reported_header row.offset h e)
 
--- the offsets of these headers
+-- the offsets of these rows
 abbrev pub header_offsets : List FvHeader → List ℕ
 header_offsets rows = map (λ (r : FvHeader). r.offset) rows
 
--- the offsets of the rows are those at which the volumes in b are found, in order, and each row is the header of the
--- volume that begins there
+-- there is one row for each volume that is found in b, in the order of their offsets, and each row describes the header
+-- of its volume
 pub record AreHeaders (b : List ℕ) (rows : List FvHeader) : Type 0 where
   pub found : Found b (header_offsets rows)
   pub headers : AllByRecursion (IsHeaderIn b) rows

@@ -17,42 +17,43 @@ use Rattle.fv_c.specs.declared.tree.FvNode.{FvNode}
 
 -- ---- a row
 
--- what a part is: 1 a volume, 2 a file, 3 a section
+-- the number for the kind of a part: 1 for a volume, 2 for a file, 3 for a section
 abbrev pub kind_number : NodeMeaning → ℕ
 kind_number (VolumeNode m) = 1
 kind_number (FileNode f) = 2
 kind_number (SectionNode s) = 3
 
--- what the data of a file are: 1 bytes, 2 sections
+-- the number for the content of a file: 1 for plain bytes, 2 for sections
 abbrev pub content_number : ContentMeaning → ℕ
 content_number (Plain _) = 1
 content_number (Sectioned _ _) = 2
 
--- what the body of a section is: 1 bytes, 2 sections, 3 a volume
+-- the number for the body of a section: 1 for bytes, 2 for sections, 3 for a volume
 abbrev pub body_number : BodyMeaning → ℕ
 body_number (Leaf _) = 1
 body_number (Group _ _) = 2
 body_number (Nested _) = 3
 
--- what a part holds: 0 files, 1 bytes, 2 sections, 3 a volume
+-- the number for the contents of a part: 0 for files, 1 for bytes, 2 for sections, 3 for a volume
 abbrev pub node_content : NodeMeaning → ℕ
 node_content (VolumeNode m) = 0
 node_content (FileNode f) = content_number (content_of f)
 node_content (SectionNode s) = body_number (body_of s)
 
--- Type of a file or a section
+-- Type of a file or a section; 0 for a volume
 abbrev pub node_type : NodeMeaning → ℕ
 node_type (VolumeNode m) = 0
 node_type (FileNode f) = file_kind_of f
 node_type (SectionNode s) = section_kind_of s
 
--- Attributes of a volume, or of a file without FFS_ATTRIB_LARGE_FILE
+-- Attributes of a volume, or of a file, without FFS_ATTRIB_LARGE_FILE; 0 for a section
 abbrev pub node_attributes : NodeMeaning → ℕ
 node_attributes (VolumeNode m) = (head_of m).attributes
 node_attributes (FileNode f) = attributes_of f
 node_attributes (SectionNode s) = 0
 
--- the length of the header: HeaderLength of a volume; the form of a file's header is not in its meaning, but stored
+-- the length of a part's header in bytes. For a file it is an argument (`stored`), because the meaning of a file does
+-- not contain the form of its header
 abbrev pub node_header_length : (stored : ℕ) → NodeMeaning → ℕ
 node_header_length stored (VolumeNode m) = header_len_of (head_of m)
 node_header_length stored (FileNode f) = stored
@@ -64,19 +65,20 @@ node_length (VolumeNode m) = length_of m
 node_length (FileNode f) = data_len_of f
 node_length (SectionNode s) = body_len (body_of s)
 
--- FvName of a volume; the name of a file
+-- FvName of a volume, or Name of a file; 16 zero bytes for a section
 abbrev pub node_guid : NodeMeaning → List ℕ
 node_guid (VolumeNode m) = volume_name (head_of m).ext
 node_guid (FileNode f) = bytes_of (file_name_of f)
 node_guid (SectionNode s) = replicate 16 0
 
--- the file system of a volume
+-- the number of a volume's file system; 0 for a file or a section
 abbrev pub node_file_system : NodeMeaning → ℕ
 node_file_system (VolumeNode m) = system_number (head_of m).file_system
 node_file_system (FileNode f) = 0
 node_file_system (SectionNode s) = 0
 
--- a row, by what is stored, the offset and the length of a file's header, and by its part in the tree
+-- the row for C: its offset and the length of a file's header are arguments, and all other fields follow from the
+-- part's row in the tree
 abbrev pub reported_node : (offset stored : ℕ) → TreeRow → FvNode
 reported_node offset stored r = record {
   offset = offset;
@@ -96,12 +98,12 @@ reported_node offset stored r = record {
 
 -- ---- where it is
 
--- the bytes of a row: the whole volume, the data of the file, or the body of the section
+-- the bytes of the input that a row describes: the whole volume, the data of the file, or the body of the section
 abbrev pub bytes_at : List ℕ → FvNode → List ℕ
 bytes_at input row = field row.offset row.length input
 
--- a file lies in its volume, which the holder is: it is the file of this number of the volume, its data are at the
--- offset, and have this meaning
+-- `holder` is the row of a volume, and `row` is a file of this volume: the file with the number `index`. Its data are
+-- at the row's offset, and the file has the meaning m
 pub record IsFileIn (input : List ℕ) (holder row : FvNode) (m : FileMeaning) : Type 0 where
   pub files : List FileForm
   pub volume : BeginWithFiles (bytes_at input holder) files
@@ -112,8 +114,8 @@ pub record IsFileIn (input : List ℕ) (holder row : FvNode) (m : FileMeaning) :
   pub payload : bytes_at input row ≡ file.payload
   pub means : MeansFile (Stream depth_limit) file m
 
--- a section lies in the stream of its holder, a file or a group: it is the frame of this number, its body is at the
--- offset, and has this meaning
+-- `holder` is the row of a file or of a group, and `row` is a section of its stream: the frame with the number `index`.
+-- Its body is at the row's offset, and the section has the meaning s
 pub record IsSectionIn (input : List ℕ) (holder row : FvNode) (s : SectionMeaning) : Type 0 where
   pub frames : List FrameForm
   pub tail : ℕ
@@ -124,23 +126,25 @@ pub record IsSectionIn (input : List ℕ) (holder row : FvNode) (s : SectionMean
   pub body : bytes_at input row ≡ frame.body
   pub means : MeansSection depth_limit frame s
 
--- the row that holds this one has the property
+-- the parent of this row has the property P
 abbrev pub Held : List FvNode → FvNode → (FvNode → Type 0) → Type 0
 Held rows row P = (holder : FvNode) × (slice_get rows row.parent ≡ Some holder) × P holder
 
--- a volume begins where the input begins if no row holds it, and otherwise where the body of the section begins that
--- holds it
+-- a volume that no row holds begins at offset 0 of the input. Any other volume begins where the body of its section
+-- begins
 abbrev pub BeginsThere : List FvNode → FvNode → Type 0
 BeginsThere rows row =
     (row.depth ≡ 0 → row.offset ≡ 0) × (row.depth ≢ 0 → Held rows row (λ holder. row.offset ≡ holder.offset))
 
--- the part lies in the input at the row's offset, in what holds it; the bytes of a volume are a volume with this meaning
+-- the part lies in the input at the row's offset, inside the part that holds it. If it is a volume, the bytes there are
+-- a volume with this meaning
 abbrev pub IsPlaced : (input : List ℕ) (rows : List FvNode) (row : FvNode) → NodeMeaning → Type 0
 IsPlaced input rows row (VolumeNode m) = Accepted (bytes_at input row) m × BeginsThere rows row
 IsPlaced input rows row (FileNode f) = Held rows row (λ holder. IsFileIn input holder row f)
 IsPlaced input rows row (SectionNode s) = Held rows row (λ holder. IsSectionIn input holder row s)
 
--- the row is this one of the tree, is within the input, and its part lies there
+-- `row` reports the row r of the tree: its fields are those of r, its bytes are within the input, and its part lies
+-- there (`IsPlaced`)
 pub record IsNodeIn (input : List ℕ) (rows : List FvNode) (row : FvNode) (r : TreeRow) : Type 0 where
   pub is : row ≡ reported_node row.offset row.header_length r
   pub within : row.offset + row.length ≤ length input

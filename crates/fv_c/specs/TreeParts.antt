@@ -6,19 +6,20 @@ use Rattle.fv_tree.specs.Words.{Plain, Sectioned, SectionMeanings, NoSections, M
 use Rattle.fv_tree.specs.Words.{BodyMeaning, Leaf, Group, Nested}
 use Rattle.fv_rows.specs.Words.{NodeMeaning, VolumeNode, FileNode, SectionNode, parts_in}
 
--- the number that the first row has as its parent
+-- the parent number of the first row, which no row holds: 2 ^ 64 - 1
 abbrev pub no_parent : ℕ
 no_parent = 18446744073709551615
 
--- a part in the tree: the number of the row that holds it, the number of rows around it, its place among the parts that
--- this row holds, from 0, and the part
+-- a part in the tree: the number of the row that holds it (`parent`), the number of rows around it (`depth`), its
+-- number among the parts that its parent holds, counted from 0 (`number`), and the part (`node`)
 pub record TreeRow : Type 0 where
   pub parent : ℕ
   pub depth : ℕ
   pub number : ℕ
   pub node : NodeMeaning
 
--- the parts in preorder: each is followed by what it holds. The first has the number n
+-- the rows of some parts in preorder: the row of a part is followed by the rows of the parts inside it. The first of
+-- these rows is row n of the tree
 abbrev mutual
   pub tree_of_volume : (n parent depth : ℕ) → Meaning → List TreeRow
   tree_of_volume n parent depth (Volume h files) =
@@ -56,24 +57,24 @@ abbrev mutual
   tree_in_body n parent depth (Group sections tail) = tree_of_sections n parent depth 0 sections
   tree_in_body n parent depth (Nested volume) = tree_of_volume n parent depth volume
 
--- the rows of a volume, which is the first of them and has no parent
+-- all rows of a volume. The first row is the volume itself, and has no parent
 abbrev pub tree_rows : Meaning → List TreeRow
 tree_rows m = tree_of_volume 0 no_parent 0 m
 
 -- ---- what holds what
 
--- the rows of some parts that one row holds, without what these hold
+-- the rows of the parts that one row holds, without the rows of the parts inside them
 abbrev pub rows_of_parts : (parent depth number : ℕ) → List NodeMeaning → List TreeRow
 rows_of_parts parent depth number [] = []
 rows_of_parts parent depth number (node ∷ nodes) =
     record { parent = parent; depth = depth; number = number; node = node } ∷ rows_of_parts parent depth (number + 1) nodes
 
--- the rows of the parts that row n holds; none if there is no such row
+-- the rows of the parts that row n holds. There are none if the tree has no row n
 abbrev pub rows_held : ℕ → Option TreeRow → List TreeRow
 rows_held n None = []
 rows_held n (Some r) = rows_of_parts n (r.depth + 1) 0 (parts_in r.node)
 
--- a row is held by no row; by the row of this number
+-- no row holds this row (`is_first`), and row n holds this row (`is_held_by`)
 abbrev pub is_first : TreeRow → Bool
 is_first r = r.depth == 0
 

@@ -1,4 +1,4 @@
--- The checks of an op in order, and the first fault of an expression.
+-- The checks of an op in order, and the first fault of an expression (PI specification, volume 2, section 10.7).
 use Rattle.std.specs.Prelude.{◌≡◌, ◌≢◌, ℕ, ◌+◌, ◌-◌, ◌==◌, nat_le, ◌&&◌, ◌||◌, not, Bool, true, if◌then◌else◌, List, []}
 use Rattle.std.specs.Prelude.{◌∷◌, ◌++◌, length, slice_index}
 use Rattle.fv_base.specs.Words.{Check, IsFirstFault}

@@ -1,4 +1,5 @@
--- The checks of a file and of a cell in order, and the faults of a body: the first, or any.
+-- The checks of a file and of a cell in order, and the faults of a body: the first, or any (PI specification, volume 3,
+-- sections 3.2.2 and 3.2.3.1).
 use Rattle.std.specs.List.{AllByRecursion}
 use Rattle.std.specs.Prelude.{ℕ, ◌≡◌, ◌+◌, ◌-◌, ◌<◌, ◌==◌, nat_le, ◌&&◌, ◌||◌, not, Bool, true, false, if◌then◌else◌}
 use Rattle.std.specs.Prelude.{Option, Some, None, List, [], ◌∷◌, length, take, drop}

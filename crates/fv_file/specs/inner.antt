@@ -1,4 +1,4 @@
--- Definitions that serve only private clauses: there is nothing to believe here.
+-- Definitions that only private clauses cite: a reviewer does not need to read them.
 pub mod CellVerdicts
 pub mod NewHeaderParts
 pub mod MarkSteps

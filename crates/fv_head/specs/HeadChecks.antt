@@ -1,4 +1,5 @@
--- The checks of a volume's header in order, and the statement that bytes begin with a volume.
+-- The checks of a volume's header in order, and the statement that bytes begin with a volume (PI specification, volume
+-- 3, sections 3.2.1.1 and 3.2.1.2).
 use Rattle.std.specs.Prelude.{ℕ, ◌+◌, ◌||◌, ◌-◌, ◌%◌, ◌==◌, nat_le, Bool, ◌&&◌, not, is_some, if◌then◌else◌, List, []}
 use Rattle.std.specs.Prelude.{◌∷◌, ◌++◌, length, take, slice_index, Option, None, Some}
 use Rattle.std.specs.Str.{bytes_eq}

@@ -1,4 +1,4 @@
--- The fields of a volume header that is kept in memory.
+-- The fields of a volume header that is kept in memory (PI specification, volume 3, sections 3.2.1.1 and 3.2.1.2).
 use Rattle.fv_head.specs.declared.head.VolumeHead.TheInside.{Inside}
 use Rattle.fv_head.specs.Head.{HeadFields}
 

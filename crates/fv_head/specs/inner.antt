@@ -1,3 +1,3 @@
--- Definitions that serve only private clauses: there is nothing to believe here.
+-- Definitions that only private clauses cite: a reviewer does not need to read them.
 pub mod HeadVerdicts
 pub mod WordSums

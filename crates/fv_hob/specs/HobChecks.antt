@@ -1,4 +1,4 @@
--- The checks of a block in order, and the first fault of a list.
+-- The checks of a block in order, and the first fault of a list (PI specification, volume 3, section 5).
 use Rattle.std.specs.Prelude.{◌≡◌, ℕ, ◌%◌, ◌==◌, nat_le, ◌&&◌, ◌||◌, not, Bool, true, List, [], ◌∷◌, ◌++◌, length}
 use Rattle.std.specs.List.{AllByRecursion}
 use Rattle.fv_base.specs.Words.{Check, IsFirstFault}

@@ -1,4 +1,5 @@
--- The checks of a section header in order, and the faults of a stream: its first fault, or any fault.
+-- The checks of a section header in order, and the faults of a stream: its first fault, or any fault (PI specification,
+-- volume 3, section 3.2.4).
 use Rattle.std.specs.Prelude.{◌≡◌, ℕ, ◌%◌, ◌<◌, ◌==◌, nat_le, ◌&&◌, Bool, true, false, List, [], ◌∷◌, length, take}
 use Rattle.std.specs.Prelude.{drop}
 use Rattle.fv_base.specs.Words.{Check, check, Which, First, Fails, le_at}

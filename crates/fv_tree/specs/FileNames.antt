@@ -1,4 +1,4 @@
--- The names of files.
+-- The names of files (PI specification, volume 3, section 3.2.3.1, Name).
 use Rattle.std.specs.Prelude.{Bool, List, map, Option}
 use Rattle.std.specs.List.{find}
 use Rattle.std.specs.Str.{bytes_eq}

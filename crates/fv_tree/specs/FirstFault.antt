@@ -1,6 +1,6 @@
--- The faults of bytes that should begin with a volume, by the same recursion as Denotes. With First, a fault is the
--- first one in the order in which a volume is read. With Any, it is any fault whose condition holds at its place,
--- whatever else is wrong.
+-- The faults of bytes that should begin with a volume, by the same recursion as Denotes (PI specification, volume 3,
+-- sections 3.2.1 to 3.2.5). With First, a fault is the first one in the order in which a volume is read. With Any, it
+-- is any fault whose condition holds at its place, whatever else is wrong.
 use Rattle.std.specs.Prelude.{◌≡◌, ℕ, zero, suc, ◌+◌, ◌⊎◌, true, List, [], ◌∷◌, ◌++◌, take, drop}
 use Rattle.std.specs.List.{list_any}
 use Rattle.fv_base.specs.Words.{Which, First, Any, Fails, outer_fault, depth_limit}

@@ -1,4 +1,5 @@
--- Looking up files and sections: the next file, the n-th file or section of a type, and the result of a look-up.
+-- Looking up files and sections: the next file, the n-th file or section of a type, and the result of a look-up (PI
+-- specification, volume 3, sections 3.2.3 and 3.2.5).
 use Rattle.std.specs.Prelude.{ℕ, ◌+◌, ◌==◌, ◌++◌, zero, suc, List, [], ◌∷◌, Option, Some, None, option_map, slice_get}
 use Rattle.std.specs.Prelude.{◌≡◌}
 use Rattle.std.specs.List.{filter}

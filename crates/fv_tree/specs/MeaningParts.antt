@@ -1,4 +1,4 @@
--- Further parts of a meaning, as the calls on views return them.
+-- Further parts of a meaning, as the calls on views return them (PI specification, volume 3, sections 3.2.3 and 3.2.4).
 use Rattle.std.specs.Prelude.{ℕ, List, [], ◌∷◌, Bool, Option, Some, None}
 use Rattle.fv_tree.specs.Meaning.{FileMeanings, NoFiles, MoreFiles, FileMeaning, File, ContentMeaning, Plain}
 use Rattle.fv_tree.specs.Meaning.{Sectioned, SectionMeanings, NoSections, MoreSections, SectionMeaning, Section}

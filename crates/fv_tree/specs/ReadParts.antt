@@ -1,4 +1,4 @@
--- Facts about a file or a section that was read.
+-- Facts about a file or a section that was read (PI specification, volume 3, sections 3.2.3 and 3.2.4).
 use Rattle.std.specs.Prelude.{ℕ, ◌≤◌, List, length}
 use Rattle.fv_base.specs.Words.{depth_limit, volume_limit, IsBytes}
 use Rattle.fv_base.specs.declared.flash.FileSystem.{FileSystem}
