@@ -143,8 +143,8 @@ IsPlaced input rows row (VolumeNode m) = Accepted (bytes_at input row) m × Begi
 IsPlaced input rows row (FileNode f) = Held rows row (λ holder. IsFileIn input holder row f)
 IsPlaced input rows row (SectionNode s) = Held rows row (λ holder. IsSectionIn input holder row s)
 
--- `row` reports the row r of the tree: its fields are those of r, its bytes are within the input, and its part lies
--- there (`IsPlaced`)
+-- `row` reports the row r of the tree: it has the fields of r, its bytes are within the input, and its part lies there
+-- (`IsPlaced`)
 pub record IsNodeIn (input : List ℕ) (rows : List FvNode) (row : FvNode) (r : TreeRow) : Type 0 where
   pub is : row ≡ reported_node row.offset row.header_length r
   pub within : row.offset + row.length ≤ length input

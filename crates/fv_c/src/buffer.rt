@@ -8,7 +8,7 @@ ghost use Rattle.fv_c.specs.inner.Rows.{IsWritten};
 use crate::reports::{BUFFER_TOO_SMALL, FvFault, NO_FAULT, refused};
 use fv_base::Fault;
 
-// Writes the elements at the start of the buffer, and keeps what the buffer holds after them.
+// Writes the elements at the start of the buffer. The rest of the buffer is unchanged.
 pub(crate) fn put_first<T: Copy>(rows: &[T], buffer: &mut [T])
     requires { length rows.now ≤ length buffer.old }
     ensures { buffer.new ≡ rows.now ++ drop (length rows.now) buffer.old }
@@ -17,8 +17,8 @@ pub(crate) fn put_first<T: Copy>(rows: &[T], buffer: &mut [T])
     front.copy_from_slice(rows);
 }
 
-// Writes the elements at the start of the buffer and returns 0, or keeps the buffer and returns 256
-// if it has fewer elements.
+// Writes the elements at the start of the buffer and returns 0. If the buffer has fewer elements,
+// returns 256 and leaves it unchanged.
 pub(crate) fn put_all<T: Copy>(rows: &[T], buffer: &mut [T]) -> u32
     ensures { IsWritten rows.now buffer.old buffer.new result }
 {
@@ -29,7 +29,7 @@ pub(crate) fn put_all<T: Copy>(rows: &[T], buffer: &mut [T]) -> u32
     0
 }
 
-// Does the same as `put_all`. `count` is the number of the elements.
+// Does the same as `put_all`, and sets `count` to the number of elements in both cases.
 pub(crate) fn put_rows<T: Copy>(rows: &[T], buffer: &mut [T], count: &mut u64) -> u32
     ensures written { IsWritten rows.now buffer.old buffer.new result }
     ensures count { count.new ≡ length rows.now }
@@ -53,7 +53,7 @@ pub(crate) fn put_found<T: Copy>(
     put_rows(rows, buffer, count)
 }
 
-// Does the same as `put_found` with the elements that were found, or reports the fault.
+// Does the same as `put_found` if elements were found, and otherwise reports the fault.
 pub(crate) fn put_result<T: Copy>(
     found: Result<Vec<T>, Fault>,
     buffer: &mut [T],

@@ -1,6 +1,6 @@
-//! The canonical image of a volume, whether a volume is its own image, its digest, and a flash
-//! image of canonical volumes. An image is put into the caller's buffer, or hashed, as the walk over
-//! the volume puts it: none is kept in memory.
+//! The canonical image of a volume and its digest, the check whether a volume is its own canonical
+//! image, and flash images with each volume replaced. The walk over a volume puts the bytes of the
+//! image straight into the caller's buffer or into the digest, so no image is kept in memory.
 
 ghost use Rattle.std.specs.Prelude.{◌≡◌, ◌≢◌, ◌⊎◌, ◌↔◌, ◌<◌, ◌≤◌, ◌++◌, ℕ, List, length, drop, IfOk, IfErr};
 ghost use Rattle.sha2.specs.Sha256.{sha256};
@@ -32,14 +32,15 @@ pub extern "C" fn fvp_volume_is_canonical(
     canonical: &mut u32,
     fault: &mut FvFault,
 ) -> u32
-    // The input has one meaning, and the flag says whether it is the image of it.
+    // The input has one meaning, and the flag says whether the input is the canonical image of this
+    // meaning.
     ensures ok { result ≡ 0 → (m : Meaning) × Accepted volume.now m × ((canonical.new ≡ 1) ↔ IsImage m volume.now)
         × (canonical.new ≤ 1) × (fault.new ≡ no_fault) }
 
     ensures kept { result ≢ 0 → canonical.new ≡ canonical.old }
 
-    // A fault is out of memory, only if the input begins with the header of a volume, or the first
-    // of the input.
+    // A fault is the first fault of the input, or out of memory. Memory can run out only if the
+    // input begins with the header of a volume.
     ensures err { result ≢ 0 → (f : Fault) × OrMemory (NotRead volume.now) f
         × (f ≡ out_of_memory → BeginsWithHeader volume.now)
         × (result ≡ fault_number f.kind) × (fault.new ≡ reported_fault f) }
@@ -58,11 +59,11 @@ pub extern "C" fn fvp_volume_is_canonical(
 #[repr(C)]
 #[derive(Clone, Copy)]
 pub struct FvSha256 {
-    /// Its 32 bytes.
+    /// The 32 bytes of the digest.
     pub bytes: [u8; 32],
 }
 
-// The SHA-256 of the canonical image of the volume that the input is.
+// Returns the SHA-256 digest of the input's canonical image. The input is a volume.
 fn digest_of(alloc: Global, volume: &[u8]) -> Result<FvSha256, Fault>
     ensures ok { IfOk result (λ d. (image : List ℕ) × NormalisesTo volume.now image × (d.bytes ≡ sha256 image)) }
     ensures err { IfErr result (OrMemory (Refuses volume.now)) }
@@ -98,8 +99,8 @@ pub extern "C" fn fvp_volume_digest(
 
     ensures kept { result ≢ 0 → digest.new ≡ digest.old }
 
-    // A fault is out of memory, only if the input begins with the header of a volume, or the first
-    // of the input.
+    // A fault is the first fault of the input, or out of memory. Memory can run out only if the
+    // input begins with the header of a volume.
     ensures err { result ≢ 0 → (f : Fault) × OrMemory (Refuses volume.now) f
         × (f ≡ out_of_memory → BeginsWithHeader volume.now)
         × (result ≡ fault_number f.kind) × (fault.new ≡ reported_fault f) }
@@ -132,19 +133,19 @@ pub extern "C" fn fvp_volume_normalise(
     buffer: &mut [u8],
     fault: &mut FvFault,
 ) -> u32
-    // The buffer begins with the image, and holds what it held after that.
+    // The buffer begins with the image, and is unchanged after that.
     ensures ok { result ≡ 0 → (image : List ℕ) × NormalisesTo volume.now image × (length image ≡ length volume.now)
         × (buffer.new ≡ image ++ drop (length image) buffer.old) × (fault.new ≡ no_fault) }
 
     ensures kept { result ≢ 0 → buffer.new ≡ buffer.old }
 
-    // Only for an input that has an image can the buffer be too small: if it is shorter.
+    // 256 is returned only if the input has an image and the buffer is shorter than this image.
     ensures small { result ≡ 256 → (image : List ℕ) × NormalisesTo volume.now image × (length image ≡ length volume.now)
         × (length buffer.old < length image) × (fault.new ≡ no_fault) }
     ensures room { length buffer.old < length volume.now → result ≢ 0 }
 
-    // Any other fault is out of memory, only if the input begins with the header of a volume, or
-    // the first of the input.
+    // Any other result is the first fault of the input, or out of memory. Memory can run out only
+    // if the input begins with the header of a volume.
     ensures err { result ≢ 0 → result ≢ 256 → (f : Fault) × OrMemory (Refuses volume.now) f
         × (f ≡ out_of_memory → BeginsWithHeader volume.now)
         × (result ≡ fault_number f.kind) × (fault.new ≡ reported_fault f) }
@@ -181,19 +182,19 @@ pub extern "C" fn fvp_image_normalise(
     buffer: &mut [u8],
     fault: &mut FvFault,
 ) -> u32
-    // The buffer begins with the image, and holds what it held after that.
+    // The buffer begins with the image, and is unchanged after that.
     ensures ok { result ≡ 0 → (bytes : List ℕ) × NormalisesAll image.now bytes × (length bytes ≡ length image.now)
         × (buffer.new ≡ bytes ++ drop (length bytes) buffer.old) × (fault.new ≡ no_fault) }
 
     ensures kept { result ≢ 0 → buffer.new ≡ buffer.old }
 
-    // Only if each volume has an image can the buffer be too small: if it is shorter.
+    // 256 is returned only if each volume has an image and the buffer is shorter than the result.
     ensures small { result ≡ 256 → (bytes : List ℕ) × NormalisesAll image.now bytes × (length bytes ≡ length image.now)
         × (length buffer.old < length bytes) × (fault.new ≡ no_fault) }
     ensures room { length buffer.old < length image.now → result ≢ 0 }
 
-    // Any other fault is out of memory, only if a volume begins in an image within the limit, or the
-    // fault of the first volume that has no image.
+    // Any other result is the fault of the first volume that has no image, or out of memory. Memory
+    // can run out only if the image is within the limit and a volume begins in it.
     ensures err { result ≢ 0 → result ≢ 256 → (f : Fault) × OrMemory (RefusesAll image.now) f
         × (f ≡ out_of_memory → (length image.now ≤ volume_limit) × ((place : ℕ) × IsPlace image.now place))
         × (result ≡ fault_number f.kind) × (fault.new ≡ reported_fault f) }

@@ -23,9 +23,9 @@ use std::alloc::{AllocError, Global};
 #[repr(C)]
 #[derive(Clone, Copy)]
 pub struct FvCell {
-    /// Its offset in bytes from the volume's start.
+    /// The cell's offset in bytes from the volume's start.
     pub offset: u64,
-    /// The number of its bytes, of a file or a pad without the filler after it.
+    /// The cell's length in bytes. The filler after a file or a pad is not included.
     pub length: u64,
     /// 1: a valid file; 2: a pad; 3: a file that was deleted; 4: a file whose data or header were
     /// never finished; 5: free bytes.
@@ -36,13 +36,13 @@ pub struct FvCell {
     pub efi_type: u32,
     /// `Attributes` of a file or a pad.
     pub attributes: u32,
-    /// `Name` of a file or a pad, by its bytes in the volume.
+    /// `Name` of a file or a pad, as its 16 bytes in the volume.
     pub name: [u8; 16],
     /// Always 0.
     pub reserved: u64,
 }
 
-// The number of bytes of the header of a file with these attributes.
+// Returns the length in bytes of the header of a file with these attributes.
 fn header_length(attributes: FileAttributes) -> u32
     ensures { result ≡ file_header_len (is_large (attribute_bits attributes)) }
 {
@@ -53,7 +53,7 @@ fn header_length(attributes: FileAttributes) -> u32
     }
 }
 
-// A file or a pad, for C.
+// Returns the report for C of a file or a pad.
 fn of_file(offset: u64, kind: u32, head: FileHead) -> FvCell
     ensures { result ≡ of_file offset kind head }
 {
@@ -69,7 +69,7 @@ fn of_file(offset: u64, kind: u32, head: FileHead) -> FvCell
     }
 }
 
-// Bytes of no valid file, for C.
+// Returns the report for C of a cell that is not a valid file or a pad.
 fn of_bytes(offset: u64, kind: u32, length: u64) -> FvCell
     ensures { result ≡ of_bytes offset kind length }
 {
@@ -85,7 +85,7 @@ fn of_bytes(offset: u64, kind: u32, length: u64) -> FvCell
     }
 }
 
-// The number of a file that is not valid, by its state.
+// Returns the number for a dead file, which depends on its state.
 fn dead_number(state: FileState) -> u32
     ensures { result ≡ dead_number state }
 {
@@ -111,14 +111,14 @@ impl<'a> Translate for Cell<'a> {
     }
 }
 
-// The cells of a volume, for C.
+// Returns the reports for C of a volume's cells.
 fn reported_list(alloc: Global, list: &Cells<'_>) -> Result<Vec<FvCell>, AllocError>
     ensures { IfOk result (λ v. v.items ≡ map reported_cell list.now) }
 {
     translate_all(alloc, list.as_slice())
 }
 
-// The cells of the volume with which the bytes begin, for C.
+// Returns the reports for C of the cells of the volume with which the bytes begin.
 fn cell_rows(alloc: Global, volume: &[u8]) -> Result<Vec<FvCell>, Fault>
     ensures ok { IfOk result (λ v. (e : Extent) × (cs : List CellForm) × BeginsTiled e cs volume.now
         × (v.items ≡ map reported_cell cs)) }
@@ -146,7 +146,7 @@ pub extern "C" fn fvp_volume_cells(
     count: &mut u64,
     fault: &mut FvFault,
 ) -> u32
-    // The buffer begins with the cells, and holds what it held after them.
+    // The buffer begins with the cells, and is unchanged after them.
     ensures ok { result ≡ 0 → (e : Extent) × (cs : List CellForm) × BeginsTiled e cs volume.now
         × (count.new ≡ length cs) × (rows.new ≡ map reported_cell cs ++ drop (length cs) rows.old)
         × (fault.new ≡ no_fault) }
@@ -155,8 +155,8 @@ pub extern "C" fn fvp_volume_cells(
     ensures small { result ≡ 256 → (e : Extent) × (cs : List CellForm) × BeginsTiled e cs volume.now
         × (count.new ≡ length cs) × (length rows.old < length cs) × (fault.new ≡ no_fault) }
 
-    // Any other fault is out of memory, only if the bytes begin with the header of a volume, or the
-    // first of the header or of the cells.
+    // Any other result is the first fault of the header or of the cells, or out of memory. Memory
+    // can run out only if the bytes begin with the header of a volume.
     ensures err { result ≢ 0 → result ≢ 256 → (f : Fault) × (f ≢ out_of_memory → NotTiled volume.now f)
         × (f ≡ out_of_memory → BeginsWithHeader volume.now)
         × (result ≡ fault_number f.kind) × (fault.new ≡ reported_fault f) × (count.new ≡ count.old) }

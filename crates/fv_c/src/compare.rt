@@ -19,7 +19,7 @@ use std::alloc::Global;
 /// The size in bytes of a buffer in which every text of a comparison has room, with its byte 0.
 pub const DIFFERENCE_SIZE: usize = 553;
 
-/// What a comparison found.
+/// The result of a comparison.
 #[repr(C)]
 #[derive(Clone, Copy)]
 pub struct FvComparison {
@@ -31,7 +31,7 @@ pub struct FvComparison {
     pub reserved: u32,
 }
 
-// Whether two volumes have the same meaning, and the line that says where they first differ.
+// Returns whether two volumes have the same meaning, and the line of their comparison.
 fn line_of(alloc: Global, a: &VolumeView<'_>, b: &VolumeView<'_>) -> Result<(bool, ByteList), Fault>
     ensures ok { IfOk result (λ r. ((r.0 ≡ true) ↔ (a.now ≡ b.now))
         × (r.1 ≡ compare_line (difference a.now b.now)) × (length r.1 ≤ 553)) }
@@ -114,7 +114,7 @@ pub extern "C" fn fvp_volume_compare(
     found: &mut FvComparison,
     fault: &mut FvFault,
 ) -> u32
-    // The buffer begins with the text and a byte 0, and holds what it held after that.
+    // The buffer begins with the text and a byte 0, and is unchanged after that.
     ensures ok { result ≡ 0 → (m : Meaning) × (k : Meaning) × Accepted first.now m × Accepted second.now k
         × IsReported m k found.new
         × (text.new ≡ compare_text (difference m k) ++ 0 ∷ drop (found.new.text_length + 1) text.old)
@@ -124,11 +124,12 @@ pub extern "C" fn fvp_volume_compare(
     ensures small { result ≡ 256 → (m : Meaning) × (k : Meaning) × Accepted first.now m × Accepted second.now k
         × IsReported m k found.new × (length text.old < found.new.text_length + 1) × (fault.new ≡ no_fault) }
 
-    // No text needs more room than this, its byte 0 included.
+    // Every text, with its byte 0, has at most 553 bytes.
     ensures room { 553 ≤ length text.old → result ≢ 256 }
 
-    // A fault is out of memory, only if its input begins with the header of a volume, or it is the
-    // first fault of that input. The second input is rejected only if the first is a volume.
+    // A fault is the first fault of its input, or out of memory. Memory can run out only if this
+    // input begins with the header of a volume. The second input is rejected only if the first is a
+    // volume.
     ensures first { result ≢ 0 → result ≢ 256 → fault.new.input ≡ 0 → (f : Fault) × OrMemory (NotRead first.now) f
         × (f ≡ out_of_memory → BeginsWithHeader first.now)
         × (result ≡ fault_number f.kind) × (fault.new ≡ reported_fault_of 0 f) }
@@ -137,7 +138,7 @@ pub extern "C" fn fvp_volume_compare(
         × (f ≡ out_of_memory → BeginsWithHeader second.now)
         × (result ≡ fault_number f.kind) × (fault.new ≡ reported_fault_of 1 f) }
 
-    // Any other result is the fault of one of the two inputs, and `found` is unchanged.
+    // Any other result is a fault in one of the two inputs, and `found` is unchanged.
     ensures input { result ≢ 0 → result ≢ 256 → ((fault.new.input ≡ 0) ⊎ (fault.new.input ≡ 1))
         × (found.new ≡ found.old) }
 {

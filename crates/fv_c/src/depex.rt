@@ -15,11 +15,11 @@ use fv_base::Guid;
 use fv_depex::{DepexFault, DepexFaultKind, Phase, evaluate, read_depex};
 use std::alloc::Global;
 
-/// A GUID, by its bytes in a volume.
+/// A GUID, as its bytes in a volume.
 #[repr(C)]
 #[derive(Clone, Copy)]
 pub struct FvGuid {
-    /// Its 16 bytes. The first three fields have their least significant byte first.
+    /// The 16 bytes of the GUID. The first three fields have their least significant byte first.
     pub bytes: [u8; 16],
 }
 
@@ -33,7 +33,7 @@ impl Translate for FvGuid {
     }
 }
 
-// A phase by its number: 0 is PEI, any other is DXE and MM.
+// Returns the phase with this number: 0 is PEI, and any other number is DXE and MM.
 fn phase_by_number(number: u32) -> Phase
     ensures { result ≡ phase_by_number number }
 {
@@ -43,7 +43,7 @@ fn phase_by_number(number: u32) -> Phase
     }
 }
 
-// A truth value, for C. 2 says that there is none.
+// Returns the number for a truth value: 1 for true, 0 for false, and 2 if there is none.
 fn reported_truth(value: Option<bool>) -> u32
     ensures { result ≡ reported_truth value }
 {
@@ -54,7 +54,7 @@ fn reported_truth(value: Option<bool>) -> u32
     }
 }
 
-// The result of a call for a fault of an expression.
+// Returns the result of a call that stops at a fault of an expression.
 fn depex_result(kind: DepexFaultKind) -> u32
     ensures { result ≡ depex_result kind }
 {
@@ -64,7 +64,8 @@ fn depex_result(kind: DepexFaultKind) -> u32
     }
 }
 
-// The truth value of a dependency expression when these GUIDs are installed; None if it has none.
+// Returns the truth value of a dependency expression when exactly these GUIDs are installed.
+// Returns None for BEFORE and AFTER, which have no truth value.
 fn evaluated(
     alloc: Global,
     expression: &[u8],
@@ -82,10 +83,10 @@ fn evaluated(
     evaluate(alloc, &depex, guids.as_slice())
 }
 
-/// Evaluates a dependency expression of a phase: 0 is PEI, any other number DXE and MM. `value` is
-/// its truth value when these GUIDs are installed, 1 or 0, or 2 for BEFORE and AFTER, which have
-/// none. Bytes after the END op are not looked at. Returns 0. (PI specification, volume 2, section
-/// 10.7.)
+/// Evaluates a dependency expression of a phase: 0 is PEI, and any other number is DXE and MM.
+/// `value` is 1 or 0, the truth value of the expression when exactly these GUIDs are installed. It
+/// is 2 for BEFORE and AFTER, which have no truth value. Bytes after the END op are not read.
+/// Returns 0. (PI specification, volume 2, section 10.7.)
 ///
 /// # Errors
 ///
@@ -109,8 +110,8 @@ pub extern "C" fn fvp_depex_evaluate(
 
     ensures kept { result ≢ 0 → value.new ≡ value.old }
 
-    // A fault is out of memory, only if the bytes begin with an op that may be the first, or the
-    // first of the expression.
+    // A fault is the first fault of the expression, or out of memory. Memory can run out only if
+    // the bytes begin with an op that may be the first.
     ensures err { result ≢ 0 → (f : DepexFault)
         × (f ≢ depex_out_of_memory → NoExpression (phase_by_number phase) expression.now f)
         × (f ≡ depex_out_of_memory → BeginsFirstOp (phase_by_number phase) expression.now)

@@ -23,8 +23,8 @@ use fv_sinks::BufferSink;
 use fv_tree::{FileView, SectionView, VolumeView};
 use std::alloc::Global;
 
-// Puts the canonical image of a volume at the start of the buffer, or keeps the buffer and returns
-// 256 if it is shorter. `len` is the length of the image.
+// Writes the canonical image of a volume to the start of the buffer. If the buffer is shorter than
+// the image, returns 256 and leaves it unchanged. `len` is the length of the image.
 fn put_volume(
     alloc: Global,
     volume: &VolumeView<'_>,
@@ -49,8 +49,8 @@ fn put_volume(
     Ok(0)
 }
 
-// Puts the data of a file at the start of the buffer, or keeps the buffer and returns 256 if it is
-// shorter. `len` is their length.
+// Writes the data of a file to the start of the buffer. If the buffer is shorter than the data,
+// returns 256 and leaves it unchanged. `len` is the length of the data.
 fn put_data(
     alloc: Global,
     file: &FileView<'_>,
@@ -73,8 +73,8 @@ fn put_data(
     Ok(0)
 }
 
-// Puts the body of a section at the start of the buffer, or keeps the buffer and returns 256 if it
-// is shorter. `len` is its length.
+// Writes the body of a section to the start of the buffer. If the buffer is shorter than the body,
+// returns 256 and leaves it unchanged. `len` is the length of the body.
 fn put_body(
     alloc: Global,
     section: &SectionView<'_>,
@@ -97,8 +97,8 @@ fn put_body(
     Ok(0)
 }
 
-// Puts a part at the start of the buffer, or keeps the buffer and returns 256 if it is shorter.
-// `len` is the length of the part.
+// Writes a part to the start of the buffer. If the buffer is shorter than the part, returns 256 and
+// leaves it unchanged. `len` is the length of the part.
 fn put_part(
     alloc: Global,
     part: Part<'_, '_>,
@@ -117,7 +117,7 @@ fn put_part(
     }
 }
 
-// Puts the part of a row of a volume, or returns 257 if the volume has no such row.
+// Writes the part of row `row` of a volume, or returns 257 if the volume has no such row.
 fn put_row(
     alloc: Global,
     volume: &VolumeView<'_>,
@@ -135,7 +135,8 @@ fn put_row(
     }
 }
 
-// Puts the part of a row of the volume that the input is, or returns 257 if it has no such row.
+// Reads the input as a volume, and writes the part of its row `row`, or returns 257 if the volume
+// has no such row.
 fn put_extracted(
     alloc: Global,
     volume: &[u8],
@@ -176,7 +177,7 @@ pub extern "C" fn fvp_volume_extract(
     len: &mut u64,
     fault: &mut FvFault,
 ) -> u32
-    // The buffer begins with the part, and holds what it held after that.
+    // The buffer begins with the part, and is unchanged after that.
     ensures ok { result ≡ 0 → (bytes : List ℕ) × ExtractsTo row volume.now bytes × (len.new ≡ length bytes)
         × (buffer.new ≡ bytes ++ drop (length bytes) buffer.old) × (fault.new ≡ no_fault) }
 
@@ -184,11 +185,12 @@ pub extern "C" fn fvp_volume_extract(
     ensures small { result ≡ 256 → (bytes : List ℕ) × ExtractsTo row volume.now bytes
         × (len.new ≡ length bytes) × (length buffer.old < length bytes) × (fault.new ≡ no_fault) }
 
-    // The number of the row is at least the number of rows.
+    // 257 means that the volume has at most `row` rows.
     ensures absent { result ≡ 257 → HasNoRow row volume.now × (len.new ≡ len.old) × (fault.new ≡ no_fault) }
 
-    // Any other fault is out of memory, only if the input begins with the header of a volume, the
-    // first fault of the input, or the fault of a volume in the part.
+    // Any other result is the first fault of the input, the fault of the first volume in the part
+    // that does not fit, or out of memory. Memory can run out only if the input begins with the
+    // header of a volume.
     ensures err { result ≢ 0 → result ≢ 256 → result ≢ 257 → (f : Fault)
         × ((f ≡ out_of_memory) ⊎ (NotRead volume.now f ⊎ HasUnfitRow row volume.now f))
         × (f ≡ out_of_memory → BeginsWithHeader volume.now)

@@ -1,4 +1,4 @@
-//! The header of the volume with which some bytes begin.
+//! Reads the header of the volume with which some bytes begin.
 
 ghost use Rattle.std.specs.Prelude.{◌≡◌, ◌≢◌};
 ghost use Rattle.fv_base.specs.Words.{IsFirstFault, fault_number, le_at};
@@ -26,26 +26,27 @@ const EXT_HEADER_OFFSET_OFFSET: usize = 52;
 pub struct FvHeader {
     /// The volume's offset in bytes from the first byte that was passed to the call.
     pub offset: u64,
-    /// The number of its bytes, `FvLength`.
+    /// The length of the volume in bytes, `FvLength`.
     pub length: u64,
     /// The offset in bytes from the volume's start at which its first file may begin.
     pub first_file: u64,
-    /// The number of bytes of its header, `HeaderLength`.
+    /// The length of the volume's header in bytes, `HeaderLength`.
     pub header_length: u32,
     /// `Attributes`.
     pub attributes: u32,
-    /// Its file system: 2 for FFS2, 3 for FFS3.
+    /// The volume's file system: 2 for FFS2, 3 for FFS3.
     pub file_system: u32,
     /// The value of an erased byte: 0 or 255.
     pub erased_byte: u32,
-    /// `FvName` of its extended header, by its bytes in the volume. All 0 if it has none. (PI
-    /// specification, volume 3, section 3.2.1.2.)
+    /// `FvName` of the volume's extended header, as its 16 bytes in the volume. Zeros if the volume
+    /// has no extended header. (PI specification, volume 3, section 3.2.1.2.)
     pub name: [u8; 16],
     /// Always 0.
     pub reserved: u64,
 }
 
-// The name of the volume with which the bytes begin, or zeros if it has none.
+// Returns `FvName` of the volume with which the bytes begin, or zeros if the volume has no extended
+// header.
 fn name_at(bytes: &[u8], extent: Extent) -> [u8; 16]
     requires { (h : HeadFields) × BeginsVolume h extent bytes.now }
     ensures { (h : HeadFields) → BeginsVolume h extent bytes.now → result ≡ volume_name h.ext }
@@ -57,7 +58,8 @@ fn name_at(bytes: &[u8], extent: Extent) -> [u8; 16]
     guid_at(bytes, offset).to_bytes()
 }
 
-// The header of the volume with which the bytes begin, for C. The volume is at this offset.
+// Returns the header of the volume with which the bytes begin, for C. The bytes begin at this
+// offset of the image.
 pub(crate) fn header_of(offset: u64, bytes: &[u8], extent: Extent) -> FvHeader
     requires { (h : HeadFields) × BeginsVolume h extent bytes.now }
     ensures { (h : HeadFields) → BeginsVolume h extent bytes.now → result ≡ reported_header offset h extent }
@@ -89,7 +91,7 @@ pub extern "C" fn fvp_header_read(bytes: &[u8], header: &mut FvHeader, fault: &m
     ensures found { result ≡ 0 → (h : HeadFields) × (e : Extent) × BeginsVolume h e bytes.now
         × (header.new ≡ reported_header 0 h e) × (fault.new ≡ no_fault) }
 
-    // No bytes that begin with the header of a volume are rejected.
+    // Bytes that begin with the header of a volume are never rejected.
     ensures only { (h : HeadFields) (e : Extent) → BeginsVolume h e bytes.now
         → (result ≡ 0) × (header.new ≡ reported_header 0 h e) }
 

@@ -18,17 +18,17 @@ use std::alloc::Global;
 pub struct FvHob {
     /// The base address of the volume that an FV or FV2 block describes, else 0.
     pub volume_base: u64,
-    /// The number of bytes of that volume, else 0.
+    /// The length in bytes of that volume, else 0.
     pub volume_length: u64,
     /// `HobType`.
     pub hob_type: u32,
-    /// `HobLength`, the number of bytes of the block.
+    /// `HobLength`, the length of the block in bytes.
     pub hob_length: u32,
     /// Always 0.
     pub reserved: u64,
 }
 
-// That a block describes no volume.
+// The span for a block that does not describe a volume.
 const NO_SPAN: Span = Span { base: 0, length: 0 };
 
 impl Translate for Hob {
@@ -48,7 +48,7 @@ impl Translate for Hob {
     }
 }
 
-// The result of a call for a fault of a list.
+// Returns the result of a call that stops at a fault of a list.
 fn hob_result(kind: HobFaultKind) -> u32
     ensures { result ≡ hob_result kind }
 {
@@ -58,7 +58,8 @@ fn hob_result(kind: HobFaultKind) -> u32
     }
 }
 
-// The blocks of the hand-off list with which the bytes begin, for C, and the number of its bytes.
+// Returns the blocks of the hand-off list with which the bytes begin, for C, and the length of the
+// list in bytes.
 fn hob_rows(alloc: Global, list: &[u8]) -> Result<(Vec<FvHob>, u64), HobFault>
     ensures ok { IfOk result (λ r. (all : List HobForm) × (r.1 ≤ length list.now)
         × IsHobList all (take r.1 list.now) × (r.0.items ≡ map reported_hob all)) }
@@ -88,7 +89,7 @@ pub extern "C" fn fvp_hobs_read(
     list_length: &mut u64,
     fault: &mut FvFault,
 ) -> u32
-    // The buffer begins with the blocks, and holds what it held after them.
+    // The buffer begins with the blocks, and is unchanged after them.
     ensures ok { result ≡ 0 → (all : List HobForm) × (list_length.new ≤ length list.now)
         × IsHobList all (take list_length.new list.now) × (count.new ≡ length all)
         × (rows.new ≡ map reported_hob all ++ drop (length all) rows.old) × (fault.new ≡ no_fault) }
@@ -98,8 +99,8 @@ pub extern "C" fn fvp_hobs_read(
         × IsHobList all (take list_length.new list.now) × (count.new ≡ length all)
         × (length rows.old < length all) × (fault.new ≡ no_fault) }
 
-    // Any other fault is out of memory, only if the bytes begin with a hand-off information table,
-    // or the first of the list.
+    // Any other result is the first fault of the list, or out of memory. Memory can run out only if
+    // the bytes begin with a hand-off information table.
     ensures err { result ≢ 0 → result ≢ 256 → (f : HobFault) × (f ≢ hob_out_of_memory → NoHobs list.now f)
         × (f ≡ hob_out_of_memory → BeginsTable list.now)
         × (result ≡ hob_result f.kind) × (fault.new ≡ reported_hob_fault f) × (count.new ≡ count.old)

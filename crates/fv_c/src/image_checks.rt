@@ -16,24 +16,25 @@ use fv_base::Fault;
 use fv_canon::{VolumeCheck, VolumeOutcome, check_image};
 use std::alloc::Global;
 
-/// A volume of a flash image, and what is said of it. (PI specification, volume 3, section 3.2.)
+/// A volume of a flash image, and the result of its check. (PI specification, volume 3, section
+/// 3.2.)
 #[repr(C)]
 #[derive(Clone, Copy)]
 pub struct FvVolumeCheck {
-    /// Its offset in bytes from the first byte of the image.
+    /// The volume's offset in bytes from the first byte of the image.
     pub offset: u64,
-    /// The number of its bytes, `FvLength`.
+    /// The length of the volume in bytes, `FvLength`.
     pub length: u64,
-    /// The fault with which it is rejected, at its offset in the image. All fields are 0 if there is
-    /// none.
+    /// The fault with which the volume is rejected, at its offset in the image. All fields are 0 if
+    /// the volume is not rejected.
     pub fault: FvFault,
-    /// 1 if it is its own canonical image, else 0.
+    /// 1 if the volume is its own canonical image, else 0.
     pub canonical: u32,
     /// Always 0.
     pub reserved: u32,
 }
 
-// Whether a volume is its own canonical image, for C.
+// Returns 1 if a volume is its own canonical image, and otherwise 0.
 fn canonical_flag(outcome: VolumeOutcome) -> u32
     ensures { result ≡ canonical_flag outcome }
 {
@@ -43,7 +44,8 @@ fn canonical_flag(outcome: VolumeOutcome) -> u32
     }
 }
 
-// The fault with which a volume is rejected, for C.
+// Returns the report for C of the fault with which a volume is rejected, or zeros if it is not
+// rejected.
 fn fault_in(outcome: VolumeOutcome) -> FvFault
     ensures { result ≡ fault_in outcome }
 {
@@ -69,7 +71,7 @@ impl Translate for VolumeCheck {
     }
 }
 
-// The report for C on each volume of the image.
+// Returns the report for C on each volume of the image.
 fn check_rows(alloc: Global, image: &[u8]) -> Result<Vec<FvVolumeCheck>, Fault>
     ensures ok { IfOk result (λ v. (checks : List VolumeCheck) × ChecksImage image.now checks
         × (v.items ≡ map reported_check checks)) }
@@ -81,9 +83,9 @@ fn check_rows(alloc: Global, image: &[u8]) -> Result<Vec<FvVolumeCheck>, Fault>
     Ok(translate_all(alloc, checks.as_slice())?)
 }
 
-/// Writes a report on each volume that `fvp_image_scan` finds in a flash image, in order, at the start of
-/// the buffer `rows`. `count` is their number. Returns 0, also if a volume is rejected: its row has the
-/// fault. (PI specification, volume 3, section 3.2.)
+/// Writes a report on each volume that `fvp_image_scan` finds in a flash image, in order, at the
+/// start of the buffer `rows`. `count` is their number. Returns 0, also if a volume is rejected:
+/// the row of such a volume contains the fault. (PI specification, volume 3, section 3.2.)
 ///
 /// # Errors
 ///
@@ -98,7 +100,7 @@ pub extern "C" fn fvp_image_check(
     count: &mut u64,
     fault: &mut FvFault,
 ) -> u32
-    // The buffer begins with the rows of the volumes, and holds what it held after them.
+    // The buffer begins with the rows of the volumes, and is unchanged after them.
     ensures ok { result ≡ 0 → (checks : List VolumeCheck) × ChecksImage image.now checks
         × (count.new ≡ length checks) × (rows.new ≡ map reported_check checks ++ drop (length checks) rows.old)
         × (fault.new ≡ no_fault) }
@@ -107,8 +109,8 @@ pub extern "C" fn fvp_image_check(
     ensures small { result ≡ 256 → (checks : List VolumeCheck) × ChecksImage image.now checks
         × (count.new ≡ length checks) × (length rows.old < length checks) × (fault.new ≡ no_fault) }
 
-    // Any other fault is out of memory, only if a volume begins in an image within the limit, or
-    // Length, if the image is above the limit.
+    // Any other result is Length, if the image is longer than the limit, or out of memory. Memory
+    // can run out only if the image is within the limit and a volume begins in it.
     ensures err { result ≢ 0 → result ≢ 256 → (f : Fault) × OrMemory (IsAboveLimit image.now) f
         × (f ≡ out_of_memory → (length image.now ≤ volume_limit) × ((place : ℕ) × IsPlace image.now place))
         × (result ≡ fault_number f.kind) × (fault.new ≡ reported_fault f) × (count.new ≡ count.old) }

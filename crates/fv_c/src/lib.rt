@@ -2,11 +2,11 @@
 //! `clib/include/fv.h` are in `clib/src/calls.c`. Each checks its pointers, and then makes the call
 //! of this crate that has the same parameters: `fv_header_read` calls `fvp_header_read`.
 //!
-//! A call returns 0, or the number of a fault of a volume, which is below 256; or 256, if a buffer
-//! is too small, or 257, if the tree has no row with a number; or 512 and more for a fault of a
-//! dependency expression, or 768 and more for a fault of a hand-off list. If it returns another
-//! number than 0, the buffer is as it was, which the clause `kept` says. The clause `small` says
-//! when it returns 256, and what the buffer needs then.
+//! A call returns 0 if it succeeds. A number below 256 is a fault of a volume. 256 means that a
+//! buffer is too small, and 257 that the tree has no row with the number that was passed. 512 and
+//! more are faults of dependency expressions, and 768 and more are faults of hand-off lists. If a
+//! call does not return 0, the caller's buffer is unchanged: the clause `kept` states this. The
+//! clause `small` states when a call returns 256, and the length that the buffer needs.
 #![tactic(auto)]
 
 mod buffer;

@@ -50,7 +50,7 @@ pub const NO_FAULT: FvFault = FvFault {
     reserved: 0,
 };
 
-// The number of a file system, for C.
+// Returns the number of a file system: 2 for FFS2, 3 for FFS3.
 pub(crate) fn system_number(file_system: FileSystem) -> u32
     ensures { result ≡ system_number file_system }
 {
@@ -60,7 +60,7 @@ pub(crate) fn system_number(file_system: FileSystem) -> u32
     }
 }
 
-// A truth value, for C.
+// Returns 1 for true and 0 for false.
 pub(crate) fn flag(holds: bool) -> u32
     ensures is { (result ≡ 1) ↔ (holds ≡ true) }
     ensures most { result ≤ 1 }
@@ -68,7 +68,8 @@ pub(crate) fn flag(holds: bool) -> u32
     if holds { 1 } else { 0 }
 }
 
-// A fault of an input of a comparison, for C: 0 is the first input, 1 the second.
+// Returns the report for C of a fault in an input of a comparison: 0 is the first input, 1 the
+// second.
 fn reported_fault_of(input: u32, f: Fault) -> FvFault
     ensures { result ≡ reported_fault_of input f }
 {
@@ -81,14 +82,15 @@ fn reported_fault_of(input: u32, f: Fault) -> FvFault
     }
 }
 
-// A fault, for C.
+// Returns the report for C of a fault in the only input of a call.
 pub(crate) fn reported_fault(f: Fault) -> FvFault
     ensures { result ≡ reported_fault f }
 {
     reported_fault_of(0, f)
 }
 
-// Reports a fault of an input of a comparison to C, and returns its number.
+// Sets `fault` to the report of a fault in an input of a comparison, and returns the fault's
+// number.
 pub(crate) fn refused_of(input: u32, f: Fault, fault: &mut FvFault) -> u32
     ensures number { result ≡ fault_number f.kind }
     ensures fault { fault.new ≡ reported_fault_of input f }
@@ -99,7 +101,7 @@ pub(crate) fn refused_of(input: u32, f: Fault, fault: &mut FvFault) -> u32
     u32::from(f.kind.number())
 }
 
-// Reports a fault to C, and returns its number.
+// Sets `fault` to the report of a fault, and returns the fault's number.
 pub(crate) fn refused(f: Fault, fault: &mut FvFault) -> u32
     ensures number { result ≡ fault_number f.kind }
     ensures fault { fault.new ≡ reported_fault f }
@@ -109,7 +111,7 @@ pub(crate) fn refused(f: Fault, fault: &mut FvFault) -> u32
     refused_of(0, f, fault)
 }
 
-// Reports a fault that has no depth to C, and returns its result.
+// Sets `fault` to the report of a fault at depth 0 with this result, and returns the result.
 pub(crate) fn refused_at(offset: u64, number: u32, fault: &mut FvFault) -> u32
     ensures number { result ≡ number }
     ensures fault { fault.new ≡ record { offset = offset; result = number; depth = 0; input = 0; reserved = 0 } }

@@ -16,7 +16,7 @@ use fv_flash::{FoundVolume, volumes};
 use fv_head::verify_fv;
 use std::alloc::Global;
 
-// The header of a volume that was found in the image, for C.
+// Returns the header of a volume that was found in the image, for C.
 fn header_in(image: &[u8], volume: FoundVolume) -> FvHeader
     requires { VolumeAt image.now volume.offset volume.length }
     ensures offset { result.offset ≡ volume.offset }
@@ -29,7 +29,7 @@ fn header_in(image: &[u8], volume: FoundVolume) -> FvHeader
     header_of(volume.offset, bytes, extent)
 }
 
-// The headers of the volumes in the image, for C.
+// Returns the headers of the volumes in the image, for C.
 fn header_rows(alloc: Global, image: &[u8]) -> Result<Vec<FvHeader>, Fault>
     ensures ok { IfOk result (λ v. AreHeaders image.now v.items) }
     ensures err { IfErr result (λ f. f ≡ out_of_memory) }
@@ -59,7 +59,7 @@ pub extern "C" fn fvp_image_scan(
     count: &mut u64,
     fault: &mut FvFault,
 ) -> u32
-    // The buffer begins with the headers, and holds what it held after them.
+    // The buffer begins with the headers, and is unchanged after them.
     ensures ok { result ≡ 0 → (headers : List FvHeader) × AreHeaders image.now headers × (count.new ≡ length headers)
         × (rows.new ≡ headers ++ drop (length headers) rows.old) × (fault.new ≡ no_fault) }
 
@@ -67,7 +67,7 @@ pub extern "C" fn fvp_image_scan(
     ensures small { result ≡ 256 → (headers : List FvHeader) × AreHeaders image.now headers × (count.new ≡ length headers)
         × (length rows.old < length headers) × (fault.new ≡ no_fault) }
 
-    // Any other result is out of memory, only if a volume begins in the image.
+    // Any other result is out of memory, which can happen only if a volume begins in the image.
     ensures memory { result ≢ 0 → result ≢ 256 → (result ≡ 24) × (fault.new ≡ reported_fault out_of_memory)
         × (count.new ≡ count.old) × ((place : ℕ) × IsPlace image.now place) }
 {

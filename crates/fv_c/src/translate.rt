@@ -1,22 +1,22 @@
-//! Values that pass between C and the crates, each as the other side has it.
+//! Translates values between the types of C and the types of the other crates.
 
 ghost use Rattle.std.specs.Prelude.{◌≡◌, ◌≢◌, [], map, IfOk, OnErr};
 
 use std::alloc::{AllocError, Global};
 
-// A value of the crates that C has in a form of its own, or one of C that the crates have so.
+// A value that C and the other crates represent by different types.
 pub(crate) trait Translate {
-    // What the other side has.
+    // The type on the other side.
     type Target: Drop;
 
     ghost translated: { Self → Self.Target };
 
-    // The value, for the other side.
+    // Returns the value in the type of the other side.
     fn translate(&self) -> Self::Target
         ensures { result ≡ translated self.now };
 }
 
-// Values, for the other side.
+// Returns the values in the type of the other side.
 pub(crate) fn translate_all<T: Translate>(
     alloc: Global,
     list: &[T],

@@ -1,4 +1,4 @@
-//! The whole tree of a volume.
+//! Lists the tree of a volume: all parts at every level, with their places in the input.
 
 ghost use Rattle.std.specs.Prelude.{◌≡◌, ◌≢◌, ◌⊎◌, ◌<◌, ◌≤◌, ◌+◌, ◌^◌, ◌++◌, List, length, drop, map};
 ghost use Rattle.std.specs.Prelude.{IfOk, IfErr, OnOk};
@@ -43,9 +43,9 @@ pub struct FvNode {
     pub index: u64,
     /// The number of rows around this row.
     pub depth: u32,
-    /// What the part is: 1 a volume, 2 a file, 3 a section.
+    /// The kind of the part: 1 is a volume, 2 a file, 3 a section.
     pub kind: u32,
-    /// What the part holds: 0 files, 1 bytes, 2 sections, 3 a volume.
+    /// The contents of the part: 0 is files, 1 bytes, 2 sections, 3 a volume.
     pub content: u32,
     /// `Type` of a file or a section, 0 of a volume.
     pub efi_type: u32,
@@ -107,7 +107,7 @@ fn volume_node(volume: &VolumeView<'_>, parent: u64, depth: u32, offset: u64) ->
     }
 }
 
-// Returns what the data of a file are, for C: 1 bytes, 2 sections.
+// Returns the number for the content of a file: 1 for plain bytes, 2 for sections.
 fn content_number(file: &FileView<'_>) -> u32
     ensures { result ≡ content_number (content_of file.now) }
 {
@@ -117,7 +117,7 @@ fn content_number(file: &FileView<'_>) -> u32
     }
 }
 
-// Returns what the body of a section is, for C: 1 bytes, 2 sections, 3 a volume.
+// Returns the number for the body of a section: 1 for bytes, 2 for sections, 3 for a volume.
 fn body_number(section: &SectionView<'_>) -> u32
     ensures { result ≡ body_number (body_of section.now) }
 {
@@ -192,7 +192,7 @@ fn add_row(node: FvNode, rows: &mut Vec<FvNode>) -> Result<Holder, AllocError>
     Ok(Holder { number, node })
 }
 
-// The bytes of a row.
+// Returns the bytes of the input that a row describes.
 fn bytes_of_row<'a>(input: &'a [u8], node: &FvNode) -> &'a [u8]
     requires { node.now.offset + node.now.length ≤ length input.now }
     ensures { result.now ≡ bytes_at input.now node.now }
@@ -201,7 +201,8 @@ fn bytes_of_row<'a>(input: &'a [u8], node: &FvNode) -> &'a [u8]
     &input[start..start + node.length as usize]
 }
 
-// Adds the files of the volume in a row, which are stored so, each followed by what it holds.
+// Adds a row for each file of the volume in the row `holder`, each followed by the rows inside the
+// file.
 #[cycle(tree)]
 fn add_files(
     alloc: Global,
@@ -225,7 +226,8 @@ fn add_files(
     Ok(())
 }
 
-// Adds the sections that are the data of the file in a row, each followed by what it holds.
+// Adds a row for each section in the data of the file in the row `holder`, each followed by the
+// rows inside the section.
 #[cycle(tree)]
 fn add_content(
     alloc: Global,
@@ -252,7 +254,8 @@ fn add_content(
     }
 }
 
-// Adds the sections of the stream in a row, each followed by what it holds.
+// Adds a row for each section of the stream in the row `holder`, each followed by the rows inside
+// the section.
 #[cycle(tree)]
 fn add_sections(
     alloc: Global,
@@ -281,7 +284,8 @@ fn add_sections(
     Ok(())
 }
 
-// Adds what the section in a row holds: sections, or a volume; each is followed by what it holds.
+// Adds the rows inside the section in the row `holder`: sections or a volume, each followed by the
+// rows inside it.
 #[cycle(tree)]
 fn add_body(
     alloc: Global,
@@ -340,10 +344,10 @@ fn rows_in(alloc: Global, volume: &[u8]) -> Result<Vec<FvNode>, Fault>
 
 /// Writes the rows of the tree of a volume, which is the whole input, to the start of `rows`: the
 /// volume, its files and their sections, and in the same way each volume that a section holds. Each
-/// row is followed by the rows of what its part holds. `count` is the number of rows. Returns 0. The
-/// data are read once. To find the offsets of the parts, headers are read again, except the headers
-/// of the volume's own files. A file that is marked for update and whose update is in its volume is
-/// left out. (PI specification, volume 3, sections 3.2.1, 3.2.3 and 3.2.4.)
+/// row is followed by the rows of the parts inside its part. `count` is the number of rows. Returns
+/// 0. The data are read once. To find the offsets of the parts, headers are read again, except the
+/// headers of the volume's own files. A file that is marked for update and whose update is in its
+/// volume is left out. (PI specification, volume 3, sections 3.2.1, 3.2.3 and 3.2.4.)
 ///
 /// # Errors
 ///
@@ -358,7 +362,7 @@ pub extern "C" fn fvp_volume_tree(
     count: &mut u64,
     fault: &mut FvFault,
 ) -> u32
-    // The buffer begins with the rows, and holds what it held after them.
+    // The buffer begins with the rows, and is unchanged after them.
     ensures ok { result ≡ 0 → (nodes : List FvNode) × HasTreeRows volume.now nodes × (count.new ≡ length nodes)
         × (rows.new ≡ nodes ++ drop (length nodes) rows.old) × (fault.new ≡ no_fault) }
 
@@ -366,8 +370,8 @@ pub extern "C" fn fvp_volume_tree(
     ensures small { result ≡ 256 → (nodes : List FvNode) × HasTreeRows volume.now nodes × (count.new ≡ length nodes)
         × (length rows.old < length nodes) × (fault.new ≡ no_fault) }
 
-    // Any other fault is out of memory, only if the input begins with the header of a volume, or
-    // the first of the input.
+    // Any other result is the first fault of the input, or out of memory. Memory can run out only
+    // if the input begins with the header of a volume.
     ensures err { result ≢ 0 → result ≢ 256 → (f : Fault) × OrMemory (NotRead volume.now) f
         × (f ≡ out_of_memory → BeginsWithHeader volume.now)
         × (result ≡ fault_number f.kind) × (fault.new ≡ reported_fault f) × (count.new ≡ count.old) }

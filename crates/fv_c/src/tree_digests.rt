@@ -70,7 +70,7 @@ pub extern "C" fn fvp_volume_tree_digests(
     count: &mut u64,
     fault: &mut FvFault,
 ) -> u32
-    // The buffer begins with the digests, and holds what it held after them.
+    // The buffer begins with the digests, and is unchanged after them.
     ensures ok { result ≡ 0 → (digests : List FvSha256) × HasTreeDigests volume.now digests
         × (count.new ≡ length digests)
         × (rows.new ≡ digests ++ drop (length digests) rows.old) × (fault.new ≡ no_fault) }
@@ -80,8 +80,8 @@ pub extern "C" fn fvp_volume_tree_digests(
         × (count.new ≡ length digests)
         × (length rows.old < length digests) × (fault.new ≡ no_fault) }
 
-    // Any other fault is out of memory, only if the input begins with the header of a volume, or
-    // the first of the input.
+    // Any other result is the first fault of the input, or out of memory. Memory can run out only
+    // if the input begins with the header of a volume.
     ensures err { result ≢ 0 → result ≢ 256 → (f : Fault) × OrMemory (Refuses volume.now) f
         × (f ≡ out_of_memory → BeginsWithHeader volume.now)
         × (result ≡ fault_number f.kind) × (fault.new ≡ reported_fault f) × (count.new ≡ count.old) }

@@ -1,4 +1,4 @@
-//! A volume without the marks of its fixed files.
+//! Takes the marks of fixed files away from a volume.
 
 ghost use Rattle.std.specs.Prelude.{◌≡◌, ◌≢◌, ◌<◌, ◌≤◌, ◌++◌, ℕ, List, length, drop};
 ghost use Rattle.fv_base.specs.Words.{fault_number};
@@ -9,8 +9,8 @@ ghost use Rattle.fv_c.specs.Reports.{no_fault, reported_fault};
 use crate::reports::{BUFFER_TOO_SMALL, FvFault, NO_FAULT, refused};
 use fv_tree::{unfix, verify_unfixed};
 
-// Writes the input, which is a volume, without the marks of its fixed files to the start of the
-// buffer.
+// Writes the input, which is a volume, to the start of the buffer, without the marks of its fixed
+// files.
 fn put_unfixed(volume: &[u8], buffer: &mut [u8])
     requires volume { (o : List ℕ) × UnfixesTo volume.now o }
     requires room { length volume.now ≤ length buffer.old }
@@ -22,10 +22,10 @@ fn put_unfixed(volume: &[u8], buffer: &mut [u8])
     let _done = unfix(front);
 }
 
-/// Writes a volume, which is the whole input, without the marks of its fixed files to the start of
-/// the buffer: in the header of each such file, bit 0x04 of the attributes is cleared and 4 is
-/// added to the header checksum (modulo 256). Each other byte is as in the input, also in volumes
-/// inside it. The result is as long as the input. Returns 0. Takes no memory. (PI specification,
+/// Writes a volume, which is the whole input, to the start of the buffer, without the marks of its
+/// fixed files. In the header of each such file, bit 0x04 of the attributes is cleared, and 4 is
+/// added to the header checksum (modulo 256). All other bytes are unchanged, also in volumes inside
+/// the volume. The result is as long as the input. Returns 0. Takes no memory. (PI specification,
 /// volume 3, section 3.2.3.1, `FFS_ATTRIB_FIXED`.)
 ///
 /// # Errors
@@ -34,23 +34,23 @@ fn put_unfixed(volume: &[u8], buffer: &mut [u8])
 /// none, 256 if the buffer is shorter than the input. The buffer is unchanged in all cases.
 #[unsafe(no_mangle)]
 pub extern "C" fn fvp_volume_unfix(volume: &[u8], buffer: &mut [u8], fault: &mut FvFault) -> u32
-    // The buffer begins with the volume without the marks, and holds what it held after that.
+    // The buffer begins with the volume without the marks, and is unchanged after that.
     ensures ok { result ≡ 0 → (o : List ℕ) × UnfixesTo volume.now o × (length o ≡ length volume.now)
         × (buffer.new ≡ o ++ drop (length o) buffer.old) × (fault.new ≡ no_fault) }
 
     ensures kept { result ≢ 0 → buffer.new ≡ buffer.old }
 
-    // Only for a volume whose marks can be taken away can the buffer be too small: if it is
-    // shorter.
+    // 256 is returned only if the marks can be taken away and the buffer is shorter than the
+    // volume.
     ensures small { result ≡ 256 → ((o : List ℕ) × UnfixesTo volume.now o) × (length buffer.old < length volume.now)
         × (fault.new ≡ no_fault) }
     ensures room { length buffer.old < length volume.now → result ≢ 0 }
 
-    // Any other fault is the first of the input.
+    // Any other result is the first fault of the input.
     ensures err { result ≢ 0 → result ≢ 256 → (f : Fault) × NotUnfixed volume.now f
         × (result ≡ fault_number f.kind) × (fault.new ≡ reported_fault f) }
 
-    // Its number is at most 16, and not 15, the number of Fixed.
+    // The number of this fault is at most 16, and is not 15, the number of Fixed.
     ensures number { result ≢ 0 → result ≢ 256 → (result ≤ 16) × (result ≢ 15) }
 
     // If the marks can be taken away, only the buffer can be too small.
