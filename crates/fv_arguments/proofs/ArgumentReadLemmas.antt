@@ -64,7 +64,7 @@ program_first name = each_app (λ a. a.top.no_binary_name ≡ false) refl refl r
 pub faults_read : (name : Text) (words : List Text) → fault_of (app_named name) words ≡ faults_in (app_named name) (drop 1 words)
 faults_read name words = grind (arith, common_steps, program_first)
 
--- so the matches are those of the arguments after the first
+-- so the matches are the matches of the arguments after the first
 pub read : {m : ArgMatches} (words : List Text) (name : Text) (given : App) → given ≡ app_named name → HasMatchesOf given words m
     → (is_simple_and_free given ≡ true → fault_of given words ≡ []) → IsRead (app_named name) (drop 1 words) m
 read {m} words name given e matches kinds =

@@ -310,7 +310,7 @@ fn scan(alloc: Global, matches: &ArgMatches<'_>) -> Result<Command, WordFault>
     Ok(Command::Single { task, at, file })
 }
 
-// Returns the command with this name, from what the parser found in its arguments.
+// Returns the command with this name and the arguments that the parser found.
 fn command_of(alloc: Global, name: &str, matches: &ArgMatches<'_>) -> Result<Command, WordFault>
     ensures { AsksFor name.now matches.now result }
 {

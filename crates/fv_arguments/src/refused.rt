@@ -75,8 +75,8 @@ fn parser_reason(alloc: Global, error: clap::Error) -> Result<String, AllocError
     String::from_str(alloc, sentence_of(message.as_str()))
 }
 
-// Returns a sentence that says what is wrong with the arguments of the command with this name. The
-// first of the arguments is the name itself.
+// Returns a sentence about the fault in the arguments of the command with this name. The first of
+// the arguments is the name itself.
 fn reason(alloc: Global, name: &str, words: &[String]) -> Result<String, AllocError> {
     if !is_command(name) {
         return format!(in alloc; "unknown command '{name}'");
@@ -91,10 +91,10 @@ fn reason(alloc: Global, name: &str, words: &[String]) -> Result<String, AllocEr
     }
 }
 
-/// Returns a sentence that says what is wrong with a command line, as far as it can be named: the
-/// argument that was rejected, the option whose value is wrong, or the argument that is missing.
-/// The first argument is the program's name. Returns None if the arguments are right, or if memory
-/// ran out. The sentence contains the arguments as they are, control characters too.
+/// Returns a sentence about the fault in a command line, as far as it can be named: the argument
+/// that was rejected, the option whose value is wrong, or the argument that is missing. The first
+/// argument is the program's name. Returns None if the arguments are right, or if memory ran out.
+/// The sentence contains the arguments as they are, control characters too.
 pub fn what_is_wrong(alloc: Global, words: &[String]) -> Option<String>
     // A sentence is returned only if the arguments are wrong.
     ensures { IfSome result (λ _. AreRight (map string_bytes words.now) → ⊥) }

@@ -47,8 +47,8 @@ first_is {F} (c ∷ cs) f h = go c.holds refl (first_is cs f) h where
   go true is rest k = let r = rest k in (c ∷ r.0, r.1, r.2, ap (λ (ds : List (Check F)). c ∷ ds) r.3, (is, r.4), r.5, r.6)
   go false is rest k = ([], c, cs, refl, tt, is, cc)
 
--- the first fault of two joined tables is the first fault of the first table if it has one, and otherwise that of the
--- second
+-- the first fault of two joined tables is the first fault of the first table if it has one, and otherwise the first
+-- fault of the second table
 pub first_front : {F : Type 0} → (cs ds : List (Check F)) (f : F) → first_fault cs ≡ Some f → first_fault (cs ++ ds) ≡ Some f
 first_front [] ds f is = cc
 first_front {F} (c ∷ cs) ds f is = go c.holds (first_front cs ds f) is where

@@ -98,7 +98,7 @@ module _ {X A : Type 0} (form : X → A) (items : List X) (i : ℕ) (d : X) wher
       sym (take-append-drop i (map form items)) ∙ ap (λ r. take i (map form items) ++ r) (drop_more (map form items) i (form d) lt
       ∙ ap (λ f. f ∷ drop (i + 1) (map form items)) (get_or-map form items i d (form d) l))
 
--- ---- what is kept
+-- ---- the items that are kept
 
 -- if a note of each item has the result of a test, removing the items with the note removes the items for which the
 -- test is true

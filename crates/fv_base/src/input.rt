@@ -20,8 +20,8 @@ pub trait Collector {
     ghost lacks: { Self → ℕ → Type 0 };
 
     /// Takes the next piece of the input, which is at most as long as one read. A collector that
-    /// held some bytes then holds these bytes followed by the piece, and what it had memory for
-    /// before it still has memory for.
+    /// held some bytes then holds these bytes followed by the piece, and has memory for at least as
+    /// many bytes as before.
     ///
     /// # Errors
     ///

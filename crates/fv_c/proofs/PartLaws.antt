@@ -1,5 +1,5 @@
 -- Proves the results of `fvp_volume_extract` (`extract_done`, `extract_small`, `extract_absent`, `extract_stops`) from
--- what `put_row` returns (`PutsPart`, `StopsPart`). The steps:
+-- the results of `put_row` (`PutsPart`, `StopsPart`). The steps:
 -- 1. A part is in the buffer, or the buffer is too short and unchanged (`part_put`, `part_kept`).
 -- 2. `PutsPart` and `StopsPart` hold for the row's part (`puts_none`, `puts_part`, `stops_part`).
 -- 3. The clauses follow for the input whose meaning is the tree's.
@@ -29,7 +29,7 @@ no_row row m none = go (tree_rows m) row none where
   go (r ∷ rows) zero e = cc
   go (r ∷ rows) (suc i) e = omega (arith, go rows i e)
 
--- ---- what is promised of it
+-- ---- the clauses of the parts of the call
 
 -- the canonical image of a volume is as long as its header says
 pub image_long : (m : Meaning) (image : List ℕ) → IsImage m image → length image ≡ (head_of m).length
@@ -89,7 +89,7 @@ pub stops_part : (p : Option NodeMeaning) (q : NodeMeaning) (f : Fault) → p �
     → (f ≡ out_of_memory) ⊎ FirstUnfit (volumes_in_node q) 0 f → StopsPart p f
 stops_part p q f is stop = subst (λ (o : Option NodeMeaning). StopsPart o f) (sym is) stop
 
--- ---- what was promised of it
+-- ---- the clauses of the call
 
 pub stopped_part : (p : Option NodeMeaning) (f : Fault) → StopsPart p f
     → (f ≡ out_of_memory) ⊎ ((q : NodeMeaning) × (p ≡ Some q) × FirstUnfit (volumes_in_node q) 0 f)

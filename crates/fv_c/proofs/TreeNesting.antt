@@ -17,7 +17,7 @@ pairs_map R S up [] (y ∷ ys) p = absurd p
 pairs_map R S up (x ∷ xs) [] p = absurd p
 pairs_map R S up (x ∷ xs) (y ∷ ys) p = (up x y p.0, pairs_map R S up xs ys p.1)
 
--- ---- by what lies inside
+-- ---- each definition, if the relations on inner parts are replaced
 
 abbrev SectionsLift : SectionRelation → SectionRelation → Type 0
 SectionsLift p q = (f : FrameForm) (s : SectionMeaning) → p f s → q f s

@@ -1,7 +1,7 @@
 -- Proves that the rows with the parent n are exactly the parts that row n holds, in order (`held_are`), and that only
 -- the first row has no holder (`first_is`). The steps:
--- 1. `Good` states this, and what its proof needs, of the rows of consecutive parts. It holds for no parts
---    (`good_none`), and after one more part is put in front (`good_more`).
+-- 1. `Good` states this for the rows of consecutive parts, in a form that its proof by recursion needs. It holds for no
+--    parts (`good_none`), and after one more part is put in front (`good_more`).
 -- 2. By recursion it holds for the rows of a volume (`good_volume`), of files, of sections and of bodies.
 use Rattle.std.proofs.Common.{◌≡◌, ◌∙◌, ◌⊎◌, ℕ, ◌+◌, ◌≤◌, List, [], ◌∷◌, ◌++◌, length, Some, true, false, cond, map, refl, sym, ap}
 use Rattle.std.proofs.Common.{append-nil, arith, inl, inr, subst}

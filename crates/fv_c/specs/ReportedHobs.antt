@@ -9,8 +9,7 @@ use Rattle.fv_hob.specs.declared.span.Span.{Span}
 use Rattle.fv_c.specs.declared.hobs.FvHob.{FvHob}
 use Rattle.fv_c.specs.declared.reports.FvFault.{FvFault}
 
--- the row for a block: its type, its length, and the base and the length of the volume that it describes, which are
--- zeros if it describes none
+-- the row for a block: its type, its length, and the base and length of the volume that it describes, or zeros
 abbrev pub with_span : Span → HobForm → FvHob
 with_span s h = record {
   volume_base = s.base;

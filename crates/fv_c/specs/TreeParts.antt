@@ -10,8 +10,8 @@ use Rattle.fv_rows.specs.Words.{NodeMeaning, VolumeNode, FileNode, SectionNode, 
 abbrev pub no_parent : ℕ
 no_parent = 18446744073709551615
 
--- a part in the tree: the number of the row that holds it (`parent`), the number of rows around it (`depth`), its
--- number among the parts that its parent holds, counted from 0 (`number`), and the part (`node`)
+-- a part in the tree: the number of the row that holds it, the number of rows around it, its number among the parts
+-- that its parent holds, counted from 0, and the part itself
 pub record TreeRow : Type 0 where
   pub parent : ℕ
   pub depth : ℕ
@@ -61,7 +61,7 @@ abbrev mutual
 abbrev pub tree_rows : Meaning → List TreeRow
 tree_rows m = tree_of_volume 0 no_parent 0 m
 
--- ---- what holds what
+-- ---- the parts that a part holds
 
 -- the rows of the parts that one row holds, without the rows of the parts inside them
 abbrev pub rows_of_parts : (parent depth number : ℕ) → List NodeMeaning → List TreeRow

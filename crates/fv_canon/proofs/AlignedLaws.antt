@@ -38,7 +38,7 @@ cells_are (Volume h files) image e cells (n, most, b, small, d) (stored, starts,
           (subst (AllByRecursion (PadErased p)) same tiled.erased),
     )
 
--- ---- 2. what was written
+-- ---- 2. the bytes that were written
 
 pub data_are_aligned : DataAreAligned
 data_are_aligned m image e cells is own front tiles = (cells_are m image e cells is own front tiles).0

@@ -95,7 +95,8 @@ pub placed_on : (total e : ℕ) (f : FileMeaning) (fs : List FileMeaning) (s : �
     → ArePlaced total (up_to_8 (s + size_for (data_len_of f))) fs ss
 placed_on total e f fs s ss placed = grind (arith, common_steps, here_is)
 
--- the bytes of the files from a place on are the bytes of the first of these files, and then those of the others
+-- the bytes of the files from a place on are the bytes of the first of these files, and then the bytes of the other
+-- files
 pub files_go : (p : Polarity) (total e : ℕ) (f : FileMeaning) (fs : List FileMeaning) (s : ℕ) (ss starts : List ℕ)
     → stored_len (stored_file f starts) ≡ size_for (data_len_of f)
     → files_bytes p total e (stored_of (files_from (f ∷ fs)) starts) (s ∷ ss)
@@ -126,8 +127,8 @@ at_file total e fs own i f l is placed =
       here = here_is total e f (drop (i + 1) fs) (get_or own i 0) (drop (i + 1) own) both;
     }
 
--- the starts that are left begin with the starts of the volumes in this file, and go on with those of the files after
--- it
+-- the starts that are left begin with the starts of the volumes in this file, and go on with the starts of the volumes
+-- in the files after it
 pub file_passed : (fs : List FileMeaning) (i : ℕ) (f : FileMeaning) (starts last : List ℕ) → i < length fs → f ≡ get_or fs i f
     → ComesTo (volumes_in_files (files_from (drop i fs))) starts last
     → BeginsWithStarts (volumes_in_file f) starts

@@ -1,4 +1,4 @@
--- The laws of a run that normalises an input: what it wrote, or what stopped it.
+-- The laws of a run that normalises an input: the bytes that it wrote, or the fault that stopped it.
 use Rattle.std.proofs.lemmas.Grind.{common_steps}
 use Rattle.std.proofs.Common.{◌≢◌, ℕ, List, inr, arith}
 use Rattle.std.specs.Prelude.{Option, Result, Ok, Err, IfErr, OnErr, OnOk}

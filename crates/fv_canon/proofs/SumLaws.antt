@@ -1,4 +1,4 @@
--- What the bytes of a file add to a sum.
+-- The number that the bytes of a file add to a sum.
 use Rattle.std.proofs.Common.{◌≡◌, ◌+◌, ◌%◌, ℕ, Bool, true, false, List, [], ◌∷◌, ◌++◌, length, sym, ap, ◌∙◌, arith}
 use Rattle.std.specs.Prelude.{sum, if◌then◌else◌}
 use Rattle.std.proofs.lemmas.List.Sums.{sum_by-append}
@@ -48,8 +48,8 @@ header_adds file_sum name kind attributes size large state =
     off : (n f s : ℕ) → (n + (complement n + f + s)) % 256 ≡ (f + s) % 256
     off n f s = omega arith
 
--- a file with the checksum attribute adds only its State, whatever its data are; any other file adds 0xAA, its State
--- and its data
+-- a file with the checksum attribute adds only its State, because its data and its file checksum sum to zero; any other
+-- file adds 0xAA, its State and its data
 abbrev pub file_adds : Polarity → StoredFile → ℕ
 file_adds p f = if is_summed f.attributes then state_byte p else (fixed_checksum + state_byte p + sum f.payload)
 

@@ -1,5 +1,5 @@
--- The checksums of an image are right: the checksum of its header, and those of each file and pad after the header. The
--- steps:
+-- The checksums of an image are right: the checksum of the volume header, and the checksums of each file and pad after
+-- it. The steps:
 -- 1. If cells tile bytes, and the file checksum of each pad is 0xAA, each checksum in the cells is right (`cell_sums`,
 --    `tiles_sums`).
 -- 2. The pad that contains the extended header is such a cell (`ext_cell`), so such cells tile the bytes after the

@@ -1,4 +1,4 @@
--- What a walk adds to the sum of a file's bytes.
+-- The number that a walk over a file adds to the sum of the file's bytes.
 use Rattle.std.proofs.Common.{◌≡◌, ◌+◌, ◌%◌, ℕ, Bool, true, false, List, [], ◌∷◌, ap, ◌∙◌, arith}
 use Rattle.std.specs.Prelude.{sum, if◌then◌else◌}
 use Rattle.fv_base.specs.declared.flash.Polarity.{Polarity}

@@ -149,7 +149,7 @@ module _ {A : Type 0} (all : List A → List Inside) (one : A → List Inside) (
   item_first xs i x l is = ap all (item_at xs i x l is) ∙ more x (drop (i + 1) xs)
 
   -- starts that begin with the starts of the items from a place on begin with the starts of the first of these items,
-  -- and go on with those of the others
+  -- and go on with the starts of the other items
   item_begins : (xs : List A) (i : ℕ) (x : A) (starts : List ℕ) → i < length xs → x ≡ get_or xs i x
       → BeginsWithStarts (all (drop i xs)) starts
       → BeginsWithStarts (one x) starts × BeginsWithStarts (all (drop (i + 1) xs)) (drop (starts_in (one x)) starts)
@@ -168,14 +168,15 @@ module _ {A : Type 0} (all : List A → List Inside) (one : A → List Inside) (
         ),
       )
 
-  -- dropping the starts of the items from i on is dropping those of item i, and then those of the items after it
+  -- dropping the starts of the items from i on is dropping the starts of item i, and then the starts of the items after
+  -- it
   item_left : (xs : List A) (i : ℕ) (x : A) (starts : List ℕ) → i < length xs → x ≡ get_or xs i x
       → drop (starts_in (all (drop i xs))) starts ≡ drop (starts_in (all (drop (i + 1) xs))) (drop (starts_in (one x)) starts)
   item_left xs i x starts l is =
       ap (λ n. drop n starts) (ap starts_in (item_first xs i x l is) ∙ count_joined (one x) (all (drop (i + 1) xs)))
       ∙ sym (drop-drop (starts_in (all (drop (i + 1) xs))) (starts_in (one x)) starts)
 
-  -- a walk that is at an item comes to the items after it next
+  -- after an item the walk goes on with the items after it
   pub item_passed : (xs : List A) (i : ℕ) (x : A) (starts last : List ℕ) → i < length xs → x ≡ get_or xs i x
       → ComesTo (all (drop i xs)) starts last
       → BeginsWithStarts (one x) starts × ComesTo (all (drop (i + 1) xs)) (drop (starts_in (one x)) starts) last

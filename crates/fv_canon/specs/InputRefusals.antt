@@ -15,7 +15,7 @@ NotPlaced input f = (m : Meaning) × Accepted input m × Unfit m 0 f
 abbrev pub Refuses : List ℕ → Fault → Type 0
 Refuses input f = NotRead input f ⊎ NotPlaced input f
 
--- ---- as what
+-- ---- the kinds of faults
 
 -- the input is a volume that does not fit
 abbrev pub IsUnfit : List ℕ → Type 0

@@ -12,8 +12,8 @@ AreLeast m starts =
     IsLeast (length_of m) (first_edge (head_of m) (head_of m).ext) (layout_items m) starts
     × Placement (length_of m) (first_edge (head_of m) (head_of m).ext) (layout_items m) starts
 
--- the list consists of the starts of each volume's own files, volume after volume. `are_own` says what the starts of
--- one volume are
+-- the list consists of the starts of each volume's own files, volume after volume. `are_own` is the condition on the
+-- starts of one volume
 abbrev pub Laid : (Meaning → List ℕ → Type 0) → List Inside → List ℕ → Type 0
 Laid are_own [] starts = starts ≡ []
 Laid are_own (v ∷ vs) starts =

@@ -1,5 +1,5 @@
 //! Further laws of layouts and canonical images, over the definitions. None of these functions does
-//! anything: their contracts are what is proved.
+//! anything: their contracts are the laws.
 
 ghost use Rattle.std.specs.Prelude.{◌↔◌, ◌≡◌, ◌⊎◌, List, ℕ};
 ghost use Rattle.fv_base.specs.declared.fault.Fault.{Fault};

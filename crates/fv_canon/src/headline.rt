@@ -6,7 +6,7 @@
 //! input is rejected with these faults. The laws of this third sentence are in `further_laws`, and
 //! `normalise` has clauses for it.
 //!
-//! None of these functions does anything: their contracts are what is proved.
+//! None of these functions does anything: their contracts are the laws.
 
 ghost use Rattle.fv_canon.specs.Headline.{DataAreAligned, EachVolumeHasItsImage, ImageIsItsOwnImage};
 ghost use Rattle.fv_canon.specs.Headline.{ImageKeepsLengthAndMeaning};

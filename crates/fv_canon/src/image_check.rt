@@ -82,10 +82,10 @@ fn check_at(alloc: Global, image: &[u8], volume: FoundVolume) -> Result<VolumeCh
 /// Length at the limit of 268,435,456 bytes, if the image is longer. OutOfMemory at 0, only if a
 /// volume begins in the image.
 pub fn check_image(alloc: Global, image: &[u8]) -> Result<Vec<VolumeCheck>, Fault>
-    // There is one check for each volume of the image, and its outcome says what is true of the
-    // volume. Canonical: the volume is its own canonical image. NotCanonical: it is a volume, but
-    // is not its own canonical image, and may have none. Rejected: it is not a volume, and the
-    // fault is its first, at its offset in the image.
+    // There is one check for each volume of the image, and its outcome describes the volume.
+    // Canonical: the volume is its own canonical image. NotCanonical: it is a volume, but is not
+    // its own canonical image, and may have none. Rejected: it is not a volume, and the fault is
+    // its first, at its offset in the image.
     ensures found { IfOk result (λ checks. ChecksImage image.now checks.items) }
 
     // The result is unique.

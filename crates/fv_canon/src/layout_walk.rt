@@ -1,5 +1,5 @@
-//! The layout of a volume and of the volumes inside it, and the starts that follow those of a part in
-//! a layout.
+//! The layout of a volume and of the volumes inside it, and the starts that follow the starts of a
+//! part in a layout.
 
 ghost use Rattle.std.specs.Prelude.{◌≡◌, ◌≢◌, ◌<◌, ◌≤◌, ◌⊎◌, ◌+◌, ◌++◌, ℕ, List, [], All, drop, length, take, get_or, IfOk, IfErr};
 ghost use Rattle.fv_base.specs.Words.{OrMemory, out_of_memory};

@@ -1,4 +1,4 @@
--- The end of a run: what was written, and the exit status.
+-- The end of a run: the text that was written, and the exit status.
 use Rattle.std.proofs.Common.{◌≡◌, ℕ, Bool, true, false, List, inl, inr, refl, subst}
 use Rattle.std.specs.Prelude.{Option}
 use Rattle.fv_base.specs.Words.{has_erred, inner_of, LatchedWrites, PortShows, is_writing, port_of, written_count}

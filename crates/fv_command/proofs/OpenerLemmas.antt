@@ -15,7 +15,7 @@ abbrev ports_of : (r s r' s' : Shown) → Change → Ports
 ports_of r s r' s' output =
     record { first = record { old = r; new = s }; second = record { old = r'; new = s' }; output = output }
 
--- a new port shows what its inner reader or writer shows, and no error
+-- a new port shows the bytes of its inner reader or writer, and no error
 shown_new : {T : Type 0} (told : T → Option (List ℕ)) (port : Port T) (inner : T) → inner_of port ≡ inner → has_erred port ≡ false
     → shown told port ≡ seen (told inner) false
 shown_new told port inner is fine = ap (λ e. seen (told (inner_of port)) e) fine ∙ ap (λ x. seen (told x) false) is

@@ -12,7 +12,7 @@ use Rattle.fv_compare.specs.Words.{Compares, ComparisonStops, ReadsVolume, Volum
 use Rattle.fv_compare.specs.declared.side.Side.{Side}
 use Rattle.fv_compare.specs.declared.side.Side.TheVariants as sides
 
--- ---- what stops a run
+-- ---- the faults that stop a run
 
 pub first_unread : (side : Side) (f : Fault) (unread left unread' held : Option (List ℕ)) → side ≡ sides.First → ReadStops unread left f
     → SideStopsRun side unread left unread' unread' held held f

@@ -4,7 +4,7 @@
 -- them. The bytes of joined ops are the joined bytes of the ops. A whole expression is a list of ops that may follow
 -- one another, and then END.
 pub use Rattle.fv_depex.proofs.PathLemmas.{one_spelling, spelled_again, bytes_join, IsEnded, whole_ended}
--- Ops are those of at most one tree. The ops of a tree leave its truth value on the stack; BEFORE and AFTER leave none.
+-- Ops spell at most one tree. The ops of a tree leave its truth value on the stack; BEFORE and AFTER leave none.
 pub use Rattle.fv_depex.proofs.TruthLemmas.{one_tree, truth_of_tree, none_of_order}
 -- Bytes begin with at most one op. If the checks hold, the op is there, and if an op may be there, its checks hold.
 pub use Rattle.fv_depex.proofs.OpLemmas.{same_op, op_stands, checks_hold}

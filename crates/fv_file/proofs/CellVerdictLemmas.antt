@@ -31,7 +31,7 @@ use Rattle.fv_file.proofs.TilingLemmas.{OneCell}
 
 -- ---- the verdict on the bytes at a place
 
--- for a file, the verdict is that of the checks of a file
+-- for a file, the verdict is the verdict of the checks of a file
 file_is : (s : FileSystem) (st : FileState) (k : StateSort) (at : ℕ) (r : List ℕ)
     → cell_with k at r (file_verdict s st at r)
     ≡ verdict_by (first_fault (file_checks s (is_alive st) at r)) (cell_of k at (head_in st r) (payload_at r))
@@ -41,7 +41,7 @@ file_is s st k at r = go (first_fault (file_checks s (is_alive st) at r)) where
   go None = refl
   go (Some f) = refl
 
--- for a state of each sort, the verdict is that of the checks of this sort; erased bytes are rejected earlier
+-- for a state of each sort, the verdict is the verdict of the checks of this sort; erased bytes are rejected earlier
 sort_is : (s : FileSystem) (p : Polarity) (st : FileState) (k : StateSort) (at : ℕ) (r : List ℕ) → k ≢ sorts.Erased
     → sort_verdict k st s p at r
     ≡ verdict_by (first_fault (sort_checks k s (is_alive st) at r)) (cell_of k at (head_in st r) (payload_at r))
@@ -50,7 +50,7 @@ sort_is s p st sorts.Unfinished at r used = refl
 sort_is s p st sorts.Dead at r used = file_is s st sorts.Dead at r
 sort_is s p st sorts.Valid at r used = file_is s st sorts.Valid at r
 
--- for a State byte, whether it shows a state or not, the verdict is that of the checks of the state
+-- for a State byte, whether it shows a state or not, the verdict is the verdict of the checks of the state
 state_is : (s : FileSystem) (p : Polarity) (o : Option FileState) (at : ℕ) (r : List ℕ) → o ≢ Some states.Free
     → state_verdict o s p at r ≡ verdict_by (first_fault (state_checks o s at r)) (cell_in o at r)
 state_is s p None at r used = refl
@@ -58,7 +58,7 @@ state_is s p (Some st) at r used =
     sort_is s p st (sort_of st) at r (λ e. used (ap Some (subst (λ (k : StateSort). StatesOf k st) e (sorted st).states)))
     ∙ ap (λ (cs : List (Check Fault)). verdict_by (first_fault cs) (cell_in (Some st) at r)) (sym ((sorted st).checks s at r))
 
--- for any bytes, the verdict is that of the checks of a cell
+-- for any bytes, the verdict is the verdict of the checks of a cell
 verdict_is : (s : FileSystem) (p : Polarity) (at : ℕ) (r : List ℕ)
     → cell_verdict s p at r ≡ verdict_by (first_fault (cell_checks s p at r)) (cell_in (state_of p (slice_index r 23)) at r)
 verdict_is s p at r = go (nat_lt (length r) 24) refl (bits_of p (slice_index r 23) == 0) refl where

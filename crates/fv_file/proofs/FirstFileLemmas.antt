@@ -93,7 +93,7 @@ begins_only s p b head begins =
     (verify_is s p r ∙ verdict_none (first_fault (verify_checks s p r)) _ (none_faulty (verify_checks s p r) checks)
     ∙ ap (λ (o : Option FileState). Ok (head_of o r)) state ∙ ap Ok reads.fields)
 
--- ---- what is returned
+-- ---- the result of the call
 
 pub ok_found : (s : FileSystem) (p : Polarity) (b : List ℕ) (r : Result FileHead Fault) → r ≡ verify_verdict s p b
     → IfOk r (λ head. BeginsFile s p head b)

@@ -26,7 +26,7 @@ pub use Rattle.fv_file.proofs.FileReadLemmas.{payload_behind, FileRead, cell_rea
 pub use Rattle.fv_file.proofs.FileLemmas.{header_least}
 -- ---- attribute bits
 
--- Attributes without bit 0x01 are even. With it, they are those of a large header.
+-- Attributes without bit 0x01 are even. With this bit, they are the attributes of a large header.
 pub use Rattle.fv_file.proofs.FileAttributeLemmas.{small_even, set_large}
 -- Attributes whose bit 0x01 is set for a large header, and clear for a short one, say the form of the header.
 pub use Rattle.fv_file.proofs.NewHeaderLemmas.{with_large_is}

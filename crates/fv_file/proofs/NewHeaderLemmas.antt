@@ -246,7 +246,7 @@ written_is polarity h large long is small bytes =
     (sym (sum_at right large (state_byte polarity) long))
     (written_with polarity right large long is small (complement_right (bare_sum h large)) bytes)
 
--- ---- with data and filler, a header is that of a cell
+-- ---- a header, data and filler are a cell
 
 filled : (system : FileSystem) (polarity : Polarity) (head : FileHead) (h payload filler : List ℕ) → IsFileHeader system polarity head h
     → head.size ≡ length h + length payload

@@ -27,7 +27,8 @@ use Rattle.fv_file.proofs.FileLemmas.{header_least, front_byte, file_reads}
 use Rattle.fv_file.proofs.SortLemmas.{sorted}
 use Rattle.fv_file.proofs.TilingLemmas.{no_rest}
 
--- the distance, by whether the header at the start of r is that of a stub
+-- the distance from the header at the start of r to the next header; the first argument says whether it is the header
+-- of a stub
 abbrev pub stride_by : Bool → List ℕ → ℕ
 stride_by true r = file_header_len_at r
 stride_by false r = up_to_8 (file_size_at r)
@@ -87,7 +88,7 @@ cell_stride s p (Free at len) u w is f = cc
 
 -- ---- the count of the cells
 
--- the cells that were counted, and the cells of the rest, are as many as all cells
+-- the number of cells so far plus the number of cells of the remaining bytes is the number of all cells
 abbrev pub Counted : Polarity → ℕ → List ℕ → List ℕ → Type 0
 Counted p count body rest = (s : FileSystem) (first : ℕ) (cs : List CellForm) → Tiles s p first cs body
     → (at : ℕ) × (ds : List CellForm) × Tiles s p at ds rest × (count + length ds ≡ length cs)

@@ -113,7 +113,7 @@ one_walk from b (o ∷ os) (p ∷ ps) (n, (l, e, none, v), rest) (m, (k, d, free
         let next : p + m ≡ o + n = omega (arith, same, len) in
         ap (λ j. j ∷ os) same ∙ ap (λ r. p ∷ r) (tail (subst (λ j. FoundFrom j b ps) next more))
 
--- ---- what the walk finds
+-- ---- the volumes that the walk finds
 
 weaker : (P Q : ℕ → Type 0) → ((k : ℕ) → P k → Q k) → (xs : List ℕ) → AllByRecursion P xs → AllByRecursion Q xs
 weaker P Q f xs h = recursion_from_All Q xs (All-weaker P Q f xs (All-from_recursion P xs h))
@@ -152,7 +152,7 @@ walk_found b os f = record {
   all = λ k n m v. walk_all 0 b os f k n (omega arith) m v;
 }
 
--- ---- the volumes that are found are those of a walk
+-- ---- the volumes that are found are the volumes of a walk
 
 abbrev AllFrom : ℕ → List ℕ → List ℕ → Type 0
 AllFrom from b os = (k n : ℕ) → from ≤ k → k % 8 ≡ 0 → VolumeAt b k n → IsCovered b os k

@@ -1,7 +1,7 @@
 -- The block map of a header is its blocks and then the pair of zeros. The steps:
 -- 1. Eight bytes are a pair (`pairs_of-step`), and pairs can be read in parts (`pairs_of-append`).
--- 2. So the block map of a header is its blocks and then one more pair (`block_map_is`). The blocks are what is left if
---    this pair is taken off (`last-injective`).
+-- 2. So the block map of a header is its blocks and then one more pair (`block_map_is`). If this pair is taken off, the
+--    blocks are left (`last-injective`).
 -- 3. A test decides whether a pair is the pair of zeros (`zero_pair_is`, `zero_pair_not`, `none_zero`, `all_not_zero`).
 use Rattle.std.proofs.lemmas.Grind.{common_steps}
 use Rattle.std.proofs.Common.{◌≡◌, ◌≢◌, ◌≤◌, ℕ, ◌+◌, ◌-◌, ◌%◌, List, [], ◌∷◌, ◌++◌, length, take, drop, refl, sym, ap, ◌∙◌, subst, arith}

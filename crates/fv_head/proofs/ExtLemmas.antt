@@ -174,7 +174,7 @@ some_ext b least most size =
     let found = some_entries (length (drop 20 b)) (drop 20 b) (omega arith) in
     (_, ext_of b g found.0 found.1 least most size refl found.2)
 
--- an extended header has 20 bytes, and then those of its entries and its tail
+-- an extended header is 20 bytes, followed by the bytes of its entries and its tail
 pub length-ext : (x : Extension) (b : List ℕ) → (is : IsExt x b) → length b ≡ 20 + length is.rest
 length-ext x b is = grind (arith, common_steps, length-append)
 

@@ -1,8 +1,8 @@
 -- A header is the bytes that are written for its fields, and the canonical head is the only canonical header of its
 -- fields. The steps:
 -- 1. The bytes that are written for the pairs of some bytes are these bytes (`pairs_bytes-pairs_of`).
--- 2. A header is what is written for its fields, its checksum and its ExtHeaderOffset (`before_is`, `behind_is`,
---    `patched_is`, `unpatched`).
+-- 2. A header is the bytes that are written for its fields, its checksum and its ExtHeaderOffset (`before_is`,
+--    `behind_is`, `patched_is`, `unpatched`).
 -- 3. With another ExtHeaderOffset, and the checksum that makes its sum 0, it is a header with the same fields
 --    (`patched_head`). There is one such checksum (`sum_patched`, `checksum_right`, `checksum_only`).
 -- 4. So the canonical head is a canonical header (`canonical_is`), and the only one (`canonical_only`). With its

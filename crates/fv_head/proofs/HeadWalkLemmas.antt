@@ -1,4 +1,4 @@
--- Steps of the walks over a header: what a sink has taken after one more byte, pair or field.
+-- Steps of the walks over a header: the bytes that a sink has taken after one more byte, pair or field.
 use Rattle.std.proofs.lemmas.Grind.{common_steps}
 use Rattle.std.proofs.Common.{◌≡◌, ◌<◌, ◌≤◌, ℕ, ◌+◌, ◌%◌, List, [], ◌∷◌, ◌++◌, length, take, drop, get_or, refl, sym, ap, ◌∙◌, subst, arith}
 use Rattle.std.proofs.Common.{append_assoc, append-nil, Bool}
@@ -24,7 +24,7 @@ pub pairs_step : (front : List ℕ) (ps : List (ℕ × ℕ)) (i : ℕ) → i < l
     → (front ++ (le_bytes 4 (get_or ps i (0, 0)).0 ++ le_bytes 4 (get_or ps i (0, 0)).1)) ++ pairs_bytes (drop (i + 1) ps) ≡ pairs_bytes ps
 pairs_step front ps i within is = grind (arith, common_steps, append_assoc, drop_more)
 
--- if no pair is left, the bytes so far are those of all pairs
+-- if no pair is left, the bytes so far are the bytes of all pairs
 pub pairs_end : (front : List ℕ) (ps : List (ℕ × ℕ)) (i : ℕ) → length ps ≤ i → front ++ pairs_bytes (drop i ps) ≡ pairs_bytes ps
     → front ≡ pairs_bytes ps
 pairs_end front ps i past is = sym (append-nil front) ∙ ap (λ (qs : List (ℕ × ℕ)). front ++ pairs_bytes qs) (sym (drop_all i ps past)) ∙ is

@@ -34,7 +34,7 @@ pub record HeadFields : Type 0 where
 
 -- the bytes are a volume header: ZeroVector, FileSystemGuid, FvLength, Attributes, Reserved and BlockMap have the
 -- values of h, and Signature, HeaderLength, Checksum and Revision are right. Checksum is right if the 16-bit words of
--- the header sum to 0. ExtHeaderOffset may be any number here: `HasExt` says what is at that offset
+-- the header sum to 0. ExtHeaderOffset may be any number here: `HasExt` states which bytes are at that offset
 pub record IsHead (h : HeadFields) (b : List ℕ) : Type 0 where
   pub bytes : IsBytes b
   pub zero_vector : field 0 16 b ≡ h.zero_vector

@@ -1,4 +1,4 @@
--- The type, the length and the body of a block are those that its bytes give, whatever its type is.
+-- The type, the length and the body of a block of any type are the type, the length and the body in its bytes.
 use Rattle.std.proofs.lemmas.Grind.{common_steps}
 use Rattle.std.proofs.Common.{◌≡◌, ◌≤◌, ℕ, ◌+◌, ◌-◌, List, [], ◌∷◌, ◌++◌, length, drop, refl, sym, ap, ◌∙◌, arith, true, false}
 use Rattle.std.proofs.Common.{length-drop, drop-drop, append-nil}

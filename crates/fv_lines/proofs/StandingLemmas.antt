@@ -1,4 +1,4 @@
--- What an image contains in a span of addresses.
+-- The content of an image in a span of addresses.
 use Rattle.std.proofs.lemmas.Grind.{common_steps}
 use Rattle.std.proofs.Common.{◌≡◌, ◌≢◌, ℕ, List, length, arith, length-drop}
 use Rattle.std.specs.Prelude.{Result, Ok, Err}

@@ -17,7 +17,7 @@ use Rattle.fv_tree.specs.Words.{body_len, head_of, files_of, file_name_of, attri
 use Rattle.fv_tree.specs.Words.{section_kind_of, section_is_extended, body_of}
 use Rattle.fv_rows.specs.Words.{NodeMeaning, VolumeNode, FileNode, SectionNode, TreeRow, tree_rows}
 
--- ---- what a leaf shows
+-- ---- the text in the line of a leaf
 
 -- a 16-bit unit is plain if it is one of 0020 to 007E, except the quote (0022) and the backslash (005C)
 abbrev pub is_plain : ℕ → Bool

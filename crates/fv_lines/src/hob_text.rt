@@ -103,8 +103,8 @@ fn put_consumed<S: Sink>(out: &mut S, consumed: u64)
 }
 
 /// Puts a line for each block of a hand-off list, and a last line that shows how many bytes the
-/// list has. If there is an image, the line of a block that describes a volume also says what the
-/// image holds there.
+/// list has. If there is an image, the line of a block that describes a volume also shows the
+/// content of the image there.
 pub fn put_hobs<S: Sink>(out: &mut S, hobs: &[Hob], consumed: u64, image: Option<MappedImage<'_>>)
     ensures { (text : List ℕ) × HobsText (held_image image.entry) hobs.now consumed text
         × S.takes out.old text out.new }

@@ -158,7 +158,8 @@ module _ (fs : List NamedFile) (es : List Entry) (index : IsIndex (names_in fs) 
     go (inr last) =
         let one : p ≡ q - 1 = omega (arith, lt, last) in here (inl (subst (λ (k : ℕ). AreTwins fs d (at k) (at q)) one h))
 
-  -- the files with numbers below those of all entries that have a twin among the two entries before them have no twins
+  -- let n be at most the number of each entry that has a twin among the two entries before it: then the first n files
+  -- have no twins
   pub first_none : (n : ℕ) → n ≤ length fs
       → ((r : ℕ) → 0 < r → r < length es → IsTwinAt fs d es e r → n ≤ (get_or es r e).1) → NoTwins (take n fs)
   first_none n most least = no_twins_from (take n fs) d (λ i j p q.

@@ -181,7 +181,7 @@ some_here total e fs i d after l h w c none =
     let s = begins_some total e (get_or fs i d) (drop (i + 1) fs) after h w.bound (subst (λ xs. CanPlace total e xs) (drop_more fs i d l) c) in
     none s.0 s.1 s.2
 
--- the reach of the files after file i is the one in the list, or that of no files
+-- the reach of the files after file i is the next reach in the list or, after the last file, the reach of no files
 pub bound_at : (total : ℕ) (fs : List LayoutItem) (reaches : List Reach) (i : ℕ) (r d : Reach) → AreReaches (IsBound total) fs reaches
     → (i < length reaches → r ≡ get_or reaches i d) → (length reaches ≤ i → (xs : List LayoutItem) → IsBound total xs r)
     → IsBound total (drop (i + 1) fs) r

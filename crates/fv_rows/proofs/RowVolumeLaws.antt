@@ -10,7 +10,7 @@ use Rattle.fv_rows.specs.TreeRows.{rows_in_body, tree_rows}
 use Rattle.fv_rows.specs.RowWalks.{rows_inside}
 use Rattle.fv_rows.specs.inner.RowVolumes.{Followed, deeper_by, volumes_of}
 
--- ---- what follows a row
+-- ---- the rows that follow a row
 
 mutual
   followed_volume : (d n : ℕ) (v : Meaning) (more : List TreeRow) → Followed more → Followed (rows_of_volume d n v ++ more)

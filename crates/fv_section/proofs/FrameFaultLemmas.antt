@@ -14,7 +14,7 @@ use Rattle.fv_section.proofs.FrameLemmas.{begins_more, none_stands}
 use Rattle.fv_section.proofs.FrameWalkLemmas.{begins_of}
 use Rattle.fv_section.proofs.StreamLemmas.{cut}
 
--- ---- where it is, and what it says
+-- ---- the offset of the fault
 
 pub frame_within : (b : List ℕ) (f : Fault) → IsFirstFrameFault b f → f.place.offset ≤ length b
 frame_within b f first =

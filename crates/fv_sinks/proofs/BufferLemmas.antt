@@ -1,4 +1,4 @@
--- A buffer holds the bytes that were put into it, and then what it held before.
+-- A buffer holds the bytes that were put into it, and is unchanged after them.
 use Rattle.std.proofs.Common.{◌≡◌, ◌∙◌, ◌⊎◌, ℕ, ◌+◌, ◌-◌, ◌<◌, ◌≤◌, List, [], ◌++◌, length, min, take, drop, ap, sym, inl, inr, arith}
 use Rattle.std.proofs.lemmas.Bool.{cases_lt}
 use Rattle.std.proofs.lemmas.List.{drop-drop, take-append-drop, take_all}
@@ -16,8 +16,7 @@ room_left xs at n count is = go (cases_lt n (length xs - at)) where
   go (inr more) =
       drop_of_length-le xs (omega (arith, is, more)) ∙ sym (drop-drop n at xs ∙ drop_of_length-le xs (omega (arith, more)))
 
--- if a sink that had put nothing into its buffer takes bytes that fit, the buffer begins with them, and then holds what
--- it held before
+-- if a new sink takes bytes that fit into its buffer, the buffer begins with these bytes, and is unchanged after them
 pub filled_front : (s t : BufferSink) (old bytes : List ℕ) → taken_in s ≡ [] → rest_in s ≡ old
     → BufferTakes taken_in rest_in buffer_name s bytes t → length bytes ≤ length old
     → t.buffer.now ≡ bytes ++ drop (length bytes) old

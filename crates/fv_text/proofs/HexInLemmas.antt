@@ -13,14 +13,14 @@ use Rattle.fv_text.specs.inner.HexDecoding.{AddsDigits, Decodes, DecodesPairs, H
 use Rattle.fv_text.proofs.HexDigitLemmas.{odd_reads_nothing, reads_count, reads_joined, spoilt_behind, spoilt_more}
 use Rattle.fv_text.proofs.WhiteSpaceLemmas.{squeezed_more}
 
--- the digits of a text and of the next piece are the digits that were decoded, those of the pairs now, and those that
--- wait
+-- the digits of a text and of the next piece are the digits decoded before, the digits of the pairs in this piece, and
+-- the digits that wait
 joins : (before text waiting all digits kept front : List ℕ) → squeezed before ≡ front ++ waiting → all ≡ waiting ++ squeezed text
     → all ≡ digits ++ kept → squeezed (before ++ text) ≡ front ++ (digits ++ kept)
 joins before text waiting all digits kept front was joined split = grind (arith, common_steps, squeezed_more, append_assoc)
 
--- if the digits that waited and those of the next piece are pairs that were decoded, the decoder holds the bytes of all
--- the text so far
+-- if the digits that waited and the digits of the next piece are pairs that were decoded, the decoder holds the bytes
+-- of all the text so far
 pub taken : (before text waiting all digits kept left held holds : List ℕ) (was_long is_long : Bool)
     → HoldsDigits was_long held waiting (squeezed before) → AddsDigits was_long is_long held holds digits → all ≡ waiting ++ squeezed text
     → all ≡ digits ++ kept → left ≡ kept → HoldsDigits is_long holds left (squeezed (before ++ text))
@@ -49,7 +49,7 @@ taken_wrong before text waiting all digits kept held was_long h spoilt joined sp
     subst IsSpoilt (sym (joins before text waiting all digits kept h.front h.joined joined split))
     (spoilt_behind h.front (digits ++ kept) h.bytes h.reads (spoilt_more digits kept spoilt))
 
--- the decoder keeps its bytes, or they would be too many with those of the digits
+-- the decoder keeps the bytes that it holds, unless they and the bytes of its digits are more than a volume may have
 abbrev pub MakesRoom : Decoder → Decoder → Type 0
 MakesRoom old room =
     (room.digits.items ≡ old.digits.items)

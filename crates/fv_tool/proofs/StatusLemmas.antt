@@ -1,4 +1,4 @@
--- The run of a plan does not end with the status of wrong arguments, and what a new port shows.
+-- The run of a plan does not end with the status of wrong arguments (`never_wrong`).
 use Rattle.std.proofs.Common.{◌≡◌, ◌∙◌, ℕ, List, ap, Bool, true, false, cond, inl, inr, subst, sym}
 use Rattle.std.specs.Prelude.{Option, None, Some}
 use Rattle.fv_base.specs.Words.{has_erred, inner_of}
@@ -70,7 +70,7 @@ never_wrong of_input of_file opens is_standard p ended output (first, second, is
       output = output;
     }) ran is
 
--- a new port shows what its inner reader or writer shows, and no error
+-- a new port shows the bytes of its inner reader or writer, and no error
 pub shown_new : {T : Type 0} (told : T → Option (List ℕ)) (port : Port T) (inner : T) → inner_of port ≡ inner → has_erred port ≡ false
     → shown told port ≡ seen (told inner) false
 shown_new told port inner is fine = ap (λ e. seen (told (inner_of port)) e) fine ∙ ap (λ x. seen (told x) false) is

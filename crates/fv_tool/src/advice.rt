@@ -22,7 +22,7 @@ pub const MORE: &str = "\
     man fvtool explains these commands\n\
     fv-same A B: are two images the same firmware? fv-unpack IMAGE FOLDER: what is in an image?";
 
-/// What to try if an image has no volume at a multiple of 8.
+/// The advice for an image without a volume at a multiple of 8.
 pub const SEARCH: &str = "\
     Byte 40 of a volume begins the text _FVH: if LC_ALL=C grep -abo _FVH FILE shows N:_FVH,\n\
     try fvtool list --at M FILE, where M is N - 40";

@@ -8,8 +8,8 @@ use fv_command::{Ending, Status};
 use fv_plan::{Command, Task};
 use std::alloc::Global;
 
-// Says what is wrong with the arguments, and shows the forms of the command line. The arguments are
-// read once more for this.
+// Names the fault in the arguments, and shows the forms of the command line. The arguments are read
+// once more for this.
 fn explain_arguments<P: Process>(alloc: Global, process: &P) {
     match arguments(alloc, process) {
         Ok(words) => {
@@ -46,7 +46,7 @@ fn explain_silence<P: Process>(alloc: Global, process: &P) {
 }
 
 /// Explains to the person at the terminal, if there is one, how a run ended: the fault that stopped
-/// it, a failed write, what is wrong with its arguments, or that it found no volume.
+/// it, a failed write, the fault in its arguments, or that it found no volume.
 pub fn advise<P: Process>(alloc: Global, process: &P, ending: Ending, is_written: bool) {
     if !process.is_at_terminal() {
         return;

@@ -5,7 +5,7 @@ use std::io;
 use std::io::{Printer, Write};
 
 /// Standard output. It sets a mark when it is asked to write bytes. The mark is only for messages
-/// to a person: the bytes and the errors are those of the runtime.
+/// to a person: it does not change the bytes and the errors of the runtime.
 #[derive(Drop)]
 pub struct Output<'r, R> {
     printer: Printer<'r, R>,

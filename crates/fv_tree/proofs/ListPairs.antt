@@ -15,7 +15,7 @@ pairs_push R [] (b ∷ ys) x y p r = absurd p
 pairs_push R (a ∷ xs) [] x y p r = absurd p
 pairs_push R (a ∷ xs) (b ∷ ys) x y p r = (p.0, pairs_push R xs ys x y p.1 r)
 
--- ---- what a loop over items knows, if each item has a form
+-- ---- the invariants of a loop over items, if each item has a form
 
 module _ {A B X : Type 0} (R : A → B → Type 0) (form : X → A) (items : List X) (i : ℕ) (d : X) where
   in_items : i < length items → i < length (map form items)
@@ -24,7 +24,7 @@ module _ {A B X : Type 0} (R : A → B → Type 0) (form : X → A) (items : Lis
   item_is : i < length items → get_or (map form items) i (form d) ≡ form (get_or items i d)
   item_is l = get_or-map form items i d (form d) l
 
-  -- what is true of each form is true of the form of item i
+  -- a property of each form is a property of the form of item i
   pub of_item : (P : A → Type 0) → AllByRecursion P (map form items) → i < length items → P (form (get_or items i d))
   of_item P all l = subst P (item_is l) (at_index P (map form items) i (form d) all (in_items l))
 

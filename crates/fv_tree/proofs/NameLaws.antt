@@ -1,5 +1,5 @@
--- What the loops over the files of a volume know: the files of the first cells, the volume top file, and where files
--- begin.
+-- Facts for the loops over the files of a volume: the files of the first cells, the volume top file, and the offsets at
+-- which files begin.
 use Rattle.std.proofs.Common.{◌≡◌, ◌≤◌, ◌<◌, ℕ, ◌+◌, List, [], ◌∷◌, ◌++◌, length, take, get_or, map, Bool, true}
 use Rattle.std.proofs.Common.{false, refl, sym, ap, ◌∙◌, subst, arith}
 use Rattle.std.specs.Prelude.{◌&&◌, ◌||◌, not}

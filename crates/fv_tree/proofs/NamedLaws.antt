@@ -1,4 +1,5 @@
--- Files as they are stored, and the index of their names: what the index says of names and marks is true of the files.
+-- Files as they are stored, and the index of their names: the names and marks in the index are the names and marks of
+-- the files.
 use Rattle.std.proofs.Common.{◌≡◌, ◌<◌, ℕ, ◌+◌, List, [], ◌∷◌, length, take, get_or, map, Bool, true, false, cond, ◌≤◌, ◌⊎◌, refl, sym}
 use Rattle.std.proofs.Common.{ap, ◌∙◌, subst, arith, inl, inr}
 use Rattle.std.specs.Prelude.{◌||◌, ◌&&◌, not}

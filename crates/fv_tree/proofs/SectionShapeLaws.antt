@@ -2,9 +2,9 @@
 -- 1. A test finds whether a body is opened as a volume (`opens_found`, `opens_holds`).
 -- 2. So the shape of a section determines whether it is a leaf, a group or an opened volume (`leaf_shape`,
 --    `group_shape`, `volume_shape`).
--- 3. The meaning of a leaf is its bytes (`leaf_is`). The meaning of a group or an opened volume is what is read in its
---    body, one level deeper (`group_found`, `nested_found`), and the first fault in its body is its first fault
---    (`group_first`, `nested_first`).
+-- 3. The meaning of a leaf is its bytes (`leaf_is`). The meaning of a group or an opened volume is the meaning that is
+--    read in its body, one level deeper (`group_found`, `nested_found`), and the first fault in its body is its first
+--    fault (`group_first`, `nested_first`).
 -- 4. If no level is left, groups and opened volumes are not read (`too_deep`, `deep_fault`).
 -- 5. The meaning of a file whose type holds sections is its stream (`stream_reads`). If its data are not a stream, the
 --    file has no meaning (`stream_bad`).

@@ -2,7 +2,7 @@
 -- 1. At first all frames are left, and no section is read (`walk_begun`).
 -- 2. The next frame lies within the stream, and its body within the limit (`walk_ready`). Either it is read
 --    (`walk_more`), or it is the first frame that is rejected (`walk_first`).
--- 3. At the end the sections are those of the stream (`walk_found`).
+-- 3. At the end the sections are the sections of the stream (`walk_found`).
 use Rattle.std.proofs.Common.{◌≡◌, ℕ, ◌+◌, ◌≤◌, List, [], ◌∷◌, ◌++◌, length, refl, sym, ap, ◌∙◌, subst, inr, append_assoc, arith}
 use Rattle.std.proofs.lemmas.List.{append-nil}
 use Rattle.fv_base.specs.Words.{First, volume_limit, IsBytes}
@@ -50,7 +50,7 @@ module _ (n : ℕ) (b : List ℕ) (tail : ℕ) where
     pub walk_first : (x : Fault) (place : Place) → InSection First n x f place → InStream First n x b place
     walk_first x place first = inr (w.0 ++ f ∷ more, tail, whole, (w.0, f, more, refl, (ss, w.2), first))
 
-  -- if no frame is left, the sections are those of the stream
+  -- if no frame is left, the sections are the sections of the stream
   module _ (left : List FrameForm) (ss : List SectionMeaning) (w : Walked left ss) (e : left ≡ []) where
     all : Splits w.0 tail b
     all = subst (λ fs. Splits fs tail b) (ap (λ fs. w.0 ++ fs) e ∙ append-nil w.0) w.1

@@ -58,7 +58,7 @@ end_refused b f v n accepted long differs is only = record {
 pub end_found : (b : List ℕ) (v : Meaning) (n : ℕ) → Accepted (take n b) v → (n == length b) ≡ true → Accepted b v
 end_found b v n d same = subst (λ (xs : List ℕ). Accepted xs v) (take_all n b (omega (arith, eqb-true n (length b) same))) d
 
--- such an input is no other volume
+-- such an input is not any other volume
 pub end_only : (b : List ℕ) (v : Meaning) (n : ℕ)
     → ((k : ℕ) (m : Meaning) → k ≤ length b → Denotes depth_limit (take k b) m → (m ≡ v) × (k ≡ n)) → (m : Meaning) → Accepted b m → m ≡ v
 end_only b v n only m d = (only (length b) m (omega arith) (input_prefix b m d.1)).0

@@ -40,8 +40,8 @@ Pairwise R [] (y ∷ ys) = ⊥
 Pairwise R (x ∷ xs) [] = ⊥
 Pairwise R (x ∷ xs) (y ∷ ys) = R x y × Pairwise R xs ys
 
--- ---- what bytes mean, given what the parts inside them mean: these definitions take relations for the parts, and
--- MeansSection closes the recursion
+-- ---- the meaning of bytes, given the meaning of the parts inside them: these definitions take relations for the parts,
+-- and MeansSection closes the recursion
 
 -- three kinds of relations: between a frame and a section; between sections, the number of bytes after the last, and
 -- the bytes of a stream; between the bytes of a volume and a meaning

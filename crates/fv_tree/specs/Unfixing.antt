@@ -8,8 +8,8 @@ use Rattle.fv_head.specs.Words.{HeadFields, BeginsVolume, head_checks}
 use Rattle.fv_head.specs.declared.extent.Extent.{Extent}
 use Rattle.fv_tree.specs.LocatedFiles.{BeginsTiled}
 
--- b begins with a volume header, and o is b after the marks of some fixed files of this volume were taken away. `body` is
--- the body of the volume in o. All other bytes are the same, also those of volumes inside
+-- b begins with a volume header, and o is b after the marks of some fixed files of this volume were taken away. `body`
+-- is the body of the volume in o. All other bytes are the same, also the bytes of volumes inside
 pub record Unfixes (e : Extent) (b o body : List ℕ) : Type 0 where
   pub head : HeadFields
   pub front : BeginsVolume head e b

@@ -61,7 +61,7 @@ pub enum Word {
     Tail,
     /// The forms of the sections' headers: one is extended, the other is not (section 3.2.4).
     Form,
-    /// What the sections hold: bytes, sections or a volume (section 3.2.5).
+    /// The contents of the sections: bytes, sections or a volume (section 3.2.5).
     Shape,
     /// The bytes of the sections, if both are leaves.
     Body,
@@ -122,7 +122,7 @@ fn under(step: Step, found: Difference) -> Result<Difference, Fault>
     Ok(found)
 }
 
-// What a search for a difference returns.
+// The result of a search for a difference.
 type Found = Result<Option<Difference>, Fault>;
 
 // Returns a difference of this kind, without steps, unless the condition holds.

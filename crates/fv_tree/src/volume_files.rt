@@ -241,7 +241,7 @@ fn check_top(files: &[LocatedFile], length: u64) -> Result<(), Fault>
     Ok(())
 }
 
-// Does what `current_files` does, for files that may share a name.
+// Does the same as `current_files`, for files that may share a name.
 fn apart_files<'a>(
     alloc: Global,
     files: Vec<LocatedFile<'a>>,

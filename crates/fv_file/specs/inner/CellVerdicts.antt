@@ -1,5 +1,5 @@
--- The four sorts of states, which decide what kind of cell a header begins, and the result of the checks at one place:
--- a value, or the fault of the first check that does not hold.
+-- The four sorts of states, which determine the kind of cell that a header begins, and the result of the checks at one
+-- place: a value, or the fault of the first check that does not hold.
 use Rattle.std.specs.Prelude.{ℕ, Bool, true, false, List, [], Option, Some, if◌then◌else◌, ◌+◌, ◌==◌, nat_lt, None}
 use Rattle.std.specs.Prelude.{Result, Ok, Err, length}
 use Rattle.fv_base.specs.Words.{Check, outer_fault, erased_byte, up_to_8}

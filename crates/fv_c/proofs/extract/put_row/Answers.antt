@@ -10,7 +10,7 @@ use Rattle.fv_c.proofs.WalkRows.{of_row, part_found}
 use Rattle.fv_c.proofs.extract.put_row.Goals.{After-nth}
 use Rattle.fv_c.proofs.extract.put_row.Goals as goal
 
--- the part is that of the row that is found
+-- row n of the tree has the part that the walk found
 found : (c : After-nth) (o : Option Row) → c.nth.result ≡ o
     → part_at c.args.row c.args.volume.now ≡ option_map of_row (option_map row_of o)
 found c o is =

@@ -25,8 +25,8 @@ returns-in_err-check-3-clause-err c =
       rw c.header_len_at-header_len.ensures at (sym c.has_block_map.ensures ∙ c.in_err-check-3.ensures.err.0),
     ) refl)
 
--- if the first three of these checks hold, the first fault is that of the others, which check FvLength and the extended
--- header
+-- if the first three of these checks hold, the first fault comes from the other checks, which are about FvLength and
+-- the extended header
 header_right : (c : In_ok-check-3) → first_fault (whole_checks c.args.bytes.now) ≡ first_fault (drop 3 (whole_checks c.args.bytes.now))
 header_right c = rw (
   rw c.header_len_at-header_len.ensures at c.in_ok-check.ensures.ok,
