@@ -17,7 +17,7 @@ use Rattle.fv_file.specs.States.{bits_of, state_of, is_alive}
 use Rattle.fv_file.specs.declared.state.FileState.{FileState}
 use Rattle.fv_file.specs.declared.state.FileState.TheVariants as states
 
--- how many bytes at the start have the value e, up to the first byte with another value
+-- the number of bytes at the start of the list that have the value e, up to the first byte with another value
 abbrev pub leading_count : ℕ → List ℕ → ℕ
 leading_count e [] = 0
 leading_count e (x ∷ xs) = if x == e then 1 + leading_count e xs else 0
@@ -119,7 +119,7 @@ pub record CellFault (which : Which) (system : FileSystem) (polarity : Polarity)
   pub not_erased : AllAre (erased_byte polarity) (drop at body) → ⊥
   pub fails : Fails which (cell_checks system polarity (first + at) (drop at body)) fault
 
--- the fault is the first of the body: cells that are not free tile it up to some place, and this is the fault of the
--- first check there that does not hold
+-- the fault is the first fault of the body: cells that are not free tile the body up to some place, and the fault comes
+-- from the first check there that does not hold
 abbrev pub IsFirstCellFault : FileSystem → Polarity → ℕ → List ℕ → Fault → Type 0
 IsFirstCellFault = CellFault First

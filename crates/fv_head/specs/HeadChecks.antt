@@ -42,8 +42,8 @@ has_sum n b = sum16_of (take n b) == 0
 abbrev pub is_zero_pair : ℕ × ℕ → Bool
 is_zero_pair p = (p.0 == 0) && (p.1 == 0)
 
--- the bytes claim to be exactly one volume: there are at least 56, the signature and the GUID of the file system are
--- right, and FvLength is their number. Nothing else is checked
+-- the bytes claim to be exactly one volume: there are at least 56 bytes, the signature and the GUID of the file system
+-- are right, and FvLength is the number of bytes. Nothing else is checked
 abbrev pub is_one_volume : List ℕ → Bool
 is_one_volume b = nat_le 56 (length b) && has_signature b && is_some (file_system_at b) && (volume_len_at b == length b)
 

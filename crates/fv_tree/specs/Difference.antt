@@ -102,8 +102,9 @@ abbrev mutual
       (option_or (unless_one (k == l) words.Type)
       (option_or (unless_one (a == b) words.Attributes) (content_differs c d)))
 
-  -- compares bytes; or sections: the sections that both have, in order, then their number, then the number of bytes
-  -- after the last. Bytes also differ from sections, but two accepted files of one type never differ in this way
+  -- compares the contents of two files: the bytes; or the sections that both have, in order, then the numbers of
+  -- sections, then the numbers of bytes after the last section. Bytes also differ from sections, but two accepted files
+  -- of one type never differ in this way
   pub content_differs : ContentMeaning → ContentMeaning → Differs
   content_differs (Plain b) (Plain c) = unless_one (bytes_eq b c) words.Data
   content_differs (Plain b) (Sectioned ss t) = differ_in words.Data

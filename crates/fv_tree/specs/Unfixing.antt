@@ -22,8 +22,8 @@ abbrev pub IsUnfixed : List ℕ → List ℕ → Type 0
 IsUnfixed b o =
     (e : Extent) × (body : List ℕ) × Unfixes e b o body × ((cells : List CellForm) × BeginsTiled e cells o)
 
--- because of this fault the marks of b cannot be taken away: it is the first fault of the header; or it is the first fault
--- of the volume's body without the marks before it, and it is not Fixed
+-- f is the fault because of which the marks of b cannot be taken away: the first fault of the header; or the first
+-- fault that is left in the body after all marks before it were taken away, which is not Fixed
 abbrev pub UnfixStops : List ℕ → Fault → Type 0
 UnfixStops b f =
     IsFirstFault (head_checks b) f
