@@ -1,5 +1,5 @@
--- The reader of command lines makes rows of the arguments of a command, and finds no fault in right ones (`read`).
--- Texts and flags are read from these rows (`text_answer`, `flag_answer`).
+-- The reader of command lines makes rows of the arguments of a command, and finds no fault in arguments that are right
+-- (`read`). Texts and flags are read from these rows (`text_answer`, `flag_answer`).
 use Rattle.std.proofs.lemmas.Bool.Decides.{Decides-not}
 use Rattle.std.proofs.lemmas.Grind.{common_steps}
 use Rattle.std.proofs.lemmas.Slice.Eq.{bytes_eq-Decides}

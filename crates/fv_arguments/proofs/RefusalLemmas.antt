@@ -1,5 +1,5 @@
 -- Arguments that are rejected as wrong are not right arguments. Either the reader finds a fault in them (`refused`); or
--- a text in them cannot be read, although right arguments have one that can (`no_input`, `right_part`, `right_image`,
+-- a text in them cannot be read, although it can be read in right arguments (`no_input`, `right_part`, `right_image`,
 -- `right_volumes`); or an offset is given together with `--all` (`no_place`).
 use Rattle.std.proofs.Common.{◌≡◌, ◌≢◌, ◌∙◌, ◌&&◌, ◌||◌, ℕ, Bool, List, [], ◌∷◌, IfErr, Result, Ok, Err, Option, Some, None, ap, codes, inl, inr}
 use Rattle.std.proofs.Common.{drop, not, refl, subst, sym, true, false, true≢false}
@@ -49,7 +49,8 @@ pub read_of : {rest : List (List ℕ)} {m : ArgMatches} (name : List ℕ) (c : C
     → IsRead (app_named name) rest m → IsRead (command_app c) rest m
 read_of {rest} {m} name c is r = subst (λ a. IsRead a rest m) (same_app name c is) r
 
--- a fault of the reader is passed on: out of memory as such, any other as a fault of the arguments
+-- a fault of the reader is passed on: out of memory stays out of memory, and any other fault becomes a fault of the
+-- arguments
 abbrev pub IsHandedOn : Error → WordFault → Type 0
 IsHandedOn e f = (kind_of e ≡ error_kinds.OutOfMemory → f ≡ OutOfMemory) × (kind_of e ≢ error_kinds.OutOfMemory → f ≡ Words)
 

@@ -20,7 +20,7 @@ pub by_flag : (name : List ℕ) (rest : List (List ℕ)) (at : Option ℕ) (file
     → (given ≡ false → IsAsked name rest at file other) → IsAsked name rest at file task
 by_flag name rest at file given one other task is on off = grind (arith, common_steps, cond_both)
 
--- the two tasks that the flag selects are those for an image and for a volume
+-- the flag selects the task for an image or the task for a volume
 pub by_tasks : (name : List ℕ) (rest : List (List ℕ)) (at : Option ℕ) (file : Option (String Global)) (given : Bool)
     (whole single one other task : Task) → whole ≡ one → single ≡ other → task ≡ (if given then whole else single)
     → (given ≡ true → IsAsked name rest at file one) → (given ≡ false → IsAsked name rest at file other) → IsAsked name rest at file task

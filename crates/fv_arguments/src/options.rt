@@ -333,7 +333,7 @@ fn command_of(alloc: Global, name: &str, matches: &ArgMatches<'_>) -> Result<Com
 ///
 /// # Errors
 ///
-/// Words, if there is no such command or its arguments are wrong. OutOfMemory.
+/// Words, if no command has this name or the arguments are wrong. OutOfMemory.
 pub fn parse_command(alloc: Global, name: &str, words: &[String]) -> Result<Plan, WordFault>
     ensures asked { IfOk result (AsksBy name.now (drop 1 (map string_bytes words.now))) }
 

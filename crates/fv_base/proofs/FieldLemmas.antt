@@ -142,7 +142,7 @@ two_bytes at b small = below (field at 2 b) (drop at b) refl (bytes_drop at b sm
 
 -- ---- two places
 
--- two places are equal if neither is before the other
+-- two places are equal if neither of them is less
 pub same_place : (m n : ℕ) → (m < n → ⊥) → (n < m → ⊥) → m ≡ n
 same_place m n low high = go (cases_lt m n) (cases_lt n m) where
   go : (m < n) ⊎ (n ≤ m) → (n < m) ⊎ (m ≤ n) → m ≡ n

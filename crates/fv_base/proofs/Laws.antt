@@ -8,12 +8,13 @@ pub use Rattle.fv_base.proofs.FieldLemmas.{take-take_le, field-take, field-appen
 pub use Rattle.fv_base.proofs.FieldLemmas.{le-le_bytes, length-le_bytes, two_bytes, same_cut, none_at, bytes_behind, bytes_cons, bytes_take}
 pub use Rattle.fv_base.proofs.FieldLemmas.{bytes_drop, bytes_append, bytes_le_bytes}
 pub use Rattle.fv_base.proofs.NumberLaws.{le_below, field_below, bytes_front, bytes_back, bytes_replicate}
--- Two places are equal if neither is before the other. The bytes up to the later are those up to the earlier, and at
--- least one more.
+-- Two places are equal if neither of them is less. The bytes up to the later place are the bytes up to the earlier
+-- place, and at least one more.
 pub use Rattle.fv_base.proofs.FieldLemmas.{same_place, take_past, some_between}
--- Checks in their order. A table has a first fault exactly if not all of its checks hold, and only one; a join of
--- tables has the first fault of its first table, or else of its second. A property of the faults of all checks is a
--- property of one that fails. If all checks hold, none fails. The first fault is one of those that fail.
+-- Checks in their order. A table has a first fault exactly if not all of its checks hold, and it has only one. The
+-- first fault of two joined tables is the first fault of the first table or, if that table has none, of the second. A
+-- property of the faults of all checks is a property of each fault whose check fails. If all checks hold, none fails.
+-- The first fault is the fault of a check that fails.
 pub use Rattle.fv_base.proofs.CheckLemmas.{and_split, and_join, all_hold, none_faulty, first_is, first_front}
 pub use Rattle.fv_base.proofs.CheckLemmas.{first_whole, first_among, not_first, fails_among, none_fails, verdict_ok, verdict_err, verdict_none}
 pub use Rattle.fv_base.proofs.CheckLemmas.{any_fails, one_fault}

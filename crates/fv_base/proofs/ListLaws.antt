@@ -85,7 +85,8 @@ two_cuts {A} (z ∷ zs) x after (w ∷ ws) y after' e =
 pub item_at : {X : Type 0} (xs : List X) (i : ℕ) (x : X) → i < length xs → x ≡ get_or xs i x → drop i xs ≡ x ∷ drop (i + 1) xs
 item_at xs i x l is = drop_more xs i x l ∙ ap (λ y. y ∷ drop (i + 1) xs) (sym is)
 
--- if a list is mapped, its images up to the next index, and the image at an index between the others
+-- the mapped list up to the next index, and the mapped list as the items before an index, the item there and the items
+-- after it
 module _ {X A : Type 0} (form : X → A) (items : List X) (i : ℕ) (d : X) where
   pub more_items : i < length items → take (i + 1) (map form items) ≡ take i (map form items) ++ form (get_or items i d) ∷ []
   more_items l =

@@ -21,8 +21,8 @@ kept_in s = s.bytes.items
 abbrev pub is_on : ListSink → Bool
 is_on s = s.on
 
--- a sink that is on adds the bytes to those that it keeps, or goes off because an allocation failed. Once it is off, it
--- stays off, and the bytes that it keeps do not matter
+-- a sink that is on adds the bytes to the bytes that it keeps, or goes off because an allocation failed. Once it is
+-- off, it stays off, and the bytes that it keeps do not matter
 abbrev pub KeptLatched : List ℕ → Bool → List ℕ → List ℕ → Bool → Type 0
 KeptLatched s true bytes t true = t ≡ s ++ bytes
 KeptLatched s true bytes t false = Unit {0}

@@ -60,8 +60,8 @@ pub enum FaultKind {
     /// either fewer than 24 of them are left or `State` is erased. At the first of these bytes that
     /// is not erased.
     FreeSpace,
-    /// A valid file that is not a pad has the same `Name` as an earlier such file in the same
-    /// state. At the later file.
+    /// Two valid files that are not pads have the same `Name` and the same state. At the later
+    /// file.
     DuplicateName,
     /// A file that has the `Name` `EFI_FFS_VOLUME_TOP_FILE_GUID` and is not superseded is not the
     /// last file, or does not end at `FvLength`. At the file.

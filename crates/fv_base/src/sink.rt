@@ -154,8 +154,8 @@ impl ListSink {
     }
 }
 
-/// The sink is on until memory runs out: it keeps all of the bytes, after the earlier ones. Then it
-/// goes off, and never goes on again.
+/// The sink is on until memory runs out: it keeps all of the bytes, after the bytes that it kept
+/// before. Then it goes off, and never goes on again.
 impl Sink for ListSink {
     ghost takes = { KeptTakes (λ s. s.bytes.items) (λ s. s.on) };
 

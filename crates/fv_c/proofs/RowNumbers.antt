@@ -23,8 +23,8 @@ row_is_at n (r ∷ rows) (suc i) =
     ap (λ (t : Bool). cond t (Some r) (row_at (n + 1) rows (n + suc i))) (ne_eqb n (n + suc i) (λ e. omega arith))
     ∙ ap (row_at (n + 1) rows) next ∙ row_is_at (n + 1) rows i
 
--- a list that depends on the row with the number k, and is empty if there is no such row, is the list for the first
--- rows and then the list for the others: one of the two is empty
+-- `under` makes a list of the row with the number k, and an empty list if there is no such row. For two joined lists of
+-- rows it makes the list for the first rows, followed by the list for the second: one of the two is empty
 pub in_either : {A : Type 0} (under : Option A → List A) → under None ≡ [] → (k n : ℕ) (a b : List A)
     → under (row_at n (a ++ b) k) ≡ under (row_at n a k) ++ under (row_at (n + length a) b k)
 in_either under none k n [] b =

@@ -1,7 +1,7 @@
 -- Proves that the first fault of an input whose marks of fixed files cannot be taken away has a number of at most 16,
 -- and is not Fixed (`kept_number`). The steps:
--- 1. Each check of a header and of a cell has a fault of such a kind, or Fixed (`head_kinds`, `cell_kinds`).
--- 2. So has the first fault (`kept`), which is not Fixed.
+-- 1. The fault of each check of a header or a cell has one of these numbers, or is Fixed (`head_kinds`, `cell_kinds`).
+-- 2. The first fault is not Fixed, so it has one of these numbers (`kept`).
 use Rattle.std.proofs.Common.{◌≡◌, ◌≤◌, ◌⊎◌, ◌+◌, ℕ, List, Bool, true, false, arith, drop, inl, inr, refl, subst, sym}
 use Rattle.std.specs.Prelude.{◌≢◌, ◌&&◌, ◌==◌, nat_le, not, slice_index, None, Option, Some}
 use Rattle.std.specs.List.{AllByRecursion}

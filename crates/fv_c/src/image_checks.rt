@@ -85,7 +85,7 @@ fn check_rows(alloc: Global, image: &[u8]) -> Result<Vec<FvVolumeCheck>, Fault>
 
 /// Writes a report on each volume that `fvp_image_scan` finds in a flash image, in order, at the
 /// start of the buffer `rows`. `count` is their number. Returns 0, also if a volume is rejected:
-/// the row of such a volume contains the fault. (PI specification, volume 3, section 3.2.)
+/// the volume's row then contains the fault. (PI specification, volume 3, section 3.2.)
 ///
 /// # Errors
 ///

@@ -17,15 +17,15 @@ use Rattle.fv_canon.proofs.VolumeImageLaws.{image_bytes, image_denotes, image_lo
 pub image_begun : (m : Meaning) (starts : List ℕ) → IsMeaning m → BeginsWithStarts (volumes_in m) starts → IsImage m (image_of m starts)
 image_begun m starts (n, l, b, small, d) begins = image_made n m b starts small d begins
 
--- the bytes that are written for a layout of such a meaning are its image
+-- the bytes that are written for a layout of a meaning that some bytes have are the image of the meaning
 pub image_is : (m : Meaning) (starts : List ℕ) → IsMeaning m → LaysVolume m starts → IsImage m (image_of m starts)
 image_is m starts is laid = image_begun m starts is (starts, [], sym (append-nil starts), laid)
 
--- such a meaning has no other image
+-- a meaning that some bytes have has no other image
 pub image_only : (m : Meaning) (starts image : List ℕ) → IsMeaning m → LaysVolume m starts → IsImage m image → image ≡ image_of m starts
 image_only m starts image is laid other = image_one m image (image_of m starts) other (image_is m starts is laid)
 
--- the image of such a meaning is a volume of this meaning
+-- the image of a meaning that some bytes have is a volume of this meaning
 pub image_accepted : (m : Meaning) (image : List ℕ) → IsMeaning m → IsImage m image → Accepted image m
 image_accepted m image (n, l, b, small, d) is =
     accepted n image m (image_bytes n m b image small d is) l (image_denotes n m b image small d is)

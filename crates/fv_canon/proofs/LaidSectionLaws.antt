@@ -1,7 +1,7 @@
 -- Facts about a section that was read and laid out, and the walk over the sections of a stream. The steps:
 -- 1. The body of the section has the length that the layout assumed, and fits the form of the section's header
 --    (`section_known`).
--- 2. A stream is its first section followed by the others (`stream_goes`, `stream_whole`).
+-- 2. A stream is its first section followed by the other sections (`stream_goes`, `stream_whole`).
 -- 3. A walk puts the filler, the header and the body of each section (`goes_on`, `front_more`), and at the end the tail
 --    (`front_end`).
 use Rattle.std.proofs.lemmas.Grind.{common_steps}
@@ -154,7 +154,7 @@ front_none takes [] i s t gap starts rest tail none f =
     subst (λ (ys : List ℕ). takes s ys t) front f.taken
 front_none takes (x ∷ xs) i s t gap starts rest tail none f = absurd (omega (arith, none))
 
--- after the last section, the starts that are left are those after the stream
+-- after the last section, the starts that are left are the starts after the stream
 pub walk_ended : (ss : List SectionMeaning) (i : ℕ) (rest last : List ℕ) → length ss ≤ i
     → ComesTo (volumes_in_sections (sections_from (drop i ss))) rest last → rest ≡ last
 walk_ended ss i rest last past walk = grind (arith, common_steps, drop_all)

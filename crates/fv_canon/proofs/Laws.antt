@@ -5,7 +5,7 @@ pub use Rattle.fv_canon.proofs.ImageLaws.{image_stays_long}
 -- in an image the pads from the first edge on have erased data
 pub use Rattle.fv_canon.proofs.AlignedLaws.{pads_erased}
 pub use Rattle.fv_canon.proofs.StoredTilingLaws.{PadErased}
--- the data of a file have at most one image, and so has the body of a section
+-- the data of a file have at most one image, and the body of a section has at most one image
 pub use Rattle.fv_canon.proofs.OneImageLaws.{data_one, body_one}
 -- bytes that are a volume at a depth within the limit are accepted
 pub use Rattle.fv_canon.proofs.HeadlineLaws.{accepted}

@@ -12,7 +12,7 @@ use Rattle.fv_canon.specs.inner.Matching.{IsNoFront, MatchLatched}
 pub front_off : (s bytes t : List ℕ) → take (length bytes) s ≡ bytes → t ≡ drop (length bytes) s → s ≡ bytes ++ t
 front_off s bytes t front behind = grind (arith, common_steps, take-append-drop)
 
--- if the first bytes differ, the written bytes are not a first part of the others
+-- if the first bytes differ, the written bytes are not a first part of the expected bytes
 pub front_differs : (s bytes : List ℕ) → (take (length bytes) s ≡ bytes → ⊥) → IsNoFront s bytes
 front_differs s bytes other more e = other (ap (take (length bytes)) e ∙ take_at bytes more (length bytes) refl)
 

@@ -2,7 +2,7 @@
 -- 1. The parts of a written frame are bytes (`begun_kind`, `bytes_begun`).
 -- 2. The statements about the parts inside: a frame, a stream and a volume (`FrameAgain`, `StreamAgain`,
 --    `VolumeAgain`).
--- 3. The frames of a stream are read again: no frame, the last frame, or a frame and those after it (`none_again`,
+-- 3. The frames of a stream are read again: no frame, the last frame, or a frame and the frames after it (`none_again`,
 --    `last_again`, `more_again`, `frames_again`).
 -- 4. So a stream is read again if its sections are (`stream_again`), and a section is read again if the parts inside
 --    are (`section_again`).

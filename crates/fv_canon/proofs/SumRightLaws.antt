@@ -85,8 +85,8 @@ ext_cell system p x used filler read few multiple at =
     sized : (a b n : ℕ) → a ≡ 24 → b ≡ n → 24 + n ≡ a + b
     sized a b n e f = omega (arith, e, f)
 
--- after the header come the pad with the extended header, if there is one, and then the files; such cells tile these
--- bytes
+-- after the header come the pad with the extended header, if there is one, and then the files; cells with right
+-- checksums tile these bytes
 rest_summed : (system : FileSystem) (p : Polarity) (h : HeadFields) (x : Option Extension) (used : ℕ) (files : List ℕ) → IfRead x
     → Summed system p (first_edge h x) files
     → Summed system p (header_len_of h) (ext_pad p x used ++ (replicate (first_edge h x - canonical_end h x) (erased_byte p) ++ files))

@@ -20,7 +20,7 @@ summed_adds p (File name kind attributes content) starts t u is e =
     join : (t u x s : ℕ) → u % 256 ≡ (t + sum (s ∷ [])) % 256 → x % 256 ≡ s % 256 → u % 256 ≡ (t + x) % 256
     join t u x s p q = omega (arith, p, q)
 
--- so a sink that sums takes only the State of such a file
+-- so a sink that sums takes only the State of a file with the checksum attribute
 pub state_adds : {S : Type 0} (takes : S → List ℕ → S → Type 0) (sums : Bool) (s t : S) (m n : ℕ) (p : Polarity) (file : FileMeaning)
     (starts : List ℕ) → sums ≡ true → is_summed (attributes_of file) ≡ true → AddsOrPuts takes sums s m (state_byte p ∷ []) t n
     → AddsOrPuts takes sums s m (stored_bytes p (stored_file file starts)) t n

@@ -138,13 +138,13 @@ module _ {A : Type 0} (all : List A → List Inside) (one : A → List Inside) (
       more x (xs ++ ys) ∙ ap (λ ws. one x ++ ws) (joined xs ys) ∙ sym (append_assoc (one x) (all xs) (all ys))
       ∙ ap (λ ws. ws ++ all ys) (sym (more x xs))
 
-  -- the volumes in the first i + 1 items are those in the first i items, and then those in item i
+  -- the volumes in the first i + 1 items are the volumes in the first i items, and then the volumes in item i
   pub pushed : (xs : List A) (i : ℕ) (x : A) → i < length xs → x ≡ get_or xs i x → all (take (i + 1) xs) ≡ all (take i xs) ++ one x
   pushed xs i x l is =
       ap all (take_more xs i x l) ∙ joined (take i xs) (get_or xs i x ∷ [])
       ∙ ap (λ ws. all (take i xs) ++ ws) (more _ [] ∙ ap (λ ws. one (get_or xs i x) ++ ws) none ∙ append-nil _ ∙ ap one (sym is))
 
-  -- the volumes in the items from i on are those in item i, and then those in the items after it
+  -- the volumes in the items from i on are the volumes in item i, and then the volumes in the items after it
   pub item_first : (xs : List A) (i : ℕ) (x : A) → i < length xs → x ≡ get_or xs i x → all (drop i xs) ≡ one x ++ all (drop (i + 1) xs)
   item_first xs i x l is = ap all (item_at xs i x l is) ∙ more x (drop (i + 1) xs)
 

@@ -40,8 +40,8 @@ IsFilePart f None instance (Made bytes) = IsData (content_of f) bytes
 IsFilePart f None instance _ = ⊥
 IsFilePart f (Some kind) instance answer = IsSectionOf f kind instance answer
 
--- the result of extracting a part: the data of the file with the part's name, or a section of it; NotFound, if there is
--- no such file
+-- the result of extracting a part: the data of the file with the part's name, or a section of this file; NotFound, if
+-- no file has the name
 abbrev pub IsPart : Option FileMeaning → Part → Extraction → Type 0
 IsPart None part answer = answer ≡ NotFound
 IsPart (Some f) part answer = IsFilePart f part.section part.instance answer

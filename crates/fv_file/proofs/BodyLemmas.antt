@@ -1,6 +1,6 @@
 -- A body is tiled by cells in one way, or there is a first place at which no cell begins. The steps:
--- 1. The cells that were read tile the body up to a place (`Upto`), and so do they with the cell that is read there
---    (`stands_here`, `one_on`).
+-- 1. The cells that were read tile the body up to a place (`Upto`), and with the cell that is read there they tile it
+--    up to the next place (`stands_here`, `one_on`).
 -- 2. The loop ends at the end of the body (`whole_kept`), where the rest is free (`free_kept`), or at the first fault
 --    (`first_here`).
 -- 3. A body is tiled in one way (`only_one`). Every tiling goes on from each place that the cells reach (`goes_on`), so

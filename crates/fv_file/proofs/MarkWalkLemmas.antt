@@ -36,7 +36,7 @@ module _ (s : FileSystem) (p : Polarity) (first : ℕ) (body : List ℕ) (at : �
 
   module _ (used : (at < length body) × (AllAre (erased_byte p) (drop at body) → ⊥)) (b : List ℕ)
       (step : OneMarkLess s p (first + at) (drop at body) b) where
-    -- the body is as it was, or the mark at the place is removed
+    -- the body is unchanged, or the mark at the place is removed
     stepped : OneMarkLess s p (first + at) (drop at body) b → (new : List ℕ) × MarkStep s p first k.less new at × (drop at new ≡ b)
     stepped (inl e) = (k.less, inl refl, k.same ∙ sym e)
     stepped (inr (is, e)) = (

@@ -146,7 +146,7 @@ pub unmarked_begins : (s : FileSystem) (p : Polarity) (first : ℕ) (body : List
 unmarked_begins s p first body =
     record { places = []; marks = refl; same_length = refl; cells = []; upto = upto_begins s p first body }
 
--- the body is as it was, or the file at the place is fixed, and its mark is removed
+-- the body is unchanged, or the file at the place is fixed, and its mark is removed
 abbrev pub MarkStep : FileSystem → Polarity → ℕ → List ℕ → List ℕ → ℕ → Type 0
 MarkStep s p first body new at =
     (new ≡ body)
@@ -222,7 +222,7 @@ fault_unfixed s p first b f here other g there kind =
 one_place : (first p q : ℕ) → outer_fault kinds.Fixed (first + p + 19) ≡ outer_fault kinds.Fixed (first + q + 19) → p ≡ q
 one_place first p q e = omega (arith, ap (λ (f : Fault). f.place.offset) e)
 
--- the bytes without all marks are the only ones
+-- only one list of bytes is the body without all marks
 pub one_unmarked : (s : FileSystem) (p : Polarity) (first : ℕ) (ps qs : List ℕ) (b o x : List ℕ) → Unmarks s p first ps b o
     → NoneFixed s p first o → Unmarks s p first qs b x → NoneFixed s p first x → x ≡ o
 one_unmarked s p first [] [] b o x same end other end_x = other ∙ sym same

@@ -1,4 +1,5 @@
--- The attribute bits of a file (PI specification, volume 3, section 3.2.3.1, FFS_ATTRIB_LARGE_FILE and the others).
+-- The attribute bits of a file (PI specification, volume 3, section 3.2.3.1, FFS_ATTRIB_LARGE_FILE and the other
+-- FFS_ATTRIB bits).
 use Rattle.std.specs.Prelude.{ℕ, ◌*◌, ◌/◌, ◌%◌, ◌==◌, Bool}
 use Rattle.fv_file.specs.declared.attributes.FileAttributes.{FileAttributes}
 

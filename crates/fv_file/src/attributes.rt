@@ -6,7 +6,7 @@ ghost use Rattle.fv_file.specs.FileAttributes.{attribute_bits, is_large, is_fixe
 use bitflags::{Flag, Flags, bitflag_items};
 
 /// All eight attribute bits of a file, as found. (PI specification, volume 3, section 3.2.3.1,
-/// `FFS_ATTRIB_LARGE_FILE` and the others.)
+/// `FFS_ATTRIB_LARGE_FILE` and the other `FFS_ATTRIB` bits.)
 #[derive(Clone, Copy, PartialEq, Eq, Debug)]
 pub struct FileAttributes(u8);
 

@@ -120,7 +120,7 @@ pub payload_put : (used : ℕ) (e : ℕ × List ℕ) (kind : ℕ) (payload : Lis
     → payload ≡ e.1 → t ≡ false → payload ≡ payload_with used e
 payload_put used e kind payload t test kinds payloads off = grind (arith, common_steps)
 
--- the length of the entries from an index on is the length of the entry there, and then of the others
+-- the length of the entries from an index on is the length of the entry there plus the length of the entries after it
 pub entries_len_step : (es : List (ℕ × List ℕ)) (i : ℕ) (e : ℕ × List ℕ) → i < length es → e ≡ get_or es i e
     → entries_len (drop i es) ≡ (4 + length e.1) + entries_len (drop (i + 1) es)
 entries_len_step es i e within is = grind (arith, common_steps, drop_more)

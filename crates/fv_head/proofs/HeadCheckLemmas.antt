@@ -1,6 +1,7 @@
 -- The checks of a header hold exactly if the bytes begin with a volume, and the fields that are read are its fields.
 -- The steps:
--- 1. The verdict is the first fault of the checks, or else an extent (`verdict_ok`, `verdict_err`, `verdict_extent`).
+-- 1. The verdict is the first fault of the checks or, if all checks hold, an extent (`verdict_ok`, `verdict_err`,
+--    `verdict_extent`).
 -- 2. If the checks hold, the bytes begin with a volume that has the fields that are read (`front_found`).
 -- 3. If bytes begin with a volume, the checks hold, and the verdict is its extent (`front_only`).
 -- 4. The header of this volume has no other fields (`front_fields`).
@@ -50,7 +51,7 @@ pub extent_ok : (o : Option FileSystem) (f : Fault) (b : List ℕ) (e : Extent) 
 extent_ok None f b e h = cc
 extent_ok (Some fs) f b e h = (fs, refl, cc)
 
--- the verdict is the first fault, or else the extent for the file system that is found
+-- the verdict is the first fault or, if all checks hold, the extent for the file system that is found
 pub verdict_err : (o : Option Fault) (b : List ℕ) (f : Fault) → o ≡ Some f → extent_verdict o b ≡ Err f
 verdict_err None b f is = cc
 verdict_err (Some g) b f is = cc

@@ -86,7 +86,7 @@ one_front b h k e x front other = search (rules, front_only, one_has_ext, front_
 pub front_holds : (b : List ℕ) (h : HeadFields) (e : Extent) → BeginsVolume h e b → AllHold (head_checks b)
 front_holds b h e front = all_hold (head_checks b) (verdict_ok (first_fault (head_checks b)) b e (front_only b h e front)).0
 
--- the extent of a volume is the one that its header gives
+-- the extent of a volume follows from its header
 pub front_extent : (b : List ℕ) (h : HeadFields) (e : Extent) → BeginsVolume h e b → (fs : FileSystem) × (extent_at fs b ≡ e)
 front_extent b h e front =
     let v = verdict_ok (first_fault (head_checks b)) b e (front_only b h e front) in

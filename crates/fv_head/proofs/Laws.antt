@@ -1,8 +1,8 @@
 -- The laws of this crate that crates above may cite. Each is passed on from the module that proves it. A lemma that is
 -- not listed here is an inner one.
 
--- If bytes begin with a volume, its header fields and its extent are the only ones, the checks of the header hold, and
--- the extent is the one that the header gives. Only the volume's own bytes decide this.
+-- If bytes begin with a volume, no other header fields and no other extent fit the bytes, the checks of the header
+-- hold, and the extent follows from the header. Only the volume's own bytes decide this.
 pub use Rattle.fv_head.proofs.HeadPlaceLemmas.{one_front, front_holds, front_extent, front_same}
 -- The header of a volume lies within it, and the volume is within the limit. Its first file may begin at a multiple of
 -- 8 within it, and its length is a multiple of 8.

@@ -9,7 +9,7 @@ use Rattle.fv_base.specs.Words.{bytes_of, IsBytes, field}
 use Rattle.fv_base.specs.declared.guid.Guid.{Guid}
 use Rattle.fv_names.specs.declared.name_index.NameIndex.{NameIndex}
 
--- the list consists of sixteen bytes; and the bytes of the name are such a list
+-- the list consists of sixteen bytes (`IsSixteenBytes`), and the name consists of sixteen bytes (`IsName`)
 abbrev pub IsSixteenBytes : List ℕ → Type 0
 IsSixteenBytes bytes = (length bytes ≡ 16) × IsBytes bytes
 

@@ -152,7 +152,7 @@ kept_set total fs reaches n r p l len here each i d low lt = elim (cases_lt i n)
     apart : (n : ℕ) → n ≤ i → 0 < n → i ≡ n - 1 → ⊥
     apart n more p e = omega arith
 
--- if the files can be placed, so can the files from each file on
+-- if the files can be placed, the files from each file on can be placed
 rest_can : (total e : ℕ) (fs : List LayoutItem) (i : ℕ) → i ≤ length fs → total % 8 ≡ 0 → CanPlace total e fs
     → (x : ℕ) × CanPlace total x (drop i fs)
 rest_can total e fs zero l h c = (e, c)

@@ -28,8 +28,8 @@ pub(crate) struct Reach {
     pub far: bool,
 }
 
-// Returns the reach of no files: every edge up to the volume's end is usable. After any other edge,
-// no files can be placed, however many there are.
+// Returns the reach of no files: every edge up to the volume's end is usable. After an edge past
+// the end, no list of files can be placed, not even an empty list.
 pub(crate) fn reach_of_none(total: u64) -> Reach
     requires total { total % 8 ≡ 0 }
     ensures none { IsReach total [] result }

@@ -26,7 +26,7 @@ pub sections_list_back : (ss : List SectionMeaning) → sections_list (sections_
 sections_list_back [] = refl
 sections_list_back (s ∷ ss) = ap (λ l. s ∷ l) (sections_list_back ss)
 
--- if a list has fewer than 2 ^ 63 items, so has the list of parts that is made of it
+-- if a list has fewer than 2 ^ 63 items, the list of parts that is made of it has fewer than 2 ^ 63 items
 pub few_nodes : {A : Type 0} (f : A → NodeMeaning) (xs : List A) → length xs < 2 ^ 63 → length (map f xs) < 2 ^ 63
 few_nodes f xs few = omega (arith, few, length-map xs f)
 

@@ -1,6 +1,7 @@
 -- The loop over a stream splits it into frames or finds its first fault, and a walk over the stream reads these frames.
 -- The steps:
--- 1. The frames up to an offset split the bytes before it, and so do they with the next frame (`step`).
+-- 1. The frames up to an offset split the bytes before it, and with the next frame they split the bytes before the next
+--    offset (`step`).
 -- 2. The loop ends at the first fault (`first_here`), or past the end, where the whole stream is split (`whole_of`).
 -- 3. If a check fails, the stream does not split (`none_after`). The frames of a split lie in the stream
 --    (`whole_within`, `split_stands`).

@@ -87,7 +87,7 @@ impl Decoder {
 impl Collector for Decoder {
     ghost holds = { Decodes };
 
-    // Nothing is said of its memory.
+    // No clause is about its memory.
     ghost lacks = { λ _ _. ⊤ };
 
     // A text that was found wrong stays wrong.

@@ -28,7 +28,7 @@ current_of length cs standing files is h = subst (λ (fs : List FileForm). AreCu
 
 -- ---- the meanings of the files
 
--- if a file is the first one that is rejected, its fault is the first fault of the body
+-- if a file is the first file that is rejected, its fault is the first fault of the body
 pub files_first : (n : ℕ) (I : Faulty) (e : Extent) (volume : List ℕ) (at : Place) (fs : List FileForm) (g : Fault) → StandIn e volume fs
     → OneOf First (MeansFile (Stream n)) (λ f. FileFault I g f at) fs → BodyFault First n I e g volume at
 files_first n I e volume at fs g stand first = grind (arith, common_steps)

@@ -35,7 +35,7 @@ use Rattle.fv_tree.proofs.SectionShapeLaws.{group_is_no_volume}
 
 -- ---- one level of nesting
 
--- if bytes have at most one fault of a kind, they have at most one that is moved to a place
+-- if bytes have at most one fault of a kind, they have at most one fault of this kind that is moved to a place
 moved_once : (P : Fault → Type 0) → ((f g : Fault) → P f → P g → f ≡ g) → (at : Place) (e g : Fault) → Moved at P e → Moved at P g → e ≡ g
 moved_once P once at e g (f, p, is) (f', p', is') = is ∙ ap (moved_fault at.offset at.depth) (once f f' p p') ∙ sym is'
 

@@ -1,4 +1,4 @@
--- A look-up by number finds the item of this number among those that an iterator yields.
+-- A look-up by number finds the item of this number among the items that an iterator yields.
 use Rattle.std.proofs.Common.{◌≡◌, ℕ, zero, suc, ◌+◌, List, None, Option, refl, ap, arith}
 use Rattle.std.specs.Iterator.{SkipsThenYields}
 use Rattle.std.specs.Option.{option_map}

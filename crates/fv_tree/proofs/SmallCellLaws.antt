@@ -31,7 +31,7 @@ no_cell = cells.Valid 0 (record {
   state = states.Free;
 }) (record { ref_ptr = (0, 0); now = [] })
 
--- a right file checksum is the one that follows from the attributes and the data
+-- a right file checksum follows from the attributes and the data
 sum_follows : (attributes file_sum : ℕ) (payload : List ℕ) → file_sum < 256 → file_sum_right attributes file_sum payload ≡ true
     → file_sum ≡ file_sum_for attributes payload
 sum_follows attributes file_sum payload small h = grind (arith, common_steps)

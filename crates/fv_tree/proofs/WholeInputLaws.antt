@@ -58,7 +58,7 @@ end_refused b f v n accepted long differs is only = record {
 pub end_found : (b : List ℕ) (v : Meaning) (n : ℕ) → Accepted (take n b) v → (n == length b) ≡ true → Accepted b v
 end_found b v n d same = subst (λ (xs : List ℕ). Accepted xs v) (take_all n b (omega (arith, eqb-true n (length b) same))) d
 
--- such an input is not any other volume
+-- an input that ends with the volume that it begins with is not any other volume
 pub end_only : (b : List ℕ) (v : Meaning) (n : ℕ)
     → ((k : ℕ) (m : Meaning) → k ≤ length b → Denotes depth_limit (take k b) m → (m ≡ v) × (k ≡ n)) → (m : Meaning) → Accepted b m → m ≡ v
 end_only b v n only m d = (only (length b) m (omega arith) (input_prefix b m d.1)).0
@@ -73,15 +73,16 @@ ran_out b f (inr why) front = inr why
 
 -- ---- the kinds of faults
 
--- a kind that is not a fault of reading or writing a stream
+-- the kind is not a fault of reading or writing a stream
 abbrev pub IsOfInput : FaultKind → Type 0
 IsOfInput kind = (kind ≢ kinds.ReadFault) × (kind ≢ kinds.WriteFault)
 
--- if a fault is of such a kind unless it is out of memory, it is of such a kind
+-- to prove this of a fault, it may be assumed that the fault is not out of memory, because OutOfMemory is not a fault
+-- of a stream
 pub input_kind : (f : Fault) → (f ≢ out_of_memory → IsOfInput f.kind) → IsOfInput f.kind
 input_kind f known = grind (arith, common_steps, want_known)
 
--- so a fault whose condition holds in the bytes is of such a kind
+-- so the kind of a fault whose condition holds in the bytes is not a fault of reading or writing a stream
 pub stood_kind : (b : List ℕ) (f : Fault) → (f ≢ out_of_memory → FaultStands b f) → IsOfInput f.kind
 stood_kind b f stands =
     input_kind f (λ other. (stands_other b f kinds.ReadFault refl (stands other), stands_other b f kinds.WriteFault refl (stands other)))

@@ -296,8 +296,8 @@ pub fn volume_cells(alloc: Global, bytes: &[u8]) -> Result<(Extent, Cells<'_>), 
     // Every cell lies within the volume.
     ensures lies { IfOk result (λ r. CellsWithin (length (take r.0.length bytes.now)) r.1) }
 
-    // If an error other than OutOfMemory is returned, the bytes do not begin with such a volume,
-    // and the error is the first fault.
+    // If an error other than OutOfMemory is returned, the bytes do not begin with a volume whose
+    // body is tiled by cells, and the error is the first fault.
     ensures err { IfErr result (λ f. f ≢ out_of_memory → NotTiled bytes.now f) }
 
     // Memory runs out only if the bytes begin with a volume header.

@@ -77,7 +77,8 @@ pub fn located_files(alloc: Global, bytes: &[u8]) -> Result<Vec<LocatedFile<'_>>
     ensures only { IfOk result
         (λ fs. (gs : List FileForm) → BeginWithFiles bytes.now gs → gs ≡ map file_form fs.items) }
 
-    // If an error other than OutOfMemory is returned, the bytes do not begin with such a volume.
+    // If an error other than OutOfMemory is returned, no list of files is the list of files of a
+    // volume at the start of the bytes.
     ensures none { IfErr result
         (λ f. f ≢ out_of_memory → (gs : List FileForm) → BeginWithFiles bytes.now gs → ⊥) }
 

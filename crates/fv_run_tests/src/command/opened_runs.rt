@@ -10,7 +10,7 @@ use fv_plan::Plan;
 use std::alloc::Global;
 
 // Returns command lines, each with the status and the line with which its run ends. The volume in
-// `a.fv` has 128 bytes, the one in `b.fv` 160, and the one on standard input 136.
+// `a.fv` has 128 bytes, the volume in `b.fv` 160, and the volume on standard input 136.
 fn opened_runs() -> &'static str {
     "\
     fv list a.fv -> 0 volume ffs2 length 128 files 0\n\

@@ -24,7 +24,8 @@ joined_pairs (h ∷ l ∷ vs) = (h * 16 + l) ∷ joined_pairs vs
 abbrev pub IsSpoilt : List ℕ → Type 0
 IsSpoilt digits = (behind bytes : List ℕ) → DigitsSpell (digits ++ behind) bytes → ⊥
 
--- the digits, except those that wait, spell bytes: these are held, or (`is_long`) they are more than a volume may have
+-- the digits, except the digits that wait, spell bytes. The decoder holds these bytes, or (`is_long`) they are more
+-- than a volume may have
 pub record HoldsDigits (is_long : Bool) (held waiting digits : List ℕ) : Type 0 where
   pub front : List ℕ
   pub bytes : List ℕ
@@ -42,7 +43,8 @@ pub record Decodes (d : Decoder) (text : List ℕ) : Type 0 where
   pub small : vec_len d.bytes ≤ volume_limit
   pub waiting : vec_len d.digits ≤ 1
 
--- the digits spell bytes, which are added to those that were held, unless there are then more than a volume may have
+-- the digits spell bytes, which are added to the bytes that were held, unless there are then more bytes than a volume
+-- may have
 pub record AddsDigits (was_long is_long : Bool) (held holds digits : List ℕ) : Type 0 where
   pub more : List ℕ
   pub reads : DigitsSpell digits more

@@ -1,4 +1,4 @@
--- The name and the mark of a file, which the index of names knows.
+-- The name and the mark of a file, from which the index of names is made.
 use Rattle.fv_names.specs.Words.{NamedFile}
 use Rattle.fv_tree.specs.LocatedFiles.{file_form}
 use Rattle.fv_tree.specs.VolumeFiles.{FileForm, is_marked}

@@ -1,5 +1,5 @@
 -- The fields of its header that a stored file keeps, and the fields that follow from them; how the body of a section is
--- read; the result of a reader of a part of a volume, and the facts that it knows about the files.
+-- read; the result of a reader of a part of a volume, and its facts about the files.
 use Rattle.std.specs.Prelude.{◌≡◌, ℕ, ◌+◌, ◌<◌, ◌^◌, Bool, true, false, List, length, ◌==◌, ◌&&◌, if◌then◌else◌, ◌≢◌}
 use Rattle.std.specs.Prelude.{◌≤◌, Result, MatchResult}
 use Rattle.fv_file.specs.Words.{CellForm, Valid, attribute_bits, file_sum_for}
@@ -31,7 +31,7 @@ abbrev pub is_noted : Mark → Bool
 is_noted marks.Replaced = true
 is_noted _ = false
 
--- the fields of a header that a stored file does not keep follow from those that it keeps
+-- the fields of a header that a stored file does not keep follow from the fields that it keeps
 pub record FollowsFrom (head : FileHead) (payload : List ℕ) : Type 0 where
   pub size : head.size ≡ header_len_by (attribute_bits head.attributes) + length payload
   pub header_len : head.header_len ≡ header_len_by (attribute_bits head.attributes)
@@ -58,6 +58,6 @@ abbrev pub IsReadyFile : ℕ → FileForm → Type 0
 IsReadyFile base f =
     IsStoredFile f × (base + data_place f + length f.payload < 2 ^ 63) × (length f.payload ≤ volume_limit)
 
--- each of the files is such a file
+-- each of the files is a valid file in some bytes, as above
 abbrev pub AllStored : ℕ → List FileForm → Type 0
 AllStored base fs = AllByRecursion (IsReadyFile base) fs

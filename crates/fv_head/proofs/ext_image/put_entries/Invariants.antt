@@ -3,7 +3,7 @@ use Rattle.fv_base.specs.Words.{ext_limit}
 use Rattle.fv_head.specs.Words.{entries_bytes, entries_len}
 use Rattle.fv_head.proofs.ext_image.put_entries.Given as goal
 
--- the entries so far were put, and those from here on complete the bytes of all entries
+-- the entries so far were put, and the entries from here on complete the bytes of all entries
 abbrev pub invariant-loop-entry : goal.invariant-loop-entry
 invariant-loop-entry g l =
     (front : List ℕ) × g.S.Sink.takes l.initial.out front l.out
