@@ -35,8 +35,8 @@ pub record IsNewHeader (polarity : Polarity) (head : FileHead) (h : List ℕ) : 
   pub state : state_at h ≡ state_byte polarity
   pub bytes : IsBytes h
 
--- the header h begins a valid file, in each file system that allows such a header: h, any data of the right length that
--- make the file sound (`IsSound`), and any filler up to the next multiple of 8 are the cell of a valid file
+-- h followed by any data of the right length that make the file sound, and by any filler up to the next multiple of 8,
+-- is the cell of a valid file, in each file system that allows such a header
 abbrev pub IsHeadOfFile : Polarity → FileHead → List ℕ → Type 0
 IsHeadOfFile polarity head h =
     (system : FileSystem) (at : ℕ) (payload filler : List ℕ)
@@ -45,8 +45,8 @@ IsHeadOfFile polarity head h =
     → (head.size + length filler) % 8 ≡ 0
     → IsCell system polarity (Valid at head payload) (h ++ (payload ++ filler))
 
--- the header h begins a pad, in each file system: h, any bytes that its size requires, and any filler up to the next
--- multiple of 8 are the cell of a pad
+-- h followed by as many bytes as its size requires, and by any filler up to the next multiple of 8, is the cell of a
+-- pad, in each file system
 abbrev pub IsHeadOfPad : Polarity → FileHead → List ℕ → Type 0
 IsHeadOfPad polarity head h =
     (system : FileSystem) (at : ℕ) (payload filler : List ℕ) → head.size ≡ length h + length payload → length filler < 8
