@@ -32,7 +32,7 @@ pub fn put_comparison<S: Sink>(
     ensures line { OnOk result (S.takes out.old (compare_line (difference first.now second.now)) out.new) }
     ensures err { IfErr result (λ f. (f ≡ out_of_memory) × (first.now ≢ second.now)) }
 
-    // After an error the sink is as it was before the call.
+    // After an error the sink is unchanged.
     ensures untouched { OnErr result (out.new ≡ out.old) }
 
     // The line has at most 553 bytes.
@@ -70,10 +70,10 @@ pub fn write_comparison<W: Write>(
     ensures err { IfErr result (λ e. ComparisonStops e.0 first.now second.now
         (W.contents (inner_of writer.old)) (W.contents (inner_of writer.new)) e.1) }
 
-    // After Ok the port's error flag is as it was before the call.
+    // After Ok the port's error flag is unchanged.
     ensures writer_fine { OnOk result (has_erred writer.new ≡ has_erred writer.old) }
 
-    // After any error other than WriteFault the port is as it was before the call.
+    // After any error other than WriteFault the port is unchanged.
     ensures untouched { IfErr result (λ e. e.1.kind ≢ FaultKind.WriteFault → writer.new ≡ writer.old) }
 
     // If WriteFault is returned, the side is Output and the port's error flag is set.

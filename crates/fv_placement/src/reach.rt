@@ -17,7 +17,7 @@ use crate::first_placement::LayoutItem;
 use fv_base::field::up_to_8;
 
 /// The edges after which some files can be placed: `greatest`, the edges 8 and 16 bytes below it if
-/// `near` and `far` say so, and every edge at least 24 bytes below it.
+/// `near` and `far` say that they are usable, and every edge at least 24 bytes below it.
 #[derive(Clone, Copy)]
 pub(crate) struct Reach {
     /// The greatest usable edge, in bytes from the volume's start.

@@ -156,7 +156,7 @@ fn stream_difference(
     Ok(None)
 }
 
-// Does the same for two sections.
+// Returns where two sections first differ, with the steps from the innermost out.
 #[cycle(differ)]
 fn section_difference(alloc: Global, section: &SectionView, other: &SectionView) -> Found
     ensures { ReturnsDifference result (section_differs section.now other.now) }
@@ -166,7 +166,7 @@ fn section_difference(alloc: Global, section: &SectionView, other: &SectionView)
     body_difference(alloc, section.body(), other.body())
 }
 
-// Does the same for the bodies of two sections.
+// Returns where the bodies of two sections first differ, with the steps from the innermost out.
 #[cycle(differ)]
 fn body_difference(alloc: Global, body: Body, other: Body) -> Found
     ensures { ReturnsDifference result (body_differs (body_view body.entry) (body_view other.entry)) }
@@ -191,7 +191,7 @@ fn body_difference(alloc: Global, body: Body, other: Body) -> Found
     }
 }
 
-// Does the same for the contents of two files.
+// Returns where the contents of two files first differ, with the steps from the innermost out.
 #[cycle(differ)]
 fn content_difference(alloc: Global, content: &Content, other: &Content) -> Found
     ensures { ReturnsDifference result (content_differs (content_view content.now) (content_view other.now)) }
@@ -212,7 +212,7 @@ fn content_difference(alloc: Global, content: &Content, other: &Content) -> Foun
     }
 }
 
-// Does the same for two files.
+// Returns where two files first differ, with the steps from the innermost out.
 #[cycle(differ)]
 fn file_difference(alloc: Global, file: &FileView, other: &FileView) -> Found
     ensures { ReturnsDifference result (file_differs file.now other.now) }
@@ -227,7 +227,7 @@ fn file_difference(alloc: Global, file: &FileView, other: &FileView) -> Found
     content_difference(alloc, file.content(), other.content())
 }
 
-// Does the same for the files of two volumes.
+// Returns where the files of two volumes first differ, with the steps from the innermost out.
 #[cycle(differ)]
 fn files_difference(alloc: Global, files: &[FileView], others: &[FileView]) -> Found
     ensures { ReturnsDifference result (files_differ 0 (files_from files.now) (files_from others.now)) }
@@ -241,7 +241,7 @@ fn files_difference(alloc: Global, files: &[FileView], others: &[FileView]) -> F
     Ok(None)
 }
 
-// Does the same for two volumes.
+// Returns where two volumes first differ, with the steps from the innermost out.
 #[cycle(differ)]
 fn volume_difference(alloc: Global, volume: &VolumeView, other: &VolumeView) -> Found
     ensures { ReturnsDifference result (difference volume.now other.now) }
@@ -260,8 +260,8 @@ fn volume_difference(alloc: Global, volume: &VolumeView, other: &VolumeView) -> 
 /// and then the data. If the data are sections, the sections that both files have are compared in
 /// order, then the numbers of sections, and then the numbers of bytes after the last section. In a
 /// section, the type and the form of the header are compared, then whether it holds bytes, sections
-/// or a volume, and then what it holds. The work is linear in the size of the two volumes. (PI
-/// specification, volume 3, section 3.2.)
+/// or a volume, and then its bytes, its sections or its volume. The work is linear in the size of
+/// the two volumes. (PI specification, volume 3, section 3.2.)
 ///
 /// # Errors
 ///
