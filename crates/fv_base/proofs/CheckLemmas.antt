@@ -3,10 +3,10 @@
 -- 1. All checks hold exactly if there is no first fault (`all_hold`, `none_faulty`).
 -- 2. The first fault is the fault of the first check that does not hold (`first_is`). If two tables are joined, it is
 --    the first fault of the first table or, if that table has none, of the second (`first_front`, `first_whole`).
--- 3. A property of the faults of all checks is a property of each fault that fails (`first_among`, `fails_among`). If
---    all checks hold, no fault fails (`none_fails`). A table has at most one first fault (`one_fault`), and it is one
---    of the faults that fail (`any_fails`).
--- 4. A verdict is the first fault, or else a value (`verdict_ok`, `verdict_err`, `verdict_none`).
+-- 3. A property of the faults of all checks is a property of each fault whose check fails (`first_among`,
+--    `fails_among`). If all checks hold, no fault fails (`none_fails`). A table has at most one first fault
+--    (`one_fault`), and it is one of the faults that fail (`any_fails`).
+-- 4. A verdict is the first fault or, if all checks hold, a value (`verdict_ok`, `verdict_err`, `verdict_none`).
 use Rattle.std.proofs.Common.{◌≡◌, List, [], ◌∷◌, ◌++◌, refl, ap, subst, sym, ◌∙◌, inl, inr, Bool, true, false}
 use Rattle.std.specs.Prelude.{◌&&◌, Option, None, Some, Ok, Err, if◌then◌else◌}
 use Rattle.std.specs.List.{AllByRecursion}

@@ -3,7 +3,7 @@
 -- 2. Bytes and the number that they spell determine each other (`le_bytes-le`, `field_is`, `le-le_bytes`).
 -- 3. A field of a part is a field of the whole (`field-take`, `field-append_front`, `drop-append_behind`).
 -- 4. The bytes up to a place are the bytes up to an earlier place, and at least one more (`take_past`, `some_between`).
---    Two places are equal if neither is before the other (`same_place`).
+--    Two places are equal if neither of them is less (`same_place`).
 use Rattle.std.proofs.lemmas.Grind.{common_steps}
 use Rattle.std.proofs.Common.{◌≡◌, ◌≤◌, ◌<◌, ◌+◌, ◌-◌, ◌*◌, ◌/◌, ◌%◌, ◌^◌, ℕ, zero, suc, List, [], ◌∷◌, ◌++◌, length, take, drop, refl, sym}
 use Rattle.std.proofs.Common.{◌⊎◌, ap, ◌∙◌, subst, arith, inl, inr, length-drop}
@@ -150,7 +150,7 @@ same_place m n low high = go (cases_lt m n) (cases_lt n m) where
   go (inr _) (inl l) = absurd (high l)
   go (inr a) (inr b) = omega (arith, a, b)
 
--- the bytes up to the later place are the bytes up to the earlier one, and then those between
+-- the bytes up to the later place are the bytes up to the earlier place, and then the bytes between the two places
 pub take_past : (b : List ℕ) (m n : ℕ) → m < n → take n b ≡ take m b ++ take (n - m) (drop m b)
 take_past b m n l = ap (λ (k : ℕ). take k b) (split m n l) ∙ take-add m (n - m) b
   where

@@ -1,6 +1,7 @@
 -- Laws of lists:
--- 1. A property of every item is a property of one item and of some (`at_index`, `in_middle`, `after_middle`,
---    `all_filter`). An item is the first or one after it (`first_or_behind`, `one_behind`).
+-- 1. A property of every item is a property of the item at an index, of the item at a cut, of the items after it, and
+--    of the items that a filter keeps (`at_index`, `in_middle`, `after_middle`, `all_filter`). An item is the first or
+--    one after it (`first_or_behind`, `one_behind`).
 -- 2. If one list is cut at two items, both cuts are at the same item, or one is before the other (`two_cuts`).
 -- 3. The items from an index on, and up to an index (`item_at`, `more_items`, `seam_items`).
 -- 4. A filter by a note keeps the same items as a filter by a test (`kept_noted`). A list takes the place of another

@@ -1,8 +1,10 @@
--- A volume has at most one extended header, and its header check decides whether it has a right one. The steps:
+-- A volume has at most one extended header, and its header check decides whether it has an extended header that is
+-- right. The steps:
 -- 1. All bytes split into some entries and a tail (`some_entries`), and only in one way (`one_entries`).
 -- 2. Bytes with the right size are an extended header (`some_ext`), and only one (`one_ext`).
--- 3. A volume has at most one extended header (`one_has_ext`). The check holds exactly if the volume has a right one,
---    or ExtHeaderOffset is 0 (`some_has_ext`, `has_ext_holds`). Only the volume's own bytes decide this (`ext_same`).
+-- 3. A volume has at most one extended header (`one_has_ext`). The check holds exactly if the volume has an extended
+--    header that is right, or ExtHeaderOffset is 0 (`some_has_ext`, `has_ext_holds`). Only the volume's own bytes
+--    decide this (`ext_same`).
 -- 4. A reader takes the entries one by one (`more_entries`, `end_entries`), and the extended header that it has read is
 --    the volume's (`read_there`).
 use Rattle.std.proofs.lemmas.Grind.{common_steps}
@@ -106,7 +108,7 @@ entry_before b n e es tail size least within kind kept more =
     front : (n k : ℕ) → 4 ≤ n → k ≡ n - 4 → n ≡ 4 + k
     front n k least is = omega arith
 
--- bytes begin with no entry, or with one
+-- bytes begin with an entry, or do not begin with an entry
 data Starts (b : List ℕ) : Type 0 where
   none : BeginNoEntry b → Starts b
   one : 4 ≤ length b → 4 ≤ le_at 0 2 b → le_at 0 2 b ≤ length b → Starts b

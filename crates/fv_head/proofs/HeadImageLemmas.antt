@@ -311,7 +311,8 @@ canonical_only h b canonical =
 pub length-canonical : (h : HeadFields) → IsReadHead h → length (canonical_head h) ≡ header_len_of h
 length-canonical h read = sym (header_len_is h (canonical_head h) (canonical_is h read).head)
 
--- if ExtHeaderOffset is the canonical one, the extended header in the pad file after the canonical head is the volume's
+-- if ExtHeaderOffset is the offset in the canonical image, the volume's extended header is the one in the pad file
+-- after the canonical head
 canonical_ext : (h : HeadFields) (rest : List ℕ) (x : Option Extension) → IsReadHead h → h.ext ≡ x → IfRead x → CanonicalRest x rest
     → canonical_end h x ≤ h.length
     → le_at 52 2 (canonical_head h ++ rest) ≡ canonical_offset h x → HasExt x (extent_of h (first_edge h x)) (canonical_head h ++ rest)

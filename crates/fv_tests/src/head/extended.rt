@@ -165,7 +165,7 @@ fn has_length(head: &VolumeHead, length: u32) -> bool {
     }
 }
 
-// Returns whether a header and its extent are those of a row, in a volume of this length.
+// Returns whether a header and its extent have the values of a row, in a volume of this length.
 fn is_head_of(head: &VolumeHead, found: Extent, volume_len: u64, row: &ReadRow) -> bool {
     let (_, first, entries, tail, length) = *row;
     let extent = Extent {

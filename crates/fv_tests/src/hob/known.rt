@@ -251,7 +251,8 @@ fn count_found(hobs: &[Hob], blocks: &[Block]) -> usize {
     at
 }
 
-// Returns whether the blocks and the length that were read are those of a known list.
+// Returns whether the blocks and the length that were read are the blocks and the length of a known
+// list.
 pub(super) fn is_found(hobs: &[Hob], length: u64, known: &Known) -> bool {
     length == known.length
         && hobs.len() == known.blocks.len()

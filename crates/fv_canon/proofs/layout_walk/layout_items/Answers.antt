@@ -22,7 +22,7 @@ returns-clause-ok c =
           (parts_fit c.args.view.now c.known.ensures),
     )
 
--- the items of the first files and one more file
+-- the items of the first files and of one more file are the items of the first files, and the item of this file
 item_more : (fs : List FileMeaning) (i : ℕ) (m : FileMeaning) (items more : List LayoutItem) (item : LayoutItem) → i < length fs
     → m ≡ get_or fs i m → items ≡ map layout_item (take i fs) → item ≡ layout_item m → more ≡ items ++ item ∷ []
     → more ≡ map layout_item (take (i + 1) fs)
