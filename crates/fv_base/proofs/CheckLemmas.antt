@@ -4,8 +4,8 @@
 -- 2. The first fault is the fault of the first check that does not hold (`first_is`). If two tables are joined, it is
 --    the first fault of the first table or, if that table has none, of the second (`first_front`, `first_whole`).
 -- 3. A property of the faults of all checks is a property of each fault whose check fails (`first_among`,
---    `fails_among`). If all checks hold, no fault fails (`none_fails`). A table has at most one first fault
---    (`one_fault`), and it is one of the faults that fail (`any_fails`).
+--    `fails_among`). If all checks hold, no fault is the fault of a check that fails (`none_fails`). A table has at
+--    most one first fault (`one_fault`), and it is a fault whose check fails (`any_fails`).
 -- 4. A verdict is the first fault or, if all checks hold, a value (`verdict_ok`, `verdict_err`, `verdict_none`).
 use Rattle.std.proofs.Common.{◌≡◌, List, [], ◌∷◌, ◌++◌, refl, ap, subst, sym, ◌∙◌, inl, inr, Bool, true, false}
 use Rattle.std.specs.Prelude.{◌&&◌, Option, None, Some, Ok, Err, if◌then◌else◌}
@@ -87,7 +87,7 @@ holds_in : {F : Type 0} → (cs before : List (Check F)) (c : Check F) (after : 
 holds_in {F} cs before c after is all =
     in_middle (λ (d : Check F). d.holds ≡ true) before c after (subst (λ (l : List (Check F)). AllHold l) is all)
 
--- if all checks of a table hold, no fault of it fails
+-- if all checks of a table hold, no fault is the fault of a check that fails
 not_failing : {F : Type 0} → (H : List (Check F) → Type 0) (cs : List (Check F)) (f : F) → FailsAfter H cs f → AllHold cs → ⊥
 not_failing H cs f (before, c, after, is, held, bad, fault) all = up_is_not_down c.holds (holds_in cs before c after is all) bad
 
@@ -109,7 +109,7 @@ one_fault {F} cs f g (before, c, after, is, held, fails, fault) (before', d, aft
     go (inr (inl (mid, late, rest))) = absurd (up_is_not_down c.holds (holds_in before' before c mid late held') fails)
     go (inr (inr (mid, late, rest))) = absurd (up_is_not_down d.holds (holds_in before before' d mid late held) fails')
 
--- if all checks hold, their guards hold too, so the first fault is one of the faults that fail
+-- if all checks hold, their guards hold too, so the first fault is also a fault in the sense of `Any`
 guards : (cs : List (Check Fault)) → AllHold cs → GuardsHold cs
 guards [] all = tt
 guards (c ∷ cs) all = (λ guard. all.0, guards cs all.1)

@@ -115,7 +115,7 @@ pub more_read : (items new : List Cell) (cell : Cell) (c : CellForm) → cell_fo
 more_read items new cell c is n =
     sym (ap (λ (x : List Cell). map cell_form x) n ∙ map_push cell_form items cell ∙ ap (λ (d : CellForm). map cell_form items ++ d ∷ []) is)
 
--- if the test at a place says so, all bytes from there on are erased
+-- if the test at a place succeeds, all bytes from there on are erased
 pub rest_free : (e : ℕ) (rest body : List ℕ) (at : ℕ) → rest ≡ drop at body → all_are e rest ≡ true → AllAre e (drop at body)
 rest_free e rest body at behind is = all_are-true e (drop at body) (ap (all_are e) (sym behind) ∙ is)
 

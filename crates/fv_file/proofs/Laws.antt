@@ -6,7 +6,7 @@
 pub use Rattle.fv_file.proofs.BodyLemmas.{only_one, none_after, all_within}
 -- The first fault of a body lies within it, or at its end.
 pub use Rattle.fv_file.proofs.CellFaultLemmas.{body_within}
--- A body has one first fault, which is also one of the faults that fail.
+-- A body has one first fault, which is also a fault in the sense of `Any`.
 pub use Rattle.fv_file.proofs.OneFaultLemmas.{cell_fails, one_cell_fault}
 -- A cell has the length that follows from its fields. The header and the data of a file make up its size.
 pub use Rattle.fv_file.proofs.CellPartLemmas.{cell_span, made_up}

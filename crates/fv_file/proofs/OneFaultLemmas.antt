@@ -1,5 +1,5 @@
 -- A body has one first fault of its cells, because no fault of a cell is before the end of cells that tile
--- (`cell_later`). The first fault is also one of the faults that fail (`cell_fails`).
+-- (`cell_later`). The first fault is also a fault in the sense of `Any` (`cell_fails`).
 use Rattle.std.proofs.lemmas.Grind.{common_steps}
 use Rattle.std.proofs.Common.{◌≡◌, ◌<◌, ℕ, ◌+◌, ◌-◌, List, [], ◌∷◌, ◌++◌, length, take, drop, sym, ap, ◌∙◌, subst, arith, append_assoc}
 use Rattle.std.proofs.lemmas.List.{take-append-drop, length-take-le}

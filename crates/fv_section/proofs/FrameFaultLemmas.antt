@@ -1,5 +1,5 @@
 -- A stream has at most one first fault, which is within its bytes or at their end. The steps:
--- 1. The first fault is within the bytes, or at their end (`frame_within`), and is one of the faults that fail
+-- 1. The first fault is within the bytes, or at their end (`frame_within`), and is a fault in the sense of `Any`
 --    (`frame_fails`).
 -- 2. No fault is before the end of frames that join (`frame_later`), so a stream has one first fault
 --    (`one_frame_fault`).

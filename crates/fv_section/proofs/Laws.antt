@@ -15,7 +15,7 @@ pub use Rattle.fv_section.proofs.SectionImageLemmas.{head_is}
 pub use Rattle.fv_section.proofs.StreamLemmas.{from_least, one_split, one_more}
 -- If a check fails, the stream does not split. Each frame ends within the stream.
 pub use Rattle.fv_section.proofs.FrameWalkLemmas.{none_after, whole_within, stands_within}
--- A stream has one first fault, which is within its bytes or at their end, and is one of the faults that fail.
+-- A stream has one first fault, which is within its bytes or at their end, and is a fault in the sense of `Any`.
 pub use Rattle.fv_section.proofs.FrameFaultLemmas.{frame_within, frame_fails, one_frame_fault}
 -- The tail of a stream has at most 3 bytes.
 pub use Rattle.fv_section.proofs.StreamLemmas.{tail_small}

@@ -66,7 +66,7 @@ file_there test fs = go (cases_lt (position_or_len test fs) (length fs)) where
 
 -- ---- twins and updates
 
--- two tests that agree on each file find the same
+-- if two tests agree on each file, both are true of one of the files, or neither is
 same_any : (p : FileForm → Bool) (q : NamedFile → Bool) → ((s : LocatedFile) → p (file_form s) ≡ q (named_file s))
     → (ss : List LocatedFile) → list_any p (map file_form ss) ≡ list_any q (map named_file ss)
 same_any p q same [] = refl
