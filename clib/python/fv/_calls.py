@@ -6,13 +6,27 @@ import operator
 import struct
 import uuid
 from collections.abc import Callable, Iterable, Sequence
-from functools import partial
 from typing import Any, SupportsIndex, TypeVar
 
 from . import _native as native
 from ._errors import FAULT_SIZE, error_of
 from ._library import Buffer, Held, lib, new_bytes, result_text
-from ._types import Cell, Cells, Checks, Digests, Header, Headers, Hob, HobList, Hobs, Node, Nodes, Phase, Rows, VolumeCheck
+from ._types import (
+    Cell,
+    Cells,
+    Checks,
+    Digests,
+    Header,
+    Headers,
+    Hob,
+    HobList,
+    Hobs,
+    Node,
+    Nodes,
+    Phase,
+    Rows,
+    VolumeCheck,
+)
 
 # Results are written to bytes objects, which no one else sees before. So a call makes no object of ctypes.
 
@@ -130,9 +144,9 @@ def volume_digest(volume: Buffer, *, copy: bool = True) -> bytes:
     return digest
 
 
-def _over_second(address: Any, size: int, second: Buffer, copy: bool, *rest: Any) -> int:
-    """Returns the result of a comparison of some data with a second volume."""
-    result: int = _over(second, copy, partial(lib.fv_volume_compare, address, size), *rest)
+def _compare(address: Any, size: int, first: Buffer, copy: bool, *rest: Any) -> int:
+    """Returns the result of a comparison of a first volume with some data."""
+    result: int = _over(first, copy, lib.fv_volume_compare, address, size, *rest)
     return result
 
 
@@ -142,7 +156,7 @@ def volume_compare(first: Buffer, second: Buffer, *, copy: bool = True) -> str |
     the first one is accepted."""
     found, fault, room = bytes(_COMPARISON.size), bytes(FAULT_SIZE), native.DIFFERENCE_SIZE
     text = bytes(room)
-    if result := _over(first, copy, _over_second, second, copy, text, room, found, fault):
+    if result := _over(second, copy, _compare, first, copy, text, room, found, fault):
         raise error_of(result, fault)
     text_length, same = _COMPARISON.unpack(found)
     return None if same else text[:text_length].decode()

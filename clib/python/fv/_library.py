@@ -101,9 +101,9 @@ def unchanging(data: Buffer) -> Any:
 
 
 class Held:
-    """Some data while a call reads them: `with Held(data, copy) as (address, size)`. They are read in place, unless
-    `copy` is true and the data may change (`unchanging`). Raises TypeError if the data are not a buffer, and BufferError
-    if they have gaps but may not be copied."""
+    """Some data while a call reads them: `with Held(data, copy) as (address, size)`. If `copy` is true, what is read are
+    the data that `unchanging` returns, otherwise always the data in place. Raises TypeError if the data are not a
+    buffer, and BufferError if they have gaps but may not be copied."""
 
     __slots__ = ("_data", "_view")
 

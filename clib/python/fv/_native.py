@@ -264,7 +264,7 @@ for _class, _format, _length, _offsets in _LAYOUTS:
     assert c.sizeof(_class) == struct.calcsize(_format) == _length, _class
     assert all(getattr(_class, name).offset == at for name, at in _offsets.items()), _class
 
-_pointer, _size, _u32, _text = c.c_void_p, c.c_size_t, c.c_uint32, c.c_char_p
+_pointer, _size, _u32, _text = c.c_void_p, c.c_void_p, c.c_uint32, c.c_char_p
 # The type of the result and the types of the parameters of each call. A pointer is an address or bytes. The last
 # pointers are left out: they are bytes, for which ctypes needs no type, and then takes less time.
 CALLS: dict[str, tuple[Any, list[Any]]] = {
