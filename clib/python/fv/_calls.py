@@ -10,7 +10,7 @@ from typing import Any, SupportsIndex, TypeVar
 
 from . import _native as native
 from ._errors import FAULT_SIZE, error_of
-from ._library import Buffer, Held, lib, new_bytes, result_text
+from ._library import Buffer, Held, lib, new_bytes, result_text, unchanging
 from ._types import (
     Cell,
     Cells,
@@ -33,7 +33,7 @@ from ._types import (
 # The first buffer for rows has room for a row for each 8 bytes of the input (a section with a body takes as many), but
 # for at most 65,536 rows. Memory that a call does not write to costs little.
 BYTES_OF_ROW, MOST_ROOM = 8, 65_536
-# To copy a view of at most this many bytes takes less time than to get its address.
+# A view of fewer bytes is copied, because this takes less time than to get its address.
 LEAST_HELD = 4096
 # Two kinds of results that are numbers, and the second one if it is 1.
 _SIZE, _U32, _TRUE = struct.Struct("=Q"), struct.Struct("=I"), struct.pack("=I", 1)
@@ -51,8 +51,8 @@ Result = TypeVar("Result")
 
 def _over(data: Buffer, copy: bool, run: Callable[..., Result], *rest: Any) -> Result:
     """Returns the result of a function over some data: it takes their address and size, and then the rest."""
-    if type(data) is memoryview and copy and data.nbytes <= LEAST_HELD:
-        data = data.tobytes()
+    if copy and type(data) is not bytes:
+        data = unchanging(data, LEAST_HELD)
     if type(data) is bytes:
         return run(data, len(data), *rest)
     with Held(data, copy) as (address, size):

@@ -89,15 +89,16 @@ _VIEW = struct.Struct("@P8xn56x")
 _PLAIN = 0
 
 
-def unchanging(data: Buffer) -> Any:
+def unchanging(data: Buffer, least: int = 0) -> Any:
     """Returns what a call reads in place of some data that may change while it runs. A bytes object is read in place,
-    and so is a view of one, because nothing can write to it. Any other buffer is copied. Raises TypeError if the data
-    are not a buffer."""
+    and so is a view of one that has at least this many bytes, because nothing can write to it. Any other buffer is
+    copied. Raises TypeError if the data are not a buffer."""
     # A class that is derived from bytes may have another length than its bytes, so it is not read as bytes.
     if type(data) is bytes:
         return data
     view = data if type(data) is memoryview else memoryview(data)
-    return data if type(view.obj) is bytes and view.c_contiguous else view.tobytes()
+    is_kept = type(view.obj) is bytes and view.c_contiguous and view.nbytes >= least
+    return data if is_kept else view.tobytes()
 
 
 class Held:
