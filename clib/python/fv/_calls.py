@@ -28,17 +28,15 @@ from ._types import (
     VolumeCheck,
 )
 
-# Results are written to bytes objects, which no one else sees before. So a call makes no object of ctypes.
-
 # The first buffer for rows has room for a row for each 8 bytes of the input (a section with a body takes as many), but
 # for at most 65,536 rows. Memory that a call does not write to costs little.
 BYTES_OF_ROW, MOST_ROOM = 8, 65_536
 # A view of fewer bytes is copied, because this takes less time than to get its address.
 LEAST_HELD = 4096
-# Two kinds of results that are numbers, and the second one if it is 1.
-_SIZE, _U32, _TRUE = struct.Struct("=Q"), struct.Struct("=I"), struct.pack("=I", 1)
-_COMPARISON = struct.Struct(native.COMPARISON_FORMAT)
-
+# A call writes its results to bytes objects that no one else has seen. To make them takes less time than to make objects
+# of ctypes. These are the results that are not rows: a number of 64 bits, one of 32 bits, and a comparison.
+_SIZE, _U32, _COMPARISON = struct.Struct("=Q"), struct.Struct("=I"), struct.Struct(native.COMPARISON_FORMAT)
+_TRUE = _U32.pack(1)
 _TRUTHS = {
     _U32.pack(native.DEPEX_FALSE): False,
     _U32.pack(native.DEPEX_TRUE): True,

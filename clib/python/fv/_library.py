@@ -67,13 +67,13 @@ lib: Any = _Library()
 # Makes a bytes object with undefined contents, so that an image is neither zeroed first nor copied afterwards.
 _bytes_of = c.pythonapi["PyBytes_FromStringAndSize"]
 _bytes_of.restype, _bytes_of.argtypes = c.py_object, [c.c_void_p, c.c_ssize_t]
-# bytes(size) takes less time than _bytes_of up to about this size, although it writes zeros.
+# Up to about this size, bytes(size) takes less time than _bytes_of, although it writes zeros.
 _SMALL = 16_384
 
 
 def new_bytes(size: int) -> bytes:
     """Returns bytes that a call writes before anyone else sees them. Until then their contents are undefined."""
-    if size <= _SMALL:
+    if 1 < size <= _SMALL:  # shorter bytes may be shared
         return bytes(size)
     made: bytes = _bytes_of(None, size)
     return made

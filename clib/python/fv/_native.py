@@ -265,8 +265,9 @@ for _class, _format, _length, _offsets in _LAYOUTS:
     assert all(getattr(_class, name).offset == at for name, at in _offsets.items()), _class
 
 _pointer, _size, _u32, _text = c.c_void_p, c.c_void_p, c.c_uint32, c.c_char_p
-# The type of the result and the types of the parameters of each call. A pointer is an address or bytes. The last
-# pointers are left out: they are bytes, for which ctypes needs no type, and then takes less time.
+# The type of the result and the types of the parameters of each call. A pointer is an address or bytes. Two things
+# save time: c_void_p takes a number of 64 bits sooner than c_size_t does, and the last pointers have no type,
+# because they are always bytes.
 CALLS: dict[str, tuple[Any, list[Any]]] = {
     "fv_version_number": (_u32, []),
     "fv_version": (_text, []),
