@@ -150,8 +150,12 @@ CONTENTS = {it.value: it for it in Content}
 _NO_GUID, _NO_DIGEST = bytes(16), bytes(32)
 
 
+# The fields of a GUID as stored, and in the order of its number. By its number, a UUID is made sooner than by `bytes_le`.
+_STORED, _ORDERED = struct.Struct("<IHH8s"), struct.Struct(">IHH8s")
+
+
 def _guid(name: bytes) -> uuid.UUID:
-    return uuid.UUID(bytes_le=name)
+    return uuid.UUID(int=int.from_bytes(_ORDERED.pack(*_STORED.unpack(name)), "big"))
 
 
 def _guid_or_none(name: bytes) -> uuid.UUID | None:
