@@ -23,63 +23,64 @@ fv_result fvp_volume_extract(const void *, size_t, size_t, void *, size_t, size_
 fv_result fvp_depex_evaluate(const void *, size_t, uint32_t, const fv_guid *, size_t, uint32_t *, fv_fault *);
 fv_result fvp_hobs_read(const void *, size_t, fv_hob *, size_t, size_t *, size_t *, fv_fault *);
 
+/* The checks are inlined into each call, so most of their numbers are known there. */
+#define INLINE static inline __attribute__((always_inline))
+
 /* An argument: its address, the number of its elements, their size and alignment, and whether the call writes to it. */
 struct span {
-    const void *at;
+    uintptr_t at;
     size_t count, size, align;
     bool is_result;
 };
 
-#define BYTES(pointer, count) {(pointer), (count), 1, 1, false}
-#define BUFFER(pointer, count) {(pointer), (count), 1, 1, true}
-#define ROWS(pointer, count) {(pointer), (count), sizeof *(pointer), _Alignof(__typeof__(*(pointer))), true}
+#define SPAN(pointer, ...) ((struct span){(uintptr_t)(pointer), __VA_ARGS__})
+#define BYTES(pointer, count) SPAN(pointer, (count), 1, 1, false)
+#define BUFFER(pointer, count) SPAN(pointer, (count), 1, 1, true)
+#define ROWS(pointer, count) SPAN(pointer, (count), sizeof *(pointer), _Alignof(__typeof__(*(pointer))), true)
 #define RESULT(pointer) ROWS(pointer, 1)
+#define NONE BYTES(NULL, 0)
 
-/* Whether this argument on its own is not allowed. */
-static bool is_bad(const struct span *span)
+/* Whether this argument on its own is not allowed. The last comparison finds NULL too, because 0 - 1 is the largest
+ * address. */
+INLINE bool is_bad(struct span it)
 {
-    uintptr_t at = (uintptr_t)span->at;
-    if (at % span->align) return true;
-    if (!span->count) return false;
-    return !at || span->count > SIZE_MAX / 2 / span->size || span->count * span->size > UINTPTR_MAX - at;
+    if (it.at % it.align) return true;
+    if (!it.count) return false;
+    return it.count > SIZE_MAX / 2 / it.size || it.at - 1 >= UINTPTR_MAX - it.count * it.size;
 }
 
-/* Whether these two arguments, each of which is allowed, have a byte in common. */
-static bool overlap(const struct span *a, const struct span *b)
+/* Whether these two arguments, each of which is allowed, have a byte in common, and the call writes to one of them. */
+INLINE bool collide(struct span a, struct span b)
 {
-    uintptr_t x = (uintptr_t)a->at, y = (uintptr_t)b->at;
-    if (!a->count || !b->count) return false;
-    return x <= y ? y - x < a->count * a->size : x - y < b->count * b->size;
+    if (!(a.is_result || b.is_result) || !a.count || !b.count) return false;
+    return a.at < b.at + b.count * b.size && b.at < a.at + a.count * a.size;
 }
 
 /* Whether one of the arguments is not allowed, or overlaps one to which the call writes. */
-static bool are_bad(const struct span *spans, size_t count)
+INLINE bool are_bad(struct span a, struct span b, struct span c, struct span d, struct span e)
 {
-    for (size_t i = 0; i < count; i++) {
-        if (is_bad(&spans[i])) return true;
-        for (size_t j = 0; j < i; j++)
-            if ((spans[i].is_result || spans[j].is_result) && overlap(&spans[i], &spans[j])) return true;
-    }
-    return false;
+    if (is_bad(a) || is_bad(b) || is_bad(c) || is_bad(d) || is_bad(e)) return true;
+    return collide(a, b) || collide(a, c) || collide(a, d) || collide(a, e) || collide(b, c) || collide(b, d) ||
+           collide(b, e) || collide(c, d) || collide(c, e) || collide(d, e);
 }
 
-/* Returns FV_BAD_ARGUMENT from the call if one of these arguments is bad, or `fault`. A fault that the caller does not
- * ask for is written to a variable of the call. */
-#define CHECK(...)                                                                             \
+/* Returns FV_BAD_ARGUMENT from the call if one of these two to four arguments is bad, or `fault`. A fault that the
+ * caller does not ask for is written to a variable of the call. */
+#define CHECK(...) CHECK_FOUR(__VA_ARGS__, NONE, NONE, NONE)
+#define CHECK_FOUR(a, b, c, d, ...)                                                            \
     fv_fault unwanted;                                                                         \
     if (!fault) fault = &unwanted;                                                             \
-    const struct span spans[] = {RESULT(fault), __VA_ARGS__};                                  \
-    if (are_bad(spans, sizeof spans / sizeof *spans)) return FV_BAD_ARGUMENT
+    if (__builtin_expect(are_bad(RESULT(fault), a, b, c, d), 0)) return FV_BAD_ARGUMENT
 
 /* What an empty argument leads to if it is NULL: aligned for each type of fv.h, and neither read nor written. */
 static _Alignas(16) uint8_t nothing[16];
 
-static const void *input(const void *pointer)
+INLINE const void *input(const void *pointer)
 {
     return pointer ? pointer : nothing;
 }
 
-static void *buffer_of(void *pointer)
+INLINE void *buffer_of(void *pointer)
 {
     return pointer ? pointer : nothing;
 }
@@ -171,7 +172,7 @@ fv_result fv_depex_evaluate(const void *expression, size_t size, uint32_t phase,
                             size_t installed_count, uint32_t *value, fv_fault *fault)
 {
     if (phase > FV_PHASE_DXE) return FV_BAD_ARGUMENT;
-    CHECK(BYTES(expression, size), {installed, installed_count, sizeof *installed, 1, false}, RESULT(value));
+    CHECK(BYTES(expression, size), SPAN(installed, installed_count, sizeof *installed, 1, false), RESULT(value));
     return fvp_depex_evaluate(input(expression), size, phase, input(installed), installed_count, value, fault);
 }
 

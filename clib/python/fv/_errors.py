@@ -3,6 +3,7 @@
 from __future__ import annotations
 
 import enum
+import struct
 from dataclasses import dataclass
 
 from . import _native as native
@@ -92,22 +93,24 @@ class FaultError(Error, ValueError):
         return f"{self.fault}: {self.fault.text}"
 
 
+# The codes by their numbers: this is quicker than a call of the type.
+_CODES = {it.value: it for it in FaultCode}
+_FAULT = struct.Struct(native.FAULT_FORMAT)
+FAULT_SIZE = _FAULT.size
+
+
 def fault_of(offset: int, result: int, depth: int, side: int) -> Fault:
     """Returns a fault by the fields of the structure that a call writes."""
-    try:
-        return Fault(FaultCode(result), offset, depth, side)
-    except ValueError:
-        return Fault(result, offset, depth, side)
+    return Fault(_CODES.get(result, result), offset, depth, side)
 
 
-def check(result: int, fault: native.Fault) -> None:
-    """Raises an exception unless the result of a call is 0. The fault is the structure that the call has written."""
-    if result == native.OK:
-        return
+def error_of(result: int, fault: bytes) -> Exception:
+    """Returns the exception for a result of a call that is not 0. The fault is the structure that the call has
+    written."""
     if result == native.OUT_OF_MEMORY:
-        raise MemoryError(result_text(result))
+        return MemoryError(result_text(result))
     if result == native.NOT_FOUND:
-        raise IndexError(result_text(result))
+        return IndexError(result_text(result))
     if result in (native.BUFFER_TOO_SMALL, native.BAD_ARGUMENT):
-        raise Error(result_text(result))
-    raise FaultError(fault_of(fault.offset, fault.result, fault.depth, fault.input))
+        return Error(result_text(result))
+    return FaultError(fault_of(*_FAULT.unpack(fault)))

@@ -6,8 +6,10 @@ from __future__ import annotations
 import ctypes as c
 import operator
 import os
+import struct
 import sys
 from array import array
+from functools import partial
 from mmap import mmap
 from pathlib import Path
 from types import TracebackType
@@ -28,15 +30,18 @@ NAME = f"libfv.so.{native.VERSION_MAJOR}"
 
 
 class _Library:
-    """The library. It is loaded when a call is first looked up, so the help of a command needs no library. Then a call
-    is an attribute."""
+    """The library: each call of fv.h is an attribute. The first call of any of them loads the library, so the help of a
+    command needs no library."""
 
-    def __getattr__(self, name: str) -> Any:
-        if name not in native.CALLS:
-            raise AttributeError(name)
+    def __init__(self) -> None:
+        for name in native.CALLS:
+            setattr(self, name, partial(self._first, name))
+
+    def _first(self, name: str, *arguments: Any) -> Any:
+        """Loads the library, and makes a call."""
         loaded = _load()
         self.__dict__.update({it: getattr(loaded, it) for it in native.CALLS})
-        return self.__dict__[name]
+        return getattr(self, name)(*arguments)
 
 
 def _load() -> c.CDLL:
@@ -62,67 +67,63 @@ lib: Any = _Library()
 # Makes a bytes object with undefined contents, so that an image is neither zeroed first nor copied afterwards.
 _bytes_of = c.pythonapi["PyBytes_FromStringAndSize"]
 _bytes_of.restype, _bytes_of.argtypes = c.py_object, [c.c_void_p, c.c_ssize_t]
+# Up to about this size, bytes(size) takes less time than _bytes_of, although it writes zeros.
+_SMALL = 16_384
 
 
 def new_bytes(size: int) -> bytes:
     """Returns bytes that a call writes before anyone else sees them. Until then their contents are undefined."""
+    if 1 < size <= _SMALL:  # shorter bytes may be shared
+        return bytes(size)
     made: bytes = _bytes_of(None, size)
     return made
 
 
-class _View(c.Structure):
-    """The structure Py_buffer."""
-
-    _fields_ = [
-        ("buf", c.c_void_p),
-        ("obj", c.c_void_p),
-        ("len", c.c_ssize_t),
-        ("itemsize", c.c_ssize_t),
-        ("readonly", c.c_int),
-        ("ndim", c.c_int),
-        ("format", c.c_void_p),
-        ("shape", c.c_void_p),
-        ("strides", c.c_void_p),
-        ("suboffsets", c.c_void_p),
-        ("internal", c.c_void_p),
-    ]
-
-
 _get_view = c.pythonapi["PyObject_GetBuffer"]
-_get_view.restype, _get_view.argtypes = c.c_int, [c.py_object, c.c_void_p, c.c_int]
+_get_view.restype, _get_view.argtypes = c.c_int, [c.py_object]
 _release_view = c.pythonapi["PyBuffer_Release"]
-_release_view.restype, _release_view.argtypes = None, [c.c_void_p]
+_release_view.restype, _release_view.argtypes = None, []
+# The structure Py_buffer: an address, an object, a number of bytes, and 56 bytes of other fields.
+_VIEW = struct.Struct("@P8xn56x")
 # Bytes that need not be writable, and follow each other without gaps (PyBUF_SIMPLE).
 _PLAIN = 0
 
 
+def unchanging(data: Buffer, least: int = 0) -> Any:
+    """Returns what a call reads in place of some data that may change while it runs. A bytes object is read in place,
+    and so is a view of one that has at least this many bytes, because nothing can write to it. Any other buffer is
+    copied. Raises TypeError if the data are not a buffer."""
+    # A class that is derived from bytes may have another length than its bytes, so it is not read as bytes.
+    if type(data) is bytes:
+        return data
+    view = data if type(data) is memoryview else memoryview(data)
+    is_kept = type(view.obj) is bytes and view.c_contiguous and view.nbytes >= least
+    return data if is_kept else view.tobytes()
+
+
 class Held:
-    """Some data while a call reads them: `with Held(data, copy) as (address, size)`. A bytes object is read in place,
-    and so is a view of one, because nothing can write to it. Any other buffer is copied, unless `copy` is false. Raises
-    TypeError if the data are not a buffer, and BufferError if they have gaps but may not be copied."""
+    """Some data while a call reads them: `with Held(data, copy) as (address, size)`. If `copy` is true, what is read are
+    the data that `unchanging` returns, otherwise always the data in place. Raises TypeError if the data are not a
+    buffer, and BufferError if they have gaps but may not be copied."""
 
     __slots__ = ("_data", "_view")
 
     def __init__(self, data: Buffer, copy: bool) -> None:
-        # A class that is derived from bytes may have another length than its bytes, so it is not read as bytes.
-        if type(data) is not bytes and copy:
-            view = data if type(data) is memoryview else memoryview(data)
-            if type(view.obj) is not bytes or not view.c_contiguous:
-                data = view.tobytes()
-        self._data = data
-        self._view: _View | None = None
+        self._data = unchanging(data) if copy else data
+        self._view = b""
 
     def __enter__(self) -> tuple[Any, int]:
         if type(self._data) is bytes:
             return self._data, len(self._data)
-        view = _View()
-        _get_view(self._data, c.byref(view), _PLAIN)
+        view = bytes(_VIEW.size)  # written by the next call
+        _get_view(self._data, view, _PLAIN)
         self._view = view
-        return view.buf, view.len
+        address, size = _VIEW.unpack(view)
+        return address, size
 
     def __exit__(self, kind: type[BaseException] | None, error: BaseException | None, at: TracebackType | None) -> None:
-        if self._view is not None:
-            _release_view(c.byref(self._view))
+        if self._view:
+            _release_view(self._view)
 
 
 def of_32_bits(number: SupportsIndex) -> int:

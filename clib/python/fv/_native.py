@@ -264,27 +264,29 @@ for _class, _format, _length, _offsets in _LAYOUTS:
     assert c.sizeof(_class) == struct.calcsize(_format) == _length, _class
     assert all(getattr(_class, name).offset == at for name, at in _offsets.items()), _class
 
-_pointer, _size, _u32, _text = c.c_void_p, c.c_size_t, c.c_uint32, c.c_char_p
-# The type of the result and the types of the parameters of each call. A pointer is an address or bytes.
+_pointer, _size, _u32, _text = c.c_void_p, c.c_void_p, c.c_uint32, c.c_char_p
+# The type of the result and the types of the parameters of each call. A pointer is an address or bytes. Two things
+# save time: c_void_p takes a number of 64 bits sooner than c_size_t does, and the last pointers have no type,
+# because they are always bytes.
 CALLS: dict[str, tuple[Any, list[Any]]] = {
     "fv_version_number": (_u32, []),
     "fv_version": (_text, []),
     "fv_result_text": (_text, [_u32]),
-    "fv_header_read": (_u32, [_pointer, _size, _pointer, _pointer]),
-    "fv_image_scan": (_u32, [_pointer, _size, _pointer, _size, _pointer, _pointer]),
-    "fv_image_check": (_u32, [_pointer, _size, _pointer, _size, _pointer, _pointer]),
-    "fv_image_normalise": (_u32, [_pointer, _size, _pointer, _size, _pointer]),
-    "fv_volume_is_canonical": (_u32, [_pointer, _size, _pointer, _pointer]),
-    "fv_volume_normalise": (_u32, [_pointer, _size, _pointer, _size, _pointer]),
-    "fv_volume_unfix": (_u32, [_pointer, _size, _pointer, _size, _pointer]),
-    "fv_volume_digest": (_u32, [_pointer, _size, _pointer, _pointer]),
-    "fv_volume_compare": (_u32, [_pointer, _size, _pointer, _size, _pointer, _size, _pointer, _pointer]),
-    "fv_volume_cells": (_u32, [_pointer, _size, _pointer, _size, _pointer, _pointer]),
-    "fv_volume_tree": (_u32, [_pointer, _size, _pointer, _size, _pointer, _pointer]),
-    "fv_volume_tree_digests": (_u32, [_pointer, _size, _pointer, _size, _pointer, _pointer]),
-    "fv_volume_extract": (_u32, [_pointer, _size, _size, _pointer, _size, _pointer, _pointer]),
-    "fv_depex_evaluate": (_u32, [_pointer, _size, _u32, _pointer, _size, _pointer, _pointer]),
-    "fv_hobs_read": (_u32, [_pointer, _size, _pointer, _size, _pointer, _pointer, _pointer]),
+    "fv_header_read": (_u32, [_pointer, _size]),
+    "fv_image_scan": (_u32, [_pointer, _size, _pointer, _size]),
+    "fv_image_check": (_u32, [_pointer, _size, _pointer, _size]),
+    "fv_image_normalise": (_u32, [_pointer, _size, _pointer, _size]),
+    "fv_volume_is_canonical": (_u32, [_pointer, _size]),
+    "fv_volume_normalise": (_u32, [_pointer, _size, _pointer, _size]),
+    "fv_volume_unfix": (_u32, [_pointer, _size, _pointer, _size]),
+    "fv_volume_digest": (_u32, [_pointer, _size]),
+    "fv_volume_compare": (_u32, [_pointer, _size, _pointer, _size, _pointer, _size]),
+    "fv_volume_cells": (_u32, [_pointer, _size, _pointer, _size]),
+    "fv_volume_tree": (_u32, [_pointer, _size, _pointer, _size]),
+    "fv_volume_tree_digests": (_u32, [_pointer, _size, _pointer, _size]),
+    "fv_volume_extract": (_u32, [_pointer, _size, _size, _pointer, _size]),
+    "fv_depex_evaluate": (_u32, [_pointer, _size, _u32, _pointer, _size]),
+    "fv_hobs_read": (_u32, [_pointer, _size, _pointer, _size]),
 }
 
 

@@ -6,7 +6,8 @@ import enum
 import struct
 import uuid
 from collections.abc import Callable, Iterator, Sequence
-from dataclasses import dataclass
+from dataclasses import dataclass, fields
+from itertools import starmap
 from typing import Any, ClassVar, TypeVar, overload
 
 from . import _native as native
@@ -145,14 +146,20 @@ class HobList:
 CELL_KINDS = {it.value: it for it in CellKind}
 NODE_KINDS = {it.value: it for it in NodeKind}
 CONTENTS = {it.value: it for it in Content}
+# What a row has in place of a GUID or a digest that a part does not have.
+_NO_GUID, _NO_DIGEST = bytes(16), bytes(32)
+
+
+# The fields of a GUID as stored, and in the order of its number. By its number, a UUID is made sooner than by `bytes_le`.
+_STORED, _ORDERED = struct.Struct("<IHH8s"), struct.Struct(">IHH8s")
 
 
 def _guid(name: bytes) -> uuid.UUID:
-    return uuid.UUID(bytes_le=name)
+    return uuid.UUID(int=int.from_bytes(_ORDERED.pack(*_STORED.unpack(name)), "big"))
 
 
 def _guid_or_none(name: bytes) -> uuid.UUID | None:
-    return uuid.UUID(bytes_le=name) if any(name) else None
+    return None if name == _NO_GUID else _guid(name)
 
 
 class Rows(Sequence[Item]):
@@ -171,9 +178,14 @@ class Rows(Sequence[Item]):
     def __len__(self) -> int:
         return len(self._data) // self.layout.size
 
+    @classmethod
+    def item(cls, data: bytes, place: int = 0) -> Item:
+        """Returns the item of the row that begins at this place of some bytes."""
+        made: Item = cls.make(*cls.layout.unpack_from(data, place))
+        return made
+
     def __iter__(self) -> Iterator[Item]:
-        make = type(self).make
-        return (make(*fields) for fields in self.layout.iter_unpack(self._data))
+        return starmap(type(self).make, self.layout.iter_unpack(self._data))
 
     @overload
     def __getitem__(self, place: int) -> Item: ...
@@ -184,8 +196,7 @@ class Rows(Sequence[Item]):
     def __getitem__(self, place: int | slice) -> Item | Rows[Item]:
         size, places = self.layout.size, range(len(self))[place]
         if isinstance(places, int):
-            item: Item = type(self).make(*self.layout.unpack_from(self._data, places * size))
-            return item
+            return self.item(self._data, places * size)
         if places.step == 1:
             return type(self)(self._data[places.start * size : places.stop * size])
         return type(self)(b"".join(self._data[it * size : (it + 1) * size] for it in places))
@@ -203,11 +214,18 @@ class Rows(Sequence[Item]):
         return type(self), (self._data,)
 
 
-class Headers(Rows[Header]):
-    layout = struct.Struct(native.HEADER_FORMAT)
+# Each class `_Read..` takes the fields of a row, and then becomes the class of the items: both have the same slots. The
+# __init__ of a frozen class makes a call for each field, which takes three times as long.
+def _slots(kind: type[Any]) -> tuple[str, ...]:
+    """Returns the names of the fields of a class of items."""
+    return tuple(it.name for it in fields(kind))
 
-    @staticmethod
-    def make(
+
+class _ReadHeader:
+    __slots__ = _slots(Header)
+
+    def __init__(
+        self: Any,
         offset: int,
         length: int,
         first_file: int,
@@ -216,37 +234,72 @@ class Headers(Rows[Header]):
         file_system: int,
         erased_byte: int,
         name: bytes,
-    ) -> Header:
-        numbers = first_file, header_length, attributes, file_system, erased_byte
-        return Header(offset, length, *numbers, _guid_or_none(name))
+    ) -> None:
+        self.offset = offset
+        self.length = length
+        self.first_file = first_file
+        self.header_length = header_length
+        self.attributes = attributes
+        self.file_system = file_system
+        self.erased_byte = erased_byte
+        self.name = _guid_or_none(name)
+        self.__class__ = Header
+
+
+class Headers(Rows[Header]):
+    layout, make = struct.Struct(native.HEADER_FORMAT), _ReadHeader
+
+
+class _ReadCheck:
+    __slots__ = _slots(VolumeCheck)
+
+    def __init__(
+        self: Any, offset: int, length: int, at: int, result: int, depth: int, side: int, canonical: int
+    ) -> None:
+        self.offset = offset
+        self.length = length
+        self.fault = fault_of(at, result, depth, side) if result else None
+        self.canonical = canonical == 1
+        self.__class__ = VolumeCheck
 
 
 class Checks(Rows[VolumeCheck]):
-    layout = struct.Struct(native.VOLUME_CHECK_FORMAT)
+    layout, make = struct.Struct(native.VOLUME_CHECK_FORMAT), _ReadCheck
 
-    @staticmethod
-    def make(offset: int, length: int, at: int, result: int, depth: int, side: int, canonical: int) -> VolumeCheck:
-        fault = fault_of(at, result, depth, side) if result else None
-        return VolumeCheck(offset, length, fault, canonical == 1)
+
+class _ReadCell:
+    __slots__ = _slots(Cell)
+
+    def __init__(
+        self: Any,
+        offset: int,
+        length: int,
+        kind: int,
+        header_length: int,
+        efi_type: int,
+        attributes: int,
+        name: bytes,
+    ) -> None:
+        has_header = kind == native.CELL_FILE or kind == native.CELL_PAD
+        self.offset = offset
+        self.length = length
+        self.kind = CELL_KINDS[kind]
+        self.header_length = header_length if has_header else None
+        self.efi_type = efi_type if has_header else None
+        self.attributes = attributes if has_header else None
+        self.name = _guid(name) if has_header else None
+        self.__class__ = Cell
 
 
 class Cells(Rows[Cell]):
-    layout = struct.Struct(native.CELL_FORMAT)
-
-    @staticmethod
-    def make(
-        offset: int, length: int, kind: int, header_length: int, efi_type: int, attributes: int, name: bytes
-    ) -> Cell:
-        if kind in (native.CELL_FILE, native.CELL_PAD):
-            return Cell(offset, length, CELL_KINDS[kind], header_length, efi_type, attributes, _guid(name))
-        return Cell(offset, length, CELL_KINDS[kind], None, None, None, None)
+    layout, make = struct.Struct(native.CELL_FORMAT), _ReadCell
 
 
-class Nodes(Rows[Node]):
-    layout = struct.Struct(native.NODE_FORMAT)
+class _ReadNode:
+    __slots__ = _slots(Node)
 
-    @staticmethod
-    def make(
+    def __init__(
+        self: Any,
         offset: int,
         length: int,
         parent: int,
@@ -259,22 +312,25 @@ class Nodes(Rows[Node]):
         header_length: int,
         guid: bytes,
         file_system: int,
-    ) -> Node:
+    ) -> None:
         is_volume, is_section = kind == native.NODE_VOLUME, kind == native.NODE_SECTION
-        return Node(
-            offset,
-            length,
-            None if parent == native.NO_PARENT else parent,
-            index,
-            depth,
-            NODE_KINDS[kind],
-            CONTENTS[content],
-            None if is_volume else efi_type,
-            None if is_section else attributes,
-            header_length,
-            None if is_section else _guid_or_none(guid) if is_volume else _guid(guid),
-            file_system if is_volume else None,
-        )
+        self.offset = offset
+        self.length = length
+        self.parent = None if parent == native.NO_PARENT else parent
+        self.index = index
+        self.depth = depth
+        self.kind = NODE_KINDS[kind]
+        self.content = CONTENTS[content]
+        self.efi_type = None if is_volume else efi_type
+        self.attributes = None if is_section else attributes
+        self.header_length = header_length
+        self.guid = None if is_section else _guid_or_none(guid) if is_volume else _guid(guid)
+        self.file_system = file_system if is_volume else None
+        self.__class__ = Node
+
+
+class Nodes(Rows[Node]):
+    layout, make = struct.Struct(native.NODE_FORMAT), _ReadNode
 
 
 class Digests(Rows[bytes | None]):
@@ -282,18 +338,24 @@ class Digests(Rows[bytes | None]):
 
     @staticmethod
     def make(digest: bytes) -> bytes | None:
-        return digest if any(digest) else None
+        return None if digest == _NO_DIGEST else digest
 
 
 # The types of the blocks that describe a volume: EFI_HOB_TYPE_FV and EFI_HOB_TYPE_FV2.
 _OF_VOLUMES = 0x0005, 0x0009
 
 
-class Hobs(Rows[Hob]):
-    layout = struct.Struct(native.HOB_FORMAT)
+class _ReadHob:
+    __slots__ = _slots(Hob)
 
-    @staticmethod
-    def make(volume_base: int, volume_length: int, hob_type: int, hob_length: int) -> Hob:
-        if hob_type in _OF_VOLUMES:
-            return Hob(volume_base, volume_length, hob_type, hob_length)
-        return Hob(None, None, hob_type, hob_length)
+    def __init__(self: Any, volume_base: int, volume_length: int, hob_type: int, hob_length: int) -> None:
+        describes = hob_type in _OF_VOLUMES
+        self.volume_base = volume_base if describes else None
+        self.volume_length = volume_length if describes else None
+        self.hob_type = hob_type
+        self.hob_length = hob_length
+        self.__class__ = Hob
+
+
+class Hobs(Rows[Hob]):
+    layout, make = struct.Struct(native.HOB_FORMAT), _ReadHob

@@ -1,0 +1,84 @@
+#!/usr/bin/env python3
+"""Measures the calls of libfv from Python, over a volume of 128 bytes without files, a volume of large files, and one of
+files of 24 bytes. Prints the least time of each call in microseconds. The rows of a call are counted, not read."""
+
+from __future__ import annotations
+
+import argparse
+import sys
+import timeit
+from collections.abc import Callable
+from dataclasses import dataclass
+from pathlib import Path
+from typing import Any
+
+sys.dont_write_bytecode = True  # no folder beside the scripts
+
+from bench import data_files, small_files  # noqa: E402
+from costs import MIB  # noqa: E402
+from fuzz import ROOT  # noqa: E402
+from hostile import volume  # noqa: E402
+
+# A package that PYTHONPATH names comes first.
+sys.path.append(str(ROOT / "clib/python"))
+import fv  # noqa: E402
+
+# The functions that take a volume and nothing else.
+CALLS: tuple[Callable[[Any], Any], ...] = (
+    fv.header_read,
+    fv.image_scan,
+    fv.image_check,
+    fv.image_normalise,
+    fv.volume_is_canonical,
+    fv.volume_normalise,
+    fv.volume_unfix,
+    fv.volume_digest,
+    fv.volume_cells,
+    fv.volume_tree,
+    fv.volume_tree_digests,
+)
+
+
+@dataclass(frozen=True)
+class Input:
+    """A volume that is passed to the calls, and how often: the number of runs, and of calls in a run."""
+
+    data: bytes
+    runs: int
+    calls: int
+
+
+def least(call: Callable[[], Any], given: Input) -> float:
+    """Returns the least time of a call in microseconds: that of the quickest run, divided by its calls."""
+    return min(timeit.repeat(call, number=given.calls, repeat=given.runs)) / given.calls * 1e6
+
+
+def measured(given: Input) -> dict[str, float]:
+    """Returns the least time of each call over an input. The comparison is with a copy of the input."""
+    data, copied = given.data, bytes(bytearray(given.data))
+    found = {call.__name__: least(lambda: call(data), given) for call in CALLS}
+    found["volume_compare"] = least(lambda: fv.volume_compare(data, copied), given)
+    found["volume_extract, row 0"] = least(lambda: fv.volume_extract(data, 0), given)
+    return found
+
+
+def main() -> None:
+    """Reads the arguments, measures the calls, and prints a row for each of them."""
+    reader = argparse.ArgumentParser(description=__doc__)
+    reader.add_argument("--runs", type=int, default=20, help="how many runs over each input")
+    options = reader.parse_args()
+    few, many = max(options.runs, 1), 10 * max(options.runs, 1)
+    inputs = [
+        Input(volume(b"\xff" * 56), many, 100),
+        Input(data_files(12 * MIB), few, 1),
+        Input(small_files(MIB), few, 1),
+    ]
+    columns = [measured(it) for it in inputs]
+    print(f"libfv {fv.version()}, package {fv.__version__} in {Path(fv.__file__).parent}")
+    print(f"{'microseconds, over':22}" + "".join(f"{len(it.data):>12} B" for it in inputs))
+    for name in columns[0]:
+        print(f"{name:22}" + "".join(f"{it[name]:14.2f}" for it in columns))
+
+
+if __name__ == "__main__":
+    main()
