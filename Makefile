@@ -89,8 +89,7 @@ install:
 	$(INSTALL) -m 644 $(DOCUMENTS) "$(DESTDIR)$(DOCDIR)"
 	$(call text,packaging/installed.md,"$(DESTDIR)$(DOCDIR)/README.md")
 	$(call text,packaging/gitconfig,"$(DESTDIR)$(DATADIR)/gitconfig")
-	$(call text,man/fvtool.1,"$(DESTDIR)$(MANDIR)/man1/fvtool.1")
-	python3 -B clib/python/manual.py "$(DESTDIR)$(MANDIR)/man1"
+	python3 -B clib/python/manual.py "$(DESTDIR)$(MANDIR)/man1" "$(DOCDIR)"
 	$(INSTALL) -m 644 packaging/completion.bash "$(DESTDIR)$(BASHDIR)/fvtool"
 	$(INSTALL) -m 644 packaging/completion.zsh "$(DESTDIR)$(ZSHDIR)/_fvtool"
 
