@@ -358,7 +358,3 @@ def main(words: list[str]) -> int:
     report = compare_files((given.first, given.second), given.open, lambda what: cli.complain(NAME, what))
     print(json.dumps(asdict(report), indent=2) if given.json else "\n".join(report_lines(report)))
     return STATUS[report.verdict]
-
-
-if __name__ == "__main__":
-    raise SystemExit(main())

@@ -177,7 +177,3 @@ def main(words: list[str]) -> int:
     for line in shown(cli.read_for(NAME, given.image), given.open):
         print(line)
     return cli.DONE
-
-
-if __name__ == "__main__":
-    raise SystemExit(main())
