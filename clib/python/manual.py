@@ -1,9 +1,11 @@
 #!/usr/bin/env python3
 """Writes the manual pages of the program and of the package's commands to a folder. The page of the program is
-man/fvtool.md. The pages of the commands are made from their parsers and from the text that `--help` shows.
+man/fvtool.md with the parts of docs/PROGRAM.md that it links to. The pages of the commands are made from their parsers
+and from the text that `--help` shows.
 
-Both are Markdown at first: headings, paragraphs, examples (indented), and items (`- term: text`, and more paragraphs
-and examples, further in). Code and **names** are bold. Words in capitals in code, and *other words*, are italic."""
+All are Markdown at first: headings, paragraphs, examples (indented), tables, and items (`- term: text`, and more
+paragraphs and examples, further in). Code and **names** are bold. Words in capitals in code, and *others*, are
+italic."""
 
 from __future__ import annotations
 
@@ -25,6 +27,8 @@ import backend  # noqa: E402
 
 DOCUMENTS = "/usr/share/doc/fvtool"  # the folder that the pages name
 SIGNS = str.maketrans({"\\": r"\e", "-": r"\-", "'": r"\(aq", "^": r"\(ha", "~": r"\(ti"})
+# The term of an item: code and emphasis.
+TERM = re.compile(r"((?:(?:`[^`]+`|\*+[^*]+\*+)(?:,? and |, | to )?)+): ")
 ENDING = """## Environment
 
 - **LIBFV**: Names the shared object of the library, in place of the one that is installed with this command.
@@ -46,7 +50,7 @@ def escaped(text: str) -> str:
 
 def bold(code: str) -> str:
     """Returns code in bold. Words in capitals are italic."""
-    return r"\fB" + re.sub(r"\b[A-Z]+\b", r"\\fI\g<0>\\fB", code) + r"\fR"
+    return r"\fB" + re.sub(r"(?<![-\w])[A-Z]+\b", r"\\fI\g<0>\\fB", code) + r"\fR"
 
 
 def inline(text: str) -> str:
@@ -55,24 +59,44 @@ def inline(text: str) -> str:
     def font(span: re.Match[str]) -> str:
         """Returns code, a name or an emphasis in its font."""
         code, name, emphasis = span.groups()
-        return bold(code) if code else rf"\fB{name}\fR" if name else rf"\fI{emphasis}\fR"
+        return bold(code.strip()) if code else rf"\fB{name}\fR" if name else rf"\fI{emphasis}\fR"
 
-    return re.sub(r"`([^`]+)`|\*\*([^*]+)\*\*|\*([^*]+)\*", font, escaped(" ".join(text.split())))
+    plain = re.sub(r"\[([^]]+)\]\([^)]*\)", r"\1", " ".join(text.split()))  # without links
+    return re.sub(r"`([^`]+)`|\*\*([^*]+)\*\*|\*([^*]+)\*", font, escaped(plain))
+
+
+def item(text: str) -> str:
+    """Returns an item of a list: a term with its meaning, or a text after a bullet or a number."""
+    mark, _, rest = text.partition(" ")
+    if term := TERM.match(rest):
+        return f".TP\n{inline(term[1])}\n{inline(rest[term.end() :])}"
+    return f".IP {mark.replace('-', chr(92) + '(bu')} 3\n{inline(rest)}"
+
+
+def table(text: str) -> Iterator[str]:
+    """Yields the rows of a table: the first two cells, and others after their headings."""
+    head, _, *rows = ([it.strip() for it in line.strip("|").split(" | ")] for line in text.split("\n"))
+    for first, second, *others in rows:
+        more = (f"\n.br\n{inline(f'{name}: {it}')}" for name, it in zip(head[2:], others))
+        yield f".TP\n\\fB{inline(first)}\\fR\n{inline(second)}{''.join(more)}"
 
 
 def roff(text: str) -> Iterator[str]:
     """Yields the parts of a page. Its synopsis is shown like code."""
     heading, is_first = "", True
-    for block in text.strip("\n").split("\n\n"):
+    for block in re.split(r"\n\n|\n(?=- |\d\. )", text.strip("\n")):
         depth = len(block) - len(block.lstrip(" "))
         begin = "" if is_first else ".IP\n" if depth in (2, 6) else ".PP\n"
-        is_first = block.startswith("## ")
-        if is_first:
+        is_first = block.startswith("##")
+        if block.startswith("## "):
             heading = block[3:].upper()
             yield f".SH {heading}"
-        elif block.startswith("- "):
-            term, _, meaning = block[2:].partition(": ")
-            yield f".TP\n{inline(term)}\n{inline(meaning)}"
+        elif is_first:
+            yield f".SS {block[4:]}"
+        elif re.match(r"- |\d\. ", block):
+            yield item(block)
+        elif block.startswith("|"):
+            yield from table(block)
         elif depth < 4:
             yield begin + inline(block)
         elif heading == "SYNOPSIS":
@@ -107,14 +131,26 @@ def of_command(parser: argparse.ArgumentParser) -> str:
     return "\n\n".join([*described, "## Options", *options(parser), "## Exit status", *statuses(status), ENDING])
 
 
+def of_program() -> str:
+    """Returns the page of the program in Markdown, with the sections of docs/PROGRAM.md that it links to."""
+    guide = (ROOT / "docs/PROGRAM.md").read_text(encoding="utf-8").replace("### Exit status", "## Exit status")
+
+    def section(link: re.Match[str]) -> str:
+        """Returns a section, without its heading."""
+        return re.split(r"(?m)^## (?!Exit status)", guide.split(f"\n## {link[1]}\n")[1])[0].strip("\n")
+
+    page = (ROOT / "man/fvtool.md").read_text(encoding="utf-8")
+    return re.sub(r"(?m)^\[(.*)\]\(\.\./docs/PROGRAM\.md#\S+\)$", section, page)
+
+
 def main() -> None:
     """Writes the pages."""
-    reader = argparse.ArgumentParser(description="Writes the manual pages of the program and of the package's commands.")
+    reader = argparse.ArgumentParser(description="Writes the manual pages of the program and of the commands.")
     reader.add_argument("folder", type=Path, help="the folder that gets the pages")
     reader.add_argument("documents", nargs="?", default=DOCUMENTS, help="the folder with the documents of the program")
     given = reader.parse_args()
     os.environ["COLUMNS"] = "80"  # the width of a usage
-    title, _, program = (ROOT / "man/fvtool.md").read_text(encoding="utf-8").partition("\n\n")
+    title, _, program = of_program().partition("\n\n")
     pages = {"fvtool": program.replace(DOCUMENTS, given.documents)}
     for name, module in [*backend.commands().items(), ("fvmap", "fv.map")]:  # the name of fv-map in 1.0
         pages[name] = of_command(importlib.import_module(module).parser())
