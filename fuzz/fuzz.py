@@ -844,15 +844,10 @@ class Tool:
         is_text: bool = False,
     ) -> Answer:
         """Runs a command over these inputs, as bytes or as hexadecimal text. The answer is in bytes."""
-
-        def shape(data: bytes) -> bytes:
-            """Returns an input as the program is to read it."""
-            return spelled(self.pick, data) if is_text else data
-
-        words = [command, *options, *["--hex"] * is_text]
-        files = [self.put(f"input{number}", shape(data)) for number, data in enumerate(inputs)]
+        words, given = [command, *options, *["--hex"] * is_text], [*inputs, *[image or b""] * (image is not None)]
+        files = [self.put(f"input{n}", spelled(self.pick, it) if is_text else it) for n, it in enumerate(given)]
         if image is not None:
-            words += ["--image", self.put("image", shape(image)), "--base", str(base)]
+            words += ["--image", files.pop(), "--base", str(base)]
         if len(files) == 1 and self.pick.randrange(2):
             status, out = self.start(words, files[0])
         else:
