@@ -70,7 +70,8 @@ def item(text: str) -> str:
     mark, _, rest = text.partition(" ")
     if term := TERM.match(rest):
         return f".TP\n{inline(term[1])}\n{inline(rest[term.end() :])}"
-    return f".IP {mark.replace('-', chr(92) + '(bu')} 3\n{inline(rest)}"
+    bullet = r"\(bu" if mark == "-" else mark
+    return f".IP {bullet} 3\n{inline(rest)}"
 
 
 def table(text: str) -> Iterator[str]:
