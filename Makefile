@@ -37,7 +37,7 @@ DOCUMENTS := CHANGELOG.md SECURITY.md docs/PROGRAM.md docs/FAULTS.md packaging/c
 # The commands of the Python package are links to LAUNCHER in BINDIR. DATADIR has it, the package and the library where
 # this folder has them, so that they find each other there as here. fvmap is the name of fv-map in 1.0.
 LAUNCHER := clib/python/bin/run
-COMMANDS := fv-same fv-unpack fv-map fvmap fv-sbom fv-check fv-text fv-diff
+COMMANDS = $(shell python3 -B clib/python/backend.py commands) fvmap
 # clib/Makefile with the variables of this run. It has PREFIX, INCLUDEDIR, LIBDIR and PYTHONDIR. `-tools` is of what the
 # tools need of it.
 CLIB := $(MAKE) --no-print-directory -f clib/Makefile PREFIX="$(PREFIX)" DESTDIR="$(DESTDIR)" LIBFV="$(ARCHIVE)" \
@@ -89,10 +89,12 @@ install:
 	$(INSTALL) -m 644 $(DOCUMENTS) "$(DESTDIR)$(DOCDIR)"
 	$(call text,packaging/installed.md,"$(DESTDIR)$(DOCDIR)/README.md")
 	$(call text,packaging/gitconfig,"$(DESTDIR)$(DATADIR)/gitconfig")
-	$(call text,man/fvtool.1,"$(DESTDIR)$(MANDIR)/man1/fvtool.1")
-	python3 -B clib/python/manual.py "$(DESTDIR)$(MANDIR)/man1"
+	python3 -B clib/python/manual.py "$(DESTDIR)$(MANDIR)/man1" "$(DOCDIR)"
 	$(INSTALL) -m 644 packaging/completion.bash "$(DESTDIR)$(BASHDIR)/fvtool"
 	$(INSTALL) -m 644 packaging/completion.zsh "$(DESTDIR)$(ZSHDIR)/_fvtool"
+	for it in $(COMMANDS); do { cat packaging/commands.bash; echo "complete -o default -F _fv $$it"; } \
+	    > "$(DESTDIR)$(BASHDIR)/$$it" && chmod 644 "$(DESTDIR)$(BASHDIR)/$$it" || exit; done
+	printf '#compdef %s\n_gnu_generic\n' "$(COMMANDS)" > "$(DESTDIR)$(ZSHDIR)/_fv" && chmod 644 "$(DESTDIR)$(ZSHDIR)/_fv"
 
 install-lib:
 	@if [ "$(ARCHIVE)" = "$(BUILT_ARCHIVE)" ]; then packaging/prove --is-made fv_c; fi
@@ -101,7 +103,7 @@ install-lib:
 # The folders may be shared, so only the files that were installed go, and then those folders of fvtool that are empty.
 uninstall:
 	rm -f $(foreach it,fvtool $(COMMANDS),"$(DESTDIR)$(BINDIR)/$(it)")
-	rm -f "$(DESTDIR)$(BASHDIR)/fvtool" "$(DESTDIR)$(ZSHDIR)/_fvtool"
+	rm -f $(foreach it,fvtool $(COMMANDS),"$(DESTDIR)$(BASHDIR)/$(it)") $(foreach it,_fvtool _fv,"$(DESTDIR)$(ZSHDIR)/$(it)")
 	rm -f $(foreach it,fvtool $(COMMANDS),"$(DESTDIR)$(MANDIR)/man1/$(it).1")
 	rm -f $(foreach it,README.md $(notdir $(DOCUMENTS)),"$(DESTDIR)$(DOCDIR)/$(it)")
 	rm -f $(foreach it,gitconfig $(LAUNCHER),"$(DESTDIR)$(DATADIR)/$(it)")

@@ -12,6 +12,7 @@ import sys
 import tempfile
 import termios
 from pathlib import Path
+from typing import IO
 
 sys.dont_write_bytecode = True  # no folder beside the scripts
 
@@ -19,6 +20,9 @@ from checks import read, report
 
 PROGRAM = "crates/fv_tool/out/fv_tool"
 VOLUME = "crates/fv_tool/stdin"
+TERMINAL = -1  # in place of a file
+# The status of a run, its output, and what it says.
+Result = tuple[int, str, str]
 READING = "fvtool: reading standard input\n"
 MORE = """\
 man fvtool explains these commands
@@ -49,8 +53,8 @@ class Try:
     """A run that was made: its name, its result, and the result that it should have."""
 
     name: str
-    seen: tuple[object, ...]
-    wanted: tuple[object, ...]
+    seen: Result
+    wanted: Result
 
 
 def synopsis() -> str:
@@ -157,74 +161,43 @@ def read_until(ours: int, ends: bytes | None) -> bytes:
     return shown
 
 
-def run_at_terminal(case: Case) -> tuple[int, str, str]:
-    """Returns the status of a run whose standard error is a terminal, its output, and what it says. A text is typed
-    after the program has said that it reads."""
+def run(case: Case, errors: int | IO[bytes] | None = None, output: int | None = None) -> Result:
+    """Returns the result of a run. Its standard error is a terminal, unless `errors` is a pipe or a file: then nothing
+    is said at the terminal. A text is typed after the program has said that it reads, if it does. The output is also
+    what the terminal shows if `output` is the terminal, and it is empty if `output` is another file."""
     ours, theirs = new_terminal()
-    with tempfile.TemporaryFile() as output, open(case.file, "rb") as file:
+    with tempfile.TemporaryFile() as written, open(case.file, "rb") as file:
         given = file.fileno() if case.typed is None else theirs
-        child = subprocess.Popen([PROGRAM, *case.words], stdin=given, stdout=output, stderr=theirs)
+        out = written.fileno() if output is None else theirs if output == TERMINAL else output
+        child = subprocess.Popen([PROGRAM, *case.words], stdin=given, stdout=out, stderr=errors or theirs)
         os.close(theirs)
-        shown = b""
+        said = b""
         if case.typed is not None:
-            shown = read_until(ours, READING.encode())
+            said = b"" if errors else read_until(ours, READING.encode())
             os.write(ours, case.typed.encode() + b"\x04")
-        shown += read_until(ours, None)
+        said += child.stderr.read() if child.stderr else b"" if errors else read_until(ours, None)
         status = child.wait()
         os.close(ours)
-        output.seek(0)
-        return status, output.read().decode(), shown.decode()
+        written.seek(0)
+        return status, written.read().decode(), said.decode()
 
 
-def run_elsewhere(case: Case, is_pipe: bool) -> tuple[int, str, str]:
-    """Returns the same for a run whose standard error is a pipe or a file. Its standard input is a terminal if a text
-    is typed."""
-    ours, theirs = new_terminal()
-    if case.typed is not None:
-        os.write(ours, case.typed.encode() + b"\x04")
-    with tempfile.TemporaryFile() as errors, open(case.file, "rb") as file:
-        child = subprocess.Popen(
-            [PROGRAM, *case.words],
-            stdin=file if case.typed is None else theirs,
-            stdout=subprocess.PIPE,
-            stderr=subprocess.PIPE if is_pipe else errors,
-        )
-        written, said = child.communicate()
+def run_to_file(case: Case) -> Result:
+    """Returns the result of a run whose standard error is a file."""
+    with tempfile.TemporaryFile() as errors:
+        status, written, _ = run(case, errors)
         errors.seek(0)
-        said = said if is_pipe else errors.read()
-    os.close(theirs)
-    os.close(ours)
-    return child.returncode, written.decode(), said.decode()
+        return status, written, errors.read().decode()
 
 
-def run_with(words: list[str], output: int, error: int) -> int:
-    """Returns the status of a run without input, with these files as its output and its standard error."""
-    run = subprocess.run([PROGRAM, *words], stdin=subprocess.DEVNULL, stdout=output, stderr=error, check=False)
-    return run.returncode
-
-
-def shown_of(words: list[str], output: int | None) -> tuple[int, str]:
-    """Returns the status of a run, and what its terminal shows. The terminal is its standard error, and also its
-    standard output if no other is given."""
-    ours, theirs = new_terminal()
-    status = run_with(words, theirs if output is None else output, theirs)
-    os.close(theirs)
-    shown = read_until(ours, None)
-    os.close(ours)
-    return status, shown.decode()
-
-
-def run_unheard(words: list[str], is_gone: bool) -> tuple[int, str]:
-    """Returns the status and the output of a run that cannot write to its standard error, because the terminal is gone,
-    or was opened for reading only."""
+def run_unheard(case: Case, is_gone: bool) -> Result:
+    """Returns the result of a run that cannot write to its standard error, because the terminal is gone, or was opened
+    for reading only."""
     ours, theirs = new_terminal()
     deaf = theirs if is_gone else os.open(os.ttyname(theirs), os.O_RDONLY | os.O_NOCTTY)
     if is_gone:
         os.close(ours)
-    with tempfile.TemporaryFile() as output:
-        status = run_with(words, output.fileno(), deaf)
-        output.seek(0)
-        return status, output.read().decode()
+    return run(case, deaf)
 
 
 def tries(short: str) -> list[Try]:
@@ -232,19 +205,20 @@ def tries(short: str) -> list[Try]:
     found: list[Try] = []
     for case in cases(short):
         name, bare = ascii(" ".join(case.words)), (case.status, case.written)
-        found.append(Try(f"{name}, at a terminal", run_at_terminal(case), (*bare, case.said)))
-        found.append(Try(f"{name}, with a pipe", run_elsewhere(case, True), (*bare, "")))
-        found.append(Try(f"{name}, with a file", run_elsewhere(case, False), (*bare, "")))
-    cut, explained = ["list", short], meaning("the bytes end before the volume does")
-    both = "fault 1 at 3\n" + explained
-    found.append(Try("a fault, with both streams at a terminal", shown_of(cut, None), (2, both)))
-    full, unwritten = os.open("/dev/full", os.O_WRONLY), meaning("the output cannot be written")
-    found.append(Try("a full device", shown_of(["list", "--hex", VOLUME], full), (2, unwritten)))
-    found.append(Try("a fault, with a full device", shown_of(cut, full), (2, explained + unwritten)))
-    os.close(full)
+        found.append(Try(f"{name}, at a terminal", run(case), (*bare, case.said)))
+        found.append(Try(f"{name}, with a pipe", run(case, subprocess.PIPE), (*bare, "")))
+        found.append(Try(f"{name}, with a file", run_to_file(case), (*bare, "")))
+    explained, unwritten = meaning("the bytes end before the volume does"), meaning("the output cannot be written")
+    cut = Case(["list", short], 2, "fault 1 at 3\n", explained)
+    both = 2, "", cut.written + explained
+    found.append(Try("a fault, with both streams at a terminal", run(cut, None, TERMINAL), both))
+    with open("/dev/full", "wb") as full:
+        listed = Case(["list", "--hex", VOLUME], 2, "", unwritten)
+        found.append(Try("a full device", run(listed, None, full.fileno()), (2, "", unwritten)))
+        found.append(Try("a fault, with a full device", run(cut, None, full.fileno()), (2, "", explained + unwritten)))
     for is_gone in (True, False):
         name = f"a terminal that hears nothing, gone: {is_gone}"
-        found.append(Try(name, run_unheard(cut, is_gone), (2, "fault 1 at 3\n")))
+        found.append(Try(name, run_unheard(cut, is_gone), (2, cut.written, "")))
     return found
 
 

@@ -23,7 +23,10 @@ import uuid
 from collections.abc import Callable, Iterable, Iterator, Sequence
 from dataclasses import dataclass, field
 from pathlib import Path
+from subprocess import PIPE, STDOUT
+from typing import TypeVar
 
+T = TypeVar("T")
 ROOT = Path(__file__).resolve().parent.parent
 FFS2 = uuid.UUID("8c8ce578-8a3d-4f1c-9935-896185c32dd3").bytes_le
 FFS3 = uuid.UUID("5473c07a-3dcb-4dca-bd6f-1e9689e7349a").bytes_le
@@ -163,14 +166,19 @@ def sum8(data: bytes | bytearray) -> int:
     return -sum(data) & 0xFF
 
 
+def file_head(
+    name: bytes, kind: int, attributes: int, size: int, short_size: int, file_sum: int, state: int, change: int = 0
+) -> bytes:
+    """Returns the header of a file, which is large if it has attribute 01. Its checksum is right if `change`, which is
+    added by exclusive or, is zero."""
+    head = name + bytes([0, 0, kind, attributes]) + short_size.to_bytes(3, "little") + b"\0"
+    head += struct.pack("<Q", size) if attributes & LARGE else b""
+    return head[:16] + bytes([sum8(head) ^ change, file_sum]) + head[18:23] + bytes([state]) + head[24:]
+
+
 def sum16(data: bytes | bytearray) -> int:
     """Returns the 16-bit word that makes the sum of the 16-bit words zero."""
     return -(sum(data[::2]) + (sum(data[1::2]) << 8)) & 0xFFFF
-
-
-def bytes_of(source: random.Random, count: int) -> bytes:
-    """Returns this many random bytes."""
-    return source.getrandbits(8 * count).to_bytes(count, "little") if count else b""
 
 
 def indented(lines: Iterable[str]) -> list[str]:
@@ -238,15 +246,15 @@ class Maker:
 
     def name(self) -> bytes:
         """Returns a GUID."""
-        return bytes_of(self.pick, 16)
+        return self.pick.randbytes(16)
 
     def payload(self) -> bytes:
         """Returns bytes for a file or a leaf."""
-        return bytes_of(self.pick, self.pick.choice((0, 1, 4, 8, 8, 24, self.pick.randrange(100), 256)))
+        return self.pick.randbytes(self.pick.choice((0, 1, 4, 8, 8, 24, self.pick.randrange(100), 256)))
 
     def filler(self, count: int, usual: int) -> bytes:
         """Returns bytes that are not part of a meaning: the bytes of the canonical image, or others."""
-        return bytes([usual]) * count if self.dust.random() < 0.5 else bytes_of(self.dust, count)
+        return bytes([usual]) * count if self.dust.random() < 0.5 else self.dust.randbytes(count)
 
     def kept_whole(self, make: Callable[[int], Part]) -> bytes:
         """Returns the bytes that `make` writes, which all are part of the meaning."""
@@ -278,10 +286,10 @@ class Maker:
             ops = b"\x09" + ops
         elif self.happens(0.2):
             ops = self.pick.choice((b"\x00", b"\x01")) + self.name()
-        ops += b"\x08" + bytes_of(self.pick, self.pick.choice((0, 0, 1, 3)))
+        ops += b"\x08" + self.pick.randbytes(self.pick.choice((0, 0, 1, 3)))
         if self.happens(0.4):
             at = self.pick.randrange(len(ops))
-            ops = ops[:at] + bytes_of(self.pick, self.pick.randrange(2)) + ops[at + 1 :]
+            ops = ops[:at] + self.pick.randbytes(self.pick.randrange(2)) + ops[at + 1 :]
         return ops
 
     def leaf_body(self, kind: int) -> bytes:
@@ -289,7 +297,7 @@ class Maker:
         if kind == TEXT:
             body = self.text()
         elif kind == VERSION:
-            body = bytes_of(self.pick, 2) + self.text()
+            body = self.pick.randbytes(2) + self.text()
         elif kind in (DXE_DEPEX, PEI_DEPEX, MM_DEPEX):
             body = self.expression()
         elif kind == VOLUME and self.parts:
@@ -351,20 +359,15 @@ class Maker:
         short_size = 0 if attributes & LARGE else size
         if self.slips_here(40):
             size = short_size = self.pick.choice((0, 23, 24, 31, size - 1, size + 1, size + 8, 0xFFFFFF))
-        head = name + bytes([0, 0, kind, attributes]) + short_size.to_bytes(3, "little") + b"\0"
-        head += struct.pack("<Q", size) if attributes & LARGE else b""
-        head_sum = sum8(head)
-        if self.slips_here(40):
-            head_sum ^= 1 << self.pick.randrange(8)
-        if self.slips_here(40):
-            file_sum ^= 1 << self.pick.randrange(8)
+        change = 1 << self.pick.randrange(8) if self.slips_here(40) else 0
+        file_sum ^= 1 << self.pick.randrange(8) if self.slips_here(40) else 0
         state = self.state(bit) ^ form.erased
-        return head[:16] + bytes([head_sum, file_sum]) + head[18:23] + bytes([state]) + head[24:] + data
+        return file_head(name, kind, attributes, size, short_size, file_sum, state, change) + data
 
     def passed_over(self, form: Form, size: int, kind: int, bit: int) -> bytes:
         """Returns a cell of which only the header checksum and the size are read."""
         large = LARGE if form.is_ffs3 and size >= 32 and self.happens(0.2) else 0
-        name = self.dust.choice((b"\xff" * 16, bytes_of(self.dust, 16)))
+        name = self.dust.choice((b"\xff" * 16, self.dust.randbytes(16)))
         attributes = self.dust.choice((0, 0, FIXED, SUMMED | 0x38)) | large
         cell = self.file(form, name, kind, attributes, self.filler(size - (32 if large else 24), form.erased), bit)
         return cell[:17] + self.filler(1, 0xAA) + cell[18:]
@@ -381,7 +384,7 @@ class Maker:
     def stub(self, form: Form) -> bytes:
         """Returns a header under construction, or an invalid header."""
         large = self.pick.randrange(2)
-        stub = bytearray(bytes_of(self.dust, 32 if large else 24))
+        stub = bytearray(self.dust.randbytes(32 if large else 24))
         stub[19] = stub[19] & 0xFE | large
         stub[23] = self.state(self.pick.choice((CONSTRUCTION, HEADER_INVALID))) ^ form.erased
         return bytes(stub)
@@ -423,7 +426,7 @@ class Maker:
         attributes = self.attributes(body.form)
         content = self.content(kind, depth)
         if name == TOP_FILE and (kind in STREAMS or len(content.data) % 8):
-            kind, content = 0x01, Part(bytes_of(self.pick, self.pick.choice((0, 8, 40))), [])
+            kind, content = 0x01, Part(self.pick.randbytes(self.pick.choice((0, 8, 40))), [])
         gap = self.gap_before(body.end, attributes)
         if gap:
             body.data += self.pad(body.form, gap)
@@ -437,7 +440,7 @@ class Maker:
         """Returns a file marked for update, whose name another file has. Only the checksum of its data is read."""
         kind = self.pick.choice(STREAMS + PLAIN)
         attributes = self.attributes(form)
-        return self.file(form, name, kind, attributes, bytes_of(self.dust, self.pick.randrange(40)), MARKED)
+        return self.file(form, name, kind, attributes, self.dust.randbytes(self.pick.randrange(40)), MARKED)
 
     def replaced_file(self, body: Body, name: bytes) -> None:
         """Adds a superseded file, before or after the file that replaces it."""
@@ -523,15 +526,15 @@ class Maker:
         if kind == 3 and self.happens(0.7):
             payload = self.filler(4, 0)  # the value of a used size
         else:
-            payload = bytes_of(self.pick, self.pick.choice((0, 3, 5, 16, self.pick.randrange(40))))
+            payload = self.pick.randbytes(self.pick.choice((0, 3, 5, 16, self.pick.randrange(40))))
         return struct.pack("<HH", 4 + len(payload), kind) + payload
 
     def ext_header(self) -> bytes:
         """Returns an extended header: its name, its entries, and a tail, which may begin further entries."""
         rest = b"".join(self.ext_entry() for _ in range(self.pick.randrange(4)))
-        rest += bytes_of(self.pick, self.pick.choice((0, 0, 1, 3, 5, self.pick.randrange(30))))
+        rest += self.pick.randbytes(self.pick.choice((0, 0, 1, 3, 5, self.pick.randrange(30))))
         if self.happens(0.005):
-            rest += bytes_of(self.pick, 65535 - 20 - len(rest))
+            rest += self.pick.randbytes(65535 - 20 - len(rest))
         size = 20 + len(rest)
         if self.slips_here():
             size = self.pick.choice((0, 19, 65535, 65536, size + 4096, (1 << 32) - 1))
@@ -647,7 +650,7 @@ class Maker:
         lengths = {0x1: 48, 0x2: 40 + more % 4096, 0x3: 40, 0x4: 16 + more % 4096, 0x6: 8, 0x7: 0, 0xB: 16}
         lengths |= {0xC: more, 0xFFFE: more}
         kind = pick.choice((*lengths, pick.choice((0, 8, 10, pick.randrange(13, 0xFFFE)))))
-        return Block(kind, bytes_of(pick, lengths.get(kind, more)))
+        return Block(kind, pick.randbytes(lengths.get(kind, more)))
 
     def hand_off(self) -> Case:
         """Returns a hand-off list, with or without an image."""
@@ -656,7 +659,7 @@ class Maker:
         given = image or Image(b"", [])
         size = len(given.data)
         base = pick.choice((0, 0xFF0000, (1 << 64) - 1, (1 << 64) - size & (1 << 64) - 1, pick.getrandbits(64)))
-        blocks = [Block(0x1, bytes_of(pick, 48))]
+        blocks = [Block(0x1, pick.randbytes(48))]
         for _ in range(pick.randrange(8)):
             if self.happens(0.4):
                 at = self.span(base, given)
@@ -664,7 +667,7 @@ class Maker:
                 is_inside = base <= at.offset and at.offset + at.length <= base + size
                 found = "volume" if Extent(at.offset - base, at.length) in given.places else "absent"
                 word = "" if image is None else f" {found}" if is_inside else " outside"
-                payload = struct.pack("<QQ", at.offset, at.length) + bytes_of(pick, 32 * (kind == 0x9))
+                payload = struct.pack("<QQ", at.offset, at.length) + pick.randbytes(32 * (kind == 0x9))
                 blocks.append(Block(kind, payload, word))
             else:
                 blocks.append(self.other_block())
@@ -677,7 +680,7 @@ class Maker:
         if self.slips_here(4):
             listed = listed[: -8 * pick.choice((1, 2))]
         elif self.happens(0.3):
-            listed += bytes_of(pick, pick.randrange(20))
+            listed += pick.randbytes(pick.randrange(20))
         return Case("list", listed, lines, None, image.data if image else None, base)
 
 
@@ -700,7 +703,7 @@ def changed(pick: random.Random, data: bytes) -> bytes:
         return data[:at] + number.to_bytes(size, "little") + data[at + size :]
     count = pick.choice((1, 4, 8, 24, pick.randrange(100)))
     if way == 6:
-        return pick.choice((data[:at], data[:at] + data[at + count :], data + bytes_of(pick, count)))
+        return pick.choice((data[:at], data[:at] + data[at + count :], data + pick.randbytes(count)))
     return data[:at] + data[at : at + count] + data[at + pick.choice((0, count)) :]
 
 
@@ -748,7 +751,7 @@ def volume_case(name: str, pick: random.Random) -> Case:
         maker = Maker(name)
         data = maker.volume(0).data
         return Case("volume", broken(pick, data, maker.spans))
-    return Case("volume", bytes_of(pick, pick.randrange(300)))
+    return Case("volume", pick.randbytes(pick.randrange(300)))
 
 
 def make_case(seed: int, index: int) -> Case:
@@ -763,13 +766,11 @@ def make_case(seed: int, index: int) -> Case:
         if pick.random() < 0.3:
             return Case("image", broken(pick, image.data))
         return Case("image", image.data, [f"volume at {it.offset} length {it.length}" for it in image.places])
-    if kind < 0.97:
-        maker = Maker(name, slips=pick.choice((0, 0, 1, 2)))
-        case = maker.hand_off()
-        if pick.random() < 0.2:
-            return dataclasses.replace(case, data=broken(pick, case.data), lines=None)
-        return dataclasses.replace(case, lines=None if maker.made else case.lines)
-    return Case("words", b"")
+    maker = Maker(name, slips=pick.choice((0, 0, 1, 2)))
+    case = maker.hand_off()
+    if pick.random() < 0.2:
+        return dataclasses.replace(case, data=broken(pick, case.data), lines=None)
+    return dataclasses.replace(case, lines=None if maker.made else case.lines)
 
 
 # Running
@@ -779,21 +780,16 @@ class Wrong(Exception):
     """A promise that was not kept."""
 
 
-def require(holds: object, *what: object) -> None:
-    """Raises Wrong with these texts if a promise is not kept."""
+def require(holds: T | None, *what: object) -> T:
+    """Returns a value that shows that a promise is kept, and otherwise raises Wrong with these texts."""
     if not holds:
         raise Wrong("; ".join(str(it)[:2000] for it in what))
-
-
-def matched(found: re.Match[bytes] | None, *what: object) -> re.Match[bytes]:
-    """Returns the match, and raises Wrong with these texts if there is none."""
-    require(found, *what)
-    assert found
-    return found
+    return holds
 
 
 REFUSALS = {"compare": rb"(?:first|second) fault (\d+) at (\d+)\n", "hobs": rb"hob fault (\d+) at (\d+)\n"}
 DIGITS = re.compile(rb"(?:[0-9a-f]{64}\n)*(?:(?:[0-9a-f]{2}){1,32}\n)?")
+NONE: dict[str, str] = {}  # the environment of a run
 # The exit status of a run, and its output.
 Answer = tuple[int, bytes]
 
@@ -827,21 +823,14 @@ class Tool:
     def start(self, words: list[str], given: str = os.devnull) -> Answer:
         """Runs the program. Its answer includes what it wrote to standard error."""
         self.calls += 1
-        nothing: dict[str, str] = {}
+        argv, most = [self.program, *words], self.seconds
         with open(given, "rb") as stdin:
             try:
                 done = subprocess.run(
-                    [self.program, *words],
-                    stdin=stdin,
-                    stdout=subprocess.PIPE,
-                    stderr=subprocess.STDOUT,
-                    timeout=self.seconds,
-                    close_fds=False,
-                    env=nothing,
-                    check=False,
+                    argv, stdin=stdin, stdout=PIPE, stderr=STDOUT, timeout=most, close_fds=False, env=NONE, check=False
                 )
             except subprocess.TimeoutExpired:
-                raise Wrong(f"{words}: no end within {self.seconds} seconds") from None
+                raise Wrong(f"{words}: no end within {most} seconds") from None
         require(0 <= done.returncode <= 3, f"{words}: status {done.returncode}", done.stdout)
         return done.returncode, done.stdout
 
@@ -855,15 +844,10 @@ class Tool:
         is_text: bool = False,
     ) -> Answer:
         """Runs a command over these inputs, as bytes or as hexadecimal text. The answer is in bytes."""
-
-        def shape(data: bytes) -> bytes:
-            """Returns an input as the program is to read it."""
-            return spelled(self.pick, data) if is_text else data
-
-        words = [command, *options, *["--hex"] * is_text]
-        files = [self.put(f"input{number}", shape(data)) for number, data in enumerate(inputs)]
+        words, given = [command, *options, *["--hex"] * is_text], [*inputs, *[image or b""] * (image is not None)]
+        files = [self.put(f"input{n}", spelled(self.pick, it) if is_text else it) for n, it in enumerate(given)]
         if image is not None:
-            words += ["--image", self.put("image", shape(image)), "--base", str(base)]
+            words += ["--image", files.pop(), "--base", str(base)]
         if len(files) == 1 and self.pick.randrange(2):
             status, out = self.start(words, files[0])
         else:
@@ -882,7 +866,7 @@ class Tool:
         require(status != 1 or command in ("compare", "check", "extract"), f"{command}: status 1", out)
         if status == 2:
             form = REFUSALS.get(command, rb"fault (\d+) at (\d+)\n")
-            found = matched(re.fullmatch(form, out), f"{command}: a refusal with other text", out)
+            found = require(re.fullmatch(form, out), f"{command}: a refusal with other text", out)
             number, offset = map(int, found.groups())
             require(1 <= number <= (5 if command == "hobs" else 23), f"{command}: a fault out of place", out)
             require(offset <= max(map(len, inputs)), f"{command}: a fault past the input", out)
@@ -905,11 +889,6 @@ def joined(lines: Iterable[str]) -> bytes:
     return b"".join(map(line, lines))
 
 
-def depex_notes(text: bytes) -> list[bytes]:
-    """Returns the notes of `check` on dependency expressions."""
-    return [it for it in text.splitlines() if it.startswith(b"note depex ")]
-
-
 GUID = rb"[0-9a-f]{8}(?:-[0-9a-f]{4}){3}-[0-9a-f]{12}"
 PAD_NOTE = rb"note pad at \d+ holds [1-9]\d* bytes\n"
 DEPEX_NOTE = rb"note depex in " + GUID + rb" fault [1-5] at \d+\n"
@@ -923,7 +902,8 @@ def check_own(tool: Tool, case: Case, image: bytes) -> None:
     require((status == 0) == is_own, f"check: status {status}, and the volume is its image: {is_own}")
     require(NOTES.fullmatch(text) and text.endswith(b"not canonical\n") != is_own, "check: other text", text)
     of_image = tool.ask("check", image)[1]
-    require(depex_notes(text) == depex_notes(of_image), "check: other notes of the image", text, of_image)
+    notes, others = (re.findall(rb"(?m)^note depex .*$", it) for it in (text, of_image))
+    require(notes == others, "check: other notes of the image", text, of_image)
 
 
 def check_listed(tool: Tool, case: Case, image: bytes) -> None:
@@ -931,7 +911,7 @@ def check_listed(tool: Tool, case: Case, image: bytes) -> None:
     status, text = tool.ask("list", case.data)
     require(status == 0 and (status, text) == tool.ask("list", image), "list: another text of the image", text)
     first = re.match(rb"volume ffs[23] length (\d+) files (\d+)(?: name " + GUID + rb")?\n", text)
-    head = matched(first, "list: another first line", text)
+    head = require(first, "list: another first line", text)
     require(int(head[1]) == len(case.data), "list: another first line", text)
     require(len(re.findall(rb"(?m)^  file ", text)) == int(head[2]), "list: another count of files", text)
 
@@ -943,7 +923,7 @@ def check_scanned(tool: Tool, case: Case, _image: bytes) -> None:
 
 def check_after(tool: Tool, case: Case, image: bytes) -> None:
     """Checks that `list` ignores bytes after the volume, and that other commands reject them."""
-    more = case.data + bytes_of(tool.pick, 1 + tool.pick.randrange(40))
+    more = case.data + tool.pick.randbytes(1 + tool.pick.randrange(40))
     require(tool.ask("list", more) == tool.ask("list", case.data), "list: another text with bytes after it")
     refusal = f"fault 8 at {len(case.data)}"
     require(tool.ask("normalise", more) == (2, line(refusal)), f"normalise: not {refusal}")
@@ -953,8 +933,8 @@ def check_after(tool: Tool, case: Case, image: bytes) -> None:
 
 def check_placed(tool: Tool, case: Case, image: bytes) -> None:
     """Checks that `--at` finds the volume anywhere in the input."""
-    front, other = bytes_of(tool.pick, tool.pick.randrange(80)), bytes_of(tool.pick, tool.pick.randrange(80))
-    more = front + case.data + bytes_of(tool.pick, tool.pick.randrange(40))
+    front, other = tool.pick.randbytes(tool.pick.randrange(80)), tool.pick.randbytes(tool.pick.randrange(80))
+    more = front + case.data + tool.pick.randbytes(tool.pick.randrange(40))
     at = ["--at", str(len(front))]
     command = tool.pick.choice(("normalise", "list", "check"))
     require(tool.ask(command, more, options=at) == tool.ask(command, case.data), f"{command}: {at} is another answer")
@@ -967,11 +947,6 @@ def check_placed(tool: Tool, case: Case, image: bytes) -> None:
     require(answer == (2, line("fault 1 at 0")), f"{command}: --at {past} is past the end", answer)
 
 
-def is_large(data: bytes, at: int) -> bool:
-    """Returns whether the file at this offset has a large header."""
-    return bool(data[at + 19] & LARGE)
-
-
 CELL = re.compile(
     rb"(?:file at \d+ length \d+ " + GUID + rb" type [0-9a-f]{2} attributes [0-9a-f]{2} data at \d+ length \d+"
     rb"|(?:pad|deleted|unfinished|free) at \d+ length \d+)"
@@ -980,7 +955,7 @@ CELL = re.compile(
 
 def check_cells(tool: Tool, case: Case, _image: bytes) -> None:
     """Checks that the lines of `cells` follow one another, and that they include the files that `list` shows."""
-    status, text = tool.ask("cells", case.data + bytes_of(tool.pick, tool.pick.choice((0, 0, 5))))
+    status, text = tool.ask("cells", case.data + tool.pick.randbytes(tool.pick.choice((0, 0, 5))))
     head, *cells, last = text.splitlines()
     require(status == 0 and re.fullmatch(rb"header at 0 length \d+", head), "cells: another first line", text)
     require(all(map(CELL.fullmatch, cells)), "cells: another line", text)
@@ -995,7 +970,7 @@ def check_cells(tool: Tool, case: Case, _image: bytes) -> None:
             size = int(words[12]) - at + int(words[14])
             require(int(words[12]) - at in (24, 32) and 0 <= length - size < 8, "cells: other data", text)
         elif kind == "pad":
-            large = is_large(case.data, at)
+            large = case.data[at + 19] & LARGE
             size = int.from_bytes(case.data[at + 24 : at + 32] if large else case.data[at + 20 : at + 23], "little")
         sums[{"file": "files", "pad": "pads", "free": "free"}.get(kind, "deleted")] += size
         sums["filler"] += length - size
@@ -1102,7 +1077,7 @@ def check_parts(tool: Tool, case: Case, image: bytes) -> None:
     """Checks that `extract` writes the parts that `list` shows, as the image contains them."""
     lines = tool.ask("list", image, options=["--sums"])[1].decode().splitlines()
     starts = [at for at, it in enumerate(lines) if it.startswith("  file ")]
-    strange = str(uuid.UUID(bytes=bytes_of(tool.pick, 16)))
+    strange = str(uuid.UUID(bytes=tool.pick.randbytes(16)))
     require(tool.ask("extract", image, options=["--name", strange]) == (1, b"not found\n"), "extract: a strange name")
     if starts:
         number = tool.pick.randrange(len(starts))
@@ -1157,7 +1132,7 @@ def check_refused(tool: Tool, case: Case, refusal: bytes) -> None:
         prefix = b"first " if command == "compare" else b""
         require((status, text) == (2, prefix + refusal), f"{command}: another refusal", text, refusal)
         if number != 8:
-            front = bytes_of(tool.pick, tool.pick.randrange(80))
+            front = tool.pick.randbytes(tool.pick.randrange(80))
             placed = tool.ask("check", front + case.data, options=["--at", str(len(front))])
             require(placed == (2, refusal), f"check: --at {len(front)} is another refusal", placed, refusal)
 
@@ -1245,44 +1220,10 @@ def check_list(tool: Tool, case: Case) -> str:
     return "list accepted"
 
 
-NAME = "0a0a0a0a-0a0a-0a0a-0a0a-0a0a0a0a0a0a"
-WRONG_WORDS = """help|--help|-h|--version|-V|Normalise|normalise --help|list --bogus|list a b|compare|compare a|
-compare a b c|check --hex=1|scan a b|extract|extract a|extract --name|extract --name zz a|extract --name 0a0a a|
-extract --name NAME --section 100 a|extract --name NAME --section 0x1 a|extract --name NAME --section +1 a|
-extract --name NAME --section g a|extract --name NAME --instance -1 a|extract --name NAME --instance 4294967296 a|
-extract --name NAME --instance x a|hobs --image a b|hobs --base 1 b|hobs --image a --base -1 b|list -x|hobs a b|
-list --at|list --sums --sums|check --sums a|cells a b|cells --all a|unfix a b|unfix --all a|list --at x a|
-list --at=-1 a|list --at 0x a|list --at 0x+1 a|list --at 18446744073709551616 a|scan --at 8 a|
-hobs --at 8 a|normalise --all --at 8 a|check --all --at 8 a|list --other-at 8 a|compare a b --other-at x|
-hobs --image a --base 0x10 b|hobs --image a --base 18446744073709551616 b|list --name NAME a"""
-
-
-def check_words(tool: Tool, _case: Case) -> str:
-    """Checks the program with wrong arguments, with a file that does not exist, or with text that is not hexadecimal.
-    Returns the outcome."""
-    command = tool.pick.choice(("normalise", "list", "check", "scan", "hobs", "extract"))
-    way = tool.pick.randrange(3)
-    if way == 0:
-        words = tool.pick.choice(WRONG_WORDS.split("|")).replace("NAME", NAME).split()
-        wanted = 3, b"wrong words\n"
-    else:
-        words = [command, *["--name", NAME] * (command == "extract")]
-        wanted = 2, b"fault 25 at 0\n"
-    if way == 1:
-        words += ["--", "--hex"] if tool.pick.randrange(2) else [tool.pick.choice(("-", "no file", tool.folder))]
-    elif way == 2:
-        text = tool.pick.choice((b"0", b"0g", b"00 1", b"0x00", b"\xff\xff", b"00\x0b00", b"00" * 100 + b"\n0"))
-        words += ["--hex", tool.put("text", text)]
-    answer = tool.start(words)
-    require(answer == wanted, f"{words}: {answer}, not {wanted}")
-    return "words"
-
-
 CHECKS: dict[str, Callable[[Tool, Case], str]] = {
     "volume": check_volume,
     "image": check_image,
     "list": check_list,
-    "words": check_words,
 }
 
 
@@ -1338,7 +1279,7 @@ class Run:
         faults = sorted((int(it.split()[1]), count) for it, count in self.outcomes.items() if it.startswith("refused"))
         refused = sum(count for _, count in faults)
         by_number = ", ".join(f"{number}: {count}" for number, count in faults)
-        others = ", ".join(f"{it} {self.outcomes[it]}" for it in ("scanned", "list accepted", "list refused", "words"))
+        others = ", ".join(f"{it} {self.outcomes[it]}" for it in ("scanned", "list accepted", "list refused"))
         return (
             f"count {sum(self.outcomes.values())} seed {self.options.seed} first {self.options.first}: "
             f"volumes accepted {self.outcomes['accepted']}, refused {refused} ({by_number}); {others}; "

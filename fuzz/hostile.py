@@ -17,7 +17,8 @@ from collections.abc import Iterator
 sys.dont_write_bytecode = True  # no folder beside the scripts
 
 from costs import MIB, Cost, Make, cost_of, write  # noqa: E402
-from fuzz import DATA_VALID, FFS3, GROUP, LARGE, MARKED, PAD, ROOT, SUMMED, VOLUME  # noqa: E402
+import fuzz  # noqa: E402
+from fuzz import DATA_VALID, DXE_DEPEX, FFS3, GROUP, LARGE, MARKED, PAD, SUMMED, VOLUME  # noqa: E402
 from fuzz import Header, sum8, sum16  # noqa: E402
 
 COMMANDS = (
@@ -26,7 +27,6 @@ COMMANDS = (
 )
 MOST_SECONDS, MOST_SUMS_SECONDS = 3, 10
 EMPTY_SECTION = b"\x04\0\0\x19"
-EXPRESSION = 0x13
 NAME = bytes([0x0A]) * 16
 
 
@@ -47,10 +47,8 @@ def file_head(
     name: bytes, kind: int, attributes: int, size: int, file_sum: int = 0xAA, state: int = DATA_VALID
 ) -> bytes:
     """Returns the header of a file, which is large if the size needs it."""
-    large = size > 0xFFFFFF
-    head = name + bytes([0, 0, kind, attributes | LARGE * large]) + (0 if large else size).to_bytes(3, "little") + b"\0"
-    head += struct.pack("<Q", size) if large else b""
-    return head[:16] + bytes([sum8(head), file_sum]) + head[18:23] + bytes([state ^ 0xFF]) + head[24:]
+    large = LARGE * (size > 0xFFFFFF)
+    return fuzz.file_head(name, kind, attributes | large, size, 0 if large else size, file_sum, state ^ 0xFF)
 
 
 def file(data: bytes, kind: int = 0x0B, attributes: int = SUMMED) -> bytes:
@@ -176,7 +174,7 @@ def empty_expressions(size: int) -> bytes:
 
 def one_expression(size: int) -> bytes:
     """Returns a volume with one dependency expression of as many ops as fit."""
-    return volume(file(section(EXPRESSION, b"\x06" + b"\x06\x03" * ((size - 200) // 2) + b"\x08")))
+    return volume(file(section(DXE_DEPEX, b"\x06" + b"\x06\x03" * ((size - 200) // 2) + b"\x08")))
 
 
 def small_groups(size: int) -> bytes:
@@ -258,9 +256,11 @@ def is_within(command: str, mib: int, cost: Cost, most: int) -> bool:
 
 def main() -> int:
     """Reads the arguments, and measures all commands over all inputs. Returns the exit status."""
-    reader = argparse.ArgumentParser(description=__doc__)
+    listed = "".join(f"\n{it.__name__}:\n    {it.__doc__}" for it in INPUTS)
+    shape = argparse.RawDescriptionHelpFormatter
+    reader = argparse.ArgumentParser(description=__doc__, epilog=f"inputs:{listed}", formatter_class=shape)
     reader.add_argument("--mib", type=int, default=16, help="about how large the inputs are; 256 is the most")
-    reader.add_argument("--program", default=str(ROOT / "crates/fv_tool/out/fv_tool"), help="the built program")
+    reader.add_argument("--program", default=str(fuzz.ROOT / "crates/fv_tool/out/fv_tool"), help="the built program")
     reader.add_argument("--only", help="one input, by its name")
     options = reader.parse_args()
     over = 0

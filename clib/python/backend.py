@@ -1,7 +1,9 @@
 """Makes the wheel and the source archive of the package for pip, as PEP 517 defines, with Python's standard library
 only: without network, without setuptools, without a compiler. Both contain the library, since only the kit can build
 it: the one that LIBFV names, otherwise fv/libfv.so.2 (which an unpacked source archive contains), otherwise
-clib/out/libfv.so.2 (which clib/build makes). Two runs make the same bytes."""
+clib/out/libfv.so.2 (which clib/build makes). Two runs make the same bytes.
+
+`backend.py files` prints the files of the package for `make install`, and `backend.py commands` its commands."""
 
 from __future__ import annotations
 
@@ -11,6 +13,7 @@ import hashlib
 import io
 import os
 import re
+import sys
 import tarfile
 import zipfile
 from pathlib import Path
@@ -29,12 +32,16 @@ def first_of(what: str, *places: Path) -> bytes:
     raise SystemExit(f"libfv: {what} is not there: clib/build makes it, or LIBFV names it")
 
 
+def package() -> list[Path]:
+    """Returns the files of the package, without the library."""
+    return [*sorted((HERE / "fv").glob("*.py")), HERE / "fv/guids.txt", HERE / "fv/py.typed"]
+
+
 def sources() -> dict[str, bytes]:
     """Returns the files of the package and its licences, by their names."""
     named = os.environ.get("LIBFV")
     places = [Path(named)] if named else [HERE / "fv" / LIBRARY, HERE.parent / "out" / LIBRARY]
-    found = {f"fv/{it.name}": it.read_bytes() for it in sorted((HERE / "fv").glob("*.py"))}
-    found.update({f"fv/{it}": (HERE / "fv" / it).read_bytes() for it in ("guids.txt", "py.typed")})
+    found = {f"fv/{it.name}": it.read_bytes() for it in package()}
     found[f"fv/{LIBRARY}"] = first_of(LIBRARY, *places)
     found["copyright"] = first_of("copyright", HERE / "copyright", HERE.parents[1] / "packaging/copyright")
     return found
@@ -148,3 +155,7 @@ def build_sdist(sdist_directory: str, config_settings: object = None) -> str:
             archive.addfile(entry, io.BytesIO(data))
     Path(sdist_directory, name).write_bytes(gzip.compress(packed.getvalue(), mtime=0))
     return name
+
+
+if __name__ == "__main__":
+    print(*(commands() if sys.argv[1:] == ["commands"] else [it.name for it in package()]))

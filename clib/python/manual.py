@@ -1,6 +1,11 @@
 #!/usr/bin/env python3
-"""manual.py FOLDER: writes the manual pages of the package's commands, which are made from their parsers and from the
-text that `--help` shows."""
+"""Writes the manual pages of the program and of the package's commands to a folder. The page of the program is
+man/fvtool.md with the parts of docs/PROGRAM.md that it links to. The pages of the commands are made from their parsers
+and from the text that `--help` shows.
+
+All are Markdown at first: headings, paragraphs, examples (indented), tables, and items (`- term: text`, and more
+paragraphs and examples, further in). Code and **names** are bold. Words in capitals in code, and *others*, are
+italic."""
 
 from __future__ import annotations
 
@@ -9,6 +14,7 @@ import importlib
 import os
 import re
 import sys
+import textwrap
 from collections.abc import Iterator
 from pathlib import Path
 
@@ -19,44 +25,93 @@ sys.path.insert(0, str(HERE))
 
 import backend  # noqa: E402
 
-ENDING = """.SH ENVIRONMENT
-.TP
-.B LIBFV
-Names the shared object of the library, in place of the one that is installed
-with this command.
-.SH CAVEATS
-The command is not proved.
-The library, which reads volumes, is proved.
-Opened sections are read by the command itself, by Python's
-.B lzma
-and, if it is installed,
-.BR brotli .
-.SH SEE ALSO
-.BR fvtool (1)
-"""
+DOCUMENTS = "/usr/share/doc/fvtool"  # the folder that the pages name
+SIGNS = str.maketrans({"\\": r"\e", "-": r"\-", "'": r"\(aq", "^": r"\(ha", "~": r"\(ti"})
+# The term of an item: code and emphasis.
+TERM = re.compile(r"((?:(?:`[^`]+`|\*+[^*]+\*+)(?:,? and |, | to )?)+): ")
+ENDING = """## Environment
+
+- **LIBFV**: Names the shared object of the library, in place of the one that is installed with this command.
+
+## Caveats
+
+The command is not proved. The library, which reads volumes, is proved. Opened sections are read by the command itself,
+by Python's `lzma` and, if it is installed, `brotli`.
+
+## See also
+
+`fvtool`(1)"""
 
 
 def escaped(text: str) -> str:
-    """Returns a text as roff has it. A part in backticks is bold."""
-    plain = text.replace("\\", r"\e").replace("-", r"\-")
-    return re.sub(r"(?m)^(?=[.'])", r"\\&", re.sub("`([^`]*)`", r"\\fB\1\\fR", plain))
+    """Returns a text as roff has it. No line of it is a request."""
+    return re.sub(r"(?m)^\.", r"\\&.", text.translate(SIGNS))
 
 
-def paragraphs(text: str) -> str:
-    """Returns the paragraphs of a text. Indented lines are examples."""
-    found = []
-    for paragraph in text.strip("\n").split("\n\n"):
-        lines = [escaped(it.strip()) for it in paragraph.split("\n")]
-        is_example = paragraph.startswith("    ")
-        found.append("\n".join([".nf", ".RS", *lines, ".RE", ".fi"] if is_example else lines))
-    return "\n.PP\n".join(found)
+def bold(code: str) -> str:
+    """Returns code in bold. Words in capitals are italic."""
+    return r"\fB" + re.sub(r"(?<![-\w])[A-Z]+\b", r"\\fI\g<0>\\fB", code) + r"\fR"
+
+
+def inline(text: str) -> str:
+    """Returns the text of a paragraph as roff has it."""
+
+    def font(span: re.Match[str]) -> str:
+        """Returns code, a name or an emphasis in its font."""
+        code, name, emphasis = span.groups()
+        return bold(code.strip()) if code else rf"\fB{name}\fR" if name else rf"\fI{emphasis}\fR"
+
+    plain = re.sub(r"\[([^]]+)\]\([^)]*\)", r"\1", " ".join(text.split()))  # without links
+    return re.sub(r"`([^`]+)`|\*\*([^*]+)\*\*|\*([^*]+)\*", font, escaped(plain))
+
+
+def item(text: str) -> str:
+    """Returns an item of a list: a term with its meaning, or a text after a bullet or a number."""
+    mark, _, rest = text.partition(" ")
+    if term := TERM.match(rest):
+        return f".TP\n{inline(term[1])}\n{inline(rest[term.end() :])}"
+    bullet = r"\(bu" if mark == "-" else mark
+    return f".IP {bullet} 3\n{inline(rest)}"
+
+
+def table(text: str) -> Iterator[str]:
+    """Yields the rows of a table: the first two cells, and others after their headings."""
+    head, _, *rows = ([it.strip() for it in line.strip("|").split(" | ")] for line in text.split("\n"))
+    for first, second, *others in rows:
+        more = (f"\n.br\n{inline(f'{name}: {it}')}" for name, it in zip(head[2:], others))
+        yield f".TP\n\\fB{inline(first)}\\fR\n{inline(second)}{''.join(more)}"
+
+
+def roff(text: str) -> Iterator[str]:
+    """Yields the parts of a page. Its synopsis is shown like code."""
+    heading, is_first = "", True
+    for block in re.split(r"\n\n|\n(?=- |\d\. )", text.strip("\n")):
+        depth = len(block) - len(block.lstrip(" "))
+        begin = "" if is_first else ".IP\n" if depth in (2, 6) else ".PP\n"
+        is_first = block.startswith("##")
+        if block.startswith("## "):
+            heading = block[3:].upper()
+            yield f".SH {heading}"
+        elif is_first:
+            yield f".SS {block[4:]}"
+        elif re.match(r"- |\d\. ", block):
+            yield item(block)
+        elif block.startswith("|"):
+            yield from table(block)
+        elif depth < 4:
+            yield begin + inline(block)
+        elif heading == "SYNOPSIS":
+            yield "\n".join([".nf", *map(bold, escaped(textwrap.dedent(block)).split("\n")), ".fi"])
+        else:
+            lines = f".nf\n{escaped(textwrap.dedent(block))}\n.fi"
+            yield begin + (lines if depth >= 6 else f".RS 4\n{lines}\n.RE")
 
 
 def statuses(text: str) -> Iterator[str]:
     """Yields the exit statuses of a command, each with its meaning."""
     _, *parts = re.split(r"(?:^|(?<=\. ))(\d): ", " ".join(text.split()))
     for number, meaning in zip(parts[::2], map(str.strip, parts[1::2])):
-        yield f".TP\n.B {number}\n{escaped(meaning[0].upper() + meaning[1:])}"
+        yield f"- `{number}`: {meaning[0].upper()}{meaning[1:]}"
 
 
 def options(parser: argparse.ArgumentParser) -> Iterator[str]:
@@ -64,43 +119,48 @@ def options(parser: argparse.ArgumentParser) -> Iterator[str]:
     for action in parser._actions:
         names = ", ".join(action.option_strings) or str(action.metavar)
         value = f" {action.metavar}" if action.option_strings and action.metavar else ""
-        yield f".TP\n.B {escaped(names + value)}\n{escaped(str(action.help))}"
+        yield f"- `{names}{value}`: {action.help}"
 
 
-def page(parser: argparse.ArgumentParser, version: str, date: str) -> str:
-    """Returns the manual page of a command."""
-    name, (about, _, status) = parser.prog, str(parser.description).partition("\n\nExit status ")
+def of_command(parser: argparse.ArgumentParser) -> str:
+    """Returns the page of a command in Markdown."""
+    about, _, status = str(parser.description).partition("\n\nExit status ")
     subject, rest = re.split(r"\.\s", about, maxsplit=1)
-    subject = " ".join(subject.split())
-    usage = re.sub("(?m)^ +", "", parser.format_usage().replace("usage: ", "", 1)).rstrip()
-    lines = [
-        f'.TH {escaped(name.upper())} 1 {date} "Capstanolive {version}" "User Commands"',
-        f".SH NAME\n{escaped(name)} \\- {escaped(subject[0].lower() + subject[1:])}",
-        f".SH SYNOPSIS\n.nf\n{escaped(usage)}\n.fi",
-        f".SH DESCRIPTION\n{paragraphs(rest)}",
-        ".SH OPTIONS",
-        *options(parser),
-        ".SH EXIT STATUS",
-        *statuses(status),
-        ENDING,
-    ]
-    return "\n".join(lines)
+    usage = re.sub("(?m)^ *", "    ", parser.format_usage().replace("usage: ", "", 1).rstrip())
+    name = f"{parser.prog} - {subject[0].lower()}{subject[1:]}"
+    described = ["## Name", name, "## Synopsis", usage, "## Description", rest.strip("\n")]
+    return "\n\n".join([*described, "## Options", *options(parser), "## Exit status", *statuses(status), ENDING])
 
 
-def main() -> int:
+def of_program() -> str:
+    """Returns the page of the program in Markdown, with the sections of docs/PROGRAM.md that it links to."""
+    guide = (ROOT / "docs/PROGRAM.md").read_text(encoding="utf-8").replace("### Exit status", "## Exit status")
+
+    def section(link: re.Match[str]) -> str:
+        """Returns a section, without its heading."""
+        return re.split(r"(?m)^## (?!Exit status)", guide.split(f"\n## {link[1]}\n")[1])[0].strip("\n")
+
+    page = (ROOT / "man/fvtool.md").read_text(encoding="utf-8")
+    return re.sub(r"(?m)^\[(.*)\]\(\.\./docs/PROGRAM\.md#\S+\)$", section, page)
+
+
+def main() -> None:
     """Writes the pages."""
-    if len(sys.argv) != 2:
-        print("usage: manual.py FOLDER", file=sys.stderr)
-        return 3
+    reader = argparse.ArgumentParser(description="Writes the manual pages of the program and of the commands.")
+    reader.add_argument("folder", type=Path, help="the folder that gets the pages")
+    reader.add_argument("documents", nargs="?", default=DOCUMENTS, help="the folder with the documents of the program")
+    given = reader.parse_args()
     os.environ["COLUMNS"] = "80"  # the width of a usage
-    date = re.search(r"^\.TH \S+ 1 (\S+)", (ROOT / "man/fvtool.1").read_text(encoding="utf-8"))
-    assert date, "no date"
-    version = (ROOT / "VERSION").read_text(encoding="utf-8").strip()
+    title, _, program = of_program().partition("\n\n")
+    pages = {"fvtool": program.replace(DOCUMENTS, given.documents)}
     for name, module in [*backend.commands().items(), ("fvmap", "fv.map")]:  # the name of fv-map in 1.0
-        text = page(importlib.import_module(module).parser(), version, date[1])
-        Path(sys.argv[1], f"{name}.1").write_text(text, encoding="utf-8")
-    return 0
+        pages[name] = of_command(importlib.import_module(module).parser())
+    version = (ROOT / "VERSION").read_text(encoding="utf-8").strip()
+    about = f'{title.split()[-1]} "Capstanolive {version}" "User Commands"'
+    for name, page in pages.items():
+        lines = [f".TH {escaped(name.upper())} 1 {about}", *roff(page), ""]
+        (given.folder / f"{name}.1").write_text("\n".join(lines), encoding="utf-8")
 
 
 if __name__ == "__main__":
-    sys.exit(main())
+    main()

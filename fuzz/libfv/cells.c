@@ -1,9 +1,8 @@
 /* What holds of fv_volume_cells: the cells follow one another up to the end of the volume, and each is what its bytes
  * say. */
 #include "coverage.h"
-#include "heap.h"
 #include "results.h"
-#include "rooms.h"
+#include "rows.h"
 #include "volume.h"
 
 /* The bits of State. The highest one that was written says what a cell is. */
@@ -62,61 +61,31 @@ static void check_cells(const struct volume *v)
     CHECK(at == v->header.length, "cells: they end at %lu of %lu", at, v->header.length);
 }
 
-static void read_cells(struct volume *v)
+static fv_result call(const uint8_t *bytes, size_t len, void *rows, size_t room, size_t *count, fv_fault *fault)
 {
-    static fv_cell cells[MOST_ROWS];
-    size_t count = 7, n = v->cell_count;
-    fv_fault fault = unset_fault;
-    if (n) {
-        uint8_t *less = new_buffer((n - 1) * sizeof *cells, 8);
-        fv_result result = fv_volume_cells(v->bytes, v->len, (fv_cell *)(void *)less, n - 1, &count, &fault);
-        check_plain("cells", result, FV_BUFFER_TOO_SMALL, &fault);
-        CHECK(count == n, "cells: %lu, then %lu", n, count);
-        check_untouched(less, "cells");
-        count = 7;
-    }
-    /* With room for one more, that one is left as it is. */
-    size_t room = n + (v->parameters[FILE_CHOICE] & 1);
-    uint8_t *buffer = new_buffer(room * sizeof *cells, 8);
-    fault = unset_fault;
-    fv_result result = fv_volume_cells(v->bytes, v->len, (fv_cell *)(void *)buffer, room, &count, &fault);
-    check_plain("cells", result, FV_OK, &fault);
-    CHECK(count == n, "cells: %lu, then %lu", n, count);
-    check_written(buffer, n * sizeof *cells, "cells");
-    memcpy(cells, buffer, n * sizeof *cells);
-    v->cells = cells;
+    return fv_volume_cells(bytes, len, rows, room, count, fault);
 }
 
 void try_cells(struct volume *v)
 {
-    size_t count = UNTOUCHED_64;
-    fv_fault fault = unset_fault;
-    fv_cell *none = no_buffer();
-    fv_result result = fv_volume_cells(v->bytes, v->len, none, 0, &count, &fault);
-    check_no_block_is_kept("cells");
-    if (result != FV_OK && result != FV_BUFFER_TOO_SMALL) {
+    static fv_cell cells[MOST_ROWS];
+    const struct rows rows = {"cells", call, sizeof *cells, 8, v->bytes, v->len};
+    size_t count;
+    fv_fault fault;
+    fv_result result = count_rows(&rows, &count, &fault);
+    bool is_read = !result && count < MOST_ROWS;
+    if (result) {
         check_result("cells", result, &fault, FV_FAULT_FREE_SPACE, v->len);
-        CHECK(count == UNTOUCHED_64, "cells has changed the count");
         CHECK(result == v->result && is_same_fault(&fault, &v->fault), "cells: %u, normalise: %u", result, v->result);
-        uint8_t *some = new_buffer(4 * sizeof(fv_cell), 8);
-        fv_result again = fv_volume_cells(v->bytes, v->len, (fv_cell *)(void *)some, 4, &count, &fault);
-        CHECK(again == result && count == UNTOUCHED_64, "cells: %u, then %u", result, again);
-        check_untouched(some, "cells of a volume that is rejected");
     } else {
-        check_plain("cells", result, count ? FV_BUFFER_TOO_SMALL : FV_OK, &fault);
         v->cell_count = count;
-        if (count < MOST_ROWS) {
-            read_cells(v);
-            check_cells(v);
-            saw(SEEN_CELLS, count > 20 ? 20 : (uint32_t)count, 0, 0);
-        }
     }
-    bool has_room = result == FV_BUFFER_TOO_SMALL && count < MOST_ROWS && v->parameters[REFUSED + 1] & 1;
-    size_t room = has_room ? count : 0;
-    uint8_t *buffer = new_buffer(room * sizeof(fv_cell), 8);
-    refuse_allocation(v->parameters[REFUSED + 2]);
+    if (is_read) {
+        read_rows(&rows, count, v->parameters[FILE_CHOICE] & 1, cells);
+        v->cells = cells;
+        check_cells(v);
+        saw(SEEN_CELLS, count > 20 ? 20 : (uint32_t)count, 0, 0);
+    }
     fv_fault *wanted = FAULT_OR_NULL(v->parameters, &fault);
-    fv_result again = fv_volume_cells(v->bytes, v->len, (fv_cell *)(void *)buffer, room, &count, wanted);
-    check_refusal("cells", again, has_room ? FV_OK : result, wanted);
-    if (again) check_untouched(buffer, "cells without memory");
+    refuse_rows(&rows, count, is_read && v->parameters[REFUSED + 1] & 1, result, v->parameters[REFUSED + 2], wanted);
 }

@@ -1,9 +1,8 @@
 /* What holds of fv_hobs_read: the blocks follow one another up to the end block, and each is what its bytes say. */
 #include "coverage.h"
 #include "harness.h"
-#include "heap.h"
 #include "results.h"
-#include "rooms.h"
+#include "rows.h"
 
 enum { VOLUME_BLOCK = 0x0005, SECOND_VOLUME_BLOCK = 0x0009, END_BLOCK = 0xFFFF };
 #define MOST_BLOCKS 30000u
@@ -28,24 +27,16 @@ static void check_block(const uint8_t *bytes, const fv_hob *block, uint64_t numb
     saw(SEEN_BLOCK, block->hob_type, 0, 0);
 }
 
-/* The buffer has room for `n` blocks and `more`. */
-static void check_blocks(const uint8_t *bytes, size_t len, size_t n, size_t more)
+static size_t list_length;
+
+static fv_result call(const uint8_t *bytes, size_t len, void *rows, size_t room, size_t *count, fv_fault *fault)
 {
-    size_t count = 1, list_length = 2;
+    return fv_hobs_read(bytes, len, rows, room, count, &list_length, fault);
+}
+
+static void check_blocks(const uint8_t *bytes, size_t len, const fv_hob *blocks, size_t n)
+{
     uint64_t at = 0;
-    fv_fault fault = unset_fault;
-    uint8_t *less = new_buffer((n - 1) * sizeof(fv_hob), 8);
-    fv_result result = fv_hobs_read(bytes, len, (fv_hob *)(void *)less, n - 1, &count, &list_length, &fault);
-    check_plain("hobs", result, FV_BUFFER_TOO_SMALL, &fault);
-    CHECK(count == n, "hobs: %lu, then %lu", n, count);
-    check_untouched(less, "hobs");
-    fault = unset_fault;
-    uint8_t *buffer = new_buffer((n + more) * sizeof(fv_hob), 8);
-    const fv_hob *blocks = (const fv_hob *)(const void *)buffer;
-    result = fv_hobs_read(bytes, len, (fv_hob *)(void *)buffer, n + more, &count, &list_length, &fault);
-    check_plain("hobs", result, FV_OK, &fault);
-    CHECK(count == n, "hobs: %lu, then %lu", n, count);
-    check_written(buffer, n * sizeof(fv_hob), "hobs");
     for (size_t i = 0; i < n; i++) {
         CHECK(at + 8 <= len && blocks[i].hob_length <= len - at, "hobs: number %lu is past the end", i);
         check_block(bytes + at, blocks + i, i);
@@ -57,33 +48,27 @@ static void check_blocks(const uint8_t *bytes, size_t len, size_t n, size_t more
 
 void try_hand_off_list(const uint8_t *bytes, size_t len, const uint8_t *parameters)
 {
-    size_t count = UNTOUCHED_64, list_length = UNTOUCHED_64;
-    fv_fault fault = unset_fault;
-    fv_result result = fv_hobs_read(bytes, len, no_buffer(), 0, &count, &list_length, &fault);
-    check_no_block_is_kept("hobs");
+    static fv_hob blocks[MOST_BLOCKS];
+    const struct rows rows = {"hobs", call, sizeof *blocks, 8, bytes, len};
+    size_t count;
+    fv_fault fault;
+    list_length = UNTOUCHED_64;
+    fv_result result = count_rows(&rows, &count, &fault);
+    bool is_read = !result && count <= MOST_BLOCKS;
     saw(SEEN_LIST, result, count > 12 ? 12 : (uint32_t)count, 0);
-    if (result == FV_BUFFER_TOO_SMALL) {
-        check_plain("hobs", result, FV_BUFFER_TOO_SMALL, &fault);
-        CHECK(count, "hobs: no block, and no room for it");
-        if (count <= MOST_BLOCKS) check_blocks(bytes, len, count, parameters[ROW_CHOICE] & 1);
-    } else {
+    if (result) {
         CHECK(result >= FV_FAULT_HOB_SHORT && result <= FV_FAULT_HOB_NO_END && fault.result == result &&
                   fault.offset <= len && !fault.depth && !fault.input && !fault.reserved,
               "hobs: %u, and fault %u at %lu", result, fault.result, fault.offset);
         CHECK(fv_result_text(result)[0], "hobs: result %u has no text", result);
-        CHECK(count == UNTOUCHED_64 && list_length == UNTOUCHED_64, "hobs has changed the count");
-        uint8_t *some = new_buffer(4 * sizeof(fv_hob), 8);
-        fv_result with_room = fv_hobs_read(bytes, len, (fv_hob *)(void *)some, 4, &count, &list_length, &fault);
-        CHECK(with_room == result && count == UNTOUCHED_64 && list_length == UNTOUCHED_64, "hobs: %u, then %u", result,
-              with_room);
-        check_untouched(some, "hobs of a list that is rejected");
+        CHECK(list_length == UNTOUCHED_64, "hobs has changed the length of the list");
+    } else {
+        CHECK(count, "hobs: no block, and no room for it");
     }
-    bool has_room = result == FV_BUFFER_TOO_SMALL && count <= MOST_BLOCKS && parameters[REFUSED + 1] & 1;
-    size_t room = has_room ? count : 0;
-    uint8_t *buffer = new_buffer(room * sizeof(fv_hob), 8);
+    if (is_read) {
+        read_rows(&rows, count, parameters[ROW_CHOICE] & 1, blocks);
+        check_blocks(bytes, len, blocks, count);
+    }
     fv_fault *wanted = FAULT_OR_NULL(parameters, &fault);
-    refuse_allocation(parameters[REFUSED]);
-    fv_result again = fv_hobs_read(bytes, len, (fv_hob *)(void *)buffer, room, &count, &list_length, wanted);
-    check_refusal("hobs", again, has_room ? FV_OK : result, wanted);
-    if (again) check_untouched(buffer, "hobs without memory");
+    refuse_rows(&rows, count, is_read && parameters[REFUSED + 1] & 1, result, parameters[REFUSED], wanted);
 }

@@ -2,9 +2,8 @@
  * volume are cells; the rows of a nested volume are those of its bytes; and the image has the same rows at other
  * offsets. */
 #include "coverage.h"
-#include "heap.h"
 #include "results.h"
-#include "rooms.h"
+#include "rows.h"
 #include "volume.h"
 
 static bool has_no_reserved(const fv_node *node)
@@ -144,70 +143,34 @@ static const fv_node *check_tree_of_image(const struct volume *v, const fv_node 
     return of_image;
 }
 
-static const fv_node *read_tree(const struct volume *v, size_t n)
+static fv_result call(const uint8_t *bytes, size_t len, void *rows, size_t room, size_t *count, fv_fault *fault)
 {
-    static fv_node nodes[MOST_NODES];
-    size_t count = 7;
-    fv_fault fault = unset_fault;
-    uint8_t *less = new_buffer((n - 1) * sizeof *nodes, 8);
-    fv_result result = fv_volume_tree(v->bytes, v->len, (fv_node *)(void *)less, n - 1, &count, &fault);
-    check_plain("tree", result, FV_BUFFER_TOO_SMALL, &fault);
-    CHECK(count == n, "tree: %lu, then %lu", n, count);
-    check_untouched(less, "tree");
-    count = 7;
-    /* With room for one more, that one is left as it is. */
-    size_t room = n + (v->parameters[ROW_CHOICE] & 1);
-    uint8_t *buffer = new_buffer(room * sizeof *nodes, 8);
-    fault = unset_fault;
-    result = fv_volume_tree(v->bytes, v->len, (fv_node *)(void *)buffer, room, &count, &fault);
-    check_plain("tree", result, FV_OK, &fault);
-    CHECK(count == n, "tree: %lu, then %lu", n, count);
-    check_written(buffer, n * sizeof *nodes, "tree");
-    return memcpy(nodes, buffer, n * sizeof *nodes);
-}
-
-/* A volume that is rejected has the same fault with room for rows, which are not written. */
-static void check_rejected(const struct volume *v, fv_result result)
-{
-    size_t count = UNTOUCHED_64;
-    fv_fault fault = unset_fault;
-    uint8_t *some = new_buffer(4 * sizeof(fv_node), 8);
-    fv_result again = fv_volume_tree(v->bytes, v->len, (fv_node *)(void *)some, 4, &count, &fault);
-    CHECK(again == result && is_same_fault(&fault, &v->fault) && count == UNTOUCHED_64, "tree: %u, then %u", result,
-          again);
-    check_untouched(some, "tree of a volume that is rejected");
+    return fv_volume_tree(bytes, len, rows, room, count, fault);
 }
 
 void try_tree(struct volume *v)
 {
-    size_t count = UNTOUCHED_64;
-    fv_fault fault = unset_fault;
-    fv_result result = fv_volume_tree(v->bytes, v->len, no_buffer(), 0, &count, &fault);
-    check_no_block_is_kept("tree");
-    if (result != FV_BUFFER_TOO_SMALL) {
+    static fv_node nodes[MOST_NODES];
+    const struct rows rows = {"tree", call, sizeof *nodes, 8, v->bytes, v->len};
+    size_t count;
+    fv_fault fault;
+    fv_result result = count_rows(&rows, &count, &fault);
+    bool is_read = !result && count < MOST_NODES;
+    if (result) {
         check_result("tree", result, &fault, FV_FAULT_DEPTH, v->len);
-        CHECK(count == UNTOUCHED_64, "tree has changed the count");
-        CHECK(result && result == v->unread && is_same_fault(&fault, &v->fault), "tree: %u, normalise: %u", result,
-              v->result);
-        check_rejected(v, result);
+        CHECK(result == v->unread && is_same_fault(&fault, &v->fault), "tree: %u, normalise: %u", result, v->result);
     } else {
         CHECK(!v->unread && count, "tree: %lu rows, normalise: %u", count, v->result);
-        check_plain("tree", result, FV_BUFFER_TOO_SMALL, &fault);
         v->node_count = count;
-        if (count < MOST_NODES) {
-            v->nodes = read_tree(v, count);
-            check_nodes(v, v->nodes, count);
-            check_files_are_cells(v, v->nodes, count);
-            check_volumes_of_tree(v, v->nodes, count);
-            if (v->image) v->image_nodes = check_tree_of_image(v, v->nodes, count);
-        }
     }
-    bool has_room = v->nodes && v->parameters[REFUSED + 2] & 1;
-    size_t room = has_room ? count : 0;
-    uint8_t *buffer = new_buffer(room * sizeof(fv_node), 8);
+    if (is_read) {
+        read_rows(&rows, count, v->parameters[ROW_CHOICE] & 1, nodes);
+        v->nodes = nodes;
+        check_nodes(v, nodes, count);
+        check_files_are_cells(v, nodes, count);
+        check_volumes_of_tree(v, nodes, count);
+        if (v->image) v->image_nodes = check_tree_of_image(v, nodes, count);
+    }
     fv_fault *wanted = FAULT_OR_NULL(v->parameters, &fault);
-    refuse_allocation(v->parameters[REFUSED + 2]);
-    fv_result again = fv_volume_tree(v->bytes, v->len, (fv_node *)(void *)buffer, room, &count, wanted);
-    check_refusal("tree", again, has_room ? FV_OK : result, wanted);
-    if (again) check_untouched(buffer, "tree without memory");
+    refuse_rows(&rows, count, is_read && v->parameters[REFUSED + 2] & 1, result, v->parameters[REFUSED + 2], wanted);
 }

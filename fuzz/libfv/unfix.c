@@ -5,6 +5,7 @@
 #include "heap.h"
 #include "results.h"
 #include "rooms.h"
+#include "rows.h"
 #include "volume.h"
 
 /* Bytes of the header of a file, and the bit of its attributes that marks it. */
@@ -55,26 +56,6 @@ static void check_others(const struct volume *v)
     }
 }
 
-/* A call with a buffer of this many bytes. */
-static void try_room(const struct volume *v, size_t room, fv_result otherwise, const fv_fault *usual)
-{
-    uint8_t *buffer = new_buffer(room, 1);
-    fv_fault fault = unset_fault;
-    fv_result result = fv_volume_unfix(v->bytes, v->len, room ? buffer : no_buffer(), room, &fault);
-    check_no_block_is_kept("unfix");
-    if (room < v->len) {
-        check_short("unfix", result, &fault, otherwise, usual);
-    } else {
-        CHECK(result == otherwise && is_same_fault(&fault, usual), "unfix: %u, then %u", otherwise, result);
-    }
-    if (result) {
-        check_untouched(buffer, "unfix");
-        return;
-    }
-    check_written(buffer, v->len, "unfix");
-    CHECK(!memcmp(buffer, unfixed, v->len), "unfix: two results");
-}
-
 /* The input is no buffer: it is not written to, which main.c sees. */
 static void try_in_place(const struct volume *v)
 {
@@ -112,27 +93,19 @@ static void check_fault(const struct volume *v, fv_result result, const fv_fault
 
 void try_unfix(const struct volume *v)
 {
-    uint8_t *buffer = new_buffer(v->len, 1);
-    fv_fault fault = unset_fault;
-    /* no memory is asked for */
-    refuse_allocation(0);
-    fv_result result = fv_volume_unfix(v->bytes, v->len, buffer, v->len, &fault);
+    struct copy copy = {.name = "unfix", .call = fv_volume_unfix, .bytes = v->bytes, .len = v->len};
+    refuse_allocation(0); /* no memory is asked for */
+    make_copy(&copy, unfixed);
     CHECK(!end_refusal(), "unfix has asked for memory");
-    check_no_block_is_kept("unfix");
-    check_result("unfix", result, &fault, FV_FAULT_FREE_SPACE, v->len);
-    saw(SEEN_UNFIX, 10, result, fault.offset & 7);
-    if (result) {
-        check_untouched(buffer, "unfix");
-        check_fault(v, result, &fault);
+    check_result("unfix", copy.result, &copy.fault, FV_FAULT_FREE_SPACE, v->len);
+    saw(SEEN_UNFIX, 10, copy.result, copy.fault.offset & 7);
+    if (copy.result) {
+        check_fault(v, copy.result, &copy.fault);
     } else {
-        check_written(buffer, v->len, "unfix");
-        memcpy(unfixed, buffer, v->len);
         check_marks(v);
         check_twice(v);
         check_others(v);
     }
-    try_room(v, v->len + 1 + v->parameters[FILE_CHOICE] % 9, result, &fault);
-    if (v->len) try_room(v, v->len - 1, result, &fault);
-    try_room(v, 0, result, &fault);
+    try_rooms(&copy, v->parameters);
     try_in_place(v);
 }

@@ -6,6 +6,7 @@
 #include "heap.h"
 #include "results.h"
 #include "rooms.h"
+#include "rows.h"
 
 static uint8_t image[MOST_BUFFER];
 
@@ -35,64 +36,22 @@ static void try_header(struct volume *v)
     CHECK(!memcmp(&h->attributes, v->bytes + 44, 4), "the header's attributes");
 }
 
-static void try_short_normalise(const struct volume *v)
-{
-    if (!v->len) return;
-    uint8_t *buffer = new_buffer(v->len - 1, 1);
-    fv_fault fault = unset_fault;
-    fv_result result = fv_volume_normalise(v->bytes, v->len, buffer, v->len - 1, &fault);
-    check_no_block_is_kept("normalise");
-    check_short("normalise", result, &fault, v->result, &v->fault);
-    check_untouched(buffer, "normalise with a short buffer");
-}
-
-static void try_normalise_again(const struct volume *v)
-{
-    uint8_t *buffer = new_buffer(v->len, 1);
-    fv_fault fault = unset_fault;
-    fv_result result = fv_volume_normalise(v->bytes, v->len, buffer, v->len, &fault);
-    CHECK(result == v->result && is_same_fault(&fault, &v->fault), "normalise: %u, then %u", v->result, result);
-    CHECK(result || !memcmp(buffer, v->image, v->len), "normalise: two images");
-    /* With more room, what is after the image is left as it is. */
-    size_t room = v->len + 1 + v->parameters[FILE_CHOICE] % 9;
-    buffer = new_buffer(room, 1);
-    result = fv_volume_normalise(v->bytes, v->len, buffer, room, &fault);
-    CHECK(result == v->result && is_same_fault(&fault, &v->fault), "normalise: %u, and %u with more room", v->result,
-          result);
-    if (result)
-        check_untouched(buffer, "normalise with more room");
-    else
-        check_written(buffer, v->len, "normalise with more room");
-    buffer = new_buffer(v->len, 1);
-    fv_fault *wanted = FAULT_OR_NULL(v->parameters, &fault);
-    refuse_allocation(v->parameters[REFUSED]);
-    result = fv_volume_normalise(v->bytes, v->len, buffer, v->len, wanted);
-    check_refusal("normalise", result, v->result, wanted);
-    if (result) check_untouched(buffer, "normalise without memory");
-}
-
 static void try_normalise(struct volume *v)
 {
-    uint8_t *buffer = new_buffer(v->len, 1);
-    v->fault = unset_fault;
-    v->result = fv_volume_normalise(v->bytes, v->len, buffer, v->len, &v->fault);
-    check_no_block_is_kept("normalise");
+    struct copy copy = {.name = "normalise", .call = fv_volume_normalise, .bytes = v->bytes, .len = v->len};
+    make_copy(&copy, image);
+    v->result = copy.result;
+    v->fault = copy.fault;
+    v->image = copy.written;
     check_result("normalise", v->result, &v->fault, FV_FAULT_TOP_ALIGNMENT, v->len);
     saw(SEEN_NORMALISE, v->result, v->fault.depth, v->fault.offset & 7);
-    if (v->result) {
-        check_untouched(buffer, "normalise");
-    } else {
-        check_written(buffer, v->len, "normalise");
-        memcpy(image, buffer, v->len);
-        v->image = image;
-    }
     bool is_read = v->result == FV_FAULT_NO_ROOM || v->result == FV_FAULT_TOP_ALIGNMENT;
     v->unread = is_read ? FV_OK : v->result;
     if (v->header_result)
         CHECK(v->result == v->header_result && is_same_fault(&v->header_fault, &v->fault),
               "header_read: %u, normalise: %u", v->header_result, v->result);
-    try_short_normalise(v);
-    try_normalise_again(v);
+    try_rooms(&copy, v->parameters);
+    refuse_copy(&copy, v->parameters);
 }
 
 static void try_is_canonical(const struct volume *v)

@@ -99,30 +99,16 @@ def volumes(image: memoryview) -> Iterator[tuple[int, memoryview]]:
         yield 0, image
 
 
-def rejected(at: int, fault: fv.Fault, base: int = 0) -> Line:
-    """Returns the line of a rejected volume. The offset of its fault counts from the base."""
-    where = {"offset": fault.offset - base, "depth": fault.depth}
-    return {"volume": at, "fault": fault.number, **where, "text": fault.text}
-
-
-def checks(image: memoryview) -> Iterator[Line]:
-    """Yields the lines of `check` for all volumes of an image, which a single call reads."""
-    for it in fv.image_check(image):
-        judged: Line = {"volume": it.offset, "canonical": it.canonical}
-        yield rejected(it.offset, it.fault, it.offset) if it.fault else judged
-
-
 def lines(image: memoryview, name: str) -> Iterator[Line]:
-    """Yields the lines of a command."""
-    if name == "check" and len(image) <= fv.LENGTH_MAX and fv.image_scan(image):
-        yield from checks(image)
-        return
+    """Yields the lines of a command. A rejected volume has one line, with its fault."""
     for at, volume in volumes(image):
         try:
             for line in COMMANDS[name](volume):
                 yield {"volume": at, **line}
         except fv.FaultError as error:
-            yield rejected(at, error.fault)
+            fault = error.fault
+            place = {"offset": fault.offset, "depth": fault.depth}
+            yield {"volume": at, "fault": fault.number, **place, "text": fault.text}
 
 
 def text_of(line: Line) -> str:
@@ -154,7 +140,3 @@ def main(words: list[str]) -> int:
         print(json.dumps(line) if given.json else text_of(line))
         status = max(status, cli.REJECTED if "fault" in line else int(line.get("canonical") is False))
     return status
-
-
-if __name__ == "__main__":
-    raise SystemExit(main())

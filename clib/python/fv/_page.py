@@ -18,24 +18,8 @@ MOST_DRAWN = 1000  # files of a volume that are drawn as areas
 MOST_ROWS = 5000  # rows of a table
 MOST_SECTIONS, MOST_CLOSED = 8, 4  # sections that the row of a file names, and sections that are not opened
 
-# The classes of the colours by the types of files.
-COLORS = {
-    0x01: "raw",
-    0x02: "free-form",
-    0x03: "core",
-    0x04: "core",
-    0x05: "core",
-    0x06: "pei",
-    0x07: "dxe",
-    0x08: "pei",
-    0x09: "app",
-    0x0A: "mm",
-    0x0B: "image",
-    0x0C: "mm",
-    0x0D: "core",
-    0x0E: "mm",
-    0x0F: "core",
-}
+# The classes of the colours by the types of files, from 0x01 on.
+COLORS = dict(enumerate("raw free-form core core core pei dxe pei app mm image mm core mm core".split(), 0x01))
 LEGEND = {
     "core": "core (SEC, PEI, DXE, MM)",
     "pei": "PEI module",
@@ -154,7 +138,6 @@ class Page:
         self._used: set[str] = set()
         self._marks: set[str] = set()
         self._anchors: dict[int, str] = {}
-        self._legend_at = 0
 
     def add(self, *lines: str) -> None:
         """Adds lines of markup."""
@@ -170,13 +153,15 @@ class Page:
         letter = "v" if isinstance(what, Sheet) else "f"
         return self._anchors.setdefault(id(what), f"{letter}{len(self._anchors)}")
 
-    def head(self, drawing: Drawing, name: str) -> None:
-        """Adds the head of the page, which says what image it is."""
+    def head(self, drawing: Drawing, name: str, is_cut: bool) -> str:
+        """Returns the head of the page, which says what image it is, and has the legend of the colours on the page."""
         size, count = len(drawing.data), len(drawing.sheets)
         total = sum(sheet.volume.length for sheet in drawing.sheets)
-        self.add(f"<header><h1>{text(name)}</h1>")
-        self.add(f"<p>{text(bytes_of(size))}, {count} volume{'s' * (count != 1)} in {percent(total, size)} of it</p>")
-        self.add(f'<p class="mono dim">SHA-256 {drawing.digest}</p></header>')
+        cut = f"\n<p>Not all is shown: there are more than {MOST_VOLUMES} volumes.</p>" if is_cut else ""
+        return f"""<header><h1>{text(name)}</h1>
+<p>{text(bytes_of(size))}, {count} volume{'s' * (count != 1)} in {percent(total, size)} of it</p>
+<p class="mono dim">SHA-256 {drawing.digest}</p></header>{cut}
+{self.legend()}"""
 
     def strip(self, parts: list[Stripe], whole: int) -> None:
         """Adds the parts of a whole. Parts too thin to be seen are drawn as one, except those that are not volumes."""
@@ -405,31 +390,22 @@ class Page:
         shown += [f'<span><i class="mark {it}"></i>{it}</span>' for it in ("came", "changed") if it in self._marks]
         return f'<p class="legend">{"".join(shown)}</p>'
 
-    def begin_legend(self) -> None:
-        """Keeps a place for the legend, which is known when everything else is on the page."""
-        self._legend_at = len(self._lines)
-
-    def whole(self, title: str) -> str:
+    def whole(self, head: str, title: str) -> str:
         """Returns the page."""
         start = START.replace("@TITLE@", text(title)).replace("@STYLE@", STYLE)
-        before, after = self._lines[: self._legend_at], self._lines[self._legend_at :]
-        return "\n".join([start, *before, self.legend(), *after, "</body></html>\n"])
+        return "\n".join([start, head, *self._lines, "</body></html>\n"])
 
 
 def page_of(names: SheetNames, drawing: Drawing, other: Drawing | None, found: list[Change]) -> str:
     """Returns the page of an image, which shows what changed since the other image if there is one."""
-    name = name_of(drawing.path, other.path if other else None)
     page = Page(names)
-    page.head(drawing, name)
-    if drawing.is_cut or (other and other.is_cut):
-        page.add(f"<p>Not all is shown: there are more than {MOST_VOLUMES} volumes.</p>")
-    page.begin_legend()
     page.flash(drawing)
     if other:
         page.against(other, drawing, found)
     for sheet in drawing.sheets:
         page.volume(sheet)
-    return page.whole(name)
+    name = name_of(drawing.path, other.path if other else None)
+    return page.whole(page.head(drawing, name, drawing.is_cut or bool(other and other.is_cut)), name)
 
 
 START = """<!doctype html>

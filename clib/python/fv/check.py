@@ -149,7 +149,3 @@ def main(words: list[str]) -> int:
     with ThreadPoolExecutor(max(given.jobs, 1)) as pool:
         _run(names, given, pool)
     return cli.DONE
-
-
-if __name__ == "__main__":
-    raise SystemExit(main())

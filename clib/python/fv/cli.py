@@ -77,13 +77,16 @@ def with_name_last(words: list[str]) -> list[str]:
 
 
 def command(name: str) -> Callable[[Callable[[list[str]], int]], Main]:
-    """Makes a command from a function that takes the arguments after its name and returns a status."""
+    """Makes a command from a function that takes the arguments after its name and returns a status. The function is the
+    last of its module: if that is run as a script (`python3 -m fv.same`), the command is run."""
 
     def made(run: Callable[[list[str]], int]) -> Main:
         @functools.wraps(run)
         def main(words: Sequence[str] | None = None) -> int:
             return ended(name, functools.partial(run, list(sys.argv[1:] if words is None else words)))
 
+        if run.__module__ == "__main__":
+            sys.exit(main())
         return main
 
     return made

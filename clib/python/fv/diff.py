@@ -53,7 +53,3 @@ def main(words: list[str]) -> int:
     else:
         print(*lines(given.path, given.rest[0], given.rest[3]), sep="\n")
     return cli.DONE
-
-
-if __name__ == "__main__":
-    raise SystemExit(main())

@@ -67,7 +67,3 @@ def main(words: list[str]) -> int:
         return cli.DONE
     cli.complain(NAME, f"{given.image} has no volume")
     return cli.OTHER
-
-
-if __name__ == "__main__":
-    raise SystemExit(main())

@@ -2,29 +2,16 @@
 
 from __future__ import annotations
 
+import re
 import uuid
 from collections.abc import Iterable, Iterator
 from pathlib import Path
 
-# Types of files.
+# Types of files, from 0x01 on.
 SECURITY_CORE = 0x03
-FILES = {
-    0x01: "raw",
-    0x02: "freeform",
-    SECURITY_CORE: "SEC core",
-    0x04: "PEI core",
-    0x05: "DXE core",
-    0x06: "PEI module",
-    0x07: "DXE driver",
-    0x08: "PEI module and DXE driver",
-    0x09: "application",
-    0x0A: "MM driver",
-    0x0B: "volume image",
-    0x0C: "MM and DXE driver",
-    0x0D: "MM core",
-    0x0E: "standalone MM driver",
-    0x0F: "standalone MM core",
-}
+FILE_NAMES = """raw, freeform, SEC core, PEI core, DXE core, PEI module, DXE driver, PEI module and DXE driver, application,
+MM driver, volume image, MM and DXE driver, MM core, standalone MM driver, standalone MM core"""
+FILES = dict(enumerate(re.split(r",\s", FILE_NAMES), 0x01))
 
 # Types of sections.
 COMPRESSION, GUIDED, GROUP = 0x01, 0x02, 0x03

@@ -32,7 +32,7 @@ from ._calls import image_scan, volume_compare
 from .images import Content, File, Opened, Reader, Section, Volume, leaves, volumes_in
 from .limits import Full, Limits
 from .names import Names
-from .shown import printable, quoted
+from .shown import indented, printable, quoted
 
 NAME = "fv-same"
 SAME, DIFFERENT, REJECTED = "same", "different", "rejected"
@@ -286,10 +286,6 @@ def report_lines(report: Report) -> Iterator[str]:
         yield f"other bytes differ, first at {report.other_bytes}"
 
 
-def _indented(lines: Iterable[str]) -> Iterator[str]:
-    return (f"  {line}" for line in lines)
-
-
 def _pair_lines(pair: Pair) -> Iterator[str]:
     """Yields the lines of a volume that differs or is rejected."""
     if pair.verdict == SAME:
@@ -303,7 +299,7 @@ def _pair_lines(pair: Pair) -> Iterator[str]:
     what = pair.difference or ", ".join([pair.verdict, *first, *pair.faults])
     yield f"volume at {pair.offset}{other}{name}: {what}"
     lines = [line for it in pair.files for line in _change_lines(it)]
-    yield from _indented(lines or (["the files are in another order"] if pair.is_other_order else []))
+    yield from indented(lines or (["the files are in another order"] if pair.is_other_order else []))
 
 
 def _change_lines(change: Change) -> Iterator[str]:
@@ -311,7 +307,7 @@ def _change_lines(change: Change) -> Iterator[str]:
     name = f" {quoted(change.name)}" if change.name else f" ({change.known})" if change.known else ""
     yield f"{change.change}: {'/'.join(change.guids)}{name}"
     for inside in change.opened:
-        yield from _indented(_inside_lines(inside))
+        yield from indented(_inside_lines(inside))
 
 
 def _inside_lines(inside: Inside) -> Sequence[str]:
@@ -362,7 +358,3 @@ def main(words: list[str]) -> int:
     report = compare_files((given.first, given.second), given.open, lambda what: cli.complain(NAME, what))
     print(json.dumps(asdict(report), indent=2) if given.json else "\n".join(report_lines(report)))
     return STATUS[report.verdict]
-
-
-if __name__ == "__main__":
-    raise SystemExit(main())

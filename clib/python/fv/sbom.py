@@ -84,7 +84,3 @@ def main(words: list[str]) -> int:
     parts = list(entries(images.read(data), Names()))
     print(json.dumps(bill(os.path.basename(given.image), data, parts), indent=2))
     return max((it.status for it in parts if it.what != "outside"), default=cli.OTHER)
-
-
-if __name__ == "__main__":
-    raise SystemExit(main())

@@ -3,6 +3,7 @@
 from __future__ import annotations
 
 import re
+from collections.abc import Iterable, Iterator
 
 LONGEST_NAME = 60  # characters of a text that a file name takes
 
@@ -21,3 +22,8 @@ def quoted(text: str) -> str:
 def file_name(text: str) -> str:
     """Returns a text in a form that can be part of a file name: letters, digits and `._+-`."""
     return re.sub(r"[^A-Za-z0-9._+-]+", "_", text)[:LONGEST_NAME]
+
+
+def indented(lines: Iterable[str], depth: int = 1) -> Iterator[str]:
+    """Yields lines two spaces further in, for each level of depth."""
+    return (f"{'  ' * depth}{line}" for line in lines)

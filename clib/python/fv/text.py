@@ -28,7 +28,7 @@ from ._types import Node, NodeKind
 from .images import Content, File, Opened, Section, Volume, files_in, leaves
 from .limits import Full
 from .names import GROUP, SUBTYPE, UI, VERSION
-from .shown import quoted
+from .shown import indented, quoted
 
 NAME = "fv-text"
 
@@ -52,10 +52,6 @@ def _sum(*data: bytes) -> str:
     for part in data:
         digest.update(part)
     return f"sha256 {digest.hexdigest()}"
-
-
-def _indented(found: Iterable[str], depth: int) -> Iterator[str]:
-    return (f"{'  ' * depth}{line}" for line in found)
 
 
 def _volume(volume: Volume) -> Iterator[str]:
@@ -121,19 +117,19 @@ def _detail(kind: int, body: bytes) -> str:
 def _packed(section: Section, depth: int) -> Iterator[str]:
     """Yields the lines of a section that may be opened, and of its contents."""
     if section.opened:
-        yield from _indented([f"{section.opened.way.name}:"], depth)
+        yield from indented([f"{section.opened.way.name}:"], depth)
         yield from _opened(section.opened, depth + 1)
     else:
-        yield from _indented([f"not opened: {section.closed}, {_sum(section.body)}"], depth)
+        yield from indented([f"not opened: {section.closed}, {_sum(section.body)}"], depth)
 
 
 def _opened(content: Opened, depth: int) -> Iterator[str]:
     """Yields the lines of the contents of a section."""
     yield from _sections(content.sections, depth)
     for volume in content.volumes:
-        yield from _indented(_volume(volume), depth)
+        yield from indented(_volume(volume), depth)
     if content.others:
-        yield from _indented([f"other bytes {_sum(*(it.body for it in content.others))}"], depth)
+        yield from indented([f"other bytes {_sum(*(it.body for it in content.others))}"], depth)
 
 
 def _sections(sections: Iterable[Section], depth: int) -> Iterator[str]:
@@ -141,15 +137,15 @@ def _sections(sections: Iterable[Section], depth: int) -> Iterator[str]:
     for section in sections:
         line = _section_line(section.kind, section.header_length, section.body)
         if section.volume:
-            yield from _indented([line, *_indented(_volume(section.volume), 1)], depth)
+            yield from indented([line, *indented(_volume(section.volume), 1)], depth)
         elif section.kind == GROUP:
-            yield from _indented([line], depth)
+            yield from indented([line], depth)
             yield from _sections(section.sections, depth + 1)
         elif section.is_packed:
-            yield from _indented([line], depth)
+            yield from indented([line], depth)
             yield from _packed(section, depth + 1)
         else:
-            yield from _indented([f"{line} {_sum(section.body)}"], depth)
+            yield from indented([f"{line} {_sum(section.body)}"], depth)
 
 
 def shown(data: bytes, is_open: bool) -> Iterator[str]:
@@ -181,7 +177,3 @@ def main(words: list[str]) -> int:
     for line in shown(cli.read_for(NAME, given.image), given.open):
         print(line)
     return cli.DONE
-
-
-if __name__ == "__main__":
-    raise SystemExit(main())

@@ -346,7 +346,3 @@ def main(words: list[str]) -> int:
     except MemoryError:
         print(f"{shown}: fault 24 at 0")
     return cli.REJECTED
-
-
-if __name__ == "__main__":
-    raise SystemExit(main())

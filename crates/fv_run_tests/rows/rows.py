@@ -1,8 +1,11 @@
-"""Reads the rows of this folder, and the bytes that they spell. README.md describes the notation."""
+#!/usr/bin/env python3
+"""Reads the rows of this folder, and the bytes that they spell. README.md describes the notation. `rows.py WORD..`
+writes the bytes that these words spell."""
 
 from __future__ import annotations
 
 import re
+import sys
 from collections.abc import Iterator
 from dataclasses import dataclass
 from pathlib import Path
@@ -158,3 +161,7 @@ def rejected(row: str) -> Iterator[tuple[str, bytes, tuple[int, ...] | None]]:
     first, last = map(int, ends) if ends else (len(data), len(data))
     for count in range(first, last + 1):
         yield kind, data[:count], tuple(map(int, fault.split())) or None
+
+
+if __name__ == "__main__":
+    sys.stdout.buffer.write(spelled(" ".join(sys.argv[1:])))

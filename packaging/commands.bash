@@ -1,0 +1,8 @@
+# Completion for bash of the commands of the Python package fv: the options that their help shows, and names of files.
+_fv() { # COMMAND WORD
+    COMPREPLY=()
+    if [[ $2 == -* && " ${COMP_WORDS[*]:1:COMP_CWORD-1} " != *' -- '* ]]; then
+        mapfile -t COMPREPLY < <(compgen -W "$(command "$1" --help 2> /dev/null |
+            sed -nE 's/^  (-., )?(--[a-z-]+).*/\2/p')" -- "$2")
+    fi
+}
