@@ -20,7 +20,6 @@ import socket
 import subprocess
 import sys
 import time
-import uuid
 from collections import Counter
 from collections.abc import Callable, Iterator
 from concurrent.futures import ThreadPoolExecutor
@@ -36,34 +35,22 @@ ROOM, MACHINE = "FLEET_ROOM", "FLEET_MACHINE"  # variables of the processes of a
 
 
 class Wrong(Exception):
-    """A promise of README is not kept."""
-
-
-# Made images, each with the verdicts that docs/FORMAT.md and docs/FAULTS.md have for it
-
-
-def file(data: bytes) -> bytes:
-    """Returns a raw file as the canonical image has it, with the checksum attribute."""
-    return images.file(uuid.UUID(bytes=bytes([len(data) % 251] * 16)), data, attributes=images.SUMMED)
-
-
-def damaged(data: bytes, at: int) -> bytes:
-    """Returns the same bytes with one bit turned."""
-    return data[:at] + bytes([data[at] ^ 1]) + data[at + 1 :]
+    """README is wrong about something."""
 
 
 def made_images(size: int) -> Iterator[tuple[bytes, str]]:
-    """Yields images of about this size, each with its status and its verdicts."""
+    """Yields images of about this size, each with its status and its verdicts by docs/FORMAT.md and docs/FAULTS.md."""
     pick = random.Random(size)
     for share in (1, 3, 5, 7):
         length = size * share // 4 & ~7
-        files = [file(pick.randbytes(length // 40 + n)) for n in range(20)]
+        data = [pick.randbytes(length // 40 + n) for n in range(20)]
+        files = [images.file(images.guid(n), it, attributes=images.SUMMED) for n, it in enumerate(data)]
         good, other = images.volume(files, length), images.volume([images.pad(b"dust at "), *files], length)
         yield good, "0\t0 canonical"
         yield other, "1\t0 not canonical"
-        yield damaged(good, 8), "2\t0 fault 6 at 0"
-        yield damaged(good, 72 + 24 + 5), f"2\t0 fault 14 at {72 + 17}"
         yield b"\xff" * 4096 + good + bytes(64) + other, f"1\t4096 canonical, {4096 + length + 64} not canonical"
+        for at, fault in ((8, "6 at 0"), (72 + 24 + 5, f"14 at {72 + 17}")):  # in the header, and in the first file
+            yield good[:at] + bytes([good[at] ^ 1]) + good[at + 1 :], f"2\t0 fault {fault}"
 
 
 class Fleet:
@@ -74,24 +61,18 @@ class Fleet:
         made = list(made_images(1 << 19 if count > FEW else 1 << 13))
         self.size = sum(len(data) for data, _ in made) // len(made)
         self.names = [room / f"image {number}.fd" for number in range(count)]
-        self.lines = []
-        for number, name in enumerate(self.names):
-            data, answer = made[number % len(made)]
-            if number < len(made):
-                name.write_bytes(data)
-            else:
-                os.link(self.names[number % len(made)], name)
-            self.lines.append(f"{answer}\t{name}")
+        self.lines = [f"{made[number % len(made)][1]}\t{name}" for number, name in enumerate(self.names)]
+        for name, (data, _) in zip(self.names, made):
+            name.write_bytes(data)
+        for number, name in enumerate(self.names[len(made) :]):
+            os.link(self.names[number % len(made)], name)
 
     def check(self, answers: str) -> None:
         """Checks that each image has its one right line, and that nothing else is there."""
-        given = Counter(answers.splitlines())
-        lost = [line for line in self.lines if line not in given]
-        twice = [line for line, count in given.items() if count > 1]
-        strange = list(given.keys() - set(self.lines))
-        if lost or twice or strange or not answers.endswith("\n"):
-            shown = [*lost[:2], *twice[:2], *strange[:2]]
-            raise Wrong(f"{len(lost)} lost, {len(twice)} twice, {len(strange)} strange: {shown}")
+        given, wanted = Counter(answers.split("\n")[:-1]), Counter(self.lines)
+        lost, more = wanted - given, given - wanted
+        if lost or more:
+            raise Wrong(f"{lost.total()} lost, {more.total()} too many: {[*lost][:3]} {[*more][:3]}")
 
 
 def readme(name: str) -> list[str]:
@@ -210,13 +191,6 @@ class Run:
 # Engines
 
 
-def needs(*programs: str) -> None:
-    """Raises an error if one of these programs is not installed."""
-    for program in programs:
-        if not shutil.which(program):
-            raise FileNotFoundError(f"{program} is not installed")
-
-
 def by_one_process(it: Run) -> None:
     """Kills the process, and cuts its last line. The same command then checks the images without a line."""
     (command,) = readme("One process")
@@ -246,7 +220,6 @@ def by_xargs(it: Run) -> None:
 def by_parallel(it: Run) -> None:
     """Kills a worker, whose batch GNU parallel gives to another one, and then GNU parallel. The same command then does
     what is not in its log."""
-    needs("parallel")
     (command,) = readme("GNU parallel")
     running = it.start(command)
     if it.is_killed:
@@ -281,11 +254,6 @@ SlurmdSpoolDir={room}/spool-%n
 SlurmctldPidFile={room}/slurmctld.pid
 SlurmdPidFile={room}/slurmd-%n.pid
 ProctrackType=proctrack/linuxproc
-TaskPlugin=task/none
-SwitchType=switch/none
-MpiDefault=none
-SelectType=select/cons_tres
-SelectTypeParameters=CR_CPU
 SlurmdParameters=config_overrides
 SlurmdTimeout=10
 SchedulerParameters=batch_sched_delay=0,sched_interval=1,bf_interval=1
@@ -299,7 +267,6 @@ PartitionName=all Nodes=w1,w2 Default=YES MaxTime=INFINITE State=UP
 def start_slurm(it: Run) -> None:
     """Starts a cluster of two machines with one processor each. Both are this machine, and all files are in the folder
     of the run."""
-    needs("slurmctld", "slurmd", "sbatch", "sinfo")
     text = SLURM.format(host=socket.gethostname(), room=it.room, user=getpass.getuser(), ports=free_ports(3))
     (it.room / "slurm.conf").write_text(text)
     it.variables["SLURM_CONF"] = str(it.room / "slurm.conf")
@@ -342,7 +309,6 @@ def by_slurm(it: Run) -> None:
 
 def by_dask(it: Run) -> None:
     """Kills a machine, and dask gives its images to the other one."""
-    needs("dask-scheduler", "dask-worker")
     it.variables["PATH"] = f"{Path(shutil.which('dask-worker') or '').parent}:{os.environ['PATH']}"  # its Python too
     (port,) = free_ports(1)
     scheduler, worker, check = (line.replace("SCHEDULER:8786", f"127.0.0.1:{port}") for line in readme("dask"))
@@ -356,12 +322,13 @@ def by_dask(it: Run) -> None:
     it.ends(running)
 
 
-ENGINES = {
-    "one-process": by_one_process,
-    "xargs": by_xargs,
-    "parallel": by_parallel,
-    "slurm": by_slurm,
-    "dask": by_dask,
+# The engines, and the programs that they need.
+ENGINES: dict[str, tuple[Callable[[Run], None], list[str]]] = {
+    "one-process": (by_one_process, []),
+    "xargs": (by_xargs, ["xargs"]),
+    "parallel": (by_parallel, ["parallel"]),
+    "slurm": (by_slurm, ["slurmctld", "slurmd", "sbatch"]),
+    "dask": (by_dask, ["dask-scheduler", "dask-worker"]),
 }
 
 
@@ -373,14 +340,15 @@ def seconds_of_children() -> float:
 
 def run_engine(fleet: Fleet, name: str, is_killed: bool) -> bool:
     """Returns whether the run of an engine was right, and prints a line about it."""
+    by_engine, programs = ENGINES[name]
+    if not all(map(shutil.which, programs)):
+        print(f"{name}: SKIPPED, {' or '.join(programs)} is not installed")
+        return True
     it, before = Run(fleet, name, is_killed), seconds_of_children()
     try:
-        ENGINES[name](it)
+        by_engine(it)
         took = time.monotonic() - it.start_time
         fleet.check(it.answers.read_text())
-    except FileNotFoundError as why:
-        print(f"{name}: SKIPPED, {why}")
-        return True
     except Wrong as why:
         print(f"{name}: WRONG, {why}")
         return False
