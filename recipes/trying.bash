@@ -55,6 +55,12 @@ fails_clearly() { # COMMAND..
     expect 4 "$name: [Errno 28] No space left on device" eval '"$@" > /dev/full'
 }
 
+# Checks that a program in Python, on standard input, ends without an exception.
+holds() { # WHAT
+    tries=$((tries + 1))
+    python3 - || failed "$1"
+}
+
 # Checks that a text has a line.
 has() { # TEXT LINE
     tries=$((tries + 1))

@@ -39,14 +39,14 @@ document.title = JSON.stringify({window: innerWidth, page: document.documentElem
     cell: Math.min(...widths("td.name")), area: Math.min(...widths(".areas b"))});
 </script>"""
 COLORS = """<title></title><img src="data:image/png;base64,@"><script>
-const it = document.images[0];
-it.decode().then(() => {
+window.onload = () => {
+    const it = document.images[0];
     const pen = new OffscreenCanvas(it.width, it.height).getContext("2d");
     pen.drawImage(it, 0, 0);
     const found = new Set(), data = pen.getImageData(0, 0, it.width, it.height).data;
     for (let at = 0; at < data.length; at += 4) found.add(data[at] << 16 | data[at + 1] << 8 | data[at + 2]);
     document.title = JSON.stringify([...found]);
-});
+};
 </script>"""
 # The colours of a driver, an application, a volume image and a rejected volume, and those that are different in a dark
 # and in a light page: of the page, texts, bytes in no volume, and free space. The last ones are edges of changed files.
@@ -259,7 +259,7 @@ def run_chromium(page: str, *words: str) -> str:
     path = Path("page.html").resolve()
     path.write_text(page, encoding="utf-8")
     command = [CHROMIUM, "--headless", "--no-sandbox", "--disable-gpu", "--hide-scrollbars"]
-    command += ["--virtual-time-budget=10000", f"--user-data-dir={path.with_name('profile')}", *words, path.as_uri()]
+    command += [f"--user-data-dir={path.with_name('profile')}", *words, path.as_uri()]
     ran = subprocess.run(command, stdin=subprocess.DEVNULL, capture_output=True, check=True, timeout=120)
     return ran.stdout.decode("utf-8")
 
