@@ -46,6 +46,21 @@ refuses() { # WHAT COMMAND..
     fi
 }
 
+# Checks that a command without the library, or with a full output, says so and ends with status 4.
+fails_clearly() { # COMMAND..
+    local name=${1##*/}
+    expect 4 "$name: /missing/libfv.so.2: cannot open shared object file: No such file or directory. The library libfv and\
+ its package for Python are needed: clib/build makes them in the repository, and \`make install-lib\` or \`pip install\
+ ./clib/python\` installs them. LIBFV may name the shared object." env LIBFV=/missing/libfv.so.2 "$@"
+    expect 4 "$name: [Errno 28] No space left on device" eval '"$@" > /dev/full'
+}
+
+# Checks that a program in Python, on standard input, ends without an exception.
+holds() { # WHAT
+    tries=$((tries + 1))
+    python3 - || failed "$1"
+}
+
 # Checks that a text has a line.
 has() { # TEXT LINE
     tries=$((tries + 1))
