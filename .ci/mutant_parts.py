@@ -31,6 +31,9 @@ UNFOUND = re.compile(rf"{TACTIC}(?::| broke| stopped| met| found| gave)|give the
 VALUES = re.compile(r"the goal fails,? at|this goal is false")
 # Its words about an answer whose goal the edit has taken away, and about one that it did not check.
 GONE = re.compile(r"module `[^`]*\.Goals` has no|(?:was|were) rejected, (?:was|were) not checked")
+# The answer that searches for a proof of the goal that an edit names, cut short, and the import of `rules`.
+SEARCH = "search rules fits 100 steps 300000"
+RULES = re.compile(r"(?m)^use Rattle\.std\.proofs\.Common\.\{(?:[^}]*, )?rules[,}]")
 BY_TACTIC = re.compile(r"=\s*(?:λ[^.]*\.\s*)?(?:search|grind|omega|simp|cc)\b")
 
 
@@ -316,6 +319,14 @@ def assumed(text: str, names: tuple[str, ...], module: str) -> str:
         text = without(text, name) or text
     text = text.rstrip("\n") or f"use {module}.Goals as goal"
     return "\n\n".join([text, *(f"axiom pub {name} : goal.{name}" for name in names)]) + "\n"
+
+
+def searched(text: str, name: str, module: str) -> str:
+    """Returns a proof file, of a function with this module, in which the answer of a goal is SEARCH."""
+    text = text.rstrip("\n") or f"use {module}.Goals as goal"
+    if not RULES.search(text):
+        text = f"use Rattle.std.proofs.Common.{{rules}}\n{text}"
+    return f"{text}\n\npub {name} : goal.{name}\n{name} c = {SEARCH}\n"
 
 
 def resting(text: str, name: str) -> set[str]:
