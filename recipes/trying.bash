@@ -52,7 +52,7 @@ fails_clearly() { # COMMAND..
     expect 4 "$name: /missing/libfv.so.2: cannot open shared object file: No such file or directory. The library libfv and\
  its package for Python are needed: clib/build makes them in the repository, and \`make install-lib\` or \`pip install\
  ./clib/python\` installs them. LIBFV may name the shared object." env LIBFV=/missing/libfv.so.2 "$@"
-    expect 4 "$name: [Errno 28] No space left on device" eval '"$@" > /dev/full'
+    expect 4 "$name: [Errno 28] No space left on device" bash -c '"$@" > /dev/full' '' "$@"
 }
 
 # Checks that a program in Python, on standard input, ends without an exception.

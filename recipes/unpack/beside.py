@@ -1,7 +1,7 @@
 #!/usr/bin/env python3
 """beside.py [--runs N] IMAGE..: unpacks images with UEFIExtract and with fv-unpack, and checks that both find the same
 files (by GUID and size, without pads) and the same sections (by size). The rows of a table show how many they are, the
-least wall time of N runs of each tool, and how much each tool writes. Both tools run in a scratch folder.
+least processor time of N runs of each tool, and how much each tool writes. Both tools run in a scratch folder.
 
 Exit status 0: both found the same in each image. 1: otherwise. 3: the arguments are wrong. 4: a tool failed."""
 
@@ -9,11 +9,11 @@ from __future__ import annotations
 
 import csv
 import re
+import resource
 import shutil
 import subprocess
 import sys
 import tempfile
-import time
 from collections import Counter
 from collections.abc import Iterator
 from dataclasses import dataclass
@@ -61,9 +61,10 @@ def run(command: list[str], image: Path) -> Outcome:
     """Runs a tool over a copy of an image in a scratch folder."""
     with tempfile.TemporaryDirectory() as folder:
         copy = shutil.copy(image, Path(folder, "image"))
-        start = time.monotonic()
+        before = resource.getrusage(resource.RUSAGE_CHILDREN)
         ran = subprocess.run(command, cwd=folder, stdin=subprocess.DEVNULL, capture_output=True, check=False)
-        seconds = time.monotonic() - start
+        after = resource.getrusage(resource.RUSAGE_CHILDREN)
+        seconds = after.ru_utime + after.ru_stime - before.ru_utime - before.ru_stime
         copy.unlink()
         written = sum(it.stat().st_size for it in Path(folder).rglob("*") if it.is_file())
         report, index = Path(folder, "image.report.txt"), Path(folder, "parts/index.tsv")
