@@ -370,7 +370,7 @@ def main() -> int:
     given = reader.parse_args()
     room = Path("engines").resolve()
     room.mkdir()
-    # Two workers in all engines: of nproc, of GNU parallel, and of fv-check.
+    # Two workers in each engine: nproc prints OMP_NUM_THREADS, and GNU parallel reads PARALLEL.
     os.environ |= {"OMP_NUM_THREADS": "2", "PARALLEL": "--will-cite --jobs 2", "HOME": str(room)}
     os.environ["PATH"] += f":{HERE}:/usr/sbin"
     fleet = Fleet(room, given.images)
