@@ -58,7 +58,7 @@ def measured(given: Input) -> dict[str, float]:
     data, copied = given.data, bytes(bytearray(given.data))
     found = {call.__name__: least(lambda: call(data), given) for call in CALLS}
     found["volume_compare"] = least(lambda: fv.volume_compare(data, copied), given)
-    found["volume_extract, row 0"] = least(lambda: fv.volume_extract(data, 0), given)
+    found["volume_extract, the first row"] = least(lambda: fv.volume_extract(data, 0), given)
     return found
 
 
