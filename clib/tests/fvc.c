@@ -2,7 +2,7 @@
  *   fvc normalise|all|unfix|check|checkall|scan|cells|list|sums|hobs|digest|parts|flips|prefixes FILE
  *   fvc extract FILE ROW
  *   fvc compare FIRST SECOND
- * The status is that of the program. `parts` extracts each row of the tree, and finds it in the canonical image. */
+ * The status is the program's. `parts` extracts each row of the tree, and finds it in the canonical image. */
 #include <fv.h>
 #include <inttypes.h>
 #include <stdbool.h>

@@ -74,7 +74,7 @@ def test_bytes() -> None:
 
 
 def test_fixed() -> None:
-    """Reads a volume with fixed files. Its bytes and the bodies of its files are those of the image."""
+    """Reads a volume with fixed files. Its bytes and the bodies of its files are slices of the image."""
     data = made.flash(made.volume([made.A, FIXED, made.GONE, made.C]))
     (volume,) = images.read(data).volumes
     assert volume.fault is None and len(volume.files) == 3 and volume.body == data[4096 : 4096 + volume.length]

@@ -50,7 +50,7 @@ def is_missing(data: bytes, row: int) -> bool:
 
 def listed(data: bytes) -> str:
     """Returns what the rows say of a volume: its length, and of each file the first byte of the name, the type, the
-    attributes without bit 01, the number of bytes of its data, and that of its outer sections."""
+    attributes without bit 01, the number of bytes of its data, and the number of its outer sections."""
     nodes = fv.volume_tree(data)
     parts = [str(nodes[0].length)]
     for row, node in enumerate(nodes):
@@ -248,7 +248,7 @@ def lines(nodes: list[fv.Node]) -> list[str]:
 
 
 def program_lines(text: str) -> list[str]:
-    """Returns the same lines of what the program has written. A name of zeros is no name in a tree."""
+    """Returns the same lines of what the program has written. A tree shows no name that consists of zeros."""
     zeros = f" name {uuid.UUID(int=0)}"
     return [re.sub(r"(section \d+ type .. \w+ body \d+) .*", r"\1", it).replace(zeros, "") for it in text.splitlines()]
 

@@ -401,7 +401,7 @@ class Longer(bytes):
 
 
 def buffers_are_in_place(volume: bytes) -> None:
-    """Which bytes the library is given: those of a bytes object are its own."""
+    """Checks which bytes the library reads: of a bytes object it reads the bytes in place."""
 
     def value(place: Any) -> int:
         return ctypes.cast(place, ctypes.c_void_p).value or 0

@@ -219,7 +219,7 @@ def by_xargs(it: Run) -> None:
 
 def by_parallel(it: Run) -> None:
     """Kills a worker, whose batch GNU parallel gives to another one, and then GNU parallel. The same command then does
-    what is not in its log."""
+    the jobs that are not in its log."""
     (command,) = readme("GNU parallel")
     running = it.start(command)
     if it.is_killed:

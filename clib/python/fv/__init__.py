@@ -19,8 +19,8 @@
     fv.result_text(code)            a sentence that explains a fault
     fv.version()                    the version of the library
 
-The names are those of the calls in fv.h, without `fv_`. An `image` may be any bytes, and a `volume` must be exactly one
-volume. `data` begin with what is read, and the bytes after it are ignored.
+The functions have the names of the calls in fv.h, without `fv_`. An `image` may be any bytes, and a `volume` must be
+exactly one volume. `data` begin with the volume or the list that is read, and the bytes after it are ignored.
 
 An input may be any object with the buffer protocol: bytes, bytearray, memoryview, mmap. A bytes object is read in
 place, and so is a memoryview of one. Any other buffer is copied first, since something else may write to it during the

@@ -43,7 +43,7 @@ SIGNALS = (signal.SIGINT, signal.SIGTERM, signal.SIGHUP)  # that end a command
 
 
 class Main(Protocol):
-    """A command. It takes the arguments after its name, by default those of the process, and returns a status."""
+    """A command. It takes the arguments after its name, by default sys.argv[1:], and returns a status."""
 
     def __call__(self, words: Sequence[str] | None = None) -> int: ...
 

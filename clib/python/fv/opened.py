@@ -76,8 +76,8 @@ def from_lzma_of_x86(data: bytes, budget: Budget) -> Iterator[bytes]:
     had before.
 
     `lzma` has this filter only together with a compression. So the bytes go through LZMA2 without being compressed: in
-    chunks of at most 64 KiB. The control byte of the first chunk is 1, that of the others is 2, and a zero ends the
-    data."""
+    chunks of at most 64 KiB. The control byte of the first chunk is 1, the control bytes of the others are 2, and a
+    zero ends the data."""
     filters: list[dict[str, Any]] = [{"id": lzma.FILTER_X86}, {"id": lzma.FILTER_LZMA2, "preset": 0}]
     decoder = lzma.LZMADecompressor(lzma.FORMAT_RAW, filters=filters)
     control = 1

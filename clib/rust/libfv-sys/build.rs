@@ -42,7 +42,7 @@ fn folders_of_pkg_config(is_static: bool) -> Vec<PathBuf> {
     let mut command = Command::new(&tool);
     command.arg("--libs-only-L").args(VERSIONS);
     if is_static {
-        // rustc looks for an archive only in the folders that it is told.
+        // rustc looks for an archive only in the folders that the command line names.
         command.env("PKG_CONFIG_ALLOW_SYSTEM_LIBS", "1");
     }
     match command.output() {

@@ -8,7 +8,7 @@ use std::fmt;
 /// Defines [`FaultKind`], with the result of `fv.h` for each variant.
 macro_rules! fault_kinds {
     ($($(#[$attribute:meta])* $name:ident = $result:ident,)*) => {
-        /// What is wrong with an input. `docs/FAULTS.md` in the repository explains every kind.
+        /// The reason why an input is rejected. `docs/FAULTS.md` in the repository explains every kind.
         ///
         /// Kinds of volumes and images have no prefix. The kinds that begin with `Depex` are those
         /// of dependency expressions, and the kinds that begin with `Hob` those of hand-off lists.

@@ -248,7 +248,7 @@ fn compare(out: &mut Out, first: &[u8], second: &[u8]) -> Ending {
     }
 }
 
-/// Checks that the parts of the rows are those of the canonical image, whose tree has as many rows.
+/// Checks that the canonical image has the same parts as the rows, and that its tree has as many rows.
 /// Writes the number of rows.
 fn parts(out: &mut Out, input: &[u8]) -> Ending {
     let image = match fv::volume::normalise(input) {

@@ -112,7 +112,7 @@ fn fixed_files_lose_their_marks() {
     }
 }
 
-/// What is said of a volume of a flash image, as a row has it.
+/// Returns the outcome of the check of a volume in a flash image, as a row of tests spells it.
 fn said_of(check: &fv::image::VolumeCheck) -> String {
     let said = match check.fault() {
         Some(it) => {
@@ -427,7 +427,7 @@ fn check_tree(data: &[u8]) {
         .all(|(it, held)| !leaf(it) || held.0 == 0));
 }
 
-/// The row of a volume has what its header says. The rows in it are those of its bytes.
+/// Checks that the row of a volume agrees with its header, and the rows in it with its bytes.
 fn check_volume(data: &[u8], nodes: &[Node], row: usize) {
     let top = &nodes[row];
     let volume = &data[top.range()];
