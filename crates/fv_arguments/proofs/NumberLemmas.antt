@@ -2,9 +2,9 @@
 use Rattle.std.proofs.Common.{◌≡◌, ◌≢◌, ◌∙◌, ◌^◌, ◌<◌, ◌++◌, ℕ, List, Result, Ok, Err, ap, arith, codes, drop, inl, inr, subst, sym}
 use Rattle.std.specs.Char.{digit_value}
 use Rattle.std.specs.Str.Parse.{IsNumeral, digits_value}
-use Rattle.fv_arguments.specs.Words.{IsNumberWord, IsNumeralOf, IsPlaceWord}
+use Rattle.fv_arguments.specs.Words.{IsNumberWord, IsNumeralOf, IsOffsetWord}
 use Rattle.fv_arguments.specs.declared.words.WordFault.{WordFault}
-use Rattle.fv_arguments.specs.inner.CommandWords.{Reads}
+use Rattle.fv_arguments.specs.inner.CommandWords.{ReadsOrFails}
 
 -- digits spell a number exactly if `from_str` or `from_str_radix` reads them as this number
 pub spelled : (radix bits : ℕ) (digits : List ℕ) (n : ℕ) → (IsNumeral radix digits × (digits_value radix digits < 2 ^ bits))
@@ -21,7 +21,7 @@ not_decimal digits n h = let second : digit_value 120 < 10 = h.0.1.1.0 in absurd
 
 -- so whether the text begins with `0x` decides how a place is read
 pub hexadecimal_place : (text digits : List ℕ) (r : Result ℕ WordFault) → text ≡ codes "0x" ++ digits
-    → Reads (IsNumeralOf 16 64 digits) r → Reads (IsPlaceWord text) r
+    → ReadsOrFails (IsNumeralOf 16 64 digits) r → ReadsOrFails (IsOffsetWord text) r
 hexadecimal_place text digits (Ok n) is h = inr (digits, is, h)
 hexadecimal_place text digits (Err f) is h = λ words n spells. elim spells [
   | inl number ↦ not_decimal digits n (subst (λ (t : List ℕ). IsNumberWord 64 t n) is number)
@@ -29,7 +29,7 @@ hexadecimal_place text digits (Err f) is h = λ words n spells. elim spells [
 ]
 
 pub decimal_place : (text : List ℕ) (r : Result ℕ WordFault) → ((digits : List ℕ) → text ≢ codes "0x" ++ digits)
-    → Reads (IsNumberWord 64 text) r → Reads (IsPlaceWord text) r
+    → ReadsOrFails (IsNumberWord 64 text) r → ReadsOrFails (IsOffsetWord text) r
 decimal_place text (Ok n) lacks h = inl h
 decimal_place text (Err f) lacks h = λ words n spells. elim spells [
   | inl number ↦ h words n number

@@ -1,4 +1,4 @@
--- Arguments that are rejected as wrong are not right arguments. Either the reader finds a fault in them (`refused`); or
+-- Arguments that are rejected as wrong are not right arguments. Either the reader finds a fault in them (`rejected`); or
 -- a text in them cannot be read, although it can be read in right arguments (`no_input`, `right_part`, `right_image`,
 -- `right_volumes`); or an offset is given together with `--all` (`no_place`).
 use Rattle.std.proofs.Common.{◌≡◌, ◌≢◌, ◌∙◌, ◌&&◌, ◌||◌, ℕ, Bool, List, [], ◌∷◌, IfErr, Result, Ok, Err, Option, Some, None, ap, codes, inl, inr}
@@ -24,7 +24,7 @@ use Rattle.fv_arguments.proofs.ArgumentReadLemmas.{by_name, faults_read}
 use Rattle.fv_arguments.specs.Words.{compare_app, extract_app, faults_in, flag_in, hobs_app, image_app, text_in, HasInput, HasTexts}
 use Rattle.fv_arguments.specs.Words.{IsAtWord, IsImageWords, IsPartBy, IsVolumeWords, command_app, command_name}
 use Rattle.fv_arguments.specs.declared.words.WordFault.{WordFault}
-use Rattle.fv_arguments.specs.inner.CommandWords.{AreRightFor, AsksFor, IsRead, Reads, app_named}
+use Rattle.fv_arguments.specs.inner.CommandWords.{AreRightFor, AsksOrFails, IsRead, ReadsOrFails, app_named}
 use Rattle.fv_arguments.specs.declared.words.WordFault.TheVariants.{Words, OutOfMemory}
 
 -- the options of a command are the options for its name
@@ -65,17 +65,17 @@ handed_on (Err f) e [] h (inr among) = absurd among
 handed_on (Err f) e (k ∷ ks) h (inr among) = λ is none. cc
 
 -- arguments in which the reader finds a fault are not right
-pub refused : {T : Type 0} (name : List ℕ) (given : App) → given ≡ app_named name → (words : List (List ℕ)) (e : Error)
+pub rejected : {T : Type 0} (name : List ℕ) (given : App) → given ≡ app_named name → (words : List (List ℕ)) (e : Error)
     → (is_simple_and_free given ≡ true → HasKind (fault_of given words) e) → (r : Result T WordFault) → IsErrAnd r (IsHandedOn e)
     → IfErr r (λ f. f ≡ Words → AreRightFor name (drop 1 words) → ⊥)
-refused name given same words e kinds r h =
+rejected name given same words e kinds r h =
     let among = subst (λ ks. HasKind ks e) (faults_read name words) (by_name (λ a. HasKind (fault_of a words) e) name given same kinds) in
     IfErr-weaker r _ _ (λ f wrong is right. wrong is (ap (λ a. faults_in a (drop 1 words))
     (same_app name right.0.command right.1.command) ∙ right.1.taken)) (handed_on r e _ h among)
 
 -- a value is rejected because a value of which it is made is rejected
 pub passed : {X Y : Type 0} (P : X → Type 0) (Q : Y → Type 0) (r : Result Y WordFault) (f : WordFault) → IsErrAnd r (λ g. g ≡ f)
-    → (f ≡ Words → (x : X) → P x → ⊥) → ((y : Y) → Q y → (x : X) × P x) → Reads Q r
+    → (f ≡ Words → (x : X) → P x → ⊥) → ((y : Y) → Q y → (x : X) × P x) → ReadsOrFails Q r
 passed P Q (Ok y) f is none has = absurd is
 passed P Q (Err g) f is none has = λ words y q. let x = has y q in none (sym is ∙ words) x.0 x.1
 
@@ -111,7 +111,7 @@ right_input name rest volume right =
 -- so a command on one volume is rejected if its input is rejected
 pub no_input : {m : ArgMatches} (f : WordFault) (name : List ℕ) → is_on_volume name ≡ true
     → ((app : App) (rest : List (List ℕ)) → IsRead app rest m
-    → Reads (λ (i : Option ℕ × Option (String Global)). HasInput app rest i.0 i.1) (Err f)) → AsksFor name m (Err f)
+    → ReadsOrFails (λ (i : Option ℕ × Option (String Global)). HasInput app rest i.0 i.1) (Err f)) → AsksOrFails name m (Err f)
 no_input f name volume read = λ words rest r right.
     let input = right_input name rest volume right in read (app_named name) rest r words input.0 input.1
 

@@ -8,7 +8,7 @@ use Rattle.clap.specs.declared.parser.matches.ArgMatches.{ArgMatches}
 use Rattle.fv_plan.specs.declared.plan.Command.TheVariants.{Single}
 use Rattle.fv_plan.specs.declared.plan.Task.{Task}
 use Rattle.fv_arguments.specs.Words.{HasTaskTexts, task_name}
-use Rattle.fv_arguments.specs.inner.CommandWords.{AsksFor, IsRead, app_named}
+use Rattle.fv_arguments.specs.inner.CommandWords.{AsksOrFails, IsRead, app_named}
 
 -- the arguments with this name ask for a task over this input
 abbrev IsAsked : List ℕ → List (List ℕ) → Option ℕ → Option (String Global) → Task → Type 0

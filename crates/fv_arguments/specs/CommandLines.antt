@@ -19,8 +19,8 @@ use Rattle.fv_plan.specs.declared.plan.Task.TheVariants.{Normalise, NormaliseAll
 use Rattle.fv_plan.specs.declared.plan.Task.TheVariants.{CheckAll, Cells, Unfix, Scan}
 
 -- the plan of a command line without arguments: normalise hexadecimal text from standard input
-abbrev pub plan_without_words : Plan
-plan_without_words = record { hex = true; command = Single Normalise None None }
+abbrev pub plan_without_arguments : Plan
+plan_without_arguments = record { hex = true; command = Single Normalise None None }
 
 -- the argument that names the task's command
 abbrev pub task_name : Task → List ℕ
@@ -92,15 +92,15 @@ IsImageWords path base (Some image) =
     (path ≡ Some (string_bytes image.path)) × IsSomeAnd base (λ text. IsNumberWord 64 text image.base)
 
 -- the byte at which a volume begins, below 2 ^ 64: a decimal number, or `0x` and hexadecimal digits
-abbrev pub IsPlaceWord : List ℕ → ℕ → Type 0
-IsPlaceWord text n =
+abbrev pub IsOffsetWord : List ℕ → ℕ → Type 0
+IsOffsetWord text n =
     IsNumberWord 64 text n ⊎ ((digits : List ℕ) × (text ≡ codes "0x" ++ digits) × IsNumeralOf 16 64 digits n)
 
 -- the byte at which a volume begins, or None if there is no text
 abbrev pub IsAtWord : Option (List ℕ) → Option ℕ → Type 0
 IsAtWord None at = at ≡ None
 IsAtWord (Some text) None = ⊥
-IsAtWord (Some text) (Some n) = IsPlaceWord text n
+IsAtWord (Some text) (Some n) = IsOffsetWord text n
 
 -- a file that is named, and the byte at which the volume in it begins
 abbrev pub IsVolumeWords : (path at : Option (List ℕ)) → VolumeFile → Type 0
@@ -156,10 +156,10 @@ pub record AsksBy (name : List ℕ) (rest : List (List ℕ)) (plan : Plan) : Typ
   pub texts : HasTexts rest plan.command
 
 -- a complete command line asks for this plan. The argument after the program's name names the command (`AsksBy`).
--- Without that argument, the plan is `plan_without_words`
+-- Without that argument, the plan is `plan_without_arguments`
 abbrev pub Asks : List (List ℕ) → Plan → Type 0
-Asks [] plan = plan ≡ plan_without_words
-Asks (program ∷ []) plan = plan ≡ plan_without_words
+Asks [] plan = plan ≡ plan_without_arguments
+Asks (program ∷ []) plan = plan ≡ plan_without_arguments
 Asks (program ∷ name ∷ rest) plan = AsksBy name rest plan
 
 -- the arguments of a command line are right: there is a plan that they ask for

@@ -2,9 +2,9 @@
 #![tactic(auto)]
 
 mod options;
-mod refused;
+mod rejected;
 mod rules;
 mod words;
 
-pub use refused::what_is_wrong;
+pub use rejected::what_is_wrong;
 pub use words::{WordFault, parse_words};

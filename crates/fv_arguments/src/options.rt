@@ -2,9 +2,9 @@
 
 ghost use Rattle.clap.specs.Words.{App, first_value, found_of};
 ghost use Rattle.fv_arguments.specs.Options.{flag_in};
-ghost use Rattle.fv_arguments.specs.inner.CommandWords.{AreRightFor, AsksFor, IsRead, Reads};
+ghost use Rattle.fv_arguments.specs.inner.CommandWords.{AreRightFor, AsksOrFails, IsRead, ReadsOrFails};
 ghost use Rattle.fv_arguments.specs.CommandLines.{AsksBy, HasInput, IsAtWord, IsImageWords, IsInstanceWord, IsNumberWord};
-ghost use Rattle.fv_arguments.specs.CommandLines.{IsNumeralOf, IsPartBy, IsPlaceWord, IsSectionTypeWord, IsVolumeWords};
+ghost use Rattle.fv_arguments.specs.CommandLines.{IsNumeralOf, IsPartBy, IsOffsetWord, IsSectionTypeWord, IsVolumeWords};
 ghost use Rattle.fv_base.specs.Words.{guid_read};
 ghost use Rattle.std.specs.String.{string_bytes};
 ghost use Rattle.std.specs.Prelude.{◌≡◌, ◌≤◌, ℕ, List, Some, codes, drop, length, map, if◌then◌else◌};
@@ -50,7 +50,7 @@ fn file_of(
 
 // Reads a decimal number, which may have a plus before it.
 pub(crate) fn decimal(text: &str) -> Result<u64, WordFault>
-    ensures { Reads (IsNumberWord 64 text.now) result }
+    ensures { ReadsOrFails (IsNumberWord 64 text.now) result }
 {
     match text.parse() {
         Ok(n) => Ok(n),
@@ -60,7 +60,7 @@ pub(crate) fn decimal(text: &str) -> Result<u64, WordFault>
 
 // Reads a hexadecimal number without a prefix. Its digits are in upper or lower case.
 fn hexadecimal(digits: &str) -> Result<u64, WordFault>
-    ensures { Reads (IsNumeralOf 16 64 digits.now) result }
+    ensures { ReadsOrFails (IsNumeralOf 16 64 digits.now) result }
 {
     if digits.starts_with('+') {
         return Err(WordFault::Words);
@@ -72,8 +72,8 @@ fn hexadecimal(digits: &str) -> Result<u64, WordFault>
 }
 
 // Reads the byte at which a volume begins: a decimal number, or `0x` and hexadecimal digits.
-pub(crate) fn place(text: &str) -> Result<u64, WordFault>
-    ensures { Reads (IsPlaceWord text.now) result }
+pub(crate) fn volume_offset(text: &str) -> Result<u64, WordFault>
+    ensures { ReadsOrFails (IsOffsetWord text.now) result }
 {
     match text.strip_prefix("0x") {
         Some(digits) => hexadecimal(digits),
@@ -82,11 +82,11 @@ pub(crate) fn place(text: &str) -> Result<u64, WordFault>
 }
 
 // Reads the byte at which a volume begins, or returns None if there is no text.
-fn place_of(text: Option<&str>) -> Result<Option<u64>, WordFault>
-    ensures { Reads (IsAtWord (option_map (λ s. s.now) text.entry)) result }
+fn volume_offset_of(text: Option<&str>) -> Result<Option<u64>, WordFault>
+    ensures { ReadsOrFails (IsAtWord (option_map (λ s. s.now) text.entry)) result }
 {
     match text {
-        Some(text) => Ok(Some(place(text)?)),
+        Some(text) => Ok(Some(volume_offset(text)?)),
         None => Ok(None),
     }
 }
@@ -98,9 +98,9 @@ fn input_of(
     matches: &ArgMatches<'_>,
 ) -> Result<(Option<u64>, Option<String>), WordFault>
     ensures { (app : App) (rest : List (List ℕ)) → IsRead app rest matches.now
-        → Reads (λ i. HasInput app rest i.0 i.1) result }
+        → ReadsOrFails (λ i. HasInput app rest i.0 i.1) result }
 {
-    let at = place_of(matches.get_str("at"))?;
+    let at = volume_offset_of(matches.get_str("at"))?;
     Ok((at, file_of(alloc, matches, "file")?))
 }
 
@@ -128,8 +128,8 @@ fn on_image(
     single: Task,
 ) -> Result<Command, WordFault>
     ensures normalise { whole ≡ Task.NormaliseAll → single ≡ Task.Normalise
-        → AsksFor (codes "normalise") matches.now result }
-    ensures check { whole ≡ Task.CheckAll → single ≡ Task.Check → AsksFor (codes "check") matches.now result }
+        → AsksOrFails (codes "normalise") matches.now result }
+    ensures check { whole ≡ Task.CheckAll → single ≡ Task.Check → AsksOrFails (codes "check") matches.now result }
 {
     let all = is_given(matches, "all");
     let (at, file) = input_of(alloc, matches)?;
@@ -142,7 +142,7 @@ fn on_image(
 
 // Reads the arguments of `list`: a volume, and whether the list shows digests.
 fn list(alloc: Global, matches: &ArgMatches<'_>) -> Result<Command, WordFault>
-    ensures { AsksFor (codes "list") matches.now result }
+    ensures { AsksOrFails (codes "list") matches.now result }
 {
     let task = task_by(is_given(matches, "sums"), Task::ListSums, Task::List);
     let (at, file) = input_of(alloc, matches)?;
@@ -156,7 +156,7 @@ fn image_of(
     path: Option<&str>,
     base: Option<&str>,
 ) -> Result<Option<ImageFile>, WordFault>
-    ensures { Reads (IsImageWords (option_map (λ s. s.now) path.entry) (option_map (λ s. s.now) base.entry)) result }
+    ensures { ReadsOrFails (IsImageWords (option_map (λ s. s.now) path.entry) (option_map (λ s. s.now) base.entry)) result }
 {
     match (path, base) {
         (None, None) => Ok(None),
@@ -170,7 +170,7 @@ fn image_of(
 
 // Reads the arguments of `hobs`: a list, and the image in which its volumes are looked up.
 fn hobs(alloc: Global, matches: &ArgMatches<'_>) -> Result<Command, WordFault>
-    ensures { AsksFor (codes "hobs") matches.now result }
+    ensures { AsksOrFails (codes "hobs") matches.now result }
 {
     let (path, base) = (matches.get_str("image"), matches.get_str("base"));
     Ok(Command::Hobs {
@@ -195,7 +195,7 @@ pub(crate) fn section_type(text: &str) -> Option<u8>
 
 // Reads a section type, or returns None if there is no text.
 fn section_of(text: Option<&str>) -> Result<Option<u8>, WordFault>
-    ensures { Reads (IsSectionTypeWord (option_map (λ s. s.now) text.entry)) result }
+    ensures { ReadsOrFails (IsSectionTypeWord (option_map (λ s. s.now) text.entry)) result }
 {
     let Some(text) = text else {
         return Ok(None);
@@ -208,7 +208,7 @@ fn section_of(text: Option<&str>) -> Result<Option<u8>, WordFault>
 
 // Reads the name of a file, which is a GUID and must be given.
 pub(crate) fn name_of(text: Option<&str>) -> Result<Guid, WordFault>
-    ensures { Reads (λ name. option_and_then guid_read (option_map (λ s. s.now) text.entry) ≡ Some name) result }
+    ensures { ReadsOrFails (λ name. option_and_then guid_read (option_map (λ s. s.now) text.entry) ≡ Some name) result }
 {
     let Some(text) = text else {
         return Err(WordFault::Words);
@@ -221,7 +221,7 @@ pub(crate) fn name_of(text: Option<&str>) -> Result<Guid, WordFault>
 
 // Reads which of the sections with the same type is meant: the first if no number is given.
 pub(crate) fn instance_of(text: Option<&str>) -> Result<u32, WordFault>
-    ensures { Reads (IsInstanceWord (option_map (λ s. s.now) text.entry)) result }
+    ensures { ReadsOrFails (IsInstanceWord (option_map (λ s. s.now) text.entry)) result }
 {
     let Some(text) = text else {
         return Ok(1);
@@ -238,7 +238,7 @@ fn part_of(
     section: Option<&str>,
     instance: Option<&str>,
 ) -> Result<Part, WordFault>
-    ensures { Reads (IsPartBy (option_map (λ s. s.now) name.entry) (option_map (λ s. s.now) section.entry)
+    ensures { ReadsOrFails (IsPartBy (option_map (λ s. s.now) name.entry) (option_map (λ s. s.now) section.entry)
         (option_map (λ s. s.now) instance.entry)) result }
 {
     Ok(Part {
@@ -250,7 +250,7 @@ fn part_of(
 
 // Reads the arguments of `extract`: a volume, and the part of it that is written.
 fn extract(alloc: Global, matches: &ArgMatches<'_>) -> Result<Command, WordFault>
-    ensures { AsksFor (codes "extract") matches.now result }
+    ensures { AsksOrFails (codes "extract") matches.now result }
 {
     let (section, instance) = (matches.get_str("section"), matches.get_str("instance"));
     let part = part_of(matches.get_str("name"), section, instance)?;
@@ -262,20 +262,20 @@ fn extract(alloc: Global, matches: &ArgMatches<'_>) -> Result<Command, WordFault
 // Returns the volume in the file with this path, which must be given, and the byte at which it
 // begins there.
 fn volume_of(alloc: Global, path: Option<&str>, at: Option<&str>) -> Result<VolumeFile, WordFault>
-    ensures { Reads (IsVolumeWords (option_map (λ s. s.now) path.entry) (option_map (λ s. s.now) at.entry)) result }
+    ensures { ReadsOrFails (IsVolumeWords (option_map (λ s. s.now) path.entry) (option_map (λ s. s.now) at.entry)) result }
 {
     let Some(path) = path else {
         return Err(WordFault::Words);
     };
     Ok(VolumeFile {
         path: String::from_str(alloc, path)?,
-        at: place_of(at)?,
+        at: volume_offset_of(at)?,
     })
 }
 
 // Reads the arguments of `compare`: two volumes.
 fn compare(alloc: Global, matches: &ArgMatches<'_>) -> Result<Command, WordFault>
-    ensures { AsksFor (codes "compare") matches.now result }
+    ensures { AsksOrFails (codes "compare") matches.now result }
 {
     let (at, other_at) = (matches.get_str("at"), matches.get_str("other-at"));
     let first = volume_of(alloc, matches.get_str("first"), at)?;
@@ -285,7 +285,7 @@ fn compare(alloc: Global, matches: &ArgMatches<'_>) -> Result<Command, WordFault
 
 // Reads the arguments of `cells`: a volume.
 fn cells(alloc: Global, matches: &ArgMatches<'_>) -> Result<Command, WordFault>
-    ensures { AsksFor (codes "cells") matches.now result }
+    ensures { AsksOrFails (codes "cells") matches.now result }
 {
     let (at, file) = input_of(alloc, matches)?;
     let task = Task::Cells;
@@ -294,7 +294,7 @@ fn cells(alloc: Global, matches: &ArgMatches<'_>) -> Result<Command, WordFault>
 
 // Reads the arguments of `unfix`: a volume.
 fn unfix(alloc: Global, matches: &ArgMatches<'_>) -> Result<Command, WordFault>
-    ensures { AsksFor (codes "unfix") matches.now result }
+    ensures { AsksOrFails (codes "unfix") matches.now result }
 {
     let (at, file) = input_of(alloc, matches)?;
     let task = Task::Unfix;
@@ -303,7 +303,7 @@ fn unfix(alloc: Global, matches: &ArgMatches<'_>) -> Result<Command, WordFault>
 
 // Reads the arguments of `scan`: a file that is searched for volumes.
 fn scan(alloc: Global, matches: &ArgMatches<'_>) -> Result<Command, WordFault>
-    ensures { AsksFor (codes "scan") matches.now result }
+    ensures { AsksOrFails (codes "scan") matches.now result }
 {
     let file = file_of(alloc, matches, "file")?;
     let (task, at) = (Task::Scan, None);
@@ -312,7 +312,7 @@ fn scan(alloc: Global, matches: &ArgMatches<'_>) -> Result<Command, WordFault>
 
 // Returns the command with this name and the arguments that the parser found.
 fn command_of(alloc: Global, name: &str, matches: &ArgMatches<'_>) -> Result<Command, WordFault>
-    ensures { AsksFor name.now matches.now result }
+    ensures { AsksOrFails name.now matches.now result }
 {
     match name {
         "normalise" => on_image(alloc, matches, Task::NormaliseAll, Task::Normalise),
@@ -335,7 +335,7 @@ fn command_of(alloc: Global, name: &str, matches: &ArgMatches<'_>) -> Result<Com
 ///
 /// Words, if no command has this name or the arguments are wrong. OutOfMemory.
 pub fn parse_command(alloc: Global, name: &str, words: &[String]) -> Result<Plan, WordFault>
-    ensures asked { IfOk result (AsksBy name.now (drop 1 (map string_bytes words.now))) }
+    ensures asks { IfOk result (AsksBy name.now (drop 1 (map string_bytes words.now))) }
 
     // Right arguments are never rejected as wrong.
     ensures wrong { IfErr result (λ f. f ≡ WordFault.Words

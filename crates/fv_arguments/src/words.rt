@@ -2,7 +2,7 @@
 
 ghost use Rattle.std.specs.String.{string_bytes};
 ghost use Rattle.std.specs.Prelude.{◌≡◌, ◌≤◌, false, length, map, true, IfErr, IfOk, Ok};
-ghost use Rattle.fv_arguments.specs.CommandLines.{AreRight, Asks, plan_without_words};
+ghost use Rattle.fv_arguments.specs.CommandLines.{AreRight, Asks, plan_without_arguments};
 
 use crate::options::parse_command;
 use fv_plan::{Command, Plan, Task};
@@ -67,7 +67,7 @@ impl From<io::Error> for WordFault {
 /// Words, if the arguments do not name a command, or are wrong for the command that they name.
 /// OutOfMemory.
 pub fn parse_words(alloc: Global, words: &[String]) -> Result<Plan, WordFault>
-    ensures none { length words.now ≤ 1 → result ≡ Ok plan_without_words }
+    ensures none { length words.now ≤ 1 → result ≡ Ok plan_without_arguments }
 
     // A plan is returned only if the arguments are right, and it is the plan that they ask for.
     ensures right { IfOk result (Asks (map string_bytes words.now)) }

@@ -51,32 +51,32 @@ written_count s = s.count
 
 -- the state of a port to which a sink writes: the bytes that its writer holds, if they are known; its error flag; and
 -- the number of bytes that the sink has written, modulo 2 ^ 64
-pub record PortShows : Type 0 where
+pub record PortState : Type 0 where
   pub contents : Option (List ℕ)
   pub erred : Bool
   pub count : ℕ
 
 -- the bytes were written, and were counted modulo 2 ^ 64
-abbrev pub WritesBytes : PortShows → List ℕ → PortShows → Type 0
+abbrev pub WritesBytes : PortState → List ℕ → PortState → Type 0
 WritesBytes s bytes t = Appends s.contents t.contents bytes × (t.count % 2 ^ 64 ≡ (s.count + length bytes) % 2 ^ 64)
 
 -- all of the bytes were written, and no write failed: the error flag is as it was
-abbrev pub WritesAll : PortShows → List ℕ → PortShows → Type 0
+abbrev pub WritesAll : PortState → List ℕ → PortState → Type 0
 WritesAll s bytes t = WritesBytes s bytes t × (t.erred ≡ s.erred)
 
 -- only the first n bytes were written, which are not all of them, and the error flag is set
-abbrev pub WritesFront : PortShows → List ℕ → PortShows → Type 0
-WritesFront s bytes t = (n : ℕ) × (n < length bytes) × WritesBytes s (take n bytes) t × (t.erred ≡ true)
+abbrev pub WritesPrefix : PortState → List ℕ → PortState → Type 0
+WritesPrefix s bytes t = (n : ℕ) × (n < length bytes) × WritesBytes s (take n bytes) t × (t.erred ≡ true)
 
 -- a sink that is on writes all of the bytes, or writes only a first part of them and goes off. If it is off, it stays
 -- off, and nothing changes
-abbrev pub LatchedWrites : PortShows → Bool → List ℕ → PortShows → Bool → Type 0
+abbrev pub LatchedWrites : PortState → Bool → List ℕ → PortState → Bool → Type 0
 LatchedWrites s true bytes t true = WritesAll s bytes t
-LatchedWrites s true bytes t false = WritesFront s bytes t
+LatchedWrites s true bytes t false = WritesPrefix s bytes t
 LatchedWrites s false bytes t true = ⊥
 LatchedWrites s false bytes t false = t ≡ s
 
 -- how a sink takes bytes that it writes to a port; `view` gives the state of the port, `on` whether the sink is on, and
 -- `name` a name that never changes. The bytes are written as `LatchedWrites` says
-abbrev pub SeenTakes : {S N : Type 0} (view : S → PortShows) (on : S → Bool) (name : S → N) → S → List ℕ → S → Type 0
+abbrev pub SeenTakes : {S N : Type 0} (view : S → PortState) (on : S → Bool) (name : S → N) → S → List ℕ → S → Type 0
 SeenTakes view on name s bytes t = (name t ≡ name s) × LatchedWrites (view s) (on s) bytes (view t) (on t)

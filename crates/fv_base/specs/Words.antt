@@ -16,5 +16,5 @@ pub use Rattle.fv_base.specs.Input.{read_limit, GivesAll, ReadsWhole, GaveCount,
 pub use Rattle.fv_base.specs.Input.{ReadStops, WriteStops}
 pub use Rattle.fv_base.specs.Port.{inner_of, has_erred, is_flushed, write_fails}
 pub use Rattle.fv_base.specs.Sinks.{WalkLaws, kept_in, is_on, KeptLatched, KeptTakes, port_of, port_name, is_writing}
-pub use Rattle.fv_base.specs.Sinks.{written_count, PortShows, WritesBytes, WritesAll, WritesFront, LatchedWrites}
+pub use Rattle.fv_base.specs.Sinks.{written_count, PortState, WritesBytes, WritesAll, WritesPrefix, LatchedWrites}
 pub use Rattle.fv_base.specs.Sinks.{SeenTakes}

@@ -26,11 +26,11 @@ pub fn all_are(bytes: &[u8], byte: u8) -> bool
 {
     let mut rest = bytes;
     while rest.len() >= PIECE {
-        let (piece, behind) = rest.split_at(PIECE);
+        let (piece, after) = rest.split_at(PIECE);
         if !is_filled(piece, byte) {
             return false;
         }
-        rest = behind;
+        rest = after;
     }
     is_filled(rest, byte)
 }

@@ -32,9 +32,9 @@ pub trait Sink {
 
 // Writes the bytes in order: all of them, unless a write fails. Returns the number of bytes
 // written.
-fn write_front<W: Write>(port: &mut Port<W>, bytes: &[u8]) -> usize
+fn write_prefix<W: Write>(port: &mut Port<W>, bytes: &[u8]) -> usize
     ensures bound { result ≤ length bytes.now }
-    ensures front { Appends (W.contents (inner_of port.old)) (W.contents (inner_of port.new)) (take result bytes.now) }
+    ensures prefix { Appends (W.contents (inner_of port.old)) (W.contents (inner_of port.new)) (take result bytes.now) }
     ensures erred { result < length bytes.now → has_erred port.new ≡ true }
     ensures fine { result ≡ length bytes.now → has_erred port.new ≡ has_erred port.old }
 {
@@ -72,7 +72,7 @@ impl<'a, W: Write> Sink for WriteSink<'a, W> {
 
     fn put(&mut self, bytes: &[u8]) {
         if self.on {
-            let count = write_front(self.port, bytes);
+            let count = write_prefix(self.port, bytes);
             self.count = self.count.wrapping_add(count as u64);
             self.on = count == bytes.len();
         }
@@ -143,7 +143,7 @@ impl ListSink {
     pub fn finish(self) -> Result<ByteList, Fault>
         ensures ok { IfOk result (λ bytes. (is_on self ≡ true) × (bytes ≡ kept_in self)) }
         ensures err { IfErr result (λ f. f ≡ out_of_memory) }
-        ensures refused { OnErr result (is_on self ≡ false) }
+        ensures rejected { OnErr result (is_on self ≡ false) }
     {
         let ListSink { bytes, on } = self;
         if on {

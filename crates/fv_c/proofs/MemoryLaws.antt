@@ -22,7 +22,7 @@ use Rattle.fv_c.specs.Reports.{BeginsWithHeader}
 
 -- a volume begins with its header
 pub header_of : (b : List ℕ) (m : Meaning) → Accepted b m → BeginsWithHeader b
-header_of b m accepted = (head_of m, accepted.1.extent, accepted.1.front)
+header_of b m accepted = (head_of m, accepted.1.extent, accepted.1.begins)
 
 -- a list of hand-off blocks begins with a hand-off information table (PHIT)
 table_of : (all front : List HobForm) (last : HobForm) (n : ℕ) (b : List ℕ) → all ≡ front ++ last ∷ [] → JoinsHobs all (take n b)
@@ -32,7 +32,7 @@ table_of [] (h ∷ hs) last n b e joined begins = cc
 table_of (h ∷ hs) front last n b e (c, rest, is, hob, more) begins = (
   c,
   record {
-    behind = rest ++ drop n b;
+    rest = rest ++ drop n b;
     joined = sym (take-append-drop n b) ∙ ap (λ (l : List ℕ). l ++ drop n b) is ∙ append_assoc c rest (drop n b);
     block = hob.block;
     begins = λ _. sym (code_is h c hob) ∙ begins;
@@ -40,20 +40,20 @@ table_of (h ∷ hs) front last n b e (c, rest, is, hob, more) begins = (
 )
 
 pub begins_table : (all : List HobForm) (n : ℕ) (b : List ℕ) → IsHobList all (take n b) → BeginsTable b
-begins_table all n b list = table_of all list.front list.last n b list.ends list.joined list.begins
+begins_table all n b list = table_of all list.before list.last n b list.ends list.joined list.begins
 
 -- a dependency expression begins with an op that may be the first
 first_of : (phase : Phase) (stage : Stage) (front : List Op) (rest b : List ℕ) → OpPath phase stages.Start front stage
     → OpFits phase stage ops.End → b ≡ ops_bytes (front ++ ops.End ∷ []) ++ rest → BeginsFirstOp phase b
 first_of phase stage [] rest b path ended is = (
   ops.End,
-  record { fits = rw path ended; behind = rest; joined = is },
+  record { fits = rw path ended; rest = rest; joined = is },
 )
 first_of phase stage (o ∷ os) rest b path ended is = (
   o,
   record {
     fits = path.0;
-    behind = ops_bytes (os ++ ops.End ∷ []) ++ rest;
+    rest = ops_bytes (os ++ ops.End ∷ []) ++ rest;
     joined = is ∙ ap (λ (l : List ℕ). op_code o ∷ l) (append_assoc (op_operand o) (ops_bytes (os ++ ops.End ∷ [])) rest);
   },
 )

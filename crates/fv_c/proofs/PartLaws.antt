@@ -9,7 +9,7 @@ use Rattle.std.specs.Prelude.{Option, option_map, slice_get}
 use Rattle.fv_base.proofs.Laws.{or_more}
 use Rattle.fv_base.specs.Words.{out_of_memory}
 use Rattle.fv_base.specs.declared.fault.Fault.{Fault}
-use Rattle.fv_canon.specs.Words.{AllFit, AreStarts, FirstUnfit, IsImage, IsLayout, Laid, Places, WhatFitsHasAnImage}
+use Rattle.fv_canon.specs.Words.{AllFit, AreStarts, FirstUnplaced, IsImage, IsLayout, StartsOfEach, LayoutParts, WhatFitsHasAnImage}
 use Rattle.fv_tree.specs.Words.{NotRead, Accepted, Inside, IsMeaning, Meaning, Volume, head_of, volumes_in}
 use Rattle.fv_sinks.proofs.Laws.{filled_front}
 use Rattle.fv_sinks.specs.Words.{BufferTakes, buffer_name, rest_in, taken_in}
@@ -36,11 +36,11 @@ pub image_long : (m : Meaning) (image : List ℕ) → IsImage m image → length
 image_long (Volume h files) image is = is.4.length_is
 
 -- if a layout exists, each volume fits, and the outermost volume has an image (`laid_image`)
-laid_fit : (vs : List Inside) (starts : List ℕ) → Laid AreStarts vs starts → AllFit vs
+laid_fit : (vs : List Inside) (starts : List ℕ) → StartsOfEach AreStarts vs starts → AllFit vs
 laid_fit [] starts laid = tt
 laid_fit (v ∷ vs) starts (own, inner, joined, are, laid) = ((own, are), laid_fit vs inner laid)
 
-pub laid_image : WhatFitsHasAnImage → (m : Meaning) (l : Places) → IsMeaning m → IsLayout m l → (image : List ℕ) × IsImage m image
+pub laid_image : WhatFitsHasAnImage → (m : Meaning) (l : LayoutParts) → IsMeaning m → IsLayout m l → (image : List ℕ) × IsImage m image
 laid_image law m l is laid = (law m is).0 (laid_fit (volumes_in m) (l.own ++ l.inner) laid.0)
 
 -- if the buffer is long enough, all bytes of the part are in it
@@ -86,13 +86,13 @@ puts_part p q old new before after r is put =
     subst (λ (o : Option NodeMeaning). PutsPart o old new before after r) (sym is) put
 
 pub stops_part : (p : Option NodeMeaning) (q : NodeMeaning) (f : Fault) → p ≡ Some q
-    → (f ≡ out_of_memory) ⊎ FirstUnfit (volumes_in_node q) 0 f → StopsPart p f
+    → (f ≡ out_of_memory) ⊎ FirstUnplaced (volumes_in_node q) 0 f → StopsPart p f
 stops_part p q f is stop = subst (λ (o : Option NodeMeaning). StopsPart o f) (sym is) stop
 
 -- ---- the clauses of the call
 
 pub stopped_part : (p : Option NodeMeaning) (f : Fault) → StopsPart p f
-    → (f ≡ out_of_memory) ⊎ ((q : NodeMeaning) × (p ≡ Some q) × FirstUnfit (volumes_in_node q) 0 f)
+    → (f ≡ out_of_memory) ⊎ ((q : NodeMeaning) × (p ≡ Some q) × FirstUnplaced (volumes_in_node q) 0 f)
 stopped_part None f memory = inl memory
 stopped_part (Some q) f (inl memory) = inl memory
 stopped_part (Some q) f (inr unfit) = inr (q, refl, unfit)

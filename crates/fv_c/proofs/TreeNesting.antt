@@ -42,7 +42,7 @@ module _ (s s' : StreamRelation) (streams : StreamsLift s s') where
   volume_lifts : VolumesLift (VolumeOver s) (VolumeOver s')
   volume_lifts b m d = record {
     extent = d.extent;
-    front = d.front;
+    begins = d.begins;
     whole = d.whole;
     cells = d.cells;
     tiles = d.tiles;

@@ -8,7 +8,7 @@ use Rattle.std.proofs.lemmas.List.{length-take-le}
 use Rattle.std.proofs.Math.Seq.{take-append_seam, drop-append_seam}
 use Rattle.fv_base.specs.Words.{field, IsBytes}
 use Rattle.fv_base.proofs.Laws.{field-take, bytes_take, bytes_drop}
-use Rattle.fv_section.specs.Words.{FrameForm, FrameStandsAt, section_header_len}
+use Rattle.fv_section.specs.Words.{FrameForm, HasFrameAt, section_header_len}
 use Rattle.fv_section.proofs.Laws.{stands_within}
 use Rattle.fv_tree.specs.Words.{FileForm, HasDataIn, Meaning, Volume, data_place, body_place, head_of, length_of}
 
@@ -37,18 +37,18 @@ pub file_lies : (input : List ℕ) (at n : ℕ) (f : FileForm) → at + n ≤ le
 file_lies input at n f within h = part_of input at n (data_place f) f.payload within h
 
 -- the body of a frame in a stream lies after the frame's header
-frame_in_stream : (f : FrameForm) (b : List ℕ) → FrameStandsAt f f.offset b → LieAt b (body_place f) f.body
+frame_in_stream : (f : FrameForm) (b : List ℕ) → HasFrameAt f f.offset b → LieAt b (body_place f) f.body
 frame_in_stream f b s =
     let h = s.begins.head in
     let whole : length h ≡ section_header_len f.extended = s.begins.is_header.whole in
-    let cut : drop (length h) (drop f.offset b) ≡ f.body ++ s.behind =
-    ap (λ (l : List ℕ). drop (length h) l) s.begins.text ∙ drop-append_seam h (f.body ++ s.behind) in
+    let cut : drop (length h) (drop f.offset b) ≡ f.body ++ s.rest =
+    ap (λ (l : List ℕ). drop (length h) l) s.begins.text ∙ drop-append_seam h (f.body ++ s.rest) in
     let moved : drop (length h) (drop f.offset b) ≡ drop (body_place f) b = grind (arith, common_steps, whole) in (
       omega (arith, stands_within f b f.offset s),
-      ap (λ (l : List ℕ). take (length f.body) l) (sym moved ∙ cut) ∙ take-append_seam f.body s.behind,
+      ap (λ (l : List ℕ). take (length f.body) l) (sym moved ∙ cut) ∙ take-append_seam f.body s.rest,
     )
 
-pub frame_lies : (input : List ℕ) (at n : ℕ) (f : FrameForm) → at + n ≤ length input → FrameStandsAt f f.offset (field at n input)
+pub frame_lies : (input : List ℕ) (at n : ℕ) (f : FrameForm) → at + n ≤ length input → HasFrameAt f f.offset (field at n input)
     → LieAt input (at + body_place f) f.body
 frame_lies input at n f within s =
     part_of input at n (body_place f) f.body within (frame_in_stream f (field at n input) s)

@@ -14,7 +14,7 @@ use Rattle.std.proofs.lemmas.Option.{slice_get-map, slice_get_read}
 use Rattle.fv_base.specs.Words.{field, depth_limit, volume_limit, IsBytes}
 use Rattle.fv_head.specs.Words.{HeadFields}
 use Rattle.fv_file.specs.Words.{attribute_bits, file_header_len, is_large}
-use Rattle.fv_section.specs.Words.{FrameForm, FrameStandsAt, Splits, section_header_len}
+use Rattle.fv_section.specs.Words.{FrameForm, HasFrameAt, Splits, section_header_len}
 use Rattle.fv_section.proofs.Laws.{split_stands}
 use Rattle.fv_tree.specs.Words.{Accepted, Denotes, FileForm, FileMeaning, File, Meaning, Volume, MeansFile, MeansSection}
 use Rattle.fv_tree.specs.Words.{Pairwise, SectionMeaning, Section, BodyMeaning, Group, Nested, Stream, HasDataIn}
@@ -272,7 +272,7 @@ module _ {input : List ℕ} {h : Holder} {ss : List SectionMeaning} {i : ℕ} {l
   body_lies =
       let b = bytes_at input h.node in
       frame_lies input h.node.offset h.node.length f within
-      (all_at (λ g. FrameStandsAt g g.offset b) here.walk.0 i f (split_stands here.walk.0 here.walk.1 b here.walk.2) frame_at)
+      (all_at (λ g. HasFrameAt g g.offset b) here.walk.0 i f (split_stands here.walk.0 here.walk.1 b here.walk.2) frame_at)
 
   pub section_fits : {n : ℕ} → length input < n → h.node.offset + body_place f < n
   section_fits short = omega (arith, body_lies.0, short)
@@ -402,10 +402,10 @@ module _ {input : List ℕ} {m : Meaning} (accepted_input : Accepted input m) wh
   whole : length_of m ≡ length input
   whole = go m accepted_input where
     go : (v : Meaning) → Accepted input v → length_of v ≡ length input
-    go (Volume hd files) a = sym (a.1.whole ∙ a.1.front.length_is)
+    go (Volume hd files) a = sym (a.1.whole ∙ a.1.begins.length_is)
 
   within_limit : length input ≤ volume_limit
-  within_limit = omega (arith, accepted_input.1.front.head.volume_most, accepted_input.1.front.length_is, accepted_input.1.whole)
+  within_limit = omega (arith, accepted_input.1.begins.head.volume_most, accepted_input.1.begins.length_is, accepted_input.1.whole)
 
   all_bytes : bytes_at input node_of_root ≡ input
   all_bytes = take_all (length_of m) input (omega (arith, whole))

@@ -2,7 +2,7 @@
 -- 3, sections 3.2.1, 3.2.3 and 3.2.4).
 use Rattle.std.specs.Prelude.{◌≡◌, ◌≤◌, ℕ, List, length, Option, Some, option_map, slice_get}
 use Rattle.fv_base.specs.declared.fault.Fault.{Fault}
-use Rattle.fv_canon.specs.Words.{IsImage, IsData, IsBodyImage, FirstUnfit}
+use Rattle.fv_canon.specs.Words.{IsImage, IsData, IsBodyImage, FirstUnplaced}
 use Rattle.fv_tree.specs.Words.{Inside, volumes_in, volumes_in_body, volumes_in_content, Accepted, Meaning}
 use Rattle.fv_tree.specs.Words.{content_of, body_of}
 use Rattle.fv_rows.specs.Words.{NodeMeaning, VolumeNode, FileNode, SectionNode}
@@ -39,4 +39,4 @@ HasNoRow row input = (m : Meaning) × Accepted input m × (length (tree_rows m) 
 abbrev pub HasUnfitRow : ℕ → List ℕ → Fault → Type 0
 HasUnfitRow row input f =
     (m : Meaning) × (node : NodeMeaning) × Accepted input m × (part_at row m ≡ Some node)
-    × FirstUnfit (volumes_in_node node) 0 f
+    × FirstUnplaced (volumes_in_node node) 0 f

@@ -5,7 +5,7 @@ ghost use Rattle.fv_base.specs.Words.{fault_number};
 ghost use Rattle.fv_c.specs.Reports.{no_fault, reported_fault};
 ghost use Rattle.fv_c.specs.inner.Rows.{IsWritten};
 
-use crate::reports::{BUFFER_TOO_SMALL, FvFault, NO_FAULT, refused};
+use crate::reports::{BUFFER_TOO_SMALL, FvFault, NO_FAULT, set_fault};
 use fv_base::Fault;
 
 // Writes the elements at the start of the buffer. The rest of the buffer is unchanged.
@@ -67,6 +67,6 @@ pub(crate) fn put_result<T: Copy>(
 {
     match found {
         Ok(rows) => put_found(rows.as_slice(), buffer, count, fault),
-        Err(f) => refused(f, fault),
+        Err(f) => set_fault(f, fault),
     }
 }

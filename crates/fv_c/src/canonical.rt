@@ -6,12 +6,12 @@ ghost use Rattle.std.specs.Prelude.{◌≡◌, ◌≢◌, ◌⊎◌, ◌↔◌, 
 ghost use Rattle.sha2.specs.Sha256.{sha256};
 ghost use Rattle.fv_base.specs.Words.{OrMemory, fault_number, out_of_memory, volume_limit};
 ghost use Rattle.fv_base.specs.declared.fault.Fault.{Fault};
-ghost use Rattle.fv_canon.specs.Words.{NormalisesAll, RefusesAll, NormalisesTo, IsImage, Refuses};
+ghost use Rattle.fv_canon.specs.Words.{NormalisesAll, RejectsAll, NormalisesTo, IsImage, Rejects};
 ghost use Rattle.fv_flash.specs.Words.{IsPlace};
 ghost use Rattle.fv_tree.specs.Words.{NotRead, Accepted, Meaning};
 ghost use Rattle.fv_c.specs.Reports.{BeginsWithHeader, reported_fault, no_fault};
 
-use crate::reports::{BUFFER_TOO_SMALL, FvFault, NO_FAULT, flag, refused};
+use crate::reports::{BUFFER_TOO_SMALL, FvFault, NO_FAULT, flag, set_fault};
 use fv_base::Fault;
 use fv_canon::{is_canonical, lay_out_image, lay_out_volume, put_canonical, put_laid_image};
 use fv_sinks::{BufferSink, DigestSink};
@@ -51,7 +51,7 @@ pub extern "C" fn fvp_volume_is_canonical(
             *fault = NO_FAULT;
             0
         }
-        Err(f) => refused(f, fault),
+        Err(f) => set_fault(f, fault),
     }
 }
 
@@ -66,7 +66,7 @@ pub struct FvSha256 {
 // Returns the SHA-256 digest of the input's canonical image. The input is a volume.
 fn digest_of(alloc: Global, volume: &[u8]) -> Result<FvSha256, Fault>
     ensures ok { IfOk result (λ d. (image : List ℕ) × NormalisesTo volume.now image × (d.bytes ≡ sha256 image)) }
-    ensures err { IfErr result (OrMemory (Refuses volume.now)) }
+    ensures err { IfErr result (OrMemory (Rejects volume.now)) }
     ensures fits { (image : List ℕ) → NormalisesTo volume.now image → IfErr result (λ f. f ≡ out_of_memory) }
     ensures memory { IfErr result (λ f. f ≡ out_of_memory → BeginsWithHeader volume.now) }
 {
@@ -101,7 +101,7 @@ pub extern "C" fn fvp_volume_digest(
 
     // A fault is the first fault of the input, or out of memory. Memory can run out only if the
     // input begins with the header of a volume.
-    ensures err { result ≢ 0 → (f : Fault) × OrMemory (Refuses volume.now) f
+    ensures err { result ≢ 0 → (f : Fault) × OrMemory (Rejects volume.now) f
         × (f ≡ out_of_memory → BeginsWithHeader volume.now)
         × (result ≡ fault_number f.kind) × (fault.new ≡ reported_fault f) }
 
@@ -114,7 +114,7 @@ pub extern "C" fn fvp_volume_digest(
             *fault = NO_FAULT;
             0
         }
-        Err(f) => refused(f, fault),
+        Err(f) => set_fault(f, fault),
     }
 }
 
@@ -146,7 +146,7 @@ pub extern "C" fn fvp_volume_normalise(
 
     // Any other result is the first fault of the input, or out of memory. Memory can run out only
     // if the input begins with the header of a volume.
-    ensures err { result ≢ 0 → result ≢ 256 → (f : Fault) × OrMemory (Refuses volume.now) f
+    ensures err { result ≢ 0 → result ≢ 256 → (f : Fault) × OrMemory (Rejects volume.now) f
         × (f ≡ out_of_memory → BeginsWithHeader volume.now)
         × (result ≡ fault_number f.kind) × (fault.new ≡ reported_fault f) }
 
@@ -155,7 +155,7 @@ pub extern "C" fn fvp_volume_normalise(
 {
     let laid = match lay_out_volume(alloc, volume) {
         Ok(laid) => laid,
-        Err(f) => return refused(f, fault),
+        Err(f) => return set_fault(f, fault),
     };
     *fault = NO_FAULT;
     if buffer.len() < volume.len() {
@@ -195,7 +195,7 @@ pub extern "C" fn fvp_image_normalise(
 
     // Any other result is the fault of the first volume that has no image, or out of memory. Memory
     // can run out only if the image is within the limit and a volume begins in it.
-    ensures err { result ≢ 0 → result ≢ 256 → (f : Fault) × OrMemory (RefusesAll image.now) f
+    ensures err { result ≢ 0 → result ≢ 256 → (f : Fault) × OrMemory (RejectsAll image.now) f
         × (f ≡ out_of_memory → (length image.now ≤ volume_limit) × ((place : ℕ) × IsPlace image.now place))
         × (result ≡ fault_number f.kind) × (fault.new ≡ reported_fault f) }
 
@@ -204,7 +204,7 @@ pub extern "C" fn fvp_image_normalise(
 {
     let laid = match lay_out_image(alloc, image) {
         Ok(laid) => laid,
-        Err(f) => return refused(f, fault),
+        Err(f) => return set_fault(f, fault),
     };
     *fault = NO_FAULT;
     if buffer.len() < image.len() {

@@ -9,7 +9,7 @@ ghost use Rattle.fv_c.specs.ReportedComparisons.{IsReported, compare_text};
 ghost use Rattle.fv_c.specs.Reports.{BeginsWithHeader, no_fault, reported_fault, reported_fault_of};
 
 use crate::buffer::put_first;
-use crate::reports::{BUFFER_TOO_SMALL, FvFault, NO_FAULT, flag, refused, refused_of};
+use crate::reports::{BUFFER_TOO_SMALL, FvFault, NO_FAULT, flag, set_fault, set_fault_of};
 use fv_base::{ByteList, Fault, ListSink};
 use fv_canon::whole_volume;
 use fv_compare::put_comparison;
@@ -81,7 +81,7 @@ fn report(
 {
     let (same, line) = match line_of(alloc, a, b) {
         Ok(pair) => pair,
-        Err(memory) => return refused(memory, fault),
+        Err(memory) => return set_fault(memory, fault),
     };
     let line = line.as_slice();
     *found = FvComparison {
@@ -144,11 +144,11 @@ pub extern "C" fn fvp_volume_compare(
 {
     let a = match whole_volume(alloc, first) {
         Ok(view) => view,
-        Err(f) => return refused_of(0, f, fault),
+        Err(f) => return set_fault_of(0, f, fault),
     };
     let b = match whole_volume(alloc, second) {
         Ok(view) => view,
-        Err(f) => return refused_of(1, f, fault),
+        Err(f) => return set_fault_of(1, f, fault),
     };
     report(alloc, &a, &b, text, found, fault)
 }

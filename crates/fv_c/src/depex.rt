@@ -9,7 +9,7 @@ ghost use Rattle.fv_c.specs.ReportedTruths.{NoExpression, depex_result, passed_g
 ghost use Rattle.fv_c.specs.ReportedTruths.{reported_truth};
 ghost use Rattle.fv_c.specs.Reports.{no_fault};
 
-use crate::reports::{DEPEX_FAULTS, FvFault, NO_FAULT, OUT_OF_MEMORY, refused_at};
+use crate::reports::{DEPEX_FAULTS, FvFault, NO_FAULT, OUT_OF_MEMORY, set_fault_at};
 use crate::translate::{Translate, translate_all};
 use fv_base::Guid;
 use fv_depex::{DepexFault, DepexFaultKind, Phase, evaluate, read_depex};
@@ -123,6 +123,6 @@ pub extern "C" fn fvp_depex_evaluate(
             *fault = NO_FAULT;
             0
         }
-        Err(f) => refused_at(f.offset, depex_result(f.kind), fault),
+        Err(f) => set_fault_at(f.offset, depex_result(f.kind), fault),
     }
 }

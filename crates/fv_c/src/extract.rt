@@ -4,7 +4,7 @@ ghost use Rattle.std.specs.Prelude.{◌≡◌, ◌≢◌, ◌⊎◌, ◌<◌, �
 ghost use Rattle.std.specs.Prelude.{IfOk, IfErr, OnErr};
 ghost use Rattle.fv_base.specs.Words.{OrMemory, fault_number, out_of_memory};
 ghost use Rattle.fv_base.specs.declared.fault.Fault.{Fault};
-ghost use Rattle.fv_canon.specs.Words.{FirstUnfit, IsBodyImage, IsData, IsImage, Unfit};
+ghost use Rattle.fv_canon.specs.Words.{FirstUnplaced, IsBodyImage, IsData, IsImage, Unfit};
 ghost use Rattle.fv_tree.specs.Words.{Accepted, NotRead, Meaning, body_of, content_of};
 ghost use Rattle.fv_tree.specs.Words.{volumes_in_body, volumes_in_content};
 ghost use Rattle.fv_rows.specs.Words.{part_node};
@@ -12,7 +12,7 @@ ghost use Rattle.fv_c.specs.ExtractedParts.{ExtractsTo, HasNoRow, HasUnfitRow, I
 ghost use Rattle.fv_c.specs.Reports.{BeginsWithHeader, reported_fault, no_fault};
 ghost use Rattle.fv_c.specs.inner.Rows.{IsWritten, PutsPart, StopsPart};
 
-use crate::reports::{BUFFER_TOO_SMALL, FvFault, NO_FAULT, NOT_FOUND, refused};
+use crate::reports::{BUFFER_TOO_SMALL, FvFault, NO_FAULT, NOT_FOUND, set_fault};
 use fv_base::Fault;
 use fv_canon::headline::what_fits_has_an_image;
 use fv_canon::{
@@ -59,7 +59,7 @@ fn put_data(
 ) -> Result<u32, Fault>
     ensures ok { IfOk result (λ r. (bytes : List ℕ) × IsData (content_of file.now) bytes
         × (len.new ≡ length bytes) × IsWritten bytes buffer.old buffer.new r) }
-    ensures err { IfErr result (OrMemory (FirstUnfit (volumes_in_content (content_of file.now)) 0)) }
+    ensures err { IfErr result (OrMemory (FirstUnplaced (volumes_in_content (content_of file.now)) 0)) }
     ensures kept { OnErr result ((buffer.new ≡ buffer.old) × (len.new ≡ len.old)) }
 {
     let starts = lay_out_data(alloc, file)?;
@@ -83,7 +83,7 @@ fn put_body(
 ) -> Result<u32, Fault>
     ensures ok { IfOk result (λ r. (bytes : List ℕ) × IsBodyImage (body_of section.now) bytes
         × (len.new ≡ length bytes) × IsWritten bytes buffer.old buffer.new r) }
-    ensures err { IfErr result (OrMemory (FirstUnfit (volumes_in_body (body_of section.now)) 0)) }
+    ensures err { IfErr result (OrMemory (FirstUnplaced (volumes_in_body (body_of section.now)) 0)) }
     ensures kept { OnErr result ((buffer.new ≡ buffer.old) × (len.new ≡ len.old)) }
 {
     let starts = lay_out_body(alloc, section)?;
@@ -107,7 +107,7 @@ fn put_part(
 ) -> Result<u32, Fault>
     ensures ok { IfOk result (λ r. (bytes : List ℕ) × IsNodeImage (part_node part.entry) bytes
         × (len.new ≡ length bytes) × IsWritten bytes buffer.old buffer.new r) }
-    ensures err { IfErr result (OrMemory (FirstUnfit (volumes_in_node (part_node part.entry)) 0)) }
+    ensures err { IfErr result (OrMemory (FirstUnplaced (volumes_in_node (part_node part.entry)) 0)) }
     ensures kept { OnErr result ((buffer.new ≡ buffer.old) × (len.new ≡ len.old)) }
 {
     match part {
@@ -201,6 +201,6 @@ pub extern "C" fn fvp_volume_extract(
             *fault = NO_FAULT;
             result
         }
-        Err(f) => refused(f, fault),
+        Err(f) => set_fault(f, fault),
     }
 }

@@ -8,7 +8,7 @@ ghost use Rattle.fv_head.specs.declared.extent.Extent.{Extent};
 ghost use Rattle.fv_c.specs.ReportedHeaders.{reported_header, volume_name};
 ghost use Rattle.fv_c.specs.Reports.{reported_fault, no_fault};
 
-use crate::reports::{FvFault, NO_FAULT, refused, system_number};
+use crate::reports::{FvFault, NO_FAULT, set_fault, system_number};
 use fv_base::field::{u16_at, u32_at};
 use fv_base::guid_at;
 use fv_head::{Extent, verify_fv};
@@ -107,6 +107,6 @@ pub extern "C" fn fvp_header_read(bytes: &[u8], header: &mut FvHeader, fault: &m
             *fault = NO_FAULT;
             0
         }
-        Err(f) => refused(f, fault),
+        Err(f) => set_fault(f, fault),
     }
 }

@@ -7,7 +7,7 @@ ghost use Rattle.fv_c.specs.ReportedHobs.{NoHobs, hob_result, reported_hob, repo
 ghost use Rattle.fv_c.specs.Reports.{no_fault};
 
 use crate::buffer::put_found;
-use crate::reports::{FvFault, HOB_FAULTS, OUT_OF_MEMORY, refused_at};
+use crate::reports::{FvFault, HOB_FAULTS, OUT_OF_MEMORY, set_fault_at};
 use crate::translate::{Translate, translate_all};
 use fv_hob::{Hob, HobFault, HobFaultKind, Span, read_hobs};
 use std::alloc::Global;
@@ -111,6 +111,6 @@ pub extern "C" fn fvp_hobs_read(
             *list_length = len;
             put_found(hobs.as_slice(), rows, count, fault)
         }
-        Err(f) => refused_at(f.offset, hob_result(f.kind), fault),
+        Err(f) => set_fault_at(f.offset, hob_result(f.kind), fault),
     }
 }

@@ -10,7 +10,7 @@ ghost use Rattle.fv_c.specs.ReportedChecks.{canonical_flag, fault_in, reported_c
 ghost use Rattle.fv_c.specs.Reports.{no_fault, reported_fault};
 
 use crate::buffer::put_result;
-use crate::reports::{FvFault, NO_FAULT, refused, reported_fault};
+use crate::reports::{FvFault, NO_FAULT, reported_fault, set_fault};
 use crate::translate::{Translate, translate_all};
 use fv_base::Fault;
 use fv_canon::{VolumeCheck, VolumeOutcome, check_image};

@@ -91,7 +91,7 @@ pub(crate) fn reported_fault(f: Fault) -> FvFault
 
 // Sets `fault` to the report of a fault in an input of a comparison, and returns the fault's
 // number.
-pub(crate) fn refused_of(input: u32, f: Fault, fault: &mut FvFault) -> u32
+pub(crate) fn set_fault_of(input: u32, f: Fault, fault: &mut FvFault) -> u32
     ensures number { result ≡ fault_number f.kind }
     ensures fault { fault.new ≡ reported_fault_of input f }
     ensures some { 0 < result }
@@ -102,17 +102,17 @@ pub(crate) fn refused_of(input: u32, f: Fault, fault: &mut FvFault) -> u32
 }
 
 // Sets `fault` to the report of a fault, and returns the fault's number.
-pub(crate) fn refused(f: Fault, fault: &mut FvFault) -> u32
+pub(crate) fn set_fault(f: Fault, fault: &mut FvFault) -> u32
     ensures number { result ≡ fault_number f.kind }
     ensures fault { fault.new ≡ reported_fault f }
     ensures some { 0 < result }
     ensures most { result < 256 }
 {
-    refused_of(0, f, fault)
+    set_fault_of(0, f, fault)
 }
 
 // Sets `fault` to the report of a fault at depth 0 with this result, and returns the result.
-pub(crate) fn refused_at(offset: u64, number: u32, fault: &mut FvFault) -> u32
+pub(crate) fn set_fault_at(offset: u64, number: u32, fault: &mut FvFault) -> u32
     ensures number { result ≡ number }
     ensures fault { fault.new ≡ record { offset = offset; result = number; depth = 0; input = 0; reserved = 0 } }
 {

@@ -4,14 +4,14 @@
 ghost use Rattle.std.specs.Prelude.{◌≡◌, ◌≢◌, ◌<◌, ◌++◌, ℕ, List, length, drop, IfOk, IfErr};
 ghost use Rattle.fv_base.specs.Words.{OrMemory, fault_number, out_of_memory};
 ghost use Rattle.fv_base.specs.declared.fault.Fault.{Fault};
-ghost use Rattle.fv_canon.specs.Words.{LaysVolume, NormalisesTo, Refuses};
+ghost use Rattle.fv_canon.specs.Words.{LaysVolume, NormalisesTo, Rejects};
 ghost use Rattle.fv_c.specs.Reports.{BeginsWithHeader, reported_fault, no_fault};
 ghost use Rattle.fv_c.specs.TreeParts.{tree_rows};
 ghost use Rattle.fv_c.specs.ReportedDigests.{AreDigests, HasTreeDigests};
 
 use crate::buffer::put_found;
 use crate::canonical::FvSha256;
-use crate::reports::{FvFault, refused};
+use crate::reports::{FvFault, set_fault};
 use fv_base::Fault;
 use fv_canon::{ImageDigests, lay_out_volume};
 use fv_rows::{Digests, TreeWalk};
@@ -41,7 +41,7 @@ fn row_digests(
 // Reads the input as a volume, lays it out, and returns the digests of the rows of its tree.
 fn digests_in(alloc: Global, volume: &[u8]) -> Result<Vec<FvSha256>, Fault>
     ensures ok { IfOk result (λ v. HasTreeDigests volume.now v.items) }
-    ensures err { IfErr result (OrMemory (Refuses volume.now)) }
+    ensures err { IfErr result (OrMemory (Rejects volume.now)) }
     ensures fits { (image : List ℕ) → NormalisesTo volume.now image → IfErr result (λ f. f ≡ out_of_memory) }
     ensures memory { IfErr result (λ f. f ≡ out_of_memory → BeginsWithHeader volume.now) }
 {
@@ -82,7 +82,7 @@ pub extern "C" fn fvp_volume_tree_digests(
 
     // Any other result is the first fault of the input, or out of memory. Memory can run out only
     // if the input begins with the header of a volume.
-    ensures err { result ≢ 0 → result ≢ 256 → (f : Fault) × OrMemory (Refuses volume.now) f
+    ensures err { result ≢ 0 → result ≢ 256 → (f : Fault) × OrMemory (Rejects volume.now) f
         × (f ≡ out_of_memory → BeginsWithHeader volume.now)
         × (result ≡ fault_number f.kind) × (fault.new ≡ reported_fault f) × (count.new ≡ count.old) }
 
@@ -91,6 +91,6 @@ pub extern "C" fn fvp_volume_tree_digests(
 {
     match digests_in(alloc, volume) {
         Ok(digests) => put_found(digests.as_slice(), rows, count, fault),
-        Err(f) => refused(f, fault),
+        Err(f) => set_fault(f, fault),
     }
 }

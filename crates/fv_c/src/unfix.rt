@@ -6,7 +6,7 @@ ghost use Rattle.fv_base.specs.declared.fault.Fault.{Fault};
 ghost use Rattle.fv_tree.specs.Words.{NotUnfixed, UnfixesTo};
 ghost use Rattle.fv_c.specs.Reports.{no_fault, reported_fault};
 
-use crate::reports::{BUFFER_TOO_SMALL, FvFault, NO_FAULT, refused};
+use crate::reports::{BUFFER_TOO_SMALL, FvFault, NO_FAULT, set_fault};
 use fv_tree::{unfix, verify_unfixed};
 
 // Writes the input, which is a volume, to the start of the buffer, without the marks of its fixed
@@ -57,7 +57,7 @@ pub extern "C" fn fvp_volume_unfix(volume: &[u8], buffer: &mut [u8], fault: &mut
     ensures fits { (o : List ℕ) → UnfixesTo volume.now o → result ≢ 0 → result ≡ 256 }
 {
     if let Err(f) = verify_unfixed(volume) {
-        return refused(f, fault);
+        return set_fault(f, fault);
     }
     *fault = NO_FAULT;
     if buffer.len() < volume.len() {

@@ -4,7 +4,7 @@ ghost use Rattle.std.specs.Prelude.{◌≡◌, ◌⊎◌, length, IfOk, IfErr};
 ghost use Rattle.fv_caller.specs.declared.fault.CallerFault.TheVariants.{Volume};
 ghost use Rattle.fv_base.specs.Words.{OrMemory, out_of_memory};
 ghost use Rattle.fv_base.specs.declared.fault.Fault.{Fault};
-ghost use Rattle.fv_canon.specs.Words.{IsImage, Refuses};
+ghost use Rattle.fv_canon.specs.Words.{IsImage, Rejects};
 ghost use Rattle.fv_tree.specs.Words.{Accepted, Meaning, files_of};
 
 use crate::fault::CallerFault;
@@ -35,7 +35,7 @@ pub fn archive_volume(alloc: Global, input: &[u8]) -> Result<Archived, CallerFau
 
     // Memory ran out, or the input has no canonical image.
     ensures err { IfErr result
-        (λ e. (f : Fault) × (e ≡ Volume f) × OrMemory (Refuses input.now) f) }
+        (λ e. (f : Fault) × (e ≡ Volume f) × OrMemory (Rejects input.now) f) }
 {
     let volume = whole_volume(alloc, input)?;
     let image = canonical(alloc, &volume)?;

@@ -1,6 +1,6 @@
 -- In the walk over the rows of a volume, the starts that are left begin with the starts of the volumes that are left.
 use Rattle.std.proofs.Common.{◌≡◌, ◌∙◌, ◌+◌, ℕ, List, [], ◌∷◌, ◌++◌, drop, sym, ap, subst}
-use Rattle.fv_canon.specs.LayoutForms.{BeginsWithStarts, Laid, LaysVolume}
+use Rattle.fv_canon.specs.LayoutForms.{BeginsWithStarts, StartsOfEach, LaysVolume}
 use Rattle.fv_canon.specs.Layouts.{AreStarts}
 use Rattle.fv_canon.proofs.PartLengthLaws.{begin_all}
 use Rattle.fv_canon.proofs.VolumeListLaws.{begins_first}
@@ -13,11 +13,11 @@ use Rattle.fv_rows.proofs.Laws.{files_volumes, content_volumes, rows_followed, t
 
 -- ---- the depth of a volume does not change its starts
 
-laid_raised : (n : ℕ) (vs ws : List Inside) (starts : List ℕ) → Laid AreStarts (vs ++ ws) starts → Laid AreStarts (deeper_by n vs ++ ws) starts
+laid_raised : (n : ℕ) (vs ws : List Inside) (starts : List ℕ) → StartsOfEach AreStarts (vs ++ ws) starts → StartsOfEach AreStarts (deeper_by n vs ++ ws) starts
 laid_raised n [] ws starts h = h
 laid_raised n (v ∷ vs) ws starts (own, inner, is, placed, lays) = (own, inner, is, placed, laid_raised n vs ws inner lays)
 
-laid_level : (n : ℕ) (vs ws : List Inside) (starts : List ℕ) → Laid AreStarts (deeper_by n vs ++ ws) starts → Laid AreStarts (vs ++ ws) starts
+laid_level : (n : ℕ) (vs ws : List Inside) (starts : List ℕ) → StartsOfEach AreStarts (deeper_by n vs ++ ws) starts → StartsOfEach AreStarts (vs ++ ws) starts
 laid_level n [] ws starts h = h
 laid_level n (v ∷ vs) ws starts (own, inner, is, placed, lays) = (own, inner, is, placed, laid_level n vs ws inner lays)
 

@@ -7,8 +7,8 @@ use Rattle.fv_head.specs.Words.{first_edge}
 use Rattle.fv_placement.specs.Words.{HasNoRoom, TopOff, IsFirstPlacement}
 use Rattle.fv_placement.proofs.Laws.{agree, placed_or_not, top_none}
 use Rattle.fv_tree.specs.Words.{Meaning, head_of, length_of, Inside, volumes_in}
-use Rattle.fv_canon.specs.Words.{IsOfLayout, Refuses, WhatDoesNotFitIsRefused, layout_items, AreStarts, IsPlaced, Fits, AreLeast, Laid}
-use Rattle.fv_canon.specs.Words.{LaysVolume, LeastVolume, layout_fault, AllFit, UnfitHere, FirstUnfit, Unfit}
+use Rattle.fv_canon.specs.Words.{IsOfLayout, Rejects, WhatDoesNotFitIsRejected, placement_items, AreStarts, IsPlaced, Fits, AreLeast, StartsOfEach}
+use Rattle.fv_canon.specs.Words.{LaysVolume, LeastVolume, layout_fault, AllFit, UnfitHere, FirstUnplaced, Unfit}
 use Rattle.fv_canon.proofs.UnfitKinds.{unfit_is}
 use Rattle.fv_canon.proofs.VolumeListLaws.{laid_fit, fit_laid}
 
@@ -21,10 +21,10 @@ fits_laid m fit = fit_laid (volumes_in m) fit
 
 -- a volume with a fault of the layout has no placement
 here_none : (v : Inside) (depth : ℕ) (f : Fault) → UnfitHere v.volume depth f → IsPlaced v → ⊥
-here_none v depth f (inl (off, is)) (own, placed) = top_none _ _ (layout_items v.volume) own off placed.placement.follow
+here_none v depth f (inl (off, is)) (own, placed) = top_none _ _ (placement_items v.volume) own off placed.placement.follow
 here_none v depth f (inr (short, is)) (own, placed) = short.none own placed.placement
 
-pub first_none : (vs : List Inside) (depth : ℕ) (f : Fault) → FirstUnfit vs depth f → AllFit vs → ⊥
+pub first_none : (vs : List Inside) (depth : ℕ) (f : Fault) → FirstUnplaced vs depth f → AllFit vs → ⊥
 first_none [] depth f un fit = un
 first_none (v ∷ vs) depth f (inl un) (placed, fit) = here_none v _ f un placed
 first_none (v ∷ vs) depth f (inr (here, un)) (placed, fit) = first_none vs depth f un fit
@@ -35,11 +35,11 @@ unfit_none m depth f un fit = first_none (volumes_in m) depth f un fit
 -- a volume has at most one fault of the layout
 here_fault : (m : Meaning) (depth : ℕ) (f g : Fault) → UnfitHere m depth f → UnfitHere m depth g → f ≡ g
 here_fault m depth f g (inl (off, is)) (inl (off', is')) = is ∙ sym is'
-here_fault m depth f g (inl (off, is)) (inr (short, is')) = absurd (short.top_stands off)
-here_fault m depth f g (inr (short, is)) (inl (off, is')) = absurd (short.top_stands off)
+here_fault m depth f g (inl (off, is)) (inr (short, is')) = absurd (short.top_can_begin off)
+here_fault m depth f g (inr (short, is)) (inl (off, is')) = absurd (short.top_can_begin off)
 here_fault m depth f g (inr (short, is)) (inr (short', is')) = is ∙ sym is'
 
-first_fault : (vs : List Inside) (depth : ℕ) (f g : Fault) → FirstUnfit vs depth f → FirstUnfit vs depth g → f ≡ g
+first_fault : (vs : List Inside) (depth : ℕ) (f g : Fault) → FirstUnplaced vs depth f → FirstUnplaced vs depth g → f ≡ g
 first_fault [] depth f g un other = absurd un
 first_fault (v ∷ vs) depth f g (inl un) (inl other) = here_fault v.volume _ f g un other
 first_fault (v ∷ vs) depth f g (inl un) (inr (placed, other)) = absurd (here_none v _ f un placed)
@@ -50,10 +50,10 @@ pub one_fault : (m : Meaning) (depth : ℕ) (f g : Fault) → Unfit m depth f �
 one_fault m depth f g un other = first_fault (volumes_in m) depth f g un other
 
 -- if the least starts of each volume are a placement, they are the layout
-least_are : (vs : List Inside) (starts : List ℕ) → Laid AreLeast vs starts → Laid AreStarts vs starts
+least_are : (vs : List Inside) (starts : List ℕ) → StartsOfEach AreLeast vs starts → StartsOfEach AreStarts vs starts
 least_are [] starts laid = laid
 least_are (v ∷ vs) starts (own, inner, text, (least, placed), laid) =
-    (own, inner, text, agree _ _ (layout_items v.volume) own least placed, least_are vs inner laid)
+    (own, inner, text, agree _ _ (placement_items v.volume) own least placed, least_are vs inner laid)
 
 pub least_laid : (m : Meaning) (starts : List ℕ) → LeastVolume m starts → LaysVolume m starts
 least_laid m starts laid = least_are (volumes_in m) starts laid
@@ -61,22 +61,22 @@ least_laid m starts laid = least_are (volumes_in m) starts laid
 -- ---- a layout or a fault
 
 here_or : (m : Meaning) (depth : ℕ) → ((starts : List ℕ)
-    × IsFirstPlacement (length_of m) (first_edge (head_of m) (head_of m).ext) (layout_items m) starts) ⊎ ((f : Fault) × UnfitHere m depth f)
-here_or m depth = go (placed_or_not (length_of m) (first_edge (head_of m) (head_of m).ext) (layout_items m))
+    × IsFirstPlacement (length_of m) (first_edge (head_of m) (head_of m).ext) (placement_items m) starts) ⊎ ((f : Fault) × UnfitHere m depth f)
+here_or m depth = go (placed_or_not (length_of m) (first_edge (head_of m) (head_of m).ext) (placement_items m))
   where
-    go : ((starts : List ℕ) × IsFirstPlacement (length_of m) (first_edge (head_of m) (head_of m).ext) (layout_items m) starts)
-        ⊎ (TopOff (length_of m) (layout_items m)
-        ⊎ HasNoRoom (length_of m) (first_edge (head_of m) (head_of m).ext) (layout_items m)) → ((starts : List ℕ)
-        × IsFirstPlacement (length_of m) (first_edge (head_of m) (head_of m).ext) (layout_items m) starts) ⊎ ((f : Fault) × UnfitHere m depth f)
+    go : ((starts : List ℕ) × IsFirstPlacement (length_of m) (first_edge (head_of m) (head_of m).ext) (placement_items m) starts)
+        ⊎ (TopOff (length_of m) (placement_items m)
+        ⊎ HasNoRoom (length_of m) (first_edge (head_of m) (head_of m).ext) (placement_items m)) → ((starts : List ℕ)
+        × IsFirstPlacement (length_of m) (first_edge (head_of m) (head_of m).ext) (placement_items m) starts) ⊎ ((f : Fault) × UnfitHere m depth f)
     go (inl placed) = inl placed
     go (inr (inl off)) = inr (layout_fault kinds.TopAlignment depth, inl (off, refl))
     go (inr (inr short)) = inr (layout_fault kinds.NoRoom depth, inr (short, refl))
 
-all_or : (vs : List Inside) (depth : ℕ) → AllFit vs ⊎ ((f : Fault) × FirstUnfit vs depth f)
+all_or : (vs : List Inside) (depth : ℕ) → AllFit vs ⊎ ((f : Fault) × FirstUnplaced vs depth f)
 all_or [] depth = inl tt
 all_or (v ∷ vs) depth = go (here_or v.volume (depth + v.depth)) (all_or vs depth) where
-  go : IsPlaced v ⊎ ((f : Fault) × UnfitHere v.volume (depth + v.depth) f) → AllFit vs ⊎ ((f : Fault) × FirstUnfit vs depth f)
-      → AllFit (v ∷ vs) ⊎ ((f : Fault) × FirstUnfit (v ∷ vs) depth f)
+  go : IsPlaced v ⊎ ((f : Fault) × UnfitHere v.volume (depth + v.depth) f) → AllFit vs ⊎ ((f : Fault) × FirstUnplaced vs depth f)
+      → AllFit (v ∷ vs) ⊎ ((f : Fault) × FirstUnplaced (v ∷ vs) depth f)
   go (inr (f, here)) h = inr (f, inl here)
   go (inl placed) (inl all) = inl (placed, all)
   go (inl placed) (inr (f, behind)) = inr (f, inr (placed, behind))
@@ -86,8 +86,8 @@ pub fits_or : (m : Meaning) → Fits m ⊎ ((f : Fault) × Unfit m 0 f)
 fits_or m = all_or (volumes_in m) 0
 
 -- an input that does not fit is rejected with NoRoom or TopAlignment
-pub unfit_is_refused : WhatDoesNotFitIsRefused
+pub unfit_is_refused : WhatDoesNotFitIsRejected
 unfit_is_refused input (m, d, unfit) = go (fits_or m) where
-  go : Fits m ⊎ ((f : Fault) × Unfit m 0 f) → (f : Fault) × Refuses input f × IsOfLayout f.kind
+  go : Fits m ⊎ ((f : Fault) × Unfit m 0 f) → (f : Fault) × Rejects input f × IsOfLayout f.kind
   go (inl fits) = absurd (unfit fits)
   go (inr (f, bad)) = (f, inr (m, d, bad), unfit_is m 0 f bad)

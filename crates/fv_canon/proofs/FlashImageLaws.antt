@@ -24,7 +24,7 @@ use Rattle.fv_tree.specs.Words.{Meaning}
 use Rattle.fv_flash.proofs.Laws.{at_within, found_walk, one_found, one_length}
 use Rattle.fv_tree.proofs.Laws.{one_meaning}
 use Rattle.fv_base.proofs.Laws.{first_or_behind, in_middle, one_behind, first_only}
-use Rattle.fv_canon.specs.Words.{IsImage, NormalisesTo, Refuses, FirstRefused, IsRenewed, NormalisesAll, Renewed}
+use Rattle.fv_canon.specs.Words.{IsImage, NormalisesTo, Rejects, FirstRejected, IsNormalisedAt, NormalisesAll, NormalisesEach}
 use Rattle.fv_canon.proofs.FaultPlaces.{refused_within}
 use Rattle.fv_canon.proofs.FitLaws.{unfit_none}
 use Rattle.fv_canon.proofs.RejectedInputLaws.{image_fits}
@@ -56,7 +56,7 @@ one_image_of b image other (m, a, is) (k, c, is') =
     let same : m ≡ k = one_meaning depth_limit depth_limit b m k a.1 c.1 in
     image_one m image other is (subst (λ (n : Meaning). IsImage n other) (sym same) is')
 
-refused_never : (b image : List ℕ) (f : Fault) → Refuses b f → NormalisesTo b image → ⊥
+refused_never : (b image : List ℕ) (f : Fault) → Rejects b f → NormalisesTo b image → ⊥
 refused_never b image f (inl bad) (m, a, is) = bad.none m a
 refused_never b image f (inr (v, a, unfit)) to =
     unfit_none v 0 f unfit (image_fits b image v (λ m c. one_meaning depth_limit depth_limit b m v c.1 a.1) to)
@@ -64,12 +64,12 @@ refused_never b image f (inr (v, a, unfit)) to =
 -- ---- one volume
 
 -- the offset of a volume's fault in the flash image is less than 2 ^ 64
-pub place_fits : (b x : List ℕ) (p n : ℕ) (f : Fault) → VolumeAt b p n → length x ≡ n → length b < 2 ^ 63 → (f ≡ out_of_memory) ⊎ Refuses x f
+pub place_fits : (b x : List ℕ) (p n : ℕ) (f : Fault) → VolumeAt b p n → length x ≡ n → length b < 2 ^ 63 → (f ≡ out_of_memory) ⊎ Rejects x f
     → p + f.place.offset < 2 ^ 64
 place_fits b x p n f v long small (inl want) =
     let none : f.place.offset ≡ 0 = ap (λ (g : Fault). g.place.offset) want in
     omega (arith, none, at_within b p n v, small)
-place_fits b x p n f v long small (inr refused) = omega (arith, refused_within x f refused, long, at_within b p n v, small)
+place_fits b x p n f v long small (inr rejected) = omega (arith, refused_within x f rejected, long, at_within b p n v, small)
 
 -- ---- 1. the walk
 
@@ -82,7 +82,7 @@ RenewsFrom from b (p ∷ ps) o =
     × NormalisesTo (field p n b) (field p n o) × RenewsFrom (p + n) b ps o
 
 -- o has the canonical image of the volume at each of the places
-renewed_each : (from : ℕ) (b ps o : List ℕ) → RenewsFrom from b ps o → AllByRecursion (IsRenewed b o) ps
+renewed_each : (from : ℕ) (b ps o : List ℕ) → RenewsFrom from b ps o → AllByRecursion (IsNormalisedAt b o) ps
 renewed_each from b [] o same = tt
 renewed_each from b (p ∷ ps) o (n, low, v, same, to, more) = ((n, v, to), renewed_each (p + n) b ps o more)
 
@@ -103,7 +103,7 @@ renewed_others from b (p ∷ ps) o (n, least, v, same, to, more) k low none =
     go (inr at) (inl inside) _ = absurd (none (p, n, (0, omega arith, refl), v, at, inside))
     go (inr at) (inr past) later = later past
 
-renewed_is : (b places o : List ℕ) → RenewsFrom 0 b places o → length o ≡ length b → Renewed b places o
+renewed_is : (b places o : List ℕ) → RenewsFrom 0 b places o → length o ≡ length b → NormalisesEach b places o
 renewed_is b places o walk long = record {
   length_is = long;
   volumes = renewed_each 0 b places o walk;
@@ -210,7 +210,7 @@ module _ {S : Type 0} (takes : S → List ℕ → S → Type 0) (laws : WalkLaws
   -- after the last volume, the bytes after it are put, and the image is complete
   pub puts_all : {t u : S} (i from : ℕ) (rest : List ℕ) → Found b places → Puts takes s t b places i from → length places ≤ i
       → rest ≡ drop from b → takes t rest u
-      → (bytes : List ℕ) × Renewed b places bytes × takes s bytes u
+      → (bytes : List ℕ) × NormalisesEach b places bytes × takes s bytes u
   puts_all {t} {u} i from rest found puts past is put' =
       let o : List ℕ = puts.bytes ++ drop from b in
       let put : takes t (drop from b) u = subst (λ (l : List ℕ). takes t l u) is put' in
@@ -225,7 +225,7 @@ module _ {S : Type 0} (takes : S → List ℕ → S → Type 0) (laws : WalkLaws
 -- ---- 3. the renewed image is unique
 
 -- a byte either is in one of the volumes or is in none of them
-covered_known : (b o ps : List ℕ) (k : ℕ) → AllByRecursion (IsRenewed b o) ps → IsCovered b ps k ⊎ (IsCovered b ps k → ⊥)
+covered_known : (b o ps : List ℕ) (k : ℕ) → AllByRecursion (IsNormalisedAt b o) ps → IsCovered b ps k ⊎ (IsCovered b ps k → ⊥)
 covered_known b o [] k all = inr none where
   none : IsCovered b [] k → ⊥
   none (p, m, (j, l, e), w, low, high) = omega (arith, l)
@@ -251,13 +251,13 @@ covered_known b o (p ∷ ps) k ((n, v, to), all) = go (cases_lt k p) (cases_lt k
   go (inl less) _ (inr none) = inr (before less none)
 
 -- the canonical image of the volume at a place, given the volume's length
-image_at : (b places o : List ℕ) (p n : ℕ) → Renewed b places o → Contains places p → VolumeAt b p n
+image_at : (b places o : List ℕ) (p n : ℕ) → NormalisesEach b places o → Contains places p → VolumeAt b p n
     → NormalisesTo (field p n b) (field p n o)
 image_at b places o p n r has v =
-    let is = All-contains (IsRenewed b o) places p (All-from_recursion (IsRenewed b o) places r.volumes) has in
+    let is = All-contains (IsNormalisedAt b o) places p (All-from_recursion (IsNormalisedAt b o) places r.volumes) has in
     subst (λ (k : ℕ). NormalisesTo (field p k b) (field p k o)) (one_length b p is.0 n is.1 v) is.2
 
-pub renewed_one : (b places o other : List ℕ) → Renewed b places o → Renewed b places other → o ≡ other
+pub renewed_one : (b places o other : List ℕ) → NormalisesEach b places o → NormalisesEach b places other → o ≡ other
 renewed_one b places o other r s = ext_get_or 0 o other (r.length_is ∙ sym s.length_is) each where
   by : (k : ℕ) → k < length b → IsCovered b places k ⊎ (IsCovered b places k → ⊥) → get_or o k 0 ≡ get_or other k 0
   by k inside (inl (p, n, has, v, low, high)) =
@@ -275,17 +275,17 @@ normalised_one b o other (short, places, found, r) (short', places', found', s) 
 
 -- ---- 4. if all volumes have canonical images, none is rejected
 
-renewed_never : (b places other : List ℕ) (f : Fault) → Found b places → FirstRefused b places f → NormalisesAll b other → ⊥
+renewed_never : (b places other : List ℕ) (f : Fault) → Found b places → FirstRejected b places f → NormalisesAll b other → ⊥
 renewed_never b places other f found stops (short, places', found', s) =
     let same : places ≡ places' = one_found b places places' found found' in
-    let split : places' ≡ stops.before ++ (stops.place ∷ stops.behind) = sym same ∙ stops.split in
-    let is = in_middle (IsRenewed b other) stops.before stops.place stops.behind
-    (subst (λ (l : List ℕ). AllByRecursion (IsRenewed b other) l) split s.volumes) in
-    let long : is.0 ≡ stops.refused.0 = one_length b stops.place is.0 stops.refused.0 is.1 stops.refused.1 in
-    refused_never (field stops.place stops.refused.0 b) (field stops.place stops.refused.0 other) stops.refused.2 stops.refused.3
+    let split : places' ≡ stops.before ++ (stops.place ∷ stops.after) = sym same ∙ stops.split in
+    let is = in_middle (IsNormalisedAt b other) stops.before stops.place stops.after
+    (subst (λ (l : List ℕ). AllByRecursion (IsNormalisedAt b other) l) split s.volumes) in
+    let long : is.0 ≡ stops.rejected.0 = one_length b stops.place is.0 stops.rejected.0 is.1 stops.rejected.1 in
+    refused_never (field stops.place stops.rejected.0 b) (field stops.place stops.rejected.0 other) stops.rejected.2 stops.rejected.3
     (subst (λ (k : ℕ). NormalisesTo (field stops.place k b) (field stops.place k other)) long is.2)
 
 -- so if all volumes have canonical images, the only error is out of memory
-pub only_want : (b places other : List ℕ) (f : Fault) → Found b places → (f ≡ out_of_memory) ⊎ FirstRefused b places f
+pub only_want : (b places other : List ℕ) (f : Fault) → Found b places → (f ≡ out_of_memory) ⊎ FirstRejected b places f
     → NormalisesAll b other → f ≡ out_of_memory
 only_want b places other f found why to = first_only why (λ stops. renewed_never b places other f found stops to)

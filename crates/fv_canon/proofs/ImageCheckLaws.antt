@@ -14,11 +14,11 @@ use Rattle.fv_flash.specs.Words.{VolumeAt}
 use Rattle.fv_flash.proofs.Laws.{one_found, one_length}
 use Rattle.fv_head.proofs.Laws.{one_front}
 use Rattle.fv_head.specs.declared.extent.Extent.{Extent}
-use Rattle.fv_tree.specs.Words.{moved_fault, GoesOn, IsFirstOfInput, IsFirstOfVolume, Meaning, NotRead, head_of, length_of, outermost}
+use Rattle.fv_tree.specs.Words.{moved_fault, BytesFollowVolume, IsFirstOfInput, IsFirstOfVolume, Meaning, NotRead, head_of, length_of, outermost}
 use Rattle.fv_tree.proofs.Laws.{fault_refuses, fault_stands, first_once, front_of, one_meaning, stands_other}
 use Rattle.fv_base.specs.Words.{First}
 use Rattle.fv_canon.specs.ImageChecks.{AreCanonical, AreChecked, CanonicalImagesStay, ChecksImage, HasOutcome, IsChecked}
-use Rattle.fv_canon.specs.Words.{IsImage, IsRenewed, NormalisesTo}
+use Rattle.fv_canon.specs.Words.{IsImage, IsNormalisedAt, NormalisesTo}
 use Rattle.fv_canon.specs.declared.image_check.VolumeCheck.{VolumeCheck}
 use Rattle.fv_canon.specs.declared.image_check.VolumeOutcome.{VolumeOutcome}
 use Rattle.fv_canon.specs.declared.image_check.VolumeOutcome.TheVariants.{Canonical, NotCanonical, Rejected}
@@ -26,12 +26,12 @@ use Rattle.fv_canon.specs.declared.image_check.VolumeOutcome.TheVariants.{Canoni
 -- ---- 1. one outcome
 
 -- bytes with a first fault do not begin with a volume
-first_or_on : (b : List ℕ) (f g : Fault) → IsFirstOfVolume b f → GoesOn b g → ⊥
+first_or_on : (b : List ℕ) (f g : Fault) → IsFirstOfVolume b f → BytesFollowVolume b g → ⊥
 first_or_on b f g first (m, d, less, is) =
     fault_refuses First depth_limit (length_of m) f b outermost m (omega (arith, less)) first d.1
 
 -- bytes that go on after a volume have one fault, at the end of the volume
-one_end : (b : List ℕ) (f g : Fault) → GoesOn b f → GoesOn b g → f ≡ g
+one_end : (b : List ℕ) (f g : Fault) → BytesFollowVolume b f → BytesFollowVolume b g → f ≡ g
 one_end b f g (m, d, less, is) (k, d', less', is') =
     let front = front_of depth_limit (length_of m) b m (omega (arith, less)) d.1 in
     let front' = front_of depth_limit (length_of k) b k (omega (arith, less')) d'.1 in
@@ -124,7 +124,7 @@ is_rejected at b own f why other moved kind =
 
 -- if all checks are Canonical, the image has the canonical image of each volume
 renewed_own : (b offsets : List ℕ) (checks : List VolumeCheck) → AreChecked b offsets checks → AreCanonical checks
-    → AllByRecursion (IsRenewed b b) offsets
+    → AllByRecursion (IsNormalisedAt b b) offsets
 renewed_own b [] [] (at, all) own = tt
 renewed_own b [] (c ∷ cs) (at, all) own = tt
 renewed_own b (o ∷ os) [] (at, all) own = let bad : [] ≡ o ∷ os = at in cc
@@ -133,13 +133,13 @@ renewed_own b (o ∷ os) (c ∷ cs) (at, ((v, has), all)) (is, own) =
     let rest : map (λ (d : VolumeCheck). d.offset) cs ≡ os = cc in
     let to : NormalisesTo (field c.offset c.length b) (field c.offset c.length b) =
     subst (HasOutcome c.offset (field c.offset c.length b)) is has in
-    (subst (IsRenewed b b) first (c.length, v, to), renewed_own b os cs (rest, all) own)
+    (subst (IsNormalisedAt b b) first (c.length, v, to), renewed_own b os cs (rest, all) own)
 
 -- if a volume is its own canonical image, its outcome is Canonical
 is_own : (at : ℕ) (b : List ℕ) (x : VolumeOutcome) → HasOutcome at b x → NormalisesTo b b → x ≡ Canonical
 is_own at b x has to = one_outcome at b x Canonical has to
 
-own_renewed : (b offsets : List ℕ) (checks : List VolumeCheck) → AreChecked b offsets checks → AllByRecursion (IsRenewed b b) offsets
+own_renewed : (b offsets : List ℕ) (checks : List VolumeCheck) → AreChecked b offsets checks → AllByRecursion (IsNormalisedAt b b) offsets
     → AreCanonical checks
 own_renewed b offsets [] (at, all) renewed = tt
 own_renewed b [] (c ∷ cs) (at, all) renewed = let bad : c.offset ∷ map (λ (d : VolumeCheck). d.offset) cs ≡ [] = at in cc
@@ -163,5 +163,5 @@ canonical_images_stay b checks (short, offsets, found, are) = (
   ),
   λ (short', places, found', renewed).
       own_renewed b offsets checks are
-      (subst (AllByRecursion (IsRenewed b b)) (one_found b places offsets found' found) renewed.volumes),
+      (subst (AllByRecursion (IsNormalisedAt b b)) (one_found b places offsets found' found) renewed.volumes),
 )

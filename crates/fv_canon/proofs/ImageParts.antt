@@ -4,12 +4,12 @@ use Rattle.std.specs.Str.{bytes_eq}
 use Rattle.fv_base.specs.Words.{alignment_of, bytes_of}
 use Rattle.fv_section.specs.Words.{FrameForm, frame_len, up_to_4, section_head_of}
 use Rattle.fv_tree.specs.Words.{SectionMeanings, NoSections, MoreSections, top_name, Inside, volumes_in_section}
-use Rattle.fv_placement.specs.declared.first_placement.LayoutItem.{LayoutItem}
+use Rattle.fv_placement.specs.declared.first_placement.PlacementItem.{PlacementItem}
 use Rattle.fv_canon.specs.Words.{BeginsWithStarts, StoredFile, head_len_for, stored_len}
 use Rattle.fv_canon.specs.inner.ImageOf.{frame_of, starts_in}
 
 -- the facts about a file that the layout depends on
-abbrev pub stored_item : StoredFile → LayoutItem
+abbrev pub stored_item : StoredFile → PlacementItem
 stored_item f = record {
   header = head_len_for (length f.payload);
   size = stored_len f;

@@ -14,7 +14,7 @@ use Rattle.fv_tree.specs.Words.{SectionMeanings, NoSections, MoreSections, Secti
 use Rattle.fv_tree.specs.Words.{files_list, IsMeaning, Inside, volumes_in, volumes_in_files, volumes_in_file, volumes_in_content}
 use Rattle.fv_tree.specs.Words.{volumes_in_sections, volumes_in_section, volumes_in_body}
 use Rattle.fv_canon.specs.Words.{IsWithin, HasOwnImage, EachVolumeHasItsImage, IsImage, AreStored, IsStored, IsData, AreFrames, IsFrame}
-use Rattle.fv_canon.specs.Words.{IsBodyImage, layout_item, PlacedBytes, StandsIn, StoredFile, stored_bytes, stored_len, placed_files}
+use Rattle.fv_canon.specs.Words.{IsBodyImage, placement_item, PlacedBytes, ContainsSpan, StoredFile, stored_bytes, stored_len, placed_files}
 use Rattle.fv_placement.specs.Words.{StartsFollow}
 use Rattle.fv_canon.proofs.InsideMeaningLaws.{inside_meant}
 use Rattle.fv_canon.proofs.VolumeListLaws.{each_joined, each_deeper}
@@ -29,7 +29,7 @@ within_within a b c (w, x, p) (y, z, q) = (
       ∙ ap (λ (xs : List ℕ). w ++ xs) (append_assoc a x z)) ∙ sym (append_assoc y w (a ++ (x ++ z))),
 )
 
-stands_within : (b : List ℕ) (p : PlacedBytes) → StandsIn b p → IsWithin p.bytes b
+stands_within : (b : List ℕ) (p : PlacedBytes) → ContainsSpan b p → IsWithin p.bytes b
 stands_within b p (low, is) = (
   take p.at b,
   drop (length p.bytes) (drop p.at b),
@@ -84,20 +84,20 @@ mutual
   volume_inside (Volume h files) b (stored, starts, are, placed, shows) = (
     (b, (stored, starts, are, placed, shows), ([], [], sym (append-nil b))),
     files_inside files stored starts b (polarity_of h.attributes) h.length (first_edge h h.ext) (first_edge h h.ext) are placed.placement.follow
-        shows.stand.1.1,
+        shows.contained.1.1,
   )
 
   files_inside : (files : FileMeanings) (stored : List StoredFile) (starts b : List ℕ) (p : Polarity) (total e k : ℕ)
-      → AreStored files stored → StartsFollow total e (map layout_item (files_list files)) starts
-      → AllByRecursion (StandsIn b) (placed_files p k stored starts) → AllByRecursion (HasOwnImage b) (volumes_in_files files)
-  files_inside NoFiles stored starts b p total e k are follow stand = tt
-  files_inside (MoreFiles f fs) [] starts b p total e k are follow stand = absurd are
-  files_inside (MoreFiles f fs) (x ∷ xs) [] b p total e k are follow stand = absurd follow
-  files_inside (MoreFiles f fs) (x ∷ xs) (s ∷ ss) b p total e k are follow stand =
+      → AreStored files stored → StartsFollow total e (map placement_item (files_list files)) starts
+      → AllByRecursion (ContainsSpan b) (placed_files p k stored starts) → AllByRecursion (HasOwnImage b) (volumes_in_files files)
+  files_inside NoFiles stored starts b p total e k are follow contained = tt
+  files_inside (MoreFiles f fs) [] starts b p total e k are follow contained = absurd are
+  files_inside (MoreFiles f fs) (x ∷ xs) [] b p total e k are follow contained = absurd follow
+  files_inside (MoreFiles f fs) (x ∷ xs) (s ∷ ss) b p total e k are follow contained =
       each_joined (HasOwnImage b) (volumes_in_file f) (volumes_in_files fs)
       (file_inside f x b are.0 (within_within x.payload (stored_bytes p x) b (payload_within p x)
-      (stands_within b (record { at = s; bytes = stored_bytes p x }) stand.1.0)))
-      (files_inside fs xs ss b p total (up_to_8 (s + (layout_item f).size)) (up_to_8 (s + stored_len x)) are.1 follow.1 stand.1.1)
+      (stands_within b (record { at = s; bytes = stored_bytes p x }) contained.1.0)))
+      (files_inside fs xs ss b p total (up_to_8 (s + (placement_item f).size)) (up_to_8 (s + stored_len x)) are.1 follow.1 contained.1.1)
 
   file_inside : (m : FileMeaning) (x : StoredFile) (b : List ℕ) → IsStored m x → IsWithin x.payload b
       → AllByRecursion (HasOwnImage b) (volumes_in_file m)

@@ -11,11 +11,11 @@ use Rattle.fv_base.specs.Words.{erased_byte, data_limit, up_to_8, WalkLaws}
 use Rattle.fv_base.specs.declared.flash.Polarity.{Polarity}
 use Rattle.fv_file.specs.Words.{file_sum_for, file_head_of, needs_large}
 use Rattle.fv_file.proofs.Laws.{cell_read, header_least}
-use Rattle.fv_placement.specs.Words.{StandsInVolume}
+use Rattle.fv_placement.specs.Words.{IsStartInVolume}
 use Rattle.fv_tree.specs.Words.{FileMeaning, File, file_name_of, attributes_of, content_of, data_len_of, files_from, file_kind_of}
 use Rattle.fv_tree.specs.Words.{IsReadFile, MeansSection, Stream, volumes_in_files, volumes_in_file}
 use Rattle.fv_canon.specs.inner.ImageOf.{stored_of, stored_file, data_of, starts_in, files_bytes}
-use Rattle.fv_canon.specs.Words.{BeginsWithStarts, layout_item, stored_len, size_for, head_len_for, stored_bytes, gap_bytes}
+use Rattle.fv_canon.specs.Words.{BeginsWithStarts, placement_item, stored_len, size_for, head_len_for, stored_bytes, gap_bytes}
 use Rattle.fv_canon.proofs.ImageParts.{ComesTo, TakesFront}
 use Rattle.fv_base.proofs.Laws.{item_at}
 use Rattle.fv_canon.proofs.VolumeListLaws.{item_last, item_passed}
@@ -50,7 +50,7 @@ size_is (File name kind attributes content) starts long = ap size_for long
 
 -- facts about the file with the start s, after the edge e
 pub record Here (total e : ℕ) (f : FileMeaning) (s : ℕ) : Type 0 where
-  pub stands : StandsInVolume total e (layout_item f) s
+  pub stands : IsStartInVolume total e (placement_item f) s
   pub low : e ≤ s
   pub apart : (s - e ≡ 0) ⊎ (24 ≤ s - e)
   pub multiple : (s - e) % 8 ≡ 0
@@ -68,11 +68,11 @@ here_is total e f fs s ss placed =
     let st = placed.follow.0 in
     record {
       stands = st;
-      low = low st.lawful.apart;
-      apart = apart st.lawful.apart;
-      multiple = eighth st.lawful.apart;
+      low = low st.lawful.gap;
+      apart = apart st.lawful.gap;
+      multiple = eighth st.lawful.gap;
       most =
-          small (data_len_of f) (head_len_for (data_len_of f)) (header_least (needs_large (data_len_of f))) (low st.lawful.apart) st.within;
+          small (data_len_of f) (head_len_for (data_len_of f)) (header_least (needs_large (data_len_of f))) (low st.lawful.gap) st.within;
       ends = st.within;
       next = omega (arith, st.within, placed.multiple);
     }
@@ -89,7 +89,7 @@ here_is total e f fs s ss placed =
     eighth a = omega (arith, placed.eighth, placed.follow.0.lawful.eighth)
 
     small : (n k : ℕ) → 24 ≤ k → e ≤ s → s + (k + n) ≤ total → n ≤ data_limit
-    small n k l o w = omega (arith, l, o, w, placed.behind, placed.limit)
+    small n k l o w = omega (arith, l, o, w, placed.after_header, placed.limit)
 
 pub placed_on : (total e : ℕ) (f : FileMeaning) (fs : List FileMeaning) (s : ℕ) (ss : List ℕ) → ArePlaced total e (f ∷ fs) (s ∷ ss)
     → ArePlaced total (up_to_8 (s + size_for (data_len_of f))) fs ss

@@ -34,7 +34,7 @@ pub section_known : (m : SectionMeaning) (starts : List ℕ) → IsReadSection m
 section_known (Section kind extended body) starts (n, l, f, (b, small, most, stands), is) (laid, more, text, lays) =
     let part : List ℕ = drop f.offset b in
     let bytes : IsBytes part = bytes_drop f.offset b small in
-    let inside = begun_bytes f part stands.behind bytes stands.begins in
+    let inside = begun_bytes f part stands.rest bytes stands.begins in
     let image = sections_made n (Section kind extended body) f 0 laid more inside.0 is lays in
     let again =
     sections_again n (Section kind extended body) f (frame_of 0 (Section kind extended body) (laid ++ more)) inside.0 is image in
@@ -42,10 +42,10 @@ section_known (Section kind extended body) starts (n, l, f, (b, small, most, sta
     let own : body_len body ≡ length f.body = cancel extended f.extended (length f.body) (body_len body) form again.len in
     record {
       fits = subst (λ (x : Bool). FitsForm x (body_len body)) (sym form)
-          (subst (FitsForm f.extended) (sym own) (fits f part stands.behind bytes stands.begins));
+          (subst (FitsForm f.extended) (sym own) (fits f part stands.rest bytes stands.begins));
       long = ap (λ (xs : List ℕ). length (body_image body xs)) text ∙ again.long ∙ sym own;
-      small = below (section_len (Section kind extended body)) (frame_len f) (length part) (length b) (length stands.behind) f.offset
-          again.len (length_begun f part stands.behind stands.begins) (length-drop f.offset b) most;
+      small = below (section_len (Section kind extended body)) (frame_len f) (length part) (length b) (length stands.rest) f.offset
+          again.len (length_begun f part stands.rest stands.begins) (length-drop f.offset b) most;
     }
   where
     form_of : (n : ℕ) (m : SectionMeaning) (f : FrameForm) → MeansSection n f m → section_is_extended m ≡ f.extended

@@ -17,7 +17,7 @@ use Rattle.fv_flash.proofs.Laws.{at_within}
 use Rattle.fv_tree.specs.Words.{Accepted, moved_fault, Meaning, head_of}
 use Rattle.fv_flash.specs.Words.{Found, VolumeAt, offsets_of}
 use Rattle.fv_flash.specs.declared.scanner.FoundVolume.{FoundVolume}
-use Rattle.fv_canon.specs.Words.{IsImage, NormalisesTo, Refuses, FirstRefused, HasImageAt, NormalisesAll, RefusedAt, AreLaid, IsLaid}
+use Rattle.fv_canon.specs.Words.{IsImage, NormalisesTo, Rejects, FirstRejected, HasImageAt, NormalisesAll, RejectedAt, AreLaid, IsLaid}
 use Rattle.fv_canon.specs.Words.{IsLaidOut, starts_of}
 use Rattle.fv_canon.specs.declared.flash_image.LocatedVolume.{LocatedVolume}
 use Rattle.fv_canon.proofs.FlashImageLaws.{Puts, next_of, puts_all, puts_more, puts_none}
@@ -26,12 +26,12 @@ use Rattle.fv_canon.proofs.FlashImageLaws.{Puts, next_of, puts_all, puts_more, p
 
 -- the fault of a volume is moved to the volume's place, or memory ran out
 pub told_at : (b x : List ℕ) (p n : ℕ) (own f : Fault) → VolumeAt b p n → x ≡ field p n b
-    → (own ≡ out_of_memory) ⊎ Refuses x own
+    → (own ≡ out_of_memory) ⊎ Rejects x own
     → (f ≢ out_of_memory → (own ≢ out_of_memory) × (f ≡ moved_fault p own.place.depth own))
-    → (f ≡ out_of_memory) ⊎ RefusedAt b p f
+    → (f ≡ out_of_memory) ⊎ RejectedAt b p f
 told_at b x p n own f v is why told = or_more (want_known f) (λ other. elim why [
   | inl want ↦ absurd ((told other).0 want)
-  | inr refused ↦ (n, v, own, subst (λ (l : List ℕ). Refuses l own) is refused, (told other).1)
+  | inr rejected ↦ (n, v, own, subst (λ (l : List ℕ). Rejects l own) is rejected, (told other).1)
 ])
 
 -- a volume that is laid out has an image
@@ -52,16 +52,16 @@ laid_images b (v ∷ vs) (h, all) = (has_image b v h, laid_images b vs all)
 
 -- if the next volume is rejected, it is the first one that is rejected
 pub lays_stop : (b : List ℕ) (found : List FoundVolume) (i : ℕ) (d : FoundVolume) (volumes : List LocatedVolume) (f : Fault)
-    → AreLaid b (offsets_of (take i found)) volumes → i < length found → (f ≡ out_of_memory) ⊎ RefusedAt b (get_or found i d).offset f
-    → (f ≡ out_of_memory) ⊎ FirstRefused b (offsets_of found) f
-lays_stop b found i d volumes f (same, all) less why = or_more why (λ refused. record {
+    → AreLaid b (offsets_of (take i found)) volumes → i < length found → (f ≡ out_of_memory) ⊎ RejectedAt b (get_or found i d).offset f
+    → (f ≡ out_of_memory) ⊎ FirstRejected b (offsets_of found) f
+lays_stop b found i d volumes f (same, all) less why = or_more why (λ rejected. record {
   before = offsets_of (take i found);
   place = (get_or found i d).offset;
-  behind = offsets_of (drop (i + 1) found);
+  after = offsets_of (drop (i + 1) found);
   split = ap offsets_of (sym (take-append-drop i found) ∙ ap (λ (l : List FoundVolume). take i found ++ l) (drop_more found i d less))
       ∙ map-append (λ (v : FoundVolume). v.offset) (take i found) (get_or found i d ∷ drop (i + 1) found);
   images = subst (AllByRecursion (HasImageAt b)) same (laid_images b volumes all);
-  refused = refused;
+  rejected = rejected;
 })
 
 -- ---- the loop over the volumes that are laid out

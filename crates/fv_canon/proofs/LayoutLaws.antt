@@ -3,14 +3,14 @@ use Rattle.std.proofs.Common.{◌≡◌, ◌≤◌, ℕ, List, [], ◌∷◌, �
 use Rattle.std.proofs.lemmas.List.{take-append-drop, length-take-le, take_at}
 use Rattle.fv_tree.proofs.Laws.{files_list_back}
 use Rattle.fv_tree.specs.Words.{Meaning, Volume, FileMeaning, files_list, files_of, head_of, files_from, Inside, volumes_in}
-use Rattle.fv_canon.specs.Words.{AreStarts, layout_items, Laid, LaysVolume, Places, IsLayout}
+use Rattle.fv_canon.specs.Words.{AreStarts, placement_items, StartsOfEach, LaysVolume, LayoutParts, IsLayout}
 use Rattle.fv_placement.proofs.Laws.{starts_one}
 use Rattle.fv_canon.proofs.VolumeListLaws.{laid_count, own_count}
 
-starts_same : (vs : List Inside) (a b : List ℕ) → Laid AreStarts vs a → Laid AreStarts vs b → a ≡ b
+starts_same : (vs : List Inside) (a b : List ℕ) → StartsOfEach AreStarts vs a → StartsOfEach AreStarts vs b → a ≡ b
 starts_same [] a b p q = p ∙ sym q
 starts_same (v ∷ vs) a b (own, inner, p, placed, laid) (own', inner', q, placed', laid') =
-    p ∙ ap (λ (xs : List ℕ). xs ++ inner) (starts_one _ _ (layout_items v.volume) own own' placed placed')
+    p ∙ ap (λ (xs : List ℕ). xs ++ inner) (starts_one _ _ (placement_items v.volume) own own' placed placed')
     ∙ ap (λ (xs : List ℕ). own' ++ xs) (starts_same vs inner inner' laid laid') ∙ sym q
 
 pub one_layout : (m : Meaning) (a b : List ℕ) → LaysVolume m a → LaysVolume m b → a ≡ b
@@ -20,7 +20,7 @@ one_layout m a b p q = starts_same (volumes_in m) a b p q
 
 -- if the starts of the volumes in a volume are split after as many starts as the volume has files, the two parts are
 -- its layout
-pub layout_is : (m : Meaning) (fs : List FileMeaning) (new : List ℕ) (l : Places) → m ≡ Volume (head_of m) (files_from fs)
+pub layout_is : (m : Meaning) (fs : List FileMeaning) (new : List ℕ) (l : LayoutParts) → m ≡ Volume (head_of m) (files_from fs)
     → LaysVolume m new → l.own ≡ take (length fs) new → l.inner ≡ drop (length fs) new → IsLayout m l
 layout_is m fs new l e lays own inner =
     let count : length (files_of m) ≡ length fs = ap length (ap files_of e ∙ files_list_back fs) in
@@ -35,7 +35,7 @@ layout_is m fs new l e lays own inner =
     enough (Volume h files) laid lays n k p q = let all = laid_count (volumes_in (Volume h files)) laid lays in omega (arith, all, p, q)
 
 -- the own starts of a layout are the first placement
-pub own_first : (m : Meaning) (l : Places) → IsLayout m l → AreStarts m l.own
+pub own_first : (m : Meaning) (l : LayoutParts) → IsLayout m l → AreStarts m l.own
 own_first (Volume h files) l ((own, inner, text, placed, laid), count) =
     let n : ℕ = length (files_list files) in
     let same : l.own ≡ own =

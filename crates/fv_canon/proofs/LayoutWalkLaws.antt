@@ -13,7 +13,7 @@ use Rattle.fv_rows.specs.declared.tree_walk.Row.{Row}
 use Rattle.fv_rows.specs.inner.RowVolumes.{volume_at, volumes_of}
 use Rattle.fv_tree.specs.Words.{Meaning, Volume, NoFiles, MoreFiles, files_of, FileMeaning, Inside, volumes_in, volumes_in_file}
 use Rattle.fv_canon.specs.inner.ImageOf.{starts_in}
-use Rattle.fv_canon.specs.Words.{AreStarts, Laid, FirstUnfit, UnfitHere}
+use Rattle.fv_canon.specs.Words.{AreStarts, StartsOfEach, FirstUnplaced, UnfitHere}
 use Rattle.fv_canon.proofs.DataBodyLaws.{data_held, data_volumes}
 use Rattle.fv_canon.proofs.ImageParts.{ComesTo}
 use Rattle.fv_canon.proofs.VolumeListLaws.{own_count}
@@ -40,8 +40,8 @@ other_first left rest r steps not = ap volumes_of steps ∙ ap (λ vs. vs ++ vol
 -- once the starts of the volumes among the rows that are left are added, the starts of all volumes are there; if all
 -- earlier volumes fit, the first volume that does not fit is among the rows that are left
 pub record Collects (rows left : List TreeRow) (starts : List ℕ) : Type 0 where
-  pub all : (laid : List ℕ) → Laid AreStarts (volumes_of left) laid → Laid AreStarts (volumes_of rows) (starts ++ laid)
-  pub unfit : (f : Fault) → FirstUnfit (volumes_of left) 0 f → FirstUnfit (volumes_of rows) 0 f
+  pub all : (laid : List ℕ) → StartsOfEach AreStarts (volumes_of left) laid → StartsOfEach AreStarts (volumes_of rows) (starts ++ laid)
+  pub unfit : (f : Fault) → FirstUnplaced (volumes_of left) 0 f → FirstUnplaced (volumes_of rows) 0 f
   pub count : starts_in (volumes_of left) ≤ starts_in (volumes_of rows)
 
 pub collects_begun : (rows left : List TreeRow) (starts : List ℕ) → left ≡ rows → starts ≡ [] → Collects rows left starts
@@ -50,18 +50,18 @@ collects_begun rows left starts same none =
     (subst (Collects rows rows) (sym none) (record { all = λ laid lays. lays; unfit = λ f un. un; count = omega arith }))
 
 pub collects_done : (rows left : List TreeRow) (starts : List ℕ) → left ≡ [] → Collects rows left starts
-    → Laid AreStarts (volumes_of rows) starts
+    → StartsOfEach AreStarts (volumes_of rows) starts
 collects_done rows left starts none before =
-    subst (Laid AreStarts (volumes_of rows)) (append-nil starts)
-    (before.all [] (subst (λ l. Laid AreStarts (volumes_of l) []) (sym none) refl))
+    subst (StartsOfEach AreStarts (volumes_of rows)) (append-nil starts)
+    (before.all [] (subst (λ l. StartsOfEach AreStarts (volumes_of l) []) (sym none) refl))
 
 pub collects_other : (rows left rest : List TreeRow) (starts : List ℕ) (r : Row) → left ≡ row_of r ∷ rest
     → ((v : _) → r.part ≡ kinds.Volume v → ⊥) → Collects rows left starts → Collects rows rest starts
 collects_other rows left rest starts r steps not before =
     let is = other_first left rest r steps not in
     record {
-      all = λ laid lays. before.all laid (subst (λ vs. Laid AreStarts vs laid) (sym is) lays);
-      unfit = λ f un. before.unfit f (subst (λ vs. FirstUnfit vs 0 f) (sym is) un);
+      all = λ laid lays. before.all laid (subst (λ vs. StartsOfEach AreStarts vs laid) (sym is) lays);
+      unfit = λ f un. before.unfit f (subst (λ vs. FirstUnplaced vs 0 f) (sym is) un);
       count = omega (arith, ap starts_in is, before.count);
     }
 
@@ -72,16 +72,16 @@ module _ (rows left rest : List TreeRow) (starts : List ℕ) (r : Row) (v : Mean
 
   pub collects_volume : (own next : List ℕ) → AreStarts v own → next ≡ starts ++ own → Collects rows rest next
   collects_volume own next placed joined = record {
-    all = λ laid lays. subst (Laid AreStarts (volumes_of rows)) (sym (ap (λ s. s ++ laid) joined ∙ append_assoc starts own laid))
-        (before.all (own ++ laid) (subst (λ vs. Laid AreStarts vs (own ++ laid)) (sym is) (own, laid, refl, placed, lays)));
-    unfit = λ f un. before.unfit f (subst (λ vs. FirstUnfit vs 0 f) (sym is) (inr ((own, placed), un)));
+    all = λ laid lays. subst (StartsOfEach AreStarts (volumes_of rows)) (sym (ap (λ s. s ++ laid) joined ∙ append_assoc starts own laid))
+        (before.all (own ++ laid) (subst (λ vs. StartsOfEach AreStarts vs (own ++ laid)) (sym is) (own, laid, refl, placed, lays)));
+    unfit = λ f un. before.unfit f (subst (λ vs. FirstUnplaced vs 0 f) (sym is) (inr ((own, placed), un)));
     count = omega (arith, ap starts_in is, before.count);
   }
 
-  pub collects_unfit : (f : Fault) → UnfitHere v r.nesting f → FirstUnfit (volumes_of rows) 0 f
+  pub collects_unfit : (f : Fault) → UnfitHere v r.nesting f → FirstUnplaced (volumes_of rows) 0 f
   collects_unfit f here =
       let same : r.nesting ≡ 0 + r.nesting = omega arith in
-      before.unfit f (subst (λ vs. FirstUnfit vs 0 f) (sym is) (inl (subst (λ d. UnfitHere v d f) same here)))
+      before.unfit f (subst (λ vs. FirstUnplaced vs 0 f) (sym is) (inl (subst (λ d. UnfitHere v d f) same here)))
 
   pub collects_some : 0 < length (files_of v) → 0 < starts_in (volumes_of rows)
   collects_some some = omega (arith, ap starts_in is, before.count, some)

@@ -15,13 +15,13 @@ use Rattle.fv_placement.proofs.Laws.{starts_one}
 use Rattle.fv_section.specs.Words.{FrameForm, frame_len, up_to_4, stream_of}
 use Rattle.fv_tree.specs.Words.{Meaning, Volume, FileMeanings, NoFiles, MoreFiles, FileMeaning, File, ContentMeaning, Plain, Sectioned}
 use Rattle.fv_tree.specs.Words.{SectionMeanings, NoSections, MoreSections, SectionMeaning, Section, BodyMeaning, Leaf, Group, Nested}
-use Rattle.fv_canon.specs.Words.{IsImage, AreStored, IsStored, IsData, AreFrames, IsFrame, IsBodyImage, layout_items, PlacedBytes, StandsIn}
+use Rattle.fv_canon.specs.Words.{IsImage, AreStored, IsStored, IsData, AreFrames, IsFrame, IsBodyImage, placement_items, PlacedBytes, ContainsSpan}
 use Rattle.fv_canon.specs.Words.{IsIn, ShowsPlaced, StoredFile, placed_in_volume}
 
 -- ---- bytes that show the same spans are equal
 
 -- a byte at an offset within a span is the byte of the span
-byte_in : (b : List ℕ) (p : PlacedBytes) (k : ℕ) → StandsIn b p → p.at ≤ k → k < p.at + length p.bytes
+byte_in : (b : List ℕ) (p : PlacedBytes) (k : ℕ) → ContainsSpan b p → p.at ≤ k → k < p.at + length p.bytes
     → get_or b k 0 ≡ get_or p.bytes (k - p.at) 0
 byte_in b p k stands low high =
     ap (λ (n : ℕ). get_or b n 0) (back p.at k low) ∙ sym (get_or-drop p.at b (k - p.at) 0)
@@ -34,8 +34,8 @@ byte_in b p k stands low high =
     inside : (a k n : ℕ) → a ≤ k → k < a + n → k - a < n
     inside a k n l h = omega arith
 
-same_byte : (ps : List PlacedBytes) (b c : List ℕ) (k e : ℕ) → AllByRecursion (StandsIn b) ps
-    → AllByRecursion (StandsIn c) ps → (AllByRecursion (λ p. IsIn k p → ⊥) ps → get_or b k 0 ≡ e)
+same_byte : (ps : List PlacedBytes) (b c : List ℕ) (k e : ℕ) → AllByRecursion (ContainsSpan b) ps
+    → AllByRecursion (ContainsSpan c) ps → (AllByRecursion (λ p. IsIn k p → ⊥) ps → get_or b k 0 ≡ e)
     → (AllByRecursion (λ p. IsIn k p → ⊥) ps → get_or c k 0 ≡ e) → get_or b k 0 ≡ get_or c k 0
 same_byte [] b c k e sb sc rb rc = rb tt ∙ sym (rc tt)
 same_byte (p ∷ ps) b c k e sb sc rb rc = elim (cases_lt k p.at) [
@@ -56,7 +56,7 @@ pub shows_one : (total erased : ℕ) (ps : List PlacedBytes) (b c : List ℕ) �
     → b ≡ c
 shows_one total erased ps b c p q =
     ext_get_or 0 b c (p.length_is ∙ sym q.length_is) (λ k l. let within : k < total = subst (λ (n : ℕ). k < n) p.length_is l in
-    same_byte ps b c k erased p.stand q.stand (p.rest k within) (q.rest k within))
+    same_byte ps b c k erased p.contained q.contained (p.rest k within) (q.rest k within))
 
 -- ---- there is one image at most
 same_spans : (h : HeadFields) (b : List ℕ) (xs ys : List StoredFile) (ss ts : List ℕ) → xs ≡ ys → ss ≡ ts
@@ -82,7 +82,7 @@ mutual
   pub image_one : (m : Meaning) (b c : List ℕ) → IsImage m b → IsImage m c → b ≡ c
   image_one (Volume h files) b c (xs, ss, are, placed, shows) (ys, ts, are', placed', shows') =
       let stored : xs ≡ ys = stored_one files xs ys are are' in
-      let starts : ss ≡ ts = starts_one h.length (first_edge h h.ext) (layout_items (Volume h files)) ss ts placed placed' in
+      let starts : ss ≡ ts = starts_one h.length (first_edge h h.ext) (placement_items (Volume h files)) ss ts placed placed' in
       shows_one h.length (erased_byte (polarity_of h.attributes)) (placed_in_volume h ys ts) b c
       (same_spans h b xs ys ss ts stored starts shows) shows'
 

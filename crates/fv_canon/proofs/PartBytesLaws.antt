@@ -11,7 +11,7 @@ use Rattle.fv_placement.specs.Words.{IsLawfulItem}
 use Rattle.fv_tree.proofs.Laws.{content_long}
 use Rattle.fv_tree.specs.Words.{MeansFile, IsMeaning, Pairwise, Stream, IsReadFile, FileForm, Meaning, Volume, FileMeaning, File}
 use Rattle.fv_tree.specs.Words.{attributes_of, data_len_of, files_list, files_of, head_of}
-use Rattle.fv_canon.specs.Words.{layout_item}
+use Rattle.fv_canon.specs.Words.{placement_item}
 use Rattle.fv_file.proofs.Laws.{cell_read}
 use Rattle.fv_canon.proofs.ReadLaws.{FileIsAccepted}
 use Rattle.fv_canon.proofs.VolumeImageLaws.{files_read, first_behind}
@@ -94,7 +94,7 @@ pub head_most : (large : Bool) → file_header_len large ≤ 32
 head_most true = omega arith
 head_most false = omega arith
 
-part_is : (total : ℕ) (m : FileMeaning) → 32 + data_len_of m ≤ total → IsLawfulItem total (layout_item m)
+part_is : (total : ℕ) (m : FileMeaning) → 32 + data_len_of m ≤ total → IsLawfulItem total (placement_item m)
 part_is total m l = record {
   header = head_eighth (needs_large (data_len_of m));
   holds = omega arith;
@@ -108,7 +108,7 @@ part_is total m l = record {
 -- files that were read from at most `limit` bytes are lawful items of a volume that has at least 8 bytes more
 are_parts : (n : ℕ) (system : FileSystem) (limit total : ℕ) (fs : List FileForm) (ms : List FileMeaning)
     → ((k : ℕ) → 24 + k ≤ limit → 32 + k ≤ total) → AllByRecursion (FileIsAccepted system limit) fs → Pairwise (MeansFile (Stream n)) fs ms
-    → All (IsLawfulItem total) (map layout_item ms)
+    → All (IsLawfulItem total) (map placement_item ms)
 are_parts n system limit total [] [] room reads pairs i d l = absurd (omega (arith, l))
 are_parts n system limit total [] (m ∷ ms) room reads pairs i d l = absurd pairs
 are_parts n system limit total (f ∷ fs) [] room reads pairs i d l = absurd pairs
@@ -120,12 +120,12 @@ are_parts n system limit total (f ∷ fs) (m ∷ ms) room reads pairs (suc i) d 
     are_parts n system limit total fs ms room reads.1 pairs.1 i d (omega (arith, l))
 
 -- the files of a volume that was read are lawful items of this volume
-pub parts_fit : (m : Meaning) → IsMeaning m → All (IsLawfulItem (head_of m).length) (map layout_item (files_of m))
+pub parts_fit : (m : Meaning) → IsMeaning m → All (IsLawfulItem (head_of m).length) (map placement_item (files_of m))
 parts_fit (Volume h files) (n, few, b, small, d) =
     let body : ℕ = length (drop d.extent.first b) in
-    let lies = front_lies b h d.extent d.front in
-    let behind = first_behind h.ext d.extent b d.front.ext in
-    let whole : length b ≡ h.length = d.whole ∙ d.front.length_is in
+    let lies = front_lies b h d.extent d.begins in
+    let behind = first_behind h.ext d.extent b d.begins.ext in
+    let whole : length b ≡ h.length = d.whole ∙ d.begins.length_is in
     are_parts n h.file_system body h.length d.files (files_list files)
     (λ k l. room body (length b) d.extent.first d.extent.header_len h.length k (length-drop d.extent.first b) whole lies.least behind l)
     (files_read (Stream n) h files b small d) d.meanings

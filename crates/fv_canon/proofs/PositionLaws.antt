@@ -10,7 +10,7 @@ use Rattle.std.specs.List.{AllByRecursion}
 use Rattle.std.proofs.lemmas.Bool.{cases_lt}
 use Rattle.std.proofs.lemmas.List.{length-replicate, length-drop, drop-drop, take_at, drop_at, get_or_append_left, get_or-append_right}
 use Rattle.std.proofs.lemmas.List.{get_or-replicate, get_or-take, get_or-drop, ext_get_or, length-take-le}
-use Rattle.fv_canon.specs.Words.{PlacedBytes, IsIn, StandsIn, ShowsPlaced, painted, InOrder}
+use Rattle.fv_canon.specs.Words.{PlacedBytes, IsIn, ContainsSpan, ShowsPlaced, painted, InOrder}
 
 -- an offset before the first span is in none of the spans
 pub before_none : (total e k : ℕ) (ps : List PlacedBytes) → InOrder total e ps → k < e → AllByRecursion (λ p. IsIn k p → ⊥) ps
@@ -25,13 +25,13 @@ get_behind front back k l = get_or-append_right front back (length front) k 0 re
 
 -- b shows the spans after e, and erased bytes elsewhere after e
 record ShowsFrom (erased total e : ℕ) (ps : List PlacedBytes) (b : List ℕ) : Type 0 where
-  stand : AllByRecursion (StandsIn b) ps
+  contained : AllByRecursion (ContainsSpan b) ps
   rest : (k : ℕ) → e ≤ k → k < total → AllByRecursion (λ p. IsIn k p → ⊥) ps → get_or b k 0 ≡ erased
 
 walk_shows : (erased total e : ℕ) (ps : List PlacedBytes) (front : List ℕ) → length front ≡ e → InOrder total e ps
     → ShowsFrom erased total e ps (front ++ painted erased total e ps)
 walk_shows erased total e [] front l o = record {
-  stand = tt;
+  contained = tt;
   rest = λ k a b n. get_behind front (replicate (total - e) erased) k (omega arith)
       ∙ get_or-replicate (total - e) (k - length front) erased 0 (omega arith);
 }
@@ -47,14 +47,14 @@ walk_shows erased total e (p ∷ ps) front l o =
     length-append (front ++ gap) p.bytes ∙ ap (λ n. n + length p.bytes) there in
     let later = walk_shows erased total (p.at + length p.bytes) ps ((front ++ gap) ++ p.bytes) far o.1 in
     record {
-      stand = (
+      contained = (
         (
           subst (λ xs. p.at + length p.bytes ≤ length xs) (sym moved) (long (length (((front ++ gap) ++ p.bytes) ++ behind)) (length behind)
               (length-append ((front ++ gap) ++ p.bytes) behind ∙ ap (λ n. n + length behind) far)),
           ap (λ xs. take (length p.bytes) (drop p.at xs)) apart ∙ (ap (λ xs. take (length p.bytes) xs)
               (drop_at (front ++ gap) (p.bytes ++ behind) p.at there) ∙ take_at p.bytes behind (length p.bytes) refl),
         ),
-        subst (λ xs. AllByRecursion (StandsIn xs) ps) (sym moved) later.stand,
+        subst (λ xs. AllByRecursion (ContainsSpan xs) ps) (sym moved) later.contained,
       );
       rest = λ k a b n. elim (cases_lt k p.at) [
         | inl c ↦
@@ -96,12 +96,12 @@ shows_walk erased total ps o =
     let shows = walk_shows erased total 0 ps [] refl o in
     record {
       length_is = sym (zero-add (length (painted erased total 0 ps))) ∙ walk_length erased total 0 ps o;
-      stand = shows.stand;
+      contained = shows.contained;
       rest = λ k l n. shows.rest k (omega arith) l n;
     }
 
 -- ---- from the offsets to the walk
-pub walk_from : (erased total e : ℕ) (ps : List PlacedBytes) (b : List ℕ) → length b ≡ total → InOrder total e ps → AllByRecursion (StandsIn b) ps
+pub walk_from : (erased total e : ℕ) (ps : List PlacedBytes) (b : List ℕ) → length b ≡ total → InOrder total e ps → AllByRecursion (ContainsSpan b) ps
     → ((k : ℕ) → e ≤ k → k < total → AllByRecursion (λ p. IsIn k p → ⊥) ps → get_or b k 0 ≡ erased) → drop e b ≡ painted erased total e ps
 walk_from erased total e [] b l o s r =
     ext_get_or 0 (drop e b) (replicate (total - e) erased)
@@ -158,4 +158,4 @@ walk_from erased total e (p ∷ ps) b l o s r =
 -- only one list of bytes shows the spans, and the walk writes this list
 pub one_image : (erased total : ℕ) (ps : List PlacedBytes) (b : List ℕ) → InOrder total 0 ps → ShowsPlaced total erased ps b
     → b ≡ painted erased total 0 ps
-one_image erased total ps b o h = walk_from erased total 0 ps b h.length_is o h.stand (λ k a c n. h.rest k c n)
+one_image erased total ps b o h = walk_from erased total 0 ps b h.length_is o h.contained (λ k a c n. h.rest k c n)

@@ -6,7 +6,7 @@ use Rattle.fv_base.specs.declared.fault.Fault.{Fault}
 use Rattle.fv_base.specs.declared.fault.FaultKind.TheVariants as kinds
 use Rattle.fv_tree.specs.Words.{Accepted, IsFirstOfInput, NotRead, Meaning}
 use Rattle.fv_tree.proofs.Laws.{IsOfInput, fault_stands, stands_other}
-use Rattle.fv_canon.specs.Words.{NormalisesTo, IsNoVolume, IsOfLayout, IsUnfit, NotPlaced, Refuses, OnlyWhatDoesNotFitIsRefused, Fits}
+use Rattle.fv_canon.specs.Words.{NormalisesTo, IsNotVolume, IsOfLayout, IsUnfit, NotPlaced, Rejects, OnlyWhatDoesNotFitIsRejected, Fits}
 use Rattle.fv_canon.specs.Words.{Unfit}
 use Rattle.fv_canon.proofs.FitLaws.{unfit_none}
 use Rattle.fv_canon.proofs.ImageFits.{image_fits as has_image_fits}
@@ -24,10 +24,10 @@ image_fits b image v only (m, d, is) = subst Fits (only m d) (has_image_fits m i
 
 -- a volume that does not fit is rejected
 pub not_placed : (b : List ℕ) (v : Meaning) (f : Fault) → Accepted b v → (f ≡ out_of_memory) ⊎ Unfit v 0 f
-    → (f ≡ out_of_memory) ⊎ Refuses b f
+    → (f ≡ out_of_memory) ⊎ Rejects b f
 not_placed b v f d why = or_more why (λ unfit. inr (v, d, unfit))
 
-pub not_read : (b : List ℕ) (f : Fault) → (f ≡ out_of_memory) ⊎ NotRead b f → (f ≡ out_of_memory) ⊎ Refuses b f
+pub not_read : (b : List ℕ) (f : Fault) → (f ≡ out_of_memory) ⊎ NotRead b f → (f ≡ out_of_memory) ⊎ Rejects b f
 not_read b f why = or_more why (λ bad. inl bad)
 
 -- ---- the kinds of faults
@@ -53,25 +53,25 @@ first_kind b f (inr (m, d, less, is)) layout = go (subst (λ (g : Fault). IsOfLa
 
 -- an input that is rejected with a fault of the layout does not fit; an input that is rejected with another fault is
 -- not a volume
-pub only_what_does_not_fit_is_refused : OnlyWhatDoesNotFitIsRefused
-only_what_does_not_fit_is_refused b f (inl bad) = (λ layout. absurd (first_kind b f bad.first layout), λ other. bad.none)
-only_what_does_not_fit_is_refused b f (inr (m, d, unfit)) =
+pub only_what_does_not_fit_is_rejected : OnlyWhatDoesNotFitIsRejected
+only_what_does_not_fit_is_rejected b f (inl bad) = (λ layout. absurd (first_kind b f bad.first layout), λ other. bad.none)
+only_what_does_not_fit_is_rejected b f (inr (m, d, unfit)) =
     (λ layout. (m, d, unfit_none m 0 f unfit), λ other. absurd (other (unfit_is m 0 f unfit)))
 
-pub unread_refused : (b : List ℕ) (f : Fault) → (f ≡ out_of_memory) ⊎ Refuses b f → f ≢ out_of_memory → (IsOfLayout f.kind → ⊥)
-    → IsNoVolume b
+pub unread_refused : (b : List ℕ) (f : Fault) → (f ≡ out_of_memory) ⊎ Rejects b f → f ≢ out_of_memory → (IsOfLayout f.kind → ⊥)
+    → IsNotVolume b
 unread_refused b f (inl want) memory other = absurd (memory want)
-unread_refused b f (inr why) memory other = (only_what_does_not_fit_is_refused b f why).1 other
+unread_refused b f (inr why) memory other = (only_what_does_not_fit_is_rejected b f why).1 other
 
 -- a volume that does not fit is rejected with a fault of the layout, unless memory runs out
-pub unfit_kind_of : (b : List ℕ) (f : Fault) → (f ≡ out_of_memory) ⊎ Refuses b f → IsUnfit b → (f ≡ out_of_memory) ⊎ IsOfLayout f.kind
+pub unfit_kind_of : (b : List ℕ) (f : Fault) → (f ≡ out_of_memory) ⊎ Rejects b f → IsUnfit b → (f ≡ out_of_memory) ⊎ IsOfLayout f.kind
 unfit_kind_of b f (inl want) u = inl want
 unfit_kind_of b f (inr (inl bad)) (m, d, unfit) = absurd (bad.none m d)
 unfit_kind_of b f (inr (inr (m, d, unfit))) u = inr (unfit_is m 0 f unfit)
 
 -- an input that is rejected with a fault of the layout does not fit, and the fault is the fault of the first volume in
 -- it that does not fit
-pub refused_unplaced : (b : List ℕ) (f : Fault) → (f ≡ out_of_memory) ⊎ Refuses b f → IsOfLayout f.kind → NotPlaced b f
+pub refused_unplaced : (b : List ℕ) (f : Fault) → (f ≡ out_of_memory) ⊎ Rejects b f → IsOfLayout f.kind → NotPlaced b f
 refused_unplaced b f (inl want) layout = absurd (not_layout f.kind layout (ap (λ (g : Fault). g.kind) want))
 refused_unplaced b f (inr (inl bad)) layout = absurd (first_kind b f bad.first layout)
 refused_unplaced b f (inr (inr why)) layout = why

@@ -4,12 +4,12 @@ use Rattle.fv_base.specs.declared.fault.Fault.{Fault}
 use Rattle.fv_base.specs.declared.fault.FaultKind.{FaultKind}
 use Rattle.fv_base.specs.declared.fault.FaultKind.TheVariants as kinds
 use Rattle.fv_tree.specs.Words.{Meaning, Inside, volumes_in}
-use Rattle.fv_canon.specs.Words.{IsOfLayout, layout_fault, FirstUnfit, Unfit}
+use Rattle.fv_canon.specs.Words.{IsOfLayout, layout_fault, FirstUnplaced, Unfit}
 
 -- a property of both faults of the layout, at every depth, is a property of the fault of a volume that does not fit
 module _ (P : Fault → Type 0) (top : (depth : ℕ) → P (layout_fault kinds.TopAlignment depth))
     (room : (depth : ℕ) → P (layout_fault kinds.NoRoom depth)) where
-  pub unfit_has : (vs : List Inside) (depth : ℕ) (f : Fault) → FirstUnfit vs depth f → P f
+  pub unfit_has : (vs : List Inside) (depth : ℕ) (f : Fault) → FirstUnplaced vs depth f → P f
   unfit_has [] depth f unfit = absurd unfit
   unfit_has (v ∷ vs) depth f (inl (inl (off, is))) = subst P (sym is) (top (depth + v.depth))
   unfit_has (v ∷ vs) depth f (inl (inr (short, is))) = subst P (sym is) (room (depth + v.depth))

@@ -27,12 +27,12 @@ use Rattle.fv_head.specs.Words.{canonical_head, canonical_end, first_edge, ext_l
 use Rattle.fv_head.specs.declared.extent.Extent.{Extent}
 use Rattle.fv_head.proofs.Laws.{canonical_front, front_lies, length-canonical}
 use Rattle.fv_placement.specs.Words.{StartsFollow, IsFirstPlacement}
-use Rattle.fv_placement.specs.declared.first_placement.LayoutItem.{LayoutItem}
+use Rattle.fv_placement.specs.declared.first_placement.PlacementItem.{PlacementItem}
 use Rattle.fv_tree.specs.Words.{Meaning, Volume, FileMeanings, NoFiles, MoreFiles, FileMeaning, File, ContentMeaning, Plain, Sectioned}
-use Rattle.fv_tree.specs.Words.{StandIn, files_list, files_of, head_of, content_len, StreamRelation, Pairwise, MeansContent, MeansFile}
+use Rattle.fv_tree.specs.Words.{AreFilesOf, files_list, files_of, head_of, content_len, StreamRelation, Pairwise, MeansContent, MeansFile}
 use Rattle.fv_tree.specs.Words.{StreamOver, VolumeOver, Opens, MeansSection, Stream, Denotes, FileForm, files_in, NoTwins, current_in}
 use Rattle.fv_tree.specs.Words.{top_name}
-use Rattle.fv_canon.specs.Words.{IsImage, AreStored, IsStored, IsData, AreStarts, layout_item, ShowsPlaced, StoredFile, size_for}
+use Rattle.fv_canon.specs.Words.{IsImage, AreStored, IsStored, IsData, AreStarts, placement_item, ShowsPlaced, StoredFile, size_for}
 use Rattle.fv_canon.specs.Words.{head_len_for, ext_pad, placed_in_volume, used_size}
 use Rattle.fv_canon.specs.inner.ImageOf.{files_bytes, volume_bytes}
 use Rattle.fv_canon.proofs.ImageParts.{stored_item}
@@ -50,7 +50,7 @@ use Rattle.fv_canon.proofs.StoredTilingLaws.{forms_of, Tiled, body_tiles}
 -- the file x that is stored in the canonical image for the file f of meaning m
 record FileAgain (is_stream : StreamRelation) (system : FileSystem) (m : FileMeaning) (f : FileForm) (x : StoredFile) : Type 0 where
   pub storable : Storable system x
-  pub part : stored_item x ≡ layout_item m
+  pub part : stored_item x ≡ placement_item m
   pub name : bytes_of x.name ≡ bytes_of f.head.name
   pub form : (p : Polarity) (at : ℕ) → MeansFile is_stream (record { offset = at; head = stored_head p x; payload = x.payload }) m
 
@@ -95,7 +95,7 @@ large_system system false n h k needs = absurd (both n needs (k refl))
     both : (n : ℕ) → nat_lt 0xffffff (24 + n) ≡ true → 24 + n < 16777216 → ⊥
     both n e l = grind (arith, nat_tests)
 
-same_part : (n k a b : ℕ) (g h : Guid) → n ≡ k → a ≡ b → g ≡ h → let made : LayoutItem =
+same_part : (n k a b : ℕ) (g h : Guid) → n ≡ k → a ≡ b → g ≡ h → let made : PlacementItem =
     record { header = head_len_for n; size = size_for n; alignment = alignment_of a; top = bytes_eq (bytes_of g) top_name } in
     made ≡ record { header = head_len_for k; size = size_for k; alignment = alignment_of b; top = bytes_eq (bytes_of h) top_name }
 same_part n k a b g h p q r = rw (p, q, r) refl
@@ -140,7 +140,7 @@ file_again is_stream streams system limit (File name kind attributes content) f 
 pub record FilesAgain (is_stream : StreamRelation) (system : FileSystem) (files : FileMeanings) (forms : List FileForm)
     (stored : List StoredFile) : Type 0 where
   pub storable : AllByRecursion (Storable system) stored
-  pub items : map stored_item stored ≡ map layout_item (files_list files)
+  pub items : map stored_item stored ≡ map placement_item (files_list files)
   pub names : names_of stored ≡ names_in forms
   pub are : (p : Polarity) (total e : ℕ) (ss : List ℕ) → StartsFollow total e (map stored_item stored) ss
       → Pairwise (MeansFile is_stream) (forms_of p stored ss) (files_list files)
@@ -163,7 +163,7 @@ files_again is_stream streams system limit (MoreFiles m ms) (f ∷ fs) (x ∷ xs
     let behind = files_again is_stream streams system limit ms fs xs most reads.1 pairs.1 are.1 in
     record {
       storable = (here.storable, behind.storable);
-      items = ap (λ (q : LayoutItem). q ∷ map stored_item xs) here.part ∙ ap (λ (qs : List LayoutItem). layout_item m ∷ qs) behind.items;
+      items = ap (λ (q : PlacementItem). q ∷ map stored_item xs) here.part ∙ ap (λ (qs : List PlacementItem). placement_item m ∷ qs) behind.items;
       names = ap (λ (n : List ℕ). n ∷ names_of xs) here.name ∙ ap (λ (ns : List (List ℕ)). bytes_of f.head.name ∷ ns) behind.names;
       are = λ p total e ss follow. step p total e ss follow here.form behind.are;
     }
@@ -249,7 +249,7 @@ files_read is_stream h files b small d =
     let e : Extent = d.extent in
     let body : List ℕ = drop e.first b in
     let reads = body_read e.file_system e.polarity (length body) e.first d.cells body (bytes_drop e.first b small) (omega arith) d.tiles in
-    subst (λ (s : FileSystem). AllByRecursion (FileIsAccepted s (length body)) d.files) d.front.file_system
+    subst (λ (s : FileSystem). AllByRecursion (FileIsAccepted s (length body)) d.files) d.begins.file_system
     (subst (AllByRecursion (FileIsAccepted e.file_system (length body))) (sym d.current.files_are)
     (current_read e.file_system (length body) (files_in d.cells) reads))
 
@@ -259,19 +259,19 @@ pub known : (is_stream : StreamRelation) → StreamsAgain is_stream → (h : Hea
 known is_stream streams h files b small d stored starts are placed =
     let e : Extent = d.extent in
     let first : ℕ = first_edge h h.ext in
-    let lies = front_lies b h e d.front in
+    let lies = front_lies b h e d.begins in
     let body : List ℕ = drop e.first b in
     let current = files_read is_stream h files b small d in
     let limit : length body ≤ 24 + data_limit = most (length body) (length b) e.first e.header_len e.length (length-drop e.first b) d.whole
-    lies.limit lies.least (first_behind h.ext e b d.front.ext) in
+    lies.limit lies.least (first_behind h.ext e b d.begins.ext) in
     let a = files_again is_stream streams h.file_system (length body) files d.files stored limit current d.meanings are in
     let place : IsFirstPlacement h.length first (map stored_item stored) starts =
-    subst (λ (qs : List LayoutItem). IsFirstPlacement h.length first qs starts) (sym a.items) placed in
+    subst (λ (qs : List PlacementItem). IsFirstPlacement h.length first qs starts) (sym a.items) placed in
     record {
       writable = record {
-        read = (take e.header_len b, d.front.head);
-        ext = ext_read h.ext e b small d.front.ext;
-        multiple = d.front.head.volume_multiple;
+        read = (take e.header_len b, d.begins.head);
+        ext = ext_read h.ext e b small d.begins.ext;
+        multiple = d.begins.head.volume_multiple;
         room = place.placement.room;
         files = a.storable;
         follow = place.placement.follow;
@@ -321,8 +321,8 @@ image_tiled h fs ss o k shows =
 
 -- a header and files make a volume
 pub volume_of : (is_stream : StreamRelation) (b : List ℕ) (m : Meaning) (e : Extent) (files : List FileForm) → BeginsVolume (head_of m) e b
-    → length b ≡ e.length → StandIn e b files → Pairwise (MeansFile is_stream) files (files_of m) → VolumeOver is_stream b m
-volume_of is_stream b m e files front whole stand meanings = grind (arith, common_steps)
+    → length b ≡ e.length → AreFilesOf e b files → Pairwise (MeansFile is_stream) files (files_of m) → VolumeOver is_stream b m
+volume_of is_stream b m e files front whole contained meanings = grind (arith, common_steps)
 
 pub volume_again : (is_stream : StreamRelation) → StreamsAgain is_stream → VolumesAgain (VolumeOver is_stream)
 volume_again is_stream streams (Volume h files) b o small d (stored, starts, are, placed, shows) =
@@ -338,7 +338,7 @@ volume_again is_stream streams (Volume h files) b o small d (stored, starts, are
     (subst (λ (xs : List FileForm). NamesApart (names_in xs)) (sym d.current.files_are) (current_apart (files_in d.cells)
     d.current.no_twins)) in
     let last : TopLast (names_of stored) = subst TopLast (sym a.names) (top_last d.extent.length d.files d.current.top) in
-    let same : length o ≡ length b = shows.length_is ∙ sym (d.whole ∙ d.front.length_is) in
+    let same : length o ≡ length b = shows.length_is ∙ sym (d.whole ∙ d.begins.length_is) in
     record {
       is = volume_of is_stream o (Volume h files) (extent_of h first) (forms_of p stored starts) front shows.length_is (record {
         cells = tiled.cells;
@@ -351,7 +351,7 @@ volume_again is_stream streams (Volume h files) b o small d (stored, starts, are
       }) (a.are p h.length first starts k.follow);
       bytes = subst IsBytes (sym (volume_shows h stored starts o k shows)) (bytes_volume h stored starts k);
       long = same;
-      len = d.whole ∙ d.front.length_is;
+      len = d.whole ∙ d.begins.length_is;
       opens = opened h (extent_of h first) o front shows.length_is;
     }
 

@@ -15,21 +15,21 @@ use Rattle.fv_head.specs.Words.{HeadFields}
 use Rattle.fv_tree.specs.Words.{Meaning, Volume, FileMeaning, files_of, head_of, files_from, Inside, deeper, volumes_in, volumes_in_files}
 use Rattle.fv_canon.specs.inner.ImageOf.{starts_in}
 use Rattle.fv_canon.proofs.ImageParts.{ComesTo}
-use Rattle.fv_canon.specs.Words.{BeginsWithStarts, Laid, AreStarts, IsPlaced, layout_item, layout_items, AllFit, FirstUnfit}
+use Rattle.fv_canon.specs.Words.{BeginsWithStarts, StartsOfEach, AreStarts, IsPlaced, placement_item, placement_items, AllFit, FirstUnplaced}
 use Rattle.fv_base.proofs.Laws.{item_at}
 use Rattle.fv_tree.proofs.Laws.{files_list_back}
 use Rattle.fv_placement.proofs.Laws.{follow_length}
 
 -- ---- the starts of two lists
 
-pub laid_joined : (own : Meaning → List ℕ → Type 0) (vs ws : List Inside) (a b : List ℕ) → Laid own vs a → Laid own ws b
-    → Laid own (vs ++ ws) (a ++ b)
-laid_joined own [] ws a b p q = subst (λ (xs : List ℕ). Laid own ws (xs ++ b)) (sym p) q
+pub laid_joined : (own : Meaning → List ℕ → Type 0) (vs ws : List Inside) (a b : List ℕ) → StartsOfEach own vs a → StartsOfEach own ws b
+    → StartsOfEach own (vs ++ ws) (a ++ b)
+laid_joined own [] ws a b p q = subst (λ (xs : List ℕ). StartsOfEach own ws (xs ++ b)) (sym p) q
 laid_joined own (v ∷ vs) ws a b (here, behind, text, p, r) q =
     (here, behind ++ b, ap (λ (xs : List ℕ). xs ++ b) text ∙ append_assoc here behind b, p, laid_joined own vs ws behind b r q)
 
-pub laid_split : (own : Meaning → List ℕ → Type 0) (vs ws : List Inside) (starts : List ℕ) → Laid own (vs ++ ws) starts
-    → (here : List ℕ) × (behind : List ℕ) × (starts ≡ here ++ behind) × Laid own vs here × Laid own ws behind
+pub laid_split : (own : Meaning → List ℕ → Type 0) (vs ws : List Inside) (starts : List ℕ) → StartsOfEach own (vs ++ ws) starts
+    → (here : List ℕ) × (behind : List ℕ) × (starts ≡ here ++ behind) × StartsOfEach own vs here × StartsOfEach own ws behind
 laid_split own [] ws starts laid = ([], starts, refl, refl, laid)
 laid_split own (v ∷ vs) ws starts (first, inner, text, p, r) =
     let l = laid_split own vs ws inner r in (
@@ -40,19 +40,19 @@ laid_split own (v ∷ vs) ws starts (first, inner, text, p, r) =
       l.4,
     )
 
-pub laid_deeper : (own : Meaning → List ℕ → Type 0) (vs : List Inside) (starts : List ℕ) → Laid own vs starts → Laid own (deeper vs) starts
+pub laid_deeper : (own : Meaning → List ℕ → Type 0) (vs : List Inside) (starts : List ℕ) → StartsOfEach own vs starts → StartsOfEach own (deeper vs) starts
 laid_deeper own [] starts laid = laid
 laid_deeper own (v ∷ vs) starts (first, inner, text, p, r) = (first, inner, text, p, laid_deeper own vs inner r)
 
-pub laid_higher : (own : Meaning → List ℕ → Type 0) (vs : List Inside) (starts : List ℕ) → Laid own (deeper vs) starts → Laid own vs starts
+pub laid_higher : (own : Meaning → List ℕ → Type 0) (vs : List Inside) (starts : List ℕ) → StartsOfEach own (deeper vs) starts → StartsOfEach own vs starts
 laid_higher own [] starts laid = laid
 laid_higher own (v ∷ vs) starts (first, inner, text, p, r) = (first, inner, text, p, laid_higher own vs inner r)
 
 -- the lists of starts have one start for each file of the volumes
 pub own_count : (m : Meaning) (own : List ℕ) → AreStarts m own → length own ≡ length (files_of m)
-own_count m own placed = follow_length _ _ (layout_items m) own placed.placement.follow ∙ length-map (files_of m) layout_item
+own_count m own placed = follow_length _ _ (placement_items m) own placed.placement.follow ∙ length-map (files_of m) placement_item
 
-pub laid_count : (vs : List Inside) (starts : List ℕ) → Laid AreStarts vs starts → length starts ≡ starts_in vs
+pub laid_count : (vs : List Inside) (starts : List ℕ) → StartsOfEach AreStarts vs starts → length starts ≡ starts_in vs
 laid_count [] starts laid = ap length laid
 laid_count (v ∷ vs) starts (own, inner, text, placed, laid) =
     let here = own_count v.volume own placed in
@@ -109,22 +109,22 @@ fit_joined vs ws p q = each_joined IsPlaced vs ws p q
 pub fit_deeper : (vs : List Inside) → AllFit vs → AllFit (deeper vs)
 fit_deeper vs p = each_deeper (λ m. (starts : List ℕ) × AreStarts m starts) vs p
 
-pub laid_fit : (vs : List Inside) (starts : List ℕ) → Laid AreStarts vs starts → AllFit vs
+pub laid_fit : (vs : List Inside) (starts : List ℕ) → StartsOfEach AreStarts vs starts → AllFit vs
 laid_fit [] starts laid = tt
 laid_fit (v ∷ vs) starts (own, inner, text, placed, laid) = ((own, placed), laid_fit vs inner laid)
 
-pub fit_laid : (vs : List Inside) → AllFit vs → (starts : List ℕ) × Laid AreStarts vs starts
+pub fit_laid : (vs : List Inside) → AllFit vs → (starts : List ℕ) × StartsOfEach AreStarts vs starts
 fit_laid [] fit = ([], refl)
 fit_laid (v ∷ vs) (own, fit) = let l = fit_laid vs fit in (own.0 ++ l.0, (own.0, l.0, refl, own.1, l.1))
 
 -- ---- the first volume that does not fit
 
-pub unfit_front : (vs ws : List Inside) (depth : ℕ) (f : Fault) → FirstUnfit vs depth f → FirstUnfit (vs ++ ws) depth f
+pub unfit_front : (vs ws : List Inside) (depth : ℕ) (f : Fault) → FirstUnplaced vs depth f → FirstUnplaced (vs ++ ws) depth f
 unfit_front [] ws depth f un = absurd un
 unfit_front (v ∷ vs) ws depth f (inl un) = inl un
 unfit_front (v ∷ vs) ws depth f (inr (placed, un)) = inr (placed, unfit_front vs ws depth f un)
 
-pub unfit_behind : (vs ws : List Inside) (depth : ℕ) (f : Fault) → AllFit vs → FirstUnfit ws depth f → FirstUnfit (vs ++ ws) depth f
+pub unfit_behind : (vs ws : List Inside) (depth : ℕ) (f : Fault) → AllFit vs → FirstUnplaced ws depth f → FirstUnplaced (vs ++ ws) depth f
 unfit_behind [] ws depth f fit un = un
 unfit_behind (v ∷ vs) ws depth f (placed, fit) un = inr (placed, unfit_behind vs ws depth f fit un)
 
@@ -155,7 +155,7 @@ module _ {A : Type 0} (all : List A → List Inside) (one : A → List Inside) (
       → BeginsWithStarts (one x) starts × BeginsWithStarts (all (drop (i + 1) xs)) (drop (starts_in (one x)) starts)
   item_begins xs i x starts l is (whole, rest, text, laid) =
       let items = laid_split AreStarts (one x) (all (drop (i + 1) xs)) whole
-      (subst (λ ws. Laid AreStarts ws whole) (item_first xs i x l is) laid) in
+      (subst (λ ws. StartsOfEach AreStarts ws whole) (item_first xs i x l is) laid) in
       let here : starts ≡ items.0 ++ (items.1 ++ rest) =
       text ∙ ap (λ (ys : List ℕ). ys ++ rest) items.2 ∙ append_assoc items.0 items.1 rest in (
         (items.0, items.1 ++ rest, here, items.3),

@@ -7,12 +7,12 @@ use Rattle.std.proofs.lemmas.List.{length-map}
 use Rattle.fv_base.specs.Words.{erased_byte, up_to_8}
 use Rattle.fv_head.specs.Words.{Extension, HeadFields, canonical_head, canonical_end, first_edge, polarity_of}
 use Rattle.fv_placement.specs.Words.{StartsFollow}
-use Rattle.fv_placement.specs.declared.first_placement.LayoutItem.{LayoutItem}
+use Rattle.fv_placement.specs.declared.first_placement.PlacementItem.{PlacementItem}
 use Rattle.fv_tree.specs.Words.{Meaning, Volume, FileMeanings, FileMeaning, head_of, data_len_of, files_from, IsMeaning, MeansSection}
 use Rattle.fv_tree.specs.Words.{Stream, volumes_in, volumes_in_files}
 use Rattle.fv_canon.specs.inner.ImageOf.{image_of, stored_of, starts_in, files_bytes}
 use Rattle.fv_canon.proofs.ImageParts.{stored_item}
-use Rattle.fv_canon.specs.Words.{BeginsWithStarts, AreStored, layout_items, layout_item, StoredFile, size_for, stored_len, used_size}
+use Rattle.fv_canon.specs.Words.{BeginsWithStarts, AreStored, placement_items, placement_item, StoredFile, size_for, stored_len, used_size}
 use Rattle.fv_canon.specs.Words.{ext_pad}
 use Rattle.fv_canon.proofs.WrittenImageLaws.{files_made, stream_made, sections_made, front_is, behind_is}
 use Rattle.fv_placement.proofs.Laws.{follow_length}
@@ -23,7 +23,7 @@ use Rattle.fv_canon.specs.inner.FileWalks.{ArePlaced, used_by}
 use Rattle.fv_tree.proofs.Laws.{files_list_back}
 
 -- ---- the used size
-abbrev used_parts : ℕ → List LayoutItem → List ℕ → ℕ
+abbrev used_parts : ℕ → List PlacementItem → List ℕ → ℕ
 used_parts end [] starts = end
 used_parts end (f ∷ fs) [] = end
 used_parts end (f ∷ fs) (s ∷ ss) = used_parts (s + f.size) fs ss
@@ -33,13 +33,13 @@ used_stored end [] ss = refl
 used_stored end (f ∷ fs) [] = refl
 used_stored end (f ∷ fs) (s ∷ ss) = used_stored (s + stored_len f) fs ss
 
-used_files : (end : ℕ) (fs : List FileMeaning) (ss : List ℕ) → used_by end fs ss ≡ used_parts end (map layout_item fs) ss
+used_files : (end : ℕ) (fs : List FileMeaning) (ss : List ℕ) → used_by end fs ss ≡ used_parts end (map placement_item fs) ss
 used_files end [] ss = refl
 used_files end (f ∷ fs) [] = refl
 used_files end (f ∷ fs) (s ∷ ss) = used_files (s + size_for (data_len_of f)) fs ss
 
 pub used_last : (total e end : ℕ) (fs : List FileMeaning) (ss : List ℕ) (n : ℕ) (d : FileMeaning) → length fs ≡ suc n
-    → StartsFollow total e (map layout_item fs) ss
+    → StartsFollow total e (map placement_item fs) ss
     → (used_by end fs ss ≡ get_or ss n 0 + size_for (data_len_of (get_or fs n d)))
     × (get_or ss n 0 + size_for (data_len_of (get_or fs n d)) ≤ total) × (n < length ss)
 used_last total e end [] ss n d l follow = absurd (omega (arith, l))
@@ -70,11 +70,11 @@ volume_laid h fs starts (k, few, b, small, d) (laid, more, whole, (own, inner, t
     let files : FileMeanings = files_from fs in
     let first : ℕ = first_edge h h.ext in
     let n : ℕ = length fs in
-    let items : layout_items (Volume h files) ≡ map layout_item fs = ap (λ (xs : List FileMeaning). map layout_item xs) (files_list_back
+    let items : placement_items (Volume h files) ≡ map placement_item fs = ap (λ (xs : List FileMeaning). map placement_item xs) (files_list_back
     fs) in
-    let follow : StartsFollow h.length first (map layout_item fs) own =
-    subst (λ (ps : List LayoutItem). StartsFollow h.length first ps own) items placed.placement.follow in
-    let count : length own ≡ n = follow_length h.length first (map layout_item fs) own follow ∙ length-map fs layout_item in
+    let follow : StartsFollow h.length first (map placement_item fs) own =
+    subst (λ (ps : List PlacementItem). StartsFollow h.length first ps own) items placed.placement.follow in
+    let count : length own ≡ n = follow_length h.length first (map placement_item fs) own follow ∙ length-map fs placement_item in
     let front : take n starts ≡ own = ap (take n) whole ∙ front_is n laid own inner more text count in
     let behind : drop n starts ≡ inner ++ more = ap (drop n) whole ∙ behind_is n laid own inner more text count in
     let reads = files_read (Stream k) h files b small d in
@@ -83,7 +83,7 @@ volume_laid h fs starts (k, few, b, small, d) (laid, more, whole, (own, inner, t
     h.file_system (length (drop d.extent.first b)) files d.files inner more reads d.meanings lays in
     let same = (known (Stream k) again h files b small d (stored_of files (inner ++ more)) own are placed).again.items in
     let used : used_size first (stored_of files (inner ++ more)) own ≡ used_by first fs own =
-    used_stored first (stored_of files (inner ++ more)) own ∙ ap (λ (ps : List LayoutItem). used_parts first ps own) (same ∙ items)
+    used_stored first (stored_of files (inner ++ more)) own ∙ ap (λ (ps : List PlacementItem). used_parts first ps own) (same ∙ items)
     ∙ sym (used_files first fs own) in
     let f = first_is h h.ext in
     record {
@@ -92,10 +92,10 @@ volume_laid h fs starts (k, few, b, small, d) (laid, more, whole, (own, inner, t
       placed = subst (λ (ss : List ℕ). ArePlaced h.length first fs ss) (sym front) (record {
         follow = follow;
         eighth = f.1;
-        behind = omega (arith, least_first h h.ext, f.0);
+        after_header = omega (arith, least_first h h.ext, f.0);
         within = placed.placement.room;
-        multiple = d.front.head.volume_multiple;
-        limit = d.front.head.volume_most;
+        multiple = d.begins.head.volume_multiple;
+        limit = d.begins.head.volume_most;
       });
       inner = (inner, more, behind, lays);
       used = subst (λ (ss : List ℕ). used_size first (stored_of files (drop n starts)) ss ≡ used_by first fs ss) (sym front)

@@ -17,7 +17,7 @@ use Rattle.fv_tree.specs.Words.{SectionMeanings, NoSections, MoreSections, Secti
 use Rattle.fv_tree.specs.Words.{sections_list, SectionRelation, StreamRelation, VolumeRelation, Pairwise, StreamOver, SectionOver}
 use Rattle.fv_tree.specs.Words.{VolumeOver, MeansContent, MeansFile, MeansSection, Stream, Denotes, FileForm, volumes_in, volumes_in_files}
 use Rattle.fv_tree.specs.Words.{volumes_in_file, volumes_in_content, volumes_in_sections, volumes_in_section}
-use Rattle.fv_canon.specs.Words.{IsImage, AreStored, IsStored, IsData, AreFrames, IsFrame, AreStarts, BeginsWithStarts, Laid, LaysVolume}
+use Rattle.fv_canon.specs.Words.{IsImage, AreStored, IsStored, IsData, AreFrames, IsFrame, AreStarts, BeginsWithStarts, StartsOfEach, LaysVolume}
 use Rattle.fv_canon.specs.inner.ImageOf.{starts_in, image_of, stored_of, stored_file, data_of, frames_of, frame_of}
 use Rattle.fv_canon.specs.inner.ImageOf.{volume_bytes}
 use Rattle.fv_canon.proofs.VolumeListLaws.{laid_split, laid_higher, laid_count, own_count}
@@ -31,11 +31,11 @@ use Rattle.fv_canon.proofs.ReadLaws.{FileIsAccepted}
 -- ---- the statements about the parts inside
 abbrev pub SectionsMade : SectionRelation → Type 0
 SectionsMade is_section = (s : SectionMeaning) (f : FrameForm) (at : ℕ) (starts more : List ℕ) → IsBytes f.body → is_section f s
-    → Laid AreStarts (volumes_in_section s) starts → IsFrame s (frame_of at s (starts ++ more))
+    → StartsOfEach AreStarts (volumes_in_section s) starts → IsFrame s (frame_of at s (starts ++ more))
 
 abbrev pub StreamsMade : StreamRelation → Type 0
 StreamsMade is_stream = (ss : SectionMeanings) (tail : ℕ) (b starts more : List ℕ) → IsBytes b → is_stream (sections_list ss) tail b
-    → Laid AreStarts (volumes_in_sections ss) starts → AreFrames 0 ss (frames_of 0 ss (starts ++ more))
+    → StartsOfEach AreStarts (volumes_in_sections ss) starts → AreFrames 0 ss (frames_of 0 ss (starts ++ more))
 
 abbrev pub VolumesMade : VolumeRelation → Type 0
 VolumesMade is_volume = (m : Meaning) (b starts more : List ℕ) → IsBytes b → is_volume b m → LaysVolume m starts
@@ -58,7 +58,7 @@ offset_is at (Section kind extended body) starts = refl
 -- ---- frame by frame
 frames_made : (is_section : SectionRelation) → SectionsMade is_section → (at place : ℕ) (ss : SectionMeanings) (fs : List FrameForm) (tail : ℕ)
     (b starts more : List ℕ) → IsBytes b → SplitsFrom at fs tail b → Pairwise is_section fs (sections_list ss)
-    → Laid AreStarts (volumes_in_sections ss) starts → AreFrames place ss (frames_of place ss (starts ++ more))
+    → StartsOfEach AreStarts (volumes_in_sections ss) starts → AreFrames place ss (frames_of place ss (starts ++ more))
 frames_made is_section made at place NoSections fs tail b starts more small is p laid = refl
 frames_made is_section made at place (MoreSections s ss) [] tail b starts more small is p laid = absurd p
 frames_made is_section made at place (MoreSections s NoSections) (f ∷ []) tail b starts more small (rest, begun, offset, count, most) p
@@ -101,19 +101,19 @@ section_made is_stream is_volume streams volumes (Section kind extended (Nested 
 
 -- ---- file by file
 pub data_made : (is_stream : StreamRelation) → StreamsMade is_stream → (kind : ℕ) (content : ContentMeaning) (payload starts more : List ℕ)
-    → IsBytes payload → MeansContent is_stream kind payload content → Laid AreStarts (volumes_in_content content) starts
+    → IsBytes payload → MeansContent is_stream kind payload content → StartsOfEach AreStarts (volumes_in_content content) starts
     → IsData content (data_of content (starts ++ more))
 data_made is_stream streams kind (Plain b) payload starts more small is laid = refl
 data_made is_stream streams kind (Sectioned sections tail) payload starts more small (sectioned, is) laid =
     (frames_of 0 sections (starts ++ more), streams sections tail payload starts more small is laid, refl)
 
 file_made : (is_stream : StreamRelation) → StreamsMade is_stream → (m : FileMeaning) (f : FileForm) (starts more : List ℕ) → IsBytes f.payload
-    → MeansFile is_stream f m → Laid AreStarts (volumes_in_file m) starts → IsStored m (stored_file m (starts ++ more))
+    → MeansFile is_stream f m → StartsOfEach AreStarts (volumes_in_file m) starts → IsStored m (stored_file m (starts ++ more))
 file_made is_stream streams (File name kind attributes content) f starts more small (named, kinds, bits, is) laid = grind (arith, common_steps, data_made)
 
 pub files_made : (is_stream : StreamRelation) → StreamsMade is_stream → (system : FileSystem) (limit : ℕ) (files : FileMeanings)
     (forms : List FileForm) (starts more : List ℕ) → AllByRecursion (FileIsAccepted system limit) forms
-    → Pairwise (MeansFile is_stream) forms (files_list files) → Laid AreStarts (volumes_in_files files) starts
+    → Pairwise (MeansFile is_stream) forms (files_list files) → StartsOfEach AreStarts (volumes_in_files files) starts
     → AreStored files (stored_of files (starts ++ more))
 files_made is_stream streams system limit NoFiles forms starts more reads pairs laid = refl
 files_made is_stream streams system limit (MoreFiles m ms) [] starts more reads pairs laid = absurd pairs

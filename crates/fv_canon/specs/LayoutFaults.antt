@@ -4,7 +4,7 @@ use Rattle.std.specs.Prelude.{◌≡◌, ℕ, ◌+◌, ◌⊎◌, List, [], ◌�
 use Rattle.fv_base.specs.declared.fault.Fault.{Fault}
 use Rattle.fv_base.specs.declared.fault.FaultKind.{FaultKind}
 use Rattle.fv_base.specs.declared.fault.FaultKind.TheVariants as kinds
-use Rattle.fv_canon.specs.Layouts.{layout_items, IsPlaced}
+use Rattle.fv_canon.specs.Layouts.{placement_items, IsPlaced}
 use Rattle.fv_placement.specs.Words.{HasNoRoom, TopOff}
 use Rattle.fv_tree.specs.Words.{Inside, volumes_in, Meaning, head_of, length_of}
 use Rattle.fv_head.specs.Words.{first_edge}
@@ -21,16 +21,16 @@ layout_fault kind depth = record { kind = kind; place = record { offset = 0; dep
 -- possible start (`TopOff`), and otherwise NoRoom
 abbrev pub UnfitHere : Meaning → ℕ → Fault → Type 0
 UnfitHere m depth f =
-    (TopOff (length_of m) (layout_items m) × (f ≡ layout_fault kinds.TopAlignment depth))
-    ⊎ (HasNoRoom (length_of m) (first_edge (head_of m) (head_of m).ext) (layout_items m) × (f ≡ layout_fault kinds.NoRoom depth))
+    (TopOff (length_of m) (placement_items m) × (f ≡ layout_fault kinds.TopAlignment depth))
+    ⊎ (HasNoRoom (length_of m) (first_edge (head_of m) (head_of m).ext) (placement_items m) × (f ≡ layout_fault kinds.NoRoom depth))
 
 -- f is the fault of the first of these volumes whose own files cannot be placed. `depth` is added to the depths of the
 -- volumes
-abbrev pub FirstUnfit : List Inside → ℕ → Fault → Type 0
-FirstUnfit [] depth f = ⊥
-FirstUnfit (v ∷ vs) depth f = UnfitHere v.volume (depth + v.depth) f ⊎ (IsPlaced v × FirstUnfit vs depth f)
+abbrev pub FirstUnplaced : List Inside → ℕ → Fault → Type 0
+FirstUnplaced [] depth f = ⊥
+FirstUnplaced (v ∷ vs) depth f = UnfitHere v.volume (depth + v.depth) f ⊎ (IsPlaced v × FirstUnplaced vs depth f)
 
 -- f is the fault of the first volume whose own files cannot be placed: the outer volume comes first, then the volumes
 -- inside it in preorder. `depth` is the depth of the outer volume
 abbrev pub Unfit : Meaning → ℕ → Fault → Type 0
-Unfit m depth f = FirstUnfit (volumes_in m) depth f
+Unfit m depth f = FirstUnplaced (volumes_in m) depth f

@@ -1,7 +1,7 @@
 -- The starts of the files at every level, in the first placement and as least starts, and layouts as they are kept in
 -- memory.
 use Rattle.std.specs.Prelude.{◌≡◌, ℕ, List, [], ◌∷◌, ◌++◌, length}
-use Rattle.fv_canon.specs.Layouts.{layout_items, AreStarts}
+use Rattle.fv_canon.specs.Layouts.{placement_items, AreStarts}
 use Rattle.fv_placement.specs.Words.{IsLeast, Placement}
 use Rattle.fv_tree.specs.Words.{Inside, volumes_in, Meaning, head_of, length_of, files_of}
 use Rattle.fv_head.specs.Words.{first_edge}
@@ -9,36 +9,36 @@ use Rattle.fv_head.specs.Words.{first_edge}
 -- these are the least starts of the volume's own files, and they are a placement
 abbrev pub AreLeast : Meaning → List ℕ → Type 0
 AreLeast m starts =
-    IsLeast (length_of m) (first_edge (head_of m) (head_of m).ext) (layout_items m) starts
-    × Placement (length_of m) (first_edge (head_of m) (head_of m).ext) (layout_items m) starts
+    IsLeast (length_of m) (first_edge (head_of m) (head_of m).ext) (placement_items m) starts
+    × Placement (length_of m) (first_edge (head_of m) (head_of m).ext) (placement_items m) starts
 
 -- the list consists of the starts of each volume's own files, volume after volume. `are_own` is the condition on the
 -- starts of one volume
-abbrev pub Laid : (Meaning → List ℕ → Type 0) → List Inside → List ℕ → Type 0
-Laid are_own [] starts = starts ≡ []
-Laid are_own (v ∷ vs) starts =
-    (own : List ℕ) × (inner : List ℕ) × (starts ≡ own ++ inner) × are_own v.volume own × Laid are_own vs inner
+abbrev pub StartsOfEach : (Meaning → List ℕ → Type 0) → List Inside → List ℕ → Type 0
+StartsOfEach are_own [] starts = starts ≡ []
+StartsOfEach are_own (v ∷ vs) starts =
+    (own : List ℕ) × (inner : List ℕ) × (starts ≡ own ++ inner) × are_own v.volume own × StartsOfEach are_own vs inner
 
 -- the list consists of the starts of the volume's own files, and then the starts of the files of the volumes inside it,
 -- in preorder
 abbrev pub LaysVolume : Meaning → List ℕ → Type 0
-LaysVolume m starts = Laid AreStarts (volumes_in m) starts
+LaysVolume m starts = StartsOfEach AreStarts (volumes_in m) starts
 
 -- the list begins with the starts of these volumes; other starts may follow
 abbrev pub BeginsWithStarts : List Inside → List ℕ → Type 0
-BeginsWithStarts vs starts = (laid : List ℕ) × (more : List ℕ) × (starts ≡ laid ++ more) × Laid AreStarts vs laid
+BeginsWithStarts vs starts = (laid : List ℕ) × (more : List ℕ) × (starts ≡ laid ++ more) × StartsOfEach AreStarts vs laid
 
 -- the same as `LaysVolume`, but with the least starts of each volume
 abbrev pub LeastVolume : Meaning → List ℕ → Type 0
-LeastVolume m starts = Laid AreLeast (volumes_in m) starts
+LeastVolume m starts = StartsOfEach AreLeast (volumes_in m) starts
 
 -- a layout in two parts: the starts of the volume's own files, and the starts of the files of the volumes inside it, in
 -- preorder
-pub record Places : Type 0 where
+pub record LayoutParts : Type 0 where
   pub own : List ℕ
   pub inner : List ℕ
 
 -- these are the starts of the files at every level in the canonical image, and `own` has one start for each of the
 -- volume's own files
-abbrev pub IsLayout : Meaning → Places → Type 0
+abbrev pub IsLayout : Meaning → LayoutParts → Type 0
 IsLayout m l = LaysVolume m (l.own ++ l.inner) × (length l.own ≡ length (files_of m))

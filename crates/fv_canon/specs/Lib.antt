@@ -3,7 +3,7 @@ pub mod PlacedBytes
 pub mod StoredFiles
 pub mod Layouts
 pub mod Image
-pub mod InputRefusals
+pub mod InputRejections
 pub mod Headline
 pub mod LayoutFaults
 pub mod ImageRules

@@ -5,13 +5,13 @@ use Rattle.fv_base.specs.Words.{ReadsWhole, ReadStops, WriteStops}
 use Rattle.fv_base.specs.declared.fault.Fault.{Fault}
 use Rattle.fv_tree.specs.Words.{MemoryRanOut}
 use Rattle.fv_canon.specs.Headline.{NormalisesTo}
-use Rattle.fv_canon.specs.InputRefusals.{Refuses}
+use Rattle.fv_canon.specs.InputRejections.{Rejects}
 
 -- either nothing was written, because the input is rejected, or because memory ran out and the input begins with a
 -- volume header; or the writer stopped before the end of the image
 abbrev pub InputStops : List ℕ → Option (List ℕ) → Option (List ℕ) → Fault → Type 0
 InputStops input held holds fault =
-    (Keeps held holds × (MemoryRanOut input fault ⊎ Refuses input fault))
+    (Keeps held holds × (MemoryRanOut input fault ⊎ Rejects input fault))
     ⊎ ((image : List ℕ) × NormalisesTo input image × WriteStops held holds image fault)
 
 -- a run read an input to its end, and wrote its canonical image

@@ -8,8 +8,8 @@ pub record PlacedBytes : Type 0 where
   pub bytes : List ℕ
 
 -- b contains the span at its offset
-abbrev pub StandsIn : List ℕ → PlacedBytes → Type 0
-StandsIn b p = (p.at + length p.bytes ≤ length b) × (take (length p.bytes) (drop p.at b) ≡ p.bytes)
+abbrev pub ContainsSpan : List ℕ → PlacedBytes → Type 0
+ContainsSpan b p = (p.at + length p.bytes ≤ length b) × (take (length p.bytes) (drop p.at b) ≡ p.bytes)
 
 -- the offset k lies in the span
 abbrev pub IsIn : ℕ → PlacedBytes → Type 0
@@ -18,5 +18,5 @@ IsIn k p = (p.at ≤ k) × (k < p.at + length p.bytes)
 -- b has `total` bytes and contains each span at its offset, and every byte outside the spans is erased
 pub record ShowsPlaced (total erased : ℕ) (placed : List PlacedBytes) (b : List ℕ) : Type 0 where
   pub length_is : length b ≡ total
-  pub stand : AllByRecursion (StandsIn b) placed
+  pub contained : AllByRecursion (ContainsSpan b) placed
   pub rest : (k : ℕ) → k < total → AllByRecursion (λ p. IsIn k p → ⊥) placed → get_or b k 0 ≡ erased

@@ -1,20 +1,20 @@
 -- The definitions that this crate exports. Other crates import them from here.
-pub use Rattle.fv_canon.specs.PlacedBytes.{PlacedBytes, StandsIn, IsIn, ShowsPlaced}
+pub use Rattle.fv_canon.specs.PlacedBytes.{PlacedBytes, ContainsSpan, IsIn, ShowsPlaced}
 pub use Rattle.fv_canon.specs.StoredFiles.{StoredFile, head_len_for, size_for, stored_len, long_pad, pads, used_size}
 pub use Rattle.fv_canon.specs.StoredFiles.{placed_files, placed_in_volume}
 unfoldable pub use Rattle.fv_canon.specs.StoredFiles.{stored_bytes, pad_bytes, gap_bytes, ext_pad}
-pub use Rattle.fv_canon.specs.Layouts.{layout_item, layout_items, AreStarts, IsPlaced, Fits}
+pub use Rattle.fv_canon.specs.Layouts.{placement_item, placement_items, AreStarts, IsPlaced, Fits}
 pub use Rattle.fv_canon.specs.Image.{IsImage, AreStored, IsStored, IsData, AreFrames, IsFrame, IsBodyImage}
-pub use Rattle.fv_canon.specs.InputRefusals.{NotPlaced, Refuses, IsUnfit, IsNoVolume, IsOfLayout}
-pub use Rattle.fv_canon.specs.InputRefusals.{OnlyWhatDoesNotFitIsRefused, WhatDoesNotFitIsRefused}
+pub use Rattle.fv_canon.specs.InputRejections.{NotPlaced, Rejects, IsUnfit, IsNotVolume, IsOfLayout}
+pub use Rattle.fv_canon.specs.InputRejections.{OnlyWhatDoesNotFitIsRejected, WhatDoesNotFitIsRejected}
 pub use Rattle.fv_canon.specs.Headline.{NormalisesTo, MeanSame, SameMeaningIffSameImage, ImageKeepsLengthAndMeaning}
 pub use Rattle.fv_canon.specs.Headline.{ImageIsItsOwnImage, DataAligned, DataAreAligned, CellSums, SumsAreRight}
 pub use Rattle.fv_canon.specs.Headline.{WhatFitsHasAnImage, IsWithin, HasOwnImage, EachVolumeHasItsImage}
-pub use Rattle.fv_canon.specs.LayoutFaults.{AllFit, layout_fault, UnfitHere, FirstUnfit, Unfit}
+pub use Rattle.fv_canon.specs.LayoutFaults.{AllFit, layout_fault, UnfitHere, FirstUnplaced, Unfit}
 pub use Rattle.fv_canon.specs.ImageRules.{painted, InOrder, PadsRule, OneImage, OneMeaning}
-pub use Rattle.fv_canon.specs.LayoutForms.{AreLeast, Laid, LaysVolume, BeginsWithStarts, LeastVolume, Places, IsLayout}
-pub use Rattle.fv_canon.specs.FlashImages.{IsRenewed, Renewed, NormalisesAll, HasImageAt, RefusedAt, FirstRefused}
-pub use Rattle.fv_canon.specs.FlashImages.{RefusesAll, IsLaid, starts_of, AreLaid, IsLaidOut}
+pub use Rattle.fv_canon.specs.LayoutForms.{AreLeast, StartsOfEach, LaysVolume, BeginsWithStarts, LeastVolume, LayoutParts, IsLayout}
+pub use Rattle.fv_canon.specs.FlashImages.{IsNormalisedAt, NormalisesEach, NormalisesAll, HasImageAt, RejectedAt, FirstRejected}
+pub use Rattle.fv_canon.specs.FlashImages.{RejectsAll, IsLaid, starts_of, AreLaid, IsLaidOut}
 pub use Rattle.fv_canon.specs.ImageChecks.{IsOtherThanImage, HasOutcome, IsChecked, AreChecked, ChecksImage, IsAboveLimit}
 pub use Rattle.fv_canon.specs.ImageChecks.{AreCanonical, CanonicalImagesStay}
 pub use Rattle.fv_canon.specs.NormaliseRuns.{InputStops, RunWrites, RunStops}

@@ -2,7 +2,7 @@
 
 ghost use Rattle.std.specs.Prelude.{◌≡◌, ◌≢◌, ◌⊎◌, ◌-◌, ◌≤◌, ℕ, List, length, IfOk, IfErr};
 ghost use Rattle.fv_base.specs.Words.{OrMemory, out_of_memory, volume_limit, field};
-ghost use Rattle.fv_canon.specs.FlashImages.{FirstRefused, NormalisesAll, RefusedAt, RefusesAll, AreLaid, IsLaid, IsLaidOut};
+ghost use Rattle.fv_canon.specs.FlashImages.{FirstRejected, NormalisesAll, RejectedAt, RejectsAll, AreLaid, IsLaid, IsLaidOut};
 ghost use Rattle.fv_flash.specs.Words.{AreFound, IsPlace, VolumeAt, offsets_of};
 
 use crate::canonical_image::put_canonical;
@@ -34,7 +34,7 @@ fn laid_at(alloc: Global, image: &[u8], volume: FoundVolume) -> Result<LocatedVo
     requires { VolumeAt image.now volume.offset volume.length }
     ensures start { IfOk result (λ v. v.start ≡ volume.offset) }
     ensures ok { IfOk result (IsLaid image.now) }
-    ensures err { IfErr result (OrMemory (RefusedAt image.now volume.offset)) }
+    ensures err { IfErr result (OrMemory (RejectedAt image.now volume.offset)) }
     ensures kind { IfErr result (λ f. (f.kind ≢ FaultKind.ReadFault) × (f.kind ≢ FaultKind.WriteFault)) }
 {
     match lay_out_volume(alloc, volume.bytes(image)) {
@@ -60,7 +60,7 @@ fn laid_at_each<'a>(
 ) -> Result<Vec<LocatedVolume<'a>>, Fault>
     requires { AreFound image.now found.now }
     ensures ok { IfOk result (λ volumes. AreLaid image.now (offsets_of found.now) volumes.items) }
-    ensures err { IfErr result (OrMemory (FirstRefused image.now (offsets_of found.now))) }
+    ensures err { IfErr result (OrMemory (FirstRejected image.now (offsets_of found.now))) }
 
     // It fails only if there is a volume.
     ensures some { IfErr result (λ _. (place : ℕ) × IsPlace image.now place) }
@@ -75,7 +75,7 @@ fn laid_at_each<'a>(
 
 // Puts the image with each of its volumes replaced by its canonical image. `volumes` are all
 // volumes of the image.
-fn put_renewed<S: Sink>(image: &[u8], volumes: &[LocatedVolume<'_>], out: &mut S)
+fn put_normalised<S: Sink>(image: &[u8], volumes: &[LocatedVolume<'_>], out: &mut S)
     requires { IsLaidOut image.now volumes.now }
     ensures { (bytes : List ℕ) × NormalisesAll image.now bytes × S.takes out.old bytes out.new }
 {
@@ -125,7 +125,7 @@ pub fn lay_out_image(alloc: Global, image: &[u8]) -> Result<LaidImage<'_>, Fault
 
     // Any error other than OutOfMemory is Length at the limit, or the fault of the first volume
     // that is rejected.
-    ensures err { IfErr result (OrMemory (RefusesAll image.now)) }
+    ensures err { IfErr result (OrMemory (RejectsAll image.now)) }
 
     // If each volume has a canonical image, the only error is OutOfMemory.
     ensures fits { (other : List ℕ) → NormalisesAll image.now other → IfErr result (λ f. f ≡ out_of_memory) }
@@ -150,7 +150,7 @@ pub fn lay_out_image(alloc: Global, image: &[u8]) -> Result<LaidImage<'_>, Fault
 pub fn put_laid_image<S: Sink>(laid: &LaidImage<'_>, out: &mut S)
     ensures { (bytes : List ℕ) × NormalisesAll laid.now bytes × S.takes out.old bytes out.new }
 {
-    put_renewed(laid.image, laid.volumes.as_slice(), out);
+    put_normalised(laid.image, laid.volumes.as_slice(), out);
 }
 
 /// Returns the image with each volume that `volumes` finds in it replaced by its canonical image.
@@ -170,7 +170,7 @@ pub fn normalise_image(alloc: Global, image: &[u8]) -> Result<ByteList, Fault>
 
     // Any error other than OutOfMemory is Length at the limit, or the fault of the first volume
     // that is rejected.
-    ensures err { IfErr result (OrMemory (RefusesAll image.now)) }
+    ensures err { IfErr result (OrMemory (RejectsAll image.now)) }
 
     // If each volume has a canonical image, the only error is OutOfMemory.
     ensures fits { (other : List ℕ) → NormalisesAll image.now other → IfErr result (λ f. f ≡ out_of_memory) }

@@ -8,7 +8,7 @@ ghost use Rattle.fv_base.specs.Words.{IsBytes};
 ghost use Rattle.fv_canon.specs.Headline.{MeanSame, NormalisesTo};
 ghost use Rattle.fv_canon.specs.ImageRules.{OneImage, OneMeaning, InOrder, painted, PadsRule};
 ghost use Rattle.fv_canon.specs.ImageChecks.{CanonicalImagesStay};
-ghost use Rattle.fv_canon.specs.InputRefusals.{OnlyWhatDoesNotFitIsRefused, Refuses, WhatDoesNotFitIsRefused};
+ghost use Rattle.fv_canon.specs.InputRejections.{OnlyWhatDoesNotFitIsRejected, Rejects, WhatDoesNotFitIsRejected};
 ghost use Rattle.fv_canon.specs.Layouts.{Fits};
 ghost use Rattle.fv_canon.specs.LayoutForms.{LaysVolume, LeastVolume};
 ghost use Rattle.fv_canon.specs.LayoutFaults.{Unfit};
@@ -62,15 +62,15 @@ pub fn one_reading()
 
 /// Either a volume fits, or its layout has a fault. So a volume that does not fit is rejected as
 /// NoRoom or TopAlignment.
-pub fn what_does_not_fit_is_refused()
+pub fn what_does_not_fit_is_rejected()
     ensures either { (m : Meaning) → Fits m ⊎ ((f : Fault) × Unfit m 0 f) }
-    ensures refused { WhatDoesNotFitIsRefused }
+    ensures rejected { WhatDoesNotFitIsRejected }
 {}
 
 /// An input that is rejected as NoRoom or TopAlignment is a volume that does not fit. An input that
 /// is rejected with any other fault is not a volume.
-pub fn only_what_does_not_fit_is_refused()
-    ensures { OnlyWhatDoesNotFitIsRefused }
+pub fn only_what_does_not_fit_is_rejected()
+    ensures { OnlyWhatDoesNotFitIsRejected }
 {}
 
 /// The volumes of a flash image are all canonical, as `check_image` reports them, exactly if
@@ -84,6 +84,6 @@ pub fn canonical_images_stay()
 pub fn every_input()
     ensures read { (input : List ℕ) → IsBytes input → ((m : Meaning) × Accepted input m) ⊎ ((f : Fault) × NotRead input f) }
     ensures either { (input : List ℕ) → IsBytes input
-        → ((image : List ℕ) × NormalisesTo input image) ⊎ ((f : Fault) × Refuses input f) }
-    ensures never { (input image : List ℕ) (f : Fault) → NormalisesTo input image → Refuses input f → ⊥ }
+        → ((image : List ℕ) × NormalisesTo input image) ⊎ ((f : Fault) × Rejects input f) }
+    ensures never { (input image : List ℕ) (f : Fault) → NormalisesTo input image → Rejects input f → ⊥ }
 {}

@@ -5,7 +5,7 @@ ghost use Rattle.fv_base.specs.Words.{OrMemory, out_of_memory};
 ghost use Rattle.fv_head.specs.Words.{BeginsWithHeader};
 ghost use Rattle.fv_canon.specs.Headline.{NormalisesTo};
 ghost use Rattle.fv_canon.specs.Image.{IsImage};
-ghost use Rattle.fv_canon.specs.InputRefusals.{Refuses};
+ghost use Rattle.fv_canon.specs.InputRejections.{Rejects};
 ghost use Rattle.fv_canon.specs.LayoutForms.{IsLayout};
 ghost use Rattle.fv_tree.specs.Words.{Accepted, Meaning};
 
@@ -30,9 +30,9 @@ pub struct Layout {
 
 impl Model for Layout {
     ghost use Rattle.std.specs.Prelude.{take, drop};
-    ghost use Rattle.fv_canon.specs.LayoutForms.{Places};
+    ghost use Rattle.fv_canon.specs.LayoutForms.{LayoutParts};
 
-    ghost Value = { Places };
+    ghost Value = { LayoutParts };
 
     ghost view = { λ l. record { own = take l.own l.starts.items; inner = drop l.own l.starts.items } };
 }
@@ -123,7 +123,7 @@ pub fn lay_out_volume(alloc: Global, input: &[u8]) -> Result<LaidVolume<'_>, Fau
 
     // Any error other than OutOfMemory is the first fault of an input that is not a volume, or the
     // fault of the first volume in the input whose own files cannot be placed.
-    ensures err { IfErr result (OrMemory (Refuses input.now)) }
+    ensures err { IfErr result (OrMemory (Rejects input.now)) }
 
     // If the input has an image, the only error is OutOfMemory.
     ensures fits { (image : List ℕ) → NormalisesTo input.now image → IfErr result (λ f. f ≡ out_of_memory) }

@@ -4,9 +4,9 @@
 ghost use Rattle.std.specs.Prelude.{◌≡◌, ◌≢◌, ◌<◌, ◌≤◌, ◌⊎◌, ◌+◌, ◌++◌, ℕ, List, [], All, drop, length, take, get_or, IfOk, IfErr};
 ghost use Rattle.fv_base.specs.Words.{OrMemory, out_of_memory};
 ghost use Rattle.fv_head.specs.Words.{first_edge};
-ghost use Rattle.fv_canon.specs.LayoutFaults.{layout_fault, FirstUnfit, Unfit, UnfitHere};
-ghost use Rattle.fv_canon.specs.Layouts.{layout_item, layout_items, AreStarts, Fits};
-ghost use Rattle.fv_canon.specs.LayoutForms.{BeginsWithStarts, Laid, LaysVolume, IsLayout};
+ghost use Rattle.fv_canon.specs.LayoutFaults.{layout_fault, FirstUnplaced, Unfit, UnfitHere};
+ghost use Rattle.fv_canon.specs.Layouts.{placement_item, placement_items, AreStarts, Fits};
+ghost use Rattle.fv_canon.specs.LayoutForms.{BeginsWithStarts, StartsOfEach, LaysVolume, IsLayout};
 ghost use Rattle.fv_tree.specs.Words.{head_of, files_of, length_of};
 ghost use Rattle.fv_rows.specs.inner.RowVolumes.{volumes_of};
 ghost use Rattle.fv_canon.specs.inner.ImageOf.{starts_in};
@@ -16,7 +16,7 @@ use crate::laid_volume::Layout;
 use crate::pads_and_headers::header_len_for;
 use fv_base::{Align, Fault, FaultKind, Place};
 use fv_head::first_edge;
-use fv_placement::{LayoutItem, first_starts, is_top_off};
+use fv_placement::{PlacementItem, first_starts, is_top_off};
 use fv_rows::{Part, TreeWalk};
 use fv_tree::{FileView, VOLUME_TOP_FILE, VolumeView};
 use std::alloc::Global;
@@ -41,7 +41,7 @@ pub fn layout(alloc: Global, view: &VolumeView<'_>) -> Result<Layout, Fault>
     // Every other placement of the volume's own files has a larger start at the first file where
     // the two differ.
     ensures least { IfOk result (λ l. (others : List ℕ) (i : ℕ)
-        → Placement (length_of view.now) (first_edge (head_of view.now) (head_of view.now).ext) (layout_items view.now) others
+        → Placement (length_of view.now) (first_edge (head_of view.now) (head_of view.now).ext) (placement_items view.now) others
         → take i others ≡ take i l.own → get_or l.own i 0 ≤ get_or others i 0) }
 
     // Any error other than OutOfMemory is the fault of the first volume whose own files cannot be
@@ -61,8 +61,8 @@ pub fn layout(alloc: Global, view: &VolumeView<'_>) -> Result<Layout, Fault>
 
 // Returns the starts of the volumes among some rows, volume after volume.
 pub(crate) fn starts_of(alloc: Global, rows: TreeWalk<'_, '_>) -> Result<Vec<u64>, Fault>
-    ensures ok { IfOk result (λ starts. Laid AreStarts (volumes_of rows.entry) starts.items) }
-    ensures err { IfErr result (OrMemory (FirstUnfit (volumes_of rows.entry) 0)) }
+    ensures ok { IfOk result (λ starts. StartsOfEach AreStarts (volumes_of rows.entry) starts.items) }
+    ensures err { IfErr result (OrMemory (FirstUnplaced (volumes_of rows.entry) 0)) }
     ensures memory { IfErr result (λ f. f ≡ out_of_memory → 0 < starts_in (volumes_of rows.entry)) }
 {
     let mut starts = Vec::new(alloc);
@@ -83,8 +83,8 @@ pub(crate) fn skip_starts<'s>(rows: TreeWalk<'_, '_>, starts: &'s [u64]) -> &'s 
     let mut rest = starts;
     for row in rows {
         if let Part::Volume(volume) = row.part {
-            let (_own, behind) = rest.split_at(volume.files().len());
-            rest = behind;
+            let (_own, after) = rest.split_at(volume.files().len());
+            rest = after;
         }
     }
     rest
@@ -99,7 +99,7 @@ fn own_starts(alloc: Global, view: &VolumeView<'_>, depth: u8) -> Result<Vec<u64
     let head = view.head();
     let total = head.length();
     let first = first_edge(head);
-    let items = layout_items(alloc, view)?;
+    let items = placement_items(alloc, view)?;
     if is_top_off(total, items.as_slice()) {
         return Err(layout_fault(FaultKind::TopAlignment, depth));
     }
@@ -111,8 +111,8 @@ fn own_starts(alloc: Global, view: &VolumeView<'_>, depth: u8) -> Result<Vec<u64
 
 // Returns, for each file of a volume in order, the properties on which the file's placement
 // depends.
-fn layout_items(alloc: Global, view: &VolumeView<'_>) -> Result<Vec<LayoutItem>, Fault>
-    ensures ok { IfOk result (λ items. (items.items ≡ layout_items view.now)
+fn placement_items(alloc: Global, view: &VolumeView<'_>) -> Result<Vec<PlacementItem>, Fault>
+    ensures ok { IfOk result (λ items. (items.items ≡ placement_items view.now)
         × All (IsLawfulItem (head_of view.now).length) items.items) }
     ensures err { IfErr result (λ f. f ≡ out_of_memory) }
     ensures some { IfErr result (λ _. 0 < length (files_of view.now)) }
@@ -122,19 +122,19 @@ fn layout_items(alloc: Global, view: &VolumeView<'_>) -> Result<Vec<LayoutItem>,
     let files = view.files();
     let mut items = Vec::with_capacity(alloc, files.len())?;
     for file in files {
-        items.push(layout_item(file))?;
+        items.push(placement_item(file))?;
     }
     Ok(items)
 }
 
 // Returns the properties of a file on which its placement depends.
-fn layout_item(file: &FileView<'_>) -> LayoutItem
-    ensures { result ≡ layout_item file.now }
+fn placement_item(file: &FileView<'_>) -> PlacementItem
+    ensures { result ≡ placement_item file.now }
 {
     let name = file.name();
     let data_len = file.data_len();
     let header = header_len_for(data_len);
-    LayoutItem {
+    PlacementItem {
         header,
         size: header + data_len,
         alignment: Align::from_attributes(file.attributes().byte()).bytes(),

@@ -4,7 +4,7 @@ ghost use Rattle.std.specs.Prelude.{◌≡◌, ◌≢◌, ◌⊎◌, ℕ, List, 
 ghost use Rattle.fv_base.specs.Words.{OrMemory, out_of_memory, inner_of, has_erred};
 ghost use Rattle.fv_head.specs.Words.{BeginsWithHeader};
 ghost use Rattle.fv_canon.specs.Headline.{MeanSame, NormalisesTo};
-ghost use Rattle.fv_canon.specs.InputRefusals.{IsNoVolume, IsOfLayout, IsUnfit, NotPlaced, Refuses};
+ghost use Rattle.fv_canon.specs.InputRejections.{IsNotVolume, IsOfLayout, IsUnfit, NotPlaced, Rejects};
 ghost use Rattle.fv_canon.specs.NormaliseRuns.{RunWrites, RunStops};
 
 use crate::canonical_image::{canonical, write_canonical};
@@ -32,17 +32,17 @@ pub fn normalise(alloc: Global, input: &[u8]) -> Result<ByteList, Fault>
 
     // Any error other than OutOfMemory is the first fault of an input that is not a volume, or the
     // fault of the first volume in the input whose own files cannot be placed.
-    ensures err { IfErr result (OrMemory (Refuses input.now)) }
+    ensures err { IfErr result (OrMemory (Rejects input.now)) }
 
     // NoRoom or TopAlignment is returned only if the input is a volume that does not fit, and is
     // the fault of the first volume in it whose own files cannot be placed. Any other error except
     // OutOfMemory is returned only if the input is not a volume.
     ensures unfit { IfErr result (λ f. IsOfLayout f.kind → NotPlaced input.now f) }
-    ensures unread { IfErr result (λ f. f ≢ out_of_memory → (IsOfLayout f.kind → ⊥) → IsNoVolume input.now) }
+    ensures unread { IfErr result (λ f. f ≢ out_of_memory → (IsOfLayout f.kind → ⊥) → IsNotVolume input.now) }
 
     // A volume that does not fit is always rejected: as NoRoom or TopAlignment, unless memory runs
     // out.
-    ensures refused { IsUnfit input.now → IfOk result (λ _. ⊥)
+    ensures rejected { IsUnfit input.now → IfOk result (λ _. ⊥)
         × IfErr result (λ f. (f ≡ out_of_memory) ⊎ IsOfLayout f.kind) }
 
     // If the input has an image, the only error is OutOfMemory.

@@ -8,8 +8,8 @@
 ghost use Rattle.std.specs.Prelude.{◌≡◌, ◌≢◌, ◌⊎◌, ◌++◌, ℕ, List, [], Any, length, drop, IfOk, IfErr};
 ghost use Rattle.fv_base.specs.Words.{OrMemory, out_of_memory};
 ghost use Rattle.fv_canon.specs.Image.{IsBodyImage, IsData, IsImage};
-ghost use Rattle.fv_canon.specs.LayoutFaults.{AllFit, FirstUnfit};
-ghost use Rattle.fv_canon.specs.LayoutForms.{BeginsWithStarts, Laid};
+ghost use Rattle.fv_canon.specs.LayoutFaults.{AllFit, FirstUnplaced};
+ghost use Rattle.fv_canon.specs.LayoutForms.{BeginsWithStarts, StartsOfEach};
 ghost use Rattle.fv_canon.specs.Layouts.{AreStarts};
 ghost use Rattle.fv_tree.specs.Words.{body_len, body_of, content_of, data_len_of, files_of, Inside, volumes_in};
 ghost use Rattle.fv_tree.specs.Words.{volumes_in_body, volumes_in_content};
@@ -33,7 +33,7 @@ use std::alloc::Global;
 pub fn lay_out_data(alloc: Global, file: &FileView<'_>) -> Result<Vec<u64>, Fault>
     // The result is exactly these starts, with none after them.
     ensures ok { IfOk result
-        (λ starts. Laid AreStarts (volumes_in_content (content_of file.now)) starts.items) }
+        (λ starts. StartsOfEach AreStarts (volumes_in_content (content_of file.now)) starts.items) }
 
     // The data in the canonical image are as long as the data that were read.
     ensures long { IfOk result
@@ -41,7 +41,7 @@ pub fn lay_out_data(alloc: Global, file: &FileView<'_>) -> Result<Vec<u64>, Faul
 
     // Any error other than OutOfMemory is the fault of the first volume whose own files cannot be
     // placed.
-    ensures err { IfErr result (OrMemory (FirstUnfit (volumes_in_content (content_of file.now)) 0)) }
+    ensures err { IfErr result (OrMemory (FirstUnplaced (volumes_in_content (content_of file.now)) 0)) }
 
     // Memory runs out only if a volume in the data has a file.
     ensures memory { IfErr result (λ f. f ≡ out_of_memory
@@ -62,7 +62,7 @@ pub fn lay_out_data(alloc: Global, file: &FileView<'_>) -> Result<Vec<u64>, Faul
 /// volume in the body has a file.
 pub fn lay_out_body(alloc: Global, section: &SectionView<'_>) -> Result<Vec<u64>, Fault>
     ensures ok { IfOk result
-        (λ starts. Laid AreStarts (volumes_in_body (body_of section.now)) starts.items) }
+        (λ starts. StartsOfEach AreStarts (volumes_in_body (body_of section.now)) starts.items) }
 
     // The body in the canonical image is as long as the body that was read.
     ensures long { IfOk result (λ _. (bytes : List ℕ) × IsBodyImage (body_of section.now) bytes
@@ -70,7 +70,7 @@ pub fn lay_out_body(alloc: Global, section: &SectionView<'_>) -> Result<Vec<u64>
 
     // Any error other than OutOfMemory is the fault of the first volume whose own files cannot be
     // placed.
-    ensures err { IfErr result (OrMemory (FirstUnfit (volumes_in_body (body_of section.now)) 0)) }
+    ensures err { IfErr result (OrMemory (FirstUnplaced (volumes_in_body (body_of section.now)) 0)) }
 
     // Memory runs out only if a volume in the body has a file.
     ensures memory { IfErr result (λ f. f ≡ out_of_memory
@@ -108,7 +108,7 @@ pub fn put_laid_data<S: Sink>(file: &FileView<'_>, starts: &[u64], out: &mut S)
 /// in one walk that takes no memory. `starts` must be the starts of the volumes in the body. (PI
 /// specification, volume 3, section 3.2.4.)
 pub fn put_laid_body<S: Sink>(section: &SectionView<'_>, starts: &[u64], out: &mut S)
-    requires { Laid AreStarts (volumes_in_body (body_of section.now)) starts.now }
+    requires { StartsOfEach AreStarts (volumes_in_body (body_of section.now)) starts.now }
     ensures { (bytes : List ℕ) × IsBodyImage (body_of section.now) bytes × S.takes out.old bytes out.new }
 {
     // For a section that was read, the walk puts its body.
@@ -146,7 +146,7 @@ pub fn file_bytes(alloc: Global, file: &FileView<'_>) -> Result<ByteList, Fault>
 
     // Any error other than OutOfMemory is the fault of the first volume whose own files cannot be
     // placed.
-    ensures err { IfErr result (OrMemory (FirstUnfit (volumes_in_content (content_of file.now)) 0)) }
+    ensures err { IfErr result (OrMemory (FirstUnplaced (volumes_in_content (content_of file.now)) 0)) }
 
     // If all volumes in the data fit, the only error is OutOfMemory.
     ensures fits { AllFit (volumes_in_content (content_of file.now)) → IfErr result (λ f. f ≡ out_of_memory) }
@@ -172,7 +172,7 @@ pub fn body_bytes(alloc: Global, section: &SectionView<'_>) -> Result<ByteList, 
 
     // Any error other than OutOfMemory is the fault of the first volume whose own files cannot be
     // placed.
-    ensures err { IfErr result (OrMemory (FirstUnfit (volumes_in_body (body_of section.now)) 0)) }
+    ensures err { IfErr result (OrMemory (FirstUnplaced (volumes_in_body (body_of section.now)) 0)) }
 
     // If all volumes in the body fit, the only error is OutOfMemory.
     ensures fits { AllFit (volumes_in_body (body_of section.now)) → IfErr result (λ f. f ≡ out_of_memory) }

@@ -46,13 +46,13 @@ text_of : (b : List ℕ) (same : Bool) (view : Meaning) (found : Option (List Ce
 text_of b same view None notes (small, d) image is noted =
     let e : Extent = d.extent in
     let none = none_noted e.polarity d.cells
-    (pads_erased view b e d.cells (depth_limit, omega arith, b, small, d) (image.0 is) d.front d.tiles) in
+    (pads_erased view b e d.cells (depth_limit, omega arith, b, small, d) (image.0 is) d.begins d.tiles) in
     record {
       meaning = view;
       accepted = (small, d);
       polarity = e.polarity;
       cells = d.cells;
-      are_cells = record { extent = e; front = d.front; polarity_is = refl; tiles = d.tiles };
+      are_cells = record { extent = e; begins = d.begins; polarity_is = refl; tiles = d.tiles };
       notes = notes;
       are_notes = noted;
       text_is = ap (λ (t : List ℕ). t ++ (depex_lines notes ++ verdict_line same)) (sym none);

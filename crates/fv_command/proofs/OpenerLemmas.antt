@@ -4,24 +4,24 @@ use Rattle.std.proofs.Common.{◌≡◌, ◌∙◌, ℕ, List, ap, false, arith}
 use Rattle.std.specs.Prelude.{Option}
 use Rattle.fv_base.specs.Words.{has_erred, inner_of}
 use Rattle.fv_base.specs.declared.port.Port.{Port}
-use Rattle.fv_text.specs.Words.{Change, Ports, Shown, change, seen, shown}
+use Rattle.fv_text.specs.Words.{Change, Ports, PortView, change, port_view, view_of}
 use Rattle.fv_command.specs.Words.{Runs, RunsOver, IsFirstSource, IsSecondSource, unread}
 use Rattle.fv_command.specs.declared.ending.Ending.{Ending}
 use Rattle.fv_command.specs.declared.source.Source.{Source}
 use Rattle.fv_plan.specs.Words.{first_file, second_file}
 use Rattle.fv_plan.specs.declared.plan.Plan.{Plan}
 
-abbrev ports_of : (r s r' s' : Shown) → Change → Ports
+abbrev ports_of : (r s r' s' : PortView) → Change → Ports
 ports_of r s r' s' output =
     record { first = record { old = r; new = s }; second = record { old = r'; new = s' }; output = output }
 
 -- a new port shows the bytes of its inner reader or writer, and no error
-shown_new : {T : Type 0} (told : T → Option (List ℕ)) (port : Port T) (inner : T) → inner_of port ≡ inner → has_erred port ≡ false
-    → shown told port ≡ seen (told inner) false
-shown_new told port inner is fine = ap (λ e. seen (told (inner_of port)) e) fine ∙ ap (λ x. seen (told x) false) is
+shown_new : {T : Type 0} (known_bytes : T → Option (List ℕ)) (port : Port T) (inner : T) → inner_of port ≡ inner → has_erred port ≡ false
+    → view_of known_bytes port ≡ port_view (known_bytes inner) false
+shown_new known_bytes port inner is fine = ap (λ e. port_view (known_bytes (inner_of port)) e) fine ∙ ap (λ x. port_view (known_bytes x) false) is
 
 -- a run over ports is a run over all ports that show the same
-runs_over : (p : Plan) (ended : Ending) (r a s r' b s' : Shown) (output : Change) → r ≡ a → r' ≡ b
+runs_over : (p : Plan) (ended : Ending) (r a s r' b s' : PortView) (output : Change) → r ≡ a → r' ≡ b
     → Runs p ended (ports_of r s r' s' output) → Runs p ended (ports_of a s b s' output)
 runs_over p ended r a s r' b s' output e f ran = grind (arith, common_steps)
 
@@ -42,8 +42,8 @@ runs_new of_input of_file opens is_standard p ended first second r s r' s' outpu
   second,
   is_first,
   is_second,
-  shown (unread of_input of_file) s,
-  shown (unread of_input of_file) s',
+  view_of (unread of_input of_file) s,
+  view_of (unread of_input of_file) s',
   runs_over p ended _ _ _ _ _ _ output (shown_new (unread of_input of_file) r first is fine)
       (shown_new (unread of_input of_file) r' second is' fine') ran,
 )

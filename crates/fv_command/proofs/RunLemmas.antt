@@ -12,11 +12,11 @@ use Rattle.fv_tree.specs.Words.{Accepted, Denotes, IsFirstOfVolume, Meaning, fil
 use Rattle.fv_hob.specs.Words.{IsFirstHobFault, hob_out_of_memory}
 use Rattle.fv_hob.specs.declared.fault.HobFault.{HobFault}
 use Rattle.fv_command.specs.Words.{StopsPart, GivesVolume, IsVerdict, SideStops, VolumeInputStops, Gives, GivesAt, TakenAt, BeginsNone}
-use Rattle.fv_command.specs.Words.{BeginsWith, Denies}
+use Rattle.fv_command.specs.Words.{BeginsWith, TaskRefusal}
 use Rattle.fv_command.specs.inner.RunSteps.{verdict_of}
 use Rattle.fv_plan.specs.declared.plan.Part.{Part}
 use Rattle.fv_plan.specs.declared.plan.Task.TheVariants.{Extract, ListSums}
-use Rattle.fv_text.specs.Words.{Change, Shown}
+use Rattle.fv_text.specs.Words.{Change, PortView}
 
 -- ---- an input that does not begin with a volume
 
@@ -30,12 +30,12 @@ not_begun input f none first =
 
 -- why a part of a volume is not extracted
 pub part_stopped : (input : List ℕ) (m : Meaning) (part : Part) (f : Fault) → BeginsWith input m
-    → (f ≡ out_of_memory) ⊎ StopsPart (file_named part.name (files_of m)) part f → Denies (Extract part) input f
+    → (f ≡ out_of_memory) ⊎ StopsPart (file_named part.name (files_of m)) part f → TaskRefusal (Extract part) input f
 part_stopped input m part f b why = or_more why (λ stops. inr (m, b, stops))
 
 -- why a list with digests is not written
 pub sums_denied : (input : List ℕ) (m : Meaning) (f : Fault) → BeginsWith input m → (f ≡ out_of_memory) ⊎ Unfit m 0 f
-    → Denies ListSums input f
+    → TaskRefusal ListSums input f
 sums_denied input m f b why = or_more why (λ unfit. inr (m, b, unfit))
 
 -- ---- a hand-off list
@@ -49,19 +49,19 @@ hobs_refused list bytes f same first = known f (IsFirstHobFault list f) (rw same
 
 -- ---- a comparison
 
-abbrev turn : Shown → Shown → Change
+abbrev turn : PortView → PortView → Change
 turn old new = record { old = old; new = new }
 
 -- an input gives the bytes that are used: all its bytes, or the volume at an offset
-pub given_at : (hex : Bool) (at : Option ℕ) (r s : Shown) (items bytes taken : List ℕ) → bytes ≡ items → Gives hex r s items
+pub given_at : (hex : Bool) (at : Option ℕ) (r s : PortView) (items bytes taken : List ℕ) → bytes ≡ items → Gives hex r s items
     → TakenAt at bytes taken → GivesAt hex at r s taken
 given_at hex at r s items bytes taken is gives takes = (items, gives, subst (λ (b : List ℕ). TakenAt at b taken) is takes)
 
-pub given : (hex : Bool) (at : Option ℕ) (r s : Shown) (taken : List ℕ) (m : Meaning) → GivesAt hex at r s taken → Accepted taken m
+pub given : (hex : Bool) (at : Option ℕ) (r s : PortView) (taken : List ℕ) (m : Meaning) → GivesAt hex at r s taken → Accepted taken m
     → GivesVolume hex at (turn r s) m
 given hex at r s taken m gives accepted = (taken, gives, accepted)
 
-pub first_stopped : (side : Side) (hex : Bool) (at other : Option ℕ) (first : Change) (s : Shown) (f : Fault) → side ≡ sides.First
+pub first_stopped : (side : Side) (hex : Bool) (at other : Option ℕ) (first : Change) (s : PortView) (f : Fault) → side ≡ sides.First
     → VolumeInputStops hex at first f → SideStops side hex at other first (turn s s) f
 first_stopped side hex at other first s f is stops =
     subst (λ (x : Side). SideStops x hex at other first (turn s s) f) (sym is) (inl (refl, stops))

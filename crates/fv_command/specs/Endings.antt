@@ -11,18 +11,18 @@ use Rattle.fv_command.specs.declared.status.Status.{Status}
 use Rattle.fv_command.specs.declared.status.Status.TheVariants as statuses
 use Rattle.fv_hob.specs.Words.{hob_fault_number}
 use Rattle.fv_hob.specs.declared.fault.HobFault.{HobFault}
-use Rattle.fv_text.specs.Words.{line_feed, Change, Shown, StopsIn, Writes}
+use Rattle.fv_text.specs.Words.{line_feed, Change, PortView, StopsIn, Writes}
 
--- the exit status for each status of a run: 0 Done, 1 Different, 2 Faulty and Refused, 3 WrongWords
+-- the exit status for each status of a run: 0 Done, 1 Different, 2 Faulty and Refused, 3 WrongArguments
 abbrev pub exit_code : Status → ℕ
 exit_code statuses.Done = 0
 exit_code statuses.Different = 1
 exit_code statuses.Faulty = 2
 exit_code statuses.Refused = 2
-exit_code statuses.WrongWords = 3
+exit_code statuses.WrongArguments = 3
 
 -- all of the text was written, and the flush after it failed
-abbrev pub FlushFails : Shown → Shown → List ℕ → Type 0
+abbrev pub FlushFails : PortView → PortView → List ℕ → Type 0
 FlushFails old new text = Appends old.bytes new.bytes text × (new.erred ≡ true)
 
 -- a run has this text and the status `ran`. Either all of the text was written, and the run ends with `ran`; or a write

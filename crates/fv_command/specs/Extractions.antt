@@ -1,7 +1,7 @@
 -- The parts that are extracted from a volume: the data of a file, or the body of one of its sections.
 use Rattle.std.specs.Prelude.{◌≡◌, ⊤, ℕ, List, Option, Some, None}
 use Rattle.fv_base.specs.declared.fault.Fault.{Fault}
-use Rattle.fv_canon.specs.Words.{IsData, IsBodyImage, FirstUnfit}
+use Rattle.fv_canon.specs.Words.{IsData, IsBodyImage, FirstUnplaced}
 use Rattle.fv_tree.specs.Words.{volumes_in_body, volumes_in_content, section_of_type, frame_of_type, security_core}
 use Rattle.fv_tree.specs.Words.{FileMeaning, SectionMeaning, SectionMeanings, Plain, Sectioned, content_of, body_of}
 use Rattle.fv_tree.specs.Words.{file_kind_of}
@@ -49,11 +49,11 @@ IsPart (Some f) part answer = IsFilePart f part.section part.instance answer
 -- why the data of the file, or the body of the section, cannot be extracted: the fault of the first volume in these
 -- bytes whose own files cannot be placed
 abbrev pub StopsFilePart : FileMeaning → Option ℕ → ℕ → Fault → Type 0
-StopsFilePart f None instance fault = FirstUnfit (volumes_in_content (content_of f)) 0 fault
+StopsFilePart f None instance fault = FirstUnplaced (volumes_in_content (content_of f)) 0 fault
 StopsFilePart f (Some kind) instance fault =
     (ss : SectionMeanings) × (t : ℕ) × (s : SectionMeaning) × (content_of f ≡ Sectioned ss t)
     × (section_of_type kind instance ss ≡ Some s)
-    × FirstUnfit (volumes_in_body (body_of s)) 0 fault
+    × FirstUnplaced (volumes_in_body (body_of s)) 0 fault
 
 -- why a part cannot be extracted: the fault of the first volume in it whose own files cannot be placed, with the depth
 -- of that volume in the part

@@ -26,16 +26,16 @@ is_rejected (Rejected fault) = true
 is_rejected outcome = false
 
 -- the volume is accepted but is not its own canonical image
-abbrev pub is_another : VolumeOutcome → Bool
-is_another NotCanonical = true
-is_another outcome = false
+abbrev pub is_not_canonical : VolumeOutcome → Bool
+is_not_canonical NotCanonical = true
+is_not_canonical outcome = false
 
 -- the worst check determines the status: Faulty if a volume is rejected, otherwise Different if a volume is not its own
 -- canonical image, otherwise Done
 abbrev pub checks_status : List VolumeCheck → Status
 checks_status checks =
     if list_any (λ c. is_rejected c.outcome) checks then Faulty
-    else (if list_any (λ c. is_another c.outcome) checks then Different else Done)
+    else (if list_any (λ c. is_not_canonical c.outcome) checks then Different else Done)
 
 -- the text has a line for each volume that is found in the input, in order, and the worst of these checks determines
 -- the status

@@ -47,19 +47,19 @@ HobInputStops hex base first second fault =
     ⊎ ((list : List ℕ) × Gives hex first.old first.new list × HobImageStops hex base second fault)
 
 -- both inputs were read, and the first does not begin with a hand-off list, or memory ran out
-abbrev pub RefusesHobs : Bool → Option ℕ → (first second : Change) → HobFault → Type 0
-RefusesHobs hex base first second fault =
+abbrev pub RejectsHobs : Bool → Option ℕ → (first second : Change) → HobFault → Type 0
+RejectsHobs hex base first second fault =
     (list : List ℕ) × (image : List ℕ) × Gives hex first.old first.new list × GivesImage hex base second image
     × ((fault ≡ hob_out_of_memory) ⊎ IsFirstHobFault list fault)
 
 -- the text and the status of a successful run over a hand-off list
-abbrev pub SaysHobs : Option ℕ → Bool → (first second : Change) → Status → List ℕ → Type 0
-SaysHobs base hex first second status text = (status ≡ Done) × ListsHobs hex base first second text
+abbrev pub HobsRunText : Option ℕ → Bool → (first second : Change) → Status → List ℕ → Type 0
+HobsRunText base hex first second status text = (status ≡ Done) × ListsHobs hex base first second text
 
 -- why a run over a hand-off list is refused: for a fault of an input, or for a fault of the list
 abbrev pub StopsHobs : Option ℕ → Bool → (first second : Change) → Refusal → Type 0
 StopsHobs base hex first second (Input fault) = HobInputStops hex base first second fault
-StopsHobs base hex first second (Hobs fault) = RefusesHobs hex base first second fault
+StopsHobs base hex first second (Hobs fault) = RejectsHobs hex base first second fault
 StopsHobs base hex first second (OneOfTwo side fault) = ⊥
 
 -- an input was read to its end, and the bytes taken of it (`GivesAt`) are a volume with this meaning
@@ -88,7 +88,7 @@ abbrev pub IsVerdict : Meaning → Meaning → Status → Type 0
 IsVerdict m k status = ((status ≡ Done) × (m ≡ k)) ⊎ ((status ≡ Different) × (m ≢ k))
 
 -- the text and the status of a comparison: `same`, or where the two volumes first differ
-abbrev pub SaysComparison : Bool → (at other : Option ℕ) → (first second : Change) → Status → List ℕ → Type 0
-SaysComparison hex at other first second status text =
+abbrev pub ComparisonRunText : Bool → (at other : Option ℕ) → (first second : Change) → Status → List ℕ → Type 0
+ComparisonRunText hex at other first second status text =
     (m : Meaning) × (k : Meaning) × GivesVolume hex at first m × GivesVolume hex other second k
     × IsVerdict m k status × (text ≡ compare_line (difference m k))

@@ -3,14 +3,14 @@ use Rattle.std.specs.Prelude.{◌≡◌, ℕ, List, [], Option, Some, None, Stri
 use Rattle.std.specs.Global.{Global}
 use Rattle.std.specs.String.{string_bytes}
 use Rattle.fv_command.specs.declared.source.Source.{Source}
-use Rattle.fv_command.specs.declared.source.Source.TheVariants.{Standard, File, Missing, Nothing}
+use Rattle.fv_command.specs.declared.source.Source.TheVariants.{Standard, File, Missing, NoInput}
 use Rattle.fv_command.specs.Endings.{Ends, refusal_line}
-use Rattle.fv_command.specs.PairRuns.{SaysHobs, StopsHobs, SaysComparison, SideStops}
+use Rattle.fv_command.specs.PairRuns.{HobsRunText, StopsHobs, ComparisonRunText, SideStops}
 use Rattle.fv_plan.specs.Words.{first_file, second_file}
 use Rattle.fv_plan.specs.declared.plan.Command.{Command}
 use Rattle.fv_plan.specs.declared.plan.Plan.{Plan}
-use Rattle.fv_text.specs.Words.{Change, Ports, Shown, seen}
-use Rattle.fv_command.specs.Tasks.{SaysTask, StopsTask}
+use Rattle.fv_text.specs.Words.{Change, Ports, PortView, port_view}
+use Rattle.fv_command.specs.Tasks.{TaskRunText, StopsTask}
 use Rattle.fv_plan.specs.declared.plan.Command.TheVariants.{Single, Hobs, Compare}
 use Rattle.fv_command.specs.declared.ending.Ending.{Ending}
 use Rattle.fv_command.specs.declared.ending.Refusal.{Refusal}
@@ -24,7 +24,7 @@ abbrev pub unread : {S F : Type 0} → (S → Option (List ℕ)) → (F → Opti
 unread of_input of_file (Standard reader) = of_input reader
 unread of_input of_file (File file) = of_file file
 unread of_input of_file Missing = Some []
-unread of_input of_file Nothing = Some []
+unread of_input of_file NoInput = Some []
 
 -- the source that opening a path returns: the file, or Missing if it cannot be opened
 abbrev pub IsOpened : {S F : Type 0} → (List ℕ → Option F → Type 0) → List ℕ → Source S F → Type 0
@@ -40,17 +40,17 @@ IsFirstSource opens is_standard (Some path) source = IsOpened opens (string_byte
 
 -- the source of a command's second input: Nothing if no file is named, otherwise the file at that path
 abbrev pub IsSecondSource : {S F : Type 0} → (List ℕ → Option F → Type 0) → Option (String Global) → Source S F → Type 0
-IsSecondSource opens None source = source ≡ Nothing
+IsSecondSource opens None source = source ≡ NoInput
 IsSecondSource opens (Some path) source = IsOpened opens (string_bytes path) source
 
 -- the text and the status of a command that is not refused, for these reads of its inputs. A task reads nothing of the
 -- second input
-abbrev pub SaysCommand : Command → Bool → (first second : Change) → Status → List ℕ → Type 0
-SaysCommand (Single task at file) hex first second status text =
-    (second.new ≡ second.old) × SaysTask task hex at first status text
-SaysCommand (Hobs file image) hex first second status text =
-    SaysHobs (option_map (λ i. i.base) image) hex first second status text
-SaysCommand (Compare a b) hex first second status text = SaysComparison hex a.at b.at first second status text
+abbrev pub CommandRunText : Command → Bool → (first second : Change) → Status → List ℕ → Type 0
+CommandRunText (Single task at file) hex first second status text =
+    (second.new ≡ second.old) × TaskRunText task hex at first status text
+CommandRunText (Hobs file image) hex first second status text =
+    HobsRunText (option_map (λ i. i.base) image) hex first second status text
+CommandRunText (Compare a b) hex first second status text = ComparisonRunText hex a.at b.at first second status text
 
 -- why a command is refused, for these reads of its inputs: a fault of an input, of one of two volumes with its side, or
 -- of a hand-off list. A task reads nothing of the second input
@@ -66,7 +66,7 @@ StopsCommand (Compare a b) hex first second refusal = ⊥
 -- the text and the status of a run. Without a refusal they are the text and the status of the command. With a refusal
 -- the command is refused for that reason, the text is the line of the refusal, and the status is Refused
 abbrev pub HasText : Command → Bool → (first second : Change) → Option Refusal → Status → List ℕ → Type 0
-HasText command hex first second None status text = SaysCommand command hex first second status text
+HasText command hex first second None status text = CommandRunText command hex first second status text
 HasText command hex first second (Some refusal) status text =
     StopsCommand command hex first second refusal × (status ≡ Refused) × (text ≡ refusal_line refusal)
 
@@ -77,15 +77,15 @@ Runs p ended ports =
     × Ends ran text ports.output ended.status
 
 -- the view of the port over a source before anything is read: the unread bytes, and no failed call
-abbrev pub fresh : {S F : Type 0} → (S → Option (List ℕ)) → (F → Option (List ℕ)) → Source S F → Shown
-fresh of_input of_file source = seen (unread of_input of_file source) false
+abbrev pub fresh : {S F : Type 0} → (S → Option (List ℕ)) → (F → Option (List ℕ)) → Source S F → PortView
+fresh of_input of_file source = port_view (unread of_input of_file source) false
 
 -- a run of the plan over the sources that it names: the files that opening its paths returns, and standard input
 abbrev pub RunsOver : {S F : Type 0} → (S → Option (List ℕ)) → (F → Option (List ℕ)) → (List ℕ → Option F → Type 0)
     → (S → Type 0) → Plan → Ending → Change → Type 0
 RunsOver {S} {F} of_input of_file opens is_standard p ended output =
     (first : Source S F) × (second : Source S F) × IsFirstSource opens is_standard (first_file p.command) first
-    × IsSecondSource opens (second_file p.command) second × (s : Shown) × (s' : Shown)
+    × IsSecondSource opens (second_file p.command) second × (s : PortView) × (s' : PortView)
     × Runs p ended (record {
       first = record { old = fresh of_input of_file first; new = s };
       second = record { old = fresh of_input of_file second; new = s' };

@@ -6,10 +6,10 @@ use Rattle.fv_base.specs.declared.fault.FaultKind.TheVariants as kinds
 use Rattle.fv_head.specs.Words.{HeadFields, BeginsVolume}
 use Rattle.fv_head.specs.declared.extent.Extent.{Extent}
 use Rattle.fv_tree.specs.Words.{Accepted, IsFirstOfVolume, Meaning}
-use Rattle.fv_text.specs.Words.{SpellsWhole, TextStops, Shown}
+use Rattle.fv_text.specs.Words.{SpellsWhole, TextStops, PortView}
 
 -- the input was read to its end: as bytes, or as hexadecimal text that spells them
-abbrev pub Gives : Bool → Shown → Shown → List ℕ → Type 0
+abbrev pub Gives : Bool → PortView → PortView → List ℕ → Type 0
 Gives false old new input = ReadsWhole old.bytes new.bytes input
 Gives true old new input = SpellsWhole old.bytes new.bytes input
 
@@ -26,12 +26,12 @@ TakenAt None input taken = taken ≡ input
 TakenAt (Some n) input taken = At n input taken
 
 -- an input was read to its end, and these bytes are taken of it: all of them, or the volume at byte `at`
-abbrev pub GivesAt : Bool → Option ℕ → Shown → Shown → List ℕ → Type 0
+abbrev pub GivesAt : Bool → Option ℕ → PortView → PortView → List ℕ → Type 0
 GivesAt hex at old new taken = (input : List ℕ) × Gives hex old new input × TakenAt at input taken
 
 -- reading an input stopped with this fault. For bytes: if the fault is ReadFault and the port's error flag was clear
 -- before, the flag is set. For hexadecimal text: as `TextStops` says, which includes text that is rejected
-abbrev pub GivingStops : Bool → Shown → Shown → Fault → Type 0
+abbrev pub GivingStops : Bool → PortView → PortView → Fault → Type 0
 GivingStops false old new fault =
     ReadStops old.bytes new.bytes fault × (old.erred ≡ false → fault.kind ≡ kinds.ReadFault → new.erred ≡ true)
 GivingStops true old new fault = TextStops old.bytes new.bytes new.erred fault

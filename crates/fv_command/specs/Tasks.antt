@@ -4,7 +4,7 @@ use Rattle.std.specs.List.{flat_map}
 use Rattle.fv_base.specs.Words.{OrMemory, out_of_memory}
 use Rattle.fv_base.specs.declared.flash.Polarity.{Polarity}
 use Rattle.fv_base.specs.declared.fault.Fault.{Fault}
-use Rattle.fv_canon.specs.Words.{IsImage, NodeDigest, NormalisesTo, Unfit, Refuses, NormalisesAll, RefusesAll, IsAboveLimit}
+use Rattle.fv_canon.specs.Words.{IsImage, NodeDigest, NormalisesTo, Unfit, Rejects, NormalisesAll, RejectsAll, IsAboveLimit}
 use Rattle.fv_file.specs.Words.{CellForm, Tiles}
 use Rattle.fv_head.specs.Words.{BeginsVolume}
 use Rattle.fv_head.specs.declared.extent.Extent.{Extent}
@@ -32,7 +32,7 @@ use Rattle.fv_plan.specs.declared.plan.Task.TheVariants.{Check, CheckAll, Cells,
 -- file on
 pub record AreCells (m : Meaning) (b : List ℕ) (polarity : Polarity) (cells : List CellForm) : Type 0 where
   pub extent : Extent
-  pub front : BeginsVolume (head_of m) extent b
+  pub begins : BeginsVolume (head_of m) extent b
   pub polarity_is : polarity ≡ extent.polarity
   pub tiles : Tiles extent.file_system polarity extent.first cells (drop extent.first b)
 
@@ -73,21 +73,21 @@ PartText hex x status text = ⊥
 -- - `Cells`: the lines of the cells of the volume with which the input begins
 -- - `Unfix`: the input, which is a volume, with none of its files marked as fixed
 -- - `Scan`: the lines of the volumes in the input
-abbrev pub Says : Task → Bool → List ℕ → Status → List ℕ → Type 0
-Says Normalise hex input Done text = (image : List ℕ) × NormalisesTo input image × ShowsBytes hex image text
-Says NormaliseAll hex input Done text = (image : List ℕ) × NormalisesAll input image × ShowsBytes hex image text
-Says Listing hex input Done text = (m : Meaning) × BeginsWith input m × ListText m text
-Says ListSums hex input Done text = (m : Meaning) × BeginsWith input m × SumsText m text
-Says (Extract part) hex input status text =
+abbrev pub TaskText : Task → Bool → List ℕ → Status → List ℕ → Type 0
+TaskText Normalise hex input Done text = (image : List ℕ) × NormalisesTo input image × ShowsBytes hex image text
+TaskText NormaliseAll hex input Done text = (image : List ℕ) × NormalisesAll input image × ShowsBytes hex image text
+TaskText Listing hex input Done text = (m : Meaning) × BeginsWith input m × ListText m text
+TaskText ListSums hex input Done text = (m : Meaning) × BeginsWith input m × SumsText m text
+TaskText (Extract part) hex input status text =
     (m : Meaning) × (x : Extraction) × BeginsWith input m × IsPart (file_named part.name (files_of m)) part x
     × PartText hex x status text
-Says Check hex input Done text = CheckText input true text
-Says Check hex input Different text = CheckText input false text
-Says CheckAll hex input status text = ChecksText input status text
-Says Cells hex input Done text = CellsText input text
-Says Unfix hex input Done text = (o : List ℕ) × UnfixesTo input o × ShowsBytes hex o text
-Says Scan hex input Done text = (volumes : List FoundVolume) × AreFound input volumes × (text ≡ flat_map volume_line volumes)
-Says task hex input status text = ⊥
+TaskText Check hex input Done text = CheckText input true text
+TaskText Check hex input Different text = CheckText input false text
+TaskText CheckAll hex input status text = ChecksText input status text
+TaskText Cells hex input Done text = CellsText input text
+TaskText Unfix hex input Done text = (o : List ℕ) × UnfixesTo input o × ShowsBytes hex o text
+TaskText Scan hex input Done text = (volumes : List FoundVolume) × AreFound input volumes × (text ≡ flat_map volume_line volumes)
+TaskText task hex input status text = ⊥
 
 -- why a task writes nothing for its input: memory ran out, or one of these reasons:
 -- - `Normalise`: the input is not a volume, or does not fit
@@ -101,29 +101,29 @@ Says task hex input status text = ⊥
 -- - `Unfix`: the input does not begin with a volume whose body is tiled by cells when no file is marked as fixed, or
 --   bytes follow the volume
 -- - `Scan`: no other reason
-abbrev pub Denies : Task → List ℕ → Fault → Type 0
-Denies Normalise input fault = OrMemory (Refuses input) fault
-Denies NormaliseAll input fault = OrMemory (RefusesAll input) fault
-Denies Listing input fault = OrMemory (BeginsNone input) fault
-Denies ListSums input fault =
+abbrev pub TaskRefusal : Task → List ℕ → Fault → Type 0
+TaskRefusal Normalise input fault = OrMemory (Rejects input) fault
+TaskRefusal NormaliseAll input fault = OrMemory (RejectsAll input) fault
+TaskRefusal Listing input fault = OrMemory (BeginsNone input) fault
+TaskRefusal ListSums input fault =
     (fault ≡ out_of_memory) ⊎ (BeginsNone input fault ⊎ ((m : Meaning) × BeginsWith input m × Unfit m 0 fault))
-Denies (Extract part) input fault =
+TaskRefusal (Extract part) input fault =
     (fault ≡ out_of_memory) ⊎ (BeginsNone input fault
     ⊎ ((m : Meaning) × BeginsWith input m × StopsPart (file_named part.name (files_of m)) part fault))
-Denies Check input fault = OrMemory (NotRead input) fault
-Denies CheckAll input fault = OrMemory (IsAboveLimit input) fault
-Denies Cells input fault = OrMemory (NotTiled input) fault
-Denies Unfix input fault = OrMemory (NotUnfixed input) fault
-Denies Scan input fault = fault ≡ out_of_memory
+TaskRefusal Check input fault = OrMemory (NotRead input) fault
+TaskRefusal CheckAll input fault = OrMemory (IsAboveLimit input) fault
+TaskRefusal Cells input fault = OrMemory (NotTiled input) fault
+TaskRefusal Unfix input fault = OrMemory (NotUnfixed input) fault
+TaskRefusal Scan input fault = fault ≡ out_of_memory
 
 -- the input stops the task: reading it stopped with this fault; or it was read to its end, and the bytes taken of it
--- are rejected, or memory ran out (`Denies`)
+-- are rejected, or memory ran out (`TaskRefusal`)
 abbrev pub StopsTask : Task → Bool → Option ℕ → Change → Fault → Type 0
 StopsTask task hex at input fault =
     GivingStops hex input.old input.new fault
-    ⊎ ((bytes : List ℕ) × GivesAt hex at input.old input.new bytes × Denies task bytes fault)
+    ⊎ ((bytes : List ℕ) × GivesAt hex at input.old input.new bytes × TaskRefusal task bytes fault)
 
--- the input was read to its end, and the task has this text and this status for the bytes taken of it (`Says`)
-abbrev pub SaysTask : Task → Bool → Option ℕ → Change → Status → List ℕ → Type 0
-SaysTask task hex at input status text =
-    (bytes : List ℕ) × GivesAt hex at input.old input.new bytes × Says task hex bytes status text
+-- the input was read to its end, and the task has this text and this status for the bytes taken of it (`TaskText`)
+abbrev pub TaskRunText : Task → Bool → Option ℕ → Change → Status → List ℕ → Type 0
+TaskRunText task hex at input status text =
+    (bytes : List ℕ) × GivesAt hex at input.old input.new bytes × TaskText task hex bytes status text

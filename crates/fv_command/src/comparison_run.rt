@@ -4,7 +4,7 @@ ghost use Rattle.std.specs.Prelude.{◌≡◌, ℕ, List, IfErr, IfOk, Option};
 ghost use Rattle.fv_compare.specs.Words.{VolumeStops};
 ghost use Rattle.fv_tree.specs.Words.{Accepted};
 ghost use Rattle.fv_command.specs.RunInputs.{Gives, GivingStops};
-ghost use Rattle.fv_text.specs.Words.{Change, change, shown};
+ghost use Rattle.fv_text.specs.Words.{Change, change, view_of};
 ghost use Rattle.fv_command.specs.PairRuns.{GivesVolume};
 ghost use Rattle.fv_command.specs.inner.RunSteps.{Compares, verdict_of};
 
@@ -24,9 +24,9 @@ fn read_side<R: Read>(
     side: Side,
     reader: &mut Port<R>,
 ) -> Result<Vec<u8>, (Side, Fault)>
-    ensures ok { IfOk result (λ v. Gives hex (shown R.remaining reader.old) (shown R.remaining reader.new) v.items) }
-    ensures err { IfErr result (λ e. (e.0 ≡ side) × GivingStops hex (shown R.remaining reader.old)
-        (shown R.remaining reader.new) e.1) }
+    ensures ok { IfOk result (λ v. Gives hex (view_of R.remaining reader.old) (view_of R.remaining reader.new) v.items) }
+    ensures err { IfErr result (λ e. (e.0 ≡ side) × GivingStops hex (view_of R.remaining reader.old)
+        (view_of R.remaining reader.new) e.1) }
 {
     match read_bytes(alloc, hex, reader) {
         Ok(bytes) => Ok(bytes),

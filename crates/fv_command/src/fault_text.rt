@@ -4,7 +4,7 @@ ghost use Rattle.std.specs.Prelude.{◌≡◌, ◌≢◌, ◌⊎◌, ◌++◌, t
 ghost use Rattle.fv_base.specs.Words.{has_erred, is_flushed};
 ghost use Rattle.fv_command.specs.Endings.{Ends, numbered_line, refusal_line, side_fault_line};
 ghost use Rattle.fv_command.specs.inner.RunSteps.{Written};
-ghost use Rattle.fv_text.specs.Words.{StopsIn, change, shown};
+ghost use Rattle.fv_text.specs.Words.{StopsIn, change, view_of};
 
 use crate::ending::{Ending, Refusal};
 use crate::run_end::{finish, is_whole};
@@ -53,7 +53,7 @@ pub fn put_refusal<S: Sink>(out: &mut S, refusal: Refusal)
 
 // Writes a line. Returns whether all of it was written.
 fn write_line<W: Write>(writer: &mut Port<W>, line: &[u8]) -> bool
-    ensures { Written result line.now (shown W.contents writer.old) (shown W.contents writer.new) }
+    ensures { Written result line.now (view_of W.contents writer.old) (view_of W.contents writer.new) }
 {
     let mut out = WriteSink::new(writer);
     out.put(line);
@@ -62,7 +62,7 @@ fn write_line<W: Write>(writer: &mut Port<W>, line: &[u8]) -> bool
 
 // Writes the line of a refusal. Returns whether all of it was written.
 fn write_refusal<W: Write>(writer: &mut Port<W>, refusal: Refusal) -> bool
-    ensures { Written result (refusal_line refusal) (shown W.contents writer.old) (shown W.contents writer.new) }
+    ensures { Written result (refusal_line refusal) (view_of W.contents writer.old) (view_of W.contents writer.new) }
 {
     let mut out = WriteSink::new(writer);
     put_refusal(&mut out, refusal);
@@ -71,7 +71,7 @@ fn write_refusal<W: Write>(writer: &mut Port<W>, refusal: Refusal) -> bool
 
 /// Writes a line, flushes the writer, and returns the status, or Refused if a write or the flush
 /// fails.
-pub fn say<W: Write>(writer: &mut Port<W>, line: &str, status: Status) -> Status
+pub fn end_with_line<W: Write>(writer: &mut Port<W>, line: &str, status: Status) -> Status
     // Either the line was written, and this status is returned; or a write of the line or the flush
     // after it failed, and Refused is returned.
     ensures ends { Ends status line.now (change W.contents writer.old writer.new) result }
@@ -87,12 +87,12 @@ pub fn say<W: Write>(writer: &mut Port<W>, line: &str, status: Status) -> Status
 
 /// Writes the line of a refusal (`fault N at M`, with the fault's number and its offset in bytes),
 /// flushes the writer, and returns that the run was refused, and why.
-pub fn refuse<W: Write>(writer: &mut Port<W>, refusal: Refusal) -> Ending
+pub fn end_with_refusal<W: Write>(writer: &mut Port<W>, refusal: Refusal) -> Ending
     ensures ends { Ends Status.Refused (refusal_line refusal) (change W.contents writer.old writer.new) result.status }
     ensures why { result.refusal ≡ Some refusal }
 
     // Unless a write of the line failed, the last call to the writer was a flush.
-    ensures flushed { StopsIn (shown W.contents writer.old) (shown W.contents writer.new) (refusal_line refusal)
+    ensures flushed { StopsIn (view_of W.contents writer.old) (view_of W.contents writer.new) (refusal_line refusal)
         ⊎ (is_flushed writer.new ≡ true) }
     ensures fine { has_erred writer.new ≡ false → is_flushed writer.new ≡ true }
 {

@@ -1,11 +1,11 @@
 //! The command `hobs`: the blocks of a hand-off list, whose volumes are looked up in an image.
 
 ghost use Rattle.std.specs.Prelude.{◌≡◌, ℕ, List, IfOk, IfErr};
-ghost use Rattle.fv_command.specs.PairRuns.{GivesImage, HobImageStops, HobInputStops, SaysHobs, StopsHobs};
+ghost use Rattle.fv_command.specs.PairRuns.{GivesImage, HobImageStops, HobInputStops, HobsRunText, StopsHobs};
 ghost use Rattle.fv_command.specs.RunInputs.{Gives};
 ghost use Rattle.fv_command.specs.inner.RunSteps.{Puts};
 ghost use Rattle.fv_lines.specs.Words.{held_image, image_form};
-ghost use Rattle.fv_text.specs.Words.{change, shown};
+ghost use Rattle.fv_text.specs.Words.{change, view_of};
 
 use crate::ending::Refusal;
 use crate::inputs::read_bytes;
@@ -52,7 +52,7 @@ fn read_inputs<First: Read, Second: Read>(
     first: &mut Port<First>,
     second: &mut Port<Second>,
 ) -> Result<(Vec<u8>, Vec<u8>), Fault>
-    ensures ok { IfOk result (λ r. Gives hex (shown First.remaining first.old) (shown First.remaining first.new) r.0.items
+    ensures ok { IfOk result (λ r. Gives hex (view_of First.remaining first.old) (view_of First.remaining first.new) r.0.items
         × GivesImage hex base (change Second.remaining second.old second.new) r.1.items) }
     ensures err { IfErr result (HobInputStops hex base (change First.remaining first.old first.new)
         (change Second.remaining second.old second.new)) }
@@ -77,7 +77,7 @@ pub fn put_hob_list<First: Read, Second: Read, S: Sink>(
     out: &mut S,
 ) -> Result<Status, Refusal>
     ensures { Puts S.takes
-        (SaysHobs base hex (change First.remaining first.old first.new) (change Second.remaining second.old second.new))
+        (HobsRunText base hex (change First.remaining first.old first.new) (change Second.remaining second.old second.new))
         (StopsHobs base hex (change First.remaining first.old first.new) (change Second.remaining second.old second.new))
         out.old out.new result }
 {

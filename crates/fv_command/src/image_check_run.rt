@@ -3,7 +3,7 @@
 
 ghost use Rattle.std.specs.Prelude.{◌≡◌, ◌++◌, Bool, codes};
 ghost use Rattle.std.specs.List.{flat_map, list_any};
-ghost use Rattle.fv_command.specs.ImageChecks.{checked_line, checks_status, is_another, is_rejected, outcome_line};
+ghost use Rattle.fv_command.specs.ImageChecks.{checked_line, checks_status, is_not_canonical, is_rejected, outcome_line};
 ghost use Rattle.fv_command.specs.inner.RunSteps.{Performs};
 
 use crate::fault_text::put_fault;
@@ -56,8 +56,8 @@ fn is_rejected(check: &VolumeCheck) -> bool
 }
 
 // Returns whether the volume is accepted but is not its own canonical image.
-fn is_another(check: &VolumeCheck) -> bool
-    ensures { result ≡ is_another check.now.outcome }
+fn is_not_canonical(check: &VolumeCheck) -> bool
+    ensures { result ≡ is_not_canonical check.now.outcome }
 {
     matches!(check.outcome, VolumeOutcome::NotCanonical)
 }
@@ -70,10 +70,10 @@ fn has_rejected(checks: &[VolumeCheck]) -> bool
 }
 
 // Returns whether any of the volumes is accepted but is not its own canonical image.
-fn has_another(checks: &[VolumeCheck]) -> bool
-    ensures { result ≡ list_any (λ c. is_another c.outcome) checks.now }
+fn has_not_canonical(checks: &[VolumeCheck]) -> bool
+    ensures { result ≡ list_any (λ c. is_not_canonical c.outcome) checks.now }
 {
-    checks.iter().any(is_another)
+    checks.iter().any(is_not_canonical)
 }
 
 // Returns the status of some checks: the worst check determines it.
@@ -82,7 +82,7 @@ fn status_of(checks: &[VolumeCheck]) -> Status
 {
     if has_rejected(checks) {
         Status::Faulty
-    } else if has_another(checks) {
+    } else if has_not_canonical(checks) {
         Status::Different
     } else {
         Status::Done

@@ -2,7 +2,7 @@
 
 ghost use Rattle.std.specs.Prelude.{IfOk, IfErr};
 ghost use Rattle.fv_command.specs.RunInputs.{Gives, GivingStops, TakenAt};
-ghost use Rattle.fv_text.specs.Words.{shown};
+ghost use Rattle.fv_text.specs.Words.{view_of};
 
 use fv_base::{Fault, Port, read_input};
 use fv_head::verify_fv;
@@ -18,10 +18,10 @@ use std::io::Read;
 /// input is longer. For text also ReadFault at 0, if it is not an even number of digits.
 /// OutOfMemory.
 pub fn read_bytes<R: Read>(alloc: Global, hex: bool, reader: &mut Port<R>) -> Result<Vec<u8>, Fault>
-    ensures ok { IfOk result (λ v. Gives hex (shown R.remaining reader.old)
-        (shown R.remaining reader.new) v.items) }
-    ensures err { IfErr result (GivingStops hex (shown R.remaining reader.old)
-        (shown R.remaining reader.new)) }
+    ensures ok { IfOk result (λ v. Gives hex (view_of R.remaining reader.old)
+        (view_of R.remaining reader.new) v.items) }
+    ensures err { IfErr result (GivingStops hex (view_of R.remaining reader.old)
+        (view_of R.remaining reader.new)) }
 {
     if hex {
         read_hex(alloc, reader)

@@ -25,7 +25,7 @@ mod task_run;
 mod unfix_run;
 
 pub use ending::{Ending, Refusal};
-pub use fault_text::{refuse, say};
+pub use fault_text::{end_with_line, end_with_refusal};
 pub use opener::{Opener, run_over};
 pub use plan_run::run_plan;
 pub use source::Source;

@@ -71,7 +71,7 @@ fn second_source<O: Opener>(opener: &O, plan: &Plan) -> Source<O::Standard, O::F
 {
     match plan.second() {
         Some(path) => opened(opener, path.as_str()),
-        None => Source::Nothing,
+        None => Source::NoInput,
     }
 }
 

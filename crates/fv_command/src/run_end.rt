@@ -4,7 +4,7 @@ ghost use Rattle.std.specs.Prelude.{◌≡◌, ◌≢◌, ◌⊎◌, ℕ, List, 
 ghost use Rattle.fv_base.specs.Words.{has_erred, is_flushed, is_writing};
 ghost use Rattle.fv_command.specs.Endings.{Ends};
 ghost use Rattle.fv_command.specs.inner.RunSteps.{Written};
-ghost use Rattle.fv_text.specs.Words.{Shown, StopsIn, shown};
+ghost use Rattle.fv_text.specs.Words.{PortView, StopsIn, view_of};
 
 use crate::status::Status;
 use fv_base::{Port, WriteSink};
@@ -24,17 +24,17 @@ pub fn is_whole<W: Write>(out: &WriteSink<'_, W>) -> bool
 /// if a write or the flush failed.
 pub fn finish<W: Write>(writer: &mut Port<W>, is_written: bool, status: Status) -> Status
     // This holds for every text, and for whatever the writer held before it.
-    ensures ends { (text : List ℕ) (before : Shown) → Written is_written text before (shown W.contents writer.old)
-        → Ends status text (record { old = before; new = shown W.contents writer.new }) result }
+    ensures ends { (text : List ℕ) (before : PortView) → Written is_written text before (view_of W.contents writer.old)
+        → Ends status text (record { old = before; new = view_of W.contents writer.new }) result }
     ensures flushed { result ≢ Status.Refused → is_flushed writer.new ≡ true }
 
     // Whatever the status is, the last call to the writer was a flush unless a write of the text
     // failed.
-    ensures last { (text : List ℕ) (before : Shown) → Written is_written text before (shown W.contents writer.old)
-        → StopsIn before (shown W.contents writer.new) text ⊎ (is_flushed writer.new ≡ true) }
+    ensures last { (text : List ℕ) (before : PortView) → Written is_written text before (view_of W.contents writer.old)
+        → StopsIn before (view_of W.contents writer.new) text ⊎ (is_flushed writer.new ≡ true) }
 
     // The same, if no call to the writer has failed.
-    ensures fine { (text : List ℕ) (before : Shown) → Written is_written text before (shown W.contents writer.old)
+    ensures fine { (text : List ℕ) (before : PortView) → Written is_written text before (view_of W.contents writer.old)
         → has_erred writer.new ≡ false → is_flushed writer.new ≡ true }
 {
     if !is_written || writer.flush().is_err() {

@@ -19,7 +19,7 @@ pub enum Source<S: Read, F: Read> {
     /// A file that could not be opened: every read fails.
     Missing,
     /// There is no such input: it has no bytes.
-    Nothing,
+    NoInput,
 }
 
 impl<S: Read, F: Read> Read for Source<S, F> {
@@ -37,13 +37,13 @@ impl<S: Read, F: Read> Read for Source<S, F> {
             × IsErrAnd result (λ e. error_kind e ≡ ErrorKind.NotFound) }
 
         // A read of an input that does not exist finds its end.
-        ensures nothing { self.old ≡ Source.Nothing → (self.new ≡ Source.Nothing) × (result ≡ Ok 0) }
+        ensures no_input { self.old ≡ Source.NoInput → (self.new ≡ Source.NoInput) × (result ≡ Ok 0) }
     {
         match self {
             Source::Standard(reader) => reader.read(buf),
             Source::File(file) => file.read(buf),
             Source::Missing => Err(io::Error::from(ErrorKind::NotFound)),
-            Source::Nothing => Ok(0),
+            Source::NoInput => Ok(0),
         }
     }
 }

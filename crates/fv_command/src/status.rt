@@ -16,12 +16,12 @@ pub enum Status {
     /// An input was rejected, memory ran out, or a write failed.
     Refused,
     /// The command line is wrong.
-    WrongWords,
+    WrongArguments,
 }
 
 impl Status {
     /// Returns the exit status of the process: 0 for Done, 1 for Different, 2 for Faulty and
-    /// Refused, 3 for WrongWords.
+    /// Refused, 3 for WrongArguments.
     pub fn code(self) -> u8
         ensures { result ≡ exit_code self }
     {
@@ -30,7 +30,7 @@ impl Status {
             Status::Different => 1,
             Status::Faulty => 2,
             Status::Refused => 2,
-            Status::WrongWords => 3,
+            Status::WrongArguments => 3,
         }
     }
 }

@@ -6,7 +6,7 @@ ghost use Rattle.fv_text.specs.Words.{change};
 ghost use Rattle.fv_tree.specs.Words.{file_named, Meaning, files_of};
 ghost use Rattle.fv_command.specs.Extractions.{IsPart};
 ghost use Rattle.fv_command.specs.RunInputs.{BeginsNone, BeginsWith};
-ghost use Rattle.fv_command.specs.Tasks.{Denies, PartText, SaysTask, StopsTask};
+ghost use Rattle.fv_command.specs.Tasks.{TaskRefusal, PartText, TaskRunText, StopsTask};
 ghost use Rattle.fv_command.specs.inner.RunSteps.{Performs, Puts};
 
 use crate::check_run::put_check;
@@ -63,7 +63,7 @@ fn put_part<S: Sink>(out: &mut S, hex: bool, extraction: &Extraction<'_>) -> Sta
 fn part_at_start<'a>(alloc: Global, input: &'a [u8], part: &Part) -> Result<Extraction<'a>, Fault>
     ensures ok { IfOk result (λ x. (m : Meaning) × BeginsWith input.now m
         × IsPart (file_named part.now.name (files_of m)) part.now x) }
-    ensures err { IfErr result (Denies (Task.Extract part.now) input.now) }
+    ensures err { IfErr result (TaskRefusal (Task.Extract part.now) input.now) }
 {
     let volume = volume_at_start(alloc, input)?;
     extract(alloc, &volume, part)
@@ -165,7 +165,7 @@ pub fn put_task<R: Read, S: Sink>(
     reader: &mut Port<R>,
     out: &mut S,
 ) -> Result<Status, Fault>
-    ensures { Puts S.takes (SaysTask task.now hex at (change R.remaining reader.old reader.new))
+    ensures { Puts S.takes (TaskRunText task.now hex at (change R.remaining reader.old reader.new))
         (StopsTask task.now hex at (change R.remaining reader.old reader.new)) out.old out.new result }
 {
     let input = read_bytes(alloc, hex, reader)?;

@@ -5,7 +5,7 @@ ghost use Rattle.fv_compare.specs.ComparisonLines.{compare_line, path_text, step
 
 use fv_base::Sink;
 use fv_text::put_decimal;
-use fv_tree::{Difference, Step, Word};
+use fv_tree::{Difference, DifferenceKind, Step};
 
 // Puts a step: `file` or `section`, its number, and a space.
 fn put_step<S: Sink>(out: &mut S, step: Step)
@@ -37,28 +37,28 @@ fn put_path<S: Sink>(out: &mut S, steps: &[Step])
 }
 
 // Returns the text of a kind of difference.
-fn difference_word(word: Word) -> &'static str
+fn difference_word(word: DifferenceKind) -> &'static str
     ensures text { result.now ≡ difference_word word }
     ensures short { length result.now ≤ 17 }
 {
     match word {
-        Word::ZeroVector => "zero vector",
-        Word::FileSystem => "file system",
-        Word::Length => "length",
-        Word::VolumeAttributes => "volume attributes",
-        Word::Reserved => "reserved",
-        Word::BlockMap => "block map",
-        Word::ExtendedHeader => "extended header",
-        Word::FileCount => "file count",
-        Word::Name => "name",
-        Word::Type => "type",
-        Word::Attributes => "attributes",
-        Word::Data => "data",
-        Word::SectionCount => "section count",
-        Word::Tail => "tail",
-        Word::Form => "form",
-        Word::Shape => "shape",
-        Word::Body => "body",
+        DifferenceKind::ZeroVector => "zero vector",
+        DifferenceKind::FileSystem => "file system",
+        DifferenceKind::Length => "length",
+        DifferenceKind::VolumeAttributes => "volume attributes",
+        DifferenceKind::Reserved => "reserved",
+        DifferenceKind::BlockMap => "block map",
+        DifferenceKind::ExtendedHeader => "extended header",
+        DifferenceKind::FileCount => "file count",
+        DifferenceKind::Name => "name",
+        DifferenceKind::Type => "type",
+        DifferenceKind::Attributes => "attributes",
+        DifferenceKind::Data => "data",
+        DifferenceKind::SectionCount => "section count",
+        DifferenceKind::Tail => "tail",
+        DifferenceKind::Form => "form",
+        DifferenceKind::Shape => "shape",
+        DifferenceKind::Body => "body",
     }
 }
 

@@ -12,7 +12,7 @@ use Rattle.fv_base.specs.Words.{AllHold, bytes_of, field}
 use Rattle.fv_base.specs.declared.guid.Guid.{Guid}
 use Rattle.fv_base.specs.inner.Verdicts.{first_fault}
 use Rattle.fv_base.proofs.Laws.{all_hold, and_split, same_cut}
-use Rattle.fv_depex.specs.Words.{OpFits, BeginsOp, has_operand, holds_values, in_place, has_code, op_checks, carries, op_code, operand_len}
+use Rattle.fv_depex.specs.Words.{OpFits, BeginsOp, has_operand, holds_values, has_position, has_code, op_checks, carries, op_code, operand_len}
 use Rattle.fv_depex.specs.Words.{op_operand, IsSized}
 use Rattle.fv_depex.specs.declared.op.Op.{Op}
 use Rattle.fv_depex.specs.declared.op.Phase.{Phase}
@@ -82,7 +82,7 @@ cons_of (x ∷ r) l = refl
 record ChecksOfOp (phase : Phase) (stage : Stage) (r : List ℕ) : Type 0 where
   some : nat_le 1 (length r) ≡ true
   known : has_code phase (slice_index r 0) ≡ true
-  placed : in_place stage (slice_index r 0) ≡ true
+  placed : has_position stage (slice_index r 0) ≡ true
   whole : has_operand r ≡ true
   valued : holds_values stage (slice_index r 0) ≡ true
 
@@ -102,7 +102,7 @@ op_stands phase stage r none =
         → OpFits phase stage (op_in r)
     fits is checks sized = record {
       known = ap (has_code phase) is.code_is ∙ checks.known;
-      placed = ap (in_place stage) is.code_is ∙ checks.placed;
+      placed = ap (has_position stage) is.code_is ∙ checks.placed;
       valued = ap (holds_values stage) is.code_is ∙ checks.valued;
       sized = sized;
     }
@@ -118,7 +118,7 @@ op_stands phase stage r none =
         let n : length (field 1 16 r) ≡ 16 = length-take-le 16 (drop 1 r) (omega (arith, length-drop 1 r, long)) in
         record {
           fits = fits is checks (ap length operand ∙ n ∙ sym (ap operand_len (ap carries is.code_is ∙ c)));
-          behind = drop 16 (drop 1 r);
+          rest = drop 16 (drop 1 r);
           joined = cons_of r some ∙ ap (λ (l : List ℕ). slice_index r 0 ∷ l) (sym (take-append-drop 16 (drop 1 r)))
               ∙ ap (λ (k : ℕ). k ∷ (field 1 16 r ++ drop 16 (drop 1 r))) (sym is.code_is)
               ∙ ap (λ (l : List ℕ). op_code (op_in r) ∷ (l ++ drop 16 (drop 1 r))) (sym operand);
@@ -127,7 +127,7 @@ op_stands phase stage r none =
         let operand : op_operand (op_in r) ≡ [] = is.operand_is ∙ ap (λ (t : Bool). if t then field 1 16 r else []) c in
         record {
           fits = fits is checks (ap length operand ∙ sym (ap operand_len (ap carries is.code_is ∙ c)));
-          behind = drop 1 r;
+          rest = drop 1 r;
           joined = cons_of r some ∙ ap (λ (k : ℕ). k ∷ drop 1 r) (sym is.code_is)
               ∙ ap (λ (l : List ℕ). op_code (op_in r) ∷ (l ++ drop 1 r)) (sym operand);
         }

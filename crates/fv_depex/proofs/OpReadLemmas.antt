@@ -54,11 +54,11 @@ pub one_more : (phase : Phase) (b : List ℕ) (items : List Op) (o : Op) (at n :
 one_more phase b items o at n stage k stands len =
     let size : n ≡ length (op_code o ∷ op_operand o) =
     len ∙ ap (λ (m : ℕ). 1 + m) (sym (stands.fits).sized) ∙ next (length (op_operand o)) in
-    let whole : drop at b ≡ (op_code o ∷ op_operand o) ++ stands.behind = stands.joined in
+    let whole : drop at b ≡ (op_code o ∷ op_operand o) ++ stands.rest = stands.joined in
     let part : take n (drop at b) ≡ op_code o ∷ op_operand o =
-    ap (take n) whole ∙ take_at (op_code o ∷ op_operand o) stands.behind n (sym size) in
-    let long : length (drop at b) ≡ n + length stands.behind =
-    ap length whole ∙ length-append (op_code o ∷ op_operand o) stands.behind ∙ ap (λ (m : ℕ). m + length stands.behind) (sym size) in
+    ap (take n) whole ∙ take_at (op_code o ∷ op_operand o) stands.rest n (sym size) in
+    let long : length (drop at b) ≡ n + length stands.rest =
+    ap length whole ∙ length-append (op_code o ∷ op_operand o) stands.rest ∙ ap (λ (m : ℕ). m + length stands.rest) (sym size) in
     record {
       bytes = take-add at n b ∙ ap (λ (l : List ℕ). l ++ take n (drop at b)) k.bytes ∙ ap (λ (l : List ℕ). ops_bytes items ++ l)
           (part ∙ ap (λ (l : List ℕ). op_code o ∷ l) (sym (append-nil (op_operand o)))) ∙ sym (bytes_join items (o ∷ []));
@@ -117,7 +117,7 @@ stands_first phase b (p ∷ ps) o at stage k stands = (
   p,
   record {
     fits = (k.path).0;
-    behind = ops_bytes ps ++ drop at b;
+    rest = ops_bytes ps ++ drop at b;
     joined = sym (take-append-drop at b) ∙ ap (λ (l : List ℕ). l ++ drop at b) k.bytes
         ∙ ap (λ (l : List ℕ). op_code p ∷ l) (append_assoc (op_operand p) (ops_bytes ps) (drop at b));
   },
@@ -130,12 +130,12 @@ spells_first phase b xs s spells =
   where
     go : (f : Stage) (front : List Op) → OpPath phase stages.Start front f → OpFits phase f ops.End → b ≡ ops_bytes front ++ (8 ∷ s)
         → BeginsFirstOp phase b
-    go f [] p fits e = (ops.End, record { fits = subst (λ (t : Stage). OpFits phase t ops.End) (sym p) fits; behind = s; joined = e })
+    go f [] p fits e = (ops.End, record { fits = subst (λ (t : Stage). OpFits phase t ops.End) (sym p) fits; rest = s; joined = e })
     go f (o ∷ os) p fits e = (
       o,
       record {
         fits = p.0;
-        behind = ops_bytes os ++ (8 ∷ s);
+        rest = ops_bytes os ++ (8 ∷ s);
         joined = e ∙ ap (λ (l : List ℕ). op_code o ∷ l) (append_assoc (op_operand o) (ops_bytes os) (8 ∷ s));
       },
     )

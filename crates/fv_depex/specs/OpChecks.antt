@@ -20,10 +20,10 @@ has_code Dxe code = nat_le code 9
 
 -- whether an op with this code is allowed at this stage: BEFORE, AFTER and SOR only as the first op, and only END after
 -- BEFORE or AFTER
-abbrev pub in_place : Stage → ℕ → Bool
-in_place stages.Start code = true
-in_place stages.Ordered code = code == 8
-in_place (stages.Values n) code = nat_le 2 code && nat_le code 8
+abbrev pub has_position : Stage → ℕ → Bool
+has_position stages.Start code = true
+has_position stages.Ordered code = code == 8
+has_position (stages.Values n) code = nat_le 2 code && nat_le code 8
 
 -- whether a stack of n values is right for an op with this code: AND and OR need at least two, NOT needs at least one,
 -- and END exactly one
@@ -53,7 +53,7 @@ abbrev pub op_checks : Phase → Stage → List ℕ → List (Check DepexFaultKi
 op_checks phase stage r =
     op_check (nat_le 1 (length r)) kinds.NoEnd
     ∷ op_check (has_code phase (slice_index r 0)) kinds.Opcode
-    ∷ op_check (in_place stage (slice_index r 0)) kinds.Position
+    ∷ op_check (has_position stage (slice_index r 0)) kinds.Position
     ∷ op_check (has_operand r) kinds.Short
     ∷ op_check (holds_values stage (slice_index r 0)) kinds.Stack
     ∷ []
@@ -81,15 +81,15 @@ stage_after stage o = stages.Values (values_after (values_of stage) o)
 -- the phase allows the op o at this stage
 pub record OpFits (phase : Phase) (stage : Stage) (o : Op) : Type 0 where
   pub known : has_code phase (op_code o) ≡ true
-  pub placed : in_place stage (op_code o) ≡ true
+  pub placed : has_position stage (op_code o) ≡ true
   pub valued : holds_values stage (op_code o) ≡ true
   pub sized : IsSized o
 
 -- r begins with the op o, which is allowed at this stage
 pub record BeginsOp (phase : Phase) (stage : Stage) (o : Op) (r : List ℕ) : Type 0 where
   pub fits : OpFits phase stage o
-  pub behind : List ℕ
-  pub joined : r ≡ op_code o ∷ (op_operand o ++ behind)
+  pub rest : List ℕ
+  pub joined : r ≡ op_code o ∷ (op_operand o ++ rest)
 
 -- b begins with an op that is allowed as the first op
 abbrev pub BeginsFirstOp : Phase → List ℕ → Type 0

@@ -72,7 +72,7 @@ impl DepexFault {
 }
 
 /// The fault that is returned when memory runs out.
-const WANT_OF_MEMORY: DepexFault = DepexFault {
+const OUT_OF_MEMORY: DepexFault = DepexFault {
     kind: DepexFaultKind::OutOfMemory,
     offset: 0,
 };
@@ -82,7 +82,7 @@ impl From<AllocError> for DepexFault {
     ghost from_gives = { λ _ f. f ≡ depex_out_of_memory };
 
     fn from(_error: AllocError) -> DepexFault {
-        WANT_OF_MEMORY
+        OUT_OF_MEMORY
     }
 }
 
@@ -91,6 +91,6 @@ impl<T: Drop> From<AllocFailed<T>> for DepexFault {
     ghost from_gives = { λ _ f. f ≡ depex_out_of_memory };
 
     fn from(_error: AllocFailed<T>) -> DepexFault {
-        WANT_OF_MEMORY
+        OUT_OF_MEMORY
     }
 }

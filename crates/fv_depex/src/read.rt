@@ -3,7 +3,7 @@
 ghost use Rattle.std.specs.Prelude.{◌≡◌, ◌≢◌, ◌≤◌, ◌+◌, ℕ, List, length, drop, true, None, Some, OnOk, IfOk, IfErr, IfSome};
 ghost use Rattle.fv_base.specs.Words.{IsFirstFault};
 ghost use Rattle.fv_base.specs.inner.Verdicts.{first_fault};
-ghost use Rattle.fv_depex.specs.OpChecks.{BeginsFirstOp, IsFirstOpFault, BeginsOp, has_code, in_place, has_values};
+ghost use Rattle.fv_depex.specs.OpChecks.{BeginsFirstOp, IsFirstOpFault, BeginsOp, has_code, has_position, has_values};
 ghost use Rattle.fv_depex.specs.OpChecks.{holds_values, has_operand, op_checks, depex_out_of_memory};
 ghost use Rattle.fv_depex.specs.Expressions.{Spells, carries, op_code, operand_len};
 ghost use Rattle.fv_depex.specs.inner.Ops.{op_in};
@@ -36,8 +36,8 @@ fn has_code(phase: Phase, code: u8) -> bool
 
 // Returns whether an op with this code is allowed at this stage: BEFORE, AFTER and SOR only as the
 // first op, and only END after BEFORE or AFTER.
-fn in_place(stage: Stage, code: u8) -> bool
-    ensures { result ≡ in_place stage code }
+fn has_position(stage: Stage, code: u8) -> bool
+    ensures { result ≡ has_position stage code }
 {
     match stage {
         Stage::Start => true,
@@ -101,7 +101,7 @@ fn check_op(rest: &[u8], phase: Phase, stage: Stage) -> Result<(), DepexFaultKin
     if !has_code(phase, code) {
         return Err(DepexFaultKind::Opcode);
     }
-    if !in_place(stage, code) {
+    if !has_position(stage, code) {
         return Err(DepexFaultKind::Position);
     }
     if !has_operand(rest) {

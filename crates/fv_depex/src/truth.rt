@@ -30,7 +30,7 @@ fn pop_two(stack: &mut Vec<bool>) -> Option<(bool, bool)>
 }
 
 // Pops the value on top of a stack, if there is one.
-fn top(stack: &mut Vec<bool>) -> Option<bool>
+fn pop(stack: &mut Vec<bool>) -> Option<bool>
     ensures { result ≡ top (reverse stack.old.items) }
 {
     stack.pop()
@@ -84,7 +84,7 @@ fn evaluate_ops(alloc: Global, ops: &[Op], installed: &[Guid]) -> Result<Option<
             return Ok(None);
         }
     }
-    Ok(top(&mut stack))
+    Ok(pop(&mut stack))
 }
 
 /// Returns the truth value of an expression when exactly the protocols (in PEI, the PPIs) with

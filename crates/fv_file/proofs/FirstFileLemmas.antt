@@ -10,11 +10,11 @@ use Rattle.fv_base.specs.declared.fault.Fault.{Fault}
 use Rattle.fv_base.specs.declared.flash.FileSystem.{FileSystem}
 use Rattle.fv_base.specs.declared.flash.Polarity.{Polarity}
 use Rattle.fv_base.specs.declared.fault.FaultKind.TheVariants as kinds
-use Rattle.fv_file.specs.Words.{file_size_at, payload_at, file_checks, is_standing, verify_checks, pad_kind, head_in, IsSound, BeginsFile}
+use Rattle.fv_file.specs.Words.{file_size_at, payload_at, file_checks, is_valid_state, verify_checks, pad_kind, head_in, IsSound, BeginsFile}
 use Rattle.fv_file.specs.Words.{state_of, is_alive}
 use Rattle.fv_file.specs.declared.head.FileHead.{FileHead}
 use Rattle.fv_file.specs.declared.state.FileState.{FileState}
-use Rattle.fv_file.specs.inner.CellVerdicts.{file_verdict, standing_verdict, verify_verdict}
+use Rattle.fv_file.specs.inner.CellVerdicts.{file_verdict, valid_state_verdict, verify_verdict}
 use Rattle.fv_file.specs.declared.state.FileState.TheVariants as states
 use Rattle.fv_base.proofs.Laws.{all_hold, first_is, none_faulty, not_at_most, not_less, verdict_err, verdict_none, verdict_ok}
 use Rattle.fv_file.proofs.FileLemmas.{FileAt, file_at, file_reads}
@@ -27,8 +27,8 @@ head_of None b = head_in states.Free b
 head_of (Some st) b = head_in st b
 
 standing_is : (s : FileSystem) (o : Option FileState) (b : List ℕ)
-    → standing_verdict o s b
-    ≡ verdict_by (first_fault (check (is_standing o) kinds.FileState 23 ∷ file_checks s true 0 b)) (head_of o b)
+    → valid_state_verdict o s b
+    ≡ verdict_by (first_fault (check (is_valid_state o) kinds.FileState 23 ∷ file_checks s true 0 b)) (head_of o b)
 unfolding file_verdict
 standing_is s None b = refl
 standing_is s (Some st) b = go (is_alive st) where
@@ -58,7 +58,7 @@ begins_at : (s : FileSystem) (p : Polarity) (st : FileState) (b : List ℕ) → 
 begins_at s p st b alive f = record {
   file = take (file_size_at b) b;
   payload = payload_at b;
-  behind = drop (file_size_at b) b;
+  rest = drop (file_size_at b) b;
   text = sym (take-append-drop (file_size_at b) b);
   is_file = f.is_file;
   alive = alive;
@@ -72,20 +72,20 @@ begins_at s p st b alive f = record {
 begins_found : (s : FileSystem) (p : Polarity) (b : List ℕ) → AllHold (verify_checks s p b)
     → BeginsFile s p (head_of (state_of p (slice_index b 23)) b) b
 begins_found s p b (long, (standing, checks)) = go (state_of p (slice_index b 23)) refl standing where
-  go : (o : Option FileState) → state_of p (slice_index b 23) ≡ o → is_standing o ≡ true → BeginsFile s p (head_of o b) b
+  go : (o : Option FileState) → state_of p (slice_index b 23) ≡ o → is_valid_state o ≡ true → BeginsFile s p (head_of o b) b
   go None e alive = cc
   go (Some st) e alive = begins_at s p st b alive (file_at s p st 0 b (leb-true _ _ long) e
       (subst (λ (t : Bool). AllHold (file_checks s t 0 b)) (sym alive) checks))
 
 pub begins_only : (s : FileSystem) (p : Polarity) (b : List ℕ) (head : FileHead) → BeginsFile s p head b → verify_verdict s p b ≡ Ok head
 begins_only s p b head begins =
-    let r : List ℕ = begins.file ++ begins.behind in
-    let reads = file_reads s p head begins.payload begins.file begins.behind begins.is_file in
+    let r : List ℕ = begins.file ++ begins.rest in
+    let reads = file_reads s p head begins.payload begins.file begins.rest begins.is_file in
     let state : state_of p (slice_index r 23) ≡ Some head.state = reads.state in
     let checks : AllHold (verify_checks s p r) = (
       le-leb 24 (length r) reads.long,
       (
-        ap is_standing state ∙ begins.alive,
+        ap is_valid_state state ∙ begins.alive,
         subst (λ (t : Bool). AllHold (file_checks s t 0 r)) begins.alive (reads.checks 0 (λ alive. begins.content)),
       ),
     ) in

@@ -92,15 +92,15 @@ cell_checks system polarity p r =
     ∷ state_checks (state_of polarity (state_at r)) system p r
 
 -- there is a state, and a file in this state is valid
-abbrev pub is_standing : Option FileState → Bool
-is_standing None = false
-is_standing (Some state) = is_alive state
+abbrev pub is_valid_state : Option FileState → Bool
+is_valid_state None = false
+is_valid_state (Some state) = is_alive state
 
 -- the checks of bytes that must begin with a valid file or a pad, in order, each with its fault
 abbrev pub verify_checks : FileSystem → Polarity → List ℕ → List (Check Fault)
 verify_checks system polarity b =
     check (nat_le 24 (length b)) kinds.FileSize 20
-    ∷ check (is_standing (state_of polarity (state_at b))) kinds.FileState 23
+    ∷ check (is_valid_state (state_of polarity (state_at b))) kinds.FileState 23
     ∷ file_checks system true 0 b
 
 -- none of the cells is free

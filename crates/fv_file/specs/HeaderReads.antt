@@ -21,8 +21,8 @@ use Rattle.fv_file.specs.declared.state.FileState.TheVariants as states
 pub record BeginsFile (system : FileSystem) (polarity : Polarity) (head : FileHead) (b : List ℕ) : Type 0 where
   pub file : List ℕ
   pub payload : List ℕ
-  pub behind : List ℕ
-  pub text : b ≡ file ++ behind
+  pub rest : List ℕ
+  pub text : b ≡ file ++ rest
   pub is_file : IsFile system polarity head payload file
   pub alive : is_alive head.state ≡ true
   pub content : (head.kind ≡ pad_kind) ⊎ IsSound head payload

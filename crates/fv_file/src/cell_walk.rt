@@ -79,7 +79,7 @@ pub(crate) fn cell_at<'a>(
 ) -> Result<Cell<'a>, Fault>
     requires place { at + length rest.now < 2 ^ 63 }
     ensures found { IfOk result (λ c. cell_verdict system polarity at rest.now ≡ Ok (cell_form c)) }
-    ensures refused { IfErr result (λ f. cell_verdict system polarity at rest.now ≡ Err f) }
+    ensures rejected { IfErr result (λ f. cell_verdict system polarity at rest.now ≡ Err f) }
 {
     if rest.len() < HEADER_LEN {
         return Err(stray(rest, at, polarity));
@@ -136,7 +136,7 @@ pub(crate) fn stride_at(rest: &[u8], polarity: Polarity) -> usize
     ensures within { result ≤ length rest.now }
 
     // If a cell that is not free begins here, this is its length.
-    ensures cell { (system : FileSystem) (c : CellForm) (x behind : List ℕ) → rest.now ≡ x ++ behind → IsCell system polarity c x
+    ensures cell { (system : FileSystem) (c : CellForm) (x after : List ℕ) → rest.now ≡ x ++ after → IsCell system polarity c x
         → is_free c ≡ false → result ≡ length x }
 {
     let header = header_len_at(rest);

@@ -40,7 +40,7 @@ fn span_unmarked(rest: &[u8], at: u64, system: FileSystem, polarity: Polarity) -
     requires multiple { length rest.now % 8 ≡ 0 }
     ensures found { IfOk result (λ n. (b : List ℕ) × OneMarkLess system polarity at rest.now b
         × ((c : CellForm) × (cell_verdict system polarity at b ≡ Ok c) × (n ≡ cell_len c)) × ((b ≡ rest.now) ⊎ (19 < n))) }
-    ensures refused { IfErr result (λ f. (b : List ℕ) × OneMarkLess system polarity at rest.now b
+    ensures rejected { IfErr result (λ f. (b : List ℕ) × OneMarkLess system polarity at rest.now b
         × (cell_verdict system polarity at b ≡ Err f) × (f.kind ≢ FaultKind.Fixed)) }
 {
     match cell_at(rest, at, system, polarity) {

@@ -19,7 +19,7 @@ use Rattle.fv_base.proofs.Laws.{first_or_behind, one_behind}
 use Rattle.fv_head.specs.Words.{HeadFields, BeginsVolume, signature_bytes, has_signature}
 use Rattle.fv_head.specs.declared.extent.Extent.{Extent}
 use Rattle.fv_head.proofs.Laws.{front_holds, one_front}
-use Rattle.fv_flash.specs.Words.{VolumeAt, IsPlace, LiesBehind, Apart, IsCovered, Found, AreFound, offsets_of}
+use Rattle.fv_flash.specs.Words.{VolumeAt, IsPlace, IsAfter, DoNotOverlap, IsCovered, Found, AreFound, offsets_of}
 use Rattle.fv_flash.specs.declared.scanner.FoundVolume.{FoundVolume}
 use Rattle.fv_flash.specs.inner.FoundWalks.{NoneBetween, NoneFrom, IsReached, FoundFrom}
 
@@ -127,12 +127,12 @@ walk_places : (from : ℕ) (b os : List ℕ) → FoundFrom from b os → AllByRe
 walk_places from b [] f = tt
 walk_places from b (o ∷ os) (n, (l, e, none, v), rest) = ((e, (n, v)), walk_places (o + n) b os rest)
 
-walk_apart : (from : ℕ) (b os : List ℕ) → FoundFrom from b os → Apart b os
+walk_apart : (from : ℕ) (b os : List ℕ) → FoundFrom from b os → DoNotOverlap b os
 walk_apart from b [] f = tt
 walk_apart from b (o ∷ os) (n, (l, e, none, v), rest) =
-    (weaker (λ p. o + n ≤ p) (LiesBehind b o) lies os (from_least (o + n) b os rest), walk_apart (o + n) b os rest)
+    (weaker (λ p. o + n ≤ p) (IsAfter b o) lies os (from_least (o + n) b os rest), walk_apart (o + n) b os rest)
   where
-    lies : (p : ℕ) → o + n ≤ p → LiesBehind b o p
+    lies : (p : ℕ) → o + n ≤ p → IsAfter b o p
     lies p u = (omega (arith, u, at_least b o n v), λ m w. omega (arith, u, one_length b o n m v w))
 
 walk_all : (from : ℕ) (b os : List ℕ) → FoundFrom from b os → (k n : ℕ) → from ≤ k → k % 8 ≡ 0 → VolumeAt b k n → IsCovered b os k
@@ -148,7 +148,7 @@ walk_all from b (o ∷ os) (len, (low, e, none, w), rest) k n l m v =
 pub walk_found : (b os : List ℕ) → FoundFrom 0 b os → Found b os
 walk_found b os f = record {
   places = walk_places 0 b os f;
-  apart = walk_apart 0 b os f;
+  do_not_overlap = walk_apart 0 b os f;
   all = λ k n m v. walk_all 0 b os f k n (omega arith) m v;
 }
 
@@ -161,14 +161,14 @@ covered_none : (b : List ℕ) (k : ℕ) → IsCovered b [] k → ⊥
 covered_none b k (o, n, (j, l, e), w, s, u) = omega (arith, l)
 
 -- if every volume from a place on begins within a listed one, no volume begins before the first of these
-covered_between : (from : ℕ) (b : List ℕ) (o : ℕ) (os : List ℕ) → AllByRecursion (LiesBehind b o) os → AllFrom from b (o ∷ os)
+covered_between : (from : ℕ) (b : List ℕ) (o : ℕ) (os : List ℕ) → AllByRecursion (IsAfter b o) os → AllFrom from b (o ∷ os)
     → NoneBetween b from o
 covered_between from b o os clear all = λ k n l u m v. go k u (all k n l m v) where
   go : (k : ℕ) → k < o → IsCovered b (o ∷ os) k → ⊥
   go k u (p, j, h, w, s, t) = at (first_or_behind o os p h) where
     at : (o ≡ p) ⊎ Contains os p → ⊥
     at (inl e) = omega (arith, e, u, s)
-    at (inr h) = omega (arith, (All-contains (LiesBehind b o) os p (All-from_recursion (LiesBehind b o) os clear) h).0, u, s)
+    at (inr h) = omega (arith, (All-contains (IsAfter b o) os p (All-from_recursion (IsAfter b o) os clear) h).0, u, s)
 
 -- if every volume from a place on begins within a listed one, every volume from the end of the first listed one on
 -- begins within one of the others
@@ -180,19 +180,19 @@ covered_rest from b o n os low v all = λ k m l e w. go k l (all k m (omega (ari
     at (inl e) = absurd (omega (arith, e, l, t, one_length b o n j v (subst (λ i. VolumeAt b i j) (sym e) w)))
     at (inr h) = (p, j, h, w, s, t)
 
-walk_back : (from : ℕ) (b os : List ℕ) → AllByRecursion (λ p. from ≤ p) os → AllByRecursion (IsPlace b) os → Apart b os → AllFrom from b os
+walk_back : (from : ℕ) (b os : List ℕ) → AllByRecursion (λ p. from ≤ p) os → AllByRecursion (IsPlace b) os → DoNotOverlap b os → AllFrom from b os
     → FoundFrom from b os
 walk_back from b [] low places apart all = λ k n l m v. covered_none b k (all k n l m v)
 walk_back from b (o ∷ os) (low, lows) ((e, (n, v)), places) (clear, apart) all = (
   n,
   (low, e, covered_between from b o os clear all, v),
-  walk_back (o + n) b os (weaker (LiesBehind b o) (λ p. o + n ≤ p) (λ p c. c.1 n v) os clear) places apart
+  walk_back (o + n) b os (weaker (IsAfter b o) (λ p. o + n ≤ p) (λ p c. c.1 n v) os clear) places apart
       (covered_rest from b o n os low v all),
 )
 
 pub found_walk : (b os : List ℕ) → Found b os → FoundFrom 0 b os
 found_walk b os f =
-    walk_back 0 b os (weaker (IsPlace b) (λ p. 0 ≤ p) (λ p h. omega arith) os f.places) f.places f.apart (λ k n l m v. f.all k n m v)
+    walk_back 0 b os (weaker (IsPlace b) (λ p. 0 ≤ p) (λ p h. omega arith) os f.places) f.places f.do_not_overlap (λ k n l m v. f.all k n m v)
 
 -- ---- for callers
 

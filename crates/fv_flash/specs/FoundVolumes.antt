@@ -14,13 +14,13 @@ abbrev pub IsPlace : List ℕ → ℕ → Type 0
 IsPlace b o = (o % 8 ≡ 0) × ((n : ℕ) × VolumeAt b o n)
 
 -- p is greater than o, and at or after the end of every volume that begins at the offset o
-abbrev pub LiesBehind : List ℕ → ℕ → ℕ → Type 0
-LiesBehind b o p = (o < p) × ((n : ℕ) → VolumeAt b o n → o + n ≤ p)
+abbrev pub IsAfter : List ℕ → ℕ → ℕ → Type 0
+IsAfter b o p = (o < p) × ((n : ℕ) → VolumeAt b o n → o + n ≤ p)
 
 -- each offset is at or after the end of every volume that begins at an earlier offset of the list
-abbrev pub Apart : List ℕ → List ℕ → Type 0
-Apart b [] = Unit {0}
-Apart b (o ∷ os) = AllByRecursion (LiesBehind b o) os × Apart b os
+abbrev pub DoNotOverlap : List ℕ → List ℕ → Type 0
+DoNotOverlap b [] = Unit {0}
+DoNotOverlap b (o ∷ os) = AllByRecursion (IsAfter b o) os × DoNotOverlap b os
 
 -- the offset k lies in a volume that begins at one of these offsets, at its first byte or further on
 abbrev pub IsCovered : List ℕ → List ℕ → ℕ → Type 0
@@ -30,7 +30,7 @@ IsCovered b os k = (o : ℕ) × (n : ℕ) × Contains os o × VolumeAt b o n × 
 -- which a volume begins in b lies in one of these volumes
 pub record Found (b os : List ℕ) : Type 0 where
   pub places : AllByRecursion (IsPlace b) os
-  pub apart : Apart b os
+  pub do_not_overlap : DoNotOverlap b os
   pub all : (k n : ℕ) → k % 8 ≡ 0 → VolumeAt b k n → IsCovered b os k
 
 -- the offsets of these volumes

@@ -6,13 +6,13 @@ use Rattle.std.specs.Prelude.{not}
 use Rattle.std.proofs.lemmas.List.{take_more, drop_more, drop_all}
 use Rattle.fv_base.specs.Words.{WalkLaws, le_bytes}
 use Rattle.fv_head.specs.Words.{pairs_bytes}
-use Rattle.fv_head.specs.inner.WordSums.{adds_joined, word_weight, is_high_behind}
+use Rattle.fv_head.specs.inner.WordSums.{adds_joined, word_weight, is_high_after}
 
 -- the sum so far and one more byte are the sum up to the next index
-pub byte_added : (high h : Bool) (xs : List ℕ) (i t0 t w : ℕ) → i < length xs → h ≡ is_high_behind high (take i xs)
+pub byte_added : (high h : Bool) (xs : List ℕ) (i t0 t w : ℕ) → i < length xs → h ≡ is_high_after high (take i xs)
     → t % 65536 ≡ (t0 + word_weight high (take i xs)) % 65536
     → w ≡ word_weight h (get_or xs i 0 ∷ [])
-    → (not h ≡ is_high_behind high (take (i + 1) xs)) × ((t + w) % 65536 % 65536 ≡ (t0 + word_weight high (take (i + 1) xs)) % 65536)
+    → (not h ≡ is_high_after high (take (i + 1) xs)) × ((t + w) % 65536 % 65536 ≡ (t0 + word_weight high (take (i + 1) xs)) % 65536)
 byte_added high h xs i t0 t w within first total is =
     let x : List ℕ = get_or xs i 0 ∷ [] in
     let more : (t + w) % 65536 % 65536 ≡ (t + word_weight h x) % 65536 = rw (← is) (omega arith) in

@@ -66,7 +66,7 @@ header_len_of h = 56 + 8 * (length h.blocks + 1)
 abbrev pub HasExt : Option Extension → Extent → List ℕ → Type 0
 HasExt None e b = (le_at 52 2 b ≡ 0) × (e.first ≡ e.header_len)
 HasExt (Some x) e b =
-    (before : List ℕ) × (part : List ℕ) × (behind : List ℕ) × (b ≡ before ++ (part ++ behind))
+    (before : List ℕ) × (part : List ℕ) × (after : List ℕ) × (b ≡ before ++ (part ++ after))
     × (length before ≡ le_at 52 2 b)
     × (e.header_len ≤ length before) × (length before + length part ≤ e.length) × IsExt x part
     × (e.first ≡ up_to_8 (length before + length part))

@@ -82,8 +82,8 @@ has_ext n len b =
     && nat_le (ext_offset_at b + ext_size_at b) len)
 
 -- the checks of the first 56 bytes of a header, in order, each with its fault
-abbrev pub front_checks : List ℕ → List (Check Fault)
-front_checks b =
+abbrev pub leading_checks : List ℕ → List (Check Fault)
+leading_checks b =
     check (nat_le 56 (length b)) kinds.Truncated (length b)
     ∷ check (has_signature b) kinds.Signature 40
     ∷ check (is_some (file_system_at b)) kinds.FileSystem 16
@@ -92,8 +92,8 @@ front_checks b =
     ∷ []
 
 -- the checks of the whole header, of FvLength and of the extended header, in order, each with its fault
-abbrev pub whole_checks : List ℕ → List (Check Fault)
-whole_checks b =
+abbrev pub later_checks : List ℕ → List (Check Fault)
+later_checks b =
     check (nat_le (header_len_at b) (length b)) kinds.Truncated (length b)
     ∷ check (has_sum (header_len_at b) b) kinds.HeaderSum 0
     ∷ check (has_block_map (header_len_at b) b) kinds.BlockMap 56
@@ -104,7 +104,7 @@ whole_checks b =
 
 -- all checks of a header, in order, each with its fault
 abbrev pub head_checks : List ℕ → List (Check Fault)
-head_checks b = front_checks b ++ whole_checks b
+head_checks b = leading_checks b ++ later_checks b
 
 -- the bytes begin with a volume, as far as its header says. Only then does a call that reads them as a volume take
 -- memory

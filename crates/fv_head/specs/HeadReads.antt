@@ -22,7 +22,7 @@ IfRead (Some x) = IsReadExt x
 abbrev pub CanonicalRest : Option Extension → List ℕ → Type 0
 CanonicalRest None rest = Unit {0}
 CanonicalRest (Some x) rest =
-    (pad : List ℕ) × (used : ℕ) × (behind : List ℕ) × (rest ≡ pad ++ (ext_spelled x used ++ behind)) × (length pad ≡ 24)
+    (pad : List ℕ) × (used : ℕ) × (after : List ℕ) × (rest ≡ pad ++ (ext_spelled x used ++ after)) × (length pad ≡ 24)
 
 -- there are bytes that form a volume header with these fields; this is true of every `VolumeHead`
 abbrev pub IsReadHead : HeadFields → Type 0

@@ -13,6 +13,6 @@ unfoldable pub use Rattle.fv_head.specs.ExtImage.{ext_spelled}
 pub use Rattle.fv_head.specs.HeadReads.{IsReadExt, IfRead, CanonicalRest, IsReadHead, IsCanonicalHead, extent_of}
 pub use Rattle.fv_head.specs.HeadChecks.{has_signature, file_system_at, header_len_at, volume_len_at, is_header_len}
 pub use Rattle.fv_head.specs.HeadChecks.{has_sum, is_zero_pair, is_one_volume, makes_up, blocks_at, has_block_map}
-pub use Rattle.fv_head.specs.HeadChecks.{is_volume_len, ext_offset_at, ext_size_at, has_ext, front_checks, whole_checks}
+pub use Rattle.fv_head.specs.HeadChecks.{is_volume_len, ext_offset_at, ext_size_at, has_ext, leading_checks, later_checks}
 pub use Rattle.fv_head.specs.HeadChecks.{head_checks, BeginsWithHeader}
 pub use Rattle.fv_head.specs.HeadView.{fields_held}

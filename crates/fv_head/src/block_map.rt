@@ -50,6 +50,6 @@ pub(crate) fn first_pair(bytes: &[u8]) -> Option<((u32, u32), &[u8])>
     }
     let count = u32_at(bytes, NUM_BLOCKS_OFFSET);
     let size = u32_at(bytes, BLOCK_LENGTH_OFFSET);
-    let (_, behind) = bytes.split_at(BLOCK_ENTRY_LEN);
-    Some(((count, size), behind))
+    let (_, after) = bytes.split_at(BLOCK_ENTRY_LEN);
+    Some(((count, size), after))
 }

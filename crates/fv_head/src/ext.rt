@@ -148,9 +148,9 @@ fn entries_of(alloc: Global, bytes: &[u8]) -> Result<(Vec<ExtEntry<'_>>, &[u8]),
     let mut entries = Vec::new(alloc);
     let mut rest = bytes;
     while let Some(len) = entry_len(rest) {
-        let (entry, behind) = rest.split_at(len);
+        let (entry, after) = rest.split_at(len);
         entries.push(entry_of(entry))?;
-        rest = behind;
+        rest = after;
     }
     Ok((entries, rest))
 }

@@ -120,9 +120,9 @@ fn blocks_of(alloc: Global, bytes: &[u8]) -> Result<BlockMap, Fault>
 {
     let mut blocks = Vec::new(alloc);
     let mut rest = bytes;
-    while let Some((pair, behind)) = first_pair(rest) {
+    while let Some((pair, after)) = first_pair(rest) {
         blocks.push(pair)?;
-        rest = behind;
+        rest = after;
     }
     Ok(BlockMap::from_vec(blocks))
 }
@@ -133,7 +133,7 @@ fn ext_at<'a>(
     bytes: &'a [u8],
     extent: &Extent,
 ) -> Result<Option<ExtHeader<'a>>, Fault>
-    requires front { (h : HeadFields) × BeginsVolume h extent.now bytes.now }
+    requires begins { (h : HeadFields) × BeginsVolume h extent.now bytes.now }
     ensures ok { IfOk result (λ x. HasExt x extent.now bytes.now) }
     ensures err { IfErr result (λ f. f ≡ out_of_memory) }
 {
@@ -145,7 +145,7 @@ fn ext_at<'a>(
 
 // Reads the header of the volume that the bytes begin with. The header was checked before.
 fn head_of<'a>(alloc: Global, bytes: &'a [u8], extent: &Extent) -> Result<VolumeHead<'a>, Fault>
-    requires front { (h : HeadFields) × BeginsVolume h extent.now bytes.now }
+    requires begins { (h : HeadFields) × BeginsVolume h extent.now bytes.now }
     ensures ok { IfOk result (λ h. BeginsVolume h extent.now bytes.now) }
     ensures err { IfErr result (λ f. f ≡ out_of_memory) }
 {

@@ -5,8 +5,8 @@ ghost use Rattle.fv_base.specs.Words.{IsFirstFault, bytes_of, sum16_of};
 ghost use Rattle.fv_base.specs.inner.Verdicts.{first_fault};
 ghost use Rattle.fv_head.specs.Head.{HeadFields, BeginsVolume, system_guid};
 ghost use Rattle.fv_head.specs.HeadChecks.{has_signature, file_system_at, is_one_volume, header_len_at, is_header_len};
-ghost use Rattle.fv_head.specs.HeadChecks.{is_zero_pair, makes_up, has_block_map, is_volume_len, has_ext, front_checks};
-ghost use Rattle.fv_head.specs.HeadChecks.{whole_checks, head_checks};
+ghost use Rattle.fv_head.specs.HeadChecks.{is_zero_pair, makes_up, has_block_map, is_volume_len, has_ext, leading_checks};
+ghost use Rattle.fv_head.specs.HeadChecks.{later_checks, head_checks};
 ghost use Rattle.fv_head.specs.inner.HeadVerdicts.{ExtHeaderWithin, first_at, extent_at, head_verdict};
 ghost use Rattle.fv_head.specs.Pairs.{pairs_of};
 ghost use Rattle.fv_head.specs.declared.extent.Extent.{Extent};
@@ -127,7 +127,7 @@ fn makes_up(blocks: &[u8], total: u64) -> bool
 {
     let mut rest = blocks;
     let mut left = total;
-    while let Some(((count, size), behind)) = first_pair(rest) {
+    while let Some(((count, size), after)) = first_pair(rest) {
         if is_zero_pair(count, size) {
             return false;
         }
@@ -136,7 +136,7 @@ fn makes_up(blocks: &[u8], total: u64) -> bool
             return false;
         }
         left -= bytes;
-        rest = behind;
+        rest = after;
     }
     left == 0
 }
@@ -207,12 +207,12 @@ fn extent_at(bytes: &[u8], file_system: FileSystem) -> Extent
 }
 
 // Checks the first 56 bytes of the header. Returns the file system, or the first fault.
-fn front_verdict(bytes: &[u8]) -> Result<FileSystem, Fault>
+fn leading_verdict(bytes: &[u8]) -> Result<FileSystem, Fault>
     ensures ok { IfOk result
-        (λ s. (first_fault (front_checks bytes.now) ≡ None) × (file_system_at bytes.now ≡ Some s)) }
+        (λ s. (first_fault (leading_checks bytes.now) ≡ None) × (file_system_at bytes.now ≡ Some s)) }
     ensures long { OnOk result (56 ≤ length bytes.now) }
     ensures header_len { OnOk result (is_header_len (header_len_at bytes.now) ≡ true) }
-    ensures err { IfErr result (λ f. first_fault (front_checks bytes.now) ≡ Some f) }
+    ensures err { IfErr result (λ f. first_fault (leading_checks bytes.now) ≡ Some f) }
 {
     let end = bytes.len() as u64;
     check(bytes.len() >= BLOCK_MAP_OFFSET, FaultKind::Truncated, end)?;
@@ -241,12 +241,12 @@ fn front_verdict(bytes: &[u8]) -> Result<FileSystem, Fault>
 
 // Makes the remaining checks, which are the checks of the whole header, of FvLength and of the
 // extended header. Returns the first fault, if there is one.
-fn whole_verdict(bytes: &[u8]) -> Result<(), Fault>
+fn later_verdict(bytes: &[u8]) -> Result<(), Fault>
     requires long { 56 ≤ length bytes.now }
     requires header_len { is_header_len (header_len_at bytes.now) ≡ true }
-    ensures ok { OnOk result (first_fault (whole_checks bytes.now) ≡ None) }
+    ensures ok { OnOk result (first_fault (later_checks bytes.now) ≡ None) }
     ensures ext { OnOk result (ExtHeaderWithin bytes.now) }
-    ensures err { IfErr result (λ f. first_fault (whole_checks bytes.now) ≡ Some f) }
+    ensures err { IfErr result (λ f. first_fault (later_checks bytes.now) ≡ Some f) }
 {
     let end = bytes.len() as u64;
     let header_len = header_len_at(bytes);
@@ -275,8 +275,8 @@ fn whole_verdict(bytes: &[u8]) -> Result<(), Fault>
 fn verdict(bytes: &[u8]) -> Result<Extent, Fault>
     ensures { result ≡ head_verdict bytes.now }
 {
-    let file_system = front_verdict(bytes)?;
-    whole_verdict(bytes)?;
+    let file_system = leading_verdict(bytes)?;
+    later_verdict(bytes)?;
     Ok(extent_at(bytes, file_system))
 }
 

@@ -15,10 +15,10 @@ use Rattle.fv_hob.specs.Words.{BeginsBlock, hob_checks, is_hob_len, HobForm, IsH
 use Rattle.fv_hob.proofs.BlockKindLemmas.{code_by, len_by}
 
 pub code_is : (h : HobForm) (b : List ℕ) → IsHob h b → hob_type h.kind ≡ le_at 0 2 b
-code_is h b is = ap (λ (g : HobForm). hob_type g.kind) is.said ∙ code_by b (le_at 0 2 b)
+code_is h b is = ap (λ (g : HobForm). hob_type g.kind) is.hob_is ∙ code_by b (le_at 0 2 b)
 
 pub len_is : (h : HobForm) (b : List ℕ) → IsHob h b → hob_len h.kind ≡ length b
-len_is h b is = ap (λ (g : HobForm). hob_len g.kind) is.said ∙ len_by b (is.block).least (le_at 0 2 b) (is.block).shaped
+len_is h b is = ap (λ (g : HobForm). hob_len g.kind) is.hob_is ∙ len_by b (is.block).least (le_at 0 2 b) (is.block).shaped
 
 pub len_small : (h : HobForm) (b : List ℕ) → IsHob h b → hob_len h.kind < 65536
 len_small h b is = subst (λ (n : ℕ). n < 65536) ((is.block).sized ∙ sym (len_is h b is)) (two_bytes 2 b (is.block).bytes)
@@ -51,7 +51,7 @@ stands first r bytes none =
     let long : length c ≡ n = length-take-le n r (leb-true n (length r) checks.inside) in
     let code : le_at 0 2 c ≡ le_at 0 2 r = ap le (field-take 0 2 n r (omega (arith, least))) in
     record {
-      behind = drop n r;
+      rest = drop n r;
       joined = sym (take-append-drop n r);
       block = record {
         bytes = bytes_take n r bytes;
@@ -101,4 +101,4 @@ one_block h g c d x y is js e =
     sym (is.block).sized ∙ sym (ap le (field-append_front 2 2 c x (omega (arith, (is.block).least)))) ∙ ap (le_at 2 2) e
     ∙ ap le (field-append_front 2 2 d y (omega (arith, (js.block).least))) ∙ (js.block).sized in
     let parts = same_cut c d x y len e in
-    record { bytes_are = parts.0; behind_is = parts.1; block_is = is.said ∙ ap hob_in parts.0 ∙ sym js.said }
+    record { bytes_are = parts.0; behind_is = parts.1; block_is = is.hob_is ∙ ap hob_in parts.0 ∙ sym js.hob_is }

@@ -25,7 +25,7 @@ header : (h : HobForm) (b x : List ℕ) → IsHob h b
 header h b x is =
     let bytes = (is.block).bytes in
     let least : 8 ≤ length b = (is.block).least in
-    rw (code_is h b is, len_is h b is ∙ sym (is.block).sized, ap (λ (g : HobForm). g.reserved) is.said)
+    rw (code_is h b is, len_is h b is ∙ sym (is.block).sized, ap (λ (g : HobForm). g.reserved) is.hob_is)
     (ap (λ (l : List ℕ). l ++ (le_bytes 2 (le_at 2 2 b) ++ (le_bytes 4 (le_at 4 4 b) ++ x))) (field_is 0 2 b bytes (omega (arith, least)))
     ∙ ap (λ (l : List ℕ). field 0 2 b ++ (l ++ (le_bytes 4 (le_at 4 4 b) ++ x))) (field_is 2 2 b bytes (omega (arith, least)))
     ∙ ap (λ (l : List ℕ). field 0 2 b ++ (field 2 2 b ++ (l ++ x))) (field_is 4 4 b bytes (omega (arith, least)))
@@ -60,8 +60,8 @@ zeroed h b is e =
         least = subst (λ (n : ℕ). 8 ≤ n) (sym long) block.least;
         shaped = ap (λ (n : ℕ). has_shape n (length c)) code ∙ ap (λ (n : ℕ). has_shape (le_at 0 2 b) n) long ∙ block.shaped;
       };
-      said =
-          is.said ∙ same (le_at 4 4 b) (le_at 4 4 c) (le_at 0 2 b) (le_at 0 2 c) b c (sym reserved) is_unused (code ∙ is_unused) (sym long);
+      hob_is =
+          is.hob_is ∙ same (le_at 4 4 b) (le_at 4 4 c) (le_at 0 2 b) (le_at 0 2 c) b c (sym reserved) is_unused (code ∙ is_unused) (sym long);
     }
   where
     bytes_zeros : (n : ℕ) → IsBytes (replicate n 0)
@@ -83,12 +83,12 @@ zeroed h b is e =
 kept_by : (h : HobForm) (b : List ℕ) → IsHob h b → (le_at 0 2 b == 0xfffe) ≡ false → hob_spelled h ≡ b
 kept_by h b is e = header h b (concat (hob_fields h.kind)) is ∙ ap (λ (l : List ℕ). take 8 b ++ l) body ∙ take-append-drop 8 b where
   body : concat (hob_fields h.kind) ≡ drop 8 b
-  body = ap (λ (g : HobForm). concat (hob_fields g.kind)) is.said ∙ body_by b (is.block).bytes (le_at 0 2 b) (is.block).shaped e
+  body = ap (λ (g : HobForm). concat (hob_fields g.kind)) is.hob_is ∙ body_by b (is.block).bytes (le_at 0 2 b) (is.block).shaped e
 
 pub written_again : (h : HobForm) (b : List ℕ) → IsHob h b → IsHob h (hob_spelled h)
 written_again h b is = go (le_at 0 2 b == 0xfffe) refl where
   zeros : (le_at 0 2 b == 0xfffe) ≡ true → concat (hob_fields h.kind) ≡ replicate (length b - 8) 0
-  zeros e = ap (λ (g : HobForm). concat (hob_fields g.kind)) is.said
+  zeros e = ap (λ (g : HobForm). concat (hob_fields g.kind)) is.hob_is
       ∙ ap (λ (n : ℕ). concat (hob_fields (kind_by n b))) (eqb-true (le_at 0 2 b) 0xfffe e) ∙ append-nil (replicate (length b - 8) 0)
 
   go : (t : Bool) → (le_at 0 2 b == 0xfffe) ≡ t → IsHob h (hob_spelled h)

@@ -3,10 +3,10 @@ use Rattle.std.proofs.lemmas.Grind.{common_steps}
 use Rattle.std.proofs.Common.{◌≡◌, ℕ, List, [], ◌∷◌, ◌++◌, refl, sym, ap, ◌∙◌, arith, append_assoc}
 use Rattle.std.proofs.Common.{append-nil}
 use Rattle.std.specs.List.{AllByRecursion}
-use Rattle.fv_hob.specs.Words.{HobForm, IsHob, hob_type, IsEndHob, IsHobList, IsNoEndHob, JoinsHobs}
+use Rattle.fv_hob.specs.Words.{HobForm, IsHob, hob_type, IsEndHob, IsHobList, IsNotEndHob, JoinsHobs}
 use Rattle.fv_hob.proofs.HobCheckLemmas.{one_block}
 
-pub end_is_none : (g h : HobForm) → h ≡ g → IsNoEndHob h → IsEndHob g → ⊥
+pub end_is_none : (g h : HobForm) → h ≡ g → IsNotEndHob h → IsEndHob g → ⊥
 end_is_none g h e other end = other (ap (λ (f : HobForm). hob_type f.kind) e ∙ end)
 
 -- joined blocks and one more block are joined
@@ -15,7 +15,7 @@ joins_more [] h c d e is = (d, [], ap (λ (l : List ℕ). l ++ d) e ∙ sym (app
 joins_more (g ∷ gs) h c d (c', rest, e, is, more) js =
     (c', rest ++ d, ap (λ (l : List ℕ). l ++ d) e ∙ append_assoc c' rest d, is, joins_more gs h rest d more js)
 
-pub others_more : (hs : List HobForm) (h : HobForm) → AllByRecursion IsNoEndHob hs → IsNoEndHob h → AllByRecursion IsNoEndHob (hs ++ h ∷ [])
+pub others_more : (hs : List HobForm) (h : HobForm) → AllByRecursion IsNotEndHob hs → IsNotEndHob h → AllByRecursion IsNotEndHob (hs ++ h ∷ [])
 others_more [] h all other = (other, tt)
 others_more (g ∷ gs) h all other = (all.0, others_more gs h all.1 other)
 
@@ -31,7 +31,7 @@ pub record SameFront (hs front : List HobForm) (last : HobForm) (x y : List ℕ)
   pub joined : JoinsHobs (more ++ last ∷ []) e
   pub bytes_are : x ≡ e ++ y
 
-pub same_front : (hs front : List HobForm) (last : HobForm) (c d x y : List ℕ) → JoinsHobs hs c → AllByRecursion IsNoEndHob hs
+pub same_front : (hs front : List HobForm) (last : HobForm) (c d x y : List ℕ) → JoinsHobs hs c → AllByRecursion IsNotEndHob hs
     → JoinsHobs (front ++ last ∷ []) d → IsEndHob last → c ++ x ≡ d ++ y
     → SameFront hs front last x y
 same_front [] front last c d x y e all join end same =
@@ -52,8 +52,8 @@ same_front (h ∷ hs) (g ∷ gs) last c d x y (c', rest, e, is, more) all (d', r
 
 -- bytes begin with at most one list: the same blocks, and the same bytes
 pub one_list : (front front' : List HobForm) (last last' : HobForm) (c d x y : List ℕ) → JoinsHobs (front ++ last ∷ []) c
-    → AllByRecursion IsNoEndHob front → IsEndHob last
-    → JoinsHobs (front' ++ last' ∷ []) d → AllByRecursion IsNoEndHob front' → IsEndHob last' → c ++ x ≡ d ++ y
+    → AllByRecursion IsNotEndHob front → IsEndHob last
+    → JoinsHobs (front' ++ last' ∷ []) d → AllByRecursion IsNotEndHob front' → IsEndHob last' → c ++ x ≡ d ++ y
     → (front' ++ last' ∷ [] ≡ front ++ last ∷ []) × (d ≡ c)
 one_list [] [] last last' c d x y (c', rest, e, is, none) all end (d', rest', e', js, none') all' end' same =
     let one = one_block last last' c' d' (rest ++ x) (rest' ++ y) is js (whole c c' rest x e ∙ same ∙ sym (whole d d' rest' y e')) in (

@@ -16,7 +16,7 @@ use Rattle.std.proofs.Math.Seq.{take-add}
 use Rattle.fv_base.specs.Words.{IsFirstFault}
 use Rattle.fv_base.proofs.Laws.{first_among, none_faulty, not_first}
 use Rattle.fv_hob.specs.Words.{BeginsBlock, IsFirstHobFault, BeginsTable, hob_checks, HobForm, IsHob, hob_type, BeginWithTable, IsEndHob}
-use Rattle.fv_hob.specs.Words.{IsHobList, IsNoEndHob, JoinsHobs}
+use Rattle.fv_hob.specs.Words.{IsHobList, IsNotEndHob, JoinsHobs}
 use Rattle.fv_hob.specs.declared.fault.HobFault.{HobFault}
 use Rattle.fv_hob.specs.declared.fault.HobFaultKind.{HobFaultKind}
 use Rattle.fv_hob.specs.declared.fault.HobFaultKind.TheVariants as kinds
@@ -27,7 +27,7 @@ use Rattle.fv_hob.proofs.HobListLemmas.{joins_more, others_more, same_front}
 pub record HobsKept (b : List ℕ) (items : List HobForm) (at : ℕ) : Type 0 where
   pub joined : JoinsHobs items (take at b)
   pub begins : BeginWithTable items
-  pub others : AllByRecursion IsNoEndHob items
+  pub others : AllByRecursion IsNotEndHob items
   pub inside : at ≤ length b
 
 begins_more : (items : List HobForm) (h : HobForm) → BeginWithTable items → ((length items == 0) ≡ true → hob_type h.kind ≡ 0x0001)
@@ -45,9 +45,9 @@ pub record OneMoreHob (b : List ℕ) (items : List HobForm) (h : HobForm) (at n 
 pub one_more : (b : List ℕ) (items : List HobForm) (h : HobForm) (c : List ℕ) (at : ℕ) (first : Bool) → first ≡ (length items == 0)
     → HobsKept b items at → BeginsBlock first c (drop at b) → IsHob h c → OneMoreHob b items h at (length c)
 one_more b items h c at first first_is k stands is =
-    let whole : drop at b ≡ c ++ stands.behind = stands.joined in
-    let part : take (length c) (drop at b) ≡ c = ap (take (length c)) whole ∙ take_at c stands.behind (length c) refl in
-    let long : length (drop at b) ≡ length c + length stands.behind = ap length whole ∙ length-append c stands.behind in
+    let whole : drop at b ≡ c ++ stands.rest = stands.joined in
+    let part : take (length c) (drop at b) ≡ c = ap (take (length c)) whole ∙ take_at c stands.rest (length c) refl in
+    let long : length (drop at b) ≡ length c + length stands.rest = ap length whole ∙ length-append c stands.rest in
     record {
       joined = subst (λ (l : List ℕ). JoinsHobs (items ++ h ∷ []) l)
           (sym (take-add at (length c) b ∙ ap (λ (l : List ℕ). take at b ++ l) part)) (joins_more items h (take at b) c k.joined is);
@@ -57,7 +57,7 @@ one_more b items h c at first first_is k stands is =
     }
 
 pub kept : (b : List ℕ) (items new : List HobForm) (h : HobForm) (c : List ℕ) (at : ℕ) (first : Bool) → first ≡ (length items == 0)
-    → HobsKept b items at → BeginsBlock first c (drop at b) → IsHob h c → IsNoEndHob h → new ≡ items ++ h ∷ []
+    → HobsKept b items at → BeginsBlock first c (drop at b) → IsHob h c → IsNotEndHob h → new ≡ items ++ h ∷ []
     → HobsKept b new (at + length c)
 kept b items new h c at first first_is k stands is other new_is =
     let more = one_more b items h c at first first_is k stands is in
@@ -75,7 +75,7 @@ ended b items new h c at first first_is k stands is end new_is =
     let more = one_more b items h c at first first_is k stands is in (
       more.inside,
       subst (λ (l : List HobForm). IsHobList l (take (at + length c) b)) (sym new_is) (record {
-        front = items;
+        before = items;
         last = h;
         ends = refl;
         joined = more.joined;
@@ -98,7 +98,7 @@ table_stands b (h ∷ hs) c at first first_is k stands = go k.joined k.begins wh
   go (d, rest, e, is, more) begins = (
     d,
     record {
-      behind = rest ++ drop at b;
+      rest = rest ++ drop at b;
       joined = sym (take-append-drop at b) ∙ ap (λ (l : List ℕ). l ++ drop at b) e ∙ append_assoc d rest (drop at b);
       block = is.block;
       begins = λ t. sym (code_is h d is) ∙ begins;
@@ -129,7 +129,7 @@ no_want begins r kind first =
 -- if there is a first fault, the bytes do not begin with a list
 pub none_after : (b : List ℕ) (f : HobFault) (all : List HobForm) (d y : List ℕ) → IsFirstHobFault b f → IsHobList all d → b ≡ d ++ y → ⊥
 none_after b f all d y here is whole =
-    let s = same_front here.before is.front is.last here.c d here.r y here.read here.others
+    let s = same_front here.before is.before is.last here.c d here.r y here.read here.others
     (subst (λ (l : List HobForm). JoinsHobs l d) is.ends is.joined) is.last_is (sym here.joined ∙ whole) in
     go s.more s.e s.joined s.bytes_are (is.ends ∙ ap (λ (l : List HobForm). l ++ (is.last ∷ [])) s.front_is)
   where

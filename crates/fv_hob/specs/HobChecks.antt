@@ -3,7 +3,7 @@ use Rattle.std.specs.Prelude.{◌≡◌, ℕ, ◌%◌, ◌==◌, nat_le, ◌&&�
 use Rattle.std.specs.List.{AllByRecursion}
 use Rattle.fv_base.specs.Words.{Check, IsFirstFault}
 use Rattle.fv_hob.specs.Hobs.{HobForm, IsBlock, has_shape, hob_len_at, hob_type_at}
-use Rattle.fv_hob.specs.Lists.{BeginWithTable, IsNoEndHob, JoinsHobs}
+use Rattle.fv_hob.specs.Lists.{BeginWithTable, IsNotEndHob, JoinsHobs}
 use Rattle.fv_hob.specs.declared.fault.HobFault.{HobFault}
 use Rattle.fv_hob.specs.declared.fault.HobFaultKind.{HobFaultKind}
 use Rattle.fv_hob.specs.declared.fault.HobFaultKind.TheVariants as kinds
@@ -29,8 +29,8 @@ hob_checks first r =
 
 -- r begins with the block c, and if c is the first block of the list, it is a hand-off information table
 pub record BeginsBlock (first : Bool) (c r : List ℕ) : Type 0 where
-  pub behind : List ℕ
-  pub joined : r ≡ c ++ behind
+  pub rest : List ℕ
+  pub joined : r ≡ c ++ rest
   pub block : IsBlock c
   pub begins : first ≡ true → hob_type_at c ≡ 0x0001
 
@@ -47,7 +47,7 @@ pub record IsFirstHobFault (b : List ℕ) (fault : HobFault) : Type 0 where
   pub joined : b ≡ c ++ r
   pub read : JoinsHobs before c
   pub begins : BeginWithTable before
-  pub others : AllByRecursion IsNoEndHob before
+  pub others : AllByRecursion IsNotEndHob before
   pub place : fault.offset ≡ length c
   pub kind_is : IsFirstFault (hob_checks (length before == 0) r) fault.kind
 

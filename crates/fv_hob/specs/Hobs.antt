@@ -19,9 +19,9 @@ pub record HobForm : Type 0 where
 -- _RESOURCE_DESCRIPTOR 0x0003, _GUID_EXTENSION 0x0004, _FV 0x0005, _CPU 0x0006, _MEMORY_POOL 0x0007, _FV2 0x0009,
 -- _UEFI_CAPSULE 0x000B, _UNUSED 0xFFFE, and _END_OF_HOB_LIST 0xFFFF
 abbrev pub hob_type : HobKind → ℕ
-hob_type (kinds.Handoff said) = 0x0001
-hob_type (kinds.MemoryAllocation said) = 0x0002
-hob_type (kinds.Resource said) = 0x0003
+hob_type (kinds.Handoff fields) = 0x0001
+hob_type (kinds.MemoryAllocation fields) = 0x0002
+hob_type (kinds.Resource fields) = 0x0003
 hob_type (kinds.GuidExtension name payload) = 0x0004
 hob_type (kinds.FirmwareVolume base len) = 0x0005
 hob_type (kinds.Cpu memory io reserved) = 0x0006
@@ -34,9 +34,9 @@ hob_type (kinds.Other code payload) = code
 
 -- the length in bytes of a block with this content, including its header of 8 bytes
 abbrev pub hob_len : HobKind → ℕ
-hob_len (kinds.Handoff said) = 56
-hob_len (kinds.MemoryAllocation said) = 48 + length said.rest
-hob_len (kinds.Resource said) = 48
+hob_len (kinds.Handoff fields) = 56
+hob_len (kinds.MemoryAllocation fields) = 48 + length fields.rest
+hob_len (kinds.Resource fields) = 48
 hob_len (kinds.GuidExtension name payload) = 24 + length payload
 hob_len (kinds.FirmwareVolume base len) = 24
 hob_len (kinds.Cpu memory io reserved) = 16
@@ -137,7 +137,7 @@ pub record IsBlock (b : List ℕ) : Type 0 where
 -- b is the block h: its bytes have the reserved field and the content of h
 pub record IsHob (h : HobForm) (b : List ℕ) : Type 0 where
   pub block : IsBlock b
-  pub said : h ≡ hob_in b
+  pub hob_is : h ≡ hob_in b
 
 -- some bytes are this block, which is true of every `Hob`
 abbrev pub IsReadHob : HobForm → Type 0
@@ -145,15 +145,15 @@ IsReadHob h = (b : List ℕ) × IsHob h b
 
 -- the bytes of the fields after a block's header, in order; the body of an unused block is zeros
 abbrev pub hob_fields : HobKind → List (List ℕ)
-hob_fields (kinds.Handoff said) =
-    le_bytes 4 said.version ∷ le_bytes 4 said.boot_mode ∷ le_bytes 8 said.memory_top ∷ le_bytes 8 said.memory_bottom
-    ∷ le_bytes 8 said.free_memory_top ∷ le_bytes 8 said.free_memory_bottom ∷ le_bytes 8 said.end_of_list ∷ []
-hob_fields (kinds.MemoryAllocation said) =
-    bytes_of said.name ∷ le_bytes 8 said.base ∷ le_bytes 8 said.length ∷ le_bytes 4 said.memory_type ∷ said.reserved
-    ∷ said.rest ∷ []
-hob_fields (kinds.Resource said) =
-    bytes_of said.owner ∷ le_bytes 4 said.resource_type ∷ le_bytes 4 said.attribute ∷ le_bytes 8 said.start
-    ∷ le_bytes 8 said.length ∷ []
+hob_fields (kinds.Handoff fields) =
+    le_bytes 4 fields.version ∷ le_bytes 4 fields.boot_mode ∷ le_bytes 8 fields.memory_top ∷ le_bytes 8 fields.memory_bottom
+    ∷ le_bytes 8 fields.free_memory_top ∷ le_bytes 8 fields.free_memory_bottom ∷ le_bytes 8 fields.end_of_list ∷ []
+hob_fields (kinds.MemoryAllocation fields) =
+    bytes_of fields.name ∷ le_bytes 8 fields.base ∷ le_bytes 8 fields.length ∷ le_bytes 4 fields.memory_type ∷ fields.reserved
+    ∷ fields.rest ∷ []
+hob_fields (kinds.Resource fields) =
+    bytes_of fields.owner ∷ le_bytes 4 fields.resource_type ∷ le_bytes 4 fields.attribute ∷ le_bytes 8 fields.start
+    ∷ le_bytes 8 fields.length ∷ []
 hob_fields (kinds.GuidExtension name payload) = bytes_of name ∷ payload ∷ []
 hob_fields (kinds.FirmwareVolume base len) = le_bytes 8 base ∷ le_bytes 8 len ∷ []
 hob_fields (kinds.Cpu memory io reserved) = (memory ∷ io ∷ []) ∷ reserved ∷ []

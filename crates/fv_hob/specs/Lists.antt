@@ -16,8 +16,8 @@ abbrev pub IsEndHob : HobForm → Type 0
 IsEndHob h = hob_type h.kind ≡ 0xffff
 
 -- h is not an end block (EFI_HOB_TYPE_END_OF_HOB_LIST)
-abbrev pub IsNoEndHob : HobForm → Type 0
-IsNoEndHob h = hob_type h.kind ≢ 0xffff
+abbrev pub IsNotEndHob : HobForm → Type 0
+IsNotEndHob h = hob_type h.kind ≢ 0xffff
 
 -- there are no blocks, or the first block is a hand-off information table (PHIT)
 abbrev pub BeginWithTable : List HobForm → Type 0
@@ -26,12 +26,12 @@ BeginWithTable (h ∷ hs) = hob_type h.kind ≡ 0x0001
 
 -- b is the bytes of the list's blocks; the first block is a PHIT, and the last block is the only end block
 pub record IsHobList (all : List HobForm) (b : List ℕ) : Type 0 where
-  pub front : List HobForm
+  pub before : List HobForm
   pub last : HobForm
-  pub ends : all ≡ front ++ (last ∷ [])
+  pub ends : all ≡ before ++ (last ∷ [])
   pub joined : JoinsHobs all b
   pub begins : BeginWithTable all
-  pub others : AllByRecursion IsNoEndHob front
+  pub others : AllByRecursion IsNotEndHob before
   pub last_is : IsEndHob last
 
 -- h is not an unused block (EFI_HOB_TYPE_UNUSED)

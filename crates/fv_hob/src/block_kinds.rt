@@ -56,7 +56,7 @@ fn span_at(block: &[u8], at: usize) -> (u64, u64)
 // Reads the fields of a memory allocation.
 fn allocation_in(alloc: Global, block: &[u8]) -> Result<MemoryAllocation, AllocError>
     requires { 48 ≤ length block.now }
-    ensures { IfOk result (λ said. said ≡ allocation_in block.now) }
+    ensures { IfOk result (λ fields. fields ≡ allocation_in block.now) }
 {
     let mut reserved = [0u8; 4];
     reserved.copy_from_slice(field(block, allocation::RESERVED, 4));

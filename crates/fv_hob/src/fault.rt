@@ -70,7 +70,7 @@ impl HobFault {
 }
 
 /// The fault that is returned when memory runs out.
-const WANT_OF_MEMORY: HobFault = HobFault {
+const OUT_OF_MEMORY: HobFault = HobFault {
     kind: HobFaultKind::OutOfMemory,
     offset: 0,
 };
@@ -80,7 +80,7 @@ impl From<AllocError> for HobFault {
     ghost from_gives = { λ _ f. f ≡ hob_out_of_memory };
 
     fn from(_error: AllocError) -> HobFault {
-        WANT_OF_MEMORY
+        OUT_OF_MEMORY
     }
 }
 
@@ -89,6 +89,6 @@ impl<T: Drop> From<AllocFailed<T>> for HobFault {
     ghost from_gives = { λ _ f. f ≡ hob_out_of_memory };
 
     fn from(_error: AllocFailed<T>) -> HobFault {
-        WANT_OF_MEMORY
+        OUT_OF_MEMORY
     }
 }

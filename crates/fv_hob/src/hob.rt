@@ -161,7 +161,7 @@ fn len_of(kind: &HobKind) -> usize
 {
     match kind {
         HobKind::Handoff(_) => handoff::LEN,
-        HobKind::MemoryAllocation(said) => allocation::LEAST + said.rest.as_slice().len(),
+        HobKind::MemoryAllocation(fields) => allocation::LEAST + fields.rest.as_slice().len(),
         HobKind::Resource(_) => resource::LEN,
         HobKind::GuidExtension { payload, .. } => extension::LEAST + payload.as_slice().len(),
         HobKind::FirmwareVolume { .. } | HobKind::Capsule { .. } => span::LEN,

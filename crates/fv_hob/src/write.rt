@@ -74,37 +74,37 @@ fn push_span(bytes: &mut Vec<u8>, base: u64, length: u64) -> Result<(), AllocErr
 }
 
 // Appends the body of a hand-off information table.
-fn push_handoff(bytes: &mut Vec<u8>, said: &Handoff) -> Result<(), AllocError>
-    ensures { OnOk result (bytes.new.items ≡ bytes.old.items ++ concat (hob_fields (kinds.Handoff said.now))) }
+fn push_handoff(bytes: &mut Vec<u8>, fields: &Handoff) -> Result<(), AllocError>
+    ensures { OnOk result (bytes.new.items ≡ bytes.old.items ++ concat (hob_fields (kinds.Handoff fields.now))) }
 {
-    push_u32(bytes, said.version)?;
-    push_u32(bytes, said.boot_mode)?;
-    push_u64(bytes, said.memory_top)?;
-    push_u64(bytes, said.memory_bottom)?;
-    push_u64(bytes, said.free_memory_top)?;
-    push_u64(bytes, said.free_memory_bottom)?;
-    push_u64(bytes, said.end_of_list)
+    push_u32(bytes, fields.version)?;
+    push_u32(bytes, fields.boot_mode)?;
+    push_u64(bytes, fields.memory_top)?;
+    push_u64(bytes, fields.memory_bottom)?;
+    push_u64(bytes, fields.free_memory_top)?;
+    push_u64(bytes, fields.free_memory_bottom)?;
+    push_u64(bytes, fields.end_of_list)
 }
 
 // Appends the body of a memory allocation.
-fn push_allocation(bytes: &mut Vec<u8>, said: &MemoryAllocation) -> Result<(), AllocError>
-    ensures { OnOk result (bytes.new.items ≡ bytes.old.items ++ concat (hob_fields (kinds.MemoryAllocation said.now))) }
+fn push_allocation(bytes: &mut Vec<u8>, fields: &MemoryAllocation) -> Result<(), AllocError>
+    ensures { OnOk result (bytes.new.items ≡ bytes.old.items ++ concat (hob_fields (kinds.MemoryAllocation fields.now))) }
 {
-    push_guid(bytes, &said.name)?;
-    push_span(bytes, said.base, said.length)?;
-    push_u32(bytes, said.memory_type)?;
-    push_bytes(bytes, &said.reserved)?;
-    push_bytes(bytes, said.rest.as_slice())
+    push_guid(bytes, &fields.name)?;
+    push_span(bytes, fields.base, fields.length)?;
+    push_u32(bytes, fields.memory_type)?;
+    push_bytes(bytes, &fields.reserved)?;
+    push_bytes(bytes, fields.rest.as_slice())
 }
 
 // Appends the body of a resource.
-fn push_resource(bytes: &mut Vec<u8>, said: &Resource) -> Result<(), AllocError>
-    ensures { OnOk result (bytes.new.items ≡ bytes.old.items ++ concat (hob_fields (kinds.Resource said.now))) }
+fn push_resource(bytes: &mut Vec<u8>, fields: &Resource) -> Result<(), AllocError>
+    ensures { OnOk result (bytes.new.items ≡ bytes.old.items ++ concat (hob_fields (kinds.Resource fields.now))) }
 {
-    push_guid(bytes, &said.owner)?;
-    push_u32(bytes, said.resource_type)?;
-    push_u32(bytes, said.attribute)?;
-    push_span(bytes, said.start, said.length)
+    push_guid(bytes, &fields.owner)?;
+    push_u32(bytes, fields.resource_type)?;
+    push_u32(bytes, fields.attribute)?;
+    push_span(bytes, fields.start, fields.length)
 }
 
 // Appends the bytes of `one`, followed by the bytes of `other`.
@@ -135,9 +135,9 @@ fn push_body(bytes: &mut Vec<u8>, kind: &HobKind) -> Result<(), AllocError>
     ensures { OnOk result (bytes.new.items ≡ bytes.old.items ++ concat (hob_fields kind.now)) }
 {
     match kind {
-        HobKind::Handoff(said) => push_handoff(bytes, said),
-        HobKind::MemoryAllocation(said) => push_allocation(bytes, said),
-        HobKind::Resource(said) => push_resource(bytes, said),
+        HobKind::Handoff(fields) => push_handoff(bytes, fields),
+        HobKind::MemoryAllocation(fields) => push_allocation(bytes, fields),
+        HobKind::Resource(fields) => push_resource(bytes, fields),
         HobKind::GuidExtension { name, payload } => {
             push_pair(bytes, &name.to_bytes(), payload.as_slice())
         }

@@ -102,7 +102,7 @@ pub fit_together : (input : List ℕ) (e : Extent) (cs : List CellForm) → Begi
 fit_together input e cs b within =
     let volume = take e.length input in
     let small : length volume ≤ volume_limit =
-    omega (arith, length-take-le e.length input b.front.whole, b.front.length_is, b.front.head.volume_most) in
+    omega (arith, length-take-le e.length input b.begins.whole, b.begins.length_is, b.begins.head.volume_most) in
     record {
       each = all_fit (length volume) cs small within;
       together =

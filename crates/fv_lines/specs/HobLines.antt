@@ -5,8 +5,8 @@ use Rattle.fv_head.specs.Words.{HeadFields, BeginsVolume}
 use Rattle.fv_head.specs.declared.extent.Extent.{Extent}
 use Rattle.fv_hob.specs.Words.{HobForm, hob_type, hob_len, span_of}
 use Rattle.fv_hob.specs.declared.span.Span.{Span}
-use Rattle.fv_lines.specs.declared.hob_text.Standing.{Standing}
-use Rattle.fv_lines.specs.declared.hob_text.Standing.TheVariants.{Outside, Volume, Absent}
+use Rattle.fv_lines.specs.declared.hob_text.SpanContent.{SpanContent}
+use Rattle.fv_lines.specs.declared.hob_text.SpanContent.TheVariants.{Outside, Volume, Absent}
 use Rattle.fv_text.specs.Words.{four_digits, line_feed}
 use Rattle.fv_lines.specs.declared.hob_text.MappedImage.{MappedImage}
 
@@ -25,10 +25,10 @@ IsWholeVolume b = (h : HeadFields) × (e : Extent) × BeginsVolume h e b × (e.l
 
 -- the content of the image in the span: Outside, if the span is not within the image; otherwise Volume, if a volume
 -- fills the span, or Absent, if none does
-abbrev pub IsStanding : List ℕ → ℕ → Span → Standing → Type 0
-IsStanding image base s Outside = IsMapped base (length image) s → ⊥
-IsStanding image base s Volume = IsMapped base (length image) s × IsWholeVolume (bytes_in_span image base s)
-IsStanding image base s Absent = IsMapped base (length image) s × (IsWholeVolume (bytes_in_span image base s) → ⊥)
+abbrev pub IsSpanContent : List ℕ → ℕ → Span → SpanContent → Type 0
+IsSpanContent image base s Outside = IsMapped base (length image) s → ⊥
+IsSpanContent image base s Volume = IsMapped base (length image) s × IsWholeVolume (bytes_in_span image base s)
+IsSpanContent image base s Absent = IsMapped base (length image) s × (IsWholeVolume (bytes_in_span image base s) → ⊥)
 
 -- an image: its bytes, and the address of the first byte
 pub record MappedForm : Type 0 where
@@ -54,17 +54,17 @@ abbrev pub consumed_line : ℕ → List ℕ
 consumed_line n = codes "consumed " ++ (decimal n ++ line_feed)
 
 -- the word for the content of an image in a span, with a space before it: `outside`, `volume` or `absent`
-abbrev pub standing_word : Standing → List ℕ
-standing_word Outside = codes " outside"
-standing_word Volume = codes " volume"
-standing_word Absent = codes " absent"
+abbrev pub span_content_word : SpanContent → List ℕ
+span_content_word Outside = codes " outside"
+span_content_word Volume = codes " volume"
+span_content_word Absent = codes " absent"
 
 -- the word for the volume that should be in a span; it is empty if there is no image or no span
 abbrev pub IsSpanWord : Option MappedForm → Option Span → List ℕ → Type 0
 IsSpanWord None span word = word ≡ []
 IsSpanWord (Some image) None word = word ≡ []
 IsSpanWord (Some image) (Some span) word =
-    (s : Standing) × IsStanding image.bytes image.base span s × (word ≡ standing_word s)
+    (s : SpanContent) × IsSpanContent image.bytes image.base span s × (word ≡ span_content_word s)
 
 -- the word for the volume that a block describes
 abbrev pub IsWord : Option MappedForm → HobForm → List ℕ → Type 0

@@ -1,7 +1,7 @@
 -- The definitions that this crate exports. Other crates import them from here.
 pub use Rattle.fv_lines.specs.ScanLines.{volume_place, volume_line}
-pub use Rattle.fv_lines.specs.HobLines.{IsMapped, bytes_in_span, IsWholeVolume, IsStanding, MappedForm, held_image}
-pub use Rattle.fv_lines.specs.HobLines.{image_form, hob_line, consumed_line, standing_word, IsSpanWord, IsWord}
+pub use Rattle.fv_lines.specs.HobLines.{IsMapped, bytes_in_span, IsWholeVolume, IsSpanContent, MappedForm, held_image}
+pub use Rattle.fv_lines.specs.HobLines.{image_form, hob_line, consumed_line, span_content_word, IsSpanWord, IsWord}
 pub use Rattle.fv_lines.specs.HobLines.{HobLines, HobsText}
 pub use Rattle.fv_lines.specs.CellTexts.{span_text, span_line, file_line, dead_name, cell_line, file_length, pad_length}
 pub use Rattle.fv_lines.specs.CellTexts.{dead_length, filler_length, free_length, sums_of, sums_line, cell_lines}

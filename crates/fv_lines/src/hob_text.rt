@@ -1,8 +1,8 @@
 //! The lines of `hobs`, and the content of an image where a volume should be.
 
 ghost use Rattle.std.specs.Prelude.{◌≡◌, ℕ, List, MatchOption, length};
-ghost use Rattle.fv_lines.specs.HobLines.{HobsText, IsWord, consumed_line, hob_line, standing_word, held_image};
-ghost use Rattle.fv_lines.specs.HobLines.{IsMapped, IsStanding, bytes_in_span};
+ghost use Rattle.fv_lines.specs.HobLines.{HobsText, IsWord, consumed_line, hob_line, span_content_word, held_image};
+ghost use Rattle.fv_lines.specs.HobLines.{IsMapped, IsSpanContent, bytes_in_span};
 
 use fv_base::Sink;
 use fv_base::field::field;
@@ -12,7 +12,7 @@ use fv_text::{put_decimal, put_four_digits};
 
 /// The content of an image in a span where a volume should be.
 #[derive(Clone, Copy, Debug, PartialEq, Eq)]
-pub enum Standing {
+pub enum SpanContent {
     /// The span is not within the image.
     Outside,
     /// A volume fills the span: `verify_fv` of its bytes returns the length of the span.
@@ -21,15 +21,15 @@ pub enum Standing {
     Absent,
 }
 
-impl Standing {
+impl SpanContent {
     /// Returns the word for this content, after a space: `outside`, `volume` or `absent`.
     pub fn word(self) -> &'static str
-        ensures { result.now ≡ standing_word self }
+        ensures { result.now ≡ span_content_word self }
     {
         match self {
-            Standing::Outside => " outside",
-            Standing::Volume => " volume",
-            Standing::Absent => " absent",
+            SpanContent::Outside => " outside",
+            SpanContent::Volume => " volume",
+            SpanContent::Absent => " absent",
         }
     }
 }
@@ -58,15 +58,15 @@ fn span_bytes(image: &[u8], base: u64, span: Span) -> Option<&[u8]>
 
 /// Returns the content of an image in a span where a volume should be. `base` is the address of the
 /// image's first byte. Addresses are compared as whole numbers, and nothing wraps.
-pub fn standing_of(image: &[u8], base: u64, span: Span) -> Standing
-    ensures { IsStanding image.now base span result }
+pub fn span_content(image: &[u8], base: u64, span: Span) -> SpanContent
+    ensures { IsSpanContent image.now base span result }
 {
     let Some(bytes) = span_bytes(image, base, span) else {
-        return Standing::Outside;
+        return SpanContent::Outside;
     };
     match verify_fv(bytes) {
-        Ok(extent) if extent.length == span.length => Standing::Volume,
-        _ => Standing::Absent,
+        Ok(extent) if extent.length == span.length => SpanContent::Volume,
+        _ => SpanContent::Absent,
     }
 }
 
@@ -76,7 +76,7 @@ fn word_of(hob: &Hob, image: Option<MappedImage<'_>>) -> &'static str
     ensures { IsWord (held_image image.entry) hob.now result.now }
 {
     match (hob.span(), image) {
-        (Some(span), Some(image)) => standing_of(image.bytes, image.base, span).word(),
+        (Some(span), Some(image)) => span_content(image.bytes, image.base, span).word(),
         _ => "",
     }
 }

@@ -21,7 +21,7 @@ use Rattle.std.proofs.lemmas.List.Elements.{All-from_get_or, recursion_from_All}
 use Rattle.std.proofs.lemmas.List.Folds.{Any-from_list_any, list_any_at, list_any_none}
 use Rattle.fv_base.specs.declared.guid.Guid.{Guid}
 use Rattle.fv_base.proofs.Laws.{at_index}
-use Rattle.fv_names.specs.Words.{NamedFile, NoTwins, is_twin, names_in, replaced_by, same_name, AllApart, Entry, IsIndex, IsName, halves_of}
+use Rattle.fv_names.specs.Words.{NamedFile, NoTwins, is_twin, names_in, replaced_by, same_name, NeighboursDiffer, Entry, IsIndex, IsName, halves_of}
 use Rattle.fv_names.specs.inner.NameOrders.{AreTwins, IsTwinAt, SharesItsName, mark_at}
 use Rattle.fv_names.proofs.IndexLaws.{between, beyond, no_named, of_name, place_of, upward}
 use Rattle.fv_names.proofs.NumberedLaws.{names_decide}
@@ -263,7 +263,7 @@ module _ (fs : List NamedFile) (es : List Entry) (index : IsIndex (names_in fs) 
 
   -- ---- names that differ
 
-  module _ (apart : AllApart es) where
+  module _ (apart : NeighboursDiffer es) where
     no_twin_at : (r : ℕ) → 0 < r → r < length es → IsTwinAt fs d es e r → ⊥
     no_twin_at r above l (inl h) = apart e r above l h.0
     no_twin_at r above l (inr h) =

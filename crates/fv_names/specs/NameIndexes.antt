@@ -53,6 +53,6 @@ abbrev pub entries_of : NameIndex → List Entry
 entries_of index = index.sorted.items
 
 -- no two adjacent entries have the same name; `e` is the value of a read past the last entry
-abbrev pub AllApart : List Entry → Type 0
-AllApart es =
+abbrev pub NeighboursDiffer : List Entry → Type 0
+NeighboursDiffer es =
     (e : Entry) (place : ℕ) → 0 < place → place < length es → (get_or es (place - 1) e).0 ≢ (get_or es place e).0

@@ -6,7 +6,7 @@ ghost use Rattle.std.specs.List.{list_any, position};
 ghost use Rattle.fv_base.specs.Words.{out_of_memory};
 ghost use Rattle.fv_base.specs.declared.guid.Guid.{Guid};
 ghost use Rattle.fv_names.specs.NamedFiles.{NamedFile, NoTwins, is_name, is_twin, names_in, replaced_by};
-ghost use Rattle.fv_names.specs.NameIndexes.{AllApart, Entry, IsIndex, IsName, IsSixteenBytes, entries_of, entry_cmp};
+ghost use Rattle.fv_names.specs.NameIndexes.{NeighboursDiffer, Entry, IsIndex, IsName, IsSixteenBytes, entries_of, entry_cmp};
 ghost use Rattle.fv_names.specs.NameIndexes.{halves_in, halves_of};
 ghost use Rattle.fv_names.specs.inner.NameOrders.{AreTwins, IsTwinAt, SharesItsName, mark_at};
 
@@ -108,8 +108,8 @@ impl NameIndex {
     /// Returns whether no two of the files have the same name. The entries must be sorted.
     pub fn are_distinct(&self) -> bool
         requires { IsSorted entry_cmp (entries_of self.now) }
-        ensures distinct { IsTrue result → AllApart (entries_of self.now) }
-        ensures all { AllApart (entries_of self.now) → IsTrue result }
+        ensures distinct { IsTrue result → NeighboursDiffer (entries_of self.now) }
+        ensures all { NeighboursDiffer (entries_of self.now) → IsTrue result }
     {
         for next in 1..self.sorted.len() {
             if self.sorted[next - 1].0 == self.sorted[next].0 {
@@ -173,7 +173,7 @@ impl NameIndex {
     /// place.
     pub fn is_replaced<F: Named>(&self, files: &[F], place: usize) -> bool
         requires index { IsIndex (names_in (map F.named files.now)) (entries_of self.now) }
-        requires apart { NoTwins (map F.named files.now) }
+        requires no_twins { NoTwins (map F.named files.now) }
         requires last { place < length (entries_of self.now) }
         ensures { (d : NamedFile) (e : Entry) → result
             ≡ list_any (replaced_by (get_or (map F.named files.now) (get_or (entries_of self.now) place e).1 d))

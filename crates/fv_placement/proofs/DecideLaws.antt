@@ -8,8 +8,8 @@ use Rattle.std.proofs.Common.{◌≡◌, ◌≤◌, ◌<◌, ◌+◌, ◌-◌, �
 use Rattle.std.specs.Prelude.{get_or, IsTrue}
 use Rattle.std.proofs.lemmas.Bool.{cases_lt}
 use Rattle.fv_base.specs.Words.{up_to_8}
-use Rattle.fv_placement.specs.Words.{HasNoRoom, IsOff, TopOff, IsFirstPlacement, Lawful, Placement, StandsInVolume, StartsFollow}
-use Rattle.fv_placement.specs.declared.first_placement.LayoutItem.{LayoutItem}
+use Rattle.fv_placement.specs.Words.{HasNoRoom, IsOff, TopOff, IsFirstPlacement, Lawful, Placement, IsStartInVolume, StartsFollow}
+use Rattle.fv_placement.specs.declared.first_placement.PlacementItem.{PlacementItem}
 
 abbrev Decided : Type 0 → Type 0
 Decided P = P ⊎ (P → ⊥)
@@ -57,18 +57,18 @@ if_dec (inr none) (inr nay) = inl (λ p. absurd (none p))
 
 -- ---- one start
 
-lawful_dec : (e : ℕ) (f : LayoutItem) (s : ℕ) → Decided (Lawful e f s)
+lawful_dec : (e : ℕ) (f : PlacementItem) (s : ℕ) → Decided (Lawful e f s)
 lawful_dec e f s = go (both (eq_dec (s % 8) 0) (both (either (eq_dec s e) (le_dec (e + 24) s)) (eq_dec ((s + f.header) % f.alignment) 0)))
   where
     go : Decided ((s % 8 ≡ 0) × (((s ≡ e) ⊎ (e + 24 ≤ s)) × ((s + f.header) % f.alignment ≡ 0))) → Decided (Lawful e f s)
-    go (inl (a, (b, c))) = inl (record { eighth = a; apart = b; aligned = c })
-    go (inr nay) = inr (λ h. nay (h.eighth, (h.apart, h.aligned)))
+    go (inl (a, (b, c))) = inl (record { eighth = a; gap = b; aligned = c })
+    go (inr nay) = inr (λ h. nay (h.eighth, (h.gap, h.aligned)))
 
-stands_dec : (total e : ℕ) (f : LayoutItem) (s : ℕ) → Decided (StandsInVolume total e f s)
+stands_dec : (total e : ℕ) (f : PlacementItem) (s : ℕ) → Decided (IsStartInVolume total e f s)
 stands_dec total e f s =
     go (both (lawful_dec e f s) (both (le_dec (s + f.size) total) (if_dec (true_dec f.top) (eq_dec (s + f.size) total))))
   where
-    go : Decided (Lawful e f s × ((s + f.size ≤ total) × (IsTrue f.top → s + f.size ≡ total))) → Decided (StandsInVolume total e f s)
+    go : Decided (Lawful e f s × ((s + f.size ≤ total) × (IsTrue f.top → s + f.size ≡ total))) → Decided (IsStartInVolume total e f s)
     go (inl (a, (b, c))) = inl (record { lawful = a; within = b; at_end = c })
     go (inr nay) = inr (λ h. nay (h.lawful, (h.within, h.at_end)))
 
@@ -92,11 +92,11 @@ least_of P dec (suc n) = next (least_of P dec n) (dec n) where
 -- ---- the starts of files
 
 -- starts that follow an edge, each the least with the same starts before it
-abbrev FirstFollow : ℕ → ℕ → List LayoutItem → List ℕ → Type 0
+abbrev FirstFollow : ℕ → ℕ → List PlacementItem → List ℕ → Type 0
 FirstFollow total e fs starts = StartsFollow total e fs starts
     × ((others : List ℕ) (i : ℕ) → StartsFollow total e fs others → take i others ≡ take i starts → get_or starts i 0 ≤ get_or others i 0)
 
-abbrev Follows : ℕ → List LayoutItem → ℕ → Type 0
+abbrev Follows : ℕ → List PlacementItem → ℕ → Type 0
 Follows total fs e = ((starts : List ℕ) × FirstFollow total e fs starts) ⊎ ((starts : List ℕ) → StartsFollow total e fs starts → ⊥)
 
 abbrev head_in : List ℕ → ℕ
@@ -107,9 +107,9 @@ abbrev tail_in : List ℕ → List ℕ
 tail_in [] = []
 tail_in (x ∷ xs) = xs
 
-module _ (total : ℕ) (f : LayoutItem) (fs : List LayoutItem) (rest : (e : ℕ) → Follows total fs e) (e : ℕ) where
+module _ (total : ℕ) (f : PlacementItem) (fs : List PlacementItem) (rest : (e : ℕ) → Follows total fs e) (e : ℕ) where
   abbrev Begins : ℕ → Type 0
-  Begins s = StandsInVolume total e f s × ((ss : List ℕ) × StartsFollow total (up_to_8 (s + f.size)) fs ss)
+  Begins s = IsStartInVolume total e f s × ((ss : List ℕ) × StartsFollow total (up_to_8 (s + f.size)) fs ss)
 
   rest_dec : (s : ℕ) → Decided ((ss : List ℕ) × StartsFollow total (up_to_8 (s + f.size)) fs ss)
   rest_dec s = go (rest (up_to_8 (s + f.size))) where
@@ -149,12 +149,12 @@ first_none : (total e : ℕ) (others : List ℕ) (i : ℕ) → StartsFollow tota
 first_none total e [] i follow = omega arith
 first_none total e (s ∷ ss) i follow = absurd follow
 
-follows : (total : ℕ) (fs : List LayoutItem) (e : ℕ) → Follows total fs e
+follows : (total : ℕ) (fs : List PlacementItem) (e : ℕ) → Follows total fs e
 follows total [] e = inl ([], (tt, λ others i follow same. first_none total e others i follow))
 follows total (f ∷ fs) e = follows_next total f fs (follows total fs) e
 
 -- files have a first placement, or no placement
-placed_or_none : (total first : ℕ) (fs : List LayoutItem) → ((starts : List ℕ) × IsFirstPlacement total first fs starts)
+placed_or_none : (total first : ℕ) (fs : List PlacementItem) → ((starts : List ℕ) × IsFirstPlacement total first fs starts)
     ⊎ ((starts : List ℕ) → Placement total first fs starts → ⊥)
 placed_or_none total first fs = go (le_dec first total) (follows total fs first) where
   go : Decided (first ≤ total) → Follows total fs first → ((starts : List ℕ) × IsFirstPlacement total first fs starts)
@@ -171,16 +171,16 @@ placed_or_none total first fs = go (le_dec first total) (follows total fs first)
 
 -- ---- the volume top file
 
-off_dec : (total : ℕ) (f : LayoutItem) → Decided (IsOff total f)
+off_dec : (total : ℕ) (f : PlacementItem) → Decided (IsOff total f)
 off_dec total f =
     either (not_so (eq_dec ((total - f.size + f.header) % f.alignment) 0)) (not_so (eq_dec ((total - f.size) % 8) 0))
 
-top_dec : (total : ℕ) (fs : List LayoutItem) → Decided (TopOff total fs)
+top_dec : (total : ℕ) (fs : List PlacementItem) → Decided (TopOff total fs)
 top_dec total [] = inr (λ h. h)
 top_dec total (f ∷ fs) = either (both (true_dec f.top) (off_dec total f)) (top_dec total fs)
 
 -- files have a first placement, or the volume top file is off, or there is no room
-pub placed_or_not : (total first : ℕ) (fs : List LayoutItem) → ((starts : List ℕ) × IsFirstPlacement total first fs starts)
+pub placed_or_not : (total first : ℕ) (fs : List PlacementItem) → ((starts : List ℕ) × IsFirstPlacement total first fs starts)
     ⊎ (TopOff total fs ⊎ HasNoRoom total first fs)
 placed_or_not total first fs = go (top_dec total fs) (placed_or_none total first fs) where
   go : Decided (TopOff total fs)
@@ -188,4 +188,4 @@ placed_or_not total first fs = go (top_dec total fs) (placed_or_none total first
       → ((starts : List ℕ) × IsFirstPlacement total first fs starts) ⊎ (TopOff total fs ⊎ HasNoRoom total first fs)
   go (inl off) h = inr (inl off)
   go (inr on) (inl placed) = inl placed
-  go (inr on) (inr none) = inr (inr (record { top_stands = on; none = none }))
+  go (inr on) (inr none) = inr (inr (record { top_can_begin = on; none = none }))

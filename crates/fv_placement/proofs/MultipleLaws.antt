@@ -52,7 +52,7 @@ widens_8 b k e l = elim (cases_lt k 4) [
   | inl h ↦ record {
     wide = omega arith;
     small = omega arith;
-    apart = λ x p. (p, subst (λ n. x % n ≡ 0) (sym e) (coarser_at 3 k x (omega arith) p));
+    both = λ x p. (p, subst (λ n. x % n ≡ 0) (sym e) (coarser_at 3 k x (omega arith) p));
     joined = λ x p q. p;
   }
   | inr h ↦ absurd (far b (2 ^ k) e l (pow_below 3 k (omega arith)))
@@ -67,7 +67,7 @@ widens_self b k h e l = elim (cases_lt k 3) [
   | inr m ↦ record {
     wide = l;
     small = subst (λ n. n < 2 ^ 25) (sym e) (pow_below k 25 (omega arith));
-    apart = λ x p. (coarser_at k 3 x m (subst (λ n. x % n ≡ 0) e p), p);
+    both = λ x p. (coarser_at k 3 x m (subst (λ n. x % n ≡ 0) e p), p);
     joined = λ x p q. q;
   }
 ]

@@ -11,14 +11,14 @@ use Rattle.std.proofs.Common.{true, false, append_assoc, append-nil, length, get
 use Rattle.std.specs.Prelude.{IsTrue, MatchBool}
 use Rattle.std.proofs.lemmas.List.{drop_more, drop_all, take_more, take_all}
 use Rattle.fv_placement.specs.Words.{Lawful, StartsFollow, Placement, IsFirstPlacement, IsLeast, IsOff, TopOff}
-use Rattle.fv_placement.specs.declared.first_placement.LayoutItem.{LayoutItem}
+use Rattle.fv_placement.specs.declared.first_placement.PlacementItem.{PlacementItem}
 use Rattle.fv_placement.specs.declared.reach.Reach.{Reach}
 use Rattle.fv_placement.specs.inner.Reaches.{IsBound, IsFirstStart}
 use Rattle.fv_placement.proofs.ReachLaws.{begins, stands}
 
 -- ---- 1. start by start
 
-abbrev Firsts : ℕ → ℕ → List LayoutItem → List ℕ → Type 0
+abbrev Firsts : ℕ → ℕ → List PlacementItem → List ℕ → Type 0
 Firsts total e [] [] = Unit {0}
 Firsts total e [] (s ∷ ss) = ⊥
 Firsts total e (f ∷ fs) [] = ⊥
@@ -34,7 +34,7 @@ same_tail s t ss ts e = cc
 least_none : (i n : ℕ) → get_or [] i 0 ≤ n
 least_none i n = omega arith
 
-firsts_least : (total e : ℕ) (fs : List LayoutItem) (ss others : List ℕ) (i : ℕ) → Firsts total e fs ss → StartsFollow total e fs others
+firsts_least : (total e : ℕ) (fs : List PlacementItem) (ss others : List ℕ) (i : ℕ) → Firsts total e fs ss → StartsFollow total e fs others
     → take i others ≡ take i ss → get_or ss i 0 ≤ get_or others i 0
 firsts_least total e [] [] others i h p q = least_none i (get_or others i 0)
 firsts_least total e [] (s ∷ ss) others i h p q = absurd h
@@ -46,13 +46,13 @@ firsts_least total e (f ∷ fs) (s ∷ ss) (t ∷ ts) (suc i) h p q =
     firsts_least total (up_to_8 (s + f.size)) fs ss ts i h.1 (subst (λ n. StartsFollow total (up_to_8 (n + f.size)) fs ts) same p.1)
     (same_tail s t (take i ss) (take i ts) q)
 
-first_from : (total first : ℕ) (fs : List LayoutItem) (ss : List ℕ) → Placement total first fs ss → Firsts total first fs ss
+first_from : (total first : ℕ) (fs : List PlacementItem) (ss : List ℕ) → Placement total first fs ss → Firsts total first fs ss
     → IsFirstPlacement total first fs ss
 first_from total first fs ss p h = record { placement = p; least = λ others i q e. firsts_least total first fs ss others i h q.follow e }
 
 -- ---- 2. the least starts
 
-least_firsts : (total e : ℕ) (fs : List LayoutItem) (ss : List ℕ) → IsLeast total e fs ss → StartsFollow total e fs ss
+least_firsts : (total e : ℕ) (fs : List PlacementItem) (ss : List ℕ) → IsLeast total e fs ss → StartsFollow total e fs ss
     → Firsts total e fs ss
 least_firsts total e [] [] l p = tt
 least_firsts total e [] (s ∷ ss) l p = absurd l
@@ -65,25 +65,25 @@ least_firsts total e (f ∷ fs) (s ∷ ss) l p =
     by_top true t m a w = let z = a refl in omega arith
     by_top false t m a w = m.1 t w
 
-pub agree : (total first : ℕ) (fs : List LayoutItem) (ss : List ℕ) → IsLeast total first fs ss → Placement total first fs ss
+pub agree : (total first : ℕ) (fs : List PlacementItem) (ss : List ℕ) → IsLeast total first fs ss → Placement total first fs ss
     → IsFirstPlacement total first fs ss
 agree total first fs ss l p = first_from total first fs ss p (least_firsts total first fs ss l p.follow)
 
 -- ---- 3. there is only one
 
-first_same : (total first : ℕ) (fs : List LayoutItem) (ss ts : List ℕ) → IsFirstPlacement total first fs ss
+first_same : (total first : ℕ) (fs : List PlacementItem) (ss ts : List ℕ) → IsFirstPlacement total first fs ss
     → IsFirstPlacement total first fs ts → (i : ℕ) → take i ss ≡ take i ts → get_or ss i 0 ≡ get_or ts i 0
 first_same total first fs ss ts p q i e = let a = p.least ts i q.placement (sym e) in let b = q.least ss i p.placement e in
     omega (arith, a, b)
 
 -- a placement has one start for each file
-pub follow_length : (total e : ℕ) (fs : List LayoutItem) (ss : List ℕ) → StartsFollow total e fs ss → length ss ≡ length fs
+pub follow_length : (total e : ℕ) (fs : List PlacementItem) (ss : List ℕ) → StartsFollow total e fs ss → length ss ≡ length fs
 follow_length total e [] [] h = refl
 follow_length total e [] (s ∷ ss) h = absurd h
 follow_length total e (f ∷ fs) [] h = absurd h
 follow_length total e (f ∷ fs) (s ∷ ss) h = ap suc (follow_length total (up_to_8 (s + f.size)) fs ss h.1)
 
-fronts_same : (total first : ℕ) (fs : List LayoutItem) (ss ts : List ℕ) → IsFirstPlacement total first fs ss
+fronts_same : (total first : ℕ) (fs : List PlacementItem) (ss ts : List ℕ) → IsFirstPlacement total first fs ss
     → IsFirstPlacement total first fs ts
     → length ss ≡ length ts → (i : ℕ) → i ≤ length ss → take i ss ≡ take i ts
 fronts_same total first fs ss ts p q same zero l = refl
@@ -94,7 +94,7 @@ fronts_same total first fs ss ts p q same (suc i) l =
     ∙ ap (λ (xs : List ℕ). xs ++ (get_or ss i 0 ∷ [])) before ∙ ap (λ (n : ℕ). take i ts ++ (n ∷ [])) here
     ∙ sym (take_more ts i 0 (omega (arith, l, same))) ∙ ap (λ (n : ℕ). take n ts) (add-one i)
 
-pub starts_one : (total first : ℕ) (fs : List LayoutItem) (ss ts : List ℕ) → IsFirstPlacement total first fs ss
+pub starts_one : (total first : ℕ) (fs : List PlacementItem) (ss ts : List ℕ) → IsFirstPlacement total first fs ss
     → IsFirstPlacement total first fs ts → ss ≡ ts
 starts_one total first fs ss ts p q =
     let n = follow_length total first fs ss p.placement.follow in
@@ -105,28 +105,28 @@ starts_one total first fs ss ts p q =
 -- ---- 4. file by file
 
 -- the files that were placed at `done` up to the edge e go on with the files in `left`
-pub record Placed (total first : ℕ) (fs : List LayoutItem) (e : ℕ) (left : List LayoutItem) (done : List ℕ) : Type 0 where
+pub record Placed (total first : ℕ) (fs : List PlacementItem) (e : ℕ) (left : List PlacementItem) (done : List ℕ) : Type 0 where
   pub follow : (rest : List ℕ) → StartsFollow total e left rest → StartsFollow total first fs (done ++ rest)
   pub firsts : (rest : List ℕ) → Firsts total e left rest → Firsts total first fs (done ++ rest)
 
-pub placed_at : (total first : ℕ) (fs : List LayoutItem) (e i : ℕ) (d : LayoutItem) (r : Reach) (done : List ℕ) (s : ℕ) → i < length fs
+pub placed_at : (total first : ℕ) (fs : List PlacementItem) (e i : ℕ) (d : PlacementItem) (r : Reach) (done : List ℕ) (s : ℕ) → i < length fs
     → total % 8 ≡ 0 → IsBound total (drop (i + 1) fs) r → Placed total first fs e (drop i fs) done
     → IsFirstStart total e (get_or fs i d) r s
     → Placed total first fs (up_to_8 (s + (get_or fs i d).size)) (drop (i + 1) fs) (done ++ s ∷ [])
 placed_at total first fs e i d r done s l h w o v = more (subst (λ xs. Placed total first fs e xs done) (drop_more fs i d l) o)
   where
-    f : LayoutItem
+    f : PlacementItem
     f = get_or fs i d
 
     more : Placed total first fs e (f ∷ drop (i + 1) fs) done → Placed total first fs (up_to_8 (s + f.size)) (drop (i + 1) fs) (done ++ s ∷ [])
     more o = record {
       follow = λ rest p. subst (λ xs. StartsFollow total first fs xs) (sym (append_assoc done (s ∷ []) rest))
-          (o.follow (s ∷ rest) (stands total e f r s w.greatest v.lawful v.serves, p));
+          (o.follow (s ∷ rest) (stands total e f r s w.greatest v.lawful v.usable, p));
       firsts = λ rest p. subst (λ xs. Firsts total first fs xs) (sym (append_assoc done (s ∷ []) rest))
           (o.firsts (s ∷ rest) (λ t ts q. v.least t q.0.lawful (begins total e f (drop (i + 1) fs) r t ts h w q), p));
     }
 
-pub placed_end : (total first : ℕ) (fs : List LayoutItem) (e i : ℕ) (done : List ℕ) → length fs ≤ i → first ≤ total
+pub placed_end : (total first : ℕ) (fs : List PlacementItem) (e i : ℕ) (done : List ℕ) → length fs ≤ i → first ≤ total
     → Placed total first fs e (drop i fs) done → IsFirstPlacement total first fs done
 placed_end total first fs e i done l room o =
     let end = subst (λ xs. Placed total first fs e xs done) (drop_all i fs l) o in
@@ -136,7 +136,7 @@ placed_end total first fs e i done l room o =
 
 -- ---- 5. no placement
 
-off_none : (total e : ℕ) (f : LayoutItem) (s : ℕ) → s + f.size ≡ total → (s + f.header) % f.alignment ≡ 0 → s % 8 ≡ 0 → IsOff total f → ⊥
+off_none : (total e : ℕ) (f : PlacementItem) (s : ℕ) → s + f.size ≡ total → (s + f.header) % f.alignment ≡ 0 → s % 8 ≡ 0 → IsOff total f → ⊥
 off_none total e f s at aligned eighth (inl a) = a (ap (λ (n : ℕ). (n + f.header) % f.alignment) (start total f.size at) ∙ aligned)
   where
     start : (total n : ℕ) → s + n ≡ total → total - n ≡ s
@@ -147,7 +147,7 @@ off_none total e f s at aligned eighth (inr b) = b (ap (λ (n : ℕ). n % 8) (st
     start total n e = omega (arith, e)
 
 -- files whose volume top file is off cannot be placed
-pub top_none : (total e : ℕ) (fs : List LayoutItem) (ss : List ℕ) → TopOff total fs → StartsFollow total e fs ss → ⊥
+pub top_none : (total e : ℕ) (fs : List PlacementItem) (ss : List ℕ) → TopOff total fs → StartsFollow total e fs ss → ⊥
 top_none total e [] ss off follow = absurd off
 top_none total e (f ∷ fs) [] off follow = absurd follow
 top_none total e (f ∷ fs) (s ∷ ss) (inl (top, off)) follow =

@@ -3,15 +3,15 @@
 use Rattle.std.specs.Prelude.{◌≡◌, ℕ, ◌+◌, ◌≤◌, List, [], ◌∷◌, MatchBool}
 use Rattle.fv_base.specs.Words.{up_to_8}
 use Rattle.fv_placement.specs.Starts.{Lawful}
-use Rattle.fv_placement.specs.declared.first_placement.LayoutItem.{LayoutItem}
+use Rattle.fv_placement.specs.declared.first_placement.PlacementItem.{PlacementItem}
 
 -- s is the least start that is lawful after the edge e. For the volume top file, s is the start with which the file
 -- ends at the volume's end
-abbrev pub IsLeastStart : ℕ → ℕ → LayoutItem → ℕ → Type 0
+abbrev pub IsLeastStart : ℕ → ℕ → PlacementItem → ℕ → Type 0
 IsLeastStart total e f s = MatchBool f.top (s + f.size ≡ total) (Lawful e f s × ((t : ℕ) → Lawful e f t → s ≤ t))
 
 -- each file is at its least start after the preceding edge. These starts need not be a placement
-abbrev pub IsLeast : ℕ → ℕ → List LayoutItem → List ℕ → Type 0
+abbrev pub IsLeast : ℕ → ℕ → List PlacementItem → List ℕ → Type 0
 IsLeast total e [] [] = Unit {0}
 IsLeast total e [] (s ∷ ss) = ⊥
 IsLeast total e (f ∷ fs) [] = ⊥

@@ -22,13 +22,13 @@ ghost use Rattle.std.specs.Prelude.{◌≡◌, ℕ, ◌+◌, ◌%◌, ◌^◌, �
 ghost use Rattle.std.specs.Prelude.{IsTrue, ◌↔◌, All, length, get_or, false};
 ghost use Rattle.fv_base.specs.Words.{out_of_memory, volume_limit};
 ghost use Rattle.fv_placement.specs.declared.reach.Reach.{Reach};
-ghost use Rattle.fv_placement.specs.declared.first_placement.LayoutItem.{LayoutItem};
-ghost use Rattle.fv_placement.specs.inner.Reaches.{AreReaches, CanPlace, IsBound, IsGreatest, IsReach, Serves};
+ghost use Rattle.fv_placement.specs.declared.first_placement.PlacementItem.{PlacementItem};
+ghost use Rattle.fv_placement.specs.inner.Reaches.{AreReaches, CanPlace, IsBound, IsGreatest, IsReach, IsUsableStart};
 ghost use Rattle.fv_placement.specs.Starts.{IsFirstPlacement, Placement};
 ghost use Rattle.fv_placement.specs.Items.{IsLawfulItem};
 ghost use Rattle.fv_placement.specs.NoPlacement.{IsOff, TopOff};
 
-use crate::reach::{Reach, reach_of_none, serves};
+use crate::reach::{Reach, is_usable_start, reach_of_none};
 use crate::usable_start::{first_start, greatest_start};
 use fv_base::Fault;
 use fv_base::field::up_to_8;
@@ -37,7 +37,7 @@ use std::alloc::Global;
 /// The properties of a file on which its placement depends. (PI specification, volume 3, section
 /// 3.2.3.1.)
 #[derive(Clone, Copy)]
-pub struct LayoutItem {
+pub struct PlacementItem {
     /// The length of the file's header, in bytes.
     pub header: u64,
     /// The size of the file with its header, in bytes.
@@ -63,7 +63,7 @@ pub fn first_starts(
     alloc: Global,
     total: u64,
     first: u64,
-    items: &[LayoutItem],
+    items: &[PlacementItem],
 ) -> Result<Option<Vec<u64>>, Fault>
     requires total { (total ≤ volume_limit) × (total % 8 ≡ 0) }
     requires first { (first % 8 ≡ 0) × (first < 2 ^ 32) }
@@ -98,7 +98,7 @@ fn place_each(
     alloc: Global,
     total: u64,
     first: u64,
-    items: &[LayoutItem],
+    items: &[PlacementItem],
     reaches: &[Reach],
 ) -> Result<Option<Vec<u64>>, Fault>
     requires total { (total ≤ volume_limit) × (total % 8 ≡ 0) }
@@ -131,7 +131,7 @@ fn place_each(
 fn reach_after(total: u64, reaches: &[Reach], i: usize) -> Reach
     requires total { total % 8 ≡ 0 }
     ensures known { (d : Reach) → i < length reaches.now → result ≡ get_or reaches.now i d }
-    ensures unknown { length reaches.now ≤ i → (fs : List LayoutItem) → IsBound total fs result }
+    ensures unknown { length reaches.now ≤ i → (fs : List PlacementItem) → IsBound total fs result }
 {
     if i < reaches.len() {
         reaches[i]
@@ -142,7 +142,7 @@ fn reach_after(total: u64, reaches: &[Reach], i: usize) -> Reach
 
 // Fills in the reach of the files after each file, from the last file to the first. Returns false
 // if the files cannot be placed at all.
-fn find_reaches(total: u64, items: &[LayoutItem], reaches: &mut [Reach]) -> bool
+fn find_reaches(total: u64, items: &[PlacementItem], reaches: &mut [Reach]) -> bool
     requires total { (total ≤ volume_limit) × (total % 8 ≡ 0) }
     requires items { All (IsLawfulItem total) items.now }
     requires len { length reaches.old ≡ length items.now }
@@ -165,16 +165,16 @@ fn find_reaches(total: u64, items: &[LayoutItem], reaches: &mut [Reach]) -> bool
 
 // Returns the reach of a file together with the files after it, which have the reach `after`.
 // Returns None if the file has no usable start.
-fn reach_from(total: u64, item: &LayoutItem, after: Reach) -> Option<Reach>
+fn reach_from(total: u64, item: &PlacementItem, after: Reach) -> Option<Reach>
     requires total { (total ≤ volume_limit) × (total % 8 ≡ 0) }
     requires item { IsLawfulItem total item.now }
     requires after { (after.greatest ≤ total) × (after.greatest % 8 ≡ 0) }
     ensures found { IfSome result (λ r. IsGreatest total item.now after r) }
-    ensures none { IfNone result ((s : ℕ) → Serves total item.now after s → ⊥) }
+    ensures none { IfNone result ((s : ℕ) → IsUsableStart total item.now after s → ⊥) }
 {
     let greatest = greatest_start(total, item, after)?;
-    let near = serves_below(total, item, after, greatest, 8);
-    let far = serves_below(total, item, after, greatest, 16);
+    let near = is_usable_below(total, item, after, greatest, 8);
+    let far = is_usable_below(total, item, after, greatest, 16);
     Some(Reach {
         greatest,
         near,
@@ -183,19 +183,19 @@ fn reach_from(total: u64, item: &LayoutItem, after: Reach) -> Option<Reach>
 }
 
 // Returns whether the start `by` bytes below `greatest` is usable.
-fn serves_below(total: u64, item: &LayoutItem, after: Reach, greatest: u64, by: u64) -> bool
+fn is_usable_below(total: u64, item: &PlacementItem, after: Reach, greatest: u64, by: u64) -> bool
     requires total { total ≤ volume_limit }
     requires item { IsLawfulItem total item.now }
     requires greatest { greatest < 2 ^ 61 }
     ensures { (t : ℕ) → t + by ≡ greatest
-        → (IsTrue result → Serves total item.now after t) × (Serves total item.now after t → IsTrue result) }
+        → (IsTrue result → IsUsableStart total item.now after t) × (IsUsableStart total item.now after t → IsTrue result) }
 {
-    by <= greatest && serves(total, item, after, greatest - by)
+    by <= greatest && is_usable_start(total, item, after, greatest - by)
 }
 
 // Returns whether the only possible start of the volume top file is not a multiple of 8, or its
 // data are not aligned there.
-fn is_off(total: u64, item: &LayoutItem) -> bool
+fn is_off(total: u64, item: &PlacementItem) -> bool
     requires total { total ≤ volume_limit }
     requires item { IsLawfulItem total item.now }
     ensures { IsTrue result ↔ IsOff total item.now }
@@ -208,7 +208,7 @@ fn is_off(total: u64, item: &LayoutItem) -> bool
 /// which it ends at the end of the volume of `total` bytes: the start is not a multiple of 8, or
 /// the file's data are not aligned there. `total` is within the limit of a volume, and the files
 /// are as for `first_starts`. Takes no memory. (PI specification, volume 3, section 3.2.1.3.)
-pub fn is_top_off(total: u64, items: &[LayoutItem]) -> bool
+pub fn is_top_off(total: u64, items: &[PlacementItem]) -> bool
     requires total { total ≤ volume_limit }
     requires items { All (IsLawfulItem total) items.now }
     ensures { IsTrue result ↔ TopOff total items.now }

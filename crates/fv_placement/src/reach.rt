@@ -9,11 +9,11 @@
 
 ghost use Rattle.std.specs.Prelude.{◌≡◌, ◌%◌, ◌^◌, ◌<◌, ◌≤◌, ◌↔◌, IsTrue, List, []};
 ghost use Rattle.fv_base.specs.Words.{volume_limit};
-ghost use Rattle.fv_placement.specs.declared.first_placement.LayoutItem.{LayoutItem};
+ghost use Rattle.fv_placement.specs.declared.first_placement.PlacementItem.{PlacementItem};
 ghost use Rattle.fv_placement.specs.Items.{IsLawfulItem};
-ghost use Rattle.fv_placement.specs.inner.Reaches.{IsBound, IsReach, IsUsable, Serves};
+ghost use Rattle.fv_placement.specs.inner.Reaches.{IsBound, IsReach, IsUsableEdge, IsUsableStart};
 
-use crate::first_placement::LayoutItem;
+use crate::first_placement::PlacementItem;
 use fv_base::field::up_to_8;
 
 /// The edges after which some files can be placed: `greatest`, the edges 8 and 16 bytes below it if
@@ -33,7 +33,7 @@ pub(crate) struct Reach {
 pub(crate) fn reach_of_none(total: u64) -> Reach
     requires total { total % 8 ≡ 0 }
     ensures none { IsReach total [] result }
-    ensures bound { (fs : List LayoutItem) → IsBound total fs result }
+    ensures bound { (fs : List PlacementItem) → IsBound total fs result }
 {
     Reach {
         greatest: total,
@@ -43,9 +43,9 @@ pub(crate) fn reach_of_none(total: u64) -> Reach
 }
 
 // Returns whether files with the reach `after` can be placed after `edge`.
-fn is_usable(after: Reach, edge: u64) -> bool
+fn is_usable_edge(after: Reach, edge: u64) -> bool
     requires { edge < 2 ^ 62 }
-    ensures { IsTrue result ↔ IsUsable after edge }
+    ensures { IsTrue result ↔ IsUsableEdge after edge }
 {
     edge + 24 <= after.greatest
         || edge == after.greatest
@@ -54,14 +54,14 @@ fn is_usable(after: Reach, edge: u64) -> bool
 }
 
 // Returns whether the file may begin at `start`, if the files after it have the reach `after`.
-pub(crate) fn serves(total: u64, item: &LayoutItem, after: Reach, start: u64) -> bool
+pub(crate) fn is_usable_start(total: u64, item: &PlacementItem, after: Reach, start: u64) -> bool
     requires total { total ≤ volume_limit }
     requires item { IsLawfulItem total item.now }
     requires start { start < 2 ^ 61 }
-    ensures { IsTrue result ↔ Serves total item.now after start }
+    ensures { IsTrue result ↔ IsUsableStart total item.now after start }
 {
     start % 8 == 0
         && (start + item.header) % item.alignment == 0
         && (!item.top || start + item.size == total)
-        && is_usable(after, up_to_8(start + item.size))
+        && is_usable_edge(after, up_to_8(start + item.size))
 }

@@ -9,10 +9,10 @@ ghost use Rattle.std.specs.Prelude.{◌≡◌, ℕ, ◌+◌, ◌%◌, ◌^◌, �
 ghost use Rattle.fv_base.specs.Words.{IsAlignment, volume_limit};
 ghost use Rattle.fv_placement.specs.Starts.{Lawful};
 ghost use Rattle.fv_placement.specs.Items.{IsLawfulItem};
-ghost use Rattle.fv_placement.specs.inner.Reaches.{IsFirstStart, Serves, Widens};
+ghost use Rattle.fv_placement.specs.inner.Reaches.{IsFirstStart, IsUsableStart, Widens};
 
-use crate::first_placement::LayoutItem;
-use crate::reach::{Reach, serves};
+use crate::first_placement::PlacementItem;
+use crate::reach::{Reach, is_usable_start};
 use fv_base::field::up_to_8;
 
 // Returns the greatest multiple of the alignment that is at most `x`.
@@ -51,20 +51,20 @@ fn widened(alignment: u64) -> u64
 // after the file is 8 or 16 bytes below the greatest usable edge. With a step of 8 this does not
 // happen, because then `edge` itself is a usable start, and has already been returned. A larger
 // step is at least 16, so the next start leads to the greatest usable edge or past it.
-pub(crate) fn first_start(total: u64, edge: u64, item: &LayoutItem, after: Reach) -> Option<u64>
+pub(crate) fn first_start(total: u64, edge: u64, item: &PlacementItem, after: Reach) -> Option<u64>
     requires total { total ≤ volume_limit }
     requires edge { (edge % 8 ≡ 0) × (edge ≤ total) }
     requires item { IsLawfulItem total item.now }
     requires after { after.greatest ≤ total }
     ensures found { IfSome result (λ s. IsFirstStart total edge item.now after s) }
-    ensures none { IfNone result ((s : ℕ) → Lawful edge item.now s → Serves total item.now after s → ⊥) }
+    ensures none { IfNone result ((s : ℕ) → Lawful edge item.now s → IsUsableStart total item.now after s → ⊥) }
 {
-    if serves(total, item, after, edge) {
+    if is_usable_start(total, item, after, edge) {
         return Some(edge);
     }
     if item.top {
         let start = total - item.size;
-        return if edge + 24 <= start && serves(total, item, after, start) {
+        return if edge + 24 <= start && is_usable_start(total, item, after, start) {
             Some(start)
         } else {
             None
@@ -73,7 +73,7 @@ pub(crate) fn first_start(total: u64, edge: u64, item: &LayoutItem, after: Reach
     let step = widened(item.alignment);
     let mut start = round_up(edge + 24 + item.header, step) - item.header;
     while start + item.size <= after.greatest {
-        if serves(total, item, after, start) {
+        if is_usable_start(total, item, after, start) {
             return Some(start);
         }
         start += step;
@@ -86,17 +86,17 @@ pub(crate) fn first_start(total: u64, edge: u64, item: &LayoutItem, after: Reach
 // edge after the file is at or below the greatest usable edge. With a step of 8 the greater start
 // leads exactly to this edge. With a larger step, which is at least 16, it may lead to an edge 8 or
 // 16 bytes below. The lesser start then leads to an edge at least 24 bytes below, which is usable.
-pub(crate) fn greatest_start(total: u64, item: &LayoutItem, after: Reach) -> Option<u64>
+pub(crate) fn greatest_start(total: u64, item: &PlacementItem, after: Reach) -> Option<u64>
     requires total { (total ≤ volume_limit) × (total % 8 ≡ 0) }
     requires item { IsLawfulItem total item.now }
     requires after { (after.greatest ≤ total) × (after.greatest % 8 ≡ 0) }
     ensures found { IfSome result
-        (λ s. Serves total item.now after s × ((t : ℕ) → Serves total item.now after t → t ≤ s)) }
-    ensures none { IfNone result ((s : ℕ) → Serves total item.now after s → ⊥) }
+        (λ s. IsUsableStart total item.now after s × ((t : ℕ) → IsUsableStart total item.now after t → t ≤ s)) }
+    ensures none { IfNone result ((s : ℕ) → IsUsableStart total item.now after s → ⊥) }
 {
     if item.top {
         let start = total - item.size;
-        return if serves(total, item, after, start) {
+        return if is_usable_start(total, item, after, start) {
             Some(start)
         } else {
             None
@@ -112,7 +112,7 @@ pub(crate) fn greatest_start(total: u64, item: &LayoutItem, after: Reach) -> Opt
         return None;
     }
     let start = data - item.header;
-    if serves(total, item, after, start) {
+    if is_usable_start(total, item, after, start) {
         return Some(start);
     }
     if start < step {

@@ -85,16 +85,16 @@ inside_nests depth (SectionNode (Section kind extended (Nested v))) (n, fits, f,
 -- ---- the innermost level
 
 left_more : (depth at : ℕ) (levels : List Level) (l : Level) → at ≡ depth + length levels
-    → left_in depth (levels ++ l ∷ []) ≡ rows_of_nodes at l.nesting l.number (nodes_of l.held) ++ left_in depth levels
+    → left_in depth (levels ++ l ∷ []) ≡ rows_of_nodes at l.nesting l.number (nodes_of l.parts) ++ left_in depth levels
 left_more depth at [] l is =
     let same : depth ≡ at = omega (arith, is) in
-    subst (λ d. rows_of_nodes depth l.nesting l.number (nodes_of l.held) ≡ rows_of_nodes d l.nesting l.number (nodes_of l.held) ++ []) same
-    (sym (append-nil (rows_of_nodes depth l.nesting l.number (nodes_of l.held))))
+    subst (λ d. rows_of_nodes depth l.nesting l.number (nodes_of l.parts) ≡ rows_of_nodes d l.nesting l.number (nodes_of l.parts) ++ []) same
+    (sym (append-nil (rows_of_nodes depth l.nesting l.number (nodes_of l.parts))))
 left_more depth at (outer ∷ levels) l is =
-    ap (λ rows. rows ++ rows_of_nodes depth outer.nesting outer.number (nodes_of outer.held))
+    ap (λ rows. rows ++ rows_of_nodes depth outer.nesting outer.number (nodes_of outer.parts))
     (left_more (depth + 1) at levels l (omega (arith, is)))
-    ∙ append_assoc (rows_of_nodes at l.nesting l.number (nodes_of l.held)) (left_in (depth + 1) levels)
-    (rows_of_nodes depth outer.nesting outer.number (nodes_of outer.held))
+    ∙ append_assoc (rows_of_nodes at l.nesting l.number (nodes_of l.parts)) (left_in (depth + 1) levels)
+    (rows_of_nodes depth outer.nesting outer.number (nodes_of outer.parts))
 
 levels_more : (depth at : ℕ) (levels : List Level) (l : Level) → at ≡ depth + length levels → AreLevels depth levels → FitsAt at l
     → AreLevels depth (levels ++ l ∷ [])
@@ -110,7 +110,7 @@ levels_less depth at (outer ∷ levels) l is (here, more) =
 -- ---- the next row
 
 -- an innermost level without parts has no rows
-pub none_left : (levels : List Level) (l : Level) → nodes_of l.held ≡ [] → left_in 0 (levels ++ l ∷ []) ≡ left_in 0 levels
+pub none_left : (levels : List Level) (l : Level) → nodes_of l.parts ≡ [] → left_in 0 (levels ++ l ∷ []) ≡ left_in 0 levels
 none_left levels l is =
     left_more 0 (length levels) levels l (omega arith)
     ∙ ap (λ nodes. rows_of_nodes (length levels) l.nesting l.number nodes ++ left_in 0 levels) is
@@ -127,7 +127,7 @@ nesting_small depth nesting (FileNode f) small = omega (arith, small)
 nesting_small depth nesting (SectionNode s) small = omega (arith, small)
 
 module _ (levels : List Level) (l : Level) (node : NodeMeaning) (nodes : List NodeMeaning)
-    (is : nodes_of l.held ≡ node ∷ nodes) (are : AreLevels 0 (levels ++ l ∷ [])) where
+    (is : nodes_of l.parts ≡ node ∷ nodes) (are : AreLevels 0 (levels ++ l ∷ [])) where
   apart : AreLevels 0 levels × AllByRecursion (NestsAt (length levels)) (node ∷ nodes) × (l.number + length (node ∷ nodes) < 2 ^ 63)
       × (l.nesting ≤ length levels)
   apart =
@@ -139,8 +139,8 @@ module _ (levels : List Level) (l : Level) (node : NodeMeaning) (nodes : List No
   next_fits =
       let room = deep (length levels) node apart.1.0 in (room, omega (arith, apart.2), omega (arith, room, apart.3))
 
-  module _ (rest inside : Level) (number : rest.number ≡ l.number + 1) (same : rest.nesting ≡ l.nesting) (others : nodes_of rest.held ≡ nodes)
-      (first : inside.number ≡ 0) (below : inside.nesting ≡ nesting_inside l.nesting node) (within : nodes_of inside.held ≡ parts_in node) where
+  module _ (rest inside : Level) (number : rest.number ≡ l.number + 1) (same : rest.nesting ≡ l.nesting) (others : nodes_of rest.parts ≡ nodes)
+      (first : inside.number ≡ 0) (below : inside.nesting ≡ nesting_inside l.nesting node) (within : nodes_of inside.parts ≡ parts_in node) where
     -- the first part of the innermost level is the next row
     pub next_left : left_in 0 (levels ++ l ∷ [])
         ≡ record { depth = length levels; nesting = l.nesting; number = l.number; node = node } ∷ left_in 0 ((levels ++ rest ∷ []) ++ inside ∷ [])
@@ -152,19 +152,19 @@ module _ (levels : List Level) (l : Level) (node : NodeMeaning) (nodes : List No
         (append_assoc (rows_inside (depth + 1) n node) (rows_of_nodes depth l.nesting (l.number + 1) nodes) (left_in 0 levels)
         ∙ ap (λ rows. rows ++ (rows_of_nodes depth l.nesting (l.number + 1) nodes ++ left_in 0 levels))
         (inside_rows (depth + 1) n node ∙ sym (ap (rows_of_nodes (depth + 1) n 0) within)
-        ∙ sym (ap (λ k. rows_of_nodes (depth + 1) n k (nodes_of inside.held)) first)
-        ∙ sym (ap (λ k. rows_of_nodes (depth + 1) k inside.number (nodes_of inside.held)) below))
-        ∙ ap (λ rows. rows_of_nodes (depth + 1) inside.nesting inside.number (nodes_of inside.held) ++ rows)
+        ∙ sym (ap (λ k. rows_of_nodes (depth + 1) n k (nodes_of inside.parts)) first)
+        ∙ sym (ap (λ k. rows_of_nodes (depth + 1) k inside.number (nodes_of inside.parts)) below))
+        ∙ ap (λ rows. rows_of_nodes (depth + 1) inside.nesting inside.number (nodes_of inside.parts) ++ rows)
         (sym (ap (λ ns. rows_of_nodes depth l.nesting (l.number + 1) ns ++ left_in 0 levels) others)
-        ∙ sym (ap (λ k. rows_of_nodes depth l.nesting k (nodes_of rest.held) ++ left_in 0 levels) number)
-        ∙ sym (ap (λ k. rows_of_nodes depth k rest.number (nodes_of rest.held) ++ left_in 0 levels) same)
+        ∙ sym (ap (λ k. rows_of_nodes depth l.nesting k (nodes_of rest.parts) ++ left_in 0 levels) number)
+        ∙ sym (ap (λ k. rows_of_nodes depth k rest.number (nodes_of rest.parts) ++ left_in 0 levels) same)
         ∙ sym (left_more 0 depth levels rest (omega arith)))
         ∙ sym (left_more 0 (depth + 1) (levels ++ rest ∷ []) inside (omega (arith, length-append levels (rest ∷ [])))))
 
-    pub next_are : length (nodes_of inside.held) < 2 ^ 63 → AreLevels 0 ((levels ++ rest ∷ []) ++ inside ∷ [])
+    pub next_are : length (nodes_of inside.parts) < 2 ^ 63 → AreLevels 0 ((levels ++ rest ∷ []) ++ inside ∷ [])
     next_are short =
-        let few : rest.number + length (nodes_of rest.held) < 2 ^ 63 = omega (arith, number, ap length others, apart.2) in
-        let small : inside.number + length (nodes_of inside.held) < 2 ^ 63 = omega (arith, first, short) in
+        let few : rest.number + length (nodes_of rest.parts) < 2 ^ 63 = omega (arith, number, ap length others, apart.2) in
+        let small : inside.number + length (nodes_of inside.parts) < 2 ^ 63 = omega (arith, first, short) in
         levels_more 0 (length levels + 1) (levels ++ rest ∷ []) inside (omega (arith, length-append levels (rest ∷ [])))
         (levels_more 0 (length levels) levels rest (omega arith) apart.0
         (subst (AllByRecursion (NestsAt (length levels))) (sym others) apart.1.1, few, omega (arith, same, apart.3))) (
@@ -185,8 +185,8 @@ nest_less depth [] nest = tt
 nest_less depth (node ∷ nodes) (here, more) = (nests_less depth node here, nest_less depth nodes more)
 
 -- if a part nests within the limit, its contents are all that is left at first
-pub inside_begun : (node : NodeMeaning) (l : Level) → NestsAt 0 node → nodes_of l.held ≡ parts_in node → l.number ≡ 0 → l.nesting ≡ 0
-    → length (nodes_of l.held) < 2 ^ 63 → (left_in 0 (l ∷ []) ≡ rows_inside 0 0 node) × AreLevels 0 (l ∷ [])
+pub inside_begun : (node : NodeMeaning) (l : Level) → NestsAt 0 node → nodes_of l.parts ≡ parts_in node → l.number ≡ 0 → l.nesting ≡ 0
+    → length (nodes_of l.parts) < 2 ^ 63 → (left_in 0 (l ∷ []) ≡ rows_inside 0 0 node) × AreLevels 0 (l ∷ [])
 inside_begun node l nests is first none few = (
   ap (rows_of_nodes 0 l.nesting l.number) is ∙ ap (λ k. rows_of_nodes 0 l.nesting k (parts_in node)) first
       ∙ ap (λ k. rows_of_nodes 0 k 0 (parts_in node)) none ∙ sym (inside_rows 0 0 node),

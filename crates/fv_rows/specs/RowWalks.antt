@@ -6,8 +6,8 @@ use Rattle.fv_section.specs.Words.{FrameForm}
 use Rattle.fv_tree.specs.Words.{FileForm, File, MeansFile, MeansSection, Section, Stream, Denotes, Volume}
 use Rattle.fv_rows.specs.TreeRows.{NodeMeaning, VolumeNode, FileNode, SectionNode, TreeRow, rows_in_body}
 use Rattle.fv_rows.specs.TreeRows.{rows_in_content, rows_of_files}
-use Rattle.fv_rows.specs.declared.tree_walk.Held.{Held}
-use Rattle.fv_rows.specs.declared.tree_walk.Held.TheVariants as helds
+use Rattle.fv_rows.specs.declared.tree_walk.Parts.{Parts}
+use Rattle.fv_rows.specs.declared.tree_walk.Parts.TheVariants as helds
 use Rattle.fv_rows.specs.declared.tree_walk.Level.{Level}
 use Rattle.fv_rows.specs.declared.tree_walk.Part.{Part}
 use Rattle.fv_rows.specs.declared.tree_walk.Part.TheVariants as kinds
@@ -24,7 +24,7 @@ abbrev pub row_of : Row → TreeRow
 row_of r = record { depth = r.depth; nesting = r.nesting; number = r.number; node = part_node r.part }
 
 -- the meanings of some parts, in order
-abbrev pub nodes_of : Held → List NodeMeaning
+abbrev pub nodes_of : Parts → List NodeMeaning
 nodes_of helds.Nothing = []
 nodes_of (helds.Volume v) = VolumeNode v.now ∷ []
 nodes_of (helds.Files fs) = map FileNode fs.now
@@ -53,7 +53,7 @@ rows_of_nodes depth nesting number (node ∷ nodes) =
 -- rows come first
 abbrev pub left_in : ℕ → List Level → List TreeRow
 left_in depth [] = []
-left_in depth (l ∷ levels) = left_in (depth + 1) levels ++ rows_of_nodes depth l.nesting l.number (nodes_of l.held)
+left_in depth (l ∷ levels) = left_in (depth + 1) levels ++ rows_of_nodes depth l.nesting l.number (nodes_of l.parts)
 
 -- a part at this depth, whose groups and volumes nest so few levels deep that all rows in it are at a depth below 27
 abbrev pub NestsAt : ℕ → NodeMeaning → Type 0
@@ -65,7 +65,7 @@ NestsAt depth (SectionNode s) = (n : ℕ) × (depth + 3 * n ≤ 26) × (f : Fram
 -- them
 abbrev pub FitsAt : ℕ → Level → Type 0
 FitsAt depth l =
-    AllByRecursion (NestsAt depth) (nodes_of l.held) × (l.number + length (nodes_of l.held) < 2 ^ 63) × (l.nesting ≤ depth)
+    AllByRecursion (NestsAt depth) (nodes_of l.parts) × (l.number + length (nodes_of l.parts) < 2 ^ 63) × (l.nesting ≤ depth)
 
 -- the first level is at this depth, and each further level is one deeper
 abbrev pub AreLevels : ℕ → List Level → Type 0

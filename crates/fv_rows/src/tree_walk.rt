@@ -35,7 +35,7 @@ pub struct Row<'v, 'a> {
 
 // Some parts in the same part.
 #[derive(Clone, Copy)]
-enum Held<'v, 'a> {
+enum Parts<'v, 'a> {
     Nothing,
     Volume(&'v VolumeView<'a>),
     Files(&'v [FileView<'a>]),
@@ -48,46 +48,46 @@ enum Held<'v, 'a> {
 struct Level<'v, 'a> {
     number: u64,
     nesting: u8,
-    held: Held<'v, 'a>,
+    parts: Parts<'v, 'a>,
 }
 
 // Returns the first part and the parts after it, or None if there is no part.
-fn split<'v, 'a>(held: Held<'v, 'a>) -> Option<(Part<'v, 'a>, Held<'v, 'a>)>
-    ensures some { IfSome result (λ p. nodes_of held.entry ≡ part_node p.0 ∷ nodes_of p.1) }
-    ensures none { IfNone result (nodes_of held.entry ≡ []) }
+fn split<'v, 'a>(parts: Parts<'v, 'a>) -> Option<(Part<'v, 'a>, Parts<'v, 'a>)>
+    ensures some { IfSome result (λ p. nodes_of parts.entry ≡ part_node p.0 ∷ nodes_of p.1) }
+    ensures none { IfNone result (nodes_of parts.entry ≡ []) }
 {
-    match held {
-        Held::Nothing => None,
-        Held::Volume(volume) => Some((Part::Volume(volume), Held::Nothing)),
-        Held::Files(files) => {
+    match parts {
+        Parts::Nothing => None,
+        Parts::Volume(volume) => Some((Part::Volume(volume), Parts::Nothing)),
+        Parts::Files(files) => {
             let (first, rest) = files.split_first()?;
-            Some((Part::File(first), Held::Files(rest)))
+            Some((Part::File(first), Parts::Files(rest)))
         }
-        Held::Sections(sections) => {
+        Parts::Sections(sections) => {
             let (first, rest) = sections.split_first()?;
-            Some((Part::Section(first), Held::Sections(rest)))
+            Some((Part::Section(first), Parts::Sections(rest)))
         }
     }
 }
 
 // Returns the parts that a part contains.
-fn parts_in<'v, 'a>(part: Part<'v, 'a>) -> Held<'v, 'a>
+fn parts_in<'v, 'a>(part: Part<'v, 'a>) -> Parts<'v, 'a>
     ensures nodes { nodes_of result ≡ parts_in (part_node part.entry) }
     ensures few { length (nodes_of result) < 2 ^ 63 }
 {
     match part {
         Part::Volume(volume) => {
             let files = volume.files();
-            Held::Files(files)
+            Parts::Files(files)
         }
         Part::File(file) => {
             let sections = file.sections();
-            Held::Sections(sections)
+            Parts::Sections(sections)
         }
         Part::Section(section) => match section.body() {
-            Body::Leaf(_) => Held::Nothing,
-            Body::Group { sections, .. } => Held::Sections(sections),
-            Body::Nested(volume) => Held::Volume(volume),
+            Body::Leaf(_) => Parts::Nothing,
+            Body::Group { sections, .. } => Parts::Sections(sections),
+            Body::Nested(volume) => Parts::Volume(volume),
         },
     }
 }
@@ -154,7 +154,7 @@ impl<'v, 'a> TreeWalk<'v, 'a> {
             levels: Stack::of(Level {
                 number: 0,
                 nesting: 0,
-                held: Held::Volume(volume),
+                parts: Parts::Volume(volume),
             }),
         }
     }
@@ -171,7 +171,7 @@ impl<'v, 'a> TreeWalk<'v, 'a> {
             levels: Stack::of(Level {
                 number: 0,
                 nesting: 0,
-                held: parts_in(part),
+                parts: parts_in(part),
             }),
         }
     }
@@ -188,7 +188,7 @@ impl<'v, 'a> Iterator for TreeWalk<'v, 'a> {
 
     fn next(&mut self) -> Option<Row<'v, 'a>> {
         while let Some(level) = self.levels.pop() {
-            if let Some((part, rest)) = split(level.held) {
+            if let Some((part, rest)) = split(level.parts) {
                 let depth = self.levels.len();
                 let Level {
                     number,
@@ -198,12 +198,12 @@ impl<'v, 'a> Iterator for TreeWalk<'v, 'a> {
                 self.levels.push(Level {
                     number: number + 1,
                     nesting,
-                    held: rest,
+                    parts: rest,
                 });
                 self.levels.push(Level {
                     number: 0,
                     nesting: nesting_inside(nesting, part),
-                    held: parts_in(part),
+                    parts: parts_in(part),
                 });
                 return Some(Row {
                     depth,

@@ -56,7 +56,7 @@ frame_later b f g x y l =
         (record {
           offset = begun.0;
           inside = x.inside;
-          behind = begun.1 ++ beyond;
+          rest = begun.1 ++ beyond;
           begins = subst (λ (c : List ℕ). BeginsFrame h c (begun.1 ++ beyond)) (take-append-drop (y.at - x.at) (drop x.at b)) there;
         })
 

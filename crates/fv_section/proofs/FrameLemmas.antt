@@ -17,7 +17,7 @@ use Rattle.fv_base.specs.inner.Verdicts.{first_fault}
 use Rattle.fv_base.proofs.Laws.{all_hold, and_join, and_split, field-append_front, field-take, first_is, none_faulty, not_equal}
 use Rattle.fv_base.proofs.Laws.{none_fails, verdict_err, verdict_none, verdict_ok}
 use Rattle.fv_section.specs.Words.{has_extended_size, section_header_len_at, section_size_in, section_size_at, frame_checks, frame_in}
-use Rattle.fv_section.specs.Words.{FrameStandsAt, FrameForm, BeginsFrame, SaysSize, section_header_len, frame_len}
+use Rattle.fv_section.specs.Words.{HasFrameAt, FrameForm, BeginsFrame, StatesSize, section_header_len, frame_len}
 use Rattle.fv_section.specs.inner.FrameVerdicts.{frame_verdict}
 
 pub head_least : (extended : Bool) → 4 ≤ section_header_len extended
@@ -30,7 +30,7 @@ size_least f = omega (arith, head_least f.extended)
 -- ---- from the checks to the frame
 
 says_size : (t : Bool) (n : ℕ) (r h : List ℕ) → has_extended_size r ≡ t → le_at 0 3 h ≡ le_at 0 3 r → (t ≡ true → le_at 4 4 h ≡ le_at 4 4 r)
-    → n ≡ section_size_in t r → SaysSize t n h
+    → n ≡ section_size_in t r → StatesSize t n h
 says_size false n r h is short long e = (short ∙ sym e, λ full. eqb-false (le_at 0 3 r) 0xffffff is (sym e ∙ full))
 says_size true n r h is short long e = (short ∙ eqb-true (le_at 0 3 r) 0xffffff is, long refl ∙ sym e)
 
@@ -55,7 +55,7 @@ begins_in at r all =
       is_header = record {
         whole = length-take-le n r whole;
         kind_is = get_or-take n r 3 0 (omega (arith, low));
-        says = says_size (has_extended_size r) (n + length body) r (take n r) refl (ap le (field-take 0 3 n r (omega (arith, low))))
+        states = says_size (has_extended_size r) (n + length body) r (take n r) refl (ap le (field-take 0 3 n r (omega (arith, low))))
             (λ e. ap le (field-take 4 4 n r (eight e))) (omega (arith, len, least));
       };
       text = sym (take-append-drop n r) ∙ ap (λ (l : List ℕ). take n r ++ l) split;
@@ -74,11 +74,11 @@ pub record ReadsFrame (f : FrameForm) (r rest : List ℕ) : Type 0 where
   pub rest_is : rest ≡ drop (frame_len f) r
   pub whole : length r ≡ frame_len f + length rest
 
-shown : (extended : Bool) (n : ℕ) (h : List ℕ) → SaysSize extended n h → (le_at 0 3 h == 0xffffff) ≡ extended
+shown : (extended : Bool) (n : ℕ) (h : List ℕ) → StatesSize extended n h → (le_at 0 3 h == 0xffffff) ≡ extended
 shown false n h (is, ne) = not_equal (le_at 0 3 h) 0xffffff (λ e. ne (sym is ∙ e))
 shown true n h (is, e) = eq-eqb (le_at 0 3 h) 0xffffff is
 
-sized : (extended : Bool) (n : ℕ) (h y : List ℕ) → length h ≡ section_header_len extended → SaysSize extended n h
+sized : (extended : Bool) (n : ℕ) (h y : List ℕ) → length h ≡ section_header_len extended → StatesSize extended n h
     → section_size_in extended (h ++ y) ≡ n
 sized false n h y l (is, ne) = ap le (field-append_front 0 3 h y (omega (arith, l))) ∙ is
 sized true n h y l (is, e) = ap le (field-append_front 4 4 h y (omega (arith, l))) ∙ e
@@ -97,10 +97,10 @@ frame_reads f r rest b =
     let low : 4 ≤ length h = subst (λ (k : ℕ). 4 ≤ k) (sym is.whole) (head_least f.extended) in
     let first : le_at 0 3 r ≡ le_at 0 3 h =
     ap (λ (l : List ℕ). le_at 0 3 l) b.text ∙ ap le (field-append_front 0 3 h y (omega (arith, low))) in
-    let form : has_extended_size r ≡ f.extended = ap (λ (k : ℕ). k == 0xffffff) first ∙ shown f.extended (frame_len f) h is.says in
+    let form : has_extended_size r ≡ f.extended = ap (λ (k : ℕ). k == 0xffffff) first ∙ shown f.extended (frame_len f) h is.states in
     let n : section_header_len_at r ≡ length h = ap section_header_len form ∙ sym is.whole in
     let all : section_size_at r ≡ frame_len f = ap (λ (t : Bool). section_size_in t r) form ∙ ap (section_size_in f.extended) b.text
-    ∙ sized f.extended (frame_len f) h y is.whole is.says in
+    ∙ sized f.extended (frame_len f) h y is.whole is.states in
     let kind : slice_index r 3 ≡ f.kind =
     ap (λ (l : List ℕ). slice_index l 3) b.text ∙ get_or-append h y 0 3 (omega (arith, low)) ∙ is.kind_is in
     let long : length r ≡ frame_len f + length rest =
@@ -147,20 +147,20 @@ begins_more f b r y h = grind (arith, common_steps, append_assoc)
 
 -- ---- the verdict
 
-pub verdict_stands : (at : ℕ) (b : List ℕ) (f : FrameForm) → at < length b → frame_verdict at (drop at b) ≡ Ok f → FrameStandsAt f at b
+pub verdict_stands : (at : ℕ) (b : List ℕ) (f : FrameForm) → at < length b → frame_verdict at (drop at b) ≡ Ok f → HasFrameAt f at b
 verdict_stands at b f inside is =
     let r : List ℕ = drop at b in
     let v = verdict_ok (first_fault (frame_checks at r)) (frame_in at r) f is in
-    subst (λ (g : FrameForm). FrameStandsAt g at b) v.1 (record {
+    subst (λ (g : FrameForm). HasFrameAt g at b) v.1 (record {
       offset = refl;
       inside = inside;
-      behind = drop (section_size_at r) r;
+      rest = drop (section_size_at r) r;
       begins = begins_in at r (all_hold (frame_checks at r) v.0);
     })
 
-pub stands_verdict : (at : ℕ) (b : List ℕ) (g : FrameForm) → FrameStandsAt g at b → frame_verdict at (drop at b) ≡ Ok g
+pub stands_verdict : (at : ℕ) (b : List ℕ) (g : FrameForm) → HasFrameAt g at b → frame_verdict at (drop at b) ≡ Ok g
 stands_verdict at b g stands =
-    let reads = frame_reads g (drop at b) stands.behind stands.begins in
+    let reads = frame_reads g (drop at b) stands.rest stands.begins in
     verdict_none (first_fault (frame_checks at (drop at b))) (frame_in at (drop at b))
     (none_faulty (frame_checks at (drop at b)) (reads.checks at))
     ∙ ap Ok (ap (λ (k : ℕ). frame_in k (drop at b)) (sym stands.offset) ∙ reads.frame_is)
@@ -174,9 +174,9 @@ verdict_rest at b = ap (frame_verdict at) (take_rest b at)
 
 -- if a check does not hold, no frame begins at the place
 pub none_stands : (which : Which) (at : ℕ) (b : List ℕ) (e : Fault) (g : FrameForm) → Fails which (frame_checks at (drop at b)) e
-    → FrameStandsAt g at b → ⊥
+    → HasFrameAt g at b → ⊥
 none_stands which at b e g bad stands =
-    let reads = frame_reads g (drop at b) stands.behind stands.begins in
+    let reads = frame_reads g (drop at b) stands.rest stands.begins in
     none_fails which (frame_checks at (drop at b)) e bad (reads.checks at)
 
 pub other_verdict : (x : Result FrameForm Fault) (f g : FrameForm) → x ≡ Ok f → x ≡ Ok g → g ≡ f

@@ -14,7 +14,7 @@ use Rattle.std.proofs.lemmas.List.{take-append-drop, take_all, drop_at}
 use Rattle.std.proofs.Math.Seq.{take-add, take-append-add}
 use Rattle.fv_base.specs.Words.{IsFirstFault, Which}
 use Rattle.fv_base.specs.declared.fault.Fault.{Fault}
-use Rattle.fv_section.specs.Words.{FrameForm, BeginsFrame, Splits, SplitsFrom, frame_len, up_to_4, FrameStandsAt, FramesWithin, frame_in}
+use Rattle.fv_section.specs.Words.{FrameForm, BeginsFrame, Splits, SplitsFrom, frame_len, up_to_4, HasFrameAt, FramesWithin, frame_in}
 use Rattle.fv_section.specs.Words.{frames_from, offset_after, HasFrames, frame_checks, FrameFault, IsFirstFrameFault}
 use Rattle.fv_section.proofs.FrameLemmas.{length_begun, frame_reads, none_stands}
 use Rattle.fv_section.proofs.StreamLemmas.{cut, from_least, one_more}
@@ -40,11 +40,11 @@ begins_less f b r k h =
 
 -- the frames up to an offset, and the frame there, split the bytes up to the next offset
 pub step : (b : List ℕ) (fs : List FrameForm) (f : FrameForm) (t end at next : ℕ) → Splits fs t (take (up_to_4 end) b) → at ≡ up_to_4 end
-    → FrameStandsAt f at b → next ≡ f.offset + frame_len f
+    → HasFrameAt f at b → next ≡ f.offset + frame_len f
     → Splits (fs ++ f ∷ []) (min (up_to_4 next) (length b) - next) (take (up_to_4 next) b)
 step b fs f t end at next split here s e =
     let k : ℕ = up_to_4 next - next in
-    let r : List ℕ = s.behind in
+    let r : List ℕ = s.rest in
     let x : List ℕ = take at b in
     let y : List ℕ = take (frame_len f + k) (drop at b) in
     let before : Splits fs t x = subst (λ n. Splits fs t (take n b)) (sym here) split in
@@ -64,8 +64,8 @@ step b fs f t end at next split here s e =
     subst Q lr (subst P (sym (ap (λ j. take j b) n ∙ joined)) h)
 
 -- a frame at a place ends within the stream
-pub stands_within : (f : FrameForm) (b : List ℕ) (at : ℕ) → FrameStandsAt f at b → f.offset + frame_len f ≤ length b
-stands_within f b at s = omega (arith, s.offset, s.inside, length_begun f (drop at b) s.behind s.begins, length-drop at b)
+pub stands_within : (f : FrameForm) (b : List ℕ) (at : ℕ) → HasFrameAt f at b → f.offset + frame_len f ≤ length b
+stands_within f b at s = omega (arith, s.offset, s.inside, length_begun f (drop at b) s.rest s.begins, length-drop at b)
 
 -- the fault of the place at which the loop stops is the first fault
 pub first_here : (b : List ℕ) (fs : List FrameForm) (t end at : ℕ) (e : Fault) → Splits fs t (take (up_to_4 end) b) → at ≡ up_to_4 end
@@ -86,7 +86,7 @@ begins_of at f (g ∷ fs) t b (filler, rest, begun, o, fill, more) = (o, filler 
 
 -- the first frame of a split begins where the split begins
 first_stands : (at : ℕ) (f : FrameForm) (fs : List FrameForm) (t : ℕ) (b : List ℕ) → SplitsFrom at (f ∷ fs) t (drop at b)
-    → FrameStandsAt f at b
+    → HasFrameAt f at b
 first_stands at f fs t b split = grind (arith, common_steps, begins_of, from_least, length-drop)
 
 -- if a check fails at a place that the frames reach, the stream does not split
@@ -141,14 +141,14 @@ behind_first at f (g ∷ fs) t b (filler, rest, begun, o, fill, more) =
 
 -- each frame of a stream begins at its offset
 from_stands : (at : ℕ) (fs : List FrameForm) (t : ℕ) (b : List ℕ) → SplitsFrom at fs t (drop at b)
-    → AllByRecursion (λ f. FrameStandsAt f f.offset b) fs
+    → AllByRecursion (λ f. HasFrameAt f f.offset b) fs
 from_stands at [] t b split = tt
 from_stands at (f ∷ fs) t b split =
     let stands = first_stands at f fs t b split in
     let rest = behind_first at f fs t b split in
-    (subst (λ n. FrameStandsAt f n b) (sym stands.offset) stands, from_stands (up_to_4 (at + frame_len f)) fs rest.0 b rest.1)
+    (subst (λ n. HasFrameAt f n b) (sym stands.offset) stands, from_stands (up_to_4 (at + frame_len f)) fs rest.0 b rest.1)
 
-pub split_stands : (fs : List FrameForm) (t : ℕ) (b : List ℕ) → Splits fs t b → AllByRecursion (λ f. FrameStandsAt f f.offset b) fs
+pub split_stands : (fs : List FrameForm) (t : ℕ) (b : List ℕ) → Splits fs t b → AllByRecursion (λ f. HasFrameAt f f.offset b) fs
 split_stands fs t b split = from_stands 0 fs t b split
 
 -- ---- the frames that a walk reads
@@ -160,7 +160,7 @@ walk_meets at [] t b split = (refl, tt)
 walk_meets at (f ∷ fs) t b split =
     let stands = first_stands at f fs t b split in
     let is : frame_in at (drop at b) ≡ f =
-    ap (λ n. frame_in n (drop at b)) (sym stands.offset) ∙ (frame_reads f (drop at b) stands.behind stands.begins).frame_is in
+    ap (λ n. frame_in n (drop at b)) (sym stands.offset) ∙ (frame_reads f (drop at b) stands.rest stands.begins).frame_is in
     let next : offset_after at b ≡ up_to_4 (at + frame_len f) = ap (λ g. up_to_4 (at + frame_len g)) is in
     let rest = behind_first at f fs t b split in
     let more = walk_meets (up_to_4 (at + frame_len f)) fs rest.0 b rest.1 in

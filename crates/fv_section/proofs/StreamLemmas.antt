@@ -10,7 +10,7 @@ use Rattle.std.proofs.Common.{append_assoc, ◌≢◌, Bool, true, false, drop, 
 use Rattle.std.proofs.lemmas.List.{length-take-le}
 use Rattle.fv_base.specs.Words.{IsBytes, field, le_at}
 use Rattle.fv_base.proofs.Laws.{same_cut, bytes_back, bytes_drop, bytes_front, bytes_take, le_below}
-use Rattle.fv_section.specs.Words.{FrameForm, BeginsFrame, SplitsFrom, frame_len, up_to_4, IsSectionHeader, SaysSize, section_header_len}
+use Rattle.fv_section.specs.Words.{FrameForm, BeginsFrame, SplitsFrom, frame_len, up_to_4, IsSectionHeader, StatesSize, section_header_len}
 use Rattle.fv_section.specs.Words.{FitsForm}
 use Rattle.fv_section.proofs.FrameLemmas.{length_begun, size_least, one_frame, begins_more}
 
@@ -142,7 +142,7 @@ begun_bytes f b rest bytes begun =
 
 -- a size that the bytes of a header give fits its form
 pub form_fits : (extended : Bool) (n : ℕ) (h : List ℕ) → length h ≡ section_header_len extended
-    → SaysSize extended (section_header_len extended + n) h
+    → StatesSize extended (section_header_len extended + n) h
     → IsBytes h → FitsForm extended n
 form_fits false n h long (is, other) bytes =
     let three : length (field 0 3 h) ≡ 3 = length-take-le 3 h (omega (arith, long)) in
@@ -159,7 +159,7 @@ form_fits true n h long (full, is) bytes =
 
 -- the body of a header in bytes fits its form
 pub fits_form : (extended : Bool) (kind n : ℕ) (h : List ℕ) → IsBytes h → IsSectionHeader extended kind n h → FitsForm extended n
-fits_form extended kind n h bytes is = form_fits extended n h is.whole is.says bytes
+fits_form extended kind n h bytes is = form_fits extended n h is.whole is.states bytes
 
 -- the body of a frame in bytes fits the form of its header
 pub fits : (f : FrameForm) (b rest : List ℕ) → IsBytes b → BeginsFrame f b rest → FitsForm f.extended (length f.body)

@@ -22,16 +22,16 @@ frame_len f = section_header_len f.extended + length f.body
 
 -- the header h states the size n: a short header in Size, and n is not 0xFFFFFF; an extended header in ExtendedSize,
 -- and its Size is 0xFFFFFF
-abbrev pub SaysSize : Bool → ℕ → List ℕ → Type 0
-SaysSize false n h = (le_at 0 3 h ≡ n) × (n ≢ 0xffffff)
-SaysSize true n h = (le_at 0 3 h ≡ 0xffffff) × (le_at 4 4 h ≡ n)
+abbrev pub StatesSize : Bool → ℕ → List ℕ → Type 0
+StatesSize false n h = (le_at 0 3 h ≡ n) × (n ≢ 0xffffff)
+StatesSize true n h = (le_at 0 3 h ≡ 0xffffff) × (le_at 4 4 h ≡ n)
 
 -- h is the header of a section of this form and type whose body has n bytes; the size that it states includes the
 -- header
 pub record IsSectionHeader (extended : Bool) (kind n : ℕ) (h : List ℕ) : Type 0 where
   pub whole : length h ≡ section_header_len extended
   pub kind_is : slice_index h 3 ≡ kind
-  pub says : SaysSize extended (section_header_len extended + n) h
+  pub states : StatesSize extended (section_header_len extended + n) h
 
 -- b is the header and the body of the frame f, followed by rest
 pub record BeginsFrame (f : FrameForm) (b rest : List ℕ) : Type 0 where

@@ -13,11 +13,11 @@ abbrev pub frame_form : Frame → FrameForm
 frame_form f = record { offset = f.offset; kind = f.kind; extended = f.extended; body = f.body.now }
 
 -- the frame f, with its header and its body, lies in b at the offset `at`
-pub record FrameStandsAt (f : FrameForm) (at : ℕ) (b : List ℕ) : Type 0 where
+pub record HasFrameAt (f : FrameForm) (at : ℕ) (b : List ℕ) : Type 0 where
   pub offset : f.offset ≡ at
   pub inside : at < length b
-  pub behind : List ℕ
-  pub begins : BeginsFrame f (drop at b) behind
+  pub rest : List ℕ
+  pub begins : BeginsFrame f (drop at b) rest
 
 -- every frame ends at most `end` bytes after the stream's start
 abbrev pub FramesWithin : ℕ → List FrameForm → Type 0
@@ -70,4 +70,4 @@ frames_from (suc n) at b = frame_in at (drop at b) ∷ frames_from n (offset_aft
 -- each of these n successive frames lies in b at its offset, the first at the offset `at`
 abbrev pub HasFrames : ℕ → ℕ → List ℕ → Type 0
 HasFrames zero at b = Unit {0}
-HasFrames (suc n) at b = FrameStandsAt (frame_in at (drop at b)) at b × HasFrames n (offset_after at b) b
+HasFrames (suc n) at b = HasFrameAt (frame_in at (drop at b)) at b × HasFrames n (offset_after at b) b

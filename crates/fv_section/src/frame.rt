@@ -6,7 +6,7 @@ ghost use Rattle.fv_section.specs.FrameChecks.{has_extended_size, section_header
 ghost use Rattle.fv_section.specs.FrameChecks.{has_section_size, frame_checks};
 ghost use Rattle.fv_section.specs.inner.FrameVerdicts.{frame_verdict};
 ghost use Rattle.fv_section.specs.Frames.{FrameForm, section_header_len};
-ghost use Rattle.fv_section.specs.StreamReads.{FrameStandsAt, frame_form, frame_in};
+ghost use Rattle.fv_section.specs.StreamReads.{HasFrameAt, frame_form, frame_in};
 
 use crate::offsets::{
     EXTENDED_HEADER_LEN, EXTENDED_SIZE_OFFSET, HEADER_LEN, SIZE_OFFSET, TYPE_OFFSET,
@@ -114,9 +114,9 @@ pub(crate) fn frame_in(rest: &[u8], at: u64) -> Frame<'_>
 }
 
 // Returns the frame at the start of `rest`, or the first fault there.
-fn front(rest: &[u8], at: u64) -> Result<Frame<'_>, Fault>
+fn checked_frame(rest: &[u8], at: u64) -> Result<Frame<'_>, Fault>
     ensures found { IfOk result (λ f. frame_verdict at rest.now ≡ Ok (frame_form f)) }
-    ensures refused { IfErr result (λ e. frame_verdict at rest.now ≡ Err e) }
+    ensures rejected { IfErr result (λ e. frame_verdict at rest.now ≡ Err e) }
     ensures place { IfErr result (λ e. e.place.offset ≡ at) }
 {
     check(rest.len() >= HEADER_LEN, FaultKind::SectionTail, at)?;
@@ -135,17 +135,17 @@ fn front(rest: &[u8], at: u64) -> Result<Frame<'_>, Fault>
 /// fewer than 8 bytes are left for an extended header.
 pub fn next_frame(stream: &[u8], at: u64) -> Result<Option<Frame<'_>>, Fault>
     // If a frame is returned, the stream has this frame at `at`.
-    ensures found { IfOk result (λ o. IfSome o (λ f. FrameStandsAt (frame_form f) at stream.now)) }
+    ensures found { IfOk result (λ o. IfSome o (λ f. HasFrameAt (frame_form f) at stream.now)) }
 
     // It has no other frame there.
     ensures only { IfOk result
-        (λ o. IfSome o (λ f. (g : FrameForm) → FrameStandsAt g at stream.now → g ≡ frame_form f)) }
+        (λ o. IfSome o (λ f. (g : FrameForm) → HasFrameAt g at stream.now → g ≡ frame_form f)) }
 
     // None is returned only if `at` is at or past the stream's end.
     ensures past { IfOk result (λ o. IfNone o (length stream.now ≤ at)) }
 
     // If an error is returned, the stream has no frame at `at`.
-    ensures none { IfErr result (λ _. (g : FrameForm) → FrameStandsAt g at stream.now → ⊥) }
+    ensures none { IfErr result (λ _. (g : FrameForm) → HasFrameAt g at stream.now → ⊥) }
 
     // The error names the first check that fails.
     ensures first { IfErr result (IsFirstFault (frame_checks at (drop at stream.now))) }
@@ -156,6 +156,6 @@ pub fn next_frame(stream: &[u8], at: u64) -> Result<Option<Frame<'_>>, Fault>
     if at >= stream.len() as u64 {
         return Ok(None);
     }
-    let frame = front(&stream[at as usize..], at)?;
+    let frame = checked_frame(&stream[at as usize..], at)?;
     Ok(Some(frame))
 }

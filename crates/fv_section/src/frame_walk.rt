@@ -6,7 +6,7 @@ ghost use Rattle.std.specs.Iterator.{YieldsFirstBy, item_count};
 ghost use Rattle.fv_base.specs.Words.{out_of_memory};
 ghost use Rattle.fv_section.specs.FrameChecks.{IsFirstFrameFault};
 ghost use Rattle.fv_section.specs.Frames.{FrameForm, Splits, frame_len, up_to_4};
-ghost use Rattle.fv_section.specs.StreamReads.{FrameStandsAt, FramesWithin, frame_form, frame_in};
+ghost use Rattle.fv_section.specs.StreamReads.{HasFrameAt, FramesWithin, frame_form, frame_in};
 
 use crate::frame::{Frame, frame_in, next_frame, section_header_len};
 use crate::frame_list::Frames;
@@ -50,7 +50,7 @@ fn stream_size(stream: &[u8]) -> Result<(u64, u8), Fault>
 // Returns the frame that begins at the offset `at`, and the offset at which the next frame would
 // begin.
 fn frame_at(stream: &[u8], at: u64) -> (Frame<'_>, u64)
-    requires { FrameStandsAt (frame_in at (drop at stream.now)) at stream.now }
+    requires { HasFrameAt (frame_in at (drop at stream.now)) at stream.now }
     ensures frame { frame_form result.0 ≡ frame_in at (drop at stream.now) }
     ensures next { result.1 ≡ up_to_4 (at + frame_len (frame_form result.0)) }
 {

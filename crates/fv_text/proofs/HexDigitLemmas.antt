@@ -12,7 +12,7 @@ use Rattle.std.proofs.Math.Seq.{drop-length, take-append_seam}
 use Rattle.std.proofs.lemmas.List.{drop-set-lt, get_or-drop, get_or-take, length-take-le, map-append, take_all, take_more, take_more_set}
 use Rattle.std.proofs.lemmas.List.Elements.{All-cons, All-head, All-nil, All-pop, All-push, All-tail}
 use Rattle.hex.specs.Hex.{hex_digit_value}
-use Rattle.fv_text.specs.inner.HexDecoding.{IsNibble, IsSpoilt, joined_pairs, value_or_16}
+use Rattle.fv_text.specs.inner.HexDecoding.{IsNibble, SpellsNothing, joined_pairs, value_or_16}
 use Rattle.fv_text.specs.Words.{IsPair, DigitsSpell}
 
 pub reads_joined : (a b x y : List ℕ) → DigitsSpell a x → DigitsSpell b y → DigitsSpell (a ++ b) (x ++ y)
@@ -37,11 +37,11 @@ reads_rest (h ∷ []) b x y p q = absurd p
 reads_rest (h ∷ l ∷ a) b x y (byte, rest, pair, is, more) (other, behind, twin, same, all) = reads_rest a b rest behind more all
 
 -- digits that cannot begin a text of bytes cannot do so with more digits after them
-pub spoilt_more : (a b : List ℕ) → IsSpoilt a → IsSpoilt (a ++ b)
+pub spoilt_more : (a b : List ℕ) → SpellsNothing a → SpellsNothing (a ++ b)
 spoilt_more a b spoilt = grind (arith, common_steps, append_assoc)
 
 -- digits that cannot begin a text of bytes cannot do so with digits before them that spell bytes
-pub spoilt_behind : (a b x : List ℕ) → DigitsSpell a x → IsSpoilt b → IsSpoilt (a ++ b)
+pub spoilt_behind : (a b x : List ℕ) → DigitsSpell a x → SpellsNothing b → SpellsNothing (a ++ b)
 spoilt_behind a b x reads spoilt = grind (arith, common_steps, append_assoc, reads_rest)
 
 -- a character with a value below 16 is a digit
@@ -67,7 +67,7 @@ all_digits (h ∷ l ∷ a) b bytes (byte, rest, pair, is, more) =
 
 -- the greatest value so far says whether all characters so far are digits
 abbrev pub Judges : ℕ → List ℕ → Type 0
-Judges most digits = (most < 16 → All IsNibble (map value_or_16 digits)) × (16 ≤ most → IsSpoilt digits)
+Judges most digits = (most < 16 → All IsNibble (map value_or_16 digits)) × (16 ≤ most → SpellsNothing digits)
 
 -- one more character is judged by the greater of its value and the greatest value so far
 pub judges_next : (digits : List ℕ) (i d most value now : ℕ) → i < length digits → value ≡ value_or_16 (get_or digits i d)

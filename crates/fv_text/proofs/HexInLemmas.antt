@@ -7,9 +7,9 @@ use Rattle.std.specs.Prelude.{◌==◌, length}
 use Rattle.std.proofs.lemmas.Bool.Decides.{Decides-eqb, nat_tests}
 use Rattle.fv_base.specs.Words.{volume_limit}
 use Rattle.fv_base.proofs.Laws.{up_is_not_down}
-use Rattle.fv_text.specs.Words.{IsNoText, DigitsSpell, squeezed}
+use Rattle.fv_text.specs.Words.{IsNotDigitPairs, DigitsSpell, squeezed}
 use Rattle.fv_text.specs.declared.hex_text.Decoder.{Decoder}
-use Rattle.fv_text.specs.inner.HexDecoding.{AddsDigits, Decodes, DecodesPairs, HoldsDigits, IsSpoilt}
+use Rattle.fv_text.specs.inner.HexDecoding.{AddsDigits, Decodes, DecodesPairs, HoldsDigits, SpellsNothing}
 use Rattle.fv_text.proofs.HexDigitLemmas.{odd_reads_nothing, reads_count, reads_joined, spoilt_behind, spoilt_more}
 use Rattle.fv_text.proofs.WhiteSpaceLemmas.{squeezed_more}
 
@@ -25,13 +25,13 @@ pub taken : (before text waiting all digits kept left held holds : List ℕ) (wa
     → HoldsDigits was_long held waiting (squeezed before) → AddsDigits was_long is_long held holds digits → all ≡ waiting ++ squeezed text
     → all ≡ digits ++ kept → left ≡ kept → HoldsDigits is_long holds left (squeezed (before ++ text))
 taken before text waiting all digits kept left held holds was_long is_long h adds joined split left_is = record {
-  front = h.front ++ digits;
+  decoded = h.decoded ++ digits;
   bytes = h.bytes ++ adds.more;
   joined =
-      joins before text waiting all digits kept h.front h.joined joined split
-      ∙ sym (append_assoc h.front digits kept)
-      ∙ ap (λ (l : List ℕ). (h.front ++ digits) ++ l) (sym left_is);
-  reads = reads_joined h.front digits h.bytes adds.more h.reads adds.reads;
+      joins before text waiting all digits kept h.decoded h.joined joined split
+      ∙ sym (append_assoc h.decoded digits kept)
+      ∙ ap (λ (l : List ℕ). (h.decoded ++ digits) ++ l) (sym left_is);
+  reads = reads_joined h.decoded digits h.bytes adds.more h.reads adds.reads;
   kept = λ short. let (was_short, same) = adds.kept short in same ∙ ap (λ (l : List ℕ). l ++ adds.more) (h.kept was_short);
   many = λ long. many_more was_long h.bytes adds.more (h.many)
       (λ was_short. subst (λ (l : List ℕ). volume_limit < length (l ++ adds.more)) (h.kept was_short) (adds.many long was_short));
@@ -44,10 +44,10 @@ taken before text waiting all digits kept left held holds was_long is_long h add
 -- if these pairs cannot begin a text, all the text so far cannot
 pub taken_wrong : (before text waiting all digits kept held : List ℕ) (was_long : Bool)
     → HoldsDigits was_long held waiting (squeezed before)
-    → IsSpoilt digits → all ≡ waiting ++ squeezed text → all ≡ digits ++ kept → IsSpoilt (squeezed (before ++ text))
+    → SpellsNothing digits → all ≡ waiting ++ squeezed text → all ≡ digits ++ kept → SpellsNothing (squeezed (before ++ text))
 taken_wrong before text waiting all digits kept held was_long h spoilt joined split =
-    subst IsSpoilt (sym (joins before text waiting all digits kept h.front h.joined joined split))
-    (spoilt_behind h.front (digits ++ kept) h.bytes h.reads (spoilt_more digits kept spoilt))
+    subst SpellsNothing (sym (joins before text waiting all digits kept h.decoded h.joined joined split))
+    (spoilt_behind h.decoded (digits ++ kept) h.bytes h.reads (spoilt_more digits kept spoilt))
 
 -- the decoder keeps the bytes that it holds, unless they and the bytes of its digits are more than a volume may have
 abbrev pub MakesRoom : Decoder → Decoder → Type 0
@@ -83,11 +83,11 @@ turned flag false is = (λ up. refl, λ down. absurd (up_is_not_down flag is dow
 -- all pairs were decoded, or one of them is not a byte
 pub pairs_decoded : (old room new : Decoder) (seen : List ℕ) (all : Bool) → MakesRoom old room → seen ≡ room.digits.items
     → (all ≡ true → (more : List ℕ) × DigitsSpell seen more × (new.bytes.items ≡ room.bytes.items ++ more))
-    → (all ≡ false → IsSpoilt seen) → new.is_wrong ≡ not all → new.is_long ≡ room.is_long → DecodesPairs old new
+    → (all ≡ false → SpellsNothing seen) → new.is_wrong ≡ not all → new.is_long ≡ room.is_long → DecodesPairs old new
 pairs_decoded old room new seen all made seen_is read wrong flag long =
     let digits : seen ≡ old.digits.items = seen_is ∙ made.0 in
     record {
-      wrong = λ up. subst IsSpoilt digits (wrong ((turned new.is_wrong all flag).0 up));
+      wrong = λ up. subst SpellsNothing digits (wrong ((turned new.is_wrong all flag).0 up));
       right = λ down.
           let (more, reads, is) = read ((turned new.is_wrong all flag).1 down) in
           subst (λ (b : Bool). AddsDigits old.is_long b old.bytes.items new.bytes.items old.digits.items) (sym long)
@@ -108,20 +108,20 @@ none_waits value empty n (x ∷ l) down is empty_is count =
 -- a text that was wrong is still wrong with the next piece
 pub stays_wrong : (d : Decoder) (before text : List ℕ) → d.is_wrong ≡ true → Decodes d before → Decodes d (before ++ text)
 stays_wrong d before text wrong so_far = record {
-  wrong = λ up. subst IsSpoilt (sym (squeezed_more before text)) (spoilt_more (squeezed before) (squeezed text) (so_far.wrong up));
+  wrong = λ up. subst SpellsNothing (sym (squeezed_more before text)) (spoilt_more (squeezed before) (squeezed text) (so_far.wrong up));
   right = λ down. absurd (up_is_not_down d.is_wrong wrong down);
   small = so_far.small;
   waiting = so_far.waiting;
 }
 
 -- a text that is wrong does not spell bytes
-pub spoilt_is_no_text : (text : List ℕ) → IsSpoilt (squeezed text) → IsNoText text
+pub spoilt_is_no_text : (text : List ℕ) → SpellsNothing (squeezed text) → IsNotDigitPairs text
 spoilt_is_no_text text spoilt = λ bytes reads.
     spoilt [] bytes (subst (λ (l : List ℕ). DigitsSpell l bytes) (sym (append-nil (squeezed text))) reads)
 
 -- a text after which a digit waits does not spell bytes
 pub odd_is_no_text : (text waiting held : List ℕ) (is_long : Bool) → length waiting ≡ 1 → HoldsDigits is_long held waiting (squeezed text)
-    → IsNoText text
+    → IsNotDigitPairs text
 odd_is_no_text text waiting held is_long one h = grind (arith, common_steps, odd_reads_nothing)
 
 -- a text after which no digit waits spells the bytes that are held

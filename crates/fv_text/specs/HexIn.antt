@@ -46,8 +46,8 @@ pub record SpellsWhole (old new : Option (List ℕ)) (input : List ℕ) : Type 0
   pub small : length input ≤ volume_limit
 
 -- the text, without its white space, is not an even number of digits
-abbrev pub IsNoText : List ℕ → Type 0
-IsNoText text = (bytes : List ℕ) → DigitsSpell (squeezed text) bytes → ⊥
+abbrev pub IsNotDigitPairs : List ℕ → Type 0
+IsNotDigitPairs text = (bytes : List ℕ) → DigitsSpell (squeezed text) bytes → ⊥
 
 -- the text spells more bytes than a volume may have
 abbrev pub IsLongText : List ℕ → Type 0
@@ -55,13 +55,13 @@ IsLongText text = (bytes : List ℕ) × DigitsSpell (squeezed text) bytes × (vo
 
 -- why a complete text is rejected: ReadFault at 0, if it is not an even number of digits; Length at the limit of a
 -- volume, if it spells more bytes than that
-abbrev pub RefusesText : List ℕ → Fault → Type 0
-RefusesText text fault =
-    (IsNoText text × (fault ≡ outer_fault kinds.ReadFault 0))
+abbrev pub TextFault : List ℕ → Fault → Type 0
+TextFault text fault =
+    (IsNotDigitPairs text × (fault ≡ outer_fault kinds.ReadFault 0))
     ⊎ (IsLongText text × (fault ≡ outer_fault kinds.Length volume_limit))
 
 -- reading hexadecimal text stopped with this fault, and if it is ReadFault, the port's error flag is set; or the text
 -- was read to its end, and is rejected with this fault
 pub record TextStops (old new : Option (List ℕ)) (erred : Bool) (fault : Fault) : Type 0 where
   pub cause : (StopsWithin text_limit old new fault × (fault.kind ≡ kinds.ReadFault → erred ≡ true))
-      ⊎ ((text : List ℕ) × GivesAll old new text × (length text ≤ text_limit) × RefusesText text fault)
+      ⊎ ((text : List ℕ) × GivesAll old new text × (length text ≤ text_limit) × TextFault text fault)

@@ -1,7 +1,7 @@
 -- The door of this crate: all definitions of its `specs/` that other crates may import.
 pub use Rattle.fv_text.specs.HexText.{line_feed, two_digits, four_digits, line_text, lines_text, last_text, IsWholeLine}
 pub use Rattle.fv_text.specs.HexText.{IsHexText, ShowsBytes}
-pub use Rattle.fv_text.specs.PortViews.{Shown, seen, shown, Change, change, Ports, Writes, StopsIn}
-pub use Rattle.fv_text.specs.HexIn.{is_space, squeezed, IsPair, DigitsSpell, text_limit, SpellsWhole, IsNoText}
-pub use Rattle.fv_text.specs.HexIn.{IsLongText, RefusesText, TextStops}
+pub use Rattle.fv_text.specs.PortViews.{PortView, port_view, view_of, Change, change, Ports, Writes, StopsIn}
+pub use Rattle.fv_text.specs.HexIn.{is_space, squeezed, IsPair, DigitsSpell, text_limit, SpellsWhole, IsNotDigitPairs}
+pub use Rattle.fv_text.specs.HexIn.{IsLongText, TextFault, TextStops}
 pub use Rattle.fv_text.specs.SinkAdapters.{LentTakes, Gathered, GatheringTakes, Lined, HexTakes}

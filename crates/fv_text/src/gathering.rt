@@ -4,7 +4,7 @@ ghost use Rattle.std.specs.Prelude.{◌≡◌, ◌≤◌, ◌+◌, [], length, t
 ghost use Rattle.fv_text.specs.SinkAdapters.{GatheringTakes};
 ghost use Rattle.fv_text.specs.inner.SinkAdapterLaws.{gathered_by};
 
-use crate::placing::place;
+use crate::copying::copy_to;
 use fv_base::Sink;
 
 /// The maximum number of bytes that wait.
@@ -72,7 +72,7 @@ impl<S: Sink> GatheringSink<S> {
         requires { self.old.filled + length bytes.now ≤ 8192 }
         ensures { GatheringTakes S.takes (λ s. s.below) (λ s. take s.filled s.room) self.old bytes.now self.new }
     {
-        place(&mut self.room, self.filled, bytes);
+        copy_to(&mut self.room, self.filled, bytes);
         self.filled += bytes.len();
     }
 

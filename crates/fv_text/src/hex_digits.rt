@@ -4,7 +4,7 @@ ghost use Rattle.std.specs.Option.{option_to_list};
 ghost use Rattle.std.specs.List.{All};
 ghost use Rattle.std.specs.Prelude.{◌≡◌, ◌≤◌, ◌+◌, ◌/◌, ◌%◌, ◌++◌, ℕ, List, true, false, length, map, take, vec_len};
 ghost use Rattle.std.specs.Prelude.{IfOk, OnOk};
-ghost use Rattle.fv_text.specs.inner.HexDecoding.{IsNibble, IsSpoilt, joined_pairs, value_or_16};
+ghost use Rattle.fv_text.specs.inner.HexDecoding.{IsNibble, SpellsNothing, joined_pairs, value_or_16};
 ghost use Rattle.fv_text.specs.HexIn.{DigitsSpell};
 
 use std::alloc::AllocError;
@@ -45,7 +45,7 @@ fn digit_value(byte: u8) -> u8
 fn take_values(digits: &mut [u8]) -> bool
     ensures values { digits.new ≡ map value_or_16 digits.old }
     ensures right { result ≡ true → All IsNibble digits.new }
-    ensures wrong { result ≡ false → IsSpoilt digits.old }
+    ensures wrong { result ≡ false → SpellsNothing digits.old }
 {
     let mut most = 0;
     for i in 0..digits.len() {
@@ -81,7 +81,7 @@ pub(crate) fn push_pairs(digits: &mut [u8], bytes: &mut Vec<u8>) -> Result<bool,
     requires even { length digits.old % 2 ≡ 0 }
     ensures read { IfOk result (λ all. all ≡ true → (more : List ℕ) × DigitsSpell digits.old more
         × (bytes.new.items ≡ bytes.old.items ++ more)) }
-    ensures wrong { IfOk result (λ all. all ≡ false → IsSpoilt digits.old) }
+    ensures wrong { IfOk result (λ all. all ≡ false → SpellsNothing digits.old) }
     ensures room { OnOk result (vec_len bytes.new ≤ vec_len bytes.old + length digits.old / 2) }
 {
     if !take_values(digits) {

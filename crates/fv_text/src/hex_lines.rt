@@ -5,8 +5,8 @@ ghost use Rattle.fv_text.specs.inner.SinkAdapterLaws.{hex_by};
 ghost use Rattle.fv_text.specs.SinkAdapters.{HexTakes};
 ghost use Rattle.fv_text.specs.HexText.{IsHexText, ShowsBytes, last_text, line_text};
 
+use crate::copying::copy_to;
 use crate::lent_sink::LentSink;
-use crate::placing::place;
 use fv_base::Sink;
 use fv_base::field::bytes_from;
 
@@ -74,7 +74,7 @@ impl<S: Sink> HexSink<S> {
     {
         let count = bytes.len().min(LINE - self.filled);
         let end = self.filled + count;
-        place(&mut self.line, self.filled, &bytes[..count]);
+        copy_to(&mut self.line, self.filled, &bytes[..count]);
         if end < LINE {
             self.filled = end;
             return count;

@@ -3,7 +3,7 @@
 ghost use Rattle.std.specs.Prelude.{◌≡◌, ◌≤◌, ◌%◌, ⊤, [], ℕ, List, false, length, IfOk, IfErr, OnOk, vec_len};
 ghost use Rattle.fv_base.specs.Words.{volume_limit, inner_of, has_erred};
 ghost use Rattle.fv_text.specs.inner.HexDecoding.{Decodes, DecodesPairs};
-ghost use Rattle.fv_text.specs.HexIn.{SpellsWhole, TextStops, RefusesText, DigitsSpell, squeezed};
+ghost use Rattle.fv_text.specs.HexIn.{SpellsWhole, TextStops, TextFault, DigitsSpell, squeezed};
 
 use crate::hex_digits::{push_pairs, take_odd};
 use crate::white_space::squeeze;
@@ -66,7 +66,7 @@ impl Decoder {
     fn finish(self) -> Result<Vec<u8>, Fault>
         ensures read { (text : List ℕ) → Decodes self text
             → IfOk result (λ v. DigitsSpell (squeezed text) v.items × (length v.items ≤ volume_limit)) }
-        ensures err { (text : List ℕ) → Decodes self text → IfErr result (RefusesText text) }
+        ensures err { (text : List ℕ) → Decodes self text → IfErr result (TextFault text) }
     {
         let Decoder {
             digits,

@@ -2,13 +2,13 @@
 //! decodes such lines. Its sinks turn bytes into lines, gather small pieces, or lend another sink.
 #![tactic(auto)]
 
+mod copying;
 mod gathering;
 mod hex_digits;
 mod hex_lines;
 mod hex_text;
 mod lent_sink;
 mod numbers;
-mod placing;
 mod white_space;
 
 pub use gathering::GatheringSink;

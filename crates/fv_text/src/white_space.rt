@@ -4,7 +4,7 @@ ghost use Rattle.fv_text.specs.HexIn.{is_space, squeezed};
 ghost use Rattle.fv_text.specs.inner.HexDecoding.{IsPutKept};
 ghost use Rattle.std.specs.Prelude.{◌≡◌, ◌≤◌, ◌+◌, ◌++◌, if◌then◌else◌, length, true, OnOk};
 
-use crate::placing::place;
+use crate::copying::copy_to;
 use fv_base::field::bytes_from;
 use std::alloc::AllocError;
 
@@ -66,7 +66,7 @@ fn put_windows(text: &[u8], room: &mut [u8], start: usize) -> usize
     for i in 0..text.len() / WINDOW {
         let window = &text[WINDOW * i..WINDOW * i + WINDOW];
         if is_dense(window) {
-            place(room, end, window);
+            copy_to(room, end, window);
             end += WINDOW;
         } else {
             end = put_kept(window, room, end);

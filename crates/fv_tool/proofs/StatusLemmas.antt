@@ -3,14 +3,14 @@ use Rattle.std.proofs.Common.{◌≡◌, ◌∙◌, ℕ, List, ap, Bool, true, f
 use Rattle.std.specs.Prelude.{Option, None, Some}
 use Rattle.fv_base.specs.Words.{has_erred, inner_of}
 use Rattle.fv_base.specs.declared.port.Port.{Port}
-use Rattle.fv_text.specs.Words.{Change, Ports, seen, shown}
-use Rattle.fv_command.specs.Words.{HasText, Runs, RunsOver, SaysCommand, fresh, PartText, Says}
+use Rattle.fv_text.specs.Words.{Change, Ports, port_view, view_of}
+use Rattle.fv_command.specs.Words.{HasText, Runs, RunsOver, CommandRunText, fresh, PartText, TaskText}
 use Rattle.fv_command.specs.declared.ending.Ending.{Ending}
 use Rattle.fv_command.specs.declared.ending.Refusal.{Refusal}
 use Rattle.fv_command.specs.declared.extracting.Extraction.{Extraction}
 use Rattle.fv_command.specs.declared.status.Status.{Status}
 use Rattle.fv_command.specs.declared.extracting.Extraction.TheVariants.{Made, Stored, NotFound, NotSectioned}
-use Rattle.fv_command.specs.declared.status.Status.TheVariants.{Done, Different, Faulty, Refused, WrongWords}
+use Rattle.fv_command.specs.declared.status.Status.TheVariants.{Done, Different, Faulty, Refused, WrongArguments}
 use Rattle.fv_plan.specs.declared.plan.Command.{Command}
 use Rattle.fv_plan.specs.declared.plan.Plan.{Plan}
 use Rattle.fv_plan.specs.declared.plan.Task.{Task}
@@ -18,18 +18,18 @@ use Rattle.fv_plan.specs.declared.plan.Command.TheVariants.{Single, Hobs, Compar
 use Rattle.fv_plan.specs.declared.plan.Task.TheVariants.{Normalise, NormaliseAll, List as Listing, ListSums, Extract, Check}
 use Rattle.fv_plan.specs.declared.plan.Task.TheVariants.{CheckAll, Cells, Unfix, Scan}
 
-part_not_wrong : (hex : Bool) (x : Extraction) (text : List ℕ) → PartText hex x WrongWords text → ⊥
+part_not_wrong : (hex : Bool) (x : Extraction) (text : List ℕ) → PartText hex x WrongArguments text → ⊥
 part_not_wrong hex (Made bytes) text said = said
 part_not_wrong hex (Stored bytes) text said = said
 part_not_wrong hex NotFound text said = said
 part_not_wrong hex NotSectioned text said = said
 
-checks_not_wrong : (rejected another : Bool) → WrongWords ≡ cond rejected Faulty (cond another Different Done) → ⊥
+checks_not_wrong : (rejected another : Bool) → WrongArguments ≡ cond rejected Faulty (cond another Different Done) → ⊥
 checks_not_wrong true another is = cc
 checks_not_wrong false true is = cc
 checks_not_wrong false false is = cc
 
-says_not_wrong : (task : Task) (hex : Bool) (input text : List ℕ) → Says task hex input WrongWords text → ⊥
+says_not_wrong : (task : Task) (hex : Bool) (input text : List ℕ) → TaskText task hex input WrongArguments text → ⊥
 says_not_wrong Normalise hex input text said = said
 says_not_wrong NormaliseAll hex input text said = said
 says_not_wrong Listing hex input text said = said
@@ -41,28 +41,28 @@ says_not_wrong Cells hex input text said = said
 says_not_wrong Unfix hex input text said = said
 says_not_wrong Scan hex input text said = said
 
-command_not_wrong : (c : Command) (hex : Bool) (first second : Change) (text : List ℕ) → SaysCommand c hex first second WrongWords text
+command_not_wrong : (c : Command) (hex : Bool) (first second : Change) (text : List ℕ) → CommandRunText c hex first second WrongArguments text
     → ⊥
 command_not_wrong (Single task at file) hex first second text (same, (bytes, gives, said)) = says_not_wrong task hex bytes text said
-command_not_wrong (Hobs file image) hex first second text (is, lists) = let bad : WrongWords ≡ Done = is in cc
-command_not_wrong (Compare a b) hex first second text (m, k, gives, also, inl (is, same), line) = let bad : WrongWords ≡ Done = is in cc
-command_not_wrong (Compare a b) hex first second text (m, k, gives, also, inr (is, differ), line) = let bad : WrongWords ≡ Different = is in cc
+command_not_wrong (Hobs file image) hex first second text (is, lists) = let bad : WrongArguments ≡ Done = is in cc
+command_not_wrong (Compare a b) hex first second text (m, k, gives, also, inl (is, same), line) = let bad : WrongArguments ≡ Done = is in cc
+command_not_wrong (Compare a b) hex first second text (m, k, gives, also, inr (is, differ), line) = let bad : WrongArguments ≡ Different = is in cc
 
 text_not_wrong : (c : Command) (hex : Bool) (first second : Change) (refusal : Option Refusal) (text : List ℕ)
-    → HasText c hex first second refusal WrongWords text → ⊥
+    → HasText c hex first second refusal WrongArguments text → ⊥
 text_not_wrong c hex first second None text said = command_not_wrong c hex first second text said
-text_not_wrong c hex first second (Some refusal) text (stops, is, line) = let bad : WrongWords ≡ Refused = is in cc
+text_not_wrong c hex first second (Some refusal) text (stops, is, line) = let bad : WrongArguments ≡ Refused = is in cc
 
-run_not_wrong : (p : Plan) (ended : Ending) (ports : Ports) → Runs p ended ports → ended.status ≡ WrongWords → ⊥
+run_not_wrong : (p : Plan) (ended : Ending) (ports : Ports) → Runs p ended ports → ended.status ≡ WrongArguments → ⊥
 run_not_wrong p ended ports (ran, text, has, inl (is, wrote)) wrong =
     text_not_wrong p.command p.hex ports.first ports.second ended.refusal text
     (subst (λ (s : Status). HasText p.command p.hex ports.first ports.second ended.refusal s text) (sym is ∙ wrong) has)
-run_not_wrong p ended ports (ran, text, has, inr (is, stops)) wrong = let bad : WrongWords ≡ Refused = sym wrong ∙ is in cc
+run_not_wrong p ended ports (ran, text, has, inr (is, stops)) wrong = let bad : WrongArguments ≡ Refused = sym wrong ∙ is in cc
 
--- the run of a plan does not end with the status WrongWords
+-- the run of a plan does not end with the status WrongArguments
 pub never_wrong : {S F : Type 0} (of_input : S → Option (List ℕ)) (of_file : F → Option (List ℕ))
     (opens : List ℕ → Option F → Type 0) (is_standard : S → Type 0) (p : Plan) (ended : Ending) (output : Change)
-    → RunsOver of_input of_file opens is_standard p ended output → ended.status ≡ WrongWords → ⊥
+    → RunsOver of_input of_file opens is_standard p ended output → ended.status ≡ WrongArguments → ⊥
 never_wrong of_input of_file opens is_standard p ended output (first, second, is_first, is_second, s, s', ran) is =
     run_not_wrong p ended (record {
       first = record { old = fresh of_input of_file first; new = s };
@@ -71,6 +71,6 @@ never_wrong of_input of_file opens is_standard p ended output (first, second, is
     }) ran is
 
 -- a new port shows the bytes of its inner reader or writer, and no error
-pub shown_new : {T : Type 0} (told : T → Option (List ℕ)) (port : Port T) (inner : T) → inner_of port ≡ inner → has_erred port ≡ false
-    → shown told port ≡ seen (told inner) false
-shown_new told port inner is fine = ap (λ e. seen (told (inner_of port)) e) fine ∙ ap (λ x. seen (told x) false) is
+pub shown_new : {T : Type 0} (known_bytes : T → Option (List ℕ)) (port : Port T) (inner : T) → inner_of port ≡ inner → has_erred port ≡ false
+    → view_of known_bytes port ≡ port_view (known_bytes inner) false
+shown_new known_bytes port inner is fine = ap (λ e. port_view (known_bytes (inner_of port)) e) fine ∙ ap (λ x. port_view (known_bytes x) false) is

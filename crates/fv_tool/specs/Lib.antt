@@ -1,3 +1,3 @@
 -- The files of definitions, in the order in which they can be read.
-pub mod ArgumentRefusals
-pub mod Does
+pub mod ArgumentRejections
+pub mod ProgramRuns

@@ -58,7 +58,7 @@ pub fn advise<P: Process>(alloc: Global, process: &P, ending: Ending, is_written
         process.advise(Advice::NotWritten);
     }
     match ending.status {
-        Status::WrongWords => explain_arguments(alloc, process),
+        Status::WrongArguments => explain_arguments(alloc, process),
         Status::Done if !process.has_written() => explain_silence(alloc, process),
         _ => {}
     }

@@ -17,7 +17,7 @@ use std::rt::{Env, Files};
 use std::{env, fs, io, str};
 
 /// The directory that is opened only to occupy file descriptors, so that no message is about it.
-pub const HELD: &str = "/.";
+pub const DESCRIPTOR_FILLER: &str = "/.";
 
 /// A process: its arguments and its standard output.
 pub trait Process {
@@ -28,7 +28,7 @@ pub trait Process {
     ghost has_arguments: { Self → List (String Global) → Type 0 };
 
     /// The arguments of the process cannot be read, with an error of this kind.
-    ghost denies_arguments: { Self → ErrorKind → Type 0 };
+    ghost arguments_fail_with: { Self → ErrorKind → Type 0 };
 
     /// The writer is standard output.
     ghost is_output: { Self → Self.Writer → Type 0 };
@@ -40,7 +40,7 @@ pub trait Process {
     /// OutOfMemory. Another error, if an argument after the first is not UTF-8.
     fn arguments(&self) -> io::Result<Args>
         ensures ok { IfOk result (λ arguments. has_arguments self.now (into_iter_items arguments)) }
-        ensures err { IfErr result (λ error. denies_arguments self.now (error_kind error)) };
+        ensures err { IfErr result (λ error. arguments_fail_with self.now (error_kind error)) };
 
     /// Returns standard output.
     fn standard_output(&self) -> Self::Writer
@@ -119,7 +119,7 @@ impl<'r, R: Files> Host<'r, R> {
     // Explains that a file cannot be opened, or that the path names a folder, which can be opened
     // but not read.
     fn explain_file(&self, path: &str, file: &Option<R::File>) {
-        if path == HELD {
+        if path == DESCRIPTOR_FILLER {
             return;
         }
         let Some(file) = file else {
@@ -173,7 +173,7 @@ impl<'r, R: Env + Print + AllocGlobal> Process for Host<'r, R> {
 
     ghost has_arguments = { λ _ _. ⊤ };
 
-    ghost denies_arguments = { λ _ _. ⊤ };
+    ghost arguments_fail_with = { λ _ _. ⊤ };
 
     ghost is_output = { λ _ _. ⊤ };
 

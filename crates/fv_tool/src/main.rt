@@ -6,10 +6,10 @@
 //! the exit status.
 #![tactic(auto)]
 
-ghost use Rattle.fv_text.specs.Words.{Writes, change, seen, shown};
+ghost use Rattle.fv_text.specs.Words.{Writes, change, port_view, view_of};
 ghost use Rattle.fv_command.specs.Words.{Ends, exit_code};
-ghost use Rattle.fv_tool.specs.ArgumentRefusals.{line_of, refusal_of, status_of};
-ghost use Rattle.fv_tool.specs.Does.{IsGiven, RunsArguments, RunsProcess};
+ghost use Rattle.fv_tool.specs.ArgumentRejections.{line_of, refusal_of, status_of};
+ghost use Rattle.fv_tool.specs.ProgramRuns.{IsGiven, RunsArguments, RunsProcess};
 ghost use Rattle.std.specs.Prelude.{◌≡◌, ◌≢◌, false, true, IfErr, IfOk};
 ghost use Rattle.fv_base.specs.Words.{has_erred, is_flushed};
 ghost use Rattle.std.specs.Process.{exit_status};
@@ -21,10 +21,10 @@ mod host;
 mod output;
 
 use crate::advising::advise;
-use crate::host::{HELD, Host, Process};
+use crate::host::{DESCRIPTOR_FILLER, Host, Process};
 use fv_arguments::{WordFault, parse_words};
 use fv_base::{Fault, FaultKind, Port};
-use fv_command::{Ending, Opener, Refusal, Status, refuse, run_over, say};
+use fv_command::{Ending, Opener, Refusal, Status, end_with_line, end_with_refusal, run_over};
 use std::alloc::Global;
 use std::cell::Cell;
 use std::env::Args;
@@ -48,14 +48,14 @@ fn collected(alloc: Global, arguments: Args) -> Result<Vec<String>, WordFault>
 // Returns all arguments of a process, in order, or why they are not available: memory ran out, or
 // they cannot be read.
 fn arguments<P: Process>(alloc: Global, process: &P) -> Result<Vec<String>, WordFault>
-    ensures { IsGiven (P.has_arguments process.now) (P.denies_arguments process.now) result }
+    ensures { IsGiven (P.has_arguments process.now) (P.arguments_fail_with process.now) result }
 {
     collected(alloc, process.arguments()?)
 }
 
 // Reports that the command line is wrong, or that memory ran out while it was read. Out of memory
 // is also returned as the refusal; wrong arguments are not a refusal.
-fn refuse_words<W: Write>(writer: &mut Port<W>, fault: WordFault) -> Ending
+fn reject_arguments<W: Write>(writer: &mut Port<W>, fault: WordFault) -> Ending
     ensures ends { Ends (status_of fault) (line_of fault) (change W.contents writer.old writer.new) result.status }
     ensures why { result.refusal ≡ refusal_of fault }
     ensures flushed { result.status ≢ Status.Refused → is_flushed writer.new ≡ true }
@@ -63,12 +63,12 @@ fn refuse_words<W: Write>(writer: &mut Port<W>, fault: WordFault) -> Ending
 {
     match fault {
         WordFault::Words => Ending {
-            status: say(writer, "wrong words\n", Status::WrongWords),
+            status: end_with_line(writer, "wrong words\n", Status::WrongArguments),
             refusal: None,
         },
         WordFault::OutOfMemory => {
             let fault = Fault::outer(FaultKind::OutOfMemory, 0);
-            refuse(writer, Refusal::Input(fault))
+            end_with_refusal(writer, Refusal::Input(fault))
         }
     }
 }
@@ -85,9 +85,9 @@ fn run_given<O: Opener, W: Write>(
     ensures ran { RunsArguments O.Standard.remaining O.File.remaining (O.opens opener.now) (O.is_standard opener.now)
         words result (change W.contents writer.old writer.new) }
 
-    // If the status is WrongWords, the line of wrong arguments was written.
-    ensures wrong { result.status ≡ Status.WrongWords
-        → Writes (shown W.contents writer.old) (shown W.contents writer.new) (line_of WordFault.Words) }
+    // If the status is WrongArguments, the line of wrong arguments was written.
+    ensures wrong { result.status ≡ Status.WrongArguments
+        → Writes (view_of W.contents writer.old) (view_of W.contents writer.new) (line_of WordFault.Words) }
 
     // The last call to the writer was a flush, unless the status is Refused and a call to the
     // writer has failed.
@@ -100,18 +100,20 @@ fn run_given<O: Opener, W: Write>(
     };
     match plan {
         Ok(plan) => run_over(alloc, opener, &plan, writer),
-        Err(fault) => refuse_words(writer, fault),
+        Err(fault) => reject_arguments(writer, fault),
     }
 }
 
 // Opens the directory `/` three times. The opened directories occupy those file descriptors below 3
 // that are closed, so no file of the run is used as a standard stream. Reads and writes of a
 // directory fail, like reads and writes of a closed descriptor.
-fn hold_numbers<O: Opener>(opener: &O) -> (Option<O::File>, Option<O::File>, Option<O::File>) {
+fn occupy_standard_descriptors<O: Opener>(
+    opener: &O,
+) -> (Option<O::File>, Option<O::File>, Option<O::File>) {
     (
-        opener.file_at(HELD),
-        opener.file_at(HELD),
-        opener.file_at(HELD),
+        opener.file_at(DESCRIPTOR_FILLER),
+        opener.file_at(DESCRIPTOR_FILLER),
+        opener.file_at(DESCRIPTOR_FILLER),
     )
 }
 
@@ -120,14 +122,14 @@ fn hold_numbers<O: Opener>(opener: &O) -> (Option<O::File>, Option<O::File>, Opt
 fn run_process<P: Opener + Process>(alloc: Global, process: &P) -> (Ending, Port<P::Writer>)
     ensures runs { (writer : P.Writer) × P.is_output process.now writer
         × RunsProcess P.Standard.remaining P.File.remaining (P.opens process.now) (P.is_standard process.now)
-        (P.has_arguments process.now) (P.denies_arguments process.now) result.0 (record {
-          old = seen (P.Writer.contents writer) false;
-          new = shown P.Writer.contents result.1;
+        (P.has_arguments process.now) (P.arguments_fail_with process.now) result.0 (record {
+          old = port_view (P.Writer.contents writer) false;
+          new = view_of P.Writer.contents result.1;
         }) }
     ensures flushed { result.0.status ≢ Status.Refused → is_flushed result.1 ≡ true }
     ensures fine { has_erred result.1 ≡ false → is_flushed result.1 ≡ true }
 {
-    let _held = hold_numbers(process);
+    let _held = occupy_standard_descriptors(process);
     let mut port = Port::new(process.standard_output());
     let ending = run_given(alloc, process, arguments(alloc, process), &mut port);
     (ending, port)
@@ -149,9 +151,9 @@ fn process<P: Opener + Process>(alloc: Global, process: &P) -> (ExitCode, Port<P
     ensures { (writer : P.Writer) × P.is_output process.now writer
         × (ended : Ending) × (exit_status result.0 ≡ exit_code ended.status)
         × RunsProcess P.Standard.remaining P.File.remaining (P.opens process.now) (P.is_standard process.now)
-        (P.has_arguments process.now) (P.denies_arguments process.now) ended (record {
-          old = seen (P.Writer.contents writer) false;
-          new = shown P.Writer.contents result.1;
+        (P.has_arguments process.now) (P.arguments_fail_with process.now) ended (record {
+          old = port_view (P.Writer.contents writer) false;
+          new = view_of P.Writer.contents result.1;
         })
         × (ended.status ≢ Status.Refused → is_flushed result.1 ≡ true)
         × (has_erred result.1 ≡ false → is_flushed result.1 ≡ true) }

@@ -15,7 +15,7 @@ use Rattle.fv_file.specs.Words.{CellForm, Valid, Pad, Dead, Stub, Free, Tiles, I
 use Rattle.fv_file.proofs.Laws.{cell_span}
 use Rattle.fv_head.specs.declared.extent.Extent.{Extent}
 use Rattle.fv_tree.specs.inner.ReadingParts.{IsReadyFile, AllStored}
-use Rattle.fv_tree.specs.Words.{StandIn, Stream, MeansFile, FileForm, files_in, AreCurrent, replaced_by, Faulty, FileFault, BodyFault}
+use Rattle.fv_tree.specs.Words.{AreFilesOf, Stream, MeansFile, FileForm, files_in, AreCurrent, replaced_by, Faulty, FileFault, BodyFault}
 use Rattle.fv_tree.specs.Words.{OneOf}
 
 -- ---- the files that are stored in a volume
@@ -29,7 +29,7 @@ current_of length cs standing files is h = subst (λ (fs : List FileForm). AreCu
 -- ---- the meanings of the files
 
 -- if a file is the first file that is rejected, its fault is the first fault of the body
-pub files_first : (n : ℕ) (I : Faulty) (e : Extent) (volume : List ℕ) (at : Place) (fs : List FileForm) (g : Fault) → StandIn e volume fs
+pub files_first : (n : ℕ) (I : Faulty) (e : Extent) (volume : List ℕ) (at : Place) (fs : List FileForm) (g : Fault) → AreFilesOf e volume fs
     → OneOf First (MeansFile (Stream n)) (λ f. FileFault I g f at) fs → BodyFault First n I e g volume at
 files_first n I e volume at fs g stand first = grind (arith, common_steps)
 

@@ -22,10 +22,10 @@ use Rattle.fv_base.specs.declared.flash.FileSystem.{FileSystem}
 use Rattle.fv_base.specs.declared.guid.Guid.{Guid}
 use Rattle.fv_base.specs.declared.flash.FileSystem.TheVariants.{Ffs2, Ffs3}
 use Rattle.fv_head.specs.Words.{Extension, HeadFields}
-use Rattle.fv_tree.specs.Words.{is_ffs3, Differs, unless_one, under, blocks_eq, entries_eq, ext_eq, head_differs, difference}
+use Rattle.fv_tree.specs.Words.{is_ffs3, Differs, differ_unless, under, blocks_eq, entries_eq, ext_eq, head_differs, difference}
 use Rattle.fv_tree.specs.Words.{files_differ, file_differs, content_differs, sections_differ, section_differs, body_differs}
 use Rattle.fv_tree.specs.declared.difference.Step.{Step}
-use Rattle.fv_tree.specs.declared.difference.Word.{Word}
+use Rattle.fv_tree.specs.declared.difference.DifferenceKind.{DifferenceKind}
 use Rattle.fv_tree.specs.Words.{Meaning, Volume, FileMeanings, NoFiles, MoreFiles, FileMeaning, File, ContentMeaning, Plain, Sectioned}
 use Rattle.fv_tree.specs.Words.{SectionMeanings, NoSections, MoreSections, SectionMeaning, Section, BodyMeaning, Leaf, Group, Nested}
 
@@ -44,20 +44,20 @@ item_none s (Some d) b e = cc
 in_none : (s : Step) (a : Differs) → a ≡ None → under s a ≡ None
 in_none s a p = rw p refl
 
-held : (t : Bool) (w : Word) → unless_one t w ≡ None → t ≡ true
+held : (t : Bool) (w : DifferenceKind) → differ_unless t w ≡ None → t ≡ true
 held true w e = refl
 held false w e = cc
 
-holds : (t : Bool) (w : Word) → t ≡ true → unless_one t w ≡ None
+holds : (t : Bool) (w : DifferenceKind) → t ≡ true → differ_unless t w ≡ None
 holds t w p = rw p refl
 
-bytes_one : (x y : List ℕ) (w : Word) → unless_one (bytes_eq x y) w ≡ None → x ≡ y
+bytes_one : (x y : List ℕ) (w : DifferenceKind) → differ_unless (bytes_eq x y) w ≡ None → x ≡ y
 bytes_one x y w e = (bytes_eq-Decides x y).0 (held (bytes_eq x y) w e)
 
-nat_one : (x y : ℕ) (w : Word) → unless_one (x == y) w ≡ None → x ≡ y
+nat_one : (x y : ℕ) (w : DifferenceKind) → differ_unless (x == y) w ≡ None → x ≡ y
 nat_one x y w e = (Decides-eqb x y).0 (held (x == y) w e)
 
-bool_one : (x y : Bool) (w : Word) → unless_one (beq x y) w ≡ None → x ≡ y
+bool_one : (x y : Bool) (w : DifferenceKind) → differ_unless (beq x y) w ≡ None → x ≡ y
 bool_one x y w e = (booleans_Decides x y).0 (held (beq x y) w e)
 
 guid_one : (x y : Guid) → bytes_of x ≡ bytes_of y → x ≡ y

@@ -8,15 +8,15 @@ use Rattle.std.specs.Str.{bytes_eq}
 use Rattle.fv_head.specs.Words.{HeadFields}
 use Rattle.fv_tree.specs.Words.{Differs, has_steps, differ_in, entries_eq, head_differs, difference, files_differ, sections_differ}
 use Rattle.fv_tree.specs.declared.difference.Step.{Step}
-use Rattle.fv_tree.specs.declared.difference.Word.{Word}
-use Rattle.fv_tree.specs.inner.FoundDifferences.{in_word, outermost_first}
-use Rattle.fv_tree.specs.declared.difference.Word.TheVariants as words
+use Rattle.fv_tree.specs.declared.difference.DifferenceKind.{DifferenceKind}
+use Rattle.fv_tree.specs.inner.FoundDifferences.{in_kind, reversed_steps}
+use Rattle.fv_tree.specs.declared.difference.DifferenceKind.TheVariants as kinds
 use Rattle.fv_tree.specs.Words.{Meaning, Volume, FileMeaning, SectionMeaning, head_of, files_from, sections_from}
 use Rattle.fv_tree.proofs.DifferenceLaws.{no_difference}
 
 -- ---- the first of two differences
 
-ends_first : (a t : Differs) (w : Word) → a ≡ differ_in w → option_or a t ≡ differ_in w
+ends_first : (a t : Differs) (w : DifferenceKind) → a ≡ differ_in w → option_or a t ≡ differ_in w
 ends_first a t w p = rw p refl
 
 -- ---- entries of an extended header
@@ -52,38 +52,38 @@ uneven P first second (x ∷ xs) (y ∷ ys) (suc i) past within ne =
 pub sections_uneven : (ss rs : List SectionMeaning) (i : ℕ) (t : Differs) → min (length ss) (length rs) ≤ i
     → i ≤ min (length ss) (length rs) → (length ss ≡ length rs → ⊥)
     → sections_differ 0 (sections_from ss) (sections_from rs) ≡ sections_differ i (sections_from (drop i ss)) (sections_from (drop i rs))
-    → option_or (sections_differ 0 (sections_from ss) (sections_from rs)) t ≡ differ_in words.SectionCount
+    → option_or (sections_differ 0 (sections_from ss) (sections_from rs)) t ≡ differ_in kinds.SectionCount
 sections_uneven ss rs i t past within ne e =
     let Ends : List SectionMeaning → List SectionMeaning → Type 0 =
-    λ x y. sections_differ i (sections_from x) (sections_from y) ≡ differ_in words.SectionCount in
-    ends_first (sections_differ 0 (sections_from ss) (sections_from rs)) t words.SectionCount
+    λ x y. sections_differ i (sections_from x) (sections_from y) ≡ differ_in kinds.SectionCount in
+    ends_first (sections_differ 0 (sections_from ss) (sections_from rs)) t kinds.SectionCount
     (e ∙ uneven Ends (λ x xs. refl) (λ y ys. refl) ss rs i past within ne)
 
 -- if the volumes have different numbers of files, the difference is FileCount
 pub files_uneven : (fs gs : List FileMeaning) (i : ℕ) → min (length fs) (length gs) ≤ i → i ≤ min (length fs) (length gs)
     → (length fs ≡ length gs → ⊥)
     → files_differ 0 (files_from fs) (files_from gs) ≡ files_differ i (files_from (drop i fs)) (files_from (drop i gs))
-    → files_differ 0 (files_from fs) (files_from gs) ≡ differ_in words.FileCount
+    → files_differ 0 (files_from fs) (files_from gs) ≡ differ_in kinds.FileCount
 files_uneven fs gs i past within ne e =
-    e ∙ uneven (λ (x y : List FileMeaning). files_differ i (files_from x) (files_from y) ≡ differ_in words.FileCount) (λ x xs. refl)
+    e ∙ uneven (λ (x y : List FileMeaning). files_differ i (files_from x) (files_from y) ≡ differ_in kinds.FileCount) (λ x xs. refl)
     (λ y ys. refl) fs gs i past within ne
 
 -- ---- volumes
 
 -- if the headers differ, the difference of the volumes is in the header
-pub volume_word : (v w : Meaning) (h g : HeadFields) (o : Option Word) (word : Word) → h ≡ head_of v → g ≡ head_of w
-    → in_word o ≡ head_differs h g → o ≡ Some word → difference v w ≡ differ_in word
+pub volume_word : (v w : Meaning) (h g : HeadFields) (o : Option DifferenceKind) (word : DifferenceKind) → h ≡ head_of v → g ≡ head_of w
+    → in_kind o ≡ head_differs h g → o ≡ Some word → difference v w ≡ differ_in word
 volume_word (Volume a fs) (Volume b gs) h g o word x y said is = grind (arith, common_steps, ends_first)
 
 no_other : (v w : Meaning) → v ≡ w → difference v w ≡ None
 no_other v w e = ap (λ x. difference x w) e ∙ no_difference w
 
-none_told : (d : List Step × Word) → outermost_first (Some d) ≡ None → ⊥
+none_told : (d : List Step × DifferenceKind) → reversed_steps (Some d) ≡ None → ⊥
 none_told d e = cc
 
 -- if a difference was returned, the meanings are different
-pub differ_told : (v w : Meaning) (o : Differs) (d : List Step × Word) → outermost_first o ≡ difference v w → o ≡ Some d → v ≡ w → ⊥
-differ_told v w o d told is e = none_told d (sym (ap outermost_first is) ∙ told ∙ no_other v w e)
+pub differ_told : (v w : Meaning) (o : Differs) (d : List Step × DifferenceKind) → reversed_steps o ≡ difference v w → o ≡ Some d → v ≡ w → ⊥
+differ_told v w o d told is e = none_told d (sym (ap reversed_steps is) ∙ told ∙ no_other v w e)
 
 -- if the difference has steps, the meanings are different
 pub steps_differ : (v w : Meaning) → has_steps (difference v w) ≡ true → v ≡ w → ⊥

@@ -20,7 +20,7 @@ use Rattle.fv_file.specs.declared.state.FileState.TheVariants as states
 use Rattle.fv_head.specs.Words.{head_checks}
 use Rattle.fv_head.specs.declared.extent.Extent.{Extent}
 use Rattle.fv_section.specs.Words.{frame_checks, FrameForm}
-use Rattle.fv_tree.specs.Words.{Moved, LayoutFault, InSection, InStream, InVolume, FaultStands, outermost}
+use Rattle.fv_tree.specs.Words.{Moved, LayoutFault, InSection, InStream, InVolume, FaultHolds, outermost}
 use Rattle.fv_base.proofs.Laws.{fails_among, up_is_not_down}
 
 -- the kinds of faults that are found in bytes: the first 21 kinds, which are not about memory, input and output, or
@@ -102,9 +102,9 @@ section_kind (suc n) e f at (inr (kind, opens, bad)) = volume_kind n (section_ki
 -- ---- the faults of bytes
 
 -- a fault whose condition holds in bytes is of a kind that is found in bytes
-pub stands_reading : (b : List ℕ) (e : Fault) → FaultStands b e → is_reading e.kind ≡ true
+pub stands_reading : (b : List ℕ) (e : Fault) → FaultHolds b e → is_reading e.kind ≡ true
 stands_reading b e stands = volume_kind depth_limit (section_kind depth_limit) e b outermost stands
 
 -- a fault whose condition holds in bytes is not of any other kind
-pub stands_other : (b : List ℕ) (e : Fault) (k : FaultKind) → is_reading k ≡ false → FaultStands b e → e.kind ≢ k
+pub stands_other : (b : List ℕ) (e : Fault) (k : FaultKind) → is_reading k ≡ false → FaultHolds b e → e.kind ≢ k
 stands_other b e k other stands same = up_is_not_down (is_reading k) (sym (ap is_reading same) ∙ stands_reading b e stands) other

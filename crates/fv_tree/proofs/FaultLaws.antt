@@ -9,7 +9,7 @@ use Rattle.fv_head.specs.declared.extent.Extent.{Extent}
 use Rattle.fv_section.proofs.Laws.{frame_fails}
 use Rattle.fv_section.specs.Words.{FrameForm}
 use Rattle.fv_tree.specs.Words.{Moved, OneOf, NamesFault, LayoutFault, FileFault, data_at, outermost, InSection, InStream, InVolume}
-use Rattle.fv_tree.specs.Words.{IsFirstOfVolume, FaultStands, FileForm}
+use Rattle.fv_tree.specs.Words.{IsFirstOfVolume, FaultHolds, FileForm}
 
 -- ---- one level of nesting
 
@@ -61,5 +61,5 @@ section_stands (suc n) e f at (inl (group, first)) = inl (group, stream_by n (se
 section_stands (suc n) e f at (inr (kind, opens, first)) = inr (kind, opens, volume_by n (section_stands n) e f.body _ first)
 
 -- if bytes have a first fault, its condition holds in them
-pub fault_stands : (b : List ℕ) (e : Fault) → IsFirstOfVolume b e → FaultStands b e
+pub fault_stands : (b : List ℕ) (e : Fault) → IsFirstOfVolume b e → FaultHolds b e
 fault_stands b e first = volume_by depth_limit (section_stands depth_limit) e b outermost first

@@ -14,12 +14,12 @@ use Rattle.fv_head.specs.Words.{HeadFields}
 use Rattle.fv_tree.specs.Words.{IsMeaning, Meaning, Volume, FileMeanings, NoFiles, MoreFiles, FileMeaning, File, content_of, ContentMeaning}
 use Rattle.fv_tree.specs.Words.{Plain, Sectioned, SectionMeanings, NoSections, MoreSections, SectionMeaning, Section, body_of, BodyMeaning}
 use Rattle.fv_tree.specs.Words.{Leaf, Group, Nested}
-use Rattle.fv_tree.specs.Words.{Differs, unless_one, under, head_differs, difference, files_differ, file_differs, content_differs}
+use Rattle.fv_tree.specs.Words.{Differs, differ_unless, under, head_differs, difference, files_differ, file_differs, content_differs}
 use Rattle.fv_tree.specs.Words.{sections_differ, section_differs, body_differs}
 use Rattle.fv_tree.specs.declared.difference.Step.{Step}
-use Rattle.fv_tree.specs.declared.difference.Word.{Word}
+use Rattle.fv_tree.specs.declared.difference.DifferenceKind.{DifferenceKind}
 use Rattle.fv_tree.specs.declared.difference.Step.TheVariants as steps
-use Rattle.fv_tree.specs.declared.difference.Word.TheVariants as words
+use Rattle.fv_tree.specs.declared.difference.DifferenceKind.TheVariants as kinds
 use Rattle.fv_tree.specs.inner.NestingDepths.{NestsVolume, NestsFiles, NestsContent, NestsSections, NestsBody}
 use Rattle.fv_tree.proofs.DepthLaws.{nests_files, nests_content, nests_sections, nests_body, nests_group, nests_nested}
 
@@ -30,7 +30,7 @@ abbrev Within : Differs → ℕ → Type 0
 Within None n = Unit {0}
 Within (Some d) n = length d.0 ≤ n
 
-within_unless : (same : Bool) (word : Word) (n : ℕ) → Within (unless_one same word) n
+within_unless : (same : Bool) (word : DifferenceKind) (n : ℕ) → Within (differ_unless same word) n
 within_unless true word n = tt
 within_unless false word n = omega arith
 
@@ -68,17 +68,17 @@ mutual
 
   file_few : (f g : FileMeaning) (n : ℕ) → NestsContent (content_of f) n → Within (file_differs f g) (2 * n + 1)
   file_few (File x k a c) (File y l b d) n deep =
-      within_or _ _ (2 * n + 1) (within_unless (bytes_eq (bytes_of x) (bytes_of y)) words.Name (2 * n + 1))
-      (within_or _ _ (2 * n + 1) (within_unless (k == l) words.Type (2 * n + 1))
-      (within_or _ _ (2 * n + 1) (within_unless (a == b) words.Attributes (2 * n + 1)) (content_few c d n deep)))
+      within_or _ _ (2 * n + 1) (within_unless (bytes_eq (bytes_of x) (bytes_of y)) kinds.Name (2 * n + 1))
+      (within_or _ _ (2 * n + 1) (within_unless (k == l) kinds.Type (2 * n + 1))
+      (within_or _ _ (2 * n + 1) (within_unless (a == b) kinds.Attributes (2 * n + 1)) (content_few c d n deep)))
 
   content_few : (c d : ContentMeaning) (n : ℕ) → NestsContent c n → Within (content_differs c d) (2 * n + 1)
-  content_few (Plain b) (Plain c) n deep = within_unless (bytes_eq b c) words.Data (2 * n + 1)
+  content_few (Plain b) (Plain c) n deep = within_unless (bytes_eq b c) kinds.Data (2 * n + 1)
   content_few (Plain b) (Sectioned ss t) n deep = omega arith
   content_few (Sectioned ss t) (Plain b) n deep = omega arith
   content_few (Sectioned ss t) (Sectioned rs u) n deep =
       within_or (sections_differ 0 ss rs) _ (2 * n + 1) (sections_few 0 ss rs n (nests_sections ss t n deep))
-      (within_unless (t == u) words.Tail (2 * n + 1))
+      (within_unless (t == u) kinds.Tail (2 * n + 1))
 
   sections_few : (i : ℕ) (ss rs : SectionMeanings) (n : ℕ) → NestsSections ss n → Within (sections_differ i ss rs) (2 * n + 1)
   sections_few i NoSections NoSections n deep = tt
@@ -90,18 +90,18 @@ mutual
 
   section_few : (s r : SectionMeaning) (n : ℕ) → NestsBody (body_of s) n → Within (section_differs s r) (2 * n)
   section_few (Section k e b) (Section l f c) n deep =
-      within_or _ _ (2 * n) (within_unless (k == l) words.Type (2 * n))
-      (within_or _ _ (2 * n) (within_unless (beq e f) words.Form (2 * n)) (body_few b c n deep))
+      within_or _ _ (2 * n) (within_unless (k == l) kinds.Type (2 * n))
+      (within_or _ _ (2 * n) (within_unless (beq e f) kinds.Form (2 * n)) (body_few b c n deep))
 
   body_few : (b c : BodyMeaning) (n : ℕ) → NestsBody b n → Within (body_differs b c) (2 * n)
-  body_few (Leaf b) (Leaf c) n deep = within_unless (bytes_eq b c) words.Body (2 * n)
+  body_few (Leaf b) (Leaf c) n deep = within_unless (bytes_eq b c) kinds.Body (2 * n)
   body_few (Leaf b) (Group rs u) n deep = omega arith
   body_few (Leaf b) (Nested w) n deep = omega arith
   body_few (Group ss t) (Leaf c) n deep = omega arith
   body_few (Group ss t) (Group rs u) n deep = let (k, is, inside) = nests_group ss t n deep in
       within_or (sections_differ 0 ss rs) _ (2 * n)
       (within_more (sections_differ 0 ss rs) (2 * k + 1) (2 * n) (omega (arith, is)) (sections_few 0 ss rs k inside))
-      (within_unless (t == u) words.Tail (2 * n))
+      (within_unless (t == u) kinds.Tail (2 * n))
   body_few (Group ss t) (Nested w) n deep = omega arith
   body_few (Nested v) (Leaf c) n deep = omega arith
   body_few (Nested v) (Group rs u) n deep = omega arith

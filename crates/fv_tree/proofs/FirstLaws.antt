@@ -23,9 +23,9 @@ use Rattle.fv_section.specs.Words.{FrameForm}
 use Rattle.fv_section.proofs.Laws.{one_frame_fault, one_split}
 use Rattle.fv_section.proofs.Laws as framed
 use Rattle.fv_tree.specs.Words.{MeansFile, MeansSection, Stream, Denotes, moved_fault, Moved, OneOf, NamesFault, LayoutFault, FileFault}
-use Rattle.fv_tree.specs.Words.{BodyFault, data_at, outermost, InSection, InStream, InVolume, IsFirstOfVolume, FaultStands, Meaning}
+use Rattle.fv_tree.specs.Words.{BodyFault, data_at, outermost, InSection, InStream, InVolume, IsFirstOfVolume, FaultHolds, Meaning}
 use Rattle.fv_tree.specs.Words.{length_of, FileForm, AreCurrent, NoTwins, TopAtEnd, files_in, current_in}
-use Rattle.fv_tree.specs.inner.ReadingParts.{Reads}
+use Rattle.fv_tree.specs.inner.ReadingParts.{ReadsOrFails}
 use Rattle.fv_tree.proofs.ListPairs.{first_of_once}
 use Rattle.fv_tree.proofs.MeaningLaws.{one_beginning}
 use Rattle.fv_tree.proofs.NamesFaultLaws.{twin_none}
@@ -88,7 +88,7 @@ stream_once n once e g b at (inr (frames, tail, split, first)) (inr (others, tai
     (λ f s. section_refuses First n e f at s) (λ f s. section_refuses First n g f at s) first here in
     once e g one.0 at one.1 one.2
 
-module _ (n : ℕ) (refused : StreamRefuses First n) (once : StreamOnce n) (e g : Fault) (at : Place) where
+module _ (n : ℕ) (rejected : StreamRefuses First n) (once : StreamOnce n) (e g : Fault) (at : Place) where
   -- a body has at most one first fault
   body_once : (x : Extent) (volume : List ℕ) → BodyFault First n (InStream First n) x e volume at
       → BodyFault First n (InStream First n) x g volume at → e ≡ g
@@ -103,7 +103,7 @@ module _ (n : ℕ) (refused : StreamRefuses First n) (once : StreamOnce n) (e g 
       λ cs. OneOf First (MeansFile (Stream n)) (λ f. FileFault (InStream First n) g f at) (current_in (files_in cs)) in
       let one =
       first_of_once (MeansFile (Stream n)) (λ f. FileFault (InStream First n) e f at) (λ f. FileFault (InStream First n) g f at)
-      (current_in (files_in cells)) (file_by First n refused e at) (file_by First n refused g at) first (subst Q same first') in
+      (current_in (files_in cells)) (file_by First n rejected e at) (file_by First n rejected g at) first (subst Q same first') in
       once e g (one.0).payload (data_at at one.0) one.1.1 one.2.1
 
   -- bytes have at most one first fault as a volume
@@ -135,7 +135,7 @@ first_once n e g b at first first' = volume_once n (stream_refuses First n) (str
 -- ---- the result of reading bytes as a volume
 
 abbrev ReadsVolume : List ℕ → Result (Meaning × ℕ) Fault → Type 0
-ReadsVolume b r = Reads (λ v. Denotes depth_limit (take v.1 b) v.0) (IsFirstOfVolume b) r
+ReadsVolume b r = ReadsOrFails (λ v. Denotes depth_limit (take v.1 b) v.0) (IsFirstOfVolume b) r
 
 -- if a volume was read, the bytes begin with no other volume
 pub only_answer : (b : List ℕ) (r : Result (Meaning × ℕ) Fault) → ReadsVolume b r → IfOk r (λ v. (v.1 ≡ length_of v.0) × (v.1 ≤ length b))
@@ -151,6 +151,6 @@ one_answer b (Err g) read within f is = (tt, λ ne. first_once depth_limit g f b
 
 -- if the condition of a fault holds in the bytes, no volume was read
 pub sound_answer : (b : List ℕ) (r : Result (Meaning × ℕ) Fault) → ReadsVolume b r
-    → IfOk r (λ v. (v.1 ≡ length_of v.0) × (v.1 ≤ length b)) → (f : Fault) → FaultStands b f → IfOk r (λ v. ⊥)
+    → IfOk r (λ v. (v.1 ≡ length_of v.0) × (v.1 ≤ length b)) → (f : Fault) → FaultHolds b f → IfOk r (λ v. ⊥)
 sound_answer b (Ok v) read within f bad = fault_refuses Any depth_limit v.1 f b outermost v.0 within.1 bad read
 sound_answer b (Err g) read within f bad = tt

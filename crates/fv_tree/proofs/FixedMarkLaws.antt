@@ -65,24 +65,24 @@ header_kept b o h e front long same =
 -- the new body is in its place, and all other bytes are unchanged
 record Kept (e : Extent) (b o body : List ℕ) : Type 0 where
   pub length_is : length o ≡ length b
-  pub front : take e.first o ≡ take e.first b
+  pub prefix : take e.first o ≡ take e.first b
   pub body_is : drop e.first (take e.length o) ≡ body
 
 kept : (b o body : List ℕ) (e : Extent) → Unfixes e b o body → Kept e b o body
 kept b o body e u =
-    let lies = first_lies b u.head e u.front in
+    let lies = first_lies b u.head e u.begins in
     let size : length (field e.first (e.length - e.first) b) ≡ e.length - e.first =
-    length-take-le (e.length - e.first) (drop e.first b) (omega (arith, length-drop e.first b, u.front.whole, lies.1)) in
+    length-take-le (e.length - e.first) (drop e.first b) (omega (arith, length-drop e.first b, u.begins.whole, lies.1)) in
     let long : length body ≡ e.length - e.first = length-unmarks _ _ _ _ _ _ u.marks ∙ size in
-    let before : length (take e.first b) ≡ e.first = length-take-le e.first b (omega (arith, u.front.whole, lies.1)) in
+    let before : length (take e.first b) ≡ e.first = length-take-le e.first b (omega (arith, u.begins.whole, lies.1)) in
     let whole : take e.length o ≡ take e.first b ++ body =
     ap (take e.length) (u.text ∙ sym (append_assoc (take e.first b) body (drop e.length b)))
     ∙ take-append_all (take e.first b ++ body) (drop e.length b) e.length
     (length-append (take e.first b) body ∙ omega (arith, before, long, lies.1)) in
     record {
       length_is = ap length u.text ∙ length-append (take e.first b) (body ++ drop e.length b)
-          ∙ omega (arith, before, long, length-append body (drop e.length b), length-drop e.length b, u.front.whole, lies.1);
-      front = ap (take e.first) u.text ∙ take-append_all (take e.first b) (body ++ drop e.length b) e.first before;
+          ∙ omega (arith, before, long, length-append body (drop e.length b), length-drop e.length b, u.begins.whole, lies.1);
+      prefix = ap (take e.first) u.text ∙ take-append_all (take e.first b) (body ++ drop e.length b) e.first before;
       body_is = ap (drop e.first) whole ∙ drop-append_all (take e.first b) body e.first before;
     }
 
@@ -93,7 +93,7 @@ tiled_there b o body e cells u tiles =
     let k = kept b o body e u in
     record {
       head = u.head;
-      front = header_kept b o u.head e u.front k.length_is k.front;
+      begins = header_kept b o u.head e u.begins k.length_is k.prefix;
       tiles = subst (Tiles e.file_system e.polarity e.first cells) (sym k.body_is) tiles;
     }
 
@@ -108,7 +108,7 @@ body_tiled b o body e cells u tiled = subst (Tiles e.file_system e.polarity e.fi
 one_unfixed : (b o body : List ℕ) (e : Extent) → Unfixes e b o body → NoneFixed e.file_system e.polarity e.first body
     → (x : List ℕ) → IsUnfixed b x → ((cells : List CellForm) × Tiles e.file_system e.polarity e.first cells body) × (x ≡ o)
 one_unfixed b o body e u end x other =
-    let one = (one_front b other.2.head u.head other.0 e other.2.front u.front).1 in
+    let one = (one_front b other.2.head u.head other.0 e other.2.begins u.begins).1 in
     let v : Unfixes e b x other.1 = subst (λ (y : Extent). Unfixes y b x other.1) one other.2 in
     let tiles = body_tiled b x other.1 e other.3.0 v (subst (λ (y : Extent). BeginsTiled y other.3.0 x) one other.3.1) in
     let same : other.1 ≡ body =
@@ -125,7 +125,7 @@ only_unfixed b o x (e, body, u, (cells, tiled)) other =
 -- if the header or a cell has another fault, there is no unfixed volume
 pub none_unfixed : (b : List ℕ) (f : Fault) → UnfixStops b f → (x : List ℕ) → IsUnfixed b x → ⊥
 none_unfixed b f (inl first) x other =
-    not_first (head_checks b) f first (none_faulty (head_checks b) (front_holds b other.2.head other.0 other.2.front))
+    not_first (head_checks b) f first (none_faulty (head_checks b) (front_holds b other.2.head other.0 other.2.begins))
 none_unfixed b f (inr (e, o, body, u, here, kind)) x other =
     let one = one_unfixed b o body e u (fault_unfixed e.file_system e.polarity e.first body f here kind) x other in
     none_after First e.file_system e.polarity e.first body f one.0.0 here one.0.1
@@ -147,7 +147,7 @@ module _ (b : List ℕ) (h : HeadFields) (e : Extent) (front : BeginsVolume h e 
 
   module _ (body places : List ℕ) (marks : Unmarks e.file_system e.polarity e.first places (field e.first (e.length - e.first) b) body) where
     in_place : Unfixes e b (with_body body) body
-    in_place = record { head = h; front = front; places = places; marks = marks; text = ap (λ (y : List ℕ). take e.first b ++ (body ++ y)) rest_is }
+    in_place = record { head = h; begins = front; places = places; marks = marks; text = ap (λ (y : List ℕ). take e.first b ++ (body ++ y)) rest_is }
 
     -- if cells tile the new body, the bytes with this body are the unfixed volume
     pub is_unfixed : (cells : List CellForm) → Tiles e.file_system e.polarity e.first cells body → IsUnfixed b (with_body body)
@@ -161,8 +161,8 @@ module _ (b : List ℕ) (h : HeadFields) (e : Extent) (front : BeginsVolume h e 
 pub unchanged : (b : List ℕ) (e : Extent) (cells : List CellForm) → BeginsTiled e cells b → IsUnfixed b b
 unchanged b e cells has =
     let part : drop e.first (take e.length b) ≡ field e.first (e.length - e.first) b =
-    ap (λ (n : ℕ). drop e.first (take n b)) (omega (arith, (first_lies b has.head e has.front).1))
+    ap (λ (n : ℕ). drop e.first (take n b)) (omega (arith, (first_lies b has.head e has.begins).1))
     ∙ drop-take e.first (e.length - e.first) b in
-    subst (IsUnfixed b) (same_body b has.head e has.front)
-    (is_unfixed b has.head e has.front (field e.first (e.length - e.first) b) [] refl cells
+    subst (IsUnfixed b) (same_body b has.head e has.begins)
+    (is_unfixed b has.head e has.begins (field e.first (e.length - e.first) b) [] refl cells
     (subst (Tiles e.file_system e.polarity e.first cells) part has.tiles))

@@ -14,7 +14,7 @@ use Rattle.fv_head.specs.Words.{HeadFields, BeginsVolume}
 use Rattle.fv_head.specs.declared.extent.Extent.{Extent}
 use Rattle.fv_head.proofs.Laws.{first_lies, one_front}
 use Rattle.fv_tree.proofs.MeaningLaws.{one_stand}
-use Rattle.fv_tree.specs.Words.{FileForm, files_in, replaced_by, Denotes, data_place, StandIn, BeginWithFiles, HasDataIn, Meaning}
+use Rattle.fv_tree.specs.Words.{FileForm, files_in, replaced_by, Denotes, data_place, AreFilesOf, BeginWithFiles, HasDataIn, Meaning}
 
 -- ---- the places of the data
 
@@ -42,7 +42,7 @@ in_front n b (f ∷ fs) w h =
       in_front n b fs w h.1,
     )
 
-pub located_data : (b : List ℕ) (h : HeadFields) (e : Extent) (fs : List FileForm) → BeginsVolume h e b → StandIn e (take e.length b) fs
+pub located_data : (b : List ℕ) (h : HeadFields) (e : Extent) (fs : List FileForm) → BeginsVolume h e b → AreFilesOf e (take e.length b) fs
     → AllByRecursion (HasDataIn b) fs
 located_data b h e fs front stand =
     let v : List ℕ = take e.length b in
@@ -60,9 +60,9 @@ begun_data b fs (h, e, front, stand) = located_data b h e fs front stand
 -- ---- the stored files are the only ones
 
 module _ (b : List ℕ) (h : HeadFields) (e : Extent) (front : BeginsVolume h e b) where
-  pub located_stand : (gs : List FileForm) → BeginWithFiles b gs → StandIn e (take e.length b) gs
+  pub located_stand : (gs : List FileForm) → BeginWithFiles b gs → AreFilesOf e (take e.length b) gs
   located_stand gs (k, x, other, stand) =
-      subst (λ (y : Extent). StandIn y (take y.length b) gs) (one_front b k h x e other front).1 stand
+      subst (λ (y : Extent). AreFilesOf y (take y.length b) gs) (one_front b k h x e other front).1 stand
 
 pub one_files : (b : List ℕ) (fs gs : List FileForm) → BeginWithFiles b fs → BeginWithFiles b gs → gs ≡ fs
 one_files b fs gs (h, e, front, stand) other = one_stand e (take e.length b) fs gs stand (located_stand b h e front gs other)

@@ -12,7 +12,7 @@ use Rattle.fv_head.specs.declared.extent.Extent.{Extent}
 use Rattle.fv_head.proofs.Laws.{one_front}
 use Rattle.fv_section.specs.Words.{FrameForm}
 use Rattle.fv_section.proofs.Laws.{one_split}
-use Rattle.fv_tree.specs.Words.{StandIn, FileForm, Meaning, Volume, FileMeanings, NoFiles, MoreFiles, FileMeaning, File, ContentMeaning}
+use Rattle.fv_tree.specs.Words.{AreFilesOf, FileForm, Meaning, Volume, FileMeanings, NoFiles, MoreFiles, FileMeaning, File, ContentMeaning}
 use Rattle.fv_tree.specs.Words.{Plain, Sectioned, files_from, sections_from, files_list, SectionMeanings, NoSections, MoreSections}
 use Rattle.fv_tree.specs.Words.{SectionMeaning, Section, BodyMeaning, Leaf, Group, Nested, sections_list, SectionRelation, StreamRelation}
 use Rattle.fv_tree.specs.Words.{VolumeRelation, Pairwise, StreamOver, SectionOver, VolumeOver, MeansBody, MeansContent, MeansFile}
@@ -21,7 +21,7 @@ use Rattle.fv_tree.proofs.SectionShapeLaws.{group_is_no_volume}
 use Rattle.fv_tree.proofs.VolumePartLaws.{front_of, has_files}
 
 -- two lists of files that are stored in a volume are equal
-pub one_stand : (e : Extent) (volume : List ℕ) (fs gs : List FileForm) → StandIn e volume fs → StandIn e volume gs → gs ≡ fs
+pub one_stand : (e : Extent) (volume : List ℕ) (fs gs : List FileForm) → AreFilesOf e volume fs → AreFilesOf e volume gs → gs ≡ fs
 one_stand e volume fs gs h k = grind (arith, common_steps, only_one)
 
 -- ---- the statements about the parts inside
@@ -85,10 +85,10 @@ module _ (s s' : StreamRelation) (streams : StreamsOne s s') where
 
   volume_one : VolumesOne (VolumeOver s) (VolumeOver s')
   volume_one b (Volume h fs) (Volume k gs) d d' =
-      let heads = one_front b h k d.extent d'.extent d.front d'.front in
-      let stand : StandIn d.extent b d.files = record { cells = d.cells; tiles = d.tiles; current = d.current } in
-      let stand' : StandIn d'.extent b d'.files = record { cells = d'.cells; tiles = d'.tiles; current = d'.current } in
-      let forms = one_stand d.extent b d.files d'.files stand (subst (λ (x : Extent). StandIn x b d'.files) (sym heads.1) stand') in
+      let heads = one_front b h k d.extent d'.extent d.begins d'.begins in
+      let stand : AreFilesOf d.extent b d.files = record { cells = d.cells; tiles = d.tiles; current = d.current } in
+      let stand' : AreFilesOf d'.extent b d'.files = record { cells = d'.cells; tiles = d'.tiles; current = d'.current } in
+      let forms = one_stand d.extent b d.files d'.files stand (subst (λ (x : Extent). AreFilesOf x b d'.files) (sym heads.1) stand') in
       let lists = pairs_one (MeansFile s) (MeansFile s') file_one d.files (files_list fs) (files_list gs) d.meanings
       (subst (λ (xs : List FileForm). Pairwise (MeansFile s') xs (files_list gs)) forms d'.meanings) in
       let files : fs ≡ gs = sym (files_back fs) ∙ ap files_from lists ∙ files_back gs in

@@ -13,7 +13,7 @@ use Rattle.std.proofs.lemmas.Simd.{map-map}
 use Rattle.fv_base.specs.declared.guid.Guid.{Guid}
 use Rattle.fv_base.proofs.Laws.{and_split}
 use Rattle.fv_names.specs.NamedFiles as names
-use Rattle.fv_names.specs.Words.{NamedFile, names_in, is_name, AllApart, Entry, IsIndex}
+use Rattle.fv_names.specs.Words.{NamedFile, names_in, is_name, NeighboursDiffer, Entry, IsIndex}
 use Rattle.fv_names.proofs.Laws.{apart_twins, no_entry, no_named, none_replaced, number_within}
 use Rattle.fv_tree.specs.Words.{MeansFile, Pairwise, StreamRelation, FileForm, NoTwins, current_in, is_marked, is_twin, replaced_by}
 use Rattle.fv_tree.specs.Words.{same_name, is_named, file_form, FileMeaning, File, file_name_of}
@@ -119,7 +119,7 @@ none_kept : (all ss : List LocatedFile) → AllByRecursion (λ f. list_any (name
 none_kept all [] h = tt
 none_kept all (s ∷ ss) h = (replaced_any s all ∙ h.0, none_kept all ss h.1)
 
-module _ (ss : List LocatedFile) (es : List Entry) (index : IsIndex (names_in (map named_file ss)) es) (apart : AllApart es) where
+module _ (ss : List LocatedFile) (es : List Entry) (index : IsIndex (names_in (map named_file ss)) es) (apart : NeighboursDiffer es) where
   -- the files have no twins
   pub without_twins : NoTwins (map file_form ss)
   without_twins = twins_from ss (apart_twins (map named_file ss) es index no_named no_entry apart)

@@ -17,7 +17,7 @@ use Rattle.fv_head.proofs.Laws.{front_holds}
 use Rattle.fv_section.specs.Words.{FrameForm}
 use Rattle.fv_section.proofs.Laws.{one_split}
 use Rattle.fv_section.proofs.Laws as framed
-use Rattle.fv_tree.specs.Words.{StandIn, Pairwise, MeansFile, MeansSection, Stream, Denotes, FileFault, LayoutFault, Moved, BodyFault}
+use Rattle.fv_tree.specs.Words.{AreFilesOf, Pairwise, MeansFile, MeansSection, Stream, Denotes, FileFault, LayoutFault, Moved, BodyFault}
 use Rattle.fv_tree.specs.Words.{InSection, InStream, InVolume, data_at, Meaning, FileMeaning, SectionMeaning, files_of, head_of, FileForm}
 use Rattle.fv_tree.specs.Words.{AreCurrent, files_in, current_in}
 use Rattle.fv_tree.proofs.ListPairs.{one_of_none}
@@ -37,9 +37,9 @@ module _ (which : Which) where
   StreamRefuses n = (e : Fault) (b : List ℕ) (at : Place) (ss : List SectionMeaning) (t : ℕ) → InStream which n e b at → Stream n ss t b → ⊥
 
   stream_by : (n : ℕ) → SectionRefuses n → StreamRefuses n
-  stream_by n refused e b at ss t (inl (f, bad, is)) (frames, split, pairs) = framed.none_after which b f frames t bad split
-  stream_by n refused e b at ss t (inr (frames, tail, split, bad)) (others, split', pairs) =
-      one_of_none which (MeansSection n) (λ f. InSection which n e f at) frames ss (λ f s. refused e f at s) bad
+  stream_by n rejected e b at ss t (inl (f, bad, is)) (frames, split, pairs) = framed.none_after which b f frames t bad split
+  stream_by n rejected e b at ss t (inr (frames, tail, split, bad)) (others, split', pairs) =
+      one_of_none which (MeansSection n) (λ f. InSection which n e f at) frames ss (λ f s. rejected e f at s) bad
       (subst (λ (l : List FrameForm). Pairwise (MeansSection n) l ss) (one_split 0 others frames t tail b split' split).0 pairs)
 
   -- cells with a fault of the layout have no files
@@ -54,15 +54,15 @@ module _ (which : Which) where
 
   -- the same if the fault is moved to where the volume begins
   pub files_refused : (x : Extent) (volume : List ℕ) (at : Place) (e : Fault) (files : List FileForm)
-      → Moved at (LayoutFault which x volume) e → StandIn x volume files → ⊥
+      → Moved at (LayoutFault which x volume) e → AreFilesOf x volume files → ⊥
   files_refused x volume at e files (f, bad, is) stand = layout_by x volume f stand.cells files bad stand.tiles stand.current
 
-  module _ (n : ℕ) (refused : StreamRefuses n) where
+  module _ (n : ℕ) (rejected : StreamRefuses n) where
     -- a file with a fault is not read
     pub file_by : (e : Fault) (at : Place) (f : FileForm) (m : FileMeaning) → FileFault (InStream which n) e f at → MeansFile (Stream n) f m
         → ⊥
     file_by e at f m (holds, inside) is =
-        stream_bad n f holds (λ us u s. refused e f.payload (data_at at f) us u inside s) m is
+        stream_bad n f holds (λ us u s. rejected e f.payload (data_at at f) us u inside s) m is
 
     -- a body with a fault has no files
     body_by : (x : Extent) (volume : List ℕ) (e : Fault) (at : Place) (ms : List FileMeaning)

@@ -9,7 +9,7 @@ use Rattle.fv_base.specs.Words.{First, volume_limit, IsBytes}
 use Rattle.fv_base.specs.declared.fault.Fault.{Fault}
 use Rattle.fv_base.specs.declared.fault.Place.{Place}
 use Rattle.fv_base.proofs.Laws.{in_middle}
-use Rattle.fv_section.specs.Words.{FrameForm, Splits, frame_len, FrameStandsAt}
+use Rattle.fv_section.specs.Words.{FrameForm, Splits, frame_len, HasFrameAt}
 use Rattle.fv_section.proofs.Laws.{split_stands, stands_within}
 use Rattle.fv_tree.specs.Words.{Pairwise, MeansSection, Stream, IsStoredFrame, InSection, InStream, SectionMeaning}
 use Rattle.fv_tree.proofs.ListPairs.{pairs_push}
@@ -35,7 +35,7 @@ module _ (n : ℕ) (b : List ℕ) (tail : ℕ) where
     -- f meets the conditions under which a section is read
     pub walk_ready : IsBytes b → length b ≤ volume_limit → (f.offset + frame_len f ≤ length b) × IsStoredFrame f
     walk_ready small short =
-        let stands = in_middle (λ g. FrameStandsAt g g.offset b) w.0 f more (split_stands (w.0 ++ f ∷ more) tail b whole) in
+        let stands = in_middle (λ g. HasFrameAt g g.offset b) w.0 f more (split_stands (w.0 ++ f ∷ more) tail b whole) in
         (stands_within f b f.offset stands, (b, small, short, stands))
 
     -- if f is read, the walk goes on with the frames after it

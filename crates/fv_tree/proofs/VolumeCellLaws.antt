@@ -13,7 +13,7 @@ pub bad_header : (b : List ℕ) (f : Fault) (r : Result Extent Fault) → ((h : 
     → r ≡ Err f → IsFirstFault (head_checks b) f → NotTiled b f
 bad_header b f r only is first = record { none = none; first = inl first } where
   none : (e : Extent) (cs : List CellForm) → BeginsTiled e cs b → ⊥
-  none e cs has = let both : Ok e ≡ Err f = sym (only has.head e has.front) ∙ is in cc
+  none e cs has = let both : Ok e ≡ Err f = sym (only has.head e has.begins) ∙ is in cc
 
 -- if a cell has a fault, no cells tile the body
 pub bad_cell : (b : List ℕ) (h : HeadFields) (e : Extent) (f : Fault) (r : Result Extent Fault) → BeginsVolume h e b
@@ -29,6 +29,6 @@ bad_cell b h e f r front only is untiled first = record { none = none; first = i
 
   none : (x : Extent) (cs : List CellForm) → BeginsTiled x cs b → ⊥
   none x cs has =
-      let one : x ≡ e = same x e (sym (only has.head x has.front) ∙ is) in
+      let one : x ≡ e = same x e (sym (only has.head x has.begins) ∙ is) in
       untiled cs
       (subst (λ (y : Extent). Tiles y.file_system y.polarity y.first cs (drop y.first (take y.length b))) one has.tiles)

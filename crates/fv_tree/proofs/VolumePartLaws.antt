@@ -13,12 +13,12 @@ use Rattle.fv_base.proofs.Laws.{take-take_le}
 use Rattle.fv_head.specs.Words.{HeadFields, BeginsVolume, head_checks, volume_len_at}
 use Rattle.fv_head.specs.declared.extent.Extent.{Extent}
 use Rattle.fv_head.proofs.Laws.{front_extent, front_same, one_front}
-use Rattle.fv_tree.specs.Words.{StandIn, Stream, StreamRelation, Denotes, MeansFile, Opens, Pairwise, FileForm, moved_fault, InVolume}
+use Rattle.fv_tree.specs.Words.{AreFilesOf, Stream, StreamRelation, Denotes, MeansFile, Opens, Pairwise, FileForm, moved_fault, InVolume}
 use Rattle.fv_tree.specs.Words.{Meaning, Volume, FileMeaning, files_list, head_of, files_of, files_from}
 
 -- the volume has some files, and the list contains their meanings
 abbrev pub HasFiles : StreamRelation → Extent → List ℕ → List FileMeaning → Type 0
-HasFiles is_stream e volume ms = (files : List FileForm) × StandIn e volume files × Pairwise (MeansFile is_stream) files ms
+HasFiles is_stream e volume ms = (files : List FileForm) × AreFilesOf e volume files × Pairwise (MeansFile is_stream) files ms
 
 -- `files_list` undoes `files_from`
 pub files_list_back : (fs : List FileMeaning) → files_list (files_from fs) ≡ fs
@@ -34,10 +34,10 @@ made n b h e ms front has =
     let long : length (take e.length b) ≡ e.length = length-take-le e.length b front.whole in
     let P : List FileMeaning → Type 0 = λ l. HasFiles (Stream n) e (take e.length b) l in
     let all : HasFiles (Stream n) e (take e.length b) (files_list (files_from ms)) = subst P (sym (files_list_back ms)) has in
-    let stand : StandIn e (take e.length b) all.0 = all.1 in
+    let stand : AreFilesOf e (take e.length b) all.0 = all.1 in
     record {
       extent = e;
-      front = front_same b (take e.length b) h e front (omega (arith, long)) (take-take_le e.length e.length b (omega arith));
+      begins = front_same b (take e.length b) h e front (omega (arith, long)) (take-take_le e.length e.length b (omega arith));
       whole = long;
       cells = stand.cells;
       tiles = stand.tiles;
@@ -52,7 +52,7 @@ pub front_of : (n k : ℕ) (b : List ℕ) (m : Meaning) → k ≤ length b → (
     × (d.extent.length ≡ k)
 front_of n k b m within d =
     let same : k ≡ d.extent.length = sym (length-take-le k b within) ∙ d.whole in (
-      front_same (take k b) b (head_of m) d.extent d.front (omega (arith, same, within)) (ap (λ (j : ℕ). take j b) (sym same)
+      front_same (take k b) b (head_of m) d.extent d.begins (omega (arith, same, within)) (ap (λ (j : ℕ). take j b) (sym same)
           ∙ sym (ap (λ (j : ℕ). take j (take k b)) (sym same) ∙ take-take_le k k b (omega arith))),
       sym same,
     )

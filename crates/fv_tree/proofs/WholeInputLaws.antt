@@ -10,7 +10,7 @@ use Rattle.fv_base.specs.declared.fault.Fault.{Fault}
 use Rattle.fv_base.specs.declared.fault.FaultKind.{FaultKind}
 use Rattle.fv_base.specs.declared.fault.FaultKind.TheVariants as kinds
 use Rattle.fv_head.specs.Words.{BeginsWithHeader}
-use Rattle.fv_tree.specs.Words.{Accepted, Denotes, FaultStands, IsFirstOfVolume, GoesOn, MemoryRanOut, NotRead, Meaning, length_of, outermost}
+use Rattle.fv_tree.specs.Words.{Accepted, Denotes, FaultHolds, IsFirstOfVolume, BytesFollowVolume, MemoryRanOut, NotRead, Meaning, length_of, outermost}
 use Rattle.fv_tree.proofs.FaultKindLaws.{stands_other}
 use Rattle.fv_tree.proofs.RefusalLaws.{fault_refuses}
 
@@ -33,7 +33,7 @@ not_the_end : (b : List ℕ) (n : ℕ) → (n == length b) ≡ false → n ≢ l
 not_the_end b n differs same = let bad : true ≡ false = sym (eq-eqb n (length b) same) ∙ differs in cc
 
 pub goes_on : (b : List ℕ) (f : Fault) (v : Meaning) (n : ℕ) → Accepted (take n b) v → (n ≡ length_of v) × (n ≤ length b)
-    → (n == length b) ≡ false → f ≡ outer_fault kinds.Length n → GoesOn b f
+    → (n == length b) ≡ false → f ≡ outer_fault kinds.Length n → BytesFollowVolume b f
 goes_on b f v n accepted (own, within) differs is =
     (v, at, subst (λ (k : ℕ). k < length b) own less, is ∙ ap (outer_fault kinds.Length) own)
   where
@@ -83,6 +83,6 @@ pub input_kind : (f : Fault) → (f ≢ out_of_memory → IsOfInput f.kind) → 
 input_kind f known = grind (arith, common_steps, want_known)
 
 -- so the kind of a fault whose condition holds in the bytes is not a fault of reading or writing a stream
-pub stood_kind : (b : List ℕ) (f : Fault) → (f ≢ out_of_memory → FaultStands b f) → IsOfInput f.kind
+pub stood_kind : (b : List ℕ) (f : Fault) → (f ≢ out_of_memory → FaultHolds b f) → IsOfInput f.kind
 stood_kind b f stands =
     input_kind f (λ other. (stands_other b f kinds.ReadFault refl (stands other), stands_other b f kinds.WriteFault refl (stands other)))

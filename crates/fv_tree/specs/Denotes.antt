@@ -76,7 +76,7 @@ MeansFile is_stream f (File name kind attributes content) =
 -- files
 pub record VolumeOver (is_stream : StreamRelation) (b : List ℕ) (m : Meaning) : Type 0 where
   pub extent : Extent
-  pub front : BeginsVolume (head_of m) extent b
+  pub begins : BeginsVolume (head_of m) extent b
   pub whole : length b ≡ extent.length
   pub cells : List CellForm
   pub tiles : Tiles extent.file_system extent.polarity extent.first cells (drop extent.first b)

@@ -147,5 +147,5 @@ abbrev pub IsFirstOfVolume : List ℕ → Fault → Type 0
 IsFirstOfVolume b e = InVolume First depth_limit e b outermost
 
 -- the condition of e holds at e's place in bytes that should begin with a volume, whatever else is wrong with them
-abbrev pub FaultStands : List ℕ → Fault → Type 0
-FaultStands b e = InVolume Any depth_limit e b outermost
+abbrev pub FaultHolds : List ℕ → Fault → Type 0
+FaultHolds b e = InVolume Any depth_limit e b outermost

@@ -18,7 +18,7 @@ use Rattle.fv_tree.specs.declared.volume_files.Mark.TheVariants as marks
 -- the bytes begin with a volume of this extent, and these cells tile its body
 pub record BeginsTiled (e : Extent) (cells : List CellForm) (b : List ℕ) : Type 0 where
   pub head : HeadFields
-  pub front : BeginsVolume head e b
+  pub begins : BeginsVolume head e b
   pub tiles : Tiles e.file_system e.polarity e.first cells (drop e.first (take e.length b))
 
 -- the first fault of the header with which the bytes should begin, or of the cells after that header
@@ -63,14 +63,14 @@ file_form s = record {
 
 -- cells tile the volume from the first file's offset on, and these are the files of the volume in these cells, as they
 -- are stored
-pub record StandIn (e : Extent) (volume : List ℕ) (files : List FileForm) : Type 0 where
+pub record AreFilesOf (e : Extent) (volume : List ℕ) (files : List FileForm) : Type 0 where
   pub cells : List CellForm
   pub tiles : Tiles e.file_system e.polarity e.first cells (drop e.first volume)
   pub current : AreCurrent e.length (files_in cells) files
 
 -- the bytes begin with a volume, and these are its files, as they are stored
 abbrev pub BeginWithFiles : List ℕ → List FileForm → Type 0
-BeginWithFiles b files = (h : HeadFields) × (e : Extent) × BeginsVolume h e b × StandIn e (take e.length b) files
+BeginWithFiles b files = (h : HeadFields) × (e : Extent) × BeginsVolume h e b × AreFilesOf e (take e.length b) files
 
 -- the bytes contain the data of the file, at the data's offset
 abbrev pub HasDataIn : List ℕ → FileForm → Type 0

@@ -4,7 +4,7 @@ use Rattle.fv_base.specs.Words.{depth_limit, volume_limit, IsBytes}
 use Rattle.fv_base.specs.declared.flash.FileSystem.{FileSystem}
 use Rattle.fv_base.specs.declared.flash.Polarity.{Polarity}
 use Rattle.fv_file.specs.Words.{Valid, IsCell}
-use Rattle.fv_section.specs.Words.{FrameForm, FrameStandsAt}
+use Rattle.fv_section.specs.Words.{FrameForm, HasFrameAt}
 use Rattle.fv_tree.specs.Denotes.{MeansFile, MeansSection, Stream}
 use Rattle.fv_tree.specs.Meaning.{FileMeaning, SectionMeaning}
 use Rattle.fv_tree.specs.VolumeFiles.{FileForm}
@@ -21,7 +21,7 @@ IsReadFile m = (n : ℕ) × (n ≤ depth_limit) × (f : FileForm) × IsStoredFil
 
 -- some bytes contain this frame, at its offset
 abbrev pub IsStoredFrame : FrameForm → Type 0
-IsStoredFrame f = (b : List ℕ) × IsBytes b × (length b ≤ volume_limit) × FrameStandsAt f f.offset b
+IsStoredFrame f = (b : List ℕ) × IsBytes b × (length b ≤ volume_limit) × HasFrameAt f f.offset b
 
 -- a frame in some bytes has this meaning: true of every `SectionView`
 abbrev pub IsReadSection : SectionMeaning → Type 0

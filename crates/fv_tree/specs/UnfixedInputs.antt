@@ -13,8 +13,8 @@ abbrev pub EndsWithVolume : List ℕ → Type 0
 EndsWithVolume input = (h : HeadFields) × (e : Extent) × BeginsVolume h e input × (e.length ≡ length input)
 
 -- the input begins with a volume header, bytes follow the volume, and the fault is Length at the volume's end
-abbrev pub GoesOnAfter : List ℕ → Fault → Type 0
-GoesOnAfter input fault =
+abbrev pub BytesFollowExtent : List ℕ → Fault → Type 0
+BytesFollowExtent input fault =
     (h : HeadFields) × (e : Extent) × BeginsVolume h e input × (e.length < length input)
     × (fault ≡ outer_fault kinds.Length e.length)
 
@@ -25,7 +25,7 @@ UnfixesTo input o = IsUnfixed input o × EndsWithVolume input
 -- the first fault of an input whose marks are to be taken away: a fault of its header or of a cell (`UnfixStops`); or
 -- Length, because bytes follow the volume
 abbrev pub IsFirstOfMarked : List ℕ → Fault → Type 0
-IsFirstOfMarked input fault = UnfixStops input fault ⊎ (((o : List ℕ) × IsUnfixed input o) × GoesOnAfter input fault)
+IsFirstOfMarked input fault = UnfixStops input fault ⊎ (((o : List ℕ) × IsUnfixed input o) × BytesFollowExtent input fault)
 
 -- the marks of the input cannot be taken away, and this is the first fault
 pub record NotUnfixed (input : List ℕ) (fault : Fault) : Type 0 where

@@ -12,7 +12,7 @@ use Rattle.fv_tree.specs.LocatedFiles.{BeginsTiled}
 -- is the body of the volume in o. All other bytes are the same, also the bytes of volumes inside
 pub record Unfixes (e : Extent) (b o body : List ℕ) : Type 0 where
   pub head : HeadFields
-  pub front : BeginsVolume head e b
+  pub begins : BeginsVolume head e b
   pub places : List ℕ
   pub marks : Unmarks e.file_system e.polarity e.first places (field e.first (e.length - e.first) b) body
   pub text : o ≡ take e.first b ++ (body ++ drop e.length b)

@@ -17,12 +17,12 @@ pub use Rattle.fv_tree.specs.ReadParts.{IsStoredFile, IsReadFile, IsStoredFrame,
 pub use Rattle.fv_tree.specs.FirstFault.{moved_fault, Moved, body_place, data_place, body_at, data_at, Faulty}
 pub use Rattle.fv_tree.specs.FirstFault.{FrameFaulty, IfFirst, OneOf, HasTwin, TopElsewhere, NamesFault, LayoutFault}
 pub use Rattle.fv_tree.specs.FirstFault.{StreamFault, FileFault, BodyFault, VolumeFault, InSection, InStream, InVolume}
-pub use Rattle.fv_tree.specs.FirstFault.{outermost, IsFirstOfVolume, FaultStands}
-pub use Rattle.fv_tree.specs.InputFaults.{GoesOn, IsFirstOfInput, FaultStandsInInput, NotRead, MemoryRanOut}
+pub use Rattle.fv_tree.specs.FirstFault.{outermost, IsFirstOfVolume, FaultHolds}
+pub use Rattle.fv_tree.specs.InputFaults.{BytesFollowVolume, IsFirstOfInput, FaultHoldsInInput, NotRead, MemoryRanOut}
 pub use Rattle.fv_tree.specs.LocatedFiles.{BeginsTiled, IsFirstOfCells, NotTiled, state_by, header_len_by, file_form}
-pub use Rattle.fv_tree.specs.LocatedFiles.{StandIn, BeginWithFiles, HasDataIn, IsFirstOfFiles}
+pub use Rattle.fv_tree.specs.LocatedFiles.{AreFilesOf, BeginWithFiles, HasDataIn, IsFirstOfFiles}
 pub use Rattle.fv_tree.specs.Unfixing.{Unfixes, IsUnfixed, UnfixStops}
-pub use Rattle.fv_tree.specs.UnfixedInputs.{EndsWithVolume, GoesOnAfter, UnfixesTo, IsFirstOfMarked, NotUnfixed}
+pub use Rattle.fv_tree.specs.UnfixedInputs.{EndsWithVolume, BytesFollowExtent, UnfixesTo, IsFirstOfMarked, NotUnfixed}
 pub use Rattle.fv_tree.specs.FileNames.{is_named, file_named, HasIndex}
 pub use Rattle.fv_tree.specs.LookupInstances.{number_after, file_after, instance_of, file_of_type, preorder}
 pub use Rattle.fv_tree.specs.LookupInstances.{inside_section, inside_body, of_type, section_of_type, security_core}
@@ -30,5 +30,5 @@ pub use Rattle.fv_tree.specs.LookupInstances.{frame_of_type, SeesSection, SeesFr
 pub use Rattle.fv_tree.specs.SectionWalks.{left_in, NestsAt, AreLevels}
 pub use Rattle.fv_tree.specs.Views.{sections_of, parts_view, HasLength, body_view, content_view}
 pub use Rattle.fv_tree.specs.Difference.{is_ffs3, blocks_eq, entries_eq, ext_eq, Differs, has_steps, differ_in}
-pub use Rattle.fv_tree.specs.Difference.{unless_one, under, head_differs, difference, files_differ, file_differs}
+pub use Rattle.fv_tree.specs.Difference.{differ_unless, under, head_differs, difference, files_differ, file_differs}
 pub use Rattle.fv_tree.specs.Difference.{content_differs, sections_differ, section_differs, body_differs}

@@ -3,15 +3,15 @@
 ghost use Rattle.std.specs.Prelude.{◌≡◌, ◌≢◌, ◌==◌, true, Some, IfOk, IfErr, IfSome, IfNone};
 ghost use Rattle.std.specs.Option.{option_or};
 ghost use Rattle.fv_base.specs.Words.{out_of_memory};
-ghost use Rattle.fv_tree.specs.Difference.{has_steps, differ_in, unless_one, under};
-ghost use Rattle.fv_tree.specs.inner.FoundDifferences.{outermost_first, ReturnsDifference};
+ghost use Rattle.fv_tree.specs.Difference.{has_steps, differ_in, differ_unless, under};
+ghost use Rattle.fv_tree.specs.inner.FoundDifferences.{reversed_steps, ReturnsDifference};
 ghost use Rattle.fv_tree.specs.Difference.{difference, files_differ, file_differs, content_differs};
 ghost use Rattle.fv_tree.specs.Difference.{sections_differ, section_differs, body_differs};
-ghost use Rattle.fv_tree.specs.declared.difference.Word.TheVariants as words;
+ghost use Rattle.fv_tree.specs.declared.difference.DifferenceKind.TheVariants as kinds;
 ghost use Rattle.fv_tree.specs.MeaningParts.{files_from, sections_from};
 ghost use Rattle.fv_tree.specs.Views.{content_view, body_view};
 
-use crate::head_difference::head_word;
+use crate::head_difference::head_difference_kind;
 use crate::view::{Body, Content, FileView, SectionView, VolumeView};
 use fv_base::Fault;
 use std::alloc::Global;
@@ -29,7 +29,7 @@ pub enum Step {
 /// The kind of the difference between two volumes at the place to which the steps lead. (PI
 /// specification, volume 3, section 3.2.)
 #[derive(Clone, Copy, Debug, PartialEq, Eq)]
-pub enum Word {
+pub enum DifferenceKind {
     /// The zero vectors of the volumes' headers (section 3.2.1).
     ZeroVector,
     /// The file systems of the volumes (section 3.2.1).
@@ -72,15 +72,15 @@ pub enum Word {
 #[derive(Drop)]
 pub struct Difference {
     steps: Vec<Step>,
-    word: Word,
+    word: DifferenceKind,
 }
 
 impl Model for Difference {
     ghost use Rattle.std.specs.Prelude.{List};
     ghost use Rattle.fv_tree.specs.declared.difference.Step.{Step};
-    ghost use Rattle.fv_tree.specs.declared.difference.Word.{Word};
+    ghost use Rattle.fv_tree.specs.declared.difference.DifferenceKind.{DifferenceKind};
 
-    ghost Value = { List Step × Word };
+    ghost Value = { List Step × DifferenceKind };
 
     ghost view = { λ d. (d.steps.items, d.word) };
 }
@@ -94,7 +94,7 @@ impl Difference {
     }
 
     /// Returns the kind of the difference.
-    pub fn word(&self) -> Word
+    pub fn word(&self) -> DifferenceKind
         ensures { result ≡ self.now.1 }
     {
         self.word
@@ -102,8 +102,8 @@ impl Difference {
 }
 
 // Returns a difference of this kind, without steps.
-fn differ_in(alloc: Global, word: Word) -> Difference
-    ensures { outermost_first (Some result) ≡ differ_in word }
+fn differ_in(alloc: Global, word: DifferenceKind) -> Difference
+    ensures { reversed_steps (Some result) ≡ differ_in word }
 {
     Difference {
         steps: Vec::new(alloc),
@@ -114,7 +114,7 @@ fn differ_in(alloc: Global, word: Word) -> Difference
 // Returns the difference as seen from one level further out. During the search, the steps are kept
 // from the innermost out.
 fn under(step: Step, found: Difference) -> Result<Difference, Fault>
-    ensures ok { IfOk result (λ d. outermost_first (Some d) ≡ under step (outermost_first (Some found))) }
+    ensures ok { IfOk result (λ d. reversed_steps (Some d) ≡ under step (reversed_steps (Some found))) }
     ensures err { IfErr result (λ f. f ≡ out_of_memory) }
 {
     let mut found = found;
@@ -144,15 +144,19 @@ fn stream_difference(
     other_tail: u8,
 ) -> Found
     ensures { ReturnsDifference result (option_or (sections_differ 0 (sections_from sections.now)
-        (sections_from others.now)) (unless_one (tail == other_tail) words.Tail)) }
+        (sections_from others.now)) (differ_unless (tail == other_tail) kinds.Tail)) }
 {
     for i in 0..sections.len().min(others.len()) {
         if let Some(found) = section_difference(alloc, &sections[i], &others[i])? {
             return Ok(Some(under(Step::Section(i as u64), found)?));
         }
     }
-    return_unless!(alloc, sections.len() == others.len(), Word::SectionCount);
-    return_unless!(alloc, tail == other_tail, Word::Tail);
+    return_unless!(
+        alloc,
+        sections.len() == others.len(),
+        DifferenceKind::SectionCount
+    );
+    return_unless!(alloc, tail == other_tail, DifferenceKind::Tail);
     Ok(None)
 }
 
@@ -161,8 +165,12 @@ fn stream_difference(
 fn section_difference(alloc: Global, section: &SectionView, other: &SectionView) -> Found
     ensures { ReturnsDifference result (section_differs section.now other.now) }
 {
-    return_unless!(alloc, section.kind() == other.kind(), Word::Type);
-    return_unless!(alloc, section.extended() == other.extended(), Word::Form);
+    return_unless!(alloc, section.kind() == other.kind(), DifferenceKind::Type);
+    return_unless!(
+        alloc,
+        section.extended() == other.extended(),
+        DifferenceKind::Form
+    );
     body_difference(alloc, section.body(), other.body())
 }
 
@@ -173,7 +181,7 @@ fn body_difference(alloc: Global, body: Body, other: Body) -> Found
 {
     match (body, other) {
         (Body::Leaf(x), Body::Leaf(y)) => {
-            return_unless!(alloc, x == y, Word::Body);
+            return_unless!(alloc, x == y, DifferenceKind::Body);
             Ok(None)
         }
         (
@@ -187,7 +195,7 @@ fn body_difference(alloc: Global, body: Body, other: Body) -> Found
             },
         ) => stream_difference(alloc, x, t, y, u),
         (Body::Nested(x), Body::Nested(y)) => volume_difference(alloc, x, y),
-        _ => Ok(Some(differ_in(alloc, Word::Shape))),
+        _ => Ok(Some(differ_in(alloc, DifferenceKind::Shape))),
     }
 }
 
@@ -208,7 +216,7 @@ fn content_difference(alloc: Global, content: &Content, other: &Content) -> Foun
                 tail: u,
             },
         ) => stream_difference(alloc, x.as_slice(), *t, y.as_slice(), *u),
-        _ => Ok(Some(differ_in(alloc, Word::Data))),
+        _ => Ok(Some(differ_in(alloc, DifferenceKind::Data))),
     }
 }
 
@@ -217,12 +225,12 @@ fn content_difference(alloc: Global, content: &Content, other: &Content) -> Foun
 fn file_difference(alloc: Global, file: &FileView, other: &FileView) -> Found
     ensures { ReturnsDifference result (file_differs file.now other.now) }
 {
-    return_unless!(alloc, file.name() == other.name(), Word::Name);
-    return_unless!(alloc, file.kind() == other.kind(), Word::Type);
+    return_unless!(alloc, file.name() == other.name(), DifferenceKind::Name);
+    return_unless!(alloc, file.kind() == other.kind(), DifferenceKind::Type);
     return_unless!(
         alloc,
         file.attributes() == other.attributes(),
-        Word::Attributes
+        DifferenceKind::Attributes
     );
     content_difference(alloc, file.content(), other.content())
 }
@@ -237,7 +245,11 @@ fn files_difference(alloc: Global, files: &[FileView], others: &[FileView]) -> F
             return Ok(Some(under(Step::File(i as u64), found)?));
         }
     }
-    return_unless!(alloc, files.len() == others.len(), Word::FileCount);
+    return_unless!(
+        alloc,
+        files.len() == others.len(),
+        DifferenceKind::FileCount
+    );
     Ok(None)
 }
 
@@ -246,7 +258,7 @@ fn files_difference(alloc: Global, files: &[FileView], others: &[FileView]) -> F
 fn volume_difference(alloc: Global, volume: &VolumeView, other: &VolumeView) -> Found
     ensures { ReturnsDifference result (difference volume.now other.now) }
 {
-    if let Some(word) = head_word(volume.head(), other.head()) {
+    if let Some(word) = head_difference_kind(volume.head(), other.head()) {
         return Ok(Some(differ_in(alloc, word)));
     }
     files_difference(alloc, volume.files(), other.files())

@@ -2,9 +2,9 @@
 
 ghost use Rattle.std.specs.Prelude.{◌≡◌, option_copied};
 ghost use Rattle.fv_tree.specs.Difference.{blocks_eq, entries_eq, ext_eq, head_differs};
-ghost use Rattle.fv_tree.specs.inner.FoundDifferences.{in_word};
+ghost use Rattle.fv_tree.specs.inner.FoundDifferences.{in_kind};
 
-use crate::difference::Word;
+use crate::difference::DifferenceKind;
 use fv_head::{ExtEntry, ExtHeader, VolumeHead};
 
 // Returns whether two block maps are equal.
@@ -43,29 +43,32 @@ fn same_ext(a: Option<&ExtHeader<'_>>, b: Option<&ExtHeader<'_>>) -> bool
 }
 
 // Returns the kind of the first difference between two headers, or None if they are equal.
-pub(crate) fn head_word(head: &VolumeHead<'_>, other: &VolumeHead<'_>) -> Option<Word>
-    ensures { in_word result ≡ head_differs head.now other.now }
+pub(crate) fn head_difference_kind(
+    head: &VolumeHead<'_>,
+    other: &VolumeHead<'_>,
+) -> Option<DifferenceKind>
+    ensures { in_kind result ≡ head_differs head.now other.now }
 {
     if head.zero_vector() != other.zero_vector() {
-        return Some(Word::ZeroVector);
+        return Some(DifferenceKind::ZeroVector);
     }
     if head.file_system() != other.file_system() {
-        return Some(Word::FileSystem);
+        return Some(DifferenceKind::FileSystem);
     }
     if head.length() != other.length() {
-        return Some(Word::Length);
+        return Some(DifferenceKind::Length);
     }
     if head.attributes() != other.attributes() {
-        return Some(Word::VolumeAttributes);
+        return Some(DifferenceKind::VolumeAttributes);
     }
     if head.reserved() != other.reserved() {
-        return Some(Word::Reserved);
+        return Some(DifferenceKind::Reserved);
     }
     if !same_blocks(head.blocks().as_slice(), other.blocks().as_slice()) {
-        return Some(Word::BlockMap);
+        return Some(DifferenceKind::BlockMap);
     }
     if !same_ext(head.ext(), other.ext()) {
-        return Some(Word::ExtendedHeader);
+        return Some(DifferenceKind::ExtendedHeader);
     }
     None
 }

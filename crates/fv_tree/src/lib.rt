@@ -20,7 +20,7 @@ mod stored_files;
 mod view;
 mod volume_files;
 
-pub use difference::{Difference, Step, Word, first_difference};
+pub use difference::{Difference, DifferenceKind, Step, first_difference};
 pub use fault_place::fault_within;
 pub use fixed_marks::{unfix, verify_unfixed};
 pub use fv_flash::{FoundVolume, Offsets, scan, volumes};

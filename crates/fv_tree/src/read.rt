@@ -10,12 +10,12 @@ ghost use Rattle.fv_tree.specs.Meaning.{Meaning, length_of};
 ghost use Rattle.fv_tree.specs.Denotes.{Pairwise, MeansContent, MeansFile, MeansSection, Stream, Denotes, Accepted};
 ghost use Rattle.fv_tree.specs.ReadParts.{IsStoredFile, IsStoredFrame};
 ghost use Rattle.fv_tree.specs.FirstFault.{moved_fault, InSection, InStream, InVolume, OneOf, FileFault};
-ghost use Rattle.fv_tree.specs.FirstFault.{IsFirstOfVolume, FaultStands, body_place, data_place};
-ghost use Rattle.fv_tree.specs.inner.ReadingParts.{Reads, AllStored};
+ghost use Rattle.fv_tree.specs.FirstFault.{IsFirstOfVolume, FaultHolds, body_place, data_place};
+ghost use Rattle.fv_tree.specs.inner.ReadingParts.{ReadsOrFails, AllStored};
 ghost use Rattle.fv_tree.specs.Views.{content_view};
 ghost use Rattle.fv_tree.specs.LocatedFiles.{BeginWithFiles, BeginsTiled, HasDataIn, NotTiled, file_form};
 ghost use Rattle.std.specs.List.{AllByRecursion};
-ghost use Rattle.fv_tree.specs.InputFaults.{FaultStandsInInput, NotRead};
+ghost use Rattle.fv_tree.specs.InputFaults.{FaultHoldsInInput, NotRead};
 ghost use Rattle.fv_section.specs.StreamReads as framed;
 
 use crate::fault_place::fault_within;
@@ -84,7 +84,7 @@ fn read_section<'a>(alloc: Global, frame: &Frame<'a>, at: Level) -> Result<Secti
     requires place { at.place.offset + frame.now.offset + frame_len (framed.frame_form frame.now) < 2 ^ 63 }
     requires depth { at.place.depth + at.left ≤ depth_limit }
     requires stored { IsStoredFrame (framed.frame_form frame.now) }
-    ensures { Reads (MeansSection at.left (framed.frame_form frame.now))
+    ensures { ReadsOrFails (MeansSection at.left (framed.frame_form frame.now))
         (λ f. InSection First at.left f (framed.frame_form frame.now) at.place) result }
 {
     match shape_of(frame) {
@@ -110,7 +110,7 @@ fn read_stream(alloc: Global, bytes: &[u8], at: Level) -> Result<(Vec<SectionVie
     requires place { at.place.offset + length bytes.now < 2 ^ 63 }
     requires depth { at.place.depth + at.left ≤ depth_limit }
     requires small { length bytes.now ≤ volume_limit }
-    ensures { Reads (λ s. Stream at.left s.0.items s.1 bytes.now)
+    ensures { ReadsOrFails (λ s. Stream at.left s.0.items s.1 bytes.now)
         (λ f. InStream First at.left f bytes.now at.place) result }
 {
     let mut walk = match FrameWalk::of(bytes) {
@@ -131,7 +131,7 @@ fn read_content<'a>(alloc: Global, file: &LocatedFile<'a>, at: Level) -> Result<
     requires place { at.place.offset + data_place (file_form file.now) + length file.now.payload.now < 2 ^ 63 }
     requires depth { at.place.depth + at.left ≤ depth_limit }
     requires small { length file.now.payload.now ≤ volume_limit }
-    ensures { Reads (λ c. MeansContent (Stream at.left) file.now.kind file.now.payload.now (content_view c))
+    ensures { ReadsOrFails (λ c. MeansContent (Stream at.left) file.now.kind file.now.payload.now (content_view c))
         (λ f. FileFault (InStream First at.left) f (file_form file.now) at.place) result }
 {
     if !holds_sections(file.kind) {
@@ -156,7 +156,7 @@ fn read_file<'a>(alloc: Global, file: &LocatedFile<'a>, at: Level) -> Result<Fil
     requires depth { at.place.depth + at.left ≤ depth_limit }
     requires stored { IsStoredFile (file_form file.now) }
     requires small { length file.now.payload.now ≤ volume_limit }
-    ensures { Reads (MeansFile (Stream at.left) (file_form file.now))
+    ensures { ReadsOrFails (MeansFile (Stream at.left) (file_form file.now))
         (λ f. FileFault (InStream First at.left) f (file_form file.now) at.place) result }
 {
     let content = read_content(alloc, file, at)?;
@@ -179,7 +179,7 @@ fn read_files<'a>(
 ) -> Result<Vec<FileView<'a>>, Fault>
     requires depth { at.place.depth + at.left ≤ depth_limit }
     requires stored { AllStored at.place.offset (map file_form files.now) }
-    ensures { Reads (λ ms. Pairwise (MeansFile (Stream at.left)) (map file_form files.now) ms.items)
+    ensures { ReadsOrFails (λ ms. Pairwise (MeansFile (Stream at.left)) (map file_form files.now) ms.items)
         (λ e. OneOf First (MeansFile (Stream at.left)) (λ f. FileFault (InStream First at.left) e f at.place)
         (map file_form files.now)) result }
 {
@@ -201,7 +201,7 @@ fn read_with_files(
 ) -> Result<(VolumeView<'_>, u64, Vec<LocatedFile<'_>>), Fault>
     requires place { at.place.offset + length bytes.now < 2 ^ 63 }
     requires depth { at.place.depth + at.left ≤ depth_limit }
-    ensures read { Reads (λ r. Denotes at.left (take r.1 bytes.now) r.0)
+    ensures read { ReadsOrFails (λ r. Denotes at.left (take r.1 bytes.now) r.0)
         (λ f. InVolume First at.left f bytes.now at.place) result }
     ensures length { IfOk result (λ r. (r.1 ≡ length_of r.0) × (r.1 ≤ length bytes.now)) }
     ensures files { IfOk result (λ r. BeginWithFiles bytes.now (map file_form r.2.items)) }
@@ -222,7 +222,7 @@ fn read_with_files(
 fn read_at(alloc: Global, bytes: &[u8], at: Level) -> Result<(VolumeView<'_>, u64), Fault>
     requires place { at.place.offset + length bytes.now < 2 ^ 63 }
     requires depth { at.place.depth + at.left ≤ depth_limit }
-    ensures read { Reads (λ r. Denotes at.left (take r.1 bytes.now) r.0)
+    ensures read { ReadsOrFails (λ r. Denotes at.left (take r.1 bytes.now) r.0)
         (λ f. InVolume First at.left f bytes.now at.place) result }
     ensures length { IfOk result (λ r. (r.1 ≡ length_of r.0) × (r.1 ≤ length bytes.now)) }
     ensures memory { IfErr result (λ f. f ≡ out_of_memory → BeginsWithHeader bytes.now) }
@@ -266,10 +266,10 @@ pub fn read_volume(alloc: Global, bytes: &[u8]) -> Result<(VolumeView<'_>, u64),
     ensures first { IfErr result (λ f. f ≢ out_of_memory → IsFirstOfVolume bytes.now f) }
     ensures one { (f : Fault) → IsFirstOfVolume bytes.now f
         → IfOk result (λ r. ⊥) × IfErr result (λ g. g ≢ out_of_memory → g ≡ f) }
-    ensures stands { IfErr result (λ f. f ≢ out_of_memory → FaultStands bytes.now f) }
+    ensures holds { IfErr result (λ f. f ≢ out_of_memory → FaultHolds bytes.now f) }
 
     // If the condition of any fault holds, no volume is returned.
-    ensures sound { (f : Fault) → FaultStands bytes.now f → IfOk result (λ r. ⊥) }
+    ensures sound { (f : Fault) → FaultHolds bytes.now f → IfOk result (λ r. ⊥) }
 
     // The place of an error is within the bytes or at their end, and at most `depth_limit` deep.
     ensures bound { IfErr result
@@ -336,10 +336,10 @@ pub fn whole_volume_with_files(
     ensures data { IfOk result (λ r. AllByRecursion (HasDataIn input.now) (map file_form r.1.items)) }
 
     // An error other than OutOfMemory means that the input is not a volume, and is its first fault.
-    ensures refused { IfErr result (OrMemory (NotRead input.now)) }
+    ensures rejected { IfErr result (OrMemory (NotRead input.now)) }
 
     // The condition of such an error holds in the input at its offset.
-    ensures stands { IfErr result (λ f. f ≢ out_of_memory → FaultStandsInInput input.now f) }
+    ensures holds { IfErr result (λ f. f ≢ out_of_memory → FaultHoldsInInput input.now f) }
 
     // Memory runs out only if the input begins with a volume header.
     ensures memory { IfErr result (λ f. f ≡ out_of_memory → BeginsWithHeader input.now) }
@@ -364,10 +364,10 @@ pub fn whole_volume(alloc: Global, input: &[u8]) -> Result<VolumeView<'_>, Fault
     ensures only { IfOk result (λ view. (m : Meaning) → Accepted input.now m → m ≡ view) }
 
     // An error other than OutOfMemory means that the input is not a volume, and is its first fault.
-    ensures refused { IfErr result (OrMemory (NotRead input.now)) }
+    ensures rejected { IfErr result (OrMemory (NotRead input.now)) }
 
     // The condition of such an error holds in the input at its offset.
-    ensures stands { IfErr result (λ f. f ≢ out_of_memory → FaultStandsInInput input.now f) }
+    ensures holds { IfErr result (λ f. f ≢ out_of_memory → FaultHoldsInInput input.now f) }
 
     // Memory runs out only if the input begins with a volume header.
     ensures memory { IfErr result (λ f. f ≡ out_of_memory → BeginsWithHeader input.now) }

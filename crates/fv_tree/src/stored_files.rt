@@ -6,10 +6,10 @@ ghost use Rattle.fv_base.specs.Words.{First, out_of_memory, volume_limit};
 ghost use Rattle.fv_head.specs.Words.{BeginsWithHeader};
 ghost use Rattle.fv_names.specs.Words.{names_in, IsIndex, entries_of};
 ghost use Rattle.fv_tree.specs.FirstFault.{Moved, LayoutFault};
-ghost use Rattle.fv_tree.specs.LocatedFiles.{StandIn, file_form, BeginWithFiles, HasDataIn, IsFirstOfFiles};
+ghost use Rattle.fv_tree.specs.LocatedFiles.{AreFilesOf, file_form, BeginWithFiles, HasDataIn, IsFirstOfFiles};
 ghost use Rattle.fv_tree.specs.VolumeFiles.{FileForm};
 ghost use Rattle.fv_tree.specs.inner.NameForms.{named_file};
-ghost use Rattle.fv_tree.specs.inner.ReadingParts.{Reads, AllStored};
+ghost use Rattle.fv_tree.specs.inner.ReadingParts.{ReadsOrFails, AllStored};
 
 use crate::fault_place::fault_within;
 use crate::volume_files::{LocatedFile, current_files, files_in};
@@ -33,7 +33,7 @@ pub(crate) fn files_in_body<'a>(
     requires first_multiple { extent.first % 8 ≡ 0 }
     requires first_within { extent.first ≤ length volume.now }
     requires length_is { extent.length ≡ length volume.now }
-    ensures read { Reads (λ r. StandIn extent volume.now (map file_form r.0.items))
+    ensures read { ReadsOrFails (λ r. AreFilesOf extent volume.now (map file_form r.0.items))
         (Moved place (LayoutFault First extent volume.now)) result }
     ensures stored { IfOk result (λ r. AllStored place.offset (map file_form r.0.items)) }
     ensures index { IfOk result (λ r. IsIndex (names_in (map named_file r.0.items)) (entries_of r.1)) }

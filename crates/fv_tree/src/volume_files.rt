@@ -10,7 +10,7 @@ ghost use Rattle.fv_tree.specs.VolumeFiles.{is_top, end_of, replaced_by};
 ghost use Rattle.fv_tree.specs.inner.NameForms.{named_file};
 ghost use Rattle.fv_names.specs.Words.{names_in, IsIndex, entries_of};
 ghost use Rattle.fv_tree.specs.LocatedFiles.{file_form, state_by};
-ghost use Rattle.fv_tree.specs.inner.ReadingParts.{IsSmallCell, is_noted, mark_of};
+ghost use Rattle.fv_tree.specs.inner.ReadingParts.{IsSmallCell, is_replaced, mark_of};
 ghost use Rattle.fv_file.specs.CellForms as cellular;
 
 use fv_base::{Fault, FaultKind, Guid, check};
@@ -56,7 +56,7 @@ impl Mark {
 
     /// Returns whether one of the other files replaces the file.
     pub(crate) fn is_replaced(self) -> bool
-        ensures { result ≡ is_noted self }
+        ensures { result ≡ is_replaced self }
     {
         matches!(self, Mark::Replaced)
     }
@@ -66,7 +66,7 @@ impl Mark {
     pub(crate) fn with_replaced(self, replaced: bool) -> Mark
         requires { IsTrue replaced → is_marked (state_by self) ≡ true }
         ensures same { state_by result ≡ state_by self }
-        ensures noted { is_noted result ≡ replaced }
+        ensures replaced { is_replaced result ≡ replaced }
     {
         match self {
             Mark::Unmarked => Mark::Unmarked,
@@ -184,9 +184,9 @@ fn check_twins(files: &[LocatedFile], index: &NameIndex) -> Result<(), Fault>
 // Notes in each file's mark whether one of the other files replaces it.
 fn set_replaced(files: &mut [LocatedFile], index: &NameIndex)
     requires index { IsIndex (names_in (map named_file files.old)) (entries_of index.now) }
-    requires apart { NoTwins (map file_form files.old) }
+    requires no_twins { NoTwins (map file_form files.old) }
     ensures same { map file_form files.new ≡ map file_form files.old }
-    ensures replaced { All (λ s. is_noted s.mark ≡ list_any (replaced_by (file_form s)) (map file_form files.new))
+    ensures replaced { All (λ s. is_replaced s.mark ≡ list_any (replaced_by (file_form s)) (map file_form files.new))
         files.new }
 {
     for place in 0..index.len() {
@@ -199,7 +199,7 @@ fn set_replaced(files: &mut [LocatedFile], index: &NameIndex)
 // Keeps only the files that no other file replaces.
 fn keep_current(files: &mut Vec<LocatedFile>, index: &NameIndex)
     requires index { IsIndex (names_in (map named_file files.old.items)) (entries_of index.now) }
-    requires apart { NoTwins (map file_form files.old.items) }
+    requires no_twins { NoTwins (map file_form files.old.items) }
     ensures { map file_form files.new.items ≡ current_in (map file_form files.old.items) }
 {
     set_replaced(files.as_mut_slice(), index);
@@ -242,7 +242,7 @@ fn check_top(files: &[LocatedFile], length: u64) -> Result<(), Fault>
 }
 
 // Does the same as `current_files`, for files that may share a name.
-fn apart_files<'a>(
+fn files_sharing_names<'a>(
     alloc: Global,
     files: Vec<LocatedFile<'a>>,
     index: NameIndex,
@@ -283,7 +283,7 @@ pub(crate) fn current_files<'a>(
 {
     let index = NameIndex::of(alloc, files.as_slice())?;
     if !index.are_distinct() {
-        return apart_files(alloc, files, index, length);
+        return files_sharing_names(alloc, files, index, length);
     }
     // Twins and updates share a name with another file. So if all names differ, there are no twins,
     // no file is dropped, and the index of all files is the index of the files that are kept.

@@ -32,13 +32,13 @@ pub record IsRead (app : App) (rest : List (List ℕ)) (m : ArgMatches) : Type 0
   pub taken : faults_in app rest ≡ []
 
 -- the result is a value for which P holds, or an error. The error is Words only if P holds for no value
-abbrev pub Reads : {X : Type 0} → (X → Type 0) → Result X WordFault → Type 0
-Reads P (Ok x) = P x
-Reads {X} P (Err f) = f ≡ Words → (x : X) → P x → ⊥
+abbrev pub ReadsOrFails : {X : Type 0} → (X → Type 0) → Result X WordFault → Type 0
+ReadsOrFails P (Ok x) = P x
+ReadsOrFails {X} P (Err f) = f ≡ Words → (x : X) → P x → ⊥
 
 -- the result is the command that is asked for by arguments in which the parser found m, or an error. The error is Words
 -- only if the arguments are not right
-abbrev pub AsksFor : List ℕ → ArgMatches → Result Command WordFault → Type 0
-AsksFor name m (Ok command) =
+abbrev pub AsksOrFails : List ℕ → ArgMatches → Result Command WordFault → Type 0
+AsksOrFails name m (Ok command) =
     (rest : List (List ℕ)) → IsRead (app_named name) rest m → (name ≡ command_name command) × HasTexts rest command
-AsksFor name m (Err f) = f ≡ Words → (rest : List (List ℕ)) → IsRead (app_named name) rest m → AreRightFor name rest → ⊥
+AsksOrFails name m (Err f) = f ≡ Words → (rest : List (List ℕ)) → IsRead (app_named name) rest m → AreRightFor name rest → ⊥

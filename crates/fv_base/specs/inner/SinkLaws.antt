@@ -2,7 +2,7 @@
 -- nothing here has to be taken on trust. They are in specs/ because ghost members cite the last of each.
 use Rattle.std.proofs.Common.{ℕ, List, [], ◌++◌, ap, sym, ◌∙◌, append_assoc, append-nil, Bool, true, false, ◌≡◌, ◌+◌}
 use Rattle.std.proofs.Common.{◌%◌, ◌^◌, ◌<◌, length, take, refl, subst, arith, add_assoc, add-zero, length-append}
-use Rattle.fv_base.specs.Sinks.{KeptLatched, KeptTakes, WalkLaws, PortShows, WritesBytes, WritesAll, WritesFront}
+use Rattle.fv_base.specs.Sinks.{KeptLatched, KeptTakes, WalkLaws, PortState, WritesBytes, WritesAll, WritesPrefix}
 use Rattle.fv_base.specs.Sinks.{LatchedWrites, SeenTakes}
 use Rattle.std.specs.Prelude.{Option, Some, None}
 use Rattle.std.specs.Io.KnownBytes.{Appends}
@@ -43,18 +43,18 @@ appends_joined (Some xs) None u a b p q = absurd p
 appends_joined (Some xs) (Some ys) None a b p q = absurd q
 appends_joined (Some xs) (Some ys) (Some zs) a b p q = q ∙ (ap (λ ws. ws ++ b) p ∙ append_assoc xs a b)
 
-bytes_joined : (s t u : PortShows) (a b : List ℕ) → WritesBytes s a t → WritesBytes t b u → WritesBytes s (a ++ b) u
+bytes_joined : (s t u : PortState) (a b : List ℕ) → WritesBytes s a t → WritesBytes t b u → WritesBytes s (a ++ b) u
 bytes_joined s t u a b p q = (
   appends_joined s.contents t.contents u.contents a b p.0 q.0,
   sums_joined (2 ^ 64) s.count t.count u.count (length a) (length b) p.1 q.1
       ∙ ap (λ n. (s.count + n) % 2 ^ 64) (sym (length-append a b)),
 )
 
-pub writes_joined : (s t u : PortShows) (a b : List ℕ) → WritesAll s a t → WritesAll t b u → WritesAll s (a ++ b) u
+pub writes_joined : (s t u : PortState) (a b : List ℕ) → WritesAll s a t → WritesAll t b u → WritesAll s (a ++ b) u
 writes_joined s t u a b p q = (bytes_joined s t u a b p.0 q.0, q.1 ∙ p.1)
 
-front_early : (s t : PortShows) (a b : List ℕ) → WritesFront s a t → WritesFront s (a ++ b) t
-front_early s t a b h = (
+prefix_early : (s t : PortState) (a b : List ℕ) → WritesPrefix s a t → WritesPrefix s (a ++ b) t
+prefix_early s t a b h = (
   h.0,
   early h.0 (length a) (length b) (length (a ++ b)) (length-append a b) h.1,
   subst (λ xs. WritesBytes s xs t) (sym (take-append-le h.0 a b (omega (arith, h.1)))) h.2,
@@ -64,8 +64,8 @@ front_early s t a b h = (
     early : (n a b ab : ℕ) → ab ≡ a + b → n < a → n < ab
     early n a b ab e h = omega arith
 
-front_later : (s t u : PortShows) (a b : List ℕ) → WritesAll s a t → WritesFront t b u → WritesFront s (a ++ b) u
-front_later s t u a b p h = (
+prefix_later : (s t u : PortState) (a b : List ℕ) → WritesAll s a t → WritesPrefix t b u → WritesPrefix s (a ++ b) u
+prefix_later s t u a b p h = (
   length a + h.0,
   later h.0 (length a) (length b) (length (a ++ b)) (length-append a b) h.1,
   subst (λ xs. WritesBytes s xs u) (sym (take-append-add a b h.0)) (bytes_joined s t u a (take h.0 b) p.0 h.2),
@@ -75,22 +75,22 @@ front_later s t u a b p h = (
     later : (n a b ab : ℕ) → ab ≡ a + b → n < b → a + n < ab
     later n a b ab e h = omega arith
 
-pub latched_none : (s : PortShows) (a : Bool) → LatchedWrites s a [] s a
+pub latched_none : (s : PortState) (a : Bool) → LatchedWrites s a [] s a
 latched_none s true = ((appends_none s.contents, ap (λ n. n % 2 ^ 64) (sym (add-zero s.count))), refl)
 latched_none s false = refl
 
-pub latched_joined : (s t u : PortShows) (a b c : Bool) (xs ys : List ℕ) → LatchedWrites s a xs t b
+pub latched_joined : (s t u : PortState) (a b c : Bool) (xs ys : List ℕ) → LatchedWrites s a xs t b
     → LatchedWrites t b ys u c → LatchedWrites s a (xs ++ ys) u c
 latched_joined s t u true true true xs ys p q = writes_joined s t u xs ys p q
-latched_joined s t u true true false xs ys p q = front_later s t u xs ys p q
+latched_joined s t u true true false xs ys p q = prefix_later s t u xs ys p q
 latched_joined s t u true false true xs ys p q = absurd q
 latched_joined s t u true false false xs ys p q =
-    subst (λ z. WritesFront s (xs ++ ys) z) (sym q) (front_early s t xs ys p)
+    subst (λ z. WritesPrefix s (xs ++ ys) z) (sym q) (prefix_early s t xs ys p)
 latched_joined s t u false true c xs ys p q = absurd p
 latched_joined s t u false false true xs ys p q = absurd q
 latched_joined s t u false false false xs ys p q = q ∙ p
 
-pub seen_by : {S N : Type 0} (view : S → PortShows) (on : S → Bool) (name : S → N) → WalkLaws (SeenTakes view on name)
+pub seen_by : {S N : Type 0} (view : S → PortState) (on : S → Bool) (name : S → N) → WalkLaws (SeenTakes view on name)
 seen_by view on name = record {
   none = λ s. (refl, latched_none (view s) (on s));
   joined = λ {s} {t} {u} {a} {b} p q. (q.0 ∙ p.0, latched_joined (view s) (view t) (view u) (on s) (on t) (on u) a b p.1 q.1);

@@ -2,7 +2,7 @@
 use Rattle.std.specs.Prelude.{◌≡◌, ◌⊎◌, ℕ, List, Option, Some, None, ◌≢◌, ◌<◌, ◌≤◌, ◌++◌, length, drop}
 use Rattle.fv_base.specs.Words.{out_of_memory}
 use Rattle.fv_base.specs.declared.fault.Fault.{Fault}
-use Rattle.fv_canon.specs.Words.{FirstUnfit}
+use Rattle.fv_canon.specs.Words.{FirstUnplaced}
 use Rattle.fv_rows.specs.Words.{NodeMeaning}
 use Rattle.fv_c.specs.ExtractedParts.{IsNodeImage, volumes_in_node}
 
@@ -25,4 +25,4 @@ PutsPart (Some p) old new before after result =
 -- memory ran out, or f is the fault of the first volume in the part that does not fit
 abbrev pub StopsPart : Option NodeMeaning → Fault → Type 0
 StopsPart None f = f ≡ out_of_memory
-StopsPart (Some p) f = (f ≡ out_of_memory) ⊎ FirstUnfit (volumes_in_node p) 0 f
+StopsPart (Some p) f = (f ≡ out_of_memory) ⊎ FirstUnplaced (volumes_in_node p) 0 f

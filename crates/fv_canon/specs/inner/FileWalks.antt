@@ -2,15 +2,15 @@
 use Rattle.std.specs.Prelude.{ℕ, List, ◌≡◌, ◌+◌, ◌≤◌, ◌%◌, [], ◌∷◌, map}
 use Rattle.fv_base.specs.Words.{volume_limit}
 use Rattle.fv_tree.specs.Words.{FileMeaning, data_len_of}
-use Rattle.fv_canon.specs.Layouts.{layout_item}
+use Rattle.fv_canon.specs.Layouts.{placement_item}
 use Rattle.fv_placement.specs.Words.{StartsFollow}
 use Rattle.fv_canon.specs.StoredFiles.{size_for}
 
 -- the files can be placed at these starts, from the edge e on, in a volume of `total` bytes
 pub record ArePlaced (total e : ℕ) (files : List FileMeaning) (starts : List ℕ) : Type 0 where
-  pub follow : StartsFollow total e (map layout_item files) starts
+  pub follow : StartsFollow total e (map placement_item files) starts
   pub eighth : e % 8 ≡ 0
-  pub behind : 64 ≤ e
+  pub after_header : 64 ≤ e
   pub within : e ≤ total
   pub multiple : total % 8 ≡ 0
   pub limit : total ≤ volume_limit

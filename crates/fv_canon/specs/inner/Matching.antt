@@ -6,14 +6,14 @@ use Rattle.std.proofs.lemmas.List.{append_cancel_left}
 use Rattle.fv_base.specs.Words.{WalkLaws}
 
 -- s does not begin with these bytes
-abbrev pub IsNoFront : List ℕ → List ℕ → Type 0
-IsNoFront s bytes = (more : List ℕ) → s ≡ bytes ++ more → ⊥
+abbrev pub IsNotPrefix : List ℕ → List ℕ → Type 0
+IsNotPrefix s bytes = (more : List ℕ) → s ≡ bytes ++ more → ⊥
 
 -- how the expected bytes s change when bytes come. If all earlier bytes were as expected, the new bytes are taken off
 -- the front of s; or s does not begin with them, and from then on nothing is compared
 abbrev pub MatchLatched : List ℕ → Bool → List ℕ → List ℕ → Bool → Type 0
 MatchLatched s true bytes t true = s ≡ bytes ++ t
-MatchLatched s true bytes t false = IsNoFront s bytes
+MatchLatched s true bytes t false = IsNotPrefix s bytes
 MatchLatched s false bytes t true = ⊥
 MatchLatched s false bytes t false = Unit {0}
 

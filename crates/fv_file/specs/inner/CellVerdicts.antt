@@ -89,13 +89,13 @@ cell_verdict system polarity p r =
     else state_verdict (state_of polarity (state_at r)) system polarity p r
 
 -- the header of a file if the file is valid by its state, or the first fault
-abbrev pub standing_verdict : Option FileState → FileSystem → List ℕ → Result FileHead Fault
-standing_verdict None system b = Err (outer_fault kinds.FileState 23)
-standing_verdict (Some state) system b =
+abbrev pub valid_state_verdict : Option FileState → FileSystem → List ℕ → Result FileHead Fault
+valid_state_verdict None system b = Err (outer_fault kinds.FileState 23)
+valid_state_verdict (Some state) system b =
     if is_alive state then file_verdict system state 0 b else Err (outer_fault kinds.FileState 23)
 
 -- the header of the valid file or pad that the bytes begin with, or the first fault
 abbrev pub verify_verdict : FileSystem → Polarity → List ℕ → Result FileHead Fault
 verify_verdict system polarity b =
     if nat_lt (length b) 24 then Err (outer_fault kinds.FileSize 20)
-    else standing_verdict (state_of polarity (state_at b)) system b
+    else valid_state_verdict (state_of polarity (state_at b)) system b

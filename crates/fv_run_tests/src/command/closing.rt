@@ -3,7 +3,7 @@
 use super::runs::{Input, ends_as};
 use crate::fakes::FakeWriter;
 use fv_base::{Fault, FaultKind, Port};
-use fv_command::{Refusal, Status, refuse, say};
+use fv_command::{Refusal, Status, end_with_line, end_with_refusal};
 use fv_plan::{Command, Plan, Task};
 use std::alloc::Global;
 
@@ -11,14 +11,14 @@ use std::alloc::Global;
 // bytes, if the writer has room for `room` bytes.
 fn is_closed_as(alloc: Global, room: usize, wanted: &[u8], ended: Status) -> bool {
     let mut writer = Port::new(FakeWriter::new(alloc, 5, room, true));
-    let status = say(&mut writer, "wrong words\n", Status::WrongWords);
+    let status = end_with_line(&mut writer, "wrong words\n", Status::WrongArguments);
     status == ended && writer.into_inner().took_only(wanted)
 }
 
 #[test]
 fn a_run_is_closed_once(rt: HostRuntime) {
     let alloc = rt.alloc();
-    assert!(rt; is_closed_as(alloc, 12, b"wrong words\n", Status::WrongWords));
+    assert!(rt; is_closed_as(alloc, 12, b"wrong words\n", Status::WrongArguments));
     assert!(rt; is_closed_as(alloc, 11, b"wrong words", Status::Refused));
 }
 
@@ -26,7 +26,7 @@ fn a_run_is_closed_once(rt: HostRuntime) {
 // fails.
 fn needs_its_flush(alloc: Global) -> bool {
     let mut writer = Port::new(FakeWriter::without_flush(alloc));
-    let status = say(&mut writer, "wrong words\n", Status::WrongWords);
+    let status = end_with_line(&mut writer, "wrong words\n", Status::WrongArguments);
     status == Status::Refused && writer.into_inner().took_only(b"wrong words\n")
 }
 
@@ -45,7 +45,7 @@ fn search_needs_its_flush(alloc: Global) -> bool {
     ends_as(
         alloc,
         &plan,
-        (Input::Nothing, Input::Nothing),
+        (Input::NoInput, Input::NoInput),
         writer,
         (2, b""),
     )
@@ -62,7 +62,7 @@ fn a_failed_flush_is_a_refusal(rt: HostRuntime) {
 fn is_refused_with_its_line(alloc: Global) -> bool {
     let mut writer = Port::new(Vec::new(alloc));
     let refusal = Refusal::Input(Fault::outer(FaultKind::OutOfMemory, 0));
-    let ending = refuse(&mut writer, refusal);
+    let ending = end_with_refusal(&mut writer, refusal);
     let has_failed = writer.erred();
     let written = writer.into_inner();
     ending.status == Status::Refused

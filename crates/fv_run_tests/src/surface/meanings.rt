@@ -8,9 +8,9 @@ use fv_canon::{
 use fv_command::{Status, run_plan};
 use fv_plan::Plan;
 use fv_tree::{
-    Body, Content, Difference, FileView, FoundVolume, Item, Lookup, Offsets, SectionView, Step,
-    VolumeView, Word, file_by_name, file_by_type, first_difference, next_file, read_volume, scan,
-    section_by_type, volumes,
+    Body, Content, Difference, DifferenceKind, FileView, FoundVolume, Item, Lookup, Offsets,
+    SectionView, Step, VolumeView, file_by_name, file_by_type, first_difference, next_file,
+    read_volume, scan, section_by_type, volumes,
 };
 
 // Names the contents of a file, and the bodies of a section.
@@ -41,28 +41,28 @@ fn name_lookup(lookup: Lookup<'_, '_>) {
 }
 
 // Names the steps to a difference, and the kinds of differences.
-fn name_difference(step: Step, word: Word) {
+fn name_difference(step: Step, word: DifferenceKind) {
     match step {
         Step::File(_) | Step::Section(_) => {}
     }
     match word {
-        Word::ZeroVector
-        | Word::FileSystem
-        | Word::Length
-        | Word::VolumeAttributes
-        | Word::Reserved
-        | Word::BlockMap
-        | Word::ExtendedHeader
-        | Word::FileCount
-        | Word::Name
-        | Word::Type
-        | Word::Attributes
-        | Word::Data
-        | Word::SectionCount
-        | Word::Tail
-        | Word::Form
-        | Word::Shape
-        | Word::Body => {}
+        DifferenceKind::ZeroVector
+        | DifferenceKind::FileSystem
+        | DifferenceKind::Length
+        | DifferenceKind::VolumeAttributes
+        | DifferenceKind::Reserved
+        | DifferenceKind::BlockMap
+        | DifferenceKind::ExtendedHeader
+        | DifferenceKind::FileCount
+        | DifferenceKind::Name
+        | DifferenceKind::Type
+        | DifferenceKind::Attributes
+        | DifferenceKind::Data
+        | DifferenceKind::SectionCount
+        | DifferenceKind::Tail
+        | DifferenceKind::Form
+        | DifferenceKind::Shape
+        | DifferenceKind::Body => {}
     }
 }
 
@@ -79,7 +79,7 @@ pub(super) fn name_tree() {
     let _ = (Difference::steps, Difference::word);
     name_parts(&Content::Plain(b""), Body::Leaf(b""));
     name_lookup(Lookup::Absent);
-    name_difference(Step::File(0), Word::Name);
+    name_difference(Step::File(0), DifferenceKind::Name);
 }
 
 // Names the sides of a comparison.
@@ -105,8 +105,11 @@ fn name_results(fault: WordFault, status: Status) {
         WordFault::Words | WordFault::OutOfMemory => {}
     }
     match status {
-        Status::Done | Status::Different | Status::Faulty | Status::Refused | Status::WrongWords =>
-            {}
+        Status::Done
+        | Status::Different
+        | Status::Faulty
+        | Status::Refused
+        | Status::WrongArguments => {}
     }
 }
 

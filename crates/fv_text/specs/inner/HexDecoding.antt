@@ -21,16 +21,16 @@ joined_pairs (h ∷ []) = []
 joined_pairs (h ∷ l ∷ vs) = (h * 16 + l) ∷ joined_pairs vs
 
 -- the characters spell no bytes, whatever follows them
-abbrev pub IsSpoilt : List ℕ → Type 0
-IsSpoilt digits = (behind bytes : List ℕ) → DigitsSpell (digits ++ behind) bytes → ⊥
+abbrev pub SpellsNothing : List ℕ → Type 0
+SpellsNothing digits = (after bytes : List ℕ) → DigitsSpell (digits ++ after) bytes → ⊥
 
 -- the digits, except the digits that wait, spell bytes. The decoder holds these bytes, or (`is_long`) they are more
 -- than a volume may have
 pub record HoldsDigits (is_long : Bool) (held waiting digits : List ℕ) : Type 0 where
-  pub front : List ℕ
+  pub decoded : List ℕ
   pub bytes : List ℕ
-  pub joined : digits ≡ front ++ waiting
-  pub reads : DigitsSpell front bytes
+  pub joined : digits ≡ decoded ++ waiting
+  pub reads : DigitsSpell decoded bytes
   pub kept : is_long ≡ false → held ≡ bytes
   pub many : is_long ≡ true → volume_limit < length bytes
 
@@ -38,7 +38,7 @@ pub record HoldsDigits (is_long : Bool) (held waiting digits : List ℕ) : Type 
 -- spell the bytes that the decoder holds or more bytes than a volume may have. It holds at most the bytes of a volume,
 -- and at most one digit waits
 pub record Decodes (d : Decoder) (text : List ℕ) : Type 0 where
-  pub wrong : d.is_wrong ≡ true → IsSpoilt (squeezed text)
+  pub wrong : d.is_wrong ≡ true → SpellsNothing (squeezed text)
   pub right : d.is_wrong ≡ false → HoldsDigits d.is_long d.bytes.items d.digits.items (squeezed text)
   pub small : vec_len d.bytes ≤ volume_limit
   pub waiting : vec_len d.digits ≤ 1
@@ -53,7 +53,7 @@ pub record AddsDigits (was_long is_long : Bool) (held holds digits : List ℕ) :
 
 -- the decoder found its digits wrong, or it decoded them
 pub record DecodesPairs (old new : Decoder) : Type 0 where
-  pub wrong : new.is_wrong ≡ true → IsSpoilt old.digits.items
+  pub wrong : new.is_wrong ≡ true → SpellsNothing old.digits.items
   pub right : new.is_wrong ≡ false → AddsDigits old.is_long new.is_long old.bytes.items new.bytes.items old.digits.items
 
 -- the text, without its white space, was put into a room from `start` to `end`, and needs no more space than the whole

@@ -27,9 +27,9 @@ mark_of states.Marked = marks.Marked
 mark_of _ = marks.Unmarked
 
 -- whether a mark notes that one of the other files replaces the file
-abbrev pub is_noted : Mark → Bool
-is_noted marks.Replaced = true
-is_noted _ = false
+abbrev pub is_replaced : Mark → Bool
+is_replaced marks.Replaced = true
+is_replaced _ = false
 
 -- the fields of a header that a stored file does not keep follow from the fields that it keeps
 pub record FollowsFrom (head : FileHead) (payload : List ℕ) : Type 0 where
@@ -49,8 +49,8 @@ shape_of f =
     else (if (f.kind == volume_kind) && is_one_volume f.body then shapes.Volume else shapes.Leaf)
 
 -- P holds of the value that was read, or F of the fault unless memory ran out
-abbrev pub Reads : {T : Type 0} → (T → Type 0) → (Fault → Type 0) → Result T Fault → Type 0
-Reads P F result = MatchResult result P (λ f. f ≢ out_of_memory → F f)
+abbrev pub ReadsOrFails : {T : Type 0} → (T → Type 0) → (Fault → Type 0) → Result T Fault → Type 0
+ReadsOrFails P F result = MatchResult result P (λ f. f ≢ out_of_memory → F f)
 
 -- a valid file in some bytes: its data have at most `volume_limit` bytes, and end below 2 ^ 63 if the volume begins at
 -- `base`

@@ -1,11 +1,11 @@
 use Rattle.clap.proofs.TakesLemmas.{passed_up}
 use Rattle.fv_arguments.proofs.ArgumentReadLemmas.{read}
-use Rattle.fv_arguments.proofs.RefusalLemmas.{read_of, refused}
+use Rattle.fv_arguments.proofs.RefusalLemmas.{read_of, rejected}
 use Rattle.fv_arguments.proofs.options.parse_command.Goals as goal
 
 pub returns-in_err-matches-clause-wrong : goal.returns-in_err-matches-clause-wrong
 returns-in_err-matches-clause-wrong c =
-    refused c.args.name.now _ c.in_ok-rules_of.ensures _ c.in_err-matches.field-0.0 c.in_err-matches.ensures.kinds _
+    rejected c.args.name.now _ c.in_ok-rules_of.ensures _ c.in_err-matches.field-0.0 c.in_err-matches.ensures.kinds _
     c.from_residual-in_err-matches.ensures.1
 
 pub returns-in_err-command-clause-wrong : goal.returns-in_err-command-clause-wrong
@@ -15,8 +15,8 @@ returns-in_err-command-clause-wrong c =
     passed_up c.from_residual-in_err-command.result c.in_err-command.field-0.0 _ c.from_residual-in_err-command.ensures.1
     (λ is right. c.in_err-command.ensures is _ r right)
 
-pub returns-clause-asked : goal.returns-clause-asked
-returns-clause-asked c =
+pub returns-clause-asks : goal.returns-clause-asks
+returns-clause-asks c =
     let found = c.in_ok-matches.ensures in
     let r = read _ c.args.name.now _ c.in_ok-rules_of.ensures found.matches found.kinds in
     let asked = c.in_ok-command.ensures _ r in

@@ -7,7 +7,7 @@ use Rattle.fv_c.proofs.canonical.fvp_image_normalise.Goals as goal
 
 pub returns-in-Err-clause-fits : goal.returns-in-Err-clause-fits
 returns-in-Err-clause-fits c = λ bytes to _ _.
-    c.refused.ensures.number ∙ ap (λ (f : Fault). fault_number f.kind) (c.in-Err.ensures.fits bytes to)
+    c.set_fault.ensures.number ∙ ap (λ (f : Fault). fault_number f.kind) (c.in-Err.ensures.fits bytes to)
 
 pub returns-then-buffer-image-clause-small : goal.returns-then-buffer-image-clause-small
 returns-then-buffer-image-clause-small c = λ _.

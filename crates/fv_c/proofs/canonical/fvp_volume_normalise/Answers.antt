@@ -8,7 +8,7 @@ use Rattle.fv_c.proofs.canonical.fvp_volume_normalise.Goals as goal
 
 pub returns-in-Err-clause-fits : goal.returns-in-Err-clause-fits
 returns-in-Err-clause-fits c = λ image to _ _.
-    c.refused.ensures.number ∙ ap (λ (f : Fault). fault_number f.kind) (c.in-Err.ensures.fits image to)
+    c.set_fault.ensures.number ∙ ap (λ (f : Fault). fault_number f.kind) (c.in-Err.ensures.fits image to)
 
 pub returns-then-buffer-volume-clause-small : goal.returns-then-buffer-volume-clause-small
 returns-then-buffer-volume-clause-small c = λ _.

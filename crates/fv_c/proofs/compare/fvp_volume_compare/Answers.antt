@@ -22,25 +22,25 @@ returns-clause-input c = λ done buffer. (inl c.report.ensures.first, (c.report.
 pub returns-in-Err-clause-first : goal.returns-in-Err-clause-first
 returns-in-Err-clause-first c = λ _ _ _. (
   c.in-Err.f,
-  c.in-Err.ensures.refused,
+  c.in-Err.ensures.rejected,
   c.in-Err.ensures.memory,
-  c.refused_of.ensures.number,
-  c.refused_of.ensures.fault,
+  c.set_fault_of.ensures.number,
+  c.set_fault_of.ensures.fault,
 )
 
 pub returns-in-Err-clause-second : goal.returns-in-Err-clause-second
-returns-in-Err-clause-second c = λ is. absurd (omega (arith, is, ap (λ (k : FvFault). k.input) c.refused_of.ensures.fault))
+returns-in-Err-clause-second c = λ is. absurd (omega (arith, is, ap (λ (k : FvFault). k.input) c.set_fault_of.ensures.fault))
 
 pub returns-in-Err-whole_volume-clause-first : goal.returns-in-Err-whole_volume-clause-first
 returns-in-Err-whole_volume-clause-first c = λ _ _ is.
-    absurd (omega (arith, is, ap (λ (k : FvFault). k.input) c.refused_of-in-Err-whole_volume.ensures.fault))
+    absurd (omega (arith, is, ap (λ (k : FvFault). k.input) c.set_fault_of-in-Err-whole_volume.ensures.fault))
 
 pub returns-in-Err-whole_volume-clause-second : goal.returns-in-Err-whole_volume-clause-second
 returns-in-Err-whole_volume-clause-second c = λ _. (
   (c.in-Ok.view, c.in-Ok.ensures.found),
   c.in-Err-whole_volume.f,
-  c.in-Err-whole_volume.ensures.refused,
+  c.in-Err-whole_volume.ensures.rejected,
   c.in-Err-whole_volume.ensures.memory,
-  c.refused_of-in-Err-whole_volume.ensures.number,
-  c.refused_of-in-Err-whole_volume.ensures.fault,
+  c.set_fault_of-in-Err-whole_volume.ensures.number,
+  c.set_fault_of-in-Err-whole_volume.ensures.fault,
 )

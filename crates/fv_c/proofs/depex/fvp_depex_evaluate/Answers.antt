@@ -9,6 +9,6 @@ returns-in-Err-clause-err c = λ _. (
   c.in-Err.f,
   λ other. subst (λ (phase : Phase). NoExpression phase c.args.expression.now c.in-Err.f) c.phase_by_number.ensures (c.in-Err.ensures.err other),
   λ want. subst (λ (phase : Phase). BeginsFirstOp phase c.args.expression.now) c.phase_by_number.ensures (c.in-Err.ensures.memory want),
-  c.refused_at.ensures.number ∙ c.depex_result.ensures,
-  rw (← c.depex_result.ensures) c.refused_at.ensures.fault,
+  c.set_fault_at.ensures.number ∙ c.depex_result.ensures,
+  rw (← c.depex_result.ensures) c.set_fault_at.ensures.fault,
 )

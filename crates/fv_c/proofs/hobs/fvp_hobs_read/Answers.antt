@@ -7,8 +7,8 @@ returns-in-Err-clause-err c = λ _ _. (
   c.in-Err.f,
   c.in-Err.ensures.err,
   c.in-Err.ensures.memory,
-  c.refused_at.ensures.number ∙ c.hob_result.ensures,
-  rw (← c.hob_result.ensures) c.refused_at.ensures.fault,
+  c.set_fault_at.ensures.number ∙ c.hob_result.ensures,
+  rw (← c.hob_result.ensures) c.set_fault_at.ensures.fault,
   refl,
   refl,
 )

@@ -5,4 +5,4 @@ use Rattle.fv_c.proofs.tree_digests.fvp_volume_tree_digests.Goals as goal
 
 pub returns-in-Err-clause-fits : goal.returns-in-Err-clause-fits
 returns-in-Err-clause-fits c = λ image to _ _.
-    c.refused.ensures.number ∙ ap (λ (f : Fault). fault_number f.kind) (c.in-Err.ensures.fits image to)
+    c.set_fault.ensures.number ∙ ap (λ (f : Fault). fault_number f.kind) (c.in-Err.ensures.fits image to)

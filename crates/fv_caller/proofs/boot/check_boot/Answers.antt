@@ -5,7 +5,7 @@ use Rattle.fv_caller.specs.declared.fault.CallerFault.TheVariants as faults
 
 pub returns-in_err-whole_volume-clause-none : goal.returns-in_err-whole_volume-clause-none
 returns-in_err-whole_volume-clause-none c =
-    rw (err_is c.from_residual.ensures.1) (λ other boot. elim c.in_err-whole_volume.ensures.refused [
+    rw (err_is c.from_residual.ensures.1) (λ other boot. elim c.in_err-whole_volume.ensures.rejected [
       | inl want ↦ absurd (other (inl (ap faults.Volume want)))
       | inr bad ↦ absurd (bad.none boot.read.0 boot.read.1)
     ])

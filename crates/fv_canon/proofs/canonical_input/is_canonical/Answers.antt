@@ -23,5 +23,5 @@ pub returns-clause-memory : goal.returns-clause-memory
 returns-clause-memory c =
     let d = c.in_ok-view.ensures.found.1 in
     IfErr-weaker c.is_canonical_image.result _ (λ (f : Fault). f ≡ out_of_memory → (h : HeadFields) × (e : Extent)
-    × BeginsVolume h e c.args.input.now) (λ f why want. (head_of c.in_ok-view.view, d.extent, d.front))
+    × BeginsVolume h e c.args.input.now) (λ f why want. (head_of c.in_ok-view.view, d.extent, d.begins))
     c.is_canonical_image.ensures.err

@@ -8,11 +8,11 @@ use Rattle.fv_tree.specs.Words.{IsMeaning}
 use Rattle.fv_canon.proofs.laid_volume.lay_out_volume.Goals as goal
 
 pub returns-in_err-volume-clause-err : goal.returns-in_err-volume-clause-err
-returns-in_err-volume-clause-err c = rw (err_is c.from_residual.ensures.1) (not_read c.args.input.now _ c.in_err-volume.ensures.refused)
+returns-in_err-volume-clause-err c = rw (err_is c.from_residual.ensures.1) (not_read c.args.input.now _ c.in_err-volume.ensures.rejected)
 
 pub returns-in_err-volume-clause-fits : goal.returns-in_err-volume-clause-fits
 returns-in_err-volume-clause-fits c =
-    λ image to. rw (err_is c.from_residual.ensures.1) (not_read_never c.args.input.now image _ c.in_err-volume.ensures.refused to)
+    λ image to. rw (err_is c.from_residual.ensures.1) (not_read_never c.args.input.now image _ c.in_err-volume.ensures.rejected to)
 
 pub returns-in_err-places-clause-err : goal.returns-in_err-places-clause-err
 returns-in_err-places-clause-err c =

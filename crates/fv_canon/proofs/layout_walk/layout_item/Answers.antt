@@ -1,7 +1,7 @@
 use Rattle.std.proofs.Common.{arith}
 use Rattle.fv_file.specs.Words.{needs_large}
 use Rattle.fv_canon.proofs.PartBytesLaws.{data_short, head_most}
-use Rattle.fv_canon.proofs.layout_walk.layout_item.Goals as goal
+use Rattle.fv_canon.proofs.layout_walk.placement_item.Goals as goal
 
 pub header_len_for-header-requires : goal.header_len_for-header-requires
 header_len_for-header-requires c =

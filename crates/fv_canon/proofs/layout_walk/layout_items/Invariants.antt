@@ -1,6 +1,6 @@
 use Rattle.std.proofs.Common.{◌≡◌, map, take}
-use Rattle.fv_canon.specs.Words.{layout_item}
-use Rattle.fv_canon.proofs.layout_walk.layout_items.Given as goal
+use Rattle.fv_canon.specs.Words.{placement_item}
+use Rattle.fv_canon.proofs.layout_walk.placement_items.Given as goal
 
 abbrev pub invariant-loop-file : goal.invariant-loop-file
-invariant-loop-file l = l.items.items ≡ map layout_item (take l.file-index l.files)
+invariant-loop-file l = l.items.items ≡ map placement_item (take l.file-index l.files)

@@ -14,19 +14,19 @@ use Rattle.fv_canon.proofs.RejectedInputLaws.{unfit_kind_of}
 use Rattle.fv_canon.proofs.normalising.normalise.Goals as goal
 
 pub returns-in_err-view-clause-err : goal.returns-in_err-view-clause-err
-returns-in_err-view-clause-err c = rw (err_is c.from_residual.ensures.1) (not_read c.args.input.now _ c.in_err-view.ensures.refused)
+returns-in_err-view-clause-err c = rw (err_is c.from_residual.ensures.1) (not_read c.args.input.now _ c.in_err-view.ensures.rejected)
 
 pub returns-in_err-view-clause-fits : goal.returns-in_err-view-clause-fits
 returns-in_err-view-clause-fits c =
-    λ image to. rw (err_is c.from_residual.ensures.1) (not_read_never c.args.input.now image _ c.in_err-view.ensures.refused to)
+    λ image to. rw (err_is c.from_residual.ensures.1) (not_read_never c.args.input.now image _ c.in_err-view.ensures.rejected to)
 
 pub returns-in_err-view-clause-unfit : goal.returns-in_err-view-clause-unfit
 returns-in_err-view-clause-unfit c =
-    rw (err_is c.from_residual.ensures.1) (refused_unplaced c.args.input.now _ (not_read c.args.input.now _ c.in_err-view.ensures.refused))
+    rw (err_is c.from_residual.ensures.1) (refused_unplaced c.args.input.now _ (not_read c.args.input.now _ c.in_err-view.ensures.rejected))
 
 pub returns-in_err-view-clause-unread : goal.returns-in_err-view-clause-unread
 returns-in_err-view-clause-unread c =
-    rw (err_is c.from_residual.ensures.1) (unread_refused c.args.input.now _ (not_read c.args.input.now _ c.in_err-view.ensures.refused))
+    rw (err_is c.from_residual.ensures.1) (unread_refused c.args.input.now _ (not_read c.args.input.now _ c.in_err-view.ensures.rejected))
 
 pub returns-clause-ok : goal.returns-clause-ok
 returns-clause-ok c =
@@ -69,17 +69,17 @@ pub returns-clause-memory : goal.returns-clause-memory
 returns-clause-memory c =
     let d = c.in_ok-view.ensures.found.1 in
     IfErr-weaker c.canonical.result _ (λ (f : Fault). f ≡ out_of_memory → (h : HeadFields) × (e : Extent)
-    × BeginsVolume h e c.args.input.now) (λ f why same. (head_of c.in_ok-view.view, d.extent, d.front)) c.canonical.ensures.err
+    × BeginsVolume h e c.args.input.now) (λ f why same. (head_of c.in_ok-view.view, d.extent, d.begins)) c.canonical.ensures.err
 
-pub returns-in_err-view-clause-refused : goal.returns-in_err-view-clause-refused
-returns-in_err-view-clause-refused c = λ unfit. (
+pub returns-in_err-view-clause-rejected : goal.returns-in_err-view-clause-rejected
+returns-in_err-view-clause-rejected c = λ unfit. (
   rw (err_is c.from_residual.ensures.1) tt,
   rw (err_is c.from_residual.ensures.1)
-      (unfit_kind_of c.args.input.now _ (not_read c.args.input.now _ c.in_err-view.ensures.refused) unfit),
+      (unfit_kind_of c.args.input.now _ (not_read c.args.input.now _ c.in_err-view.ensures.rejected) unfit),
 )
 
-pub returns-clause-refused : goal.returns-clause-refused
-returns-clause-refused c =
+pub returns-clause-rejected : goal.returns-clause-rejected
+returns-clause-rejected c =
     let b : List ℕ = c.args.input.now in
     λ (unfit : IsUnfit b). (
       IfOk-weaker c.canonical.result _ (λ (bytes : List ℕ). ⊥)

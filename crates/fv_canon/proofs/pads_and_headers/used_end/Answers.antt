@@ -4,7 +4,7 @@ use Rattle.std.proofs.lemmas.Grind.{common_steps}
 use Rattle.std.proofs.lemmas.List.{length-map}
 use Rattle.fv_base.specs.Words.{volume_limit}
 use Rattle.fv_canon.specs.inner.FileWalks.{used_by}
-use Rattle.fv_canon.specs.Words.{layout_item, size_for}
+use Rattle.fv_canon.specs.Words.{placement_item, size_for}
 use Rattle.fv_placement.proofs.Laws.{follow_length}
 use Rattle.fv_tree.specs.Words.{data_len_of}
 use Rattle.fv_canon.proofs.VolumeWalks.{used_last}
@@ -17,8 +17,8 @@ one_more n l = omega (arith, l)
 pub bounds-own-last : goal.bounds-own-last
 bounds-own-last c =
     let some : 0 < length c.args.files.now = grind (arith, common_steps, c.is_empty.ensures, c.if-is_empty.false) in
-    let same : length c.args.own.now ≡ length c.args.files.now = follow_length c.requires.0 c.args.first (map layout_item c.args.files.now)
-    c.args.own.now c.requires.1.follow ∙ length-map c.args.files.now layout_item in
+    let same : length c.args.own.now ≡ length c.args.files.now = follow_length c.requires.0 c.args.first (map placement_item c.args.files.now)
+    c.args.own.now c.requires.1.follow ∙ length-map c.args.files.now placement_item in
     omega (arith, some, same)
 
 -- the last file ends where the used bytes end, within the limit of a volume's length

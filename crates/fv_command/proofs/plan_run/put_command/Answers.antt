@@ -1,7 +1,7 @@
 use Rattle.std.proofs.Common.{ℕ, subst}
 use Rattle.std.specs.Prelude.{Option}
 use Rattle.fv_text.specs.Words.{Change, change}
-use Rattle.fv_command.specs.Words.{SaysHobs, StopsHobs}
+use Rattle.fv_command.specs.Words.{HobsRunText, StopsHobs}
 use Rattle.fv_command.specs.inner.RunSteps.{Puts}
 use Rattle.fv_command.proofs.plan_run.put_command.Goals as goal
 
@@ -11,5 +11,5 @@ returns-in-Hobs g c =
     let list : Change = change g.First.Read.remaining c.args.first.now c.put_hob_list.new.first in
     let image : Change = change g.Second.Read.remaining c.args.second.now c.put_hob_list.new.second in
     rw c.in-Hobs.is
-    (subst (λ (base : Option ℕ). Puts g.S.Sink.takes (SaysHobs base hex list image) (StopsHobs base hex list image) c.args.out.now
+    (subst (λ (base : Option ℕ). Puts g.S.Sink.takes (HobsRunText base hex list image) (StopsHobs base hex list image) c.args.out.now
     c.put_hob_list.new.out c.put_hob_list.result) c.base_of.ensures c.put_hob_list.ensures)

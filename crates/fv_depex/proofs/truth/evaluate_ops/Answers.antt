@@ -16,7 +16,7 @@ loop-op-preserved c =
     ∙ ap (λ t. if t then Some (reverse c.evaluate_op.new.stack.items) else None) c.if-not-branch.false) c.loop-op.invariant
 
 pub returns-clause-value : goal.returns-clause-value
-returns-clause-value c = c.top.ensures ∙ sym (run_end c.args.installed.now c.args.ops.now (reverse c.loop-op.stack.items) c.loop-op.op-index
+returns-clause-value c = c.pop.ensures ∙ sym (run_end c.args.installed.now c.args.ops.now (reverse c.loop-op.stack.items) c.loop-op.op-index
     c.loop-op-test.false c.loop-op.invariant)
 
 pub loop-op-init : goal.loop-op-init

@@ -26,7 +26,7 @@ returns-in_err-cell-clause-first c =
     let used = rest_used _ _ c.args.body.now c.loop-system.at c.bytes_from.ensures (sym c.is_free.ensures ∙ c.loop-system-test.true) in
     rw (err_is c.from_residual-in_err-cell.ensures.1)
     (λ memory. first_here _ _ _ _ _ _ c.loop-system.invariant _ used
-    (ap (cell_verdict c.args.system c.args.polarity (c.args.first + c.loop-system.at)) (sym c.bytes_from-rest.ensures) ∙ c.in_err-cell.ensures.refused))
+    (ap (cell_verdict c.args.system c.args.polarity (c.args.first + c.loop-system.at)) (sym c.bytes_from-rest.ensures) ∙ c.in_err-cell.ensures.rejected))
 
 pub returns-in_err-cell-clause-some : goal.returns-in_err-cell-clause-some
 returns-in_err-cell-clause-some c =
@@ -98,7 +98,7 @@ returns-in_err-cell-clause-bound c =
     let used = rest_used _ _ c.args.body.now c.loop-system.at c.bytes_from.ensures (sym c.is_free.ensures ∙ c.loop-system-test.true) in
     rw (err_is c.from_residual-in_err-cell.ensures.1) (body_within _ _ _ _ _
     (first_here _ _ _ _ _ _ c.loop-system.invariant _ used
-    (ap (cell_verdict c.args.system c.args.polarity (c.args.first + c.loop-system.at)) (sym c.bytes_from-rest.ensures) ∙ c.in_err-cell.ensures.refused)))
+    (ap (cell_verdict c.args.system c.args.polarity (c.args.first + c.loop-system.at)) (sym c.bytes_from-rest.ensures) ∙ c.in_err-cell.ensures.rejected)))
 
 pub returns-in_err-push-clause-some : goal.returns-in_err-push-clause-some
 returns-in_err-push-clause-some c =

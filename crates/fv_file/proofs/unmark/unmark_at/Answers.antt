@@ -15,7 +15,7 @@ fixed : (c : Then-eq)
     × FixedThere c.args.polarity (c.args.first + c.args.at) (drop c.args.at c.args.body.now) c.in-Err.fault
 fixed c =
     let is : cell_verdict c.args.system c.args.polarity (c.args.first + c.args.at) (drop c.args.at c.args.body.now) ≡ Err c.in-Err.fault =
-    ap (cell_verdict c.args.system c.args.polarity (c.args.first + c.args.at)) (sym c.bytes_from.ensures) ∙ c.in-Err.ensures.refused in
+    ap (cell_verdict c.args.system c.args.polarity (c.args.first + c.args.at)) (sym c.bytes_from.ensures) ∙ c.in-Err.ensures.rejected in
     (is, fixed_there _ _ _ _ _ is (same_true the_type (search rules) _ _ (sym c.if-eq.ensures)))
 
 pub unmark-requires-clause-marked : goal.unmark-requires-clause-marked

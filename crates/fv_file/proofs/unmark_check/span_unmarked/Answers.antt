@@ -19,12 +19,12 @@ record Known (c : Then-eq) : Type 0 where
 known : (c : Then-eq) → Known c
 known c =
     let kind : c.in-Err.fault.kind ≡ kinds.Fixed = same_true the_type (search rules) _ _ (sym c.if-eq.ensures) in
-    record { kind = kind; there = fixed_there _ _ _ _ _ c.in-Err.ensures.refused kind }
+    record { kind = kind; there = fixed_there _ _ _ _ _ c.in-Err.ensures.rejected kind }
 
 within : (c : Then-eq) → (file_header_len_at c.args.rest.now ≤ file_size_at c.args.rest.now) × (file_size_at c.args.rest.now ≤ length c.args.rest.now)
 within c =
     let k = known c in
-    size_within c.args.system c.args.polarity c.args.at c.args.rest.now _ k.there.long c.in-Err.ensures.refused k.kind k.there.fixed
+    size_within c.args.system c.args.polarity c.args.at c.args.rest.now _ k.there.long c.in-Err.ensures.rejected k.kind k.there.fixed
 
 pub span_of-requires : goal.span_of-requires
 span_of-requires c =
@@ -43,14 +43,14 @@ sound_size-requires-clause-header c = (within (goal.at.sound_size-requires-claus
 pub sound_size-requires-clause-size : goal.sound_size-requires-clause-size
 sound_size-requires-clause-size c = (within (goal.at.sound_size-requires-clause-size c).Then-eq).1
 
-pub returns-in_err-size-in-Err-clause-refused : goal.returns-in_err-size-in-Err-clause-refused
-returns-in_err-size-in-Err-clause-refused c =
-    let k = known (goal.at.returns-in_err-size-in-Err-clause-refused c).Then-eq in
+pub returns-in_err-size-in-Err-clause-rejected : goal.returns-in_err-size-in-Err-clause-rejected
+returns-in_err-size-in-Err-clause-rejected c =
+    let k = known (goal.at.returns-in_err-size-in-Err-clause-rejected c).Then-eq in
     let found = c.in_err-size-in-Err.ensures.wrong in
     rw (err_is c.from_residual.ensures.1) (
       _,
-      inr (c.in-Err.ensures.refused ∙ ap Err k.there.fault, refl),
-      wrong_without c.args.system c.args.polarity c.args.at c.args.rest.now _ k.there.long c.in-Err.ensures.refused k.kind k.there.fixed found.1
+      inr (c.in-Err.ensures.rejected ∙ ap Err k.there.fault, refl),
+      wrong_without c.args.system c.args.polarity c.args.at c.args.rest.now _ k.there.long c.in-Err.ensures.rejected k.kind k.there.fixed found.1
           ∙ ap Err (sym found.0),
       λ e. let bad : kinds.FileSum ≡ kinds.Fixed = sym (ap (λ f. f.kind) found.0) ∙ e in cc,
     )
@@ -64,9 +64,9 @@ pub returns-then-eq-clause-found : goal.returns-then-eq-clause-found
 returns-then-eq-clause-found c =
     let k = known (goal.at.returns-then-eq-clause-found c).Then-eq in
     let right = c.in_ok-size-in-Err.ensures.right in
-    let cell = cell_without c.args.system c.args.polarity c.args.at c.args.rest.now _ k.there.long c.in-Err.ensures.refused k.kind k.there.fixed right.1 in (
+    let cell = cell_without c.args.system c.args.polarity c.args.at c.args.rest.now _ k.there.long c.in-Err.ensures.rejected k.kind k.there.fixed right.1 in (
       _,
-      inr (c.in-Err.ensures.refused ∙ ap Err k.there.fault, refl),
+      inr (c.in-Err.ensures.rejected ∙ ap Err k.there.fault, refl),
       (cell.0, cell.1, rw (c.up_to_8.ensures, right.0) (sym cell.2)),
       inr (rw (c.up_to_8.ensures, right.0) cell.3),
     )

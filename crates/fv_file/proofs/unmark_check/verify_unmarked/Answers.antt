@@ -21,10 +21,10 @@ loop-system-init c = walk_begins c.args.system c.args.polarity c.args.first c.ar
 pub returns-in_err-span-clause-first : goal.returns-in_err-span-clause-first
 returns-in_err-span-clause-first c =
     let used = rest_used _ _ c.args.body.now c.loop-system.at c.bytes_from.ensures (sym c.is_free.ensures ∙ c.loop-system-test.true) in
-    let refused = rw c.bytes_from-rest.ensures at c.in_err-span.ensures.refused in
-    let stops = walk_stops c.args.system c.args.polarity c.args.first c.args.body.now c.loop-system.at c.loop-system.invariant used refused.0 refused.1
-    _ refused.2 in
-    rw (err_is c.from_residual.ensures.1) (stops.0, stops.1, stops.2, stops.3, refused.3)
+    let rejected = rw c.bytes_from-rest.ensures at c.in_err-span.ensures.rejected in
+    let stops = walk_stops c.args.system c.args.polarity c.args.first c.args.body.now c.loop-system.at c.loop-system.invariant used rejected.0 rejected.1
+    _ rejected.2 in
+    rw (err_is c.from_residual.ensures.1) (stops.0, stops.1, stops.2, stops.3, rejected.3)
 
 pub overflow_add-at : goal.overflow_add-at
 overflow_add-at c = omega (arith, (further c).2, c.requires.place)

@@ -1,5 +1,5 @@
 use Rattle.std.proofs.Common.{◌∙◌, sym}
-use Rattle.fv_head.specs.Words.{front_checks, whole_checks}
+use Rattle.fv_head.specs.Words.{leading_checks, later_checks}
 use Rattle.fv_base.proofs.Laws.{first_front, first_whole, err_is}
 use Rattle.fv_head.proofs.HeadCheckLemmas.{verdict_err, verdict_extent}
 use Rattle.fv_head.proofs.header_checks.verdict.Goals as goal
@@ -8,16 +8,16 @@ pub returns-in_err-file_system : goal.returns-in_err-file_system
 returns-in_err-file_system c =
     let b = c.args.bytes.now in
     rw (err_is c.from_residual.ensures.1)
-    (sym (verdict_err _ b _ (first_front (front_checks b) (whole_checks b) _ c.in_err-file_system.ensures.err)))
+    (sym (verdict_err _ b _ (first_front (leading_checks b) (later_checks b) _ c.in_err-file_system.ensures.err)))
 
-pub returns-in_err-whole_verdict : goal.returns-in_err-whole_verdict
-returns-in_err-whole_verdict c =
+pub returns-in_err-later_verdict : goal.returns-in_err-later_verdict
+returns-in_err-later_verdict c =
     let b = c.args.bytes.now in
-    rw (err_is c.from_residual-in_err-whole_verdict.ensures.1) (sym (verdict_err _ b _
-    (first_whole (front_checks b) (whole_checks b) c.in_ok-file_system.ensures.ok.0 ∙ c.in_err-whole_verdict.ensures.err)))
+    rw (err_is c.from_residual-in_err-later_verdict.ensures.1) (sym (verdict_err _ b _
+    (first_whole (leading_checks b) (later_checks b) c.in_ok-file_system.ensures.ok.0 ∙ c.in_err-later_verdict.ensures.err)))
 
 pub returns : goal.returns
 returns c =
     let b = c.args.bytes.now in
-    rw c.extent_at.ensures (sym (verdict_extent b _ (first_whole (front_checks b) (whole_checks b) c.in_ok-file_system.ensures.ok.0
-    ∙ c.in_ok-whole_verdict.ensures.ok) c.in_ok-file_system.ensures.ok.1))
+    rw c.extent_at.ensures (sym (verdict_extent b _ (first_whole (leading_checks b) (later_checks b) c.in_ok-file_system.ensures.ok.0
+    ∙ c.in_ok-later_verdict.ensures.ok) c.in_ok-file_system.ensures.ok.1))

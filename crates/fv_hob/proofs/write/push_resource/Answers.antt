@@ -6,9 +6,9 @@ use Rattle.fv_hob.proofs.write.push_resource.Goals as goal
 
 pub returns : goal.returns
 returns c =
-    let said = c.args.said.now in
-    let owner = one_field (bytes_of said.owner) (no_field c.args.bytes.now.items) c.in_ok-push_guid.ensures in
-    let kind = one_field (le_bytes 4 said.resource_type) owner c.in_ok-push_u32.ensures in
-    let attribute = one_field (le_bytes 4 said.attribute) kind c.in_ok-push_u32-2.ensures in
+    let fields = c.args.fields.now in
+    let owner = one_field (bytes_of fields.owner) (no_field c.args.bytes.now.items) c.in_ok-push_guid.ensures in
+    let kind = one_field (le_bytes 4 fields.resource_type) owner c.in_ok-push_u32.ensures in
+    let attribute = one_field (le_bytes 4 fields.attribute) kind c.in_ok-push_u32-2.ensures in
     on_ok_weaker c.push_span.result
-    (λ end. (more_fields (le_bytes 8 said.start ∷ le_bytes 8 said.length ∷ []) attribute end).is) c.push_span.ensures
+    (λ end. (more_fields (le_bytes 8 fields.start ∷ le_bytes 8 fields.length ∷ []) attribute end).is) c.push_span.ensures

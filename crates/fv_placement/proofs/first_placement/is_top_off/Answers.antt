@@ -2,17 +2,17 @@ use Rattle.std.proofs.Common.{◌+◌, ◌<◌, ◌≤◌, ℕ, List, length, dr
 use Rattle.std.specs.Prelude.{IsTrue}
 use Rattle.std.proofs.lemmas.List.{drop_more, drop_all}
 use Rattle.fv_placement.specs.Words.{TopOff, IsOff}
-use Rattle.fv_placement.specs.declared.first_placement.LayoutItem.{LayoutItem}
+use Rattle.fv_placement.specs.declared.first_placement.PlacementItem.{PlacementItem}
 use Rattle.fv_placement.proofs.first_placement.is_top_off.Goals as goal
 use Rattle.fv_placement.proofs.first_placement.is_top_off.Goals.{else-item-via-then-item+else-is_off, else-item-via-else-item}
 use Rattle.fv_placement.proofs.UsableStartLaws.{not_true}
 
 -- an item that is off is found, and an item that is not off is passed over
-found : (total : ℕ) (fs : List LayoutItem) (i : ℕ) (d : LayoutItem) → i < length fs → (TopOff total (drop i fs) → TopOff total fs)
+found : (total : ℕ) (fs : List PlacementItem) (i : ℕ) (d : PlacementItem) → i < length fs → (TopOff total (drop i fs) → TopOff total fs)
     → IsTrue (get_or fs i d).top → IsOff total (get_or fs i d) → TopOff total fs
 found total fs i d l back top off = back (subst (TopOff total) (sym (drop_more fs i d l)) (inl (top, off)))
 
-passed : (total : ℕ) (fs : List LayoutItem) (i : ℕ) (d : LayoutItem) → i < length fs
+passed : (total : ℕ) (fs : List PlacementItem) (i : ℕ) (d : PlacementItem) → i < length fs
     → (IsTrue (get_or fs i d).top → IsOff total (get_or fs i d) → ⊥)
     → (TopOff total (drop i fs) → TopOff total fs) × (TopOff total fs → TopOff total (drop i fs))
     → (TopOff total (drop (i + 1) fs) → TopOff total fs) × (TopOff total fs → TopOff total (drop (i + 1) fs))
@@ -21,7 +21,7 @@ passed total fs i d l not both = (
   λ o. elim (subst (TopOff total) (drop_more fs i d l) (both.1 o)) [ inl h ↦ absurd (not h.0 h.1) | inr h ↦ h ],
 )
 
-ended : (total : ℕ) (fs : List LayoutItem) (i : ℕ) → length fs ≤ i → TopOff total (drop i fs) → ⊥
+ended : (total : ℕ) (fs : List PlacementItem) (i : ℕ) → length fs ≤ i → TopOff total (drop i fs) → ⊥
 ended total fs i l o = subst (TopOff total) (drop_all i fs l) o
 
 pub loop-item-init : goal.loop-item-init

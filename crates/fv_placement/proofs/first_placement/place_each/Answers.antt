@@ -27,7 +27,7 @@ up_to_8-edge-requires c =
     let bound = bound_at c.args.total c.args.items.now c.args.reaches.now c.loop-i.i _ past c.requires.reaches
     (c.reach_after.ensures.known past) c.reach_after.ensures.unknown in
     let inside = stands c.args.total c.loop-i.edge _ _ c.in-Some.start bound.greatest c.in-Some.ensures.found.lawful
-    c.in-Some.ensures.found.serves in
+    c.in-Some.ensures.found.usable in
     omega (arith, inside.within)
 
 pub loop-i-preserved : goal.loop-i-preserved
@@ -35,7 +35,7 @@ loop-i-preserved c =
     let bound = bound_at c.args.total c.args.items.now c.args.reaches.now c.loop-i.i _ past c.requires.reaches
     (c.reach_after.ensures.known past) c.reach_after.ensures.unknown in
     let chosen = c.in-Some.ensures.found in
-    let inside = stands c.args.total c.loop-i.edge _ _ c.in-Some.start bound.greatest chosen.lawful chosen.serves in
+    let inside = stands c.args.total c.loop-i.edge _ _ c.in-Some.start bound.greatest chosen.lawful chosen.usable in
     let pushed : c.push.new.self.items ≡ c.loop-i.starts.items ++ c.in-Some.start ∷ [] = grind (arith, common_steps) in
     record {
       eighth = rw c.up_to_8-edge.ensures (edge_eighth _);
@@ -45,7 +45,7 @@ loop-i-preserved c =
       can = rw c.up_to_8-edge.ensures (λ long exact p.
           let known : c.loop-i.i < length c.args.reaches.now = omega (arith, c.loop-i-test.true, long) in
           (reach_at c.args.total c.args.items.now c.args.reaches.now c.loop-i.i _ past exact known
-          (c.reach_after.ensures.known past known)).sound _ (edge_eighth _) chosen.serves.edge);
+          (c.reach_after.ensures.known past known)).sound _ (edge_eighth _) chosen.usable.edge);
     }
 
 pub returns-clause-found : goal.returns-clause-found

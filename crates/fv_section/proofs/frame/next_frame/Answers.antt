@@ -19,7 +19,7 @@ returns-clause-only c = λ g stands.
 pub returns-in_err-frame-clause-first : goal.returns-in_err-frame-clause-first
 returns-in_err-frame-clause-first c =
     rw (err_is c.from_residual.ensures.1)
-    (verdict_first c.args.at _ _ (sym (verdict_rest c.args.at c.args.stream.now) ∙ c.in_err-frame.ensures.refused))
+    (verdict_first c.args.at _ _ (sym (verdict_rest c.args.at c.args.stream.now) ∙ c.in_err-frame.ensures.rejected))
 
 pub returns-in_err-frame-clause-none : goal.returns-in_err-frame-clause-none
 returns-in_err-frame-clause-none c =

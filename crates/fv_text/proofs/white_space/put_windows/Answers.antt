@@ -12,9 +12,9 @@ loop-i-preserved c =
       | then-is_dense w ↦ rw (w.room-is, w.end-is) (
         omega (arith, below),
         search rules,
-        window_put (take c.args.start c.args.room.now) c.loop-i.room w.place.new.buffer c.args.text.now c.loop-i.end _ c.loop-i.i so_far
-            (dense_put c.loop-i.room w.place.new.buffer window c.loop-i.end (search rules) (c.is_dense.ensures w.if-is_dense.true)
-            w.place.ensures.placed),
+        window_put (take c.args.start c.args.room.now) c.loop-i.room w.copy_to.new.buffer c.args.text.now c.loop-i.end _ c.loop-i.i so_far
+            (dense_put c.loop-i.room w.copy_to.new.buffer window c.loop-i.end (search rules) (c.is_dense.ensures w.if-is_dense.true)
+            w.copy_to.ensures.copied),
       )
       | else-is_dense w ↦ rw (w.room-is, w.end-is) (
         search rules,

@@ -1,6 +1,6 @@
 use Rattle.std.proofs.Common.{◌≡◌, ◌+◌, ◌==◌, sym, ap, ◌∙◌, arith}
-use Rattle.fv_tree.specs.Words.{unless_one}
-use Rattle.fv_tree.specs.declared.difference.Word.TheVariants as words
+use Rattle.fv_tree.specs.Words.{differ_unless}
+use Rattle.fv_tree.specs.declared.difference.DifferenceKind.TheVariants as kinds
 use Rattle.fv_tree.specs.Words.{files_from, sections_from, content_view, body_view}
 use Rattle.fv_tree.specs.inner.Sizes.{volume_size, files_size, content_size, sections_size, body_size}
 use Rattle.fv_tree.proofs.DifferenceWalkLaws.{files_uneven, sections_uneven, volume_word}
@@ -44,15 +44,15 @@ files_difference-file_difference-requires t c =
 pub volume_difference-returns-in-Some : goal.volume_difference-returns-in-Some
 volume_difference-returns-in-Some t c =
     c.differ_in.ensures
-    ∙ sym (volume_word c.args.volume.now c.args.other.now c.head.result.now c.head-2.result.now c.head_word.result c.in-Some.word
-    c.head.ensures.head c.head-2.ensures.head c.head_word.ensures c.in-Some.is)
+    ∙ sym (volume_word c.args.volume.now c.args.other.now c.head.result.now c.head-2.result.now c.head_difference_kind.result c.in-Some.word
+    c.head.ensures.head c.head-2.ensures.head c.head_difference_kind.ensures c.in-Some.is)
 
 -- ---- streams
 
 pub stream_difference-returns-then-not-sections-others : goal.stream_difference-returns-then-not-sections-others
 stream_difference-returns-then-not-sections-others t c =
     c.differ_in.ensures
-    ∙ sym (sections_uneven c.args.sections.now c.args.others.now c.loop-i.i (unless_one (c.args.tail == c.args.other_tail) words.Tail)
+    ∙ sym (sections_uneven c.args.sections.now c.args.others.now c.loop-i.i (differ_unless (c.args.tail == c.args.other_tail) kinds.Tail)
     (omega arith) (omega arith) c.if-not-sections-others.true c.loop-i.invariant)
 
 -- ---- files

@@ -18,8 +18,8 @@ returns-clause-none c =
 pub returns-clause-one : goal.returns-clause-one
 returns-clause-one c = one_answer c.args.bytes.now c.read_at.result c.read_at.ensures.read c.read_at.ensures.length
 
-pub returns-clause-stands : goal.returns-clause-stands
-returns-clause-stands c =
+pub returns-clause-holds : goal.returns-clause-holds
+returns-clause-holds c =
     MatchResult-weaker c.read_at.result c.read_at.ensures.read (λ _ _. tt) (λ e first ne. fault_stands c.args.bytes.now e (first ne))
 
 pub returns-clause-bound : goal.returns-clause-bound

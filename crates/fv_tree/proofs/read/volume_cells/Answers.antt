@@ -42,4 +42,4 @@ returns-in_err-list-clause-memory c =
 
 pub returns-clause-found : goal.returns-clause-found
 returns-clause-found c =
-    let found = c.in_ok-extent.ensures.found in record { head = found.0; front = found.1; tiles = c.in_ok-list.ensures.found }
+    let found = c.in_ok-extent.ensures.found in record { head = found.0; begins = found.1; tiles = c.in_ok-list.ensures.found }

@@ -2,7 +2,7 @@ use Rattle.std.proofs.Common.{◌≢◌, map, inl, inr, subst, sym, rules}
 use Rattle.std.specs.Prelude.{IfErr, Ok}
 use Rattle.fv_base.proofs.Laws.{err_is, bytes_take}
 use Rattle.fv_base.specs.Words.{IsBytes, out_of_memory, depth_limit}
-use Rattle.fv_tree.specs.Words.{head_of, FaultStandsInInput, file_form}
+use Rattle.fv_tree.specs.Words.{head_of, FaultHoldsInInput, file_form}
 use Rattle.fv_tree.proofs.FaultLaws.{fault_stands}
 use Rattle.fv_tree.proofs.FirstLaws.{only_answer}
 use Rattle.fv_tree.proofs.LocatedLaws.{begun_data}
@@ -10,12 +10,12 @@ use Rattle.fv_tree.proofs.VolumePartLaws.{front_of}
 use Rattle.fv_tree.proofs.WholeInputLaws.{volume_refused, goes_on, end_refused, end_found, end_only, stood_kind}
 use Rattle.fv_tree.proofs.read.whole_volume_with_files.Goals as goal
 
-pub returns-in_err-view-clause-refused : goal.returns-in_err-view-clause-refused
-returns-in_err-view-clause-refused c = rw (err_is c.from_residual.ensures.1) (volume_refused c.args.input.now _ c.in_err-view.ensures.read)
+pub returns-in_err-view-clause-rejected : goal.returns-in_err-view-clause-rejected
+returns-in_err-view-clause-rejected c = rw (err_is c.from_residual.ensures.1) (volume_refused c.args.input.now _ c.in_err-view.ensures.read)
 
-pub returns-in_err-view-clause-stands : goal.returns-in_err-view-clause-stands
-returns-in_err-view-clause-stands c =
-    subst (λ r. IfErr r (λ f. f ≢ out_of_memory → FaultStandsInInput c.args.input.now f)) (sym (err_is c.from_residual.ensures.1))
+pub returns-in_err-view-clause-holds : goal.returns-in_err-view-clause-holds
+returns-in_err-view-clause-holds c =
+    subst (λ r. IfErr r (λ f. f ≢ out_of_memory → FaultHoldsInInput c.args.input.now f)) (sym (err_is c.from_residual.ensures.1))
     (λ other. inl (fault_stands c.args.input.now _ (c.in_err-view.ensures.read other)))
 
 pub returns-in_err-view-clause-kind : goal.returns-in_err-view-clause-kind
@@ -26,8 +26,8 @@ returns-in_err-view-clause-kind c =
 pub returns-in_err-view-clause-memory : goal.returns-in_err-view-clause-memory
 returns-in_err-view-clause-memory c = rw (err_is c.from_residual.ensures.1) c.in_err-view.ensures.memory
 
-pub returns-in_err-check-clause-refused : goal.returns-in_err-check-clause-refused
-returns-in_err-check-clause-refused c =
+pub returns-in_err-check-clause-rejected : goal.returns-in_err-check-clause-rejected
+returns-in_err-check-clause-rejected c =
     let b = c.args.input.now in
     let read = c.in_ok-view.ensures.read in
     let long = c.in_ok-view.ensures.length in
@@ -36,11 +36,11 @@ returns-in_err-check-clause-refused c =
     (inr (end_refused b _ c.in_ok-view.view c.in_ok-view.length (bytes_take c.in_ok-view.length b small, read) long
     c.in_err-check.ensures.err.0 c.in_err-check.ensures.err.1 (only_answer b (Ok (c.in_ok-view.view, c.in_ok-view.length)) read long)))
 
-pub returns-in_err-check-clause-stands : goal.returns-in_err-check-clause-stands
-returns-in_err-check-clause-stands c =
+pub returns-in_err-check-clause-holds : goal.returns-in_err-check-clause-holds
+returns-in_err-check-clause-holds c =
     let b = c.args.input.now in
     let small : IsBytes c.args.input.now = search rules in
-    subst (λ r. IfErr r (λ f. f ≢ out_of_memory → FaultStandsInInput c.args.input.now f)) (sym (err_is c.from_residual-in_err-check.ensures.1))
+    subst (λ r. IfErr r (λ f. f ≢ out_of_memory → FaultHoldsInInput c.args.input.now f)) (sym (err_is c.from_residual-in_err-check.ensures.1))
     (λ other. inr (goes_on b _ c.in_ok-view.view c.in_ok-view.length (bytes_take c.in_ok-view.length b small, c.in_ok-view.ensures.read)
     c.in_ok-view.ensures.length c.in_err-check.ensures.err.0 c.in_err-check.ensures.err.1))
 

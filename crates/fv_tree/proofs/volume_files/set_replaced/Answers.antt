@@ -10,19 +10,19 @@ use Rattle.fv_tree.specs.Words.{file_form, state_by, FileForm, NoTwins, is_marke
 use Rattle.fv_tree.specs.declared.volume_files.LocatedFile.{LocatedFile}
 use Rattle.fv_tree.specs.declared.volume_files.Mark.{Mark}
 use Rattle.fv_tree.specs.inner.NameForms.{named_file}
-use Rattle.fv_tree.specs.inner.ReadingParts.{is_noted}
+use Rattle.fv_tree.specs.inner.ReadingParts.{is_replaced}
 use Rattle.fv_tree.proofs.NamedLaws.{file_within, no_file, replaced_at, replaced_marked, same_named, twins_to}
 use Rattle.fv_tree.proofs.volume_files.set_replaced.Goals as goal
 
 -- one of the files replaces file number n
-abbrev is_replaced : List FileForm → FileForm → ℕ → Bool
-is_replaced fs d n = list_any (replaced_by (get_or fs n d)) fs
+abbrev is_replaced_in : List FileForm → FileForm → ℕ → Bool
+is_replaced_in fs d n = list_any (replaced_by (get_or fs n d)) fs
 
 -- each file of the first entries is noted as replaced exactly if one of the files replaces it
 abbrev Noted : List FileForm → List Entry → List LocatedFile → ℕ → Type 0
 Noted fs es files place =
     (s : LocatedFile) (d : FileForm) (e : Entry) (p : ℕ) → p < place
-    → is_noted (get_or files (get_or es p e).1 s).mark ≡ is_replaced fs d (get_or es p e).1
+    → is_replaced (get_or files (get_or es p e).1 s).mark ≡ is_replaced_in fs d (get_or es p e).1
 
 -- the file, with another mark
 abbrev with_mark : LocatedFile → Mark → LocatedFile
@@ -42,7 +42,7 @@ noted_same files n m l same =
 
 noted_more : (fs : List FileForm) (es : List Entry) (files : List LocatedFile) (place n : ℕ) (m : Mark) → place < length es
     → n < length files → ((e : Entry) → n ≡ (get_or es place e).1)
-    → ((d : FileForm) (e : Entry) → is_noted m ≡ is_replaced fs d (get_or es place e).1)
+    → ((d : FileForm) (e : Entry) → is_replaced m ≡ is_replaced_in fs d (get_or es place e).1)
     → Noted fs es files place → Noted fs es (slice_set files n (with_mark (get_or files n no_file) m)) (place + 1)
 noted_more fs es files place n m inside l number is old s d e p below = go (cases_eq (get_or es p e).1 n) where
   new : LocatedFile
@@ -51,17 +51,17 @@ noted_more fs es files place n m inside l number is old s d e p below = go (case
   k : ℕ
   k = (get_or es p e).1
 
-  other : k ≢ n → (p < place) ⊎ (place ≤ p) → is_noted (get_or (slice_set files n new) k s).mark ≡ is_replaced fs d k
-  other differ (inl lt) = ap (λ (x : LocatedFile). is_noted x.mark) (get_or-set_other files n k new s differ) ∙ old s d e p lt
+  other : k ≢ n → (p < place) ⊎ (place ≤ p) → is_replaced (get_or (slice_set files n new) k s).mark ≡ is_replaced_in fs d k
+  other differ (inl lt) = ap (λ (x : LocatedFile). is_replaced x.mark) (get_or-set_other files n k new s differ) ∙ old s d e p lt
   other differ (inr ge) =
       let here : p ≡ place = omega (arith, ge, below) in
       absurd (differ (ap (λ (j : ℕ). (get_or es j e).1) here ∙ sym (number e)))
 
-  go : (k ≡ n) ⊎ (k ≢ n) → is_noted (get_or (slice_set files n new) k s).mark ≡ is_replaced fs d k
+  go : (k ≡ n) ⊎ (k ≢ n) → is_replaced (get_or (slice_set files n new) k s).mark ≡ is_replaced_in fs d k
   go (inl same) =
-      ap (λ (j : ℕ). is_noted (get_or (slice_set files n new) j s).mark) same
-      ∙ ap (λ (x : LocatedFile). is_noted x.mark) (get_or-set_same files n new s l)
-      ∙ is d e ∙ ap (is_replaced fs d) (sym (same ∙ number e))
+      ap (λ (j : ℕ). is_replaced (get_or (slice_set files n new) j s).mark) same
+      ∙ ap (λ (x : LocatedFile). is_replaced x.mark) (get_or-set_same files n new s l)
+      ∙ is d e ∙ ap (is_replaced_in fs d) (sym (same ∙ number e))
   go (inr differ) = other differ (cases_lt p place)
 
 pub is_replaced-replaced-requires-clause-index : goal.is_replaced-replaced-requires-clause-index
@@ -69,9 +69,9 @@ is_replaced-replaced-requires-clause-index c =
     subst (λ (fs : List NamedFile). IsIndex (names_in fs) (entries_of c.args.index.now))
     (sym (same_named c.loop-place.files c.args.files.now c.loop-place.invariant.same)) c.requires.index
 
-pub is_replaced-replaced-requires-clause-apart : goal.is_replaced-replaced-requires-clause-apart
-is_replaced-replaced-requires-clause-apart c =
-    twins_to c.loop-place.files (subst NoTwins (sym c.loop-place.invariant.same) c.requires.apart)
+pub is_replaced-replaced-requires-clause-no_twins : goal.is_replaced-replaced-requires-clause-no_twins
+is_replaced-replaced-requires-clause-no_twins c =
+    twins_to c.loop-place.files (subst NoTwins (sym c.loop-place.invariant.same) c.requires.no_twins)
 
 pub bounds-files-number : goal.bounds-files-number
 bounds-files-number c =
@@ -87,7 +87,7 @@ bounds-files-number-in-loop-place c =
 said : (old files : List LocatedFile) (es : List Entry) (place n : ℕ) (t : Bool) → map file_form files ≡ map file_form old
     → n < length files → ((e : Entry) → n ≡ (get_or es place e).1)
     → ((d : NamedFile) (e : Entry) → t ≡ list_any (names.replaced_by (get_or (map named_file files) (get_or es place e).1 d)) (map named_file files))
-    → (d : FileForm) → t ≡ is_replaced (map file_form old) d n
+    → (d : FileForm) → t ≡ is_replaced_in (map file_form old) d n
 said old files es place n t same l number is d =
     is no_named no_entry
     ∙ ap (λ (k : ℕ). list_any (names.replaced_by (get_or (map named_file files) k no_named)) (map named_file files)) (sym (number no_entry))
@@ -95,7 +95,7 @@ said old files es place n t same l number is d =
 
 -- only a file that is marked for update is replaced
 marked_so : (old files : List LocatedFile) (n : ℕ) (t : Bool) → map file_form files ≡ map file_form old → n < length files
-    → t ≡ is_replaced (map file_form old) (file_form no_file) n → t ≡ true
+    → t ≡ is_replaced_in (map file_form old) (file_form no_file) n → t ≡ true
     → is_marked (state_by (get_or files n no_file).mark) ≡ true
 marked_so old files n t same l is on =
     let d : FileForm = file_form no_file in
@@ -134,7 +134,7 @@ loop-place-preserved c =
     record {
       same = noted_same files n m l c.with_replaced.ensures.same ∙ same;
       noted = noted_more fs es files place n m inside l number
-          (λ d e. c.with_replaced.ensures.noted ∙ is d ∙ ap (is_replaced fs d) (number e))
+          (λ d e. c.with_replaced.ensures.replaced ∙ is d ∙ ap (is_replaced_in fs d) (number e))
           c.loop-place.invariant.noted;
     }
 
@@ -159,5 +159,5 @@ returns-clause-replaced c = λ k s l.
     let at : get_or fs k d ≡ file_form (get_or files k s) =
     ap (λ (gs : List FileForm). get_or gs k d) (sym same) ∙ get_or-map file_form files k s d l in
     let noted = c.loop-place.invariant.noted s d no_entry r.0 (omega (arith, r.1)) in
-    ap (λ (n : ℕ). is_noted (get_or files n s).mark) (sym number) ∙ noted ∙ ap (is_replaced fs d) number
+    ap (λ (n : ℕ). is_replaced (get_or files n s).mark) (sym number) ∙ noted ∙ ap (is_replaced_in fs d) number
     ∙ ap (λ (f : FileForm). list_any (replaced_by f) fs) at ∙ ap (list_any (replaced_by (file_form (get_or files k s)))) (sym same)

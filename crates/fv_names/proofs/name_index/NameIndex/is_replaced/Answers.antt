@@ -17,7 +17,7 @@ returns-then-shares_its_name g c = λ d e.
     let inside : c.args.place < length es = omega arith in
     let number : c.index.result.now.1 ≡ (get_or es c.args.place e).1 =
     ap (λ (x : Entry). x.1) (c.index.ensures ∙ get_or_default es c.args.place c.index.result.now e inside) in
-    marked_replaced fs es c.requires.index d e c.requires.apart c.args.place c.is_marked_at.result inside
+    marked_replaced fs es c.requires.index d e c.requires.no_twins c.args.place c.is_marked_at.result inside
     (c.shares_its_name.ensures.yes (search rules) e) (c.is_marked_at.ensures d ∙ ap (mark_at fs d) number)
 
 pub returns-else-shares_its_name : goal.returns-else-shares_its_name

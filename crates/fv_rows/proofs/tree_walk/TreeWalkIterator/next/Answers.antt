@@ -26,13 +26,13 @@ pub push-requires-in-Some-split : goal.push-requires-in-Some-split
 push-requires-in-Some-split c =
     let are = subst (AreLevels 0) c.in-Some.ensures.some c.loop-level.invariant.levels in
     let fits = next_fits c.pop.new.self c.in-Some.level _ _ c.in-Some-split.ensures.some are in
-    let rest : Level = record { number = c.in-Some.level.number + 1; nesting = c.in-Some.level.nesting; held = c.in-Some-split.rest } in
+    let rest : Level = record { number = c.in-Some.level.number + 1; nesting = c.in-Some.level.nesting; parts = c.in-Some-split.rest } in
     (omega arith, omega (arith, fits.0, ap length c.push.ensures, length-append c.pop.new.self (rest ∷ [])))
 
 pub invariant_of-self : goal.invariant_of-self
 invariant_of-self c =
     let are = subst (AreLevels 0) c.in-Some.ensures.some c.loop-level.invariant.levels in
-    let pushed = c.push-in-Some-split.ensures ∙ ap (λ l. l ++ record { number = 0; nesting = c.nesting_inside.result; held = c.parts_in.result } ∷ []) c.push.ensures in
+    let pushed = c.push-in-Some-split.ensures ∙ ap (λ l. l ++ record { number = 0; nesting = c.nesting_inside.result; parts = c.parts_in.result } ∷ []) c.push.ensures in
     subst (AreLevels 0) (sym pushed)
     (next_are c.pop.new.self c.in-Some.level _ _ c.in-Some-split.ensures.some are _ _ refl refl refl refl c.nesting_inside.ensures
     c.parts_in.ensures.nodes c.parts_in.ensures.few)
@@ -40,9 +40,9 @@ invariant_of-self c =
 pub returns-in-Some-split : goal.returns-in-Some-split
 returns-in-Some-split c =
     let are = subst (AreLevels 0) c.in-Some.ensures.some c.loop-level.invariant.levels in
-    let pushed = c.push-in-Some-split.ensures ∙ ap (λ l. l ++ record { number = 0; nesting = c.nesting_inside.result; held = c.parts_in.result } ∷ []) c.push.ensures in
-    let rest : Level = record { number = c.in-Some.level.number + 1; nesting = c.in-Some.level.nesting; held = c.in-Some-split.rest } in
-    let inside : Level = record { number = 0; nesting = c.nesting_inside.result; held = c.parts_in.result } in
+    let pushed = c.push-in-Some-split.ensures ∙ ap (λ l. l ++ record { number = 0; nesting = c.nesting_inside.result; parts = c.parts_in.result } ∷ []) c.push.ensures in
+    let rest : Level = record { number = c.in-Some.level.number + 1; nesting = c.in-Some.level.nesting; parts = c.in-Some-split.rest } in
+    let inside : Level = record { number = 0; nesting = c.nesting_inside.result; parts = c.parts_in.result } in
     let node = part_node c.in-Some-split.part in
     let left = left_in 0 ((c.pop.new.self ++ rest ∷ []) ++ inside ∷ []) in
     let steps = sym c.self.view_is ∙ c.loop-level.invariant.left ∙ ap (left_in 0) c.in-Some.ensures.some
