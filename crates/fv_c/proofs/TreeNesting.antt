@@ -43,7 +43,7 @@ module _ (s s' : StreamRelation) (streams : StreamsLift s s') where
   volume_lifts b m d = record {
     extent = d.extent;
     begins = d.begins;
-    whole = d.whole;
+    length_is = d.length_is;
     cells = d.cells;
     tiles = d.tiles;
     files = d.files;

@@ -40,7 +40,7 @@ file_lies input at n f within h = part_of input at n (data_place f) f.payload wi
 frame_in_stream : (f : FrameForm) (b : List ℕ) → HasFrameAt f f.offset b → LieAt b (body_place f) f.body
 frame_in_stream f b s =
     let h = s.begins.head in
-    let whole : length h ≡ section_header_len f.extended = s.begins.is_header.whole in
+    let whole : length h ≡ section_header_len f.extended = s.begins.is_header.header_length in
     let cut : drop (length h) (drop f.offset b) ≡ f.body ++ s.rest =
     ap (λ (l : List ℕ). drop (length h) l) s.begins.text ∙ drop-append_seam h (f.body ++ s.rest) in
     let moved : drop (length h) (drop f.offset b) ≡ drop (body_place f) b = grind (arith, common_steps, whole) in (

@@ -402,10 +402,10 @@ module _ {input : List ℕ} {m : Meaning} (accepted_input : Accepted input m) wh
   whole : length_of m ≡ length input
   whole = go m accepted_input where
     go : (v : Meaning) → Accepted input v → length_of v ≡ length input
-    go (Volume hd files) a = sym (a.1.whole ∙ a.1.begins.length_is)
+    go (Volume hd files) a = sym (a.1.length_is ∙ a.1.begins.length_is)
 
   within_limit : length input ≤ volume_limit
-  within_limit = omega (arith, accepted_input.1.begins.head.volume_most, accepted_input.1.begins.length_is, accepted_input.1.whole)
+  within_limit = omega (arith, accepted_input.1.begins.head.volume_most, accepted_input.1.begins.length_is, accepted_input.1.length_is)
 
   all_bytes : bytes_at input node_of_root ≡ input
   all_bytes = take_all (length_of m) input (omega (arith, whole))

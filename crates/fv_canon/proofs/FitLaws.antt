@@ -4,7 +4,7 @@ use Rattle.std.proofs.Common.{◌≡◌, ◌⊎◌, inl, inr, ◌+◌, ℕ, List
 use Rattle.fv_base.specs.declared.fault.Fault.{Fault}
 use Rattle.fv_base.specs.declared.fault.FaultKind.TheVariants as kinds
 use Rattle.fv_head.specs.Words.{first_edge}
-use Rattle.fv_placement.specs.Words.{HasNoRoom, TopOff, IsFirstPlacement}
+use Rattle.fv_placement.specs.Words.{HasNoRoom, TopMisaligned, IsFirstPlacement}
 use Rattle.fv_placement.proofs.Laws.{agree, placed_or_not, top_none}
 use Rattle.fv_tree.specs.Words.{Meaning, head_of, length_of, Inside, volumes_in}
 use Rattle.fv_canon.specs.Words.{IsOfLayout, Rejects, WhatDoesNotFitIsRejected, placement_items, AreStarts, IsPlaced, Fits, AreLeast, StartsOfEach}
@@ -65,7 +65,7 @@ here_or : (m : Meaning) (depth : ℕ) → ((starts : List ℕ)
 here_or m depth = go (placed_or_not (length_of m) (first_edge (head_of m) (head_of m).ext) (placement_items m))
   where
     go : ((starts : List ℕ) × IsFirstPlacement (length_of m) (first_edge (head_of m) (head_of m).ext) (placement_items m) starts)
-        ⊎ (TopOff (length_of m) (placement_items m)
+        ⊎ (TopMisaligned (length_of m) (placement_items m)
         ⊎ HasNoRoom (length_of m) (first_edge (head_of m) (head_of m).ext) (placement_items m)) → ((starts : List ℕ)
         × IsFirstPlacement (length_of m) (first_edge (head_of m) (head_of m).ext) (placement_items m) starts) ⊎ ((f : Fault) × UnfitHere m depth f)
     go (inl placed) = inl placed

@@ -35,7 +35,7 @@ file_more p q more f (File name kind attributes content) (a, b, c, d) = (a, b, c
 volume_more : (p q : StreamRelation) → ((ss : List SectionMeaning) (n : ℕ) (b : List ℕ) → p ss n b → q ss n b) → (b : List ℕ) (m : Meaning)
     → VolumeOver p b m → VolumeOver q b m
 volume_more p q more b m d =
-    volume_of q b m d.extent d.files d.begins d.whole (record { cells = d.cells; tiles = d.tiles; current = d.current })
+    volume_of q b m d.extent d.files d.begins d.length_is (record { cells = d.cells; tiles = d.tiles; current = d.current })
     (pairs_more (MeansFile p) (MeansFile q) (file_more p q more) d.files (files_of m) d.meanings)
 
 section_more : (p q : StreamRelation) (v w : VolumeRelation) → ((ss : List SectionMeaning) (n : ℕ) (b : List ℕ) → p ss n b → q ss n b)

@@ -32,7 +32,7 @@ image_accepted m image (n, l, b, small, d) is =
 
 -- the image has the length that its header states, which is within the limit
 pub image_length : (m : Meaning) (image : List ℕ) → IsMeaning m → IsImage m image → length image ≡ (head_of m).length
-image_length m image (n, l, b, small, d) is = image_long n m b image small d is ∙ d.whole ∙ d.begins.length_is
+image_length m image (n, l, b, small, d) is = image_long n m b image small d is ∙ d.length_is ∙ d.begins.length_is
 
 pub length_limit : (m : Meaning) → IsMeaning m → (head_of m).length ≤ volume_limit
 length_limit m (n, l, b, small, d) = omega (arith, (front_lies b (head_of m) d.extent d.begins).limit, d.begins.length_is)

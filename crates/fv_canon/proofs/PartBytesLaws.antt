@@ -125,7 +125,7 @@ parts_fit (Volume h files) (n, few, b, small, d) =
     let body : ℕ = length (drop d.extent.first b) in
     let lies = front_lies b h d.extent d.begins in
     let behind = first_behind h.ext d.extent b d.begins.ext in
-    let whole : length b ≡ h.length = d.whole ∙ d.begins.length_is in
+    let whole : length b ≡ h.length = d.length_is ∙ d.begins.length_is in
     are_parts n h.file_system body h.length d.files (files_list files)
     (λ k l. room body (length b) d.extent.first d.extent.header_len h.length k (length-drop d.extent.first b) whole lies.least behind l)
     (files_read (Stream n) h files b small d) d.meanings

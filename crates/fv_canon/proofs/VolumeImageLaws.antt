@@ -233,7 +233,7 @@ opened h e o front whole =
       least = omega (arith, long, front.long_enough);
       signature = sym (field-take 40 4 n o (omega (arith, long))) ∙ front.head.signature;
       file_system = (h.file_system, sym (field-take 16 16 n o (omega (arith, long))) ∙ front.head.file_system);
-      whole = ap le (sym (field-take 32 8 n o (omega (arith, long)))) ∙ front.head.volume_length ∙ sym whole;
+      length_is = ap le (sym (field-take 32 8 n o (omega (arith, long)))) ∙ front.head.volume_length ∙ sym whole;
     }
 
 -- the facts about a volume that was read, and about the files that are stored and placed for it
@@ -262,7 +262,7 @@ known is_stream streams h files b small d stored starts are placed =
     let lies = front_lies b h e d.begins in
     let body : List ℕ = drop e.first b in
     let current = files_read is_stream h files b small d in
-    let limit : length body ≤ 24 + data_limit = most (length body) (length b) e.first e.header_len e.length (length-drop e.first b) d.whole
+    let limit : length body ≤ 24 + data_limit = most (length body) (length b) e.first e.header_len e.length (length-drop e.first b) d.length_is
     lies.limit lies.least (first_behind h.ext e b d.begins.ext) in
     let a = files_again is_stream streams h.file_system (length body) files d.files stored limit current d.meanings are in
     let place : IsFirstPlacement h.length first (map stored_item stored) starts =
@@ -338,7 +338,7 @@ volume_again is_stream streams (Volume h files) b o small d (stored, starts, are
     (subst (λ (xs : List FileForm). NamesApart (names_in xs)) (sym d.current.files_are) (current_apart (files_in d.cells)
     d.current.no_twins)) in
     let last : TopLast (names_of stored) = subst TopLast (sym a.names) (top_last d.extent.length d.files d.current.top) in
-    let same : length o ≡ length b = shows.length_is ∙ sym (d.whole ∙ d.begins.length_is) in
+    let same : length o ≡ length b = shows.length_is ∙ sym (d.length_is ∙ d.begins.length_is) in
     record {
       is = volume_of is_stream o (Volume h files) (extent_of h first) (forms_of p stored starts) front shows.length_is (record {
         cells = tiled.cells;
@@ -351,7 +351,7 @@ volume_again is_stream streams (Volume h files) b o small d (stored, starts, are
       }) (a.are p h.length first starts k.follow);
       bytes = subst IsBytes (sym (volume_shows h stored starts o k shows)) (bytes_volume h stored starts k);
       long = same;
-      len = d.whole ∙ d.begins.length_is;
+      len = d.length_is ∙ d.begins.length_is;
       opens = opened h (extent_of h first) o front shows.length_is;
     }
 

@@ -5,7 +5,7 @@ use Rattle.fv_base.specs.declared.fault.Fault.{Fault}
 use Rattle.fv_base.specs.declared.fault.FaultKind.{FaultKind}
 use Rattle.fv_base.specs.declared.fault.FaultKind.TheVariants as kinds
 use Rattle.fv_canon.specs.Layouts.{placement_items, IsPlaced}
-use Rattle.fv_placement.specs.Words.{HasNoRoom, TopOff}
+use Rattle.fv_placement.specs.Words.{HasNoRoom, TopMisaligned}
 use Rattle.fv_tree.specs.Words.{Inside, volumes_in, Meaning, head_of, length_of}
 use Rattle.fv_head.specs.Words.{first_edge}
 
@@ -18,10 +18,10 @@ abbrev pub layout_fault : FaultKind → ℕ → Fault
 layout_fault kind depth = record { kind = kind; place = record { offset = 0; depth = depth } }
 
 -- the volume's own files cannot be placed. The fault is TopAlignment if the volume top file cannot begin at its only
--- possible start (`TopOff`), and otherwise NoRoom
+-- possible start (`TopMisaligned`), and otherwise NoRoom
 abbrev pub UnfitHere : Meaning → ℕ → Fault → Type 0
 UnfitHere m depth f =
-    (TopOff (length_of m) (placement_items m) × (f ≡ layout_fault kinds.TopAlignment depth))
+    (TopMisaligned (length_of m) (placement_items m) × (f ≡ layout_fault kinds.TopAlignment depth))
     ⊎ (HasNoRoom (length_of m) (first_edge (head_of m) (head_of m).ext) (placement_items m) × (f ≡ layout_fault kinds.NoRoom depth))
 
 -- f is the fault of the first of these volumes whose own files cannot be placed. `depth` is added to the depths of the

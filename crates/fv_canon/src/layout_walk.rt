@@ -16,7 +16,7 @@ use crate::laid_volume::Layout;
 use crate::pads_and_headers::header_len_for;
 use fv_base::{Align, Fault, FaultKind, Place};
 use fv_head::first_edge;
-use fv_placement::{PlacementItem, first_starts, is_top_off};
+use fv_placement::{PlacementItem, first_starts, is_top_misaligned};
 use fv_rows::{Part, TreeWalk};
 use fv_tree::{FileView, VOLUME_TOP_FILE, VolumeView};
 use std::alloc::Global;
@@ -100,7 +100,7 @@ fn own_starts(alloc: Global, view: &VolumeView<'_>, depth: u8) -> Result<Vec<u64
     let total = head.length();
     let first = first_edge(head);
     let items = placement_items(alloc, view)?;
-    if is_top_off(total, items.as_slice()) {
+    if is_top_misaligned(total, items.as_slice()) {
         return Err(layout_fault(FaultKind::TopAlignment, depth));
     }
     match first_starts(alloc, total, first, items.as_slice())? {

@@ -22,13 +22,13 @@ pub tiled : (b : List ℕ) (m : Meaning) → Accepted b m → (e : Extent) × (c
 tiled b m (bytes, d) =
     let e : Extent = d.extent in
     let part : List ℕ → Type 0 = λ v. Tiles e.file_system e.polarity e.first d.cells (drop e.first v) in
-    (e, d.cells, record { head = head_of m; begins = d.begins; tiles = subst part (sym (all_of b e d.whole)) d.tiles })
+    (e, d.cells, record { head = head_of m; begins = d.begins; tiles = subst part (sym (all_of b e d.length_is)) d.tiles })
 
 -- the cells that are found are the cells of the volume
 pub cells_of : (b : List ℕ) (m : Meaning) (e : Extent) (cs : List CellForm) → Accepted b m → BeginsTiled e cs b → AreCells m b e.polarity cs
 cells_of b m e cs (bytes, d) found =
     let same = (one_front b (head_of m) found.head d.extent e d.begins found.begins).1 in
-    let whole = subst (λ (x : Extent). length b ≡ x.length) same d.whole in
+    let whole = subst (λ (x : Extent). length b ≡ x.length) same d.length_is in
     let part : List ℕ → Type 0 = λ v. Tiles e.file_system e.polarity e.first cs (drop e.first v) in
     record {
       extent = e;

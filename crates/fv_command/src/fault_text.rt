@@ -7,7 +7,7 @@ ghost use Rattle.fv_command.specs.inner.RunSteps.{Written};
 ghost use Rattle.fv_text.specs.Words.{StopsIn, change, view_of};
 
 use crate::ending::{Ending, Refusal};
-use crate::run_end::{finish, is_whole};
+use crate::run_end::{finish, wrote_all};
 use crate::status::Status;
 use fv_base::{Fault, Port, Sink, WriteSink};
 use fv_compare::Side;
@@ -57,7 +57,7 @@ fn write_line<W: Write>(writer: &mut Port<W>, line: &[u8]) -> bool
 {
     let mut out = WriteSink::new(writer);
     out.put(line);
-    is_whole(&out)
+    wrote_all(&out)
 }
 
 // Writes the line of a refusal. Returns whether all of it was written.
@@ -66,7 +66,7 @@ fn write_refusal<W: Write>(writer: &mut Port<W>, refusal: Refusal) -> bool
 {
     let mut out = WriteSink::new(writer);
     put_refusal(&mut out, refusal);
-    is_whole(&out)
+    wrote_all(&out)
 }
 
 /// Writes a line, flushes the writer, and returns the status, or Refused if a write or the flush

@@ -10,7 +10,7 @@ use crate::comparison_run::put_compared;
 use crate::ending::{Ending, Refusal};
 use crate::fault_text::put_refusal;
 use crate::hob_run::put_hob_list;
-use crate::run_end::{finish, is_whole};
+use crate::run_end::{finish, wrote_all};
 use crate::status::Status;
 use crate::task_run::put_task;
 use fv_base::{Port, Sink, WriteSink};
@@ -143,7 +143,7 @@ pub fn run_plan<First: Read, Second: Read, W: Write>(
         second,
         &mut ending,
     );
-    let is_written = is_whole(&out);
+    let is_written = wrote_all(&out);
     let status = finish(writer, is_written, ending.status);
     Ending {
         status,

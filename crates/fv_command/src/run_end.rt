@@ -11,7 +11,7 @@ use fv_base::{Port, WriteSink};
 use std::io::Write;
 
 /// Returns whether everything that a sink took was written.
-pub fn is_whole<W: Write>(out: &WriteSink<'_, W>) -> bool
+pub fn wrote_all<W: Write>(out: &WriteSink<'_, W>) -> bool
     ensures { result ≡ is_writing out.now }
 {
     match out.outcome() {

@@ -96,7 +96,7 @@ ended phase b items new o at n stage k stands len is new_is =
       more.inside,
       record {
         joined = sym (take-append-drop (at + n) b) ∙ ap (λ (l : List ℕ). l ++ drop (at + n) b) (more.bytes ∙ ap ops_bytes (sym new_is));
-        whole = subst (λ (l : List Op). ((t : Expression) × IsTree phase l t) ⊎ IsOrder phase l) (sym last)
+        is_expression = subst (λ (l : List Op). ((t : Expression) × IsTree phase l t) ⊎ IsOrder phase l) (sym last)
             (leaves_whole phase stage items k.leaves fits);
         sized = subst (λ (l : List Op). AllByRecursion IsSized l) (sym last)
             (all_join items (ops.End ∷ []) (path_sized phase stages.Start stage items k.path) (refl, tt));

@@ -334,7 +334,7 @@ order_ended phase all o e dxe code sized after ne values = record {
   known (inr e) = rw e refl
 
 pub whole_ended : (phase : Phase) (all : List Op) (rest b : List ℕ) → Spells phase all rest b → IsEnded phase all
-whole_ended phase all rest b spells = go spells.whole where
+whole_ended phase all rest b spells = go spells.is_expression where
   go : ((t : Expression) × IsTree phase all t) ⊎ IsOrder phase all → IsEnded phase all
   go (inl (t, is)) = tree_ended phase all is.sor t is.joined is.sor_is spells.sized
   go (inr is) = order is.guid is.dxe is.joined
@@ -394,4 +394,4 @@ one_spelling phase xs ys r s b p q =
 -- the bytes that are written for the ops and the rest of some bytes are spelled by them
 pub spelled_again : (phase : Phase) (all : List Op) (rest b c : List ℕ) → Spells phase all rest b → c ≡ ops_bytes all ++ rest
     → Spells phase all rest c
-spelled_again phase all rest b c spells e = record { joined = e; whole = spells.whole; sized = spells.sized }
+spelled_again phase all rest b c spells e = record { joined = e; is_expression = spells.is_expression; sized = spells.sized }

@@ -82,7 +82,7 @@ IsSized o = length (op_operand o) ≡ operand_len (carries (op_code o))
 -- expression of the phase, each with an operand of the right length
 pub record Spells (phase : Phase) (all : List Op) (rest b : List ℕ) : Type 0 where
   pub joined : b ≡ ops_bytes all ++ rest
-  pub whole : ((t : Expression) × IsTree phase all t) ⊎ IsOrder phase all
+  pub is_expression : ((t : Expression) × IsTree phase all t) ⊎ IsOrder phase all
   pub sized : AllByRecursion IsSized all
 
 -- whether the GUID g is among the GUIDs of the set

@@ -6,7 +6,7 @@ use Rattle.std.specs.Prelude.{slice_index}
 use Rattle.fv_base.specs.Words.{AllAre, erased_byte, up_to_8}
 use Rattle.fv_base.specs.declared.flash.FileSystem.{FileSystem}
 use Rattle.fv_base.specs.declared.flash.Polarity.{Polarity}
-use Rattle.fv_file.specs.Words.{CellForm, Valid, Pad, Dead, Stub, Free, offset_of, is_free, IsFilled, IsCell, cell_len, IsMadeUp, is_large}
+use Rattle.fv_file.specs.Words.{CellForm, Valid, Pad, Dead, Stub, Free, offset_of, is_free, IsFilled, IsCell, cell_len, LengthsAgree, is_large}
 use Rattle.fv_file.specs.declared.head.FileHead.{FileHead}
 use Rattle.fv_file.proofs.FileLemmas.{header_least}
 use Rattle.fv_file.proofs.TilingLemmas.{NotEmpty}
@@ -47,7 +47,7 @@ pub file_made_up : (s : FileSystem) (p : Polarity) (head : FileHead) (payload b 
     → head.header_len + length payload ≡ head.size
 file_made_up s p head payload b filled = grind (arith, common_steps, length-append)
 
-pub made_up : (s : FileSystem) (p : Polarity) (c : CellForm) (u : List ℕ) → IsCell s p c u → IsMadeUp c
+pub made_up : (s : FileSystem) (p : Polarity) (c : CellForm) (u : List ℕ) → IsCell s p c u → LengthsAgree c
 made_up s p (Valid at head payload) u is = file_made_up s p head payload u is.0
 made_up s p (Pad at head payload) u is = file_made_up s p head payload u is.0
 made_up s p (Dead at len state) u is = tt

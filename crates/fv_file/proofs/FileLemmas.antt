@@ -93,7 +93,7 @@ file_at s p st at r long state (allowed, (header_within, (header_zero, (size_fit
         header = h;
         text = split;
         is_header = record {
-          whole = header_len;
+          header_length = header_len;
           fields = fields;
           state = subst (λ (k : ℕ). StateOf k p st) (sym e23) state;
           large = λ is.
@@ -149,14 +149,14 @@ file_reads s p head payload file w is =
     let y : List ℕ = payload ++ w in
     let r : List ℕ = file ++ w in
     let e : r ≡ h ++ y = ap (λ (x : List ℕ). x ++ w) is.text ∙ append_assoc h payload w in
-    let low : 24 ≤ length h = subst (λ (k : ℕ). 24 ≤ k) (sym is.is_header.whole) (header_least (is_large (slice_index h 19))) in
+    let low : 24 ≤ length h = subst (λ (k : ℕ). 24 ≤ k) (sym is.is_header.header_length) (header_least (is_large (slice_index h 19))) in
     let fields : head_in head.state r ≡ head =
-    ap (head_in head.state) e ∙ front_head head.state h y is.is_header.whole ∙ sym is.is_header.fields in
+    ap (head_in head.state) e ∙ front_head head.state h y is.is_header.header_length ∙ sym is.is_header.fields in
     let e19 : slice_index r 19 ≡ slice_index h 19 = ap (λ (x : List ℕ). slice_index x 19) e ∙ front_byte 19 h y (omega (arith, low)) in
     let e23 : slice_index r 23 ≡ slice_index h 23 = ap (λ (x : List ℕ). slice_index x 23) e ∙ front_byte 23 h y (omega (arith, low)) in
     let large : Bool = is_large (slice_index r 19) in
     let big : large ≡ is_large (slice_index h 19) = ap is_large e19 in
-    let len : file_header_len_at r ≡ length h = ap file_header_len big ∙ sym is.is_header.whole in
+    let len : file_header_len_at r ≡ length h = ap file_header_len big ∙ sym is.is_header.header_length in
     let size : file_size_at r ≡ length file = ap (λ (f : FileHead). f.size) fields ∙ is.size in
     let length_file : length file ≡ length h + length payload = ap length is.text ∙ length-append h payload in
     let length_r : length r ≡ length file + length w = length-append file w in

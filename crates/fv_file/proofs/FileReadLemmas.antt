@@ -51,7 +51,7 @@ cell_read_in system p limit at head payload x small most (filled, alive, sound) 
     let named : bytes_of head.name ≡ take 16 h = ap (λ (g : FileHead). bytes_of g.name) is.fields in
     let kinds : head.kind ≡ slice_index h 18 = ap (λ (g : FileHead). g.kind) is.fields in
     let sizes : head.size ≡ file_size_in large h = ap (λ (g : FileHead). g.size) is.fields in
-    let least : 24 ≤ length h = omega (arith, header_least large, is.whole) in
+    let least : 24 ≤ length h = omega (arith, header_least large, is.header_length) in
     let whole : head.size ≡ length h + length payload =
     filled.is_file.size ∙ ap length filled.is_file.text ∙ length-append h payload in
     let all : length x ≡ head.size + length filled.filler =
@@ -64,7 +64,7 @@ cell_read_in system p limit at head payload x small most (filled, alive, sound) 
       kind = sound.kind;
       moves = sound.moves;
       large = λ e. (is.large (ap is_large (sym bits) ∙ e)).0;
-      short = λ e. omega (arith, short_size large h (ap is_large (sym bits) ∙ e) is.whole hb, sizes, whole, least);
+      short = λ e. omega (arith, short_size large h (ap is_large (sym bits) ∙ e) is.header_length hb, sizes, whole, least);
       within = omega (arith, least, whole, all, most);
       payload = bytes_back h payload parts;
     }

@@ -215,7 +215,7 @@ written_with polarity h large long is small right bytes =
     let byte : slice_index b 23 ≡ state = at_behind 7 (bytes_of h.name) rest long in
     let written : IsNewHeader polarity (formed h large) b = record {
       header = λ system only. record {
-        whole = length_is h large state long ∙ ap file_header_len (sym place);
+        header_length = length_is h large state long ∙ ap file_header_len (sym place);
         fields = fields_are h large state long is small;
         state = subst (λ (n : ℕ). StateOf n polarity states.DataValid) (sym byte) (state_is polarity);
         large = λ e. (only (is ∙ sym place ∙ e), zero_size h large state long (sym place ∙ e));
@@ -351,9 +351,9 @@ form_of polarity head b written =
     let at : attribute_bits head.attributes ≡ slice_index b 19 = ap (λ (x : FileHead). attribute_bits x.attributes) is.fields in
     let large : Bool = is_large (slice_index b 19) in
     let size : head.size ≡ file_size_in large b = ap (λ (x : FileHead). x.size) is.fields in
-    let least : 24 ≤ length b = subst (λ (n : ℕ). 24 ≤ n) (sym is.whole) (header_least large) in
+    let least : 24 ≤ length b = subst (λ (n : ℕ). 24 ≤ n) (sym is.header_length) (header_least large) in
     let short : le_at 20 3 b ≡ short_size large head.size = short_is large b head.size (λ e. (is.large e).1) size in
-    let long : drop 24 b ≡ long_size large head.size = long_is large b head.size written.bytes is.whole size in
+    let long : drop 24 b ≡ long_size large head.size = long_is large b head.size written.bytes is.header_length size in
     parts_of b written.bytes least
     ∙ same (ap (λ (x : FileHead). bytes_of x.name) (sym is.fields))
     (ap (λ (x : FileHead). x.header_sum) (sym is.fields))
@@ -373,7 +373,7 @@ only_written polarity head b written =
     let is = written.header Ffs3 (λ large. refl) in
     let large : Bool = is_large (attribute_bits head.attributes) in
     let form = form_of polarity head b written in
-    let least : 24 ≤ length b = subst (λ (n : ℕ). 24 ≤ n) (sym is.whole) (header_least (is_large (slice_index b 19))) in
+    let least : 24 ≤ length b = subst (λ (n : ℕ). 24 ≤ n) (sym is.header_length) (header_least (is_large (slice_index b 19))) in
     let named : length (bytes_of head.name) ≡ 16 =
     ap (λ (x : FileHead). length (bytes_of x.name)) is.fields ∙ length-take-le 16 b (omega (arith, least)) in
     let small : head.header_sum < 256 =

@@ -23,13 +23,13 @@ cell_len (Stub at len) = len
 cell_len (Free at len) = len
 
 -- in a file or pad, the lengths of the header and of the data add up to the size
-abbrev pub IsMadeUp : CellForm → Type 0
-IsMadeUp (Valid at head payload) = head.header_len + length payload ≡ head.size
-IsMadeUp (Pad at head payload) = head.header_len + length payload ≡ head.size
-IsMadeUp _ = Unit {0}
+abbrev pub LengthsAgree : CellForm → Type 0
+LengthsAgree (Valid at head payload) = head.header_len + length payload ≡ head.size
+LengthsAgree (Pad at head payload) = head.header_len + length payload ≡ head.size
+LengthsAgree _ = Unit {0}
 
 -- each cell ends at most `end` bytes after the volume's start, and in each file or pad the lengths of the header and of
 -- the data add up to the size
 abbrev pub CellsWithin : ℕ → List CellForm → Type 0
 CellsWithin end [] = Unit {0}
-CellsWithin end (c ∷ cs) = (offset_of c + cell_len c ≤ end) × IsMadeUp c × CellsWithin end cs
+CellsWithin end (c ∷ cs) = (offset_of c + cell_len c ≤ end) × LengthsAgree c × CellsWithin end cs

@@ -75,7 +75,7 @@ file_sum_right attributes file_sum payload =
 -- the bytes h are the header with these fields: State shows the state, and the header checksum is right. A large header
 -- is allowed only in FFS3, and its Size is zero
 pub record IsFileHeader (system : FileSystem) (polarity : Polarity) (head : FileHead) (h : List ℕ) : Type 0 where
-  pub whole : length h ≡ file_header_len (is_large (attributes_at h))
+  pub header_length : length h ≡ file_header_len (is_large (attributes_at h))
   pub fields : head ≡ head_in head.state h
   pub state : StateOf (state_at h) polarity head.state
   pub large : is_large (attributes_at h) ≡ true → (system ≡ Ffs3) × (le_at 20 3 h ≡ 0)

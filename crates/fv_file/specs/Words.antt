@@ -16,5 +16,5 @@ pub use Rattle.fv_file.specs.FileChecks.{leading_count, allows_large, file_heade
 pub use Rattle.fv_file.specs.FileChecks.{may_be_large, has_header_sum, has_file_size, skips_data, has_file_sum}
 pub use Rattle.fv_file.specs.FileChecks.{file_checks, stub_checks, state_checks, cell_checks, is_valid_state}
 pub use Rattle.fv_file.specs.FileChecks.{verify_checks, NoneFree, CellFault, IsFirstCellFault}
-pub use Rattle.fv_file.specs.CellForms.{cell_form, cell_len, IsMadeUp, CellsWithin}
+pub use Rattle.fv_file.specs.CellForms.{cell_form, cell_len, LengthsAgree, CellsWithin}
 pub use Rattle.fv_file.specs.Unmarking.{unmarked, Unmarks}

@@ -36,7 +36,7 @@ pub at_multiple : (b : List ℕ) (k n : ℕ) → VolumeAt b k n → n % 8 ≡ 0
 at_multiple b k n v = omega (arith, v.3, (some_length (drop k b) v.0 v.1 v.2).1)
 
 pub at_within : (b : List ℕ) (k n : ℕ) → VolumeAt b k n → k + n ≤ length b
-at_within b k n v = omega (arith, v.3, v.2.whole, length-drop k b, at_least b k n v)
+at_within b k n v = omega (arith, v.3, v.2.is_within, length-drop k b, at_least b k n v)
 
 -- a volume at a place has one length
 pub one_length : (b : List ℕ) (k n m : ℕ) → VolumeAt b k n → VolumeAt b k m → n ≡ m

@@ -121,7 +121,7 @@ front_of b fs small is guid all =
     let front : BeginsVolume h (extent_at fs b) b = record {
       head = head;
       long_enough = within;
-      whole = whole;
+      is_within = whole;
       ext = ext.1;
       length_is = refl;
       file_system = refl;
@@ -169,7 +169,7 @@ front_exact b h e same least f =
     let most : m ≤ header_limit = rw len at head.most in
     let pairs = last-injective _ _ _ _ (sym (block_map_is m b least multiple f.long_enough) ∙ head.block_map) in
     let vol_least : m ≤ h.length = rw len at head.volume_least in
-    let whole : h.length ≤ length b = rw (← f.length_is) f.whole in
+    let whole : h.length ≤ length b = rw (← f.length_is) f.is_within in
     let made_up : makes_up (blocks_at m b) h.length ≡ true =
     ap (λ (ps : List (ℕ × ℕ)). makes_up ps h.length) pairs.0
     ∙ and_join _ _ (all_not_zero h.blocks head.no_pair_of_zeros) (eq-eqb _ _ head.makes_up) in

@@ -341,7 +341,7 @@ canonical_front h rest read known there fits long =
     record {
       head = subst (IsHead h) (sym head) canonical.head;
       long_enough = omega (arith, own, length-append b rest);
-      whole = long;
+      is_within = long;
       ext = canonical_ext h rest h.ext read refl known there fits (offset ∙ canonical.offset);
       length_is = refl;
       file_system = refl;

@@ -68,12 +68,12 @@ ext_there {b} {e} {offset} found at some =
     let front = found.1 in
     let s = stands found.0.ext e b front.ext (λ none. some (at ∙ none)) in
     record {
-      header = omega (arith, s.least, s.within, front.whole);
-      within = omega (arith, s.within, front.whole);
+      header = omega (arith, s.least, s.within, front.is_within);
+      within = omega (arith, s.within, front.is_within);
       least = s.least;
       most = s.most;
       size = s.size;
-      read = λ x is. read_there x e b _ s front.whole refl is;
+      read = λ x is. read_there x e b _ s front.is_within refl is;
     }
 
 -- bytes begin with at most one volume
@@ -126,7 +126,7 @@ front_same b c h e f long same =
     record {
       head = subst (IsHead h) (sym first) f.head;
       long_enough = omega (arith, lies.within, long);
-      whole = long;
+      is_within = long;
       ext = ext_same h.ext e b c lies.least lies.within f.ext long same;
       length_is = f.length_is;
       file_system = f.file_system;

@@ -76,7 +76,7 @@ HasExt (Some x) e b =
 pub record BeginsVolume (h : HeadFields) (e : Extent) (b : List ℕ) : Type 0 where
   pub head : IsHead h (take e.header_len b)
   pub long_enough : e.header_len ≤ length b
-  pub whole : e.length ≤ length b
+  pub is_within : e.length ≤ length b
   pub ext : HasExt h.ext e b
   pub length_is : e.length ≡ h.length
   pub file_system : e.file_system ≡ h.file_system

@@ -56,7 +56,7 @@ stands first r bytes none =
       block = record {
         bytes = bytes_take n r bytes;
         sized = ap le (field-take 2 2 n r (omega (arith, least))) ∙ sym long;
-        whole = ap (λ (m : ℕ). m % 8) long ∙ eqb-true (n % 8) 0 len.1;
+        multiple = ap (λ (m : ℕ). m % 8) long ∙ eqb-true (n % 8) 0 len.1;
         least = subst (λ (m : ℕ). 8 ≤ m) (sym long) least;
         shaped = ap (λ (m : ℕ). has_shape (le_at 0 2 c) m) long ∙ ap (λ (m : ℕ). has_shape m n) code ∙ checks.shaped;
       };
@@ -78,7 +78,7 @@ checks_hold first h c x is begins =
     let code : le_at 0 2 r ≡ le_at 0 2 c = ap le (field-append_front 0 2 c x (omega (arith, least))) in
     let len : le_at 2 2 r ≡ length c = ap le (field-append_front 2 2 c x (omega (arith, least))) ∙ block.sized in
     let long : length r ≡ length c + length x = length-append c x in
-    let sized : is_hob_len (length c) ≡ true = and_join _ _ (le-leb 8 (length c) least) (eq-eqb (length c % 8) 0 block.whole) in
+    let sized : is_hob_len (length c) ≡ true = and_join _ _ (le-leb 8 (length c) least) (eq-eqb (length c % 8) 0 block.multiple) in
     let whole : nat_le (le_at 2 2 r) (length r) ≡ true = le-leb (le_at 2 2 r) (length r) (omega (arith, long, len)) in
     let begun : (not first || (le_at 0 2 r == 0x0001)) ≡ true =
     join_first first (le_at 0 2 r == 0x0001) (λ e. eq-eqb (le_at 0 2 r) 0x0001 (code ∙ sym (code_is h c is) ∙ begins e)) in

@@ -56,7 +56,7 @@ zeroed h b is e =
       block = record {
         bytes = bytes_append (take 8 b) z (bytes_take 8 b block.bytes) (bytes_zeros (length b - 8));
         sized = sized ∙ block.sized ∙ sym long;
-        whole = ap (λ (n : ℕ). n % 8) long ∙ block.whole;
+        multiple = ap (λ (n : ℕ). n % 8) long ∙ block.multiple;
         least = subst (λ (n : ℕ). 8 ≤ n) (sym long) block.least;
         shaped = ap (λ (n : ℕ). has_shape n (length c)) code ∙ ap (λ (n : ℕ). has_shape (le_at 0 2 b) n) long ∙ block.shaped;
       };

@@ -130,7 +130,7 @@ hob_in b = record { reserved = le_at 4 4 b; kind = kind_by (hob_type_at b) b }
 pub record IsBlock (b : List ℕ) : Type 0 where
   pub bytes : IsBytes b
   pub sized : hob_len_at b ≡ length b
-  pub whole : length b % 8 ≡ 0
+  pub multiple : length b % 8 ≡ 0
   pub least : 8 ≤ length b
   pub shaped : has_shape (hob_type_at b) (length b) ≡ true
 

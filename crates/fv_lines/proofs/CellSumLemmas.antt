@@ -82,7 +82,7 @@ fits_at see (x ∷ xs) (suc i) d l all = fits_at see xs i d (omega (arith, l)) a
 all_fit : (end : ℕ) (cs : List CellForm) → end ≤ volume_limit → CellsWithin end cs → AllByRecursion Fits cs
 all_fit end [] small within = tt
 all_fit end (c ∷ cs) small (lies, made, rest) =
-    (record { within = omega (arith, lies, small); made_up = made }, all_fit end cs small rest)
+    (record { within = omega (arith, lies, small); lengths_agree = made }, all_fit end cs small rest)
 
 tiles_sum : (s : FileSystem) (p : Polarity) (at : ℕ) (cs : List CellForm) (b : List ℕ) → Tiles s p at cs b → sum_by cell_len cs ≡ length b
 tiles_sum s p at [] b text = sym (ap length text)
@@ -102,7 +102,7 @@ pub fit_together : (input : List ℕ) (e : Extent) (cs : List CellForm) → Begi
 fit_together input e cs b within =
     let volume = take e.length input in
     let small : length volume ≤ volume_limit =
-    omega (arith, length-take-le e.length input b.begins.whole, b.begins.length_is, b.begins.head.volume_most) in
+    omega (arith, length-take-le e.length input b.begins.is_within, b.begins.length_is, b.begins.head.volume_most) in
     record {
       each = all_fit (length volume) cs small within;
       together =

@@ -128,7 +128,7 @@ module _ (es : List Entry) (name : Guid) (names : List Guid) (whole : IsName nam
 
   -- the name with a number is the name in question exactly if the halves are the same
   named : (n : ℕ) → n < length names → Decides (is_name name (get_or names n g)) (halves_of name ≡ halves_of (get_or names n g))
-  named n l = names_decide name (get_or names n g) whole (at_index IsName names n g index.whole l)
+  named n l = names_decide name (get_or names n g) whole (at_index IsName names n g index.are_names l)
 
   other : (n : ℕ) → n < length names → (halves_of name ≡ halves_of (get_or names n g) → ⊥) → is_name name (get_or names n g) ≡ false
   other n l not_so = go (is_name name (get_or names n g)) refl where

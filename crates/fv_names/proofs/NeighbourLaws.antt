@@ -88,7 +88,7 @@ module _ (fs : List NamedFile) (es : List Entry) (index : IsIndex (names_in fs) 
   whole_name p l =
       let n : ℕ = (at p).1 in
       let low : n < length fs = number_within p l in
-      subst IsName (name_at n low) (at_index IsName (names_in fs) n d.name index.whole (omega (arith, low, names_length)))
+      subst IsName (name_at n low) (at_index IsName (names_in fs) n d.name index.are_names (omega (arith, low, names_length)))
 
   -- two files have the same name exactly if their entries have, and are twins exactly if their entries are
   one_name : (p q : ℕ) → p < length es → q < length es → Decides (same_name (file p) (file q)) ((at p).0 ≡ (at q).0)

@@ -46,7 +46,7 @@ entry_cmp a b = ordering_then (halves_cmp a.0 b.0) (nat_cmp a.1 b.1)
 pub record IsIndex (names : List Guid) (entries : List Entry) : Type 0 where
   pub ordered : IsSorted entry_cmp entries
   pub all : IsPermutation (numbered 0 names) entries
-  pub whole : AllByRecursion IsName names
+  pub are_names : AllByRecursion IsName names
 
 -- the entries of an index
 abbrev pub entries_of : NameIndex → List Entry

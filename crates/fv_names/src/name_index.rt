@@ -28,7 +28,7 @@ pub struct NameIndex {
 // Returns sixteen bytes as two numbers.
 fn numbers_in(bytes: [u8; 16]) -> (u64, u64)
     ensures is { result ≡ halves_in bytes }
-    ensures whole { IsSixteenBytes bytes }
+    ensures sixteen { IsSixteenBytes bytes }
 {
     let mut front = [0u8; 8];
     front.copy_from_slice(&bytes[..8]);
@@ -40,7 +40,7 @@ fn numbers_in(bytes: [u8; 16]) -> (u64, u64)
 // Returns a name as two numbers, which compare faster than sixteen bytes.
 fn halves(name: Guid) -> (u64, u64)
     ensures is { result ≡ halves_of name }
-    ensures whole { IsName name }
+    ensures sixteen { IsName name }
 {
     numbers_in(name.to_bytes())
 }

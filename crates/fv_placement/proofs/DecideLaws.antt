@@ -8,7 +8,7 @@ use Rattle.std.proofs.Common.{◌≡◌, ◌≤◌, ◌<◌, ◌+◌, ◌-◌, �
 use Rattle.std.specs.Prelude.{get_or, IsTrue}
 use Rattle.std.proofs.lemmas.Bool.{cases_lt}
 use Rattle.fv_base.specs.Words.{up_to_8}
-use Rattle.fv_placement.specs.Words.{HasNoRoom, IsOff, TopOff, IsFirstPlacement, Lawful, Placement, IsStartInVolume, StartsFollow}
+use Rattle.fv_placement.specs.Words.{HasNoRoom, IsMisaligned, TopMisaligned, IsFirstPlacement, Lawful, Placement, IsStartInVolume, StartsFollow}
 use Rattle.fv_placement.specs.declared.first_placement.PlacementItem.{PlacementItem}
 
 abbrev Decided : Type 0 → Type 0
@@ -171,21 +171,21 @@ placed_or_none total first fs = go (le_dec first total) (follows total fs first)
 
 -- ---- the volume top file
 
-off_dec : (total : ℕ) (f : PlacementItem) → Decided (IsOff total f)
+off_dec : (total : ℕ) (f : PlacementItem) → Decided (IsMisaligned total f)
 off_dec total f =
     either (not_so (eq_dec ((total - f.size + f.header) % f.alignment) 0)) (not_so (eq_dec ((total - f.size) % 8) 0))
 
-top_dec : (total : ℕ) (fs : List PlacementItem) → Decided (TopOff total fs)
+top_dec : (total : ℕ) (fs : List PlacementItem) → Decided (TopMisaligned total fs)
 top_dec total [] = inr (λ h. h)
 top_dec total (f ∷ fs) = either (both (true_dec f.top) (off_dec total f)) (top_dec total fs)
 
 -- files have a first placement, or the volume top file is off, or there is no room
 pub placed_or_not : (total first : ℕ) (fs : List PlacementItem) → ((starts : List ℕ) × IsFirstPlacement total first fs starts)
-    ⊎ (TopOff total fs ⊎ HasNoRoom total first fs)
+    ⊎ (TopMisaligned total fs ⊎ HasNoRoom total first fs)
 placed_or_not total first fs = go (top_dec total fs) (placed_or_none total first fs) where
-  go : Decided (TopOff total fs)
+  go : Decided (TopMisaligned total fs)
       → ((starts : List ℕ) × IsFirstPlacement total first fs starts) ⊎ ((starts : List ℕ) → Placement total first fs starts → ⊥)
-      → ((starts : List ℕ) × IsFirstPlacement total first fs starts) ⊎ (TopOff total fs ⊎ HasNoRoom total first fs)
+      → ((starts : List ℕ) × IsFirstPlacement total first fs starts) ⊎ (TopMisaligned total fs ⊎ HasNoRoom total first fs)
   go (inl off) h = inr (inl off)
   go (inr on) (inl placed) = inl placed
   go (inr on) (inr none) = inr (inr (record { top_can_begin = on; none = none }))

@@ -10,7 +10,7 @@ use Rattle.std.proofs.Common.{◌≡◌, ℕ, ◌+◌, ◌-◌, ◌%◌, ◌<◌
 use Rattle.std.proofs.Common.{true, false, append_assoc, append-nil, length, get_or, take, drop, zero, suc, add-one}
 use Rattle.std.specs.Prelude.{IsTrue, MatchBool}
 use Rattle.std.proofs.lemmas.List.{drop_more, drop_all, take_more, take_all}
-use Rattle.fv_placement.specs.Words.{Lawful, StartsFollow, Placement, IsFirstPlacement, IsLeast, IsOff, TopOff}
+use Rattle.fv_placement.specs.Words.{Lawful, StartsFollow, Placement, IsFirstPlacement, IsLeast, IsMisaligned, TopMisaligned}
 use Rattle.fv_placement.specs.declared.first_placement.PlacementItem.{PlacementItem}
 use Rattle.fv_placement.specs.declared.reach.Reach.{Reach}
 use Rattle.fv_placement.specs.inner.Reaches.{IsBound, IsFirstStart}
@@ -136,7 +136,7 @@ placed_end total first fs e i done l room o =
 
 -- ---- 5. no placement
 
-off_none : (total e : ℕ) (f : PlacementItem) (s : ℕ) → s + f.size ≡ total → (s + f.header) % f.alignment ≡ 0 → s % 8 ≡ 0 → IsOff total f → ⊥
+off_none : (total e : ℕ) (f : PlacementItem) (s : ℕ) → s + f.size ≡ total → (s + f.header) % f.alignment ≡ 0 → s % 8 ≡ 0 → IsMisaligned total f → ⊥
 off_none total e f s at aligned eighth (inl a) = a (ap (λ (n : ℕ). (n + f.header) % f.alignment) (start total f.size at) ∙ aligned)
   where
     start : (total n : ℕ) → s + n ≡ total → total - n ≡ s
@@ -147,7 +147,7 @@ off_none total e f s at aligned eighth (inr b) = b (ap (λ (n : ℕ). n % 8) (st
     start total n e = omega (arith, e)
 
 -- files whose volume top file is off cannot be placed
-pub top_none : (total e : ℕ) (fs : List PlacementItem) (ss : List ℕ) → TopOff total fs → StartsFollow total e fs ss → ⊥
+pub top_none : (total e : ℕ) (fs : List PlacementItem) (ss : List ℕ) → TopMisaligned total fs → StartsFollow total e fs ss → ⊥
 top_none total e [] ss off follow = absurd off
 top_none total e (f ∷ fs) [] off follow = absurd follow
 top_none total e (f ∷ fs) (s ∷ ss) (inl (top, off)) follow =

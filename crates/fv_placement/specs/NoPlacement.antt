@@ -6,17 +6,17 @@ use Rattle.fv_placement.specs.declared.first_placement.PlacementItem.{PlacementI
 
 -- the volume top file f cannot begin at its only possible start, with which it ends at the volume's end (0 if the file
 -- is longer than the volume): its data are not aligned there, or the start is not a multiple of 8
-abbrev pub IsOff : ℕ → PlacementItem → Type 0
-IsOff total f = ((total - f.size + f.header) % f.alignment ≢ 0) ⊎ ((total - f.size) % 8 ≢ 0)
+abbrev pub IsMisaligned : ℕ → PlacementItem → Type 0
+IsMisaligned total f = ((total - f.size + f.header) % f.alignment ≢ 0) ⊎ ((total - f.size) % 8 ≢ 0)
 
 -- there is a volume top file that cannot begin at its only possible start: its data are not aligned there, or the start
 -- is not a multiple of 8
-abbrev pub TopOff : ℕ → List PlacementItem → Type 0
-TopOff total [] = ⊥
-TopOff total (f ∷ fs) = (IsTrue f.top × IsOff total f) ⊎ TopOff total fs
+abbrev pub TopMisaligned : ℕ → List PlacementItem → Type 0
+TopMisaligned total [] = ⊥
+TopMisaligned total (f ∷ fs) = (IsTrue f.top × IsMisaligned total f) ⊎ TopMisaligned total fs
 
 -- the files cannot be placed in their order at all, although the volume top file, if there is one, can begin at its
 -- only possible start
 pub record HasNoRoom (total first : ℕ) (fs : List PlacementItem) : Type 0 where
-  pub top_can_begin : TopOff total fs → ⊥
+  pub top_can_begin : TopMisaligned total fs → ⊥
   pub none : (starts : List ℕ) → Placement total first fs starts → ⊥

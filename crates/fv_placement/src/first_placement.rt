@@ -26,7 +26,7 @@ ghost use Rattle.fv_placement.specs.declared.first_placement.PlacementItem.{Plac
 ghost use Rattle.fv_placement.specs.inner.Reaches.{AreReaches, CanPlace, IsBound, IsGreatest, IsReach, IsUsableStart};
 ghost use Rattle.fv_placement.specs.Starts.{IsFirstPlacement, Placement};
 ghost use Rattle.fv_placement.specs.Items.{IsLawfulItem};
-ghost use Rattle.fv_placement.specs.NoPlacement.{IsOff, TopOff};
+ghost use Rattle.fv_placement.specs.NoPlacement.{IsMisaligned, TopMisaligned};
 
 use crate::reach::{Reach, is_usable_start, reach_of_none};
 use crate::usable_start::{first_start, greatest_start};
@@ -195,10 +195,10 @@ fn is_usable_below(total: u64, item: &PlacementItem, after: Reach, greatest: u64
 
 // Returns whether the only possible start of the volume top file is not a multiple of 8, or its
 // data are not aligned there.
-fn is_off(total: u64, item: &PlacementItem) -> bool
+fn is_misaligned(total: u64, item: &PlacementItem) -> bool
     requires total { total ≤ volume_limit }
     requires item { IsLawfulItem total item.now }
-    ensures { IsTrue result ↔ IsOff total item.now }
+    ensures { IsTrue result ↔ IsMisaligned total item.now }
 {
     let start = total - item.size;
     (start + item.header) % item.alignment != 0 || start % 8 != 0
@@ -208,13 +208,13 @@ fn is_off(total: u64, item: &PlacementItem) -> bool
 /// which it ends at the end of the volume of `total` bytes: the start is not a multiple of 8, or
 /// the file's data are not aligned there. `total` is within the limit of a volume, and the files
 /// are as for `first_starts`. Takes no memory. (PI specification, volume 3, section 3.2.1.3.)
-pub fn is_top_off(total: u64, items: &[PlacementItem]) -> bool
+pub fn is_top_misaligned(total: u64, items: &[PlacementItem]) -> bool
     requires total { total ≤ volume_limit }
     requires items { All (IsLawfulItem total) items.now }
-    ensures { IsTrue result ↔ TopOff total items.now }
+    ensures { IsTrue result ↔ TopMisaligned total items.now }
 {
     for item in items {
-        if item.top && is_off(total, item) {
+        if item.top && is_misaligned(total, item) {
             return true;
         }
     }

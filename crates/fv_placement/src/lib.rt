@@ -8,4 +8,4 @@ mod first_placement;
 mod reach;
 mod usable_start;
 
-pub use first_placement::{PlacementItem, first_starts, is_top_off};
+pub use first_placement::{PlacementItem, first_starts, is_top_misaligned};

@@ -21,6 +21,6 @@ pub trait Digests: Copy {
     /// rows after it. Afterwards it covers the rows after it.
     fn next_digest(&mut self, row: &Row<'_, '_>) -> Option<[u8; 32]>
         requires { (rest : List TreeRow) × covers self.old (row_of row.now ∷ rest) }
-        ensures shown { of_node (part_node row.now.part) result }
+        ensures digest { of_node (part_node row.now.part) result }
         ensures left { (rest : List TreeRow) → covers self.old (row_of row.now ∷ rest) → covers self.new rest };
 }

@@ -53,7 +53,7 @@ begins_in at r all =
     record {
       head = take n r;
       is_header = record {
-        whole = length-take-le n r whole;
+        header_length = length-take-le n r whole;
         kind_is = get_or-take n r 3 0 (omega (arith, low));
         states = says_size (has_extended_size r) (n + length body) r (take n r) refl (ap le (field-take 0 3 n r (omega (arith, low))))
             (λ e. ap le (field-take 4 4 n r (eight e))) (omega (arith, len, least));
@@ -94,31 +94,31 @@ frame_reads f r rest b =
     let h : List ℕ = b.head in
     let y : List ℕ = f.body ++ rest in
     let is = b.is_header in
-    let low : 4 ≤ length h = subst (λ (k : ℕ). 4 ≤ k) (sym is.whole) (head_least f.extended) in
+    let low : 4 ≤ length h = subst (λ (k : ℕ). 4 ≤ k) (sym is.header_length) (head_least f.extended) in
     let first : le_at 0 3 r ≡ le_at 0 3 h =
     ap (λ (l : List ℕ). le_at 0 3 l) b.text ∙ ap le (field-append_front 0 3 h y (omega (arith, low))) in
     let form : has_extended_size r ≡ f.extended = ap (λ (k : ℕ). k == 0xffffff) first ∙ shown f.extended (frame_len f) h is.states in
-    let n : section_header_len_at r ≡ length h = ap section_header_len form ∙ sym is.whole in
+    let n : section_header_len_at r ≡ length h = ap section_header_len form ∙ sym is.header_length in
     let all : section_size_at r ≡ frame_len f = ap (λ (t : Bool). section_size_in t r) form ∙ ap (section_size_in f.extended) b.text
-    ∙ sized f.extended (frame_len f) h y is.whole is.states in
+    ∙ sized f.extended (frame_len f) h y is.header_length is.states in
     let kind : slice_index r 3 ≡ f.kind =
     ap (λ (l : List ℕ). slice_index l 3) b.text ∙ get_or-append h y 0 3 (omega (arith, low)) ∙ is.kind_is in
     let long : length r ≡ frame_len f + length rest =
-    omega (arith, ap length b.text, length-append h y, length-append f.body rest, is.whole) in
-    let body_len : section_size_at r - section_header_len_at r ≡ length f.body = omega (arith, all, n, is.whole) in
+    omega (arith, ap length b.text, length-append h y, length-append f.body rest, is.header_length) in
+    let body_len : section_size_at r - section_header_len_at r ≡ length f.body = omega (arith, all, n, is.header_length) in
     let behind : drop (section_header_len_at r) r ≡ y =
     ap (drop (section_header_len_at r)) b.text ∙ drop_at h y (section_header_len_at r) (sym n) in
     let body : take (section_size_at r - section_header_len_at r) (drop (section_header_len_at r) r) ≡ f.body =
     ap (take (section_size_at r - section_header_len_at r)) behind
     ∙ take_at f.body rest (section_size_at r - section_header_len_at r) (sym body_len) in
     let flat : r ≡ (h ++ f.body) ++ rest = b.text ∙ sym (append_assoc h f.body rest) in
-    let front : length (h ++ f.body) ≡ frame_len f = omega (arith, length-append h f.body, is.whole) in
+    let front : length (h ++ f.body) ≡ frame_len f = omega (arith, length-append h f.body, is.header_length) in
     record {
       checks = λ at. (
         le-leb 4 (length r) (omega (arith, long, size_least f)),
         (
-          and_join _ _ (le-leb (section_header_len_at r) (length r) (omega (arith, n, is.whole, long)))
-              (and_join _ _ (le-leb (section_header_len_at r) (section_size_at r) (omega (arith, n, is.whole, all)))
+          and_join _ _ (le-leb (section_header_len_at r) (length r) (omega (arith, n, is.header_length, long)))
+              (and_join _ _ (le-leb (section_header_len_at r) (section_size_at r) (omega (arith, n, is.header_length, all)))
               (le-leb (section_size_at r) (length r) (omega (arith, all, long)))),
           tt,
         ),

@@ -134,7 +134,7 @@ behind_first at f (g ∷ fs) t b (filler, rest, begun, o, fill, more) =
     begun.text ∙ ap (λ l. begun.head ++ l) (sym (append_assoc f.body filler rest))
     ∙ sym (append_assoc begun.head (f.body ++ filler) rest) in
     let long : at + length x ≡ up_to_4 (at + frame_len f) =
-    omega (arith, length-append begun.head (f.body ++ filler), length-append f.body filler, begun.is_header.whole, fill) in
+    omega (arith, length-append begun.head (f.body ++ filler), length-append f.body filler, begun.is_header.header_length, fill) in
     let next : rest ≡ drop (up_to_4 (at + frame_len f)) b =
     sym (drop_at x rest (length x) refl) ∙ ap (drop (length x)) (sym text) ∙ drop-drop (length x) at b ∙ ap (λ n. drop n b) long in
     (t, subst (λ l. SplitsFrom (up_to_4 (at + frame_len f)) (g ∷ fs) t l) next more)

@@ -10,8 +10,8 @@ use Rattle.fv_section.specs.Words.{stream_of}
 -- a header that is written has its form, its type and its size
 pub head_is : (kind : ℕ) (extended : Bool) (n : ℕ) → FitsForm extended n → IsSectionHeader extended kind n (section_head_of kind extended n)
 head_is kind false n fits =
-    record { whole = refl; kind_is = refl; states = (le-le_bytes 3 (4 + n) (omega (arith, fits)), λ e. omega (arith, fits, e)) }
-head_is kind true n fits = record { whole = refl; kind_is = refl; states = (refl, le-le_bytes 4 (8 + n) (omega (arith, fits))) }
+    record { header_length = refl; kind_is = refl; states = (le-le_bytes 3 (4 + n) (omega (arith, fits)), λ e. omega (arith, fits, e)) }
+head_is kind true n fits = record { header_length = refl; kind_is = refl; states = (refl, le-le_bytes 4 (8 + n) (omega (arith, fits))) }
 
 begins_with : (f : FrameForm) (rest : List ℕ) → FitsForm f.extended (length f.body)
     → BeginsFrame f (section_head_of f.kind f.extended (length f.body) ++ (f.body ++ rest)) rest

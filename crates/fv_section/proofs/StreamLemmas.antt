@@ -159,7 +159,7 @@ form_fits true n h long (full, is) bytes =
 
 -- the body of a header in bytes fits its form
 pub fits_form : (extended : Bool) (kind n : ℕ) (h : List ℕ) → IsBytes h → IsSectionHeader extended kind n h → FitsForm extended n
-fits_form extended kind n h bytes is = form_fits extended n h is.whole is.states bytes
+fits_form extended kind n h bytes is = form_fits extended n h is.header_length is.states bytes
 
 -- the body of a frame in bytes fits the form of its header
 pub fits : (f : FrameForm) (b rest : List ℕ) → IsBytes b → BeginsFrame f b rest → FitsForm f.extended (length f.body)

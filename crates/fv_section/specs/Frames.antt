@@ -29,7 +29,7 @@ StatesSize true n h = (le_at 0 3 h ≡ 0xffffff) × (le_at 4 4 h ≡ n)
 -- h is the header of a section of this form and type whose body has n bytes; the size that it states includes the
 -- header
 pub record IsSectionHeader (extended : Bool) (kind n : ℕ) (h : List ℕ) : Type 0 where
-  pub whole : length h ≡ section_header_len extended
+  pub header_length : length h ≡ section_header_len extended
   pub kind_is : slice_index h 3 ≡ kind
   pub states : StatesSize extended (section_header_len extended + n) h
 

@@ -23,4 +23,4 @@ pub record IsVersion (b : List ℕ) (build : ℕ) (text : List ℕ) : Type 0 whe
 -- b is the 16 bytes of a GUID, followed by rest
 pub record IsFreeform (b : List ℕ) (guid : Guid) (rest : List ℕ) : Type 0 where
   pub joined : b ≡ bytes_of guid ++ rest
-  pub whole : length (bytes_of guid) ≡ 16
+  pub guid_length : length (bytes_of guid) ≡ 16

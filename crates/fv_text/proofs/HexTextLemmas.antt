@@ -13,7 +13,7 @@ text_put laws s t u p bytes q none short took last = (
     lines = took.lines;
     last = q;
     joined = sym (ap (λ (l : List ℕ). l ++ bytes) none) ∙ took.joined;
-    whole = took.whole;
+    whole_lines = took.whole_lines;
     short = short;
     text_is = refl;
   },

@@ -39,7 +39,7 @@ pub record IsHexText (bytes text : List ℕ) : Type 0 where
   pub lines : List (List ℕ)
   pub last : List ℕ
   pub joined : bytes ≡ concat lines ++ last
-  pub whole : AllByRecursion IsWholeLine lines
+  pub whole_lines : AllByRecursion IsWholeLine lines
   pub short : length last < 32
   pub text_is : text ≡ lines_text lines ++ last_text last
 

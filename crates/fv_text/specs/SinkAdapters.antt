@@ -28,7 +28,7 @@ pub record Lined {S : Type 0} (takes : S → List ℕ → S → Type 0) (s : S) 
     (q : List ℕ) : Type 0 where
   pub lines : List (List ℕ)
   pub joined : p ++ bytes ≡ concat lines ++ q
-  pub whole : AllByRecursion IsWholeLine lines
+  pub whole_lines : AllByRecursion IsWholeLine lines
   pub taken : takes s (lines_text lines) t
 
 -- how a sink of lines takes bytes: a first part of the waiting bytes and the new bytes is put into the sink below as

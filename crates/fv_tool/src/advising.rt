@@ -35,7 +35,7 @@ fn finds_volumes(command: &Command) -> bool {
 }
 
 // Says that no volume was found, if the command that wrote nothing looks for volumes.
-fn explain_silence<P: Process>(alloc: Global, process: &P) {
+fn explain_no_output<P: Process>(alloc: Global, process: &P) {
     let Ok(words) = arguments(alloc, process) else {
         return;
     };
@@ -59,7 +59,7 @@ pub fn advise<P: Process>(alloc: Global, process: &P, ending: Ending, is_written
     }
     match ending.status {
         Status::WrongArguments => explain_arguments(alloc, process),
-        Status::Done if !process.has_written() => explain_silence(alloc, process),
+        Status::Done if !process.has_written() => explain_no_output(alloc, process),
         _ => {}
     }
 }

@@ -11,7 +11,7 @@ use Rattle.fv_base.specs.declared.flash.Polarity.{Polarity}
 use Rattle.fv_base.specs.declared.fault.Place.{Place}
 use Rattle.fv_base.proofs.Laws.{all_filter, bytes_back, bytes_drop, bytes_front}
 use Rattle.std.proofs.lemmas.List.{length-drop}
-use Rattle.fv_file.specs.Words.{CellForm, Valid, Pad, Dead, Stub, Free, Tiles, IsCell, offset_of, CellsWithin, IsMadeUp, cell_len}
+use Rattle.fv_file.specs.Words.{CellForm, Valid, Pad, Dead, Stub, Free, Tiles, IsCell, offset_of, CellsWithin, LengthsAgree, cell_len}
 use Rattle.fv_file.proofs.Laws.{cell_span}
 use Rattle.fv_head.specs.declared.extent.Extent.{Extent}
 use Rattle.fv_tree.specs.inner.ReadingParts.{IsReadyFile, AllStored}
@@ -37,7 +37,7 @@ files_first n I e volume at fs g stand first = grind (arith, common_steps)
 
 stored_here : (s : FileSystem) (p : Polarity) (c : CellForm) (x : List ℕ) (base end : ℕ) (cs : List CellForm) → IsBytes x
     → length x ≤ volume_limit → base + end < 2 ^ 63 → IsCell s p c x
-    → offset_of c + cell_len c ≤ end → IsMadeUp c → AllStored base (files_in cs) → AllStored base (files_in (c ∷ cs))
+    → offset_of c + cell_len c ≤ end → LengthsAgree c → AllStored base (files_in cs) → AllStored base (files_in (c ∷ cs))
 stored_here s p (Valid at head payload) x base end cs small short fits is lies made rest = (
   (
     (s, p, x, small, short, is),

@@ -104,11 +104,11 @@ module _ (n : ℕ) (low : SectionLies n) (e : Fault) (at : Place) where
   volume_by b (inl moved) = moved_lies _ at (length b) n e (fault_within b) moved
   volume_by b (inr (h, x, front, first)) =
       let v : List ℕ = take x.length b in
-      let long : length v ≡ x.length = length-take-le x.length b front.whole in
+      let long : length v ≡ x.length = length-take-le x.length b front.is_within in
       let end : x.first + length (drop x.first v) ≡ length v =
       omega (arith, long, length-drop x.first v, (first_lies b h x front).1) in
       let lies = body_by x v end first in
-      (omega (arith, lies.0, long, front.whole), lies.1)
+      (omega (arith, lies.0, long, front.is_within), lies.1)
 
 -- ---- the recursion
 

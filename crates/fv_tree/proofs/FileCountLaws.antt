@@ -44,4 +44,4 @@ few_files n b m d =
     )
 
 pub few_of : (m : Meaning) → IsMeaning m → length (files_of m) < 2 ^ 32
-few_of m (n, low, b, small, d) = omega (arith, few_files n b m d, d.whole, (front_lies b (head_of m) d.extent d.begins).limit)
+few_of m (n, low, b, small, d) = omega (arith, few_files n b m d, d.length_is, (front_lies b (head_of m) d.extent d.begins).limit)

@@ -55,7 +55,7 @@ header_kept b o h e front long same =
     record {
       head = subst (IsHead h) (sym (front_kept e b o same e.header_len ext.1)) front.head;
       long_enough = omega (arith, front.long_enough, long);
-      whole = omega (arith, front.whole, long);
+      is_within = omega (arith, front.is_within, long);
       ext = ext.0;
       length_is = front.length_is;
       file_system = front.file_system;
@@ -72,16 +72,16 @@ kept : (b o body : List ℕ) (e : Extent) → Unfixes e b o body → Kept e b o 
 kept b o body e u =
     let lies = first_lies b u.head e u.begins in
     let size : length (field e.first (e.length - e.first) b) ≡ e.length - e.first =
-    length-take-le (e.length - e.first) (drop e.first b) (omega (arith, length-drop e.first b, u.begins.whole, lies.1)) in
+    length-take-le (e.length - e.first) (drop e.first b) (omega (arith, length-drop e.first b, u.begins.is_within, lies.1)) in
     let long : length body ≡ e.length - e.first = length-unmarks _ _ _ _ _ _ u.marks ∙ size in
-    let before : length (take e.first b) ≡ e.first = length-take-le e.first b (omega (arith, u.begins.whole, lies.1)) in
+    let before : length (take e.first b) ≡ e.first = length-take-le e.first b (omega (arith, u.begins.is_within, lies.1)) in
     let whole : take e.length o ≡ take e.first b ++ body =
     ap (take e.length) (u.text ∙ sym (append_assoc (take e.first b) body (drop e.length b)))
     ∙ take-append_all (take e.first b ++ body) (drop e.length b) e.length
     (length-append (take e.first b) body ∙ omega (arith, before, long, lies.1)) in
     record {
       length_is = ap length u.text ∙ length-append (take e.first b) (body ++ drop e.length b)
-          ∙ omega (arith, before, long, length-append body (drop e.length b), length-drop e.length b, u.begins.whole, lies.1);
+          ∙ omega (arith, before, long, length-append body (drop e.length b), length-drop e.length b, u.begins.is_within, lies.1);
       prefix = ap (take e.first) u.text ∙ take-append_all (take e.first b) (body ++ drop e.length b) e.first before;
       body_is = ap (drop e.first) whole ∙ drop-append_all (take e.first b) body e.first before;
     }

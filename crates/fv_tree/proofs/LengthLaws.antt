@@ -44,7 +44,7 @@ stream_long R each (MoreSections s ss) tail b (f ∷ fs, split, p) = let z = fro
     (arith, z)
 
 volume_long : (S : StreamRelation) (b : List ℕ) (m : Meaning) → VolumeOver S b m → length_of m ≡ length b
-volume_long S b (Volume h fs) d = sym (d.whole ∙ d.begins.length_is)
+volume_long S b (Volume h fs) d = sym (d.length_is ∙ d.begins.length_is)
 
 section_long_over : (R : SectionRelation) (S : StreamRelation) → AsLong R → (f : FrameForm) (s : SectionMeaning)
     → SectionOver (StreamOver R) (VolumeOver S) f s → section_len s ≡ frame_len f

@@ -46,13 +46,13 @@ pub located_data : (b : List ℕ) (h : HeadFields) (e : Extent) (fs : List FileF
     → AllByRecursion (HasDataIn b) fs
 located_data b h e fs front stand =
     let v : List ℕ = take e.length b in
-    let long : length v ≡ e.length = length-take-le e.length b front.whole in
+    let long : length v ≡ e.length = length-take-le e.length b front.is_within in
     let all : e.first + length (drop e.first v) ≡ length v = omega (arith, length-drop e.first v, long, (first_lies b h e front).1) in
     let within = subst (λ n. CellsWithin n stand.cells) all
     (all_within e.file_system e.polarity e.first stand.cells (drop e.first v) stand.tiles) in
     let files = all_files v stand.cells (body_payloads e.file_system e.polarity e.first stand.cells v stand.tiles) within in
     let kept = all_filter (λ f. not (list_any (replaced_by f) (files_in stand.cells))) (HasDataIn v) (files_in stand.cells) files in
-    in_front e.length b fs front.whole (subst (AllByRecursion (HasDataIn v)) (sym stand.current.files_are) kept)
+    in_front e.length b fs front.is_within (subst (AllByRecursion (HasDataIn v)) (sym stand.current.files_are) kept)
 
 pub begun_data : (b : List ℕ) (fs : List FileForm) → BeginWithFiles b fs → AllByRecursion (HasDataIn b) fs
 begun_data b fs (h, e, front, stand) = located_data b h e fs front stand

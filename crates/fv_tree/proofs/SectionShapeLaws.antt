@@ -66,14 +66,14 @@ opens_found b h =
       least = leb-true _ _ r.0;
       signature = (bytes_eq-Decides _ _).0 r.1;
       file_system = system_is b (bytes_eq (field 16 16 b) (system_guid Ffs2)) (bytes_eq (field 16 16 b) (system_guid Ffs3)) refl refl q.1;
-      whole = eqb-true _ _ p.1;
+      length_is = eqb-true _ _ p.1;
     }
 
 pub opens_holds : (b : List ℕ) → Opens b → is_one_volume b ≡ true
 opens_holds b o =
     and_join _ _ (and_join _ _ (and_join _ _ (le-leb 56 (length b) o.least) ((bytes_eq-Decides _ _).1 o.signature))
     (system_some b o.file_system.0 o.file_system.1))
-    ((Decides-eqb _ _).1 o.whole)
+    ((Decides-eqb _ _).1 o.length_is)
 
 -- ---- the shapes
 

@@ -53,7 +53,7 @@ header_follows system polarity head payload b small filled alive sound =
     let bits : attribute_bits head.attributes ≡ attributes_at h =
     ap (λ (k : FileHead). attribute_bits k.attributes) file.is_header.fields in
     let long : length h ≡ header_len_by (attribute_bits head.attributes) =
-    file.is_header.whole ∙ ap (λ (n : ℕ). file_header_len (is_large n)) (sym bits) in
+    file.is_header.header_length ∙ ap (λ (n : ℕ). file_header_len (is_large n)) (sym bits) in
     let in_file : IsBytes filled.file = bytes_front filled.file filled.filler (subst IsBytes filled.text small) in
     let in_header : IsBytes h = bytes_front h payload (subst IsBytes file.text in_file) in
     let below : head.file_sum < 256 =

@@ -22,7 +22,7 @@ stopped input f stops = record { none = λ o to. none_unfixed input f stops o to
 pub bytes_follow : (input o : List ℕ) (f : Fault) (h : HeadFields) (e : Extent) → IsUnfixed input o → BeginsVolume h e input
     → nat_eq e.length (length input) ≡ false → f ≡ outer_fault kinds.Length e.length → NotUnfixed input f
 bytes_follow input o f h e unfixed front other is =
-    let less : e.length < length input = grind (arith, nat_tests, front.whole) in
+    let less : e.length < length input = grind (arith, nat_tests, front.is_within) in
     record {
       none = λ x to.
           let one = (one_front input h to.1.0 e to.1.1 front to.1.2).1 in

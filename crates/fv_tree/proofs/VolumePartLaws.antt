@@ -31,14 +31,14 @@ pub made : (n : ℕ) (b : List ℕ) (h : HeadFields) (e : Extent) (ms : List Fil
     → HasFiles (Stream n) e (take e.length b) ms
     → Denotes n (take e.length b) (Volume h (files_from ms))
 made n b h e ms front has =
-    let long : length (take e.length b) ≡ e.length = length-take-le e.length b front.whole in
+    let long : length (take e.length b) ≡ e.length = length-take-le e.length b front.is_within in
     let P : List FileMeaning → Type 0 = λ l. HasFiles (Stream n) e (take e.length b) l in
     let all : HasFiles (Stream n) e (take e.length b) (files_list (files_from ms)) = subst P (sym (files_list_back ms)) has in
     let stand : AreFilesOf e (take e.length b) all.0 = all.1 in
     record {
       extent = e;
       begins = front_same b (take e.length b) h e front (omega (arith, long)) (take-take_le e.length e.length b (omega arith));
-      whole = long;
+      length_is = long;
       cells = stand.cells;
       tiles = stand.tiles;
       files = all.0;
@@ -51,7 +51,7 @@ made n b h e ms front has =
 pub front_of : (n k : ℕ) (b : List ℕ) (m : Meaning) → k ≤ length b → (d : Denotes n (take k b) m) → BeginsVolume (head_of m) d.extent b
     × (d.extent.length ≡ k)
 front_of n k b m within d =
-    let same : k ≡ d.extent.length = sym (length-take-le k b within) ∙ d.whole in (
+    let same : k ≡ d.extent.length = sym (length-take-le k b within) ∙ d.length_is in (
       front_same (take k b) b (head_of m) d.extent d.begins (omega (arith, same, within)) (ap (λ (j : ℕ). take j b) (sym same)
           ∙ sym (ap (λ (j : ℕ). take j (take k b)) (sym same) ∙ take-take_le k k b (omega arith))),
       sym same,
@@ -86,6 +86,6 @@ opened_whole n r b m o within d =
     let f = front_of n r b m within d in
     let says = front_extent b (head_of m) d.extent f.0 in
     let len : volume_len_at b ≡ d.extent.length = ap (λ (x : Extent). x.length) says.1 in
-    let same : r ≡ length b = sym f.1 ∙ sym len ∙ o.whole in
+    let same : r ≡ length b = sym f.1 ∙ sym len ∙ o.length_is in
     let P : List ℕ → Type 0 = λ c. Denotes n c m in
     subst P (take_all r b (omega (arith, same))) d

@@ -26,7 +26,7 @@ pub record Opens (b : List ℕ) : Type 0 where
   pub least : 56 ≤ length b
   pub signature : field 40 4 b ≡ signature_bytes
   pub file_system : (system : FileSystem) × (field 16 16 b ≡ system_guid system)
-  pub whole : le_at 32 8 b ≡ length b
+  pub length_is : le_at 32 8 b ≡ length b
 
 -- whether files of this type hold sections: types 02 and 04 to 0F do (section 3.2.3, EFI_FV_FILETYPE_FREEFORM, and
 -- EFI_FV_FILETYPE_PEI_CORE to EFI_FV_FILETYPE_MM_CORE_STANDALONE)
@@ -77,7 +77,7 @@ MeansFile is_stream f (File name kind attributes content) =
 pub record VolumeOver (is_stream : StreamRelation) (b : List ℕ) (m : Meaning) : Type 0 where
   pub extent : Extent
   pub begins : BeginsVolume (head_of m) extent b
-  pub whole : length b ≡ extent.length
+  pub length_is : length b ≡ extent.length
   pub cells : List CellForm
   pub tiles : Tiles extent.file_system extent.polarity extent.first cells (drop extent.first b)
   pub files : List FileForm

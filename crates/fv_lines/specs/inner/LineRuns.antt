@@ -2,7 +2,7 @@
 use Rattle.std.specs.Prelude.{ℕ, ◌+◌, ◌≤◌, List}
 use Rattle.std.specs.List.{AllByRecursion, sum_by}
 use Rattle.fv_base.specs.Words.{volume_limit}
-use Rattle.fv_file.specs.Words.{CellForm, offset_of, IsMadeUp, cell_len}
+use Rattle.fv_file.specs.Words.{CellForm, offset_of, LengthsAgree, cell_len}
 use Rattle.fv_lines.specs.CellTexts.{dead_length, file_length, filler_length, free_length, pad_length}
 use Rattle.fv_lines.specs.declared.cell_text.LengthSums.{LengthSums}
 use Rattle.fv_rows.specs.Words.{TreeRow}
@@ -10,10 +10,10 @@ use Rattle.fv_lines.specs.ListTexts.{DigestOf, RowsText}
 use Rattle.fv_lines.specs.Notes.{AreNotes, HeldDepex, depex_lines}
 use Rattle.fv_lines.specs.declared.depex_notes.DepexNote.{DepexNote}
 
--- a cell ends within the bytes that a volume may have, and its lengths agree (`IsMadeUp`)
+-- a cell ends within the bytes that a volume may have, and its lengths agree (`LengthsAgree`)
 pub record Fits (c : CellForm) : Type 0 where
   pub within : offset_of c + cell_len c ≤ volume_limit
-  pub made_up : IsMadeUp c
+  pub lengths_agree : LengthsAgree c
 
 -- each of the cells fits, and together they have at most as many bytes as a volume may have
 pub record FitTogether (cells : List CellForm) : Type 0 where

@@ -52,7 +52,7 @@ lined_joined takes laws s t u p q r a b x y = record {
   joined = sym (append_assoc p a b) ∙ ap (λ (l : List ℕ). l ++ b) x.joined ∙ append_assoc (concat x.lines) q b
       ∙ ap (λ (l : List ℕ). concat x.lines ++ l) y.joined ∙ sym (append_assoc (concat x.lines) (concat y.lines) r)
       ∙ ap (λ (l : List ℕ). l ++ r) (sym (concat-append x.lines y.lines));
-  whole = whole_more x.lines y.lines x.whole y.whole;
+  whole_lines = whole_more x.lines y.lines x.whole_lines y.whole_lines;
   taken = subst (λ (l : List ℕ). takes s l u) (sym (flat_map-append line_text x.lines y.lines))
       (laws.joined x.taken y.taken);
 }
@@ -61,4 +61,4 @@ pub hex_by : {S H : Type 0} (takes : S → List ℕ → S → Type 0) (below : H
     → WalkLaws (HexTakes takes below waiting)
 hex_by takes below waiting laws =
     waiting_by (Lined takes) below waiting
-    (λ s p. record { lines = []; joined = append-nil p; whole = tt; taken = laws.none s }) (lined_joined takes laws)
+    (λ s p. record { lines = []; joined = append-nil p; whole_lines = tt; taken = laws.none s }) (lined_joined takes laws)

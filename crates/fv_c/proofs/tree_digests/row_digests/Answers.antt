@@ -28,7 +28,7 @@ loop-row-preserved c =
       λ others are. subst (λ found. AreRowDigests found c.into_iter-row-iterator.result)
           (sym (append_assoc c.loop-row.found.items _ others) ∙ sym (ap (λ l. l ++ others) c.in_ok-push.ensures.items))
           (c.loop-row.invariant.3 (_ ∷ others) (subst (AreRowDigests (_ ∷ others)) (sym c.in-Some.ensures.steps)
-          ((_, c.next_digest-digest.ensures.shown, c.unwrap_or.ensures), are))),
+          ((_, c.next_digest-digest.ensures.digest, c.unwrap_or.ensures), are))),
     )
 
 pub returns : goal.returns

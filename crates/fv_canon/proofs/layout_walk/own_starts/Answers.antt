@@ -5,8 +5,8 @@ use Rattle.fv_placement.specs.Words.{IsLawfulItem}
 use Rattle.fv_placement.specs.declared.first_placement.PlacementItem.{PlacementItem}
 use Rattle.fv_canon.proofs.layout_walk.own_starts.Goals as goal
 
-pub is_top_off-requires-clause-items : goal.is_top_off-requires-clause-items
-is_top_off-requires-clause-items c =
+pub is_top_misaligned-requires-clause-items : goal.is_top_misaligned-requires-clause-items
+is_top_misaligned-requires-clause-items c =
     let total = c.length-total.ensures ∙ ap (λ (h : HeadFields). h.length) c.head-head.ensures.head in
     subst (λ (ps : List PlacementItem). All (IsLawfulItem c.length-total.result) ps) (sym c.as_slice.ensures.value)
     (subst (λ (n : ℕ). All (IsLawfulItem n) c.in_ok-items.items.items) (sym total) c.in_ok-items.ensures.ok.1)

@@ -22,7 +22,7 @@ loop-row-preserved g c =
       c.next_digest-digest.ensures.left _ covered,
       λ end puts. c.loop-row.invariant.3 end
           (subst (λ rows. PutsRows takes of_node rows c.loop-row.out end) (sym c.in-Some.ensures.steps)
-          (puts_next g.S.Sink.laws of_node (row_of c.in-Some.row) _ _ c.next_digest-digest.ensures.shown c.put_row.ensures puts)),
+          (puts_next g.S.Sink.laws of_node (row_of c.in-Some.row) _ _ c.next_digest-digest.ensures.digest c.put_row.ensures puts)),
     )
 
 pub returns : goal.returns

@@ -140,16 +140,16 @@ read_with_files-returns-in-Err-clause-memory t c = λ want. go c.in-Err.ensures.
       ∙ ap (λ (f : Fault). f.kind) want))
 
 pub read_with_files-slice_bounds-volume-end : goal.read_with_files-slice_bounds-volume-end
-read_with_files-slice_bounds-volume-end t c = sym (length-take-le c.in-Ok.read.1.length c.args.bytes.now c.in-Ok.ensures.found.whole)
+read_with_files-slice_bounds-volume-end t c = sym (length-take-le c.in-Ok.read.1.length c.args.bytes.now c.in-Ok.ensures.found.is_within)
 
 pub read_with_files-files_in_body-requires : goal.read_with_files-files_in_body-requires
 read_with_files-files_in_body-requires t c =
     let found = c.in-Ok.ensures.found in
-    let long = length-take-le c.in-Ok.read.1.length c.args.bytes.now found.whole in
+    let long = length-take-le c.in-Ok.read.1.length c.args.bytes.now found.is_within in
     let lies = front_lies c.args.bytes.now c.in-Ok.read.0 c.in-Ok.read.1 found in
     let first = first_lies c.args.bytes.now c.in-Ok.read.0 c.in-Ok.read.1 found in
     record {
-      place = omega (arith, long, found.whole, c.requires.place);
+      place = omega (arith, long, found.is_within, c.requires.place);
       small = omega (arith, long, lies.limit);
       multiple = omega (arith, long, first.2);
       first_multiple = first.0;
@@ -219,7 +219,7 @@ read_with_files-returns-clause-read t c = rw c.new.ensures (volume_made t (goal.
 
 pub read_with_files-returns-clause-length : goal.read_with_files-returns-clause-length
 read_with_files-returns-clause-length t c =
-    (c.in-Ok.ensures.found.length_is ∙ ap length_of (sym c.new.ensures), c.in-Ok.ensures.found.whole)
+    (c.in-Ok.ensures.found.length_is ∙ ap length_of (sym c.new.ensures), c.in-Ok.ensures.found.is_within)
 
 -- ---- a stream
 

@@ -21,7 +21,7 @@ pub cells-requires : goal.cells-requires
 cells-requires c =
     let e = c.in_ok-extent.extent in
     let f = first_lies c.args.bytes.now c.in_ok-extent.ensures.found.0 e c.in_ok-extent.ensures.found.1 in
-    let n = length-take-le e.length c.args.bytes.now c.in_ok-extent.ensures.found.1.whole in
+    let n = length-take-le e.length c.args.bytes.now c.in_ok-extent.ensures.found.1.is_within in
     record {
       multiple = omega (arith, f.2, n);
       first_multiple = f.0;

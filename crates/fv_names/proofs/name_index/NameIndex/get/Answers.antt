@@ -31,7 +31,7 @@ returns-in_default c = λ names has.
     let same = c.deref.ensures.value in
     let at : HoldsAt (λ e. entry_cmp e (c.halves-key.result, 0) ≡ Equal) es k =
     subst (λ (l : List Entry). HoldsAt (λ e. entry_cmp e (c.halves-key.result, 0) ≡ Equal) l k) same c.in_default.ensures.ok in
-    found_first es c.args.name.now names c.halves-key.ensures.whole has ((0, 0), 0) k (subst (λ (l : List Entry). k < length l) same
+    found_first es c.args.name.now names c.halves-key.ensures.sixteen has ((0, 0), 0) k (subst (λ (l : List Entry). k < length l) same
     c.in_default.ensures.bound) (subst (λ (h : Halves). HoldsAt (λ e. entry_cmp e (h, 0) ≡ Equal) es k) c.halves-key.ensures.is at)
 
 pub returns-then-eq : goal.returns-then-eq
@@ -45,7 +45,7 @@ returns-then-eq c = λ names has.
     let cut = cuts_there es c.deref.result.now key (halves_of c.args.name.now) place c.deref.ensures.value c.halves-key.ensures.is
     c.in-Err.ensures.position (rises es (halves_of c.args.name.now) names has) in
     ap (λ (e : Entry). Some e.1) c.index-then-eq.ensures
-    ∙ found_there es c.args.name.now names c.halves-key.ensures.whole has d place cut.0 l
+    ∙ found_there es c.args.name.now names c.halves-key.ensures.sixteen has d place cut.0 l
     (ap (λ (e : Entry). e.0) (get_or_default es place d a l ∙ sym c.index.ensures)
     ∙ (halves_decide a.0 key).0 (sym c.if-eq.ensures) ∙ c.halves-key.ensures.is)
 
@@ -64,4 +64,4 @@ returns c = λ names has.
           (ap (λ (e : Entry). e.0) (w.index.ensures ∙ get_or_default es place a d l) ∙ is ∙ sym c.halves-key.ensures.is)
       | else-place-len-via-else-place-len w ↦ absurd (omega (arith, w.if-place-len.false, l, c.len.ensures))
     ] in
-    found_none es c.args.name.now names c.halves-key.ensures.whole has d place cut.0 cut.1 other
+    found_none es c.args.name.now names c.halves-key.ensures.sixteen has d place cut.0 cut.1 other

@@ -51,7 +51,7 @@ loop-file-preserved g c =
           ∙ ap (λ (n : ℕ). take i (numbered 0 (names_in files)) ++ (c.halves.result, n) ∷ []) number
           ∙ ap (λ (h : Halves). take i (numbered 0 (names_in files)) ++ (h, i) ∷ []) (c.halves.ensures.is ∙ ap halves_of (here no_named))
           ∙ sym (entry_more files i l);
-      whole = AllWithin-more HasName files 0 i c.loop-file.invariant.whole (λ d. subst IsName (here d) c.halves.ensures.whole);
+      whole = AllWithin-more HasName files 0 i c.loop-file.invariant.whole (λ d. subst IsName (here d) c.halves.ensures.sixteen);
     }
 
 pub returns-clause-found : goal.returns-clause-found
@@ -66,5 +66,5 @@ returns-clause-found g c =
     record {
       ordered = c.sort_unstable.ensures.sorted;
       all = subst (λ es. IsPermutation es c.sort_unstable.new.self.items) items c.sort_unstable.ensures.permutation;
-      whole = recursion_from_All IsName (names_in files) (All-map IsName (λ (f : NamedFile). f.name) files whole);
+      are_names = recursion_from_All IsName (names_in files) (All-map IsName (λ (f : NamedFile). f.name) files whole);
     }

@@ -13,7 +13,7 @@ returns-clause-takes g c =
     record {
       lines = line ∷ [];
       joined = sym c.copy_to.ensures.copied ∙ all ∙ sym (append-nil line) ∙ sym (append-nil (line ++ []));
-      whole = (omega (arith, c.copy_to.ensures.len), tt);
+      whole_lines = (omega (arith, c.copy_to.ensures.len), tt);
       taken = subst (λ (l : List ℕ). g.S.Sink.takes c.args.self.now.below l c.put_line.new.out) (sym (append-nil (line_text line)))
           c.put_line.ensures;
     }
