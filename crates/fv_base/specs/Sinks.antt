@@ -78,5 +78,5 @@ LatchedWrites s false bytes t false = t ≡ s
 
 -- how a sink takes bytes that it writes to a port; `view` gives the state of the port, `on` whether the sink is on, and
 -- `name` a name that never changes. The bytes are written as `LatchedWrites` says
-abbrev pub SeenTakes : {S N : Type 0} (view : S → PortState) (on : S → Bool) (name : S → N) → S → List ℕ → S → Type 0
-SeenTakes view on name s bytes t = (name t ≡ name s) × LatchedWrites (view s) (on s) bytes (view t) (on t)
+abbrev pub WriteTakes : {S N : Type 0} (view : S → PortState) (on : S → Bool) (name : S → N) → S → List ℕ → S → Type 0
+WriteTakes view on name s bytes t = (name t ≡ name s) × LatchedWrites (view s) (on s) bytes (view t) (on t)

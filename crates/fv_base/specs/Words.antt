@@ -17,4 +17,4 @@ pub use Rattle.fv_base.specs.Input.{ReadStops, WriteStops}
 pub use Rattle.fv_base.specs.Port.{inner_of, has_erred, is_flushed, write_fails}
 pub use Rattle.fv_base.specs.Sinks.{WalkLaws, kept_in, is_on, KeptLatched, KeptTakes, port_of, port_name, is_writing}
 pub use Rattle.fv_base.specs.Sinks.{written_count, PortState, WritesBytes, WritesAll, WritesPrefix, LatchedWrites}
-pub use Rattle.fv_base.specs.Sinks.{SeenTakes}
+pub use Rattle.fv_base.specs.Sinks.{WriteTakes}

@@ -5,9 +5,9 @@ ghost use Rattle.std.specs.Prelude.{IfOk, IfErr, OnErr, OnOk};
 ghost use Rattle.std.specs.Io.KnownBytes.{Appends};
 ghost use Rattle.fv_base.specs.Faults.{outer_fault, out_of_memory};
 ghost use Rattle.fv_base.specs.Port.{inner_of, has_erred};
-ghost use Rattle.fv_base.specs.Sinks.{WalkLaws, KeptTakes, kept_in, is_on, SeenTakes, is_writing, port_name, port_of};
+ghost use Rattle.fv_base.specs.Sinks.{WalkLaws, KeptTakes, kept_in, is_on, WriteTakes, is_writing, port_name, port_of};
 ghost use Rattle.fv_base.specs.Sinks.{written_count};
-ghost use Rattle.fv_base.specs.inner.SinkLaws.{kept_by, seen_by};
+ghost use Rattle.fv_base.specs.inner.SinkLaws.{kept_by, write_by};
 
 use crate::byte_list::ByteList;
 use crate::fault::{Fault, FaultKind};
@@ -62,11 +62,11 @@ pub struct WriteSink<'a, W: Write> {
 /// counts them. When a write fails, it has written and counted only a first part of the bytes, the
 /// port's error flag is set, and the sink goes off. From then on nothing changes.
 impl<'a, W: Write> Sink for WriteSink<'a, W> {
-    ghost takes = { SeenTakes
+    ghost takes = { WriteTakes
         (λ s. record { contents = W.contents (inner_of s.port.now); erred = has_erred s.port.now; count = s.count })
         (λ s. s.on) (λ s. s.port.ghost_name) };
 
-    ghost laws = { seen_by
+    ghost laws = { write_by
         (λ s. record { contents = W.contents (inner_of s.port.now); erred = has_erred s.port.now; count = s.count })
         (λ s. s.on) (λ s. s.port.ghost_name) };
 

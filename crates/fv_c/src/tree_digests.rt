@@ -4,7 +4,7 @@
 ghost use Rattle.std.specs.Prelude.{◌≡◌, ◌≢◌, ◌<◌, ◌++◌, ℕ, List, length, drop, IfOk, IfErr};
 ghost use Rattle.fv_base.specs.Words.{OrMemory, fault_number, out_of_memory};
 ghost use Rattle.fv_base.specs.declared.fault.Fault.{Fault};
-ghost use Rattle.fv_canon.specs.Words.{LaysVolume, NormalisesTo, Rejects};
+ghost use Rattle.fv_canon.specs.Words.{AreAllStarts, NormalisesTo, Rejects};
 ghost use Rattle.fv_c.specs.Reports.{BeginsWithHeader, reported_fault, no_fault};
 ghost use Rattle.fv_c.specs.TreeParts.{tree_rows};
 ghost use Rattle.fv_c.specs.ReportedDigests.{AreDigests, HasTreeDigests};
@@ -24,7 +24,7 @@ fn row_digests(
     volume: &VolumeView<'_>,
     starts: &[u64],
 ) -> Result<Vec<FvSha256>, AllocError>
-    requires { LaysVolume volume.now starts.now }
+    requires { AreAllStarts volume.now starts.now }
     ensures { IfOk result (λ v. AreDigests v.items (tree_rows volume.now)) }
 {
     let mut found = Vec::new(alloc);

@@ -1,6 +1,6 @@
 -- In the walk over the rows of a volume, the starts that are left begin with the starts of the volumes that are left.
 use Rattle.std.proofs.Common.{◌≡◌, ◌∙◌, ◌+◌, ℕ, List, [], ◌∷◌, ◌++◌, drop, sym, ap, subst}
-use Rattle.fv_canon.specs.LayoutForms.{BeginsWithStarts, StartsOfEach, LaysVolume}
+use Rattle.fv_canon.specs.LayoutForms.{BeginsWithStarts, StartsOfEach, AreAllStarts}
 use Rattle.fv_canon.specs.Layouts.{AreStarts}
 use Rattle.fv_canon.proofs.PartLengthLaws.{begin_all}
 use Rattle.fv_canon.proofs.VolumeListLaws.{begins_first}
@@ -70,7 +70,7 @@ file_next d n i node (File name kind attributes content) rest starts is followed
 -- ---- all rows
 
 -- if the starts are a layout of a volume, the digests with these starts cover all rows of the volume
-pub layout_covers : (m : Meaning) (starts : List ℕ) (d : ImageDigests) → d.starts.now ≡ starts → LaysVolume m starts
+pub layout_covers : (m : Meaning) (starts : List ℕ) (d : ImageDigests) → d.starts.now ≡ starts → AreAllStarts m starts
     → Covers (λ (e : ImageDigests). e.starts.now) d (tree_rows m)
 layout_covers m starts d is laid = (
   rows_followed m,

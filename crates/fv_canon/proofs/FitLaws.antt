@@ -8,15 +8,15 @@ use Rattle.fv_placement.specs.Words.{HasNoRoom, TopMisaligned, IsFirstPlacement}
 use Rattle.fv_placement.proofs.Laws.{agree, placed_or_not, top_none}
 use Rattle.fv_tree.specs.Words.{Meaning, head_of, length_of, Inside, volumes_in}
 use Rattle.fv_canon.specs.Words.{IsOfLayout, Rejects, WhatDoesNotFitIsRejected, placement_items, AreStarts, IsPlaced, Fits, AreLeast, StartsOfEach}
-use Rattle.fv_canon.specs.Words.{LaysVolume, LeastVolume, layout_fault, AllFit, UnfitHere, FirstUnplaced, Unfit}
+use Rattle.fv_canon.specs.Words.{AreAllStarts, AreAllLeastStarts, layout_fault, AllFit, UnfitHere, FirstUnplaced, Unfit}
 use Rattle.fv_canon.proofs.UnfitKinds.{unfit_is}
 use Rattle.fv_canon.proofs.VolumeListLaws.{laid_fit, fit_laid}
 
 -- a volume fits exactly if it has a layout
-pub laid_fits : (m : Meaning) (starts : List ℕ) → LaysVolume m starts → Fits m
+pub laid_fits : (m : Meaning) (starts : List ℕ) → AreAllStarts m starts → Fits m
 laid_fits m starts laid = laid_fit (volumes_in m) starts laid
 
-pub fits_laid : (m : Meaning) → Fits m → (starts : List ℕ) × LaysVolume m starts
+pub fits_laid : (m : Meaning) → Fits m → (starts : List ℕ) × AreAllStarts m starts
 fits_laid m fit = fit_laid (volumes_in m) fit
 
 -- a volume with a fault of the layout has no placement
@@ -55,7 +55,7 @@ least_are [] starts laid = laid
 least_are (v ∷ vs) starts (own, inner, text, (least, placed), laid) =
     (own, inner, text, agree _ _ (placement_items v.volume) own least placed, least_are vs inner laid)
 
-pub least_laid : (m : Meaning) (starts : List ℕ) → LeastVolume m starts → LaysVolume m starts
+pub least_laid : (m : Meaning) (starts : List ℕ) → AreAllLeastStarts m starts → AreAllStarts m starts
 least_laid m starts laid = least_are (volumes_in m) starts laid
 
 -- ---- a layout or a fault

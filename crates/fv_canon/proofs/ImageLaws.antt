@@ -3,7 +3,7 @@ use Rattle.std.proofs.Common.{◌≡◌, ◌≤◌, ℕ, List, [], length, appen
 use Rattle.fv_base.specs.Words.{volume_limit}
 use Rattle.fv_head.proofs.Laws.{front_lies}
 use Rattle.fv_tree.specs.Words.{Accepted, IsMeaning, Meaning, head_of, volumes_in}
-use Rattle.fv_canon.specs.Words.{IsImage, Fits, BeginsWithStarts, LaysVolume, MeanSame, NormalisesTo, WhatFitsHasAnImage}
+use Rattle.fv_canon.specs.Words.{IsImage, Fits, BeginsWithStarts, AreAllStarts, MeanSame, NormalisesTo, WhatFitsHasAnImage}
 use Rattle.fv_canon.specs.inner.ImageOf.{image_of}
 use Rattle.fv_canon.proofs.FitLaws.{fits_laid}
 use Rattle.fv_canon.proofs.WrittenImageLaws.{image_made}
@@ -18,11 +18,11 @@ pub image_begun : (m : Meaning) (starts : List ℕ) → IsMeaning m → BeginsWi
 image_begun m starts (n, l, b, small, d) begins = image_made n m b starts small d begins
 
 -- the bytes that are written for a layout of a meaning that some bytes have are the image of the meaning
-pub image_is : (m : Meaning) (starts : List ℕ) → IsMeaning m → LaysVolume m starts → IsImage m (image_of m starts)
+pub image_is : (m : Meaning) (starts : List ℕ) → IsMeaning m → AreAllStarts m starts → IsImage m (image_of m starts)
 image_is m starts is laid = image_begun m starts is (starts, [], sym (append-nil starts), laid)
 
 -- a meaning that some bytes have has no other image
-pub image_only : (m : Meaning) (starts image : List ℕ) → IsMeaning m → LaysVolume m starts → IsImage m image → image ≡ image_of m starts
+pub image_only : (m : Meaning) (starts image : List ℕ) → IsMeaning m → AreAllStarts m starts → IsImage m image → image ≡ image_of m starts
 image_only m starts image is laid other = image_one m image (image_of m starts) other (image_is m starts is laid)
 
 -- the image of a meaning that some bytes have is a volume of this meaning

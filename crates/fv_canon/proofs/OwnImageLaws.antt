@@ -7,7 +7,7 @@ use Rattle.fv_base.specs.Words.{out_of_memory}
 use Rattle.fv_base.specs.declared.fault.Fault.{Fault}
 use Rattle.fv_base.specs.declared.fault.FaultKind.TheVariants as kinds
 use Rattle.fv_tree.specs.Words.{IsMeaning, Meaning}
-use Rattle.fv_canon.specs.Words.{IsImage, LaysVolume, Unfit}
+use Rattle.fv_canon.specs.Words.{IsImage, AreAllStarts, Unfit}
 use Rattle.fv_canon.specs.inner.ImageOf.{image_of}
 use Rattle.fv_canon.proofs.FitLaws.{unfit_none}
 use Rattle.fv_canon.proofs.ImageFits.{image_fits}
@@ -15,7 +15,7 @@ use Rattle.fv_canon.proofs.ImageLaws.{image_is, image_only}
 use Rattle.fv_canon.proofs.UnfitKinds.{not_layout, unfit_is}
 
 -- bytes are the image of a volume that is laid out exactly if they are the bytes that the walk writes
-pub image_told : (m : Meaning) (b starts : List ℕ) (t : Bool) → IsMeaning m → LaysVolume m starts
+pub image_told : (m : Meaning) (b starts : List ℕ) (t : Bool) → IsMeaning m → AreAllStarts m starts
     → (IsTrue t → b ≡ image_of m starts) × (b ≡ image_of m starts → IsTrue t) → (t ≡ true → IsImage m b) × (IsImage m b → t ≡ true)
 image_told m b starts t is laid (there, back) =
     (λ e. subst (IsImage m) (sym (there e)) (image_is m starts is laid), λ image. back (image_only m starts b is laid image))

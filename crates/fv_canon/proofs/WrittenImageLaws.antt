@@ -17,7 +17,7 @@ use Rattle.fv_tree.specs.Words.{SectionMeanings, NoSections, MoreSections, Secti
 use Rattle.fv_tree.specs.Words.{sections_list, SectionRelation, StreamRelation, VolumeRelation, Pairwise, StreamOver, SectionOver}
 use Rattle.fv_tree.specs.Words.{VolumeOver, MeansContent, MeansFile, MeansSection, Stream, Denotes, FileForm, volumes_in, volumes_in_files}
 use Rattle.fv_tree.specs.Words.{volumes_in_file, volumes_in_content, volumes_in_sections, volumes_in_section}
-use Rattle.fv_canon.specs.Words.{IsImage, AreStored, IsStored, IsData, AreFrames, IsFrame, AreStarts, BeginsWithStarts, StartsOfEach, LaysVolume}
+use Rattle.fv_canon.specs.Words.{IsImage, AreStored, IsStored, IsData, AreFrames, IsFrame, AreStarts, BeginsWithStarts, StartsOfEach, AreAllStarts}
 use Rattle.fv_canon.specs.inner.ImageOf.{starts_in, image_of, stored_of, stored_file, data_of, frames_of, frame_of}
 use Rattle.fv_canon.specs.inner.ImageOf.{volume_bytes}
 use Rattle.fv_canon.proofs.VolumeListLaws.{laid_split, laid_higher, laid_count, own_count}
@@ -38,7 +38,7 @@ StreamsMade is_stream = (ss : SectionMeanings) (tail : ℕ) (b starts more : Lis
     → StartsOfEach AreStarts (volumes_in_sections ss) starts → AreFrames 0 ss (frames_of 0 ss (starts ++ more))
 
 abbrev pub VolumesMade : VolumeRelation → Type 0
-VolumesMade is_volume = (m : Meaning) (b starts more : List ℕ) → IsBytes b → is_volume b m → LaysVolume m starts
+VolumesMade is_volume = (m : Meaning) (b starts more : List ℕ) → IsBytes b → is_volume b m → AreAllStarts m starts
     → IsImage m (image_of m (starts ++ more))
 
 -- dropping the starts of the first item leaves the starts after it

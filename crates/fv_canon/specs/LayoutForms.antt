@@ -21,16 +21,16 @@ StartsOfEach are_own (v ∷ vs) starts =
 
 -- the list consists of the starts of the volume's own files, and then the starts of the files of the volumes inside it,
 -- in preorder
-abbrev pub LaysVolume : Meaning → List ℕ → Type 0
-LaysVolume m starts = StartsOfEach AreStarts (volumes_in m) starts
+abbrev pub AreAllStarts : Meaning → List ℕ → Type 0
+AreAllStarts m starts = StartsOfEach AreStarts (volumes_in m) starts
 
 -- the list begins with the starts of these volumes; other starts may follow
 abbrev pub BeginsWithStarts : List Inside → List ℕ → Type 0
 BeginsWithStarts vs starts = (laid : List ℕ) × (more : List ℕ) × (starts ≡ laid ++ more) × StartsOfEach AreStarts vs laid
 
--- the same as `LaysVolume`, but with the least starts of each volume
-abbrev pub LeastVolume : Meaning → List ℕ → Type 0
-LeastVolume m starts = StartsOfEach AreLeast (volumes_in m) starts
+-- the same as `AreAllStarts`, but with the least starts of each volume
+abbrev pub AreAllLeastStarts : Meaning → List ℕ → Type 0
+AreAllLeastStarts m starts = StartsOfEach AreLeast (volumes_in m) starts
 
 -- a layout in two parts: the starts of the volume's own files, and the starts of the files of the volumes inside it, in
 -- preorder
@@ -41,4 +41,4 @@ pub record LayoutParts : Type 0 where
 -- these are the starts of the files at every level in the canonical image, and `own` has one start for each of the
 -- volume's own files
 abbrev pub IsLayout : Meaning → LayoutParts → Type 0
-IsLayout m l = LaysVolume m (l.own ++ l.inner) × (length l.own ≡ length (files_of m))
+IsLayout m l = AreAllStarts m (l.own ++ l.inner) × (length l.own ≡ length (files_of m))

@@ -12,7 +12,7 @@ pub use Rattle.fv_canon.specs.Headline.{ImageIsItsOwnImage, DataAligned, DataAre
 pub use Rattle.fv_canon.specs.Headline.{WhatFitsHasAnImage, IsWithin, HasOwnImage, EachVolumeHasItsImage}
 pub use Rattle.fv_canon.specs.LayoutFaults.{AllFit, layout_fault, UnfitHere, FirstUnplaced, Unfit}
 pub use Rattle.fv_canon.specs.ImageRules.{painted, InOrder, PadsRule, OneImage, OneMeaning}
-pub use Rattle.fv_canon.specs.LayoutForms.{AreLeast, StartsOfEach, LaysVolume, BeginsWithStarts, LeastVolume, LayoutParts, IsLayout}
+pub use Rattle.fv_canon.specs.LayoutForms.{AreLeast, StartsOfEach, AreAllStarts, BeginsWithStarts, AreAllLeastStarts, LayoutParts, IsLayout}
 pub use Rattle.fv_canon.specs.FlashImages.{IsNormalisedAt, NormalisesEach, NormalisesAll, HasImageAt, RejectedAt, FirstRejected}
 pub use Rattle.fv_canon.specs.FlashImages.{RejectsAll, IsLaid, starts_of, AreLaid, IsLaidOut}
 pub use Rattle.fv_canon.specs.ImageChecks.{IsOtherThanImage, HasOutcome, IsChecked, AreChecked, ChecksImage, IsAboveLimit}

@@ -4,7 +4,7 @@
 ghost use Rattle.std.specs.Prelude.{◌≡◌, ◌≢◌, ◌↔◌, ◌⊎◌, [], IfOk, IfErr, IsTrue, true};
 ghost use Rattle.fv_base.specs.Words.{OrMemory, out_of_memory};
 ghost use Rattle.fv_canon.specs.Image.{IsImage};
-ghost use Rattle.fv_canon.specs.LayoutForms.{LaysVolume};
+ghost use Rattle.fv_canon.specs.LayoutForms.{AreAllStarts};
 ghost use Rattle.fv_canon.specs.inner.ImageOf.{image_of};
 ghost use Rattle.fv_canon.specs.inner.Matching.{MatchTakes, matches_by};
 ghost use Rattle.fv_head.specs.Words.{BeginsWithHeader};
@@ -44,7 +44,7 @@ impl<'a> Sink for MatchSink<'a> {
 // Returns whether the bytes are the canonical image of the view, given the starts of its layout. No
 // image is made.
 fn is_image(view: &VolumeView<'_>, starts: &[u64], bytes: &[u8]) -> bool
-    requires { LaysVolume view.now starts.now }
+    requires { AreAllStarts view.now starts.now }
     ensures { IsTrue result ↔ (bytes.now ≡ image_of view.now starts.now) }
 {
     let mut out = MatchSink {

@@ -10,7 +10,7 @@ ghost use Rattle.fv_canon.specs.ImageRules.{OneImage, OneMeaning, InOrder, paint
 ghost use Rattle.fv_canon.specs.ImageChecks.{CanonicalImagesStay};
 ghost use Rattle.fv_canon.specs.InputRejections.{OnlyWhatDoesNotFitIsRejected, Rejects, WhatDoesNotFitIsRejected};
 ghost use Rattle.fv_canon.specs.Layouts.{Fits};
-ghost use Rattle.fv_canon.specs.LayoutForms.{LaysVolume, LeastVolume};
+ghost use Rattle.fv_canon.specs.LayoutForms.{AreAllStarts, AreAllLeastStarts};
 ghost use Rattle.fv_canon.specs.LayoutFaults.{Unfit};
 ghost use Rattle.fv_canon.specs.PlacedBytes.{ShowsPlaced, PlacedBytes};
 
@@ -23,8 +23,8 @@ pub fn one_image()
 
 /// A volume fits exactly if it has a layout. A volume with a fault of its layout does not fit.
 pub fn fits()
-    ensures laid { (m : Meaning) (starts : List ℕ) → LaysVolume m starts → Fits m }
-    ensures lays { (m : Meaning) → Fits m → (starts : List ℕ) × LaysVolume m starts }
+    ensures laid { (m : Meaning) (starts : List ℕ) → AreAllStarts m starts → Fits m }
+    ensures lays { (m : Meaning) → Fits m → (starts : List ℕ) × AreAllStarts m starts }
     ensures unfit { (m : Meaning) (depth : ℕ) (f : Fault) → Unfit m depth f → Fits m → ⊥ }
 {}
 
@@ -35,7 +35,7 @@ pub fn one_fault()
 
 /// If the least starts of each volume, at every level, are a placement, they are the layout.
 pub fn least_starts()
-    ensures { (m : Meaning) (starts : List ℕ) → LeastVolume m starts → LaysVolume m starts }
+    ensures { (m : Meaning) (starts : List ℕ) → AreAllLeastStarts m starts → AreAllStarts m starts }
 {}
 
 /// A gap whose length is a multiple of 8 and at least 24 is one pad if it has at most 0xFFFFF8

@@ -6,7 +6,7 @@ ghost use Rattle.fv_base.specs.Words.{OrMemory, out_of_memory};
 ghost use Rattle.fv_head.specs.Words.{first_edge};
 ghost use Rattle.fv_canon.specs.LayoutFaults.{layout_fault, FirstUnplaced, Unfit, UnfitHere};
 ghost use Rattle.fv_canon.specs.Layouts.{placement_item, placement_items, AreStarts, Fits};
-ghost use Rattle.fv_canon.specs.LayoutForms.{BeginsWithStarts, StartsOfEach, LaysVolume, IsLayout};
+ghost use Rattle.fv_canon.specs.LayoutForms.{BeginsWithStarts, StartsOfEach, AreAllStarts, IsLayout};
 ghost use Rattle.fv_tree.specs.Words.{head_of, files_of, length_of};
 ghost use Rattle.fv_rows.specs.inner.RowVolumes.{volumes_of};
 ghost use Rattle.fv_canon.specs.inner.ImageOf.{starts_in};
@@ -36,7 +36,7 @@ pub fn layout(alloc: Global, view: &VolumeView<'_>) -> Result<Layout, Fault>
     ensures layout { IfOk result (IsLayout view.now) }
 
     // There is no other layout.
-    ensures only { IfOk result (λ l. (starts : List ℕ) → LaysVolume view.now starts → starts ≡ l.own ++ l.inner) }
+    ensures only { IfOk result (λ l. (starts : List ℕ) → AreAllStarts view.now starts → starts ≡ l.own ++ l.inner) }
 
     // Every other placement of the volume's own files has a larger start at the first file where
     // the two differ.

@@ -61,18 +61,18 @@ abbrev pub frame_of_type : ℕ → ℕ → List FrameForm → Option FrameForm
 frame_of_type kind instance fs = instance_of instance (filter (λ f. f.kind == kind) fs)
 
 -- the result is this section, or Absent if there is none
-abbrev pub SeesSection : Lookup → Option SectionMeaning → Type 0
-SeesSection (answers.Found (items.Section s)) o = o ≡ Some s.now
-SeesSection (answers.Found (items.Frame f)) o = ⊥
-SeesSection answers.Absent o = o ≡ None
-SeesSection answers.NotSectioned o = ⊥
+abbrev pub FindsSection : Lookup → Option SectionMeaning → Type 0
+FindsSection (answers.Found (items.Section s)) o = o ≡ Some s.now
+FindsSection (answers.Found (items.Frame f)) o = ⊥
+FindsSection answers.Absent o = o ≡ None
+FindsSection answers.NotSectioned o = ⊥
 
 -- the result is this frame, or Absent if there is none
-abbrev pub SeesFrame : Lookup → Option FrameForm → Type 0
-SeesFrame (answers.Found (items.Section s)) o = ⊥
-SeesFrame (answers.Found (items.Frame f)) o = o ≡ Some (frame_form f)
-SeesFrame answers.Absent o = o ≡ None
-SeesFrame answers.NotSectioned o = ⊥
+abbrev pub FindsFrame : Lookup → Option FrameForm → Type 0
+FindsFrame (answers.Found (items.Section s)) o = ⊥
+FindsFrame (answers.Found (items.Frame f)) o = o ≡ Some (frame_form f)
+FindsFrame answers.Absent o = o ≡ None
+FindsFrame answers.NotSectioned o = ⊥
 
 -- the result is NotSectioned: the file's data are not sections
 abbrev pub IsNotSectioned : Lookup → Type 0

@@ -26,7 +26,7 @@ pub use Rattle.fv_tree.specs.UnfixedInputs.{EndsWithVolume, BytesFollowExtent, U
 pub use Rattle.fv_tree.specs.FileNames.{is_named, file_named, HasIndex}
 pub use Rattle.fv_tree.specs.LookupInstances.{number_after, file_after, instance_of, file_of_type, preorder}
 pub use Rattle.fv_tree.specs.LookupInstances.{inside_section, inside_body, of_type, section_of_type, security_core}
-pub use Rattle.fv_tree.specs.LookupInstances.{frame_of_type, SeesSection, SeesFrame, IsNotSectioned}
+pub use Rattle.fv_tree.specs.LookupInstances.{frame_of_type, FindsSection, FindsFrame, IsNotSectioned}
 pub use Rattle.fv_tree.specs.SectionWalks.{left_in, NestsAt, AreLevels}
 pub use Rattle.fv_tree.specs.Views.{sections_of, parts_view, HasLength, body_view, content_view}
 pub use Rattle.fv_tree.specs.Difference.{is_ffs3, blocks_eq, entries_eq, ext_eq, Differs, has_steps, differ_in}

@@ -4,7 +4,7 @@ ghost use Rattle.std.specs.Prelude.{◌≡◌, ◌+◌, ℕ, None, IfOk, IfErr, 
 ghost use Rattle.std.specs.Iterator.{SkipsThenYields};
 ghost use Rattle.fv_section.specs.Words.{FrameForm, Splits};
 ghost use Rattle.fv_section.specs.StreamReads as framed;
-ghost use Rattle.fv_tree.specs.LookupInstances.{SeesSection, SeesFrame, IsNotSectioned, file_after, file_of_type};
+ghost use Rattle.fv_tree.specs.LookupInstances.{FindsSection, FindsFrame, IsNotSectioned, file_after, file_of_type};
 ghost use Rattle.fv_tree.specs.LookupInstances.{section_of_type, frame_of_type, security_core};
 ghost use Rattle.fv_tree.specs.Meaning.{files_of, content_of, Plain, Sectioned, SectionMeanings};
 ghost use Rattle.fv_tree.specs.MeaningParts.{file_kind_of, sections_in_data};
@@ -98,7 +98,7 @@ pub fn file_by_type<'v, 'a>(
 
 // Looks up a section among the sections of a file.
 fn section_lookup<'v, 'a>(file: &'v FileView<'a>, kind: u8, instance: u32) -> Lookup<'v, 'a>
-    ensures { SeesSection result (section_of_type kind instance (sections_in_data (content_of file.now))) }
+    ensures { FindsSection result (section_of_type kind instance (sections_in_data (content_of file.now))) }
 {
     let sections = SectionWalk::of(file).filter(|section| section.kind() == kind);
     match numbered(sections, instance) {
@@ -123,7 +123,7 @@ fn frame_by_type(bytes: &[u8], kind: u8, instance: u32) -> Result<Option<Frame<'
 // Looks up a frame in bytes that may be a stream.
 fn frame_lookup<'v, 'a>(bytes: &'a [u8], kind: u8, instance: u32) -> Lookup<'v, 'a>
     ensures core { (fs : List FrameForm) (t : ℕ) → Splits fs t bytes.now
-        → SeesFrame result (frame_of_type kind instance fs) }
+        → FindsFrame result (frame_of_type kind instance fs) }
     ensures none { ((fs : List FrameForm) (t : ℕ) → Splits fs t bytes.now → ⊥) → IsNotSectioned result }
 {
     match frame_by_type(bytes, kind, instance) {
@@ -141,11 +141,11 @@ fn frame_lookup<'v, 'a>(bytes: &'a [u8], kind: u8, instance: u32) -> Lookup<'v, 
 /// EFI_SECTION_TYPE.)
 pub fn section_by_type<'v, 'a>(file: &'v FileView<'a>, kind: u8, instance: u32) -> Lookup<'v, 'a>
     ensures sections { (ss : SectionMeanings) (t : ℕ) → content_of file.now ≡ Sectioned ss t
-        → SeesSection result (section_of_type kind instance ss) }
+        → FindsSection result (section_of_type kind instance ss) }
 
     // In a security core whose data are a stream, the frames are counted.
     ensures core { (b : List ℕ) (fs : List FrameForm) (t : ℕ) → content_of file.now ≡ Plain b
-        → file_kind_of file.now ≡ security_core → Splits fs t b → SeesFrame result (frame_of_type kind instance fs) }
+        → file_kind_of file.now ≡ security_core → Splits fs t b → FindsFrame result (frame_of_type kind instance fs) }
 
     // Other files with plain data, and security cores whose data are not a stream, give
     // NotSectioned.

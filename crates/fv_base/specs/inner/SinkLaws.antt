@@ -3,7 +3,7 @@
 use Rattle.std.proofs.Common.{ℕ, List, [], ◌++◌, ap, sym, ◌∙◌, append_assoc, append-nil, Bool, true, false, ◌≡◌, ◌+◌}
 use Rattle.std.proofs.Common.{◌%◌, ◌^◌, ◌<◌, length, take, refl, subst, arith, add_assoc, add-zero, length-append}
 use Rattle.fv_base.specs.Sinks.{KeptLatched, KeptTakes, WalkLaws, PortState, WritesBytes, WritesAll, WritesPrefix}
-use Rattle.fv_base.specs.Sinks.{LatchedWrites, SeenTakes}
+use Rattle.fv_base.specs.Sinks.{LatchedWrites, WriteTakes}
 use Rattle.std.specs.Prelude.{Option, Some, None}
 use Rattle.std.specs.Io.KnownBytes.{Appends}
 use Rattle.std.proofs.lemmas.List.{take-append-le}
@@ -90,8 +90,8 @@ latched_joined s t u false true c xs ys p q = absurd p
 latched_joined s t u false false true xs ys p q = absurd q
 latched_joined s t u false false false xs ys p q = q ∙ p
 
-pub seen_by : {S N : Type 0} (view : S → PortState) (on : S → Bool) (name : S → N) → WalkLaws (SeenTakes view on name)
-seen_by view on name = record {
+pub write_by : {S N : Type 0} (view : S → PortState) (on : S → Bool) (name : S → N) → WalkLaws (WriteTakes view on name)
+write_by view on name = record {
   none = λ s. (refl, latched_none (view s) (on s));
   joined = λ {s} {t} {u} {a} {b} p q. (q.0 ∙ p.0, latched_joined (view s) (view t) (view u) (on s) (on t) (on u) a b p.1 q.1);
 }

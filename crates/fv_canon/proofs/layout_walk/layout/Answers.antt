@@ -1,6 +1,6 @@
 use Rattle.fv_base.proofs.Laws.{err_is, first_only}
 use Rattle.fv_rows.proofs.Laws.{tree_volumes}
-use Rattle.fv_canon.specs.Words.{LaysVolume}
+use Rattle.fv_canon.specs.Words.{AreAllStarts}
 use Rattle.fv_canon.proofs.FitLaws.{unfit_none}
 use Rattle.fv_canon.proofs.LayoutWalkLaws.{starts_need_file}
 use Rattle.fv_canon.proofs.LayoutLaws.{layout_is, one_layout, own_first}
@@ -9,7 +9,7 @@ use Rattle.fv_canon.proofs.layout_walk.layout.Goals as goal
 pub returns-clause-layout : goal.returns-clause-layout
 returns-clause-layout c =
     let ok = c.in_ok-starts.ensures.ok in
-    let laid : LaysVolume c.args.view.now c.in_ok-starts.starts.items = rw (c.of.ensures, tree_volumes c.args.view.now) at ok in
+    let laid : AreAllStarts c.args.view.now c.in_ok-starts.starts.items = rw (c.of.ensures, tree_volumes c.args.view.now) at ok in
     layout_is c.args.view.now c.files-own.result.now c.in_ok-starts.starts.items c.new.result c.files-own.ensures laid c.new.ensures.own
     c.new.ensures.inner
 

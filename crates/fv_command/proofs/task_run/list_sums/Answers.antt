@@ -1,6 +1,6 @@
 use Rattle.std.proofs.Common.{refl, subst, sym}
 use Rattle.fv_base.proofs.Laws.{err_is}
-use Rattle.fv_canon.specs.Words.{LaysVolume}
+use Rattle.fv_canon.specs.Words.{AreAllStarts}
 use Rattle.fv_canon.proofs.Laws.{layout_covers}
 use Rattle.fv_command.proofs.RunLemmas.{sums_denied}
 use Rattle.fv_command.proofs.task_run.list_sums.Goals as goal
@@ -13,7 +13,7 @@ returns-in_err-places g c =
 pub put_list_with-requires : goal.put_list_with-requires
 put_list_with-requires g c =
     let m = c.in_ok-volume.volume in
-    let laid = subst (LaysVolume m) (sym c.starts.ensures) c.in_ok-places.ensures.layout.0 in
+    let laid = subst (AreAllStarts m) (sym c.starts.ensures) c.in_ok-places.ensures.layout.0 in
     layout_covers m c.starts.result.now c.new.result c.new.ensures laid
 
 pub returns : goal.returns
