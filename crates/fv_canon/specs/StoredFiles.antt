@@ -17,7 +17,8 @@ pub record StoredFile : Type 0 where
   pub attributes : ℕ
   pub payload : List ℕ
 
--- the length of a file's header, which is large if with a short header the file would have more than 0xFFFFFF bytes
+-- the length of the header of a file with this much data. The header is large if the file would have more than 0xFFFFFF
+-- bytes with a short header
 abbrev pub head_len_for : ℕ → ℕ
 head_len_for data_len = file_header_len (needs_large data_len)
 
@@ -38,7 +39,7 @@ stored_bytes polarity f =
 unfoldable pub pad_bytes : Polarity → ℕ → List ℕ
 pad_bytes polarity size = pad_head_of size polarity ++ replicate (size - 24) (erased_byte polarity)
 
--- 0xFFFF00, the size in bytes of each pad that another pad of the same gap follows
+-- 0xFFFF00, the size in bytes of each pad of a gap except the last pad
 abbrev pub long_pad : ℕ
 long_pad = 0xffff00
 

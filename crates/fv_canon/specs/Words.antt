@@ -1,4 +1,4 @@
--- The definitions that this crate exports. Other crates import them from here.
+-- The door of this crate: all definitions of its `specs/` that other crates may import.
 pub use Rattle.fv_canon.specs.PlacedBytes.{PlacedBytes, ContainsSpan, IsIn, ShowsPlaced}
 pub use Rattle.fv_canon.specs.StoredFiles.{StoredFile, head_len_for, size_for, stored_len, long_pad, pads, used_size}
 pub use Rattle.fv_canon.specs.StoredFiles.{placed_files, placed_in_volume}

@@ -62,11 +62,11 @@ StopsHobs base hex first second (Input fault) = HobInputStops hex base first sec
 StopsHobs base hex first second (Hobs fault) = RejectsHobs hex base first second fault
 StopsHobs base hex first second (OneOfTwo side fault) = ⊥
 
--- an input was read to its end, and the bytes taken of it (`GivesAt`) are a volume with this meaning
+-- an input was read to its end, and the bytes taken from it (`GivesAt`) are a volume with this meaning
 abbrev pub GivesVolume : Bool → Option ℕ → Change → Meaning → Type 0
 GivesVolume hex at input m = (bytes : List ℕ) × GivesAt hex at input.old input.new bytes × Accepted bytes m
 
--- an input stopped the run: reading it stopped, the bytes taken of it are not a volume, or memory ran out
+-- an input stopped the run: reading it stopped, the bytes taken from it are not a volume, or memory ran out
 abbrev pub VolumeInputStops : Bool → Option ℕ → Change → Fault → Type 0
 VolumeInputStops hex at input fault =
     GivingStops hex input.old input.new fault

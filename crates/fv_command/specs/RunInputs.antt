@@ -20,12 +20,12 @@ At n input volume =
     ((h : HeadFields) × (e : Extent) × BeginsVolume h e (drop n input) × (volume ≡ take e.length (drop n input)))
     ⊎ (((h : HeadFields) (e : Extent) → BeginsVolume h e (drop n input) → ⊥) × (volume ≡ drop n input))
 
--- the bytes that a command takes of an input: all of them, or the volume at byte n
+-- the bytes that a command takes from an input: all of them, or the volume at byte n
 abbrev pub TakenAt : Option ℕ → List ℕ → List ℕ → Type 0
 TakenAt None input taken = taken ≡ input
 TakenAt (Some n) input taken = At n input taken
 
--- an input was read to its end, and these bytes are taken of it: all of them, or the volume at byte `at`
+-- an input was read to its end, and these bytes are taken from it: all of them, or the volume at byte `at`
 abbrev pub GivesAt : Bool → Option ℕ → PortView → PortView → List ℕ → Type 0
 GivesAt hex at old new taken = (input : List ℕ) × Gives hex old new input × TakenAt at input taken
 

@@ -116,14 +116,14 @@ TaskRefusal Cells input fault = OrMemory (NotTiled input) fault
 TaskRefusal Unfix input fault = OrMemory (NotUnfixed input) fault
 TaskRefusal Scan input fault = fault ≡ out_of_memory
 
--- the input stops the task: reading it stopped with this fault; or it was read to its end, and the bytes taken of it
+-- the input stops the task: reading it stopped with this fault; or it was read to its end, and the bytes taken from it
 -- are rejected, or memory ran out (`TaskRefusal`)
 abbrev pub StopsTask : Task → Bool → Option ℕ → Change → Fault → Type 0
 StopsTask task hex at input fault =
     GivingStops hex input.old input.new fault
     ⊎ ((bytes : List ℕ) × GivesAt hex at input.old input.new bytes × TaskRefusal task bytes fault)
 
--- the input was read to its end, and the task has this text and this status for the bytes taken of it (`TaskText`)
+-- the input was read to its end, and the task has this text and this status for the bytes taken from it (`TaskText`)
 abbrev pub TaskRunText : Task → Bool → Option ℕ → Change → Status → List ℕ → Type 0
 TaskRunText task hex at input status text =
     (bytes : List ℕ) × GivesAt hex at input.old input.new bytes × TaskText task hex bytes status text

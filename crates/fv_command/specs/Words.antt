@@ -1,4 +1,4 @@
--- The definitions that this crate exports. Other crates import them from here.
+-- The door of this crate: all definitions of its `specs/` that other crates may import.
 pub use Rattle.fv_command.specs.Extractions.{IsSectionPart, IsFramePart, IsSectionOf, IsFilePart, IsPart, StopsFilePart}
 pub use Rattle.fv_command.specs.Extractions.{StopsPart}
 pub use Rattle.fv_command.specs.Endings.{exit_code, FlushFails, Ends, numbered_line, fault_line, hob_fault_line}

@@ -10,12 +10,12 @@ use Rattle.fv_compare.specs.declared.side.Side.TheVariants as sides
 
 -- ---- two volumes
 
--- the result says whether the two have the same meaning, and the line of their comparison was written
+-- the result says whether the two volumes have the same meaning, and the line of their comparison was written
 abbrev pub Compares : Meaning → Meaning → Option (List ℕ) → Option (List ℕ) → Bool → Type 0
 Compares m k held holds same = ((same ≡ true) ↔ (m ≡ k)) × Appends held holds (compare_line (difference m k))
 
--- memory ran out before anything was written, which can happen only if the two differ; or the writer stopped within the
--- line
+-- memory ran out before anything was written, which can happen only if the two volumes differ; or the writer stopped
+-- within the line
 abbrev pub ComparisonStops : Side → Meaning → Meaning → Option (List ℕ) → Option (List ℕ) → Fault → Type 0
 ComparisonStops sides.First m k held holds fault = Keeps held holds × (fault ≡ out_of_memory) × (m ≢ k)
 ComparisonStops sides.Second m k held holds fault = ⊥

@@ -95,8 +95,7 @@ pub record BeginsOp (phase : Phase) (stage : Stage) (o : Op) (r : List ℕ) : Ty
 abbrev pub BeginsFirstOp : Phase → List ℕ → Type 0
 BeginsFirstOp phase b = (o : Op) × BeginsOp phase stages.Start o b
 
--- ops of which none is END, each allowed at the stage to which the previous op leads; `final` is the stage after the
--- last op
+-- no op is END, and each op is allowed at the stage after the previous op; `final` is the stage after the last op
 abbrev pub OpPath : Phase → Stage → List Op → Stage → Type 0
 OpPath phase stage [] final = stage ≡ final
 OpPath phase stage (o ∷ os) final = OpFits phase stage o × (o ≢ ops.End) × OpPath phase (stage_after stage o) os final

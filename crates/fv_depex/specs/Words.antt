@@ -1,4 +1,4 @@
--- The definitions of this crate that other crates use. They import them only from here.
+-- The door of this crate: all definitions of its `specs/` that other crates may import.
 pub use Rattle.fv_depex.specs.Expressions.{Expression, postfix, IsTree, IsOrder, op_code, op_operand, ops_bytes}
 pub use Rattle.fv_depex.specs.Expressions.{carries, operand_len, IsSized, Spells, is_among, truth, DepexForm}
 pub use Rattle.fv_depex.specs.Expressions.{IsReadDepex}

@@ -107,8 +107,8 @@ verify_checks system polarity b =
 abbrev pub NoneFree : List CellForm → Type 0
 NoneFree cs = AllByRecursion (λ c. is_free c ≡ false) cs
 
--- some cells, none of them free, tile the body up to `at`, the bytes from there on are not all erased, and a check of
--- the cell there fails with this fault. `first` is the offset of the body in its volume
+-- some cells, none of them free, tile the body up to an offset `at`, not all bytes from `at` on are erased, and a check
+-- of the cell at `at` fails with this fault. `first` is the offset of the body in its volume
 pub record CellFault (which : Which) (system : FileSystem) (polarity : Polarity) (first : ℕ) (body : List ℕ)
     (fault : Fault) : Type 0 where
   pub cells : List CellForm

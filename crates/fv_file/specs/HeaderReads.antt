@@ -27,7 +27,7 @@ pub record BeginsFile (system : FileSystem) (polarity : Polarity) (head : FileHe
   pub alive : is_alive head.state ≡ true
   pub content : (head.kind ≡ pad_kind) ⊎ IsSound head payload
 
--- the bytes h are the header with these fields and the State byte of a new file, in each file system that allows such a
+-- the bytes h are the header with these fields and the State byte of a new file, in each file system that allows this
 -- header
 pub record IsNewHeader (polarity : Polarity) (head : FileHead) (h : List ℕ) : Type 0 where
   pub header : (system : FileSystem) → (is_large (attribute_bits head.attributes) ≡ true → system ≡ Ffs3)
@@ -35,8 +35,8 @@ pub record IsNewHeader (polarity : Polarity) (head : FileHead) (h : List ℕ) : 
   pub state : state_at h ≡ state_byte polarity
   pub bytes : IsBytes h
 
--- h followed by any data of the right length that make the file sound, and by any filler up to the next multiple of 8,
--- is the cell of a valid file, in each file system that allows such a header
+-- h begins the cell of a valid file, in each file system that allows this header. Any data of the right length that
+-- make the file sound may follow, and then any filler up to the next multiple of 8
 abbrev pub IsHeadOfFile : Polarity → FileHead → List ℕ → Type 0
 IsHeadOfFile polarity head h =
     (system : FileSystem) (at : ℕ) (payload filler : List ℕ)
@@ -45,8 +45,8 @@ IsHeadOfFile polarity head h =
     → (head.size + length filler) % 8 ≡ 0
     → IsCell system polarity (Valid at head payload) (h ++ (payload ++ filler))
 
--- h followed by as many bytes as its size requires, and by any filler up to the next multiple of 8, is the cell of a
--- pad, in each file system
+-- h begins the cell of a pad, in each file system. Any bytes may follow, as many as the size requires, and then any
+-- filler up to the next multiple of 8
 abbrev pub IsHeadOfPad : Polarity → FileHead → List ℕ → Type 0
 IsHeadOfPad polarity head h =
     (system : FileSystem) (at : ℕ) (payload filler : List ℕ) → head.size ≡ length h + length payload → length filler < 8

@@ -33,7 +33,7 @@ state_of polarity byte = state_in (bits_of polarity byte)
 abbrev pub StateOf : ℕ → Polarity → FileState → Type 0
 StateOf byte polarity state = state_of polarity byte ≡ Some state
 
--- a file in this state is valid: its data are valid, and it may be marked for update
+-- a file in this state is valid: its data are valid, whether or not it is marked for update
 abbrev pub is_alive : FileState → Bool
 is_alive states.DataValid = true
 is_alive states.Marked = true

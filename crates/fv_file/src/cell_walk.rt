@@ -21,9 +21,9 @@ use fv_base::{Fault, FaultKind, FileSystem, Polarity, all_are, check};
 use std::alloc::Global;
 
 // Returns whether a free cell begins here, which means that all remaining bytes are erased. All
-// remaining bytes are read only if fewer than 24 are left or `State` is erased. If one of them is
-// not erased then, `cell_at` rejects the body. So each byte of a body is read for this test at most
-// once.
+// remaining bytes are read only if fewer than 24 are left or `State` is erased. In this case
+// `cell_at` rejects the body if one of the bytes is not erased. So this test reads each byte of a
+// body at most once.
 pub(crate) fn is_free(rest: &[u8], polarity: Polarity) -> bool
     ensures { result ≡ all_are (erased_byte polarity) rest.now }
 {

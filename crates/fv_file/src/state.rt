@@ -26,8 +26,8 @@ pub enum FileState {
 }
 
 impl FileState {
-    /// Returns whether a file in this state is valid: its data are valid, and it may be marked for
-    /// update.
+    /// Returns whether a file in this state is valid: its data are valid, whether or not it is
+    /// marked for update.
     pub fn is_alive(self) -> bool
         ensures { result ≡ is_alive self }
     {

@@ -2,7 +2,7 @@
 -- 1. The length of the header and its fields are read at their offsets (`front_within`, `kept_fields`, `ext_there`).
 -- 2. So bytes begin with at most one volume (`one_front`), and only the volume's own bytes decide which (`front_same`).
 -- 3. The header and the start of the first file lie within the volume (`front_lies`, `first_lies`).
-use Rattle.std.proofs.Common.{◌≡◌, ◌≤◌, ℕ, ◌+◌, ◌-◌, ◌%◌, List, length, take, refl, sym, ap, ◌∙◌, subst, arith, rules}
+use Rattle.std.proofs.Common.{◌≡◌, ◌≤◌, ℕ, zero, suc, ◌+◌, ◌-◌, ◌%◌, List, length, take, refl, sym, ap, ◌∙◌, subst, arith, rules, inl, inr}
 use Rattle.std.specs.Prelude.{Option, Some, slice_index}
 use Rattle.std.proofs.lemmas.List.{length-take-le}
 use Rattle.fv_base.specs.Words.{AllHold, volume_limit, header_limit, ext_limit, le, field, le_at}
@@ -12,7 +12,7 @@ use Rattle.fv_base.proofs.Laws.{all_hold, field-take, take-take_le}
 use Rattle.fv_head.specs.Words.{Extension, IsExt, HasExt, HeadFields, IsHead, BeginsVolume, head_checks, blocks_at, file_system_at}
 use Rattle.fv_head.specs.Words.{header_len_at, volume_len_at, ext_offset_at, ext_size_at, pairs_of}
 use Rattle.fv_head.specs.declared.extent.Extent.{Extent}
-use Rattle.fv_head.specs.inner.HeadVerdicts.{extent_at}
+use Rattle.fv_head.specs.inner.HeadVerdicts.{ExtHeaderWithin, extent_at}
 use Rattle.fv_head.proofs.ExtLemmas.{stands, read_there, one_has_ext, ext_same}
 use Rattle.fv_head.proofs.HeadCheckLemmas.{extent_ok, fields_are, fields_of, front_fields, front_only, verdict_ok}
 
@@ -80,6 +80,19 @@ ext_there {b} {e} {offset} found at some =
 pub one_front : (b : List ℕ) (h k : HeadFields) (e x : Extent) → BeginsVolume h e b → BeginsVolume k x b → (h ≡ k) × (e ≡ x)
 one_front b h k e x front other = search (rules, front_only, one_has_ext, front_fields)
 
+-- the extent of a volume is read from its header, with the file system that is found there
+pub front_system : (b : List ℕ) (h : HeadFields) (e : Extent) → BeginsVolume h e b
+    → (fs : FileSystem) × (file_system_at b ≡ Some fs) × (extent_at fs b ≡ e)
+front_system b h e front =
+    extent_ok (file_system_at b) _ b e (verdict_ok (first_fault (head_checks b)) b e (front_only b h e front)).1
+
+-- a volume has no extended header, or the first bytes of the extended header lie within the bytes
+pub ext_within : (b : List ℕ) (h : HeadFields) (e : Extent) → BeginsVolume h e b → ExtHeaderWithin b
+ext_within b h e front = go (ext_offset_at b) refl where
+  go : (n : ℕ) → ext_offset_at b ≡ n → ExtHeaderWithin b
+  go zero is = inl is
+  go (suc n) is = inr (ext_there {b = b} {e = e} {offset = ext_offset_at b} (h, front) refl (λ none. omega (arith, is, none))).header
+
 -- ---- laws for the crates above
 
 -- if bytes begin with a volume, the checks of its header hold
@@ -88,10 +101,7 @@ front_holds b h e front = all_hold (head_checks b) (verdict_ok (first_fault (hea
 
 -- the extent of a volume follows from its header
 pub front_extent : (b : List ℕ) (h : HeadFields) (e : Extent) → BeginsVolume h e b → (fs : FileSystem) × (extent_at fs b ≡ e)
-front_extent b h e front =
-    let v = verdict_ok (first_fault (head_checks b)) b e (front_only b h e front) in
-    let x = extent_ok (file_system_at b) _ b e v.1 in
-    (x.0, x.2)
+front_extent b h e front = let x = front_system b h e front in (x.0, x.2)
 
 -- the header lies within the volume, and the volume is within the limit
 pub record Lies (e : Extent) : Type 0 where

@@ -6,7 +6,7 @@ ghost use Rattle.fv_base.specs.inner.Verdicts.{first_fault};
 ghost use Rattle.fv_head.specs.Head.{HeadFields, BeginsVolume, system_guid};
 ghost use Rattle.fv_head.specs.HeadChecks.{has_signature, file_system_at, is_one_volume, header_len_at, is_header_len};
 ghost use Rattle.fv_head.specs.HeadChecks.{is_zero_pair, makes_up, has_block_map, is_volume_len, has_ext, leading_checks};
-ghost use Rattle.fv_head.specs.HeadChecks.{later_checks, head_checks};
+ghost use Rattle.fv_head.specs.HeadChecks.{later_checks, head_checks, BeginsWithHeader};
 ghost use Rattle.fv_head.specs.inner.HeadVerdicts.{ExtHeaderWithin, first_at, extent_at, head_verdict};
 ghost use Rattle.fv_head.specs.Pairs.{pairs_of};
 ghost use Rattle.fv_head.specs.declared.extent.Extent.{Extent};
@@ -204,6 +204,21 @@ fn extent_at(bytes: &[u8], file_system: FileSystem) -> Extent
         file_system,
         polarity: FvAttributes::from_bits_retain(u32_at(bytes, ATTRIBUTES_OFFSET)).polarity(),
     }
+}
+
+/// Returns the extent of the volume that the bytes begin with, and checks nothing. The caller must
+/// know that the bytes begin with a volume: for example, because `verify_fv` found no fault in
+/// them. Takes no memory. (PI specification, volume 3, section 3.2.1.1.)
+pub fn checked_extent(bytes: &[u8]) -> Extent
+    requires { BeginsWithHeader bytes.now }
+
+    // No other extent fits the bytes.
+    ensures { (h : HeadFields) (e : Extent) → BeginsVolume h e bytes.now → result ≡ e }
+{
+    let Some(file_system) = file_system_at(bytes) else {
+        unreachable!()
+    };
+    extent_at(bytes, file_system)
 }
 
 // Checks the first 56 bytes of the header. Returns the file system, or the first fault.

@@ -19,5 +19,5 @@ pub use ext_image::{ext_bytes, len_of_ext, put_ext};
 pub use extent::Extent;
 pub use head::{VolumeHead, read_head};
 pub use head_image::{first_edge, head_bytes, put_head};
-pub use header_checks::{SIGNATURE, is_one_volume, verify_fv};
+pub use header_checks::{SIGNATURE, checked_extent, is_one_volume, verify_fv};
 pub use write::{write_ext, write_head};

@@ -121,7 +121,7 @@ hob_type_at b = le_at 0 2 b
 abbrev pub hob_len_at : List ℕ → ℕ
 hob_len_at b = le_at 2 2 b
 
--- the block b as its reserved field, at offset 4, and its content
+-- the block whose bytes are b: its reserved field, which is at offset 4, and its content
 abbrev pub hob_in : List ℕ → HobForm
 hob_in b = record { reserved = le_at 4 4 b; kind = kind_by (hob_type_at b) b }
 

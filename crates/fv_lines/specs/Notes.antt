@@ -92,7 +92,7 @@ pub record IsNoted (x : HeldDepex) (note : DepexNote) : Type 0 where
   pub first : IsFirstOpFault x.phase x.bytes fault
   pub note_is : note ≡ note_of x.name fault
 
--- the notes on some dependency expressions, in order: one for each expression that the bytes do not spell
+-- the notes on some dependency expressions, in order: a note for each of them whose bytes do not spell an expression
 abbrev pub AreNotes : List HeldDepex → List DepexNote → Type 0
 AreNotes [] notes = notes ≡ []
 AreNotes (x ∷ xs) notes =

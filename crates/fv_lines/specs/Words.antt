@@ -1,4 +1,4 @@
--- The definitions that this crate exports. Other crates import them from here.
+-- The door of this crate: all definitions of its `specs/` that other crates may import.
 pub use Rattle.fv_lines.specs.ScanLines.{volume_place, volume_line}
 pub use Rattle.fv_lines.specs.HobLines.{IsMapped, bytes_in_span, IsWholeVolume, IsSpanContent, MappedForm, held_image}
 pub use Rattle.fv_lines.specs.HobLines.{image_form, hob_line, consumed_line, span_content_word, IsSpanWord, IsWord}

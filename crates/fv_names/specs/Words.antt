@@ -1,4 +1,4 @@
--- The definitions that this crate exports. Other crates import them from here.
+-- The door of this crate: all definitions of its `specs/` that other crates may import.
 pub use Rattle.fv_names.specs.NamedFiles.{NamedFile, names_in, is_name, same_name, is_twin, NoTwins, replaced_by}
 pub use Rattle.fv_names.specs.NameIndexes.{IsSixteenBytes, IsName, Halves, Entry, halves_in, halves_of, numbered}
 pub use Rattle.fv_names.specs.NameIndexes.{halves_cmp, entry_cmp, IsIndex, entries_of, NeighboursDiffer}

@@ -190,7 +190,7 @@ impl NameIndex {
     {
         let key = halves(*name);
         // Entries with the same name are ordered by file number. So Ok means that file 0 has this
-        // name, and Err gives the place of the name's first entry, if there is one.
+        // name, and Err gives the place of the first entry with the name, if a file has the name.
         let Err(place) = self.sorted.binary_search(&(key, 0)) else {
             return Some(0);
         };

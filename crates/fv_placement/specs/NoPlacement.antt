@@ -4,8 +4,8 @@ use Rattle.std.specs.Prelude.{◌≢◌, ℕ, ◌+◌, ◌-◌, ◌%◌, ◌⊎�
 use Rattle.fv_placement.specs.Starts.{Placement}
 use Rattle.fv_placement.specs.declared.first_placement.PlacementItem.{PlacementItem}
 
--- the volume top file f cannot begin at its only possible start, with which it ends at the volume's end (0 if the file
--- is longer than the volume): its data are not aligned there, or the start is not a multiple of 8
+-- the volume top file f cannot begin at its only possible start, which is the start with which it ends at the volume's
+-- end, or 0 if the file is longer than the volume: its data are not aligned there, or the start is not a multiple of 8
 abbrev pub IsMisaligned : ℕ → PlacementItem → Type 0
 IsMisaligned total f = ((total - f.size + f.header) % f.alignment ≢ 0) ⊎ ((total - f.size) % 8 ≢ 0)
 

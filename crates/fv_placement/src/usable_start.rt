@@ -84,8 +84,9 @@ pub(crate) fn first_start(total: u64, edge: u64, item: &PlacementItem, after: Re
 // Returns the greatest usable start, if there is one. For a file other than the volume top file, it
 // is one of the two greatest multiples of 8 at which the file's data are aligned and with which the
 // edge after the file is at or below the greatest usable edge. With a step of 8 the greater start
-// leads exactly to this edge. With a larger step, which is at least 16, it may lead to an edge 8 or
-// 16 bytes below. The lesser start then leads to an edge at least 24 bytes below, which is usable.
+// leads exactly to this edge. With a larger step, which is at least 16, the greater start may lead
+// to an edge 8 or 16 bytes below this edge, which may be unusable. The lesser start then leads to
+// an edge at least 24 bytes below, which is usable.
 pub(crate) fn greatest_start(total: u64, item: &PlacementItem, after: Reach) -> Option<u64>
     requires total { (total ≤ volume_limit) × (total % 8 ≡ 0) }
     requires item { IsLawfulItem total item.now }

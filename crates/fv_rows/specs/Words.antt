@@ -1,3 +1,3 @@
--- The definitions that this crate exports. Other crates import them from here.
+-- The door of this crate: all definitions of its `specs/` that other crates may import.
 pub use Rattle.fv_rows.specs.TreeRows.{NodeMeaning, VolumeNode, FileNode, SectionNode, TreeRow, tree_rows, parts_in, parts_in_body}
 pub use Rattle.fv_rows.specs.RowWalks.{nesting_inside, part_node, row_of, rows_inside}

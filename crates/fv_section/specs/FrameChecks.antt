@@ -48,6 +48,7 @@ pub record FrameFault (which : Which) (b : List ℕ) (fault : Fault) : Type 0 wh
   pub inside : at < length b
   pub fails : Fails which (frame_checks at (drop at b)) fault
 
--- the first fault of a stream, which comes from the first check that fails where the next frame should begin
+-- the fault is the first fault of the stream: it comes from the first check that fails at the offset where the next
+-- frame should begin
 abbrev pub IsFirstFrameFault : List ℕ → Fault → Type 0
 IsFirstFrameFault = FrameFault First

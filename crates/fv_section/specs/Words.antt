@@ -1,4 +1,4 @@
--- The definitions of this crate that other crates use. They import them only from here.
+-- The door of this crate: all definitions of its `specs/` that other crates may import.
 pub use Rattle.fv_section.specs.Frames.{FrameForm, section_header_len, frame_len, StatesSize, IsSectionHeader}
 pub use Rattle.fv_section.specs.Frames.{BeginsFrame, up_to_4, SplitsFrom, Splits}
 pub use Rattle.fv_section.specs.SectionImage.{section_head_of, stream_of}

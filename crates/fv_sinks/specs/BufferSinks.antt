@@ -15,7 +15,7 @@ taken_in s = take s.len s.buffer.now
 abbrev pub rest_in : BufferSink → List ℕ
 rest_in s = drop s.len s.buffer.now
 
--- the bytes follow the bytes that were taken before, as many of them as there is room for, and the rest of the buffer
+-- the bytes, as many of them as there is room for, follow the bytes that were taken before, and the rest of the buffer
 -- is as it was
 abbrev pub BufferTakes : {S N : Type 0} (taken rest : S → List ℕ) (name : S → N) → S → List ℕ → S → Type 0
 BufferTakes taken rest name s bytes t =

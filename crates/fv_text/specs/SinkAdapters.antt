@@ -16,8 +16,8 @@ pub record Gathered {S : Type 0} (takes : S → List ℕ → S → Type 0) (s : 
   pub joined : p ++ bytes ≡ passed ++ q
   pub taken : takes s passed t
 
--- how a gathering sink takes bytes: a first part of the waiting bytes and the new bytes is put into the sink below, and
--- the rest waits
+-- how a gathering sink takes bytes: the new bytes are added after the waiting bytes, a first part of this list is put
+-- into the sink below, and the rest waits
 abbrev pub GatheringTakes : {S H : Type 0} (takes : S → List ℕ → S → Type 0) (below : H → S) (waiting : H → List ℕ) → H
     → List ℕ → H → Type 0
 GatheringTakes takes below waiting s bytes t = Gathered takes (below s) (waiting s) bytes (below t) (waiting t)
@@ -31,8 +31,8 @@ pub record Lined {S : Type 0} (takes : S → List ℕ → S → Type 0) (s : S) 
   pub whole_lines : AllByRecursion IsWholeLine lines
   pub taken : takes s (lines_text lines) t
 
--- how a sink of lines takes bytes: a first part of the waiting bytes and the new bytes is put into the sink below as
--- whole lines, and the rest waits
+-- how a sink of lines takes bytes: the new bytes are added after the waiting bytes, a first part of this list is put
+-- into the sink below as whole lines, and the rest waits
 abbrev pub HexTakes : {S H : Type 0} (takes : S → List ℕ → S → Type 0) (below : H → S) (waiting : H → List ℕ) → H
     → List ℕ → H → Type 0
 HexTakes takes below waiting s bytes t = Lined takes (below s) (waiting s) bytes (below t) (waiting t)

@@ -100,8 +100,8 @@ SectionOver is_stream is_volume f (Section kind extended body) =
 
 -- ---- the recursion
 
--- the frame is this section, a leaf if n is 0; groups and opened volumes, the section itself included, nest at most n
--- deep
+-- the frame is this section, in which groups and opened volumes, including the section itself, nest at most n deep. If
+-- n is 0, the section is a leaf
 abbrev pub MeansSection : ℕ → SectionRelation
 MeansSection zero = SectionOver (λ _ _ _. ⊥) (λ _ _. ⊥)
 MeansSection (suc n) = SectionOver (StreamOver (MeansSection n)) (VolumeOver (StreamOver (MeansSection n)))

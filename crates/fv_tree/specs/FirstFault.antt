@@ -21,7 +21,7 @@ use Rattle.fv_tree.specs.VolumeFiles.{FileForm, files_in, is_twin, NoTwins, curr
 abbrev pub moved_fault : ℕ → ℕ → Fault → Fault
 moved_fault base depth f = record { kind = f.kind; place = record { offset = base + f.place.offset; depth = depth } }
 
--- P holds of a fault, and e is that fault, moved to the place at which its bytes begin
+-- P holds of a fault of some bytes that begin at this place, and e is the same fault in the bytes around them
 abbrev pub Moved : Place → (Fault → Type 0) → Fault → Type 0
 Moved at P e = (f : Fault) × P f × (e ≡ moved_fault at.offset at.depth f)
 
@@ -81,8 +81,8 @@ NamesFault which length fs e =
     ⊎ (IfFirst which (NoTwins fs)
     × (f : FileForm) × TopElsewhere length f (current_in fs) × (e ≡ outer_fault kinds.TopFile f.offset))
 
--- a fault in the layout of a volume's body: a fault of a cell, or of the files in its cells; the data of the files are
--- not included
+-- e is a fault in the layout of a volume's body: a fault of a cell, or a fault of the files in the cells. Faults in the
+-- sections of the files are not included
 abbrev pub LayoutFault : Which → Extent → List ℕ → Fault → Type 0
 LayoutFault which x volume e =
     CellFault which x.file_system x.polarity x.first (drop x.first volume) e

@@ -1,4 +1,4 @@
--- The definitions that this crate exports. Other crates import them from here.
+-- The door of this crate: all definitions of its `specs/` that other crates may import.
 pub use Rattle.fv_tree.specs.Meaning.{Meaning, Volume, FileMeanings, NoFiles, MoreFiles, FileMeaning, File}
 pub use Rattle.fv_tree.specs.Meaning.{ContentMeaning, Plain, Sectioned, SectionMeanings, NoSections, MoreSections}
 pub use Rattle.fv_tree.specs.Meaning.{SectionMeaning, Section, BodyMeaning, Leaf, Group, Nested, files_list}

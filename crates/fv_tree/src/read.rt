@@ -30,8 +30,8 @@ use fv_head::{Extent, read_head, verify_fv};
 use fv_section::{Frame, FrameWalk, section_header_len};
 use std::alloc::Global;
 
-// Where some bytes begin in the bytes that were passed to the call, and how many levels may still
-// nest in them.
+// The place of some bytes in the bytes that were passed to the call, and the number of levels that
+// may still nest in them.
 #[derive(Clone, Copy)]
 struct Level {
     place: Place,

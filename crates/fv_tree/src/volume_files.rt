@@ -241,7 +241,7 @@ fn check_top(files: &[LocatedFile], length: u64) -> Result<(), Fault>
     Ok(())
 }
 
-// Does the same as `current_files`, for files that may share a name.
+// Returns the same as `current_files`, for files of which some may share a name.
 fn files_sharing_names<'a>(
     alloc: Global,
     files: Vec<LocatedFile<'a>>,
