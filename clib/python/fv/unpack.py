@@ -46,7 +46,7 @@ from .names import DEPEX, PE32, TE, Names
 from .shown import file_name, printable
 
 NAME = "fv-unpack"
-IMAGE = "image"  # where the offsets of parts count from that are not in an opened section
+IMAGE = "image"  # the start of the offsets of parts that are not in an opened section
 INDEX = "index.tsv"
 ROOM = ".fv-unpack"  # the folder that a run writes to until everything is written
 
@@ -81,7 +81,7 @@ class Entry:
 
 @dataclass(frozen=True)
 class Place:
-    """Where parts are: what their offsets count from, and the name of the file around them."""
+    """The place of parts: the start of their offsets, and the name of the file around them."""
 
     within: str = IMAGE
     holder: str = ""
@@ -261,7 +261,7 @@ def _rename(parts: Path, folder: Path) -> None:
 
 
 def _move_parts(parts: Path, folder: Path) -> None:
-    """Moves the contents of a folder to another folder, which has nothing but ROOM. If that fails, moves them back."""
+    """Moves the contents of a folder to another folder, which contains only ROOM. If that fails, moves them back."""
     if [it.name for it in folder.iterdir()] != [ROOM]:
         raise FileExistsError(f"something else was written to {folder}")
     moved: list[Path] = []

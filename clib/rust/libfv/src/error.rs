@@ -10,14 +10,14 @@ macro_rules! fault_kinds {
     ($($(#[$attribute:meta])* $name:ident = $result:ident,)*) => {
         /// The reason why an input is rejected. `docs/FAULTS.md` in the repository explains every kind.
         ///
-        /// Kinds of volumes and images have no prefix. The kinds that begin with `Depex` are those
-        /// of dependency expressions, and the kinds that begin with `Hob` those of hand-off lists.
+        /// Kinds of volumes and images have no prefix. The kinds that begin with `Depex` belong to
+        /// dependency expressions, and the kinds that begin with `Hob` to hand-off lists.
         #[derive(Clone, Copy, Debug, PartialEq, Eq, Hash)]
         #[non_exhaustive]
         pub enum FaultKind {
             $($(#[$attribute])* $name,)*
-            /// A fault with this result, which this version of the crate does not know. A later
-            /// version may have a variant for it.
+            /// A fault with this result, for which this version of the crate has no variant. A
+            /// later version may have one.
             Other(u32),
         }
 
