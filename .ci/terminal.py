@@ -138,7 +138,7 @@ def cases(short: str) -> list[Case]:
 
 
 def new_terminal() -> tuple[int, int]:
-    """Returns the two ends of a terminal that shows what is written to it, but not what is typed."""
+    """Returns the two ends of a terminal that shows the text that is written to it, but not the text that is typed."""
     ours, theirs = pty.openpty()
     modes = termios.tcgetattr(theirs)
     modes[1] &= ~termios.OPOST

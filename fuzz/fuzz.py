@@ -823,7 +823,7 @@ class Tool:
         return path
 
     def start(self, words: list[str], given: str = os.devnull) -> Answer:
-        """Runs the program. Its answer includes what it wrote to standard error."""
+        """Runs the program. The answer includes its text on standard error."""
         self.calls += 1
         argv, most = [self.program, *words], self.seconds
         with open(given, "rb") as stdin:

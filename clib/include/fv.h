@@ -243,7 +243,7 @@ FV_ASSERT_(sizeof(fv_volume_check) == 48 && offsetof(fv_volume_check, offset) ==
                offsetof(fv_volume_check, canonical) == 40 && offsetof(fv_volume_check, reserved) == 44,
            "the layout of fv_volume_check");
 
-/* What fv_volume_compare found. */
+/* The findings of fv_volume_compare. */
 typedef struct fv_comparison {
     uint64_t text_length; /* the number of bytes of the text, without the NUL that ends it */
     uint32_t same;        /* 1 if the two volumes have the same meaning, otherwise 0 */

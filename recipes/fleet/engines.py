@@ -139,7 +139,7 @@ class Run:
             return subprocess.Popen(words, cwd=self.room, env=variables, stdin=none, stdout=said, stderr=said)
 
     def said(self) -> str:
-        """Returns the end of what programs have written beside the lines."""
+        """Returns the end of the output that programs have written in addition to the lines."""
         return (self.room / "said").read_text(errors="replace")[-2000:]
 
     def ends(self, running: subprocess.Popen[bytes], *wanted: int) -> None:

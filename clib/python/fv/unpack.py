@@ -53,9 +53,9 @@ ROOM = ".fv-unpack"  # the folder that a run writes to until everything is writt
 
 @dataclass(frozen=True)
 class Entry:
-    """A part of an image: its path (the path of a folder ends with a slash), where its offset counts from, what it is,
-    its type, its GUID and its name, and a note. `line` is a line of text about it, and `status` the least status of a
-    run that unpacks it."""
+    """A part of an image: its path (the path of a folder ends with a slash), the start of its offset, its kind, its
+    type, its GUID and its name, and a note. `line` is a line of text about it, and `status` the least status of a run
+    that unpacks it."""
 
     path: str
     part: Part
@@ -221,8 +221,8 @@ def write(found: Iterable[Entry], folder: Path) -> None:
 
 @contextlib.contextmanager
 def filled_at_end(folder: Path) -> Iterator[Path]:
-    """Gives the block a path for a new folder. When the block ends, FOLDER has what was written there. If the block
-    raises an exception, nothing is left.
+    """Gives the block a path for a new folder. When the block ends, FOLDER has the contents of the new folder. If the
+    block raises an exception, nothing is left.
 
     A FOLDER that exists stays the same folder with its owner and its mode, because it may be a mount point or the
     current folder of a shell. So the new folder is made inside it, and its parts are moved, the index last. If there is

@@ -173,7 +173,7 @@ pub struct fv_volume_check {
     pub reserved: u32,
 }
 
-/// What `fv_volume_compare` found.
+/// The findings of `fv_volume_compare`.
 #[repr(C)]
 #[derive(Clone, Copy, Debug, Default, PartialEq, Eq, Hash)]
 pub struct fv_comparison {

@@ -154,7 +154,7 @@ impl Fault {
         (raw.result != sys::FV_OK).then_some(Fault(raw))
     }
 
-    /// Returns what is wrong.
+    /// Returns the kind of the fault.
     pub fn kind(&self) -> FaultKind {
         FaultKind::of(self.0.result)
     }
@@ -227,7 +227,7 @@ impl fmt::Display for Fault {
 
 impl error::Error for Fault {}
 
-/// Why a function of this crate returned no result.
+/// The reason why a function of this crate returned no result.
 #[derive(Clone, Copy, Debug, PartialEq, Eq, Hash)]
 #[non_exhaustive]
 pub enum Error {

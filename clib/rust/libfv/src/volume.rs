@@ -52,7 +52,7 @@ impl Cell {
         range(self.0.offset, self.0.length)
     }
 
-    /// Returns what the cell is.
+    /// Returns the kind of the cell.
     pub fn kind(&self) -> CellKind {
         match self.0.kind {
             sys::FV_CELL_FILE => CellKind::File,
@@ -157,7 +157,7 @@ impl Node {
         self.0.depth as usize
     }
 
-    /// Returns what the node is.
+    /// Returns the kind of the node.
     pub fn kind(&self) -> NodeKind {
         match self.0.kind {
             sys::FV_NODE_VOLUME => NodeKind::Volume,
@@ -167,7 +167,7 @@ impl Node {
         }
     }
 
-    /// Returns what the node holds.
+    /// Returns the kind of the node's contents.
     pub fn content(&self) -> Content {
         match self.0.content {
             sys::FV_CONTENT_FILES => Content::Files,
