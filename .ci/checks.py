@@ -17,13 +17,13 @@ def read(path: str | Path) -> str:
 
 
 def found_by(*patterns: str) -> list[str]:
-    """Returns the files with such names, without those that are built."""
+    """Returns the files whose names match the patterns, except built files."""
     found = {path for pattern in patterns for path in glob.glob(pattern, recursive=True)}
     return sorted(path for path in found if not re.search(r"(^|/)(?:out|target)/", path))
 
 
 def scripts(*patterns: str) -> list[str]:
-    """Returns the scripts and modules in Python among the files with such names."""
+    """Returns the scripts and modules in Python among the files whose names match the patterns."""
     files = [path for path in found_by(*patterns) if os.path.isfile(path)]
     return [path for path in files if path.endswith(".py") or re.match(r"#!.*python", first_line(path))]
 

@@ -12,29 +12,30 @@ from dataclasses import dataclass
 
 from checks import read
 
-# A file of definitions: its crate, and its module in specs/. A definition: its file, and its name there.
+# A Place is a file of definitions: its crate, and its module in specs/. A Key is a definition: its file, and its name
+# in this file.
 Place = tuple[str, str]
 Key = tuple[str, str, str]
 
 NAME = r"[^\W\d][\w\-']*"
 INNER = "inner."
-# The module by which a crate passes its definitions on.
+# The module through which a crate exports its definitions.
 DOOR = "Words"
 IMPORT = re.compile(
     r"(?m)^[ \t]*(?:ghost |pub |unfoldable )*use\s+Rattle\.(fv_\w+)\.specs\.([\w.+\-]+?)"
     r"(?:\.\{([^}]*)\}|\s+as\s+([^\s;]+))(?=;|\s*$)"
 )
-# The lines that begin a definition: at the left margin; two spaces in, in a mutual block; further in, for a constructor
-# of a data type.
+# The lines that begin a definition. These lines are at the left margin, or indented by two spaces in a mutual block, or
+# indented further for a constructor of a data type.
 DEFINES = re.compile(rf"(?:(?:abbrev|unfoldable|opaque) )*(?:pub )?(?:record |data )?({NAME})(?=[ ({{:])")
 IN_MUTUAL = re.compile(rf"  pub (?:record |data )?({NAME})(?=[ ({{:])")
 CONSTRUCTOR = re.compile(r"(?:  ){1,2}([A-Z]\w*) :")
-# The ghost members that a type or a trait shows of itself. Its other ghost members are measures and proofs.
+# The ghost members of a type or a trait that others can use. Its other ghost members are measures and proofs.
 SHOWN = {"Value", "view", "invariant", "takes", "remaining"}
 NO_WORDS = {"abbrev", "pub", "record", "data", "unfoldable", "opaque", "mutual", "where", "use"}
 
-# The text of a function up to its first clause or its body; a clause, with the text before it; and the beginning of a
-# function.
+# Three patterns: the text of a function up to its first clause or its body, a clause with the text before it, and the
+# beginning of a function.
 SIGNATURE = re.compile(r"(?:[^{;\[]|\[[^\]]*\])*")
 CLAUSE = re.compile(r"(?:[^{;\[]|\[[^\]]*\])*?\b(requires|ensures)\b([^\n{;]*)\{")
 FUNCTION = re.compile(r'(?m)^([ \t]*)(pub(?:\([a-z]+\))? )?(?:const )?(extern "C" )?fn (\w+)')
@@ -68,7 +69,7 @@ class Call:
 
 @dataclass(frozen=True)
 class Imports:
-    """The meaning of the names that a file imports: of its definitions, and of its modules."""
+    """The names that a file imports, with their meaning: names of definitions, and names of modules."""
 
     names: dict[str, Key]
     modules: dict[str, Place]
@@ -76,7 +77,7 @@ class Imports:
 
 @dataclass(frozen=True)
 class Entry:
-    """Definitions under one comment, and the comment."""
+    """The definitions under one comment, and this comment."""
 
     words: list[str]
     comment: str
@@ -104,7 +105,7 @@ class Source:
 
 @functools.cache
 def door(crate: str) -> dict[str, Key]:
-    """Returns the definitions that a crate passes on by its Words, by their names there."""
+    """Returns the definitions that a crate exports through its module Words, by their names in it."""
     path = f"crates/{crate}/specs/{DOOR}.antt"
     return imports(read(path)).names if os.path.exists(path) else {}
 
@@ -162,7 +163,7 @@ def defined(paragraph: str) -> list[str]:
 
 
 class Words:
-    """The definitions of all crates, and the definitions that each of them leads to."""
+    """The definitions of all crates, and the definitions that each of them cites."""
 
     def __init__(self) -> None:
         """Reads all files of definitions."""
@@ -198,7 +199,7 @@ class Words:
         return found
 
     def closure(self, first: Iterable[Key]) -> set[Key]:
-        """Returns some definitions, and all definitions that they lead to."""
+        """Returns some definitions, and all definitions that they reach."""
         reached: set[Key] = set()
         left = list(first)
         while left:
@@ -223,7 +224,7 @@ def block(text: str, start: int) -> int:
 
 
 def contract(text: str, code: str, start: int) -> list[Clause]:
-    """Returns the clauses of the function whose name ends at `start`. `code` is the text with blanks for its
+    """Returns the clauses of the function whose name ends at `start`. `code` is the text with blanks in place of its
     comments."""
     found: list[Clause] = []
     while True:
@@ -248,7 +249,7 @@ def owner(code: str, start: int) -> tuple[str, bool]:
 
 
 def blank(text: str) -> str:
-    """Returns the code of a file: its text with blanks for its comments."""
+    """Returns the code of a file: its text with blanks in place of its comments."""
     return re.sub(r"//[^\n]*", lambda match: " " * len(match[0]), text)
 
 
@@ -263,7 +264,8 @@ def sources(crate: str) -> Iterator[Source]:
 
 
 def calls(crate: str) -> Iterator[Call]:
-    """Returns the public functions of a crate, in the order of its files. The program's are all public."""
+    """Returns the public functions of a crate, in the order of its files. All functions of the program count as
+    public."""
     for source in sources(crate):
         uses = r"(?m)^[ \t]*(?:ghost )?use [^;]*;"
         code = blank(re.sub(uses, lambda match: re.sub(r"[^\n]", " ", match[0]), source.text))

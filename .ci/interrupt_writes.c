@@ -1,4 +1,4 @@
-/* Loaded into the program: each write to standard output is interrupted. */
+/* This object is loaded into the program. It interrupts each write to standard output. */
 #define _GNU_SOURCE
 #include <dlfcn.h>
 #include <errno.h>

@@ -1,5 +1,5 @@
-"""The parts of `.ci/mutants`: edits and the functions that they change, the answers of a proof, and what a check
-reports of goals."""
+"""The parts of `.ci/mutants`: edits and the functions that they change, the answers of a proof, and the goals that a
+check reports."""
 
 from __future__ import annotations
 
@@ -10,28 +10,29 @@ import re
 
 FALSE, NO_PROOF, TEXT = "false", "no proof", "text"
 
-# The line that begins a function, the attribute of a function that is proved with others, the lines that hold functions
-# together, those that begin a type, and imports.
+# Patterns for lines of a source: the first line of a function, the attribute of a function that is proved with others,
+# the first line of an `impl` or a trait, the first line of a type, and an import.
 FUNCTION = re.compile(r'( {0,4})(?:pub(?:\([^)]*\))? )?(?:const )?(?:unsafe )?(?:extern "C" )?fn (\w+)')
 CYCLE = re.compile(r"\s*#\[cycle\((\w+)\)\]")
 HOLDER = re.compile(r"(?:pub(?:\([^)]*\))? )?(impl|trait)\b")
 TYPE = re.compile(r"(?m)^(?:pub(?:\([^)]*\))? )?(?:struct|enum) (\w+)")
 IMPORT = re.compile(r"\s*(?:pub(?:\([^)]*\))? )?use ")
-# The line that begins a declaration in a proof file, and the other lines that begin a part of such a file.
+# The line that begins a declaration in a proof file, and the other lines that begin a part of a proof file.
 DECLARES = re.compile(r"(?:pub )?(\S+) : ")
 APART = re.compile(r"use |--|mutual\b|mod |pub mod ")
-# A line of a check that has a place, and one that is of a function.
+# Lines of a check's output: a line with a place, and lines about a function, about a file, and about goals that were
+# not tried.
 PLACED = re.compile(r"(?:note: )?(?:\./)?((?:src|specs|proofs)/\S+?):(\d+):\d+: (.*)")
 OF_FUNCTION = re.compile(r"fn \w+?::(\S+): (.*)")
 OF_FILE = re.compile(r"note: `([^`]+)` of (?:\./)?proofs/(\S+)/\w+\.antt may be false")
 NOT_TRIED = re.compile(r"note: `search` has not tried the goals of `\w+?::([^`]+)`")
-# The words of the checker about a goal that its tactics do not prove, and about values at which a goal is false.
+# The checker's words about a goal that its tactics do not prove, and about values at which a goal is false.
 TACTIC = r"`?\b(?:search|grind|omega|simp|cc)\b`?"
 UNFOUND = re.compile(rf"{TACTIC}(?::| broke| stopped| met| found| gave)|give the call less to do|no proof of ")
 VALUES = re.compile(r"the goal fails,? at|this goal is false")
-# Its words about an answer whose goal the edit has taken away, and about one that it did not check.
+# The checker's words about an answer whose goal the edit has removed, and about an answer that was not checked.
 GONE = re.compile(r"module `[^`]*\.Goals` has no|(?:was|were) rejected, (?:was|were) not checked")
-# The answer that searches for a proof of the goal that an edit names, cut short, and the import of `rules`.
+# The answer that searches briefly for a proof of the goal that an edit names, and the import of `rules`.
 SEARCH = "search rules fits 100 steps 300000"
 RULES = re.compile(r"(?m)^use Rattle\.std\.proofs\.Common\.\{(?:[^}]*, )?rules[,}]")
 BY_TACTIC = re.compile(r"=\s*(?:λ[^.]*\.\s*)?(?:search|grind|omega|simp|cc)\b")
@@ -39,9 +40,9 @@ BY_TACTIC = re.compile(r"=\s*(?:λ[^.]*\.\s*)?(?:search|grind|omega|simp|cc)\b")
 
 @dataclasses.dataclass(frozen=True)
 class Function:
-    """A function of a source: its lines, its path below the crate, and what is proved as one: itself, or the cycle that
-    it is in. `is_single` says whether a copy of it may be put beside it under another name: it is not in a cycle, nor
-    in a trait or an `impl` of a trait."""
+    """A function of a source: its lines, its path below the crate, and the unit that is proved as one, which is the
+    function or the cycle that contains it. `is_single` says whether a copy of it may be put beside it under another
+    name: the function must not be in a cycle, in a trait or in an `impl` of a trait."""
 
     file: str
     first: int
@@ -63,7 +64,7 @@ class Change:
 @dataclasses.dataclass(frozen=True)
 class Edit:
     """A wrong body: its changes, and the goal that has to stay open. `of` is the function of that goal, if the line
-    names it. `is_bare` says that the goal is tried without its answer."""
+    names it. `is_bare` means that the goal is tried without its answer."""
 
     path: pathlib.Path
     changes: tuple[Change, ...]
@@ -79,8 +80,8 @@ class Edit:
 
 @dataclasses.dataclass(frozen=True)
 class Open:
-    """A goal that a check leaves open: what it belongs to, its name, and whether it is false, has no proof, or has an
-    answer that does not fit."""
+    """A goal that a check leaves open: the function or cycle that it belongs to, its name, and whether it is false, has
+    no proof, or has an answer that does not fit."""
 
     unit: str
     goal: str
@@ -89,11 +90,11 @@ class Open:
 
 @dataclasses.dataclass
 class Report:
-    """What a check says: the goals that it leaves open; by what they belong to, those of them that have no answer; what
-    it says of each function that it names; and for each that waits, what it waits for. `moved` are the functions whose
-    edit takes away a goal that has an answer, so that an open goal may be an old one under another name. `broken` are
-    the places in sources that do not compile, and `unknown` functions that the checker knows by another name. `judged`
-    says whether the check came to its end, and `said` is all that it says."""
+    """The report of a check: the open goals; the goals without an answer, by the function or cycle that they belong to;
+    the verdict on each named function; and, for each function that waits, the functions that it waits for. `moved` has
+    the functions whose edit removes a goal that has an answer, so that an open goal may be an old goal under another
+    name. `broken` has the places in sources that do not compile, and `unknown` the functions that the checker knows by
+    another name. `judged` shows whether the check ended regularly, and `said` is its output."""
 
     opens: list[Open]
     listed: dict[str, set[str]]
@@ -106,7 +107,7 @@ class Report:
     said: str
 
     def has_proved(self, function: str) -> bool:
-        """Returns whether the check says that a function is proved."""
+        """Returns whether the check reports that a function is proved."""
         return self.named.get(function, "").split(";")[0] in ("proved", "no holes")
 
 
@@ -127,7 +128,7 @@ def read_edit(path: pathlib.Path) -> Edit:
 
 
 def applied(changes: tuple[Change, ...], texts: dict[str, str]) -> dict[str, str] | None:
-    """Returns the texts after some changes, or nothing if an old text is not there exactly once."""
+    """Returns the texts after some changes, or nothing if an old text does not occur exactly once."""
     found = dict(texts)
     for change in changes:
         if not change.old or found.get(change.file, "").count(change.old) != 1:
@@ -137,9 +138,9 @@ def applied(changes: tuple[Change, ...], texts: dict[str, str]) -> dict[str, str
 
 
 def holder_of(header: str) -> str:
-    """Returns the name that the checker gives what an `impl` or a `trait` holds: `VecU8Collector` of
-    `impl Collector for Vec<u8>`, and `WordFaultFromIoError` of `impl From<io::Error> for WordFault`. It has no
-    lifetimes, and no parameters of the `impl`."""
+    """Returns the name that the checker gives to an `impl` or a `trait`: `VecU8Collector` for `impl Collector for
+    Vec<u8>`, and `WordFaultFromIoError` of `impl From<io::Error> for WordFault`. The name contains no lifetimes and no
+    parameters of the `impl`."""
     bare = re.split(r"\bwhere\b|\{", header.replace("->", ""))[0]
     depth, end = 0, 0
     for at, sign in enumerate(bare if re.match(r"(?:pub )?impl<", bare) else ""):
@@ -150,7 +151,7 @@ def holder_of(header: str) -> str:
     parameters = {*re.findall(r"(?:<|, )(?:const )?(\w+)\b", bare[:end])}
     rest = re.sub(r"'\w+|\b(?:pub|impl|trait)\b", "", bare[end:])
     trait, _, kind = re.split(r": ", rest)[0].rpartition(" for ")
-    # The path of the type, or of the trait, is left out. A path among its parameters is not.
+    # The path of the type or of the trait is left out. A path among its parameters stays.
     parts = [re.sub(r"^\s*(?:\w+::)+", "", it) for it in (kind, trait)]
     words = [it for part in parts for it in re.findall(r"\w+", part) if it not in parameters]
     return "".join(it[0].upper() + it[1:] for it in words)
@@ -169,8 +170,8 @@ def homes(texts: dict[str, str]) -> dict[str, list[str]]:
 
 
 def last_of(lines: list[str], first: int, indent: str, in_trait: bool) -> int | None:
-    """Returns the last line of the function that begins at a line, or nothing if it is a trait's function without a
-    body."""
+    """Returns the last line of the function that begins at a line, or nothing if the function is a trait's function
+    without a body."""
     opened = False
     for number in range(first, len(lines)):
         line = lines[number]
@@ -184,8 +185,8 @@ def last_of(lines: list[str], first: int, indent: str, in_trait: bool) -> int | 
 
 
 def calls_itself(name: str, body: list[str], in_type: bool) -> bool:
-    """Returns whether a body calls its own function. The checker proves such a function as a cycle, also if it has no
-    attribute."""
+    """Returns whether a body calls its own function. The checker proves a function that calls itself as a cycle, even
+    if it has no attribute."""
     before = r"(?:(?<![\w.:])Self::|(?<![\w.])self\.)" if in_type else r"(?<![\w.:])"
     return bool(re.search(rf"{before}{name}\(", "\n".join(line.partition("//")[0] for line in body)))
 
@@ -217,12 +218,13 @@ def functions(file: str, text: str, types: dict[str, list[str]]) -> list[Functio
 
 
 def around(file: str, texts: dict[str, str], line: int) -> Function | None:
-    """Returns the function that a line of a source is in. Attributes and comments above a function are not in it."""
+    """Returns the function that contains a line of a source. Attributes and comments above a function do not belong to
+    it."""
     return next((it for it in functions(file, texts.get(file, ""), homes(texts)) if it.first <= line <= it.last), None)
 
 
 def changed(edit: Edit, texts: dict[str, str]) -> list[Function] | None:
-    """Returns the functions that an edit changes, or nothing if it changes something outside of functions and
+    """Returns the functions that an edit changes, or nothing if the edit changes text outside of functions and
     imports."""
     found: dict[str, Function] = {}
     now = texts
@@ -239,15 +241,15 @@ def changed(edit: Edit, texts: dict[str, str]) -> list[Function] | None:
 
 
 def copy_of(function: Function, suffix: str) -> Function:
-    """Returns the copy of a function whose name ends with a suffix."""
+    """Returns the copy of a function. Its name is the function's name and a suffix."""
     return dataclasses.replace(function, path=function.path + suffix, unit=function.unit + suffix)
 
 
 def with_copy(
     texts: dict[str, str], was: dict[str, str], function: Function, suffix: str, edit: Edit
 ) -> dict[str, str]:
-    """Returns texts with a changed copy of a function after it, under its name and a suffix, and with a copy of its
-    proof. The function is copied as it was, and imports are changed in place."""
+    """Returns texts in which a changed copy follows a function. The copy's name is the function's name and a suffix,
+    and its proof is copied too. The original function stays as it was, and imports are changed in place."""
     lines, name = was[function.file].split("\n"), function.path.rpartition("::")[2]
     first = function.first
     while first and lines[first - 1].strip().startswith("#["):
@@ -271,9 +273,9 @@ def with_copy(
 
 
 def stubbed(texts: dict[str, str], units: set[str]) -> dict[str, str]:
-    """Returns texts in which the bodies of some functions do nothing. Such a function still has its contract, and its
-    theorem is given. A constant may need what a `const` function returns, and a cycle is known by its calls, so these
-    functions stay as they are."""
+    """Returns texts in which the bodies of some functions do nothing. These functions keep their contracts, and their
+    theorems are given. `const` functions stay as they are, because a constant may need their results. Functions of a
+    cycle stay too, because the checker recognises a cycle by its calls."""
     found = dict(texts)
     for file in [it for it in texts if it.startswith("src/")]:
         lines, text = texts[file].split("\n"), list[str]()
@@ -305,7 +307,7 @@ def answers(text: str) -> dict[str, tuple[int, int]]:
 
 
 def without(text: str, name: str) -> str | None:
-    """Returns a proof file without one of its declarations, or nothing if it has none of this name."""
+    """Returns a proof file without the declaration of this name, or nothing if it has no declaration of this name."""
     place = answers(text).get(name)
     if not place:
         return None
@@ -314,7 +316,7 @@ def without(text: str, name: str) -> str | None:
 
 
 def assumed(text: str, names: tuple[str, ...], module: str) -> str:
-    """Returns a proof file, of a function with this module, in which some goals are given and not proved."""
+    """Returns the proof file of a function of this module, in which some goals are given and not proved."""
     for name in names:
         text = without(text, name) or text
     text = text.rstrip("\n") or f"use {module}.Goals as goal"
@@ -322,7 +324,7 @@ def assumed(text: str, names: tuple[str, ...], module: str) -> str:
 
 
 def searched(text: str, name: str, module: str) -> str:
-    """Returns a proof file, of a function with this module, in which the answer of a goal is SEARCH."""
+    """Returns the proof file of a function of this module, in which the answer of a goal is SEARCH."""
     text = text.rstrip("\n") or f"use {module}.Goals as goal"
     if not RULES.search(text):
         text = f"use Rattle.std.proofs.Common.{{rules}}\n{text}"
@@ -330,7 +332,7 @@ def searched(text: str, name: str, module: str) -> str:
 
 
 def resting(text: str, name: str) -> set[str]:
-    """Returns the declarations of a proof file that rest on one of them, and this one."""
+    """Returns one declaration of a proof file, and the declarations that depend on it."""
     lines = text.split("\n")
     bodies = {it: "\n".join(lines[at:end]) for it, (at, end) in answers(text).items()}
     found = {name}
@@ -343,7 +345,7 @@ def resting(text: str, name: str) -> set[str]:
 
 
 def items(said: str) -> list[str]:
-    """Returns the lines of a check, each with the lines below it that continue it."""
+    """Returns the lines of a check's output, each joined with the lines that continue it."""
     found: list[str] = []
     for line in said.split("\n"):
         if line.startswith("  ") and found:
@@ -354,13 +356,13 @@ def items(said: str) -> list[str]:
 
 
 def unit_of(file: str) -> str:
-    """Returns the function, or the cycle, that a proof file belongs to."""
+    """Returns the function or the cycle that a proof file belongs to."""
     return os.path.dirname(file.removeprefix("proofs/")).replace("/", "::")
 
 
 def of_answer(file: str, text: str, proof: str) -> list[Open]:
-    """Returns the goals that an error in a proof file leaves open. Values at which a tactic fails are the goal's own
-    only if the tactic is the whole answer."""
+    """Returns the goals that an error in a proof file leaves open. Values at which a tactic fails count as values of
+    the goal only if the tactic is the whole answer."""
     unit = unit_of(file)
     names = re.match(r"error: `([^`]+)`: ?(.*)", text, re.S)
     if not names or GONE.search(text):

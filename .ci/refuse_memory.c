@@ -1,7 +1,7 @@
-/* Loaded before a program: refuses its allocation with the number REFUSE_AT, counted from 1, and reports this by a byte
-   on descriptor 9. If descriptor 8 is open when the program ends, four numbers are written there: the most bytes that it
-   held at one time, the number of allocations that it asked for, and the sizes of the two allocations after the refused
-   one. */
+/* This object is loaded into a program. It refuses the program's allocation with the number REFUSE_AT, counted from 1,
+   and reports this by a byte on descriptor 9. If descriptor 8 is open when the program ends, four numbers are written
+   there: the most bytes that the program held at one time, the number of allocations that it asked for, and the sizes
+   of the two allocations after the refused allocation. */
 #include <malloc.h>
 #include <stddef.h>
 #include <stdlib.h>
@@ -31,8 +31,8 @@ static int is_refused(size_t size)
     return write(9, "x", 1) == 1;
 }
 
-/* Counts a new block, or a block that takes the place of an old one with this many bytes. Both are held for a moment,
-   wherever the C library puts the new one. */
+/* Counts a new block, or a block that replaces an old block of this many bytes. Both count as held for a moment,
+   wherever the C library puts the new block. */
 static void *counted(void *block, size_t old)
 {
     if (block != NULL) {
@@ -60,7 +60,7 @@ void free(void *old)
     __libc_free(old);
 }
 
-/* Takes no memory itself, as printf may. */
+/* Writes a number to descriptor 8. This function allocates nothing, but printf might. */
 static void tell(size_t number, char end)
 {
     char text[24];

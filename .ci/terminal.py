@@ -1,5 +1,5 @@
-"""Runs the built program at a terminal, for .ci/streams. Checks what standard error says there, and that it says
-nothing to a file or a pipe. Standard output and the status are the same in all three."""
+"""Runs the built program at a terminal, for .ci/streams. Checks the text on standard error there, and that nothing is
+written to standard error if it is a file or a pipe. Standard output and the status are the same in all three cases."""
 
 from __future__ import annotations
 
@@ -21,7 +21,7 @@ from checks import read, report
 PROGRAM = "crates/fv_tool/out/fv_tool"
 VOLUME = "crates/fv_tool/stdin"
 TERMINAL = -1  # in place of a file
-# The status of a run, its output, and what it says.
+# The status of a run, its output, and its text on standard error.
 Result = tuple[int, str, str]
 READING = "fvtool: reading standard input\n"
 MORE = """\
@@ -37,8 +37,8 @@ try fvtool list --at M FILE, where M is N - 40
 
 @dataclasses.dataclass(frozen=True)
 class Case:
-    """A run: its arguments, its status, its output, and what it says at a terminal. If a text is typed, standard input
-    is a terminal. Otherwise it is the file."""
+    """A run: its arguments, its status, its output, and its text on standard error at a terminal. If a text is typed,
+    standard input is a terminal. Otherwise standard input is the file."""
 
     words: list[str]
     status: int
@@ -50,7 +50,7 @@ class Case:
 
 @dataclasses.dataclass(frozen=True)
 class Try:
-    """A run that was made: its name, its result, and the result that it should have."""
+    """A run that has ended: its name, its result, and the result that it should have."""
 
     name: str
     seen: Result
@@ -138,7 +138,7 @@ def cases(short: str) -> list[Case]:
 
 
 def new_terminal() -> tuple[int, int]:
-    """Returns the two ends of a terminal that shows what is written to it, but not what is typed."""
+    """Returns the two ends of a terminal that shows the text that is written to it, but not the text that is typed."""
     ours, theirs = pty.openpty()
     modes = termios.tcgetattr(theirs)
     modes[1] &= ~termios.OPOST
@@ -148,7 +148,7 @@ def new_terminal() -> tuple[int, int]:
 
 
 def read_until(ours: int, ends: bytes | None) -> bytes:
-    """Returns what a terminal shows: everything until its other end is closed, or up to a text."""
+    """Returns the text that a terminal shows, until its other end is closed or a given text has appeared."""
     shown = b""
     while ends is None or not shown.endswith(ends):
         try:
@@ -163,8 +163,9 @@ def read_until(ours: int, ends: bytes | None) -> bytes:
 
 def run(case: Case, errors: int | IO[bytes] | None = None, output: int | None = None) -> Result:
     """Returns the result of a run. Its standard error is a terminal, unless `errors` is a pipe or a file: then nothing
-    is said at the terminal. A text is typed after the program has said that it reads, if it does. The output is also
-    what the terminal shows if `output` is the terminal, and it is empty if `output` is another file."""
+    is written to the terminal. A text is typed only after the program has reported that it reads, if it reports this.
+    If `output` is the terminal, the output is a part of the text that the terminal shows. If `output` is another file,
+    the returned output is empty."""
     ours, theirs = new_terminal()
     with tempfile.TemporaryFile() as written, open(case.file, "rb") as file:
         given = file.fileno() if case.typed is None else theirs

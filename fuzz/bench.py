@@ -1,7 +1,7 @@
 #!/usr/bin/env python3
 """Measures the built program over volumes, beside cat, cmp, sha256sum and, where they are installed, VolInfo and
-UEFIExtract, and prints a table: of each command the least processor time of the runs, its ratio to that of cat, and its
-peak of memory. README.md says more."""
+UEFIExtract, and prints a table. The table has the least processor time of the runs of each command, the ratio of this
+time to the time of cat, and the peak of memory. README.md describes more."""
 
 from __future__ import annotations
 

@@ -1,6 +1,7 @@
 #!/usr/bin/env python3
-"""Measures the calls of libfv from Python, over a volume of 128 bytes without files, a volume of large files, and one of
-files of 24 bytes. Prints the least time of each call in microseconds. The rows of a call are counted, not read."""
+"""Measures the calls of libfv from Python, over a volume of 128 bytes without files, a volume of large files, and a
+volume of files of 24 bytes. Prints the least time of each call in microseconds. The script counts the rows of a call
+and does not read them."""
 
 from __future__ import annotations
 
@@ -19,11 +20,11 @@ from costs import MIB  # noqa: E402
 from fuzz import ROOT  # noqa: E402
 from hostile import volume  # noqa: E402
 
-# A package that PYTHONPATH names comes first.
+# A package that PYTHONPATH names is used first.
 sys.path.append(str(ROOT / "clib/python"))
 import fv  # noqa: E402
 
-# The functions that take a volume and nothing else.
+# The functions whose only argument is a volume.
 CALLS: tuple[Callable[[Any], Any], ...] = (
     fv.header_read,
     fv.image_scan,
@@ -41,7 +42,7 @@ CALLS: tuple[Callable[[Any], Any], ...] = (
 
 @dataclass(frozen=True)
 class Input:
-    """A volume that is passed to the calls, and how often: the number of runs, and of calls in a run."""
+    """A volume that is passed to the calls, the number of runs, and the number of calls in a run."""
 
     data: bytes
     runs: int
@@ -49,12 +50,13 @@ class Input:
 
 
 def least(call: Callable[[], Any], given: Input) -> float:
-    """Returns the least time of a call in microseconds: that of the quickest run, divided by its calls."""
+    """Returns the least time of a call in microseconds: the time of the fastest run, divided by the number of its
+    calls."""
     return min(timeit.repeat(call, number=given.calls, repeat=given.runs)) / given.calls * 1e6
 
 
 def measured(given: Input) -> dict[str, float]:
-    """Returns the least time of each call over an input. The comparison is with a copy of the input."""
+    """Returns the least time of each call over an input. The input is compared with a copy of itself."""
     data, copied = given.data, bytes(bytearray(given.data))
     found = {call.__name__: least(lambda: call(data), given) for call in CALLS}
     found["volume_compare"] = least(lambda: fv.volume_compare(data, copied), given)

@@ -1,4 +1,4 @@
-"""Measures what the runs of a program cost, for hostile.py and bench.py."""
+"""Measures the time and the memory of a program's runs, for hostile.py and bench.py."""
 
 from __future__ import annotations
 

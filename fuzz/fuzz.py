@@ -1,6 +1,7 @@
 #!/usr/bin/env python3
 """Writes firmware volumes, flash images and hand-off lists, valid, nearly valid and broken, runs the built program over
-them, and looks from outside whether it keeps what docs/PROGRAM.md promises. README.md in this folder says more."""
+them, and checks from outside whether it keeps the promises of docs/PROGRAM.md. README.md in this folder describes
+more."""
 
 from __future__ import annotations
 
@@ -71,7 +72,7 @@ class Part:
 @dataclass
 class Body:
     """The body of a volume that is being written: the form of the volume, the offset of the body, the groups and
-    volumes around its files, its bytes up to now, and the lines of each file."""
+    volumes around its files, the bytes that are written so far, and the lines of each file."""
 
     form: Form
     first: int
@@ -81,7 +82,7 @@ class Body:
 
     @property
     def end(self) -> int:
-        """The offset in the volume at which the body ends up to now."""
+        """The offset in the volume at which the written part of the body ends."""
         return self.first + len(self.data)
 
 
@@ -110,8 +111,8 @@ class Header:
     revision: int = 2
 
     def packed(self, block_map: bytes, change: int = 0) -> bytes:
-        """Returns the header with its block map. Its checksum is right if `change`, which is added by exclusive or, is
-        zero."""
+        """Returns the header with its block map. `change` is added to its checksum by exclusive or, so the checksum is
+        right if `change` is zero."""
         first = (self.zero, self.system, self.length, self.signature, self.attributes, self.header_length)
         head = struct.pack("<16s16sQ4sIHHHBB", *first, 0, self.place, self.reserved, self.revision) + block_map
         return head[:50] + struct.pack("<H", sum16(head) ^ change) + head[52:]
@@ -145,8 +146,8 @@ class Block:
 
 @dataclass(frozen=True)
 class Case:
-    """An input: its kind, its bytes, the lines that are to be written of it if it is valid, a volume of the same
-    meaning, and the image of a hand-off list with the address of its first byte."""
+    """An input: its kind, its bytes, the lines that are to be written of it if it is valid, another volume of the same
+    meaning, and the image for a hand-off list with the address of its first byte."""
 
     kind: str
     data: bytes
@@ -169,8 +170,8 @@ def sum8(data: bytes | bytearray) -> int:
 def file_head(
     name: bytes, kind: int, attributes: int, size: int, short_size: int, file_sum: int, state: int, change: int = 0
 ) -> bytes:
-    """Returns the header of a file, which is large if it has attribute 01. Its checksum is right if `change`, which is
-    added by exclusive or, is zero."""
+    """Returns the header of a file, which is large if it has attribute 01. `change` is added to its checksum by
+    exclusive or, so the checksum is right if `change` is zero."""
     head = name + bytes([0, 0, kind, attributes]) + short_size.to_bytes(3, "little") + b"\0"
     head += struct.pack("<Q", size) if attributes & LARGE else b""
     return head[:16] + bytes([sum8(head) ^ change, file_sum]) + head[18:23] + bytes([state]) + head[24:]
@@ -213,8 +214,8 @@ def file_line(number: int, name: bytes, kind: int, attributes: int, data: bytes)
 class Maker:
     """Writes inputs by docs/FORMAT.md. `pick` chooses the meaning of an input and the places of its parts, and `dust`
     chooses the bytes that are not part of a meaning: two makers with the same seed and different dust write two volumes
-    with the same meaning. `slips` is the most places at which the rules of the format are broken, and `made` the number
-    of these places up to now."""
+    with the same meaning. `slips` is the largest number of places at which the rules of the format may be broken, and
+    `made` the number of places at which they are broken so far."""
 
     def __init__(self, seed: str, dust: int = 0, slips: int = 0) -> None:
         """Prepares a maker. Makers with the same arguments write the same inputs."""
@@ -223,7 +224,7 @@ class Maker:
         self.slips = slips
         self.made = 0
         self.parts: int = self.pick.choice((4, 12, 30))  # how many cells and sections are still made
-        # How deep the first parts nest.
+        # The depth at which the first parts nest.
         self.chain: int = self.pick.choice((0, 0, 0, 0, 0, 0, 2, 4, DEEPEST, DEEPEST + (slips > 0)))
         self.spans: list[Span] = []  # the files of the volume that was written last
 
@@ -253,7 +254,7 @@ class Maker:
         return self.pick.randbytes(self.pick.choice((0, 1, 4, 8, 8, 24, self.pick.randrange(100), 256)))
 
     def filler(self, count: int, usual: int) -> bytes:
-        """Returns bytes that are not part of a meaning: the bytes of the canonical image, or others."""
+        """Returns bytes that are not part of a meaning: the bytes of the canonical image, or other bytes."""
         return bytes([usual]) * count if self.dust.random() < 0.5 else self.dust.randbytes(count)
 
     def kept_whole(self, make: Callable[[int], Part]) -> bytes:
@@ -365,7 +366,7 @@ class Maker:
         return file_head(name, kind, attributes, size, short_size, file_sum, state, change) + data
 
     def passed_over(self, form: Form, size: int, kind: int, bit: int) -> bytes:
-        """Returns a cell of which only the header checksum and the size are read."""
+        """Returns a cell. The program reads only its header checksum and its size."""
         large = LARGE if form.is_ffs3 and size >= 32 and self.happens(0.2) else 0
         name = self.dust.choice((b"\xff" * 16, self.dust.randbytes(16)))
         attributes = self.dust.choice((0, 0, FIXED, SUMMED | 0x38)) | large
@@ -420,7 +421,7 @@ class Maker:
         body.data += self.filler(-len(body.data) % 8, body.form.erased)
 
     def valid_file(self, body: Body, name: bytes, depth: int, bit: int = DATA_VALID) -> None:
-        """Adds a file that is part of the volume, and before it a pad if the file needs one for its alignment."""
+        """Adds a file that is part of the volume. A pad precedes the file if its alignment requires a pad."""
         must_nest = depth < self.chain
         kind = self.pick.choice(STREAMS if must_nest or self.happens(0.6) else PLAIN)
         attributes = self.attributes(body.form)
@@ -437,7 +438,8 @@ class Maker:
         body.files.append([about, *indented(content.lines)])
 
     def superseded(self, form: Form, name: bytes) -> bytes:
-        """Returns a file marked for update, whose name another file has. Only the checksum of its data is read."""
+        """Returns a file marked for update. Another file has the same name. The program reads only the checksum of its
+        data."""
         kind = self.pick.choice(STREAMS + PLAIN)
         attributes = self.attributes(form)
         return self.file(form, name, kind, attributes, self.dust.randbytes(self.pick.randrange(40)), MARKED)
@@ -458,7 +460,7 @@ class Maker:
         body.files.append([file_line(len(body.files), name, 0x01, SUMMED, data)])
 
     def cell(self, body: Body) -> None:
-        """Adds a cell to a body, or a few."""
+        """Adds one or a few cells to a body."""
         form = body.form
         if body.depth < self.chain or self.happens(0.6):
             bit = MARKED if self.happens(0.1) else DATA_VALID
@@ -777,11 +779,11 @@ def make_case(seed: int, index: int) -> Case:
 
 
 class Wrong(Exception):
-    """A promise that was not kept."""
+    """A promise that the program did not keep."""
 
 
 def require(holds: T | None, *what: object) -> T:
-    """Returns a value that shows that a promise is kept, and otherwise raises Wrong with these texts."""
+    """Returns a value that shows that a promise is kept. If the value is false, raises Wrong with these texts."""
     if not holds:
         raise Wrong("; ".join(str(it)[:2000] for it in what))
     return holds
@@ -821,7 +823,7 @@ class Tool:
         return path
 
     def start(self, words: list[str], given: str = os.devnull) -> Answer:
-        """Runs the program. Its answer includes what it wrote to standard error."""
+        """Runs the program. The answer includes its text on standard error."""
         self.calls += 1
         argv, most = [self.program, *words], self.seconds
         with open(given, "rb") as stdin:
@@ -896,7 +898,8 @@ NOTES = re.compile(rb"(?:" + PAD_NOTE + rb")*(?:" + DEPEX_NOTE + rb")*(?:not )?c
 
 
 def check_own(tool: Tool, case: Case, image: bytes) -> None:
-    """Checks that `check` reports whether the volume is its image, and the same notes on expressions for both."""
+    """Checks that `check` reports whether the volume is its own image, and that it writes the same notes on expressions
+    for the volume and its image."""
     status, text = tool.ask("check", case.data)
     is_own = case.data == image
     require((status == 0) == is_own, f"check: status {status}, and the volume is its image: {is_own}")
@@ -1042,7 +1045,8 @@ class Listed:
 
 
 def sections_below(lines: Iterable[str]) -> Iterator[Listed]:
-    """Returns the sections in the lines of a file: those in its groups too, but not those in its volumes."""
+    """Returns the sections in the lines of a file. Sections in its groups are included, but sections in its volumes are
+    not."""
     hidden: int | None = None
     for it in lines:
         indent = len(it) - len(it.lstrip())
@@ -1111,8 +1115,8 @@ def check_accepted(tool: Tool, case: Case, image: bytes) -> None:
 
 
 def check_refused(tool: Tool, case: Case, refusal: bytes) -> None:
-    """Checks that other commands reject the volume with the same fault. (A volume without a layout has a meaning all
-    the same.)"""
+    """Checks that other commands reject the volume with the same fault. (A volume without a layout still has a
+    meaning.)"""
     number, offset = (int(it) for it in re.findall(rb"\d+", refusal))
     require(case.lines is None or number in (22, 23), "a volume of the format is refused", refusal)
     command = tool.pick.choice(("check", "list", "compare", "scan"))
@@ -1153,8 +1157,8 @@ def places_in(text: bytes) -> list[Extent]:
 
 
 def check_places(tool: Tool, case: Case, text: bytes) -> None:
-    """Checks the output of `scan`: volumes at multiples of 8, one after another, each of which is also found on its
-    own."""
+    """Checks the output of `scan`: the volumes are at multiples of 8, they follow one another, and each of them is also
+    found on its own."""
     require(re.fullmatch(rb"(?:volume at \d+ length \d+\n)*", text), "scan: other text", text)
     places = places_in(text)
     end = 0
@@ -1172,8 +1176,8 @@ def check_places(tool: Tool, case: Case, text: bytes) -> None:
 
 
 def check_all(tool: Tool, case: Case, text: bytes) -> None:
-    """Checks that `check --all` reports of each volume what `check` reports of its bytes, with the offset of a fault in
-    the image."""
+    """Checks that `check --all` reports for each volume the result of `check` for its bytes, with the offset of a fault
+    in the image."""
     places = places_in(text)
     if len(places) > 8:
         return

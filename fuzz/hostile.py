@@ -1,8 +1,8 @@
 #!/usr/bin/env python3
-"""Writes inputs that aim at cost, runs the built program over each, and prints what each run took: it is to end within
-3 seconds of processor time (10 with --sums, which digests each byte twice at each level), or that for each 16 MiB of a
-larger input, in a peak of memory of at most twice its input, or the multiple in RATIOS, and 64 MiB. README.md says
-more."""
+"""Writes inputs that are meant to be costly, runs the built program over each of them, and prints the cost of each run.
+A run must take at most 3 seconds of processor time (10 with --sums, which digests each byte twice at each level), or
+this time for each 16 MiB of a larger input. Its peak of memory must be at most twice its input and 64 MiB. For the
+inputs in RATIOS, another multiple takes the place of 2. README.md describes more."""
 
 from __future__ import annotations
 
@@ -31,8 +31,8 @@ NAME = bytes([0x0A]) * 16
 
 
 def head_of(length: int, entries: int = 1, ext: int = 0) -> bytes:
-    """Returns a volume header with this number of entries in its block map, and the offset of its extended header, or
-    0. The last entry has the rest of the length."""
+    """Returns a volume header with this number of entries in its block map, and with the offset of its extended header,
+    or 0. The last entry of the block map covers the rest of the length."""
     block_map = struct.pack("<II", 1, 8) * (entries - 1) + struct.pack("<IIQ", 1, length - 8 * (entries - 1), 0)
     return Header(bytes(16), FFS3, length, 0x800, 64 + 8 * entries, ext).packed(block_map)
 
@@ -78,7 +78,7 @@ def named_files(count: int, state: int = DATA_VALID) -> Iterator[bytes]:
         yield bytes(block[: 24 * min(256, count - 256 * high)])
 
 
-# Each of these functions returns an input of about `size` bytes, or of the size that its comment gives.
+# Each of the following functions returns an input of about `size` bytes, or of the size that its comment gives.
 
 
 def signatures(size: int) -> bytes:
@@ -168,7 +168,7 @@ def empty_sections(size: int) -> bytes:
 
 
 def empty_expressions(size: int) -> bytes:
-    """Returns a volume of empty sections in one file. All are dependency expressions, which lack their END."""
+    """Returns a volume of empty sections in one file. All sections are dependency expressions, which lack their END."""
     return volume(file(b"\x04\0\0\x13" * ((size - 200) // 4)))
 
 
@@ -226,7 +226,8 @@ def mixed_names(size: int) -> bytes:
 
 
 def late_pair(size: int) -> bytes:
-    """Returns a volume of files whose names differ, and at the very end the last name again, marked for update."""
+    """Returns a volume of files whose names differ. At the end of the volume, a file marked for update has the name of
+    the last of these files."""
     count = (size - 72) // 24 - 1
     last = b"".join(named_files(count, MARKED))[-24:]
     return volume(b"".join(named_files(count)) + last)
@@ -239,7 +240,7 @@ INPUTS += (small_groups, groups_of_three, nested_sections, entries, small_volume
 RATIOS: dict[Make, int] = {names: 10, replaced_names: 8, mixed_names: 8, late_pair: 10}
 RATIOS |= {empty_sections: 8, empty_expressions: 8}
 RATIOS |= {small_groups: 10, groups_of_three: 11, nested_sections: 9, entries: 7}
-# With 16 MiB, these inputs take less.
+# These inputs take less memory if they have 16 MiB.
 RATIOS |= {stubs: 5, pads: 4, levels: 8, level_groups: 8, small_volumes: 5}
 
 
@@ -249,7 +250,7 @@ def measure(program: str, command: str, path: str) -> Cost:
 
 
 def is_within(command: str, mib: int, cost: Cost, most: int) -> bool:
-    """Returns whether a run has one of the program's statuses, and costs at most what it may."""
+    """Returns whether a run has one of the program's statuses, and stays within the limits of time and memory."""
     seconds = (MOST_SUMS_SECONDS if command == "list --sums" else MOST_SECONDS) * max(mib / 16, 1)
     return 0 <= cost.status <= 2 and cost.seconds <= seconds and cost.peak <= most
 

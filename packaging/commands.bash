@@ -1,4 +1,5 @@
-# Completion for bash of the commands of the Python package fv: the options that their help shows, and names of files.
+# Completion for bash of the commands of the Python package fv. It offers the options that a command's --help lists, and
+# names of files.
 _fv() { # COMMAND WORD
     COMPREPLY=()
     if [[ $2 == -* && " ${COMP_WORDS[*]:1:COMP_CWORD-1} " != *' -- '* ]]; then

@@ -1,4 +1,4 @@
-# Completion of fvtool(1) for bash. It needs no other package, and runs the fvtool in PATH for offsets and names.
+# Completion of fvtool(1) for bash. It needs no other package, and runs the fvtool in PATH to get offsets and names.
 
 # Writes the Nth file among the other arguments.
 _fvtool_file() { # N
@@ -48,7 +48,7 @@ _fvtool() {
             --instance | --base) choices= ;;
             --image) return ;;
             *)
-                # Without choices the shell completes names of files.
+                # The shell completes names of files if there are no choices.
                 if [[ $current != -* ]]; then return; fi
                 case ${COMP_WORDS[1]} in
                     normalise | check) choices='--all --at --hex' ;;

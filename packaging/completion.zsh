@@ -1,5 +1,5 @@
 #compdef fvtool
-# Completion of fvtool(1) for zsh. It runs the fvtool in PATH for offsets and names.
+# Completion of fvtool(1) for zsh. It runs the fvtool in PATH to get offsets and names.
 
 # Writes the Nth file among the arguments.
 _fvtool_file() { # N

@@ -35,7 +35,7 @@ expect() { # STATUS TEXT COMMAND..
     fi
 }
 
-# Checks that a command refuses its arguments: status 3, nothing on standard output, and a line of usage.
+# Checks that a command rejects its arguments: status 3, nothing on standard output, and a line of usage.
 refuses() { # WHAT COMMAND..
     local said status=0
     said=$("${@:2}" 2>&1 > said) || status=$?
@@ -46,7 +46,7 @@ refuses() { # WHAT COMMAND..
     fi
 }
 
-# Checks that a command without the library, or with a full output, says so and ends with status 4.
+# Checks that a command without the library, or with a full output, reports this and ends with status 4.
 fails_clearly() { # COMMAND..
     local name=${1##*/}
     expect 4 "$name: /missing/libfv.so.2: cannot open shared object file: No such file or directory. The library libfv and\

@@ -25,7 +25,7 @@
  *
  * Input: the noun in the name of a call says what its input is. "A volume" must be exactly one volume; bytes after it
  * are fault 8. If the input only "begins with one", the bytes after it are not read, and neither are the bytes after an
- * expression. Any bytes may be passed to any call: what is not such an input is rejected with a fault.
+ * expression. Any bytes may be passed to any call: bytes that are not an input of this kind are rejected with a fault.
  * Memory: in addition to its arguments, a call takes up to this many times the size of the input. This was measured
  * for inputs that consist of tiny parts only, which cost most; 14 is the highest figure among the calls listed with 14.
  * Stack: at most 16.5 KiB, as measured.
@@ -34,15 +34,15 @@
  *   1. NULL. An input may be NULL if its size is 0, a buffer may be NULL if its room is 0, and `fault` may always be
  *      NULL. Any other NULL is FV_BAD_ARGUMENT.
  *   2. Each pointer is aligned for its type. A misaligned pointer is FV_BAD_ARGUMENT.
- *   3. A buffer or a result (each pointer to what is not const) must not overlap any other argument of the same call.
- *      An overlap is FV_BAD_ARGUMENT.
- *   4. Each pointer leads to as many bytes or elements as its size, count or room says. The library cannot check this.
+ *   3. A buffer or a result (each pointer to an object that is not const) must not overlap any other argument of the
+ *      same call. An overlap is FV_BAD_ARGUMENT.
+ *   4. Each pointer points to as many bytes or elements as its size, count or room says. The library cannot check this.
  *   5. While a call runs, nothing else may write to an argument: no other thread, no process that has the same memory
  *      mapped, no device. No other thread may read a buffer or a result.
  *   6. No call may be made from a signal handler, nor in the child of a fork of a process with several threads (before
  *      the child calls exec).
  * Threads: the library keeps no state and takes no lock. Any number of threads may call it at once, even with the same
- * input, as far as malloc, realloc and free may be called so.
+ * input, as far as malloc, realloc and free allow this.
  *
  * Results: FV_OK is success. If several other results are possible, a call returns the first of them in this order:
  *   FV_BAD_ARGUMENT      A pointer breaks rule 1, 2 or 3, or the phase is not one of FV_PHASE_*. No input was read, and
@@ -61,14 +61,14 @@
  * start of the buffer. The rest of the buffer is unchanged.
  *
  * Growth within 2.x: calls, results, rows and fields keep their names, numbers, sizes and places.
- *   - `reserved` is 0, and may get a meaning: do not look at it.
+ *   - `reserved` is 0, and may get a meaning: do not read it.
  *   - Results may be added. Treat every result except FV_OK, FV_BUFFER_TOO_SMALL, FV_NOT_FOUND and FV_BAD_ARGUMENT as a
  *     fault of the input.
  *   - FV_CELL_*, FV_NODE_*, FV_CONTENT_*, FV_DEPEX_* and FV_PHASE_* get no new member.
  *   - `efi_type` and `attributes` are bytes of the input, so they may have any value.
  *
- * All lengths and offsets are in bytes. A GUID has its bytes as in the volume: of the first three fields the least
- * significant byte is first.
+ * All lengths and offsets are in bytes. A GUID has its bytes as in the volume: the least significant byte of each of
+ * the first three fields comes first.
  *
  * Rows: a field is as stored in the input, or part of the meaning (so the canonical image has it too), or both.
  *   fv_header, fv_cell, fv_hob  As stored. All cells are listed, also superseded and deleted files, which the meaning
@@ -77,11 +77,11 @@
  *                               part of the meaning.
  * fv_volume_extract and fv_volume_tree_digests are about the bytes that the canonical image has.
  *
- * Proofs: the calls are written in Rattle, below a layer in C. Each is proved to do what its comment here says, if that
- * layer accepts its pointers, except for two statements: which faults a call can return, and which input a comparison
- * reports when it runs out of memory. Not proved are this header, the layer (src/calls.c: FV_BAD_ARGUMENT, and NULL in
- * place of an empty argument), src/heap.c and src/result_text.c. The proofs hold only if the caller keeps the rules 4
- * to 6. */
+ * Proofs: the calls are written in Rattle, below a layer in C. Each call is proved to do what its comment here says, if
+ * that layer accepts its pointers, except for two statements: which faults a call can return, and which input a
+ * comparison reports when it runs out of memory. This header, the layer (src/calls.c: FV_BAD_ARGUMENT, and NULL in
+ * place of an empty argument), src/heap.c and src/result_text.c are not proved. The proofs hold only if the caller
+ * keeps the rules 4 to 6. */
 #ifndef FV_H
 #define FV_H
 
@@ -121,9 +121,9 @@
 
 FV_ASSERT_(sizeof(size_t) == 8 && sizeof(void *) == 8, "libfv is for 64-bit systems");
 
-/* The result of a call. The bits from 8 on say what it is about: 0 a volume or an image, 1 the call, 2 a dependency
- * expression, 3 a hand-off list. For 0, 2 and 3 the low byte is the number of the fault in docs/FAULTS.md; but out of
- * memory is 24 in every call. fv_result_text has a sentence for each result. */
+/* The result of a call. The bits from 8 on show what the result is about: 0 a volume or an image, 1 the call, 2 a
+ * dependency expression, 3 a hand-off list. For 0, 2 and 3 the low byte is the number of the fault in docs/FAULTS.md;
+ * but out of memory is 24 in every call. fv_result_text has a sentence for each result. */
 typedef uint32_t fv_result;
 enum {
     FV_OK = 0,
@@ -166,18 +166,18 @@ enum {
     FV_FAULT_HOB_NO_END = 0x305
 };
 
-/* What a cell of a volume's body is: a valid file, even if it is superseded; a pad file; a deleted file; a file whose
- * data or header were never finished; erased bytes up to the end of the volume. The state of the file decides between
- * deleted and unfinished. */
+/* The kinds of cells of a volume's body: a valid file, even if it is superseded; a pad file; a deleted file; a file
+ * whose data or header were never finished; erased bytes up to the end of the volume. The state of the file decides
+ * between deleted and unfinished. */
 enum { FV_CELL_FILE = 1, FV_CELL_PAD = 2, FV_CELL_DELETED = 3, FV_CELL_UNFINISHED = 4, FV_CELL_FREE = 5 };
 
-/* What a row of a tree is. */
+/* The kinds of rows of a tree. */
 enum { FV_NODE_VOLUME = 1, FV_NODE_FILE = 2, FV_NODE_SECTION = 3 };
 
-/* What the part of a row holds: a volume holds files; a file holds bytes or sections; a section holds bytes, sections
- * (it is a group) or a volume. The type of a file decides: it holds sections if the type is 0x02 or 0x04 to 0x0F, and
- * bytes otherwise, also for a security core (0x03). A file of these types, or a group, holds sections even if it has no
- * bytes: then no row is below its row. */
+/* The kinds of contents of a row's part: a volume holds files; a file holds bytes or sections; a section holds bytes,
+ * sections (it is a group) or a volume. The type of a file decides: it holds sections if the type is 0x02 or 0x04 to
+ * 0x0F, and bytes otherwise, also for a security core (0x03). A file of these types, or a group, holds sections even if
+ * it has no bytes: then no row is below its row. */
 enum { FV_CONTENT_FILES = 0, FV_CONTENT_BYTES = 1, FV_CONTENT_SECTIONS = 2, FV_CONTENT_VOLUME = 3 };
 
 /* The phase in which a dependency expression is evaluated. FV_PHASE_DXE is for DXE and for MM. */
@@ -202,7 +202,7 @@ FV_ASSERT_(sizeof(fv_sha256) == 32, "the layout of fv_sha256");
 /* A fault and its place. All fields are 0 if there is no fault. */
 typedef struct fv_fault {
     uint64_t offset;   /* in bytes, from the first byte of the input */
-    fv_result result;  /* the result of the call; of a row of fv_image_check the fault of that volume */
+    fv_result result;  /* the result of the call; in a row of fv_image_check the fault of that volume */
     uint32_t depth;    /* the number of groups and opened volumes around it, 0 to 8 */
     uint32_t input;    /* 1 if it is a fault of the second input of fv_volume_compare, otherwise 0 */
     uint32_t reserved; /* 0 */
@@ -243,7 +243,7 @@ FV_ASSERT_(sizeof(fv_volume_check) == 48 && offsetof(fv_volume_check, offset) ==
                offsetof(fv_volume_check, canonical) == 40 && offsetof(fv_volume_check, reserved) == 44,
            "the layout of fv_volume_check");
 
-/* What fv_volume_compare found. */
+/* The findings of fv_volume_compare. */
 typedef struct fv_comparison {
     uint64_t text_length; /* the number of bytes of the text, without the NUL that ends it */
     uint32_t same;        /* 1 if the two volumes have the same meaning, otherwise 0 */
@@ -283,7 +283,7 @@ typedef struct fv_node {
     uint32_t attributes;    /* Attributes of a volume, or of a file without bit 0x01: header_length is 32 instead */
     uint32_t header_length; /* HeaderLength of a volume; 24 or 32 (file), 4 or 8 (section): a header before offset */
     fv_guid guid;           /* FvName of a volume, or zeros if it has none; Name of a file */
-    uint32_t file_system;   /* of a volume 2: FFS2, 3: FFS3 */
+    uint32_t file_system;   /* for a volume 2: FFS2, 3: FFS3 */
     uint32_t reserved[3];   /* 0 */
 } fv_node;
 FV_ASSERT_(sizeof(fv_node) == 88 && offsetof(fv_node, offset) == 0 && offsetof(fv_node, length) == 8 &&
@@ -314,12 +314,12 @@ FV_API_ uint32_t fv_version_number(void);
 /* Returns the version of the library that is loaded as a text, ended by a NUL, as FV_VERSION has it. */
 FV_API_ const char *fv_version(void);
 
-/* Returns a sentence, ended by a NUL, that explains a result. It has one for each member of fv_result, and one for all
- * other numbers; it never returns NULL. */
+/* Returns a sentence, ended by a NUL, that explains a result. Each member of fv_result has its own sentence, and all
+ * other numbers share a sentence. Never returns NULL. */
 FV_API_ const char *fv_result_text(fv_result result);
 
-/* Reads the header of the volume with which the bytes begin. Checks this header only, and no file: the volume may still
- * be rejected by each of the fv_volume_* calls. Takes no memory.
+/* Reads the header of the volume with which the bytes begin. Checks only this header, and no files: each of the
+ * fv_volume_* calls may still reject the volume. Takes no memory.
  * Returns FV_OK, and sets *header, if the bytes begin with a header and all bytes of its volume. Otherwise returns the
  * first fault, 1 to 9, and leaves *header unchanged. */
 FV_CHECKED_ fv_result fv_header_read(const void *bytes, size_t size, fv_header *header, fv_fault *fault);
@@ -362,10 +362,10 @@ FV_CHECKED_ fv_result fv_volume_normalise(const void *volume, size_t size, void 
  * each fixed file, bit 0x04 of the attributes is cleared, and 4 is added to the header checksum (modulo 256), so all
  * checksums stay right. Files that are marked for update are among these files. All other bytes are the same as in the
  * input, also in pads, in deleted files and in nested volumes. A volume without fixed files is written as it is. The
- * calls that read the files of a volume reject one with fixed files (15), so pass them what this call writes. It is for
- * reading, comparing and archiving, and must not be flashed. Takes no memory. To learn which files were fixed, ask
- * fv_volume_cells for the cells of the result: a file was fixed if bit 0x04 of byte 19 of its header is set in the
- * input.
+ * calls that read the files of a volume reject a volume with fixed files (15), so pass them the output of this call.
+ * The output is for reading, comparing and archiving, and must not be flashed. Takes no memory. To learn which files
+ * were fixed, ask fv_volume_cells for the cells of the result: a file was fixed if bit 0x04 of byte 19 of its header is
+ * set in the input.
  * Returns FV_OK; the first fault of the header or of the cells, or 8 if bytes follow the volume: 1 to 16, but never 15;
  * otherwise FV_BUFFER_TOO_SMALL if buffer_size < size. */
 FV_CHECKED_ fv_result fv_volume_unfix(const void *volume, size_t size, void *buffer, size_t buffer_size,
@@ -378,9 +378,9 @@ FV_CHECKED_ fv_result fv_volume_digest(const void *volume, size_t size, fv_sha25
 /* Compares the meanings of two volumes. Sets *found, and writes a text, ended by a NUL, to the start of `text`: `same`,
  * or `different at` with the steps down to the first difference and its kind.
  * Returns FV_OK, or FV_BUFFER_TOO_SMALL if text_size <= found->text_length; FV_DIFFERENCE_SIZE bytes are always enough.
- * Otherwise returns the first fault, 1 to 21, or 24, of the first input, or else of the second input, for which
- * fault->input is 1, and leaves *found unchanged. If memory runs out while the two volumes are compared, fault->input
- * is 0. */
+ * Otherwise returns the first fault, 1 to 21, or 24, of the first input, or of the second input if the first input has
+ * no fault, and leaves *found unchanged. fault->input is 1 for a fault of the second input. It is 0 if memory runs out
+ * while the two volumes are compared. */
 FV_CHECKED_ fv_result fv_volume_compare(const void *first, size_t first_size, const void *second, size_t second_size,
                                         char *text, size_t text_size, fv_comparison *found, fv_fault *fault);
 
@@ -392,34 +392,34 @@ FV_CHECKED_ fv_result fv_volume_cells(const void *volume, size_t size, fv_cell *
                                       fv_fault *fault);
 
 /* Writes the whole tree of the volume: a row for the volume, its files, their sections and, in the same way, each
- * volume that a section holds. Each row is followed by the rows of what it holds. Row 0 is the volume itself. Pads are
- * not listed, nor is a file that is marked for update if its update is in the volume. Sets *count to the number of
- * rows. The bytes at an offset are as stored in the input, also in a nested volume, whereas fv_volume_extract writes
- * its canonical image. Data are read once. To find the places of the parts, headers are read again, except the headers
- * of the volume's own files.
+ * volume that a section holds. Each row is followed by the rows of the parts that it holds. Row 0 is the volume itself.
+ * Pads are not listed, nor is a file that is marked for update if its update is in the volume. Sets *count to the
+ * number of rows. The bytes at an offset are as stored in the input, also in a nested volume, whereas fv_volume_extract
+ * writes its canonical image. Data are read once. To find the places of the parts, headers are read again, except the
+ * headers of the volume's own files.
  * Returns FV_OK, or FV_BUFFER_TOO_SMALL if *count > room. Otherwise returns the first fault, 1 to 21, or 24, and leaves
  * *count unchanged. */
 FV_CHECKED_ fv_result fv_volume_tree(const void *volume, size_t size, fv_node *rows, size_t room, size_t *count,
                                      fv_fault *fault);
 
 /* Writes the SHA-256 digests of the parts of the volume, one for each row of fv_volume_tree, in the same order. Each
- * covers the bytes that fv_volume_extract writes for its row; so a volume's digest covers its canonical image, as for
- * fv_volume_digest. A section whose content is FV_CONTENT_SECTIONS or FV_CONTENT_VOLUME, and no other row, has 32 zero
- * bytes instead of a digest. Sets *count to the number of digests. The input is read once, and no image is kept in
- * memory.
+ * digest covers the bytes that fv_volume_extract writes for its row; so a volume's digest covers its canonical image,
+ * as for fv_volume_digest. A section whose content is FV_CONTENT_SECTIONS or FV_CONTENT_VOLUME, and no other row, has
+ * 32 zero bytes instead of a digest. Sets *count to the number of digests. The input is read once, and no image is kept
+ * in memory.
  * Returns FV_OK, or FV_BUFFER_TOO_SMALL if *count > room. Otherwise returns the first fault, 1 to 24, and leaves *count
  * unchanged. */
 FV_CHECKED_ fv_result fv_volume_tree_digests(const void *volume, size_t size, fv_sha256 *rows, size_t room,
                                              size_t *count, fv_fault *fault);
 
 /* Writes the part of the volume that is row number `row` of fv_volume_tree to the start of the buffer, and the number
- * of its bytes to *length. They are the bytes that the canonical image of the volume has: of a volume its own canonical
- * image, of a file its data, of a section its body. A volume in a file or a section is its canonical image there, and
- * the bytes between sections are 0. Row 0 is the canonical image of the whole volume. Plain data, and the body of a
- * section that holds bytes, are as they are in the input.
- * Returns FV_OK, or FV_BUFFER_TOO_SMALL if buffer_size < *length. Returns FV_NOT_FOUND if the tree has no such row.
- * Otherwise returns the first fault, 1 to 21; or 22 or 23, if the part is a volume, or holds one, that does not fit in
- * its canonical form; or 24. Leaves *length unchanged after a fault and after FV_NOT_FOUND. */
+ * of its bytes to *length. They are the bytes that the canonical image of the volume has: for a volume its own
+ * canonical image, for a file its data, for a section its body. A volume in a file or a section is its canonical image
+ * there, and the bytes between sections are 0. Row 0 is the canonical image of the whole volume. Plain data, and the
+ * body of a section that holds bytes, are as they are in the input.
+ * Returns FV_OK, or FV_BUFFER_TOO_SMALL if buffer_size < *length. Returns FV_NOT_FOUND if the tree has no row with this
+ * number. Otherwise returns the first fault, 1 to 21; or 22 or 23, if the part is a volume, or holds one, that does not
+ * fit in its canonical form; or 24. Leaves *length unchanged after a fault and after FV_NOT_FOUND. */
 FV_CHECKED_ fv_result fv_volume_extract(const void *volume, size_t size, size_t row, void *buffer, size_t buffer_size,
                                         size_t *length, fv_fault *fault);
 

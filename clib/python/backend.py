@@ -1,7 +1,7 @@
 """Makes the wheel and the source archive of the package for pip, as PEP 517 defines, with Python's standard library
-only: without network, without setuptools, without a compiler. Both contain the library, since only the kit can build
-it: the one that LIBFV names, otherwise fv/libfv.so.2 (which an unpacked source archive contains), otherwise
-clib/out/libfv.so.2 (which clib/build makes). Two runs make the same bytes.
+only: without network, without setuptools, without a compiler. Both contain the library, because only the kit can build
+it. The library is the file that LIBFV names, otherwise fv/libfv.so.2 (which an unpacked source archive contains),
+otherwise clib/out/libfv.so.2 (which clib/build makes). Two runs make the same bytes.
 
 `backend.py files` prints the files of the package for `make install`, and `backend.py commands` its commands."""
 
@@ -48,8 +48,8 @@ def sources() -> dict[str, bytes]:
 
 
 def tag(library: bytes) -> str:
-    """Returns the tag of a wheel with the library: any Python 3 on Linux on x86-64, with the C library of the newest
-    version that the library's symbols have (objdump -T shows them), but at least 2.5, the first one with a tag."""
+    """Returns the tag of a wheel with the library: any Python 3 on Linux on x86-64, with the newest version of the C
+    library among the library's symbols (objdump -T shows them), but at least 2.5, the first version that has a tag."""
     versions = re.findall(rb"\0GLIBC_2\.(\d+)[.\d]*(?=\0)", library)
     return f"py3-none-manylinux_2_{max(5, *map(int, versions))}_x86_64"
 
@@ -68,7 +68,7 @@ def field(name: str) -> str:
 
 
 def texts(name: str) -> list[str]:
-    """Returns the texts of a list of the project, which has one in each line."""
+    """Returns the texts of a list of the project, which has a text in each line."""
     match = re.search(rf"(?ms)^{name} = \[$(.*?)^\]$", project())
     assert match, name
     return re.findall(r'(?m)^    "(.*)",$', match[1])
@@ -87,7 +87,7 @@ def entry_points() -> bytes:
 
 
 def author() -> str:
-    """Returns the author of the project, as a header of metadata has it."""
+    """Returns the author of the project in the form of a metadata header."""
     match = re.search(r'(?m)^authors = \[\{ name = "(.*)", email = "(.*)" \}\]$', project())
     assert match, "no author"
     return f"{match[1]} <{match[2]}>"
@@ -101,7 +101,7 @@ def version() -> str:
 
 
 def title() -> str:
-    """Returns the name and the version, as file names have them."""
+    """Returns the name and the version in the form for file names."""
     return f"{field('name')}-{version()}"
 
 

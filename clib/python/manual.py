@@ -3,8 +3,8 @@
 man/fvtool.md with the parts of docs/PROGRAM.md that it links to. The pages of the commands are made from their parsers
 and from the text that `--help` shows.
 
-All are Markdown at first: headings, paragraphs, examples (indented), tables, and items (`- term: text`, and more
-paragraphs and examples, further in). Code and **names** are bold. Words in capitals in code, and *others*, are
+All pages are made in Markdown first: headings, paragraphs, examples (indented), tables, and items (`- term: text`, and
+more paragraphs and examples, further in). Code and **names** are bold. Words in capitals in code, and *others*, are
 italic."""
 
 from __future__ import annotations
@@ -44,7 +44,7 @@ by Python's `lzma` and, if it is installed, `brotli`.
 
 
 def escaped(text: str) -> str:
-    """Returns a text as roff has it. No line of it is a request."""
+    """Returns a text in the form of roff. No line of it is a request."""
     return re.sub(r"(?m)^\.", r"\\&.", text.translate(SIGNS))
 
 
@@ -54,7 +54,7 @@ def bold(code: str) -> str:
 
 
 def inline(text: str) -> str:
-    """Returns the text of a paragraph as roff has it."""
+    """Returns the text of a paragraph in the form of roff."""
 
     def font(span: re.Match[str]) -> str:
         """Returns code, a name or an emphasis in its font."""
@@ -75,7 +75,7 @@ def item(text: str) -> str:
 
 
 def table(text: str) -> Iterator[str]:
-    """Yields the rows of a table: the first two cells, and others after their headings."""
+    """Yields the rows of a table: the first two cells, and each further cell after its heading."""
     head, _, *rows = ([it.strip() for it in line.strip("|").split(" | ")] for line in text.split("\n"))
     for first, second, *others in rows:
         more = (f"\n.br\n{inline(f'{name}: {it}')}" for name, it in zip(head[2:], others))

@@ -1,9 +1,10 @@
-/* The calls of fv.h, over those that are proved. Each call checks its pointers, sizes and choices, and passes them on
- * to the proved call of the same name that begins with fvp_ and has the same parameters. It reads no byte of an input,
- * and changes no result. This file is not proved: tests/arguments.c and tests/layer.c try it.
+/* The calls of fv.h, over the proved calls. Each call checks its pointers, sizes and choices, and passes them on to the
+ * proved call of the same name with the prefix fvp_, which has the same parameters. This layer reads no byte of an
+ * input, and changes no result. This file is not proved: tests/arguments.c and tests/layer.c try it.
  *
- * The proved calls take slices and references, as Rattle and Rust do. So none of their pointers may be NULL, each must
- * be aligned, a slice has at most half of the addresses, and what is written must not overlap anything else. */
+ * The proved calls take slices and references, as Rattle and Rust do. So none of their pointers may be NULL, each
+ * pointer must be aligned, a slice has at most half of the addresses, and a buffer or result must not overlap any other
+ * argument. */
 #include "fv.h"
 #include <stdbool.h>
 
@@ -40,8 +41,8 @@ struct span {
 #define RESULT(pointer) ROWS(pointer, 1)
 #define NONE BYTES(NULL, 0)
 
-/* Whether this argument on its own is not allowed. The last comparison finds NULL too, because 0 - 1 is the largest
- * address. */
+/* Returns whether this argument on its own is not allowed. The last comparison finds NULL too, because 0 - 1 is the
+ * largest address. */
 INLINE bool is_bad(struct span it)
 {
     if (it.at % it.align) return true;
@@ -49,14 +50,15 @@ INLINE bool is_bad(struct span it)
     return it.count > SIZE_MAX / 2 / it.size || it.at - 1 >= UINTPTR_MAX - it.count * it.size;
 }
 
-/* Whether these two arguments, each of which is allowed, have a byte in common, and the call writes to one of them. */
+/* Returns whether these two arguments, each of which is allowed on its own, have a byte in common, and the call writes
+ * to one of them. */
 INLINE bool collide(struct span a, struct span b)
 {
     if (!(a.is_result || b.is_result) || !a.count || !b.count) return false;
     return a.at < b.at + b.count * b.size && b.at < a.at + a.count * a.size;
 }
 
-/* Whether one of the arguments is not allowed, or overlaps one to which the call writes. */
+/* Returns whether one of the arguments is not allowed, or overlaps an argument to which the call writes. */
 INLINE bool are_bad(struct span a, struct span b, struct span c, struct span d, struct span e)
 {
     if (is_bad(a) || is_bad(b) || is_bad(c) || is_bad(d) || is_bad(e)) return true;
@@ -64,15 +66,15 @@ INLINE bool are_bad(struct span a, struct span b, struct span c, struct span d, 
            collide(b, e) || collide(c, d) || collide(c, e) || collide(d, e);
 }
 
-/* Returns FV_BAD_ARGUMENT from the call if one of these two to four arguments is bad, or `fault`. A fault that the
- * caller does not ask for is written to a variable of the call. */
+/* Returns FV_BAD_ARGUMENT from the call if one of these two to four arguments is bad, or `fault`. If the caller does
+ * not ask for the fault, it is written to a variable of the call. */
 #define CHECK(...) CHECK_FOUR(__VA_ARGS__, NONE, NONE, NONE)
 #define CHECK_FOUR(a, b, c, d, ...)                                                            \
     fv_fault unwanted;                                                                         \
     if (!fault) fault = &unwanted;                                                             \
     if (__builtin_expect(are_bad(RESULT(fault), a, b, c, d), 0)) return FV_BAD_ARGUMENT
 
-/* What an empty argument leads to if it is NULL: aligned for each type of fv.h, and neither read nor written. */
+/* The target of an empty argument that is NULL. It is aligned for each type of fv.h, and neither read nor written. */
 static _Alignas(16) uint8_t nothing[16];
 
 INLINE const void *input(const void *pointer)

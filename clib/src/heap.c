@@ -2,8 +2,8 @@
  * realloc and free, and are not proved. To link libfv.a on a system without malloc, replace these three.
  *
  * `a` is the alignment, 1 to 16. malloc aligns to 16 on x86-64 Linux. For a request of 0 bytes the functions
- * ask for `a` bytes, since malloc(0) may return NULL. If there is no memory, `p` is the address of a byte that
- * is never used, since the proved code accepts no null pointer. */
+ * ask for `a` bytes, since malloc(0) may return NULL. If memory runs out, `p` is the address of a byte that is never
+ * used, because the proved code does not accept a null pointer. */
 #include <stdbool.h>
 #include <stddef.h>
 #include <stdint.h>

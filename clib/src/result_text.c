@@ -1,4 +1,4 @@
-/* The sentences that explain the results of calls. docs/FAULTS.md has the same texts of faults. */
+/* The sentences that explain the results of calls. docs/FAULTS.md has the same texts for faults. */
 #include "fv.h"
 
 /* A result and its sentence. */

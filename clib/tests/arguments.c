@@ -1,9 +1,9 @@
-/* What each call does with an argument that is not allowed: it returns FV_BAD_ARGUMENT, and writes nothing, not even
- * the fault. And what it does with NULL where that is allowed: the same as with a pointer.
+/* Checks that each call returns FV_BAD_ARGUMENT for an argument that is not allowed, and writes nothing, not even the
+ * fault. Also checks that a call does the same with NULL as with a pointer if NULL is allowed.
  *
- * Each argument that a call takes is tried as NULL, one byte too far, and over each other argument; sizes that reach
- * past the last address are tried too. Before a call, what it may write to is filled; after a call that is refused, it
- * must be filled still. */
+ * Each argument of a call is tried as NULL, one byte too far, and over each other argument. Sizes that reach past the
+ * last address are tried too. The test fills the buffer and the results before a call. After a rejected call they must
+ * be unchanged. */
 #include <fv.h>
 #include <stdbool.h>
 #include <stdio.h>
@@ -20,8 +20,8 @@
 
 enum { MOST = 7, ROOM = 8 };
 
-/* An argument that is a pointer: to which bytes, how many elements of which size and alignment, and whether they are a
- * result. `may_be_null` is of the fault. */
+/* An argument that is a pointer: its target, the number, size and alignment of the elements there, and whether they are
+ * a result. Only the fault has `may_be_null`. */
 struct argument {
     const char *name;
     void *at;
@@ -29,7 +29,7 @@ struct argument {
     bool is_result, may_be_null;
 };
 
-/* A call: its pointers, in the order of its parameters, and how it is made of them. */
+/* A call: its pointers, in the order of its parameters, and the function that makes the call with them. */
 struct call {
     const char *name;
     int count;
@@ -43,7 +43,7 @@ static unsigned long refused, accepted;
 
 /* The inputs: a volume without files, an expression (TRUE, END), a list of one table and its end, a GUID. */
 static uint8_t volume[128], other[128], expression[] = {6, 8}, list[64], guid[16];
-/* What calls write to. */
+/* The buffers and results that calls write to. */
 static union {
     uint8_t bytes[1024];
     fv_header headers[ROOM];
@@ -53,7 +53,7 @@ static union {
     fv_sha256 digests[ROOM];
     fv_hob hobs[ROOM];
 } buffer;
-/* Each result has room for one more after it, so that a misaligned one overlaps no other. */
+/* Each result has room for a second element, so that a misaligned result overlaps no other result. */
 static fv_header header[2];
 static fv_sha256 digest[2];
 static fv_comparison found[2];
@@ -152,7 +152,7 @@ static const struct call calls[] = {
     {"fv_hobs_read", 5, {INPUT(list), ROWS(hobs), RESULT(count), RESULT(length), FAULT}, hobs_read},
 };
 
-/* All that calls write to. */
+/* All buffers and results. */
 static const struct {
     void *at;
     size_t size;
@@ -181,7 +181,7 @@ static bool all_is_full(void)
     return true;
 }
 
-/* Makes a call that is to be refused. */
+/* Makes a call that must be rejected. */
 static void refuse(const struct call *call, const struct argument *all, const char *how, const char *name)
 {
     uint8_t before[sizeof volume];
@@ -195,7 +195,7 @@ static void refuse(const struct call *call, const struct argument *all, const ch
     refused++;
 }
 
-/* Makes a call that is not to be refused for its arguments, and returns its result. */
+/* Makes a call that must not be rejected because of its arguments, and returns its result. */
 static fv_result accept(const struct call *call, const struct argument *all, const char *how, const char *name)
 {
     snprintf(tried, sizeof tried, "%s, %s %s", call->name, name, how);
@@ -207,7 +207,7 @@ static fv_result accept(const struct call *call, const struct argument *all, con
     return result;
 }
 
-/* Whether this argument has a size of its own, so that it may be empty. */
+/* Returns whether this argument has a size of its own, so that it may be empty. */
 static bool has_size(const struct argument *it)
 {
     return !(it->is_result && it->count == 1 && strcmp(it->name, "guid"));
@@ -231,7 +231,7 @@ static void each_argument(const struct call *call)
         }
         if (has_size(it)) {
             uint8_t seen[sizeof buffer];
-            /* An empty argument, by an address and by NULL. Both are the same to the call. */
+            /* Tries an empty argument with an address and with NULL. The call must do the same with both. */
             all[i].count = 0;
             fv_result empty = accept(call, all, "NULL, and empty", it->name);
             fv_fault of_null = *fault;
@@ -239,13 +239,14 @@ static void each_argument(const struct call *call)
             all[i].at = it->at;
             EXPECT(accept(call, all, "empty", it->name) == empty);
             EXPECT(!memcmp(&of_null, fault, sizeof of_null) && !memcmp(seen, &buffer, sizeof seen));
-            /* More than half of the addresses; a size that the size of a row makes too large; past the last address. */
+            /* Tries sizes that are too large: more than half of the addresses, too large by the size of a row, and past
+             * the last address. */
             memcpy(all, call->all, sizeof all);
             all[i].count = SIZE_MAX;
             refuse(call, all, "as large as can be", it->name);
             all[i].count = SIZE_MAX / 2 / it->size + 1;
             refuse(call, all, "larger than half of the addresses", it->name);
-            all[i].at = (void *)((uintptr_t)1 << 62); /* after all others, so that it overlaps none */
+            all[i].at = (void *)((uintptr_t)1 << 62); /* after all other arguments, so that it overlaps none of them */
             refuse(call, all, "larger than half of the addresses, and after all others", it->name);
             all[i].at = (void *)(UINTPTR_MAX - 127); /* aligned for each type */
             all[i].count = 512 / it->size;
@@ -263,7 +264,7 @@ static void each_argument(const struct call *call)
                 refuse(call, all, "misaligned, and empty", it->name);
             }
         }
-        /* Over another argument: at its first byte, and over its last bytes only. */
+        /* Tries an argument over another argument: at the first byte of the other, and over its last bytes only. */
         for (int j = 0; j < call->count; j++) {
             const struct argument *its = &call->all[j];
             size_t length = its->count * its->size;
@@ -284,7 +285,7 @@ static void each_argument(const struct call *call)
     }
 }
 
-/* Arguments that touch, and do not overlap. */
+/* Tries arguments that are adjacent and do not overlap. */
 static void neighbours(void)
 {
     struct {
@@ -300,7 +301,7 @@ static void neighbours(void)
     EXPECT(fv_volume_normalise(near.input, 128, near.before, 129, NULL) == FV_BAD_ARGUMENT);
     EXPECT(fv_volume_normalise(near.input, 128, near.input + 127, 128, NULL) == FV_BAD_ARGUMENT);
     EXPECT(fv_volume_normalise(near.input, 128, near.input, 128, NULL) == FV_BAD_ARGUMENT);
-    /* What is empty overlaps nothing. */
+    /* Checks that an empty argument overlaps nothing. */
     EXPECT(fv_volume_normalise(near.input, 128, near.input + 5, 0, NULL) == FV_BUFFER_TOO_SMALL);
     EXPECT(fv_volume_normalise(near.before + 5, 0, near.before, 128, NULL) == FV_FAULT_TRUNCATED);
     EXPECT(!memcmp(near.input, volume, 128));
@@ -321,7 +322,7 @@ static void phases(void)
     EXPECT(value == FV_DEPEX_TRUE && fault->result == 0);
 }
 
-/* No input at all: the same as an empty one. */
+/* Checks that NULL as the input is the same as an empty input. */
 static void nothing(void)
 {
     uint32_t value = 9;
@@ -360,7 +361,7 @@ static void nothing(void)
     EXPECT(!strcmp(text, "same"));
 }
 
-/* Each result of the header has a sentence of its own, and no other number has one. */
+/* Checks that each result of the header has a sentence of its own, and no other number has a sentence of its own. */
 static void texts(void)
 {
     const char *none = fv_result_text(0x7fffffff);

@@ -1,4 +1,4 @@
-/* Every call of fv.h that takes an input, in one form, for the tests that try all of them. */
+/* Every call of fv.h that takes an input, in one form, for the tests that try all calls. */
 #ifndef CALLS_H
 #define CALLS_H
 
@@ -16,12 +16,12 @@ struct arguments {
     fv_fault *fault;
 };
 
-/* What a call writes beside the buffer and the fault. COUNT and TEXT begin with the number of elements, which a call
- * reports also if the buffer is too small. TEXT is without the NUL. */
+/* The small result that a call writes besides the buffer and the fault. COUNT and TEXT begin with the number of
+ * elements, which a call also writes if the buffer is too small. The number of TEXT does not include the NUL. */
 enum found { NOTHING, HEADER, NUMBER, DIGEST, COUNT, TEXT, COUNT_AND_LENGTH };
 static const size_t found_size[] = {0, sizeof(fv_header), 4, sizeof(fv_sha256), 8, sizeof(fv_comparison), 16};
 
-/* The inputs of which one is tried by a call. */
+/* The inputs. Each call is tried with one of them. */
 enum input { A_FILE, AN_EXPRESSION, A_LIST };
 
 struct call {
@@ -32,7 +32,8 @@ struct call {
     enum input input;
 };
 
-/* TRUE END, after a PUSH and an AND; and a hand-off list of its table, a block for a volume and its end. */
+/* The expression PUSH TRUE AND END, and a hand-off list that consists of its table, a block for a volume and the end
+ * block. */
 static const uint8_t expression[20] = {2, 1, 1, 1, 1, 1, 1, 1, 1, 1, 1, 1, 1, 1, 1, 1, 1, 6, 3, 8};
 static const uint8_t list[88] = {[0] = 1, [2] = 56, [56] = 5, [58] = 24, [80] = 255, [81] = 255, [82] = 8};
 static const fv_guid guid = {{1, 1, 1, 1, 1, 1, 1, 1, 1, 1, 1, 1, 1, 1, 1, 1}};
@@ -88,7 +89,7 @@ static fv_result hobs_read(const struct arguments *a)
     return fv_hobs_read(a->in, a->size, a->buffer, a->room, count, count ? count + 1 : NULL, a->fault);
 }
 
-/* The calls that write as many bytes as their input has, and those that write rows. */
+/* The functions for calls that write as many bytes as their input has, and for calls that write rows. */
 #define REWRITES(call) \
     static fv_result call(const struct arguments *a) { return fv_##call(a->in, a->size, a->buffer, a->room, a->fault); }
 #define WRITES_ROWS(call)                                                              \
@@ -127,14 +128,14 @@ static const struct call calls[] = {
 };
 enum { CALLS = sizeof calls / sizeof *calls };
 
-/* A small result of any call. */
+/* Room for a small result of any call. */
 union found_room {
     uint64_t numbers[8];
     uint8_t bytes[64];
 };
 _Static_assert(sizeof(union found_room) >= sizeof(fv_header), "the largest small result");
 
-/* What a call does with the smallest buffer that it accepts, if it has one. */
+/* The results of a call with the smallest buffer that it accepts, if the call has a buffer. */
 struct outcome {
     fv_result result;
     fv_fault fault;
@@ -143,21 +144,21 @@ struct outcome {
     uint8_t *buffer;
 };
 
-/* The input of a call: the file, or one of the inputs above. */
+/* Returns the input of a call: the file, or one of the inputs above. */
 static const uint8_t *input_of(const struct call *call, const uint8_t *file, size_t size, size_t *input_size)
 {
     *input_size = call->input == A_FILE ? size : call->input == A_LIST ? sizeof list : sizeof expression;
     return call->input == A_FILE ? file : call->input == A_LIST ? list : expression;
 }
 
-/* How many elements a call has asked for, without a buffer. */
+/* Returns the number of elements that a call without a buffer has asked for. */
 static size_t needed_by(const struct call *call, size_t size, const union found_room *found)
 {
     if (call->found == NOTHING) return size;
     return call->found == TEXT ? (size_t)found->numbers[0] + 1 : (size_t)found->numbers[0];
 }
 
-/* Makes a call, at first without a buffer, and then with one of just the elements that it needs. */
+/* Makes a call, first without a buffer, and then with a buffer of exactly the elements that it needs. */
 static struct outcome outcome_of(const struct call *call, const uint8_t *in, size_t size)
 {
     struct outcome it = {.needed = 0};
@@ -171,7 +172,7 @@ static struct outcome outcome_of(const struct call *call, const uint8_t *in, siz
     return it;
 }
 
-/* Reads a file into a block of just its bytes. Ends the process with status 3 if it cannot. */
+/* Reads a file into a block of exactly its size. Ends the process with status 3 if the file cannot be read. */
 static uint8_t *file_bytes(const char *path, size_t *size)
 {
     FILE *file = fopen(path, "rb");

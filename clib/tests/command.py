@@ -1,7 +1,8 @@
 #!/usr/bin/env python3
-"""command.py [--program PROGRAM] FILE..: `python3 -m fv` over each FILE: its lines are what the calls of the package
-return, with --json too; with the program also what `scan`, `check`, `cells`, `list` and `list --sums` write. Then
-wrong arguments, a file that is not there, and outputs that are full or closed."""
+"""command.py [--program PROGRAM] FILE..: `python3 -m fv` over each FILE. Checks that its lines agree with the results
+of the package's calls, also with --json. With the program, also checks that they agree with the output of `scan`,
+`check`, `cells`, `list` and `list --sums`. Then tries wrong arguments, a missing file, and outputs that are full or
+closed."""
 
 import argparse
 import dataclasses
@@ -16,7 +17,7 @@ from pathlib import Path
 from typing import Any
 
 ROOT = Path(__file__).resolve().parents[2]
-# A copy that is installed, or that PYTHONPATH names, comes first.
+# An installed copy, or a copy that PYTHONPATH names, is used first.
 sys.path.append(str(ROOT / "clib/python"))
 import fv
 
@@ -25,7 +26,7 @@ COMMANDS = ("scan", "tree", "cells", "check", "digests")
 
 
 def ran(*arguments: str, **named: Any) -> tuple[int, str, str]:
-    """The status, the output and the messages of a run."""
+    """Returns the status, the output and the messages of a run."""
     named = {"stdout": subprocess.PIPE, "stderr": subprocess.PIPE, **named}
     env = {**os.environ, "PYTHONPATH": str(Path(fv.__file__).parents[1])}
     run = subprocess.run([sys.executable, "-B", "-m", "fv", *arguments], check=False, env=env, **named)
@@ -33,13 +34,13 @@ def ran(*arguments: str, **named: Any) -> tuple[int, str, str]:
 
 
 def volumes_of(data: bytes) -> list[tuple[int, bytes]]:
-    """The volumes of an image, or all of it."""
+    """Returns the volumes of an image, or the whole image if it has no volume."""
     headers = fv.image_scan(data)
     return [(it.offset, data[it.offset : it.offset + it.length]) for it in headers] if headers else [(0, data)]
 
 
 def wanted(command: str, data: bytes) -> list[Line]:
-    """The lines of a volume, without its offset."""
+    """Returns the lines of a volume, without its offset."""
     if command == "check":
         return [{"canonical": fv.volume_is_canonical(data)}]
     if command == "scan":
@@ -55,24 +56,24 @@ def wanted(command: str, data: bytes) -> list[Line]:
 
 
 def fields_of(row: Any) -> Line:
-    """The fields of a row, as JSON has them."""
+    """Returns the fields of a row in the form of JSON."""
     return {it.name: json_of(getattr(row, it.name)) for it in dataclasses.fields(row)}
 
 
 def json_of(value: Any) -> Any:
-    """A value of a field, as JSON has it."""
+    """Returns the value of a field in the form of JSON."""
     return value.name.lower() if isinstance(value, enum.Enum) else str(value) if isinstance(value, uuid.UUID) else value
 
 
 def node_text(line: Line) -> str:
-    """The text of a node of a tree: an indent in place of its depth, and the fields that it has."""
+    """Returns the text of a node of a tree: an indent in place of its depth, and the fields that it has."""
     names = ("offset", "length", "content", "efi_type", "attributes", "header_length", "guid", "file_system")
     text = " ".join(f"{name} {line[name]}" for name in names if line[name] is not None)
     return f"volume {line['volume']} {'  ' * line['depth']}{line['kind']} {line['index']} {text}"
 
 
 def check_lines(command: str, path: str, data: bytes) -> list[Line]:
-    """Each line is what the calls say, as JSON and as text."""
+    """Checks that each line agrees with the calls, as JSON and as text."""
     status, text, _ = ran(command, path, "--json")
     lines: list[Line] = [json.loads(line) for line in text.splitlines()]
     expected: list[Line] = []
@@ -92,19 +93,19 @@ def check_lines(command: str, path: str, data: bytes) -> list[Line]:
 
 
 def text_of(command: str, line: Line) -> str:
-    """A line as text has it."""
+    """Returns a line in the form of text."""
     if command == "tree" and "fault" not in line:
         return node_text(line)
     return " ".join(f"{name} {shown(value)}" for name, value in line.items() if value is not None)
 
 
 def shown(value: Any) -> str:
-    """A value of a field, as text has it."""
+    """Returns the value of a field in the form of text."""
     return str(value).lower() if isinstance(value, bool) else str(value)
 
 
 def check_program(program: str, path: str, lines: dict[str, list[Line]]) -> None:
-    """What the program writes of each volume."""
+    """Compares the lines with the program's output for each volume."""
 
     def said(*arguments: str) -> list[str]:
         run = subprocess.run([program, *arguments, path], capture_output=True, check=False)
@@ -133,7 +134,7 @@ def check_program(program: str, path: str, lines: dict[str, list[Line]]) -> None
 
 
 def check_refusals(path: str) -> None:
-    """What is no run."""
+    """Checks runs that must fail."""
     for arguments in ((), ("tree",), ("files", path), ("tree", path, path), ("tree", path, "--sums")):
         status, text, message = ran(*arguments)
         assert (status, text) == (3, "") and message.startswith("usage: python3 -m fv"), arguments

@@ -1,5 +1,5 @@
-/* Dependency expressions by hand: PUSH A PUSH B AND END in both phases, BEFORE A END, an unknown op, an expression that
- * is cut short. */
+/* Tries dependency expressions that were written by hand: PUSH A PUSH B AND END in both phases, BEFORE A END, an
+ * unknown op, and an expression that is cut short. */
 #include <fv.h>
 #include <stdio.h>
 #include <stdlib.h>

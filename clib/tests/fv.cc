@@ -1,5 +1,5 @@
-// The library from C++, with a vector for each buffer: the image of a volume, that it is its own image, and the data of
-// its files. A vector of no elements may have a null pointer.
+// Tries the library from C++, with a vector for each buffer: the image of a volume, whether the image is its own image,
+// and the data of its files. A vector without elements may have a null pointer.
 #include <fv.h>
 #include <algorithm>
 #include <cstdio>

@@ -1,8 +1,9 @@
-/* The commands of the program by the library, so that a script can compare their output; and runs for a sanitizer.
+/* Runs the commands of the program by the library, so that a script can compare the outputs, and makes runs for a
+ * sanitizer.
  *   fvc normalise|all|unfix|check|checkall|scan|cells|list|sums|hobs|digest|parts|flips|prefixes FILE
  *   fvc extract FILE ROW
  *   fvc compare FIRST SECOND
- * The status is the program's. `parts` extracts each row of the tree, and finds it in the canonical image. */
+ * The exit status is that of the program. `parts` extracts each row of the tree, and finds it in the canonical image. */
 #include <fv.h>
 #include <inttypes.h>
 #include <stdbool.h>
@@ -22,7 +23,7 @@ static void *allocate(size_t count, size_t size)
     return made;
 }
 
-/* The bytes of a file, in a block of exactly their number: then a sanitizer sees a read past the end. */
+/* Returns the bytes of a file, in a block of exactly this size, so that a sanitizer detects a read past the end. */
 static struct bytes read_file(const char *path)
 {
     FILE *f = fopen(path, "rb");
@@ -63,14 +64,14 @@ static bool is_clear(const fv_fault *f)
     return !f->offset && !f->result && !f->depth && !f->input && !f->reserved;
 }
 
-/* The line of a fault. The number is the one in docs/FAULTS.md, which is the low byte of the result. */
+/* Writes the line of a fault. Its number in docs/FAULTS.md is the low byte of the result. */
 static int refuse(const char *before, const fv_fault *f)
 {
     printf("%sfault %" PRIu32 " at %" PRIu64 "\n", before, f->result & 0xff, f->offset);
     return 2;
 }
 
-/* The commands that write as many bytes as the input has. */
+/* Runs a command that writes as many bytes as the input has. */
 static int rewrite(const char *command, struct bytes in)
 {
     fv_fault fault;
@@ -132,7 +133,7 @@ static int digest(struct bytes in)
     return 0;
 }
 
-/* A row of fv_image_scan is what fv_header_read finds at its offset. */
+/* Checks that a row of fv_image_scan is the header that fv_header_read finds at its offset. */
 static void check_header(struct bytes in, const fv_header *row)
 {
     fv_header own;
@@ -240,8 +241,8 @@ static int compare(struct bytes in, struct bytes other)
     return !found.same;
 }
 
-/* A row lies in the row that holds it, one level below it, after what that row has held before, and its header is
- * before its bytes. */
+/* Checks that a row lies in the row that holds it, one level below it and after the preceding rows there, and that its
+ * header precedes its bytes. */
 static void check_row(const uint8_t *p, const fv_node *nodes, size_t row, uint64_t held)
 {
     const fv_node *it = &nodes[row], *parent = &nodes[it->parent];
@@ -270,8 +271,8 @@ static void check_row(const uint8_t *p, const fv_node *nodes, size_t row, uint64
     }
 }
 
-/* The row of a volume has what fv_header_read finds of its bytes. The rows after it are those of its bytes by
- * themselves, with offsets from its start. */
+/* Checks that the row of a volume has the fields that fv_header_read finds in its bytes. The rows after it must be the
+ * rows of these bytes on their own, with offsets from the volume's start. */
 static void check_volume(const uint8_t *p, const fv_node *nodes, size_t count, size_t row)
 {
     const fv_node *top = &nodes[row];
@@ -296,7 +297,7 @@ static void check_volume(const uint8_t *p, const fv_node *nodes, size_t count, s
     free(own);
 }
 
-/* Each row of the tree of an input is what its bytes say. */
+/* Checks that each row of an input's tree agrees with its bytes. */
 static void check_tree(struct bytes in, const fv_node *nodes, size_t count)
 {
     uint64_t *held = allocate(count, sizeof *held);
@@ -312,7 +313,7 @@ static void check_tree(struct bytes in, const fv_node *nodes, size_t count)
     free(held);
 }
 
-/* The number of rows that a row holds. */
+/* Returns the number of rows that a row holds. */
 static uint64_t held_by(const fv_node *nodes, size_t count, size_t row)
 {
     uint64_t held = 0;
@@ -320,7 +321,7 @@ static uint64_t held_by(const fv_node *nodes, size_t count, size_t row)
     return held;
 }
 
-/* The line of a row, without its end. */
+/* Writes the line of a row, without its end. */
 static void print_node(const fv_node *nodes, size_t count, size_t row)
 {
     static const fv_guid no_name;
@@ -346,7 +347,7 @@ static void print_node(const fv_node *nodes, size_t count, size_t row)
     }
 }
 
-/* The lines of the program's `list`. */
+/* Writes the lines of the program's `list`. */
 static int list(struct bytes in)
 {
     size_t count = 0;
@@ -364,13 +365,14 @@ static int list(struct bytes in)
     return 0;
 }
 
-/* Whether a row is a section that holds sections or a volume. */
+/* Returns whether a row is a section that holds sections or a volume. */
 static bool is_holder(const fv_node *node)
 {
     return node->kind == FV_NODE_SECTION && node->content != FV_CONTENT_BYTES;
 }
 
-/* The digest of a volume is that of its bytes, and that of such a section is 32 zero bytes. */
+/* Checks digests: the digest of a volume covers its bytes, and the digest of a section that holds sections or a volume
+ * is 32 zero bytes. */
 static void check_sum(const uint8_t *p, const fv_node *node, const fv_sha256 *sum)
 {
     static const fv_sha256 zeros;
@@ -381,7 +383,7 @@ static void check_sum(const uint8_t *p, const fv_node *node, const fv_sha256 *su
     if (fv_volume_digest(p + node->offset, node->length, &own, &fault) || memcmp(sum, &own, sizeof own)) abort();
 }
 
-/* The lines of the program's `list --sums`. */
+/* Writes the lines of the program's `list --sums`. */
 static int sums(struct bytes in)
 {
     size_t count = 0, rows = 0;
@@ -407,7 +409,7 @@ static int sums(struct bytes in)
     return 0;
 }
 
-/* The part that a row names, in a block of its own; its length is SIZE_MAX if there is none. */
+/* Returns the part that a row names, in a block of its own. The length is SIZE_MAX if there is no such part. */
 static struct bytes part_of(struct bytes in, size_t row, fv_result *result, fv_fault *fault)
 {
     struct bytes part = {NULL, SIZE_MAX};
@@ -422,7 +424,7 @@ static struct bytes part_of(struct bytes in, size_t row, fv_result *result, fv_f
     return part;
 }
 
-/* What the program's `extract` writes of a part. */
+/* Writes the output of the program's `extract` for a part. */
 static int extract(struct bytes in, const char *row)
 {
     fv_result result;
@@ -434,8 +436,9 @@ static int extract(struct bytes in, const char *row)
     return !result ? 0 : result == FV_NOT_FOUND ? 1 : refuse("", &fault);
 }
 
-/* Each part of a volume is what its row of the image's tree has: the volume, the data of its files and the bodies of
- * their sections, also in nested volumes. There is no part after the last. Prints the number of rows. */
+/* Checks that each part of a volume has the bytes of its row in the image's tree: the volume, the data of its files and
+ * the bodies of their sections, also in nested volumes. There must be no part after the last row. Prints the number of
+ * rows. */
 static int parts(struct bytes in)
 {
     size_t count = 0;
@@ -470,7 +473,8 @@ static void expect(fv_result result, const fv_fault *fault, fv_result wanted)
         abort();
 }
 
-/* The tree of an input, its digests and its first parts, which depend on what normalise and is_canonical have said. */
+/* Checks the tree of an input, its digests and its first parts, which depend on the results of normalise and
+ * is_canonical. */
 static void vary_tree(struct bytes in, const uint8_t *image, fv_result made, fv_result read, const fv_sha256 *sum)
 {
     enum { ROWS = 2048, PARTS = 8 };
@@ -494,9 +498,9 @@ static void vary_tree(struct bytes in, const uint8_t *image, fv_result made, fv_
     }
 }
 
-/* The input without the marks of its fixed files, in a buffer of as many bytes. Cells tile what was written, and it
- * differs from the input in the two bytes of each mark. The results of fv_volume_cells and fv_volume_unfix differ only
- * where a file is fixed, or bytes follow the volume. */
+/* Writes the input without the marks of its fixed files to a buffer of the same size. Checks that cells cover the
+ * output, and that it differs from the input only in the two bytes of each mark. The results of fv_volume_cells and
+ * fv_volume_unfix differ only where a file is fixed, or bytes follow the volume. */
 static void vary_marks(const uint8_t *p, size_t n, uint8_t *buffer)
 {
     static fv_cell cells[512];
@@ -520,7 +524,7 @@ static void vary_marks(const uint8_t *p, size_t n, uint8_t *buffer)
     }
 }
 
-/* A buffer that is too small is reported only for an input without a fault. */
+/* Checks that a buffer that is too small is reported only if the input has no fault. */
 static void vary_small(const uint8_t *p, size_t n, fv_result made, fv_result of_all)
 {
     fv_fault fault;
@@ -529,7 +533,7 @@ static void vary_small(const uint8_t *p, size_t n, fv_result made, fv_result of_
     expect(fv_image_normalise(p, n, NULL, 0, &fault), &fault, of_all ? of_all : small);
 }
 
-/* The calls that find volumes: their rows agree, and the first volume is the one that the header says. */
+/* Checks the calls that find volumes: their rows agree, and the first row agrees with the header. */
 static void vary_image(const uint8_t *p, size_t n)
 {
     enum { ROWS = 64 };
@@ -549,7 +553,7 @@ static void vary_image(const uint8_t *p, size_t n)
         if (checks[i].offset != headers[i].offset || checks[i].length != headers[i].length) abort();
 }
 
-/* The same bytes as a list and as an expression. */
+/* Tries the same bytes as a hand-off list and as an expression. */
 static void vary_others(const uint8_t *p, size_t n)
 {
     static fv_hob blocks[512];
@@ -567,7 +571,7 @@ static void vary_others(const uint8_t *p, size_t n)
     }
 }
 
-/* An input through all calls. Returns the result of normalise. */
+/* Tries an input with all calls. Returns the result of normalise. */
 static fv_result vary_all(struct bytes in, uint8_t *buffer, uint8_t *image)
 {
     const uint8_t *p = in.p;
@@ -595,7 +599,8 @@ static fv_result vary_all(struct bytes in, uint8_t *buffer, uint8_t *image)
     return made;
 }
 
-/* Each bit of the input turned, or each proper prefix of it, through all calls. Prints how often each result came. */
+/* Tries the input with each of its bits flipped, or each proper prefix of it, with all calls. Prints how often each
+ * result occurred. */
 static int vary(const char *command, struct bytes in)
 {
     unsigned long seen[FV_OUT_OF_MEMORY] = {0};

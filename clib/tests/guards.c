@@ -1,8 +1,8 @@
-/* guards FILE..: each call over each file, with arguments that lie against pages which cannot be touched: first with
- * such a page after each of them, then with one before each. The input cannot be written to. The buffer has room for
- * just what is written, for more, for an element less, and for none, with and without a pointer. What a call may not
- * write is as it was: after FV_BUFFER_TOO_SMALL all but the counts and the fault, after a fault all but the fault. At
- * the end, an image above the limit of fv.h. */
+/* guards FILE..: makes each call over each file, with arguments beside pages that cannot be touched: first with a page
+ * after each argument, then with a page before each argument. The input cannot be written to. The buffer has room for
+ * exactly the output, for more, for an element less, and for no element, with and without a pointer. Checks that
+ * nothing else is written: only the counts and the fault with FV_BUFFER_TOO_SMALL, and only the fault with a fault. At
+ * the end, tries an image above the limit of fv.h. */
 #define _DEFAULT_SOURCE
 #include "calls.h"
 #include <stdbool.h>
@@ -20,7 +20,7 @@ static const char *name = "", *path = "";
         }                                                                                \
     } while (0)
 
-/* Some pages between two that cannot be touched. */
+/* Some pages between two pages that cannot be touched. */
 struct room {
     uint8_t *start;
     size_t size;
@@ -40,7 +40,7 @@ static void close_room(struct room room)
     munmap(room.start - page, room.size + 2 * page);
 }
 
-/* This many bytes of a room, whose first or last they are. */
+/* Returns the place of the first or the last bytes of a room. */
 static uint8_t *place_in(struct room room, size_t bytes, bool at_end)
 {
     return at_end ? room.start + room.size - bytes : room.start;
@@ -58,7 +58,7 @@ struct rooms {
     bool at_end;
 };
 
-/* A call with room for this many elements. Without room the buffer is NULL in every other call. */
+/* Makes a call with room for this many elements. If there is no room, the buffer is NULL in every second call. */
 static void try_room(const struct rooms *rooms, const struct call *call, const uint8_t *in, size_t size,
                      const struct outcome *usual, size_t room)
 {
@@ -83,7 +83,7 @@ static void try_room(const struct rooms *rooms, const struct call *call, const u
     EXPECT(is_untouched(place_in(rooms->buffer, rest, !rooms->at_end), rest));
 }
 
-/* A call without a fault to write to. */
+/* Makes a call with NULL for its fault. */
 static void try_no_fault(const struct call *call, const uint8_t *in, size_t size, const struct outcome *usual)
 {
     union found_room found;
@@ -116,7 +116,8 @@ static void try_call(const struct call *call, const uint8_t *file, size_t size)
     free(usual.buffer);
 }
 
-/* An image above the limit is scanned, but it is neither checked nor normalised. One at the limit is. */
+/* Checks that an image above the limit is scanned, but neither checked nor normalised, and that an image at the limit
+ * is accepted. */
 static void try_large_image(void)
 {
     size_t count = 7;

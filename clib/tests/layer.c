@@ -1,14 +1,14 @@
-/* What the layer in C (src/calls.c) passes to the proved calls. Here these are functions that only remember what they
- * were passed, and return a number: so the linker leaves the proved ones out. The layer must pass each argument as it
- * is, in the same order, except NULL: in its place the address of something that is aligned for each type. And it must
- * return what the proved call returns. */
+/* Checks the arguments that the layer in C (src/calls.c) passes to the proved calls. Here the proved calls are replaced
+ * by functions that only remember their arguments, and return a number. So the linker leaves the proved calls out. The
+ * layer must pass each argument as it is, in the same order. It must replace NULL by an address that is aligned for
+ * each type. It must return the result of the proved call. */
 #include <fv.h>
 #include <stdio.h>
 #include <stdlib.h>
 #include <string.h>
 
 enum { RETURNED = 0x12345678, MOST = 8 };
-/* In place of an address: any that is not NULL, and is aligned for each type. */
+/* Represents any address that is not NULL and is aligned for each type. */
 #define SOMETHING (UINTPTR_MAX - 1)
 
 static struct {
@@ -92,7 +92,7 @@ static void check(int line, fv_result result, const char *name, int count, const
     tried++;
 }
 
-/* The proved call of this name must be passed these arguments by the call. */
+/* Checks that a call passes these arguments to the proved call of this name. */
 #define PASSES(call, name, ...)                                                          \
     do {                                                                                 \
         const uintptr_t wanted[] = {__VA_ARGS__};                                        \

@@ -1,5 +1,5 @@
-/* The structures of fv.h are those of the library. Each call fills one from a volume whose fields are known by hand.
- * Each field is read through the header. The bytes after a structure must be unchanged. */
+/* Checks that the library has the same structures as fv.h. Each call fills a structure from a volume whose fields were
+ * worked out by hand. Each field is read through the header. The bytes after a structure must be unchanged. */
 #include <fv.h>
 #include <stdio.h>
 #include <stdlib.h>
@@ -27,7 +27,7 @@ static void put(size_t at, const char *digits)
  *   0: type 14 with an extended header and 6 bytes
  *   1: a group of two sections, 2: type 19 with 5 bytes, and 3: a group of none
  *   4: type 19 with 3 bytes
- * `inner` is the size that the header of section 2 says; 9 is right. */
+ *   `inner` is the size in the header of section 2; 9 is right. */
 static void make(unsigned inner)
 {
     unsigned sum = 0, header = 0, data = 0;
@@ -44,11 +44,11 @@ static void make(unsigned inner)
     volume[DATA_AT + 20] = (uint8_t)inner;
     for (int i = 0; i < DATA_LEN; i++) data += volume[DATA_AT + i];
     for (int i = 0; i < 23; i++) header += volume[FILE_AT + i];
-    volume[FILE_AT + 16] = (uint8_t)-header; /* the header's sum is without the file sum and State */
+    volume[FILE_AT + 16] = (uint8_t)-header; /* the header checksum leaves out the file checksum and State */
     volume[FILE_AT + 17] = (uint8_t)-data;
 }
 
-/* An FFS2 volume of no file, with an extended header of 20 bytes that has the name. */
+/* An FFS2 volume without files, with an extended header of 20 bytes that has the name. */
 static void make_named(void)
 {
     unsigned sum = 0;
@@ -63,7 +63,7 @@ static void make_named(void)
     volume[51] = (uint8_t)(-sum >> 8);
 }
 
-/* What follows a structure, before a call and after it. */
+/* The value of the bytes after a structure, before a call and after it. */
 static const uint8_t guard[8] = {0xa5, 0x5a, 0xa5, 0x5a, 0xa5, 0x5a, 0xa5, 0x5a};
 #define GUARDED(type, count)         \
     struct {                         \
@@ -102,7 +102,7 @@ static void faults_and_headers(void)
     make(9);
 }
 
-/* The volume with a name after 8 bytes, and then one whose second section is too short for its header. */
+/* The volume with a name after 8 bytes, and then a volume whose second section is too short for its header. */
 static void rows_of_an_image(void)
 {
     static uint8_t image[8 + 2 * LENGTH];
@@ -142,7 +142,7 @@ static void rows_of_an_image(void)
 
 static void cells(void)
 {
-    /* bit 0x10 was written; the highest bit that was is 0x02 */
+    /* bit 0x10 was written; the highest written bit is 0x02 */
     static const struct {
         uint8_t state;
         uint32_t kind;
@@ -170,7 +170,7 @@ static void cells(void)
     make(9);
 }
 
-/* The rows of the volume: itself, its file and the five sections of the file. */
+/* The rows of the volume: the volume itself, its file and the five sections of the file. */
 static const fv_node wanted[7] = {
     {0, LENGTH, FV_NO_PARENT, 0, 0, FV_NODE_VOLUME, FV_CONTENT_FILES, 0, ATTRIBUTES, 72, {{0}}, 2, {0}},
     {DATA_AT, DATA_LEN, 0, 0, 1, FV_NODE_FILE, FV_CONTENT_SECTIONS, 2, 0x40, 24,
@@ -229,7 +229,7 @@ static void parts(void)
     make(9);
 }
 
-/* The digests of the rows above: the first bytes of each, as sha256sum has them. */
+/* The digests of the rows above: the first bytes of each digest, as sha256sum prints them. */
 static void digests_of_trees(void)
 {
     static const uint8_t starts[7][4] = {

@@ -1,6 +1,6 @@
 #!/usr/bin/env python3
-"""opened.py: checks what `fv.images` reads of made images: volumes at every level, compressed sections, volumes with
-fixed files, volumes at odd places; and how far its limits let it go."""
+"""opened.py: checks `fv.images` over made images: volumes at every level, compressed sections, volumes with fixed
+files, volumes at odd places, and the limits of reading."""
 
 from __future__ import annotations
 
@@ -12,7 +12,7 @@ from pathlib import Path
 
 ROOT = Path(__file__).resolve().parents[2]
 sys.dont_write_bytecode = True
-# An installed package, or the one that PYTHONPATH names, comes first.
+# An installed package, or a package that PYTHONPATH names, is used first.
 sys.path += [str(ROOT / "clib/python"), str(ROOT / "recipes")]
 
 import images as made  # noqa: E402
@@ -97,7 +97,7 @@ def test_places() -> None:
 
 
 def test_limits() -> None:
-    """Does not open what exceeds a limit, or does not read it at all."""
+    """Does not open a section that exceeds a limit, or does not read the image at all."""
     data = made.firmware()
     assert names_of(data, Limits(sections=0)) == []
     assert closed_in(data, Limits(sections=0))[0] == "more than 0 sections"

@@ -1,10 +1,10 @@
 #!/usr/bin/env python3
-"""parts.py [--program PROGRAM] FILE..: the tree of volumes, its digests and its parts, by the Python package.
+"""parts.py [--program PROGRAM] FILE..: checks the tree of volumes, its digests and its parts, by the Python package.
 
-First over the volumes of crates/fv_run_tests/rows/read.rows, whose files and faults were worked out by hand. Then over
-each FILE: the rows against a reader of this script, which takes only the cells from the library; the parts against the
-canonical image; the digests against hashlib; and, with the program, the lines of `list`, the output of `extract` for
-files and sections, and the names of the cells."""
+First checks the volumes of crates/fv_run_tests/rows/read.rows, whose files and faults were worked out by hand. Then
+checks each FILE: compares the rows with a reader of this script, which takes only the cells from the library, the parts
+with the canonical image, and the digests with hashlib. With the program, also compares the lines of `list`, the output
+of `extract` for files and sections, and the names of the cells."""
 
 from __future__ import annotations
 
@@ -26,13 +26,13 @@ import rows  # noqa: E402
 
 T = TypeVar("T")
 FILE_SYSTEMS = {uuid.UUID("8c8ce578-8a3d-4f1c-9935-896185c32dd3").bytes_le: 2, rows.FFS3: 3}
-# The bit of a file's state that says that its data are valid.
+# The bit of a file's state for valid data.
 DATA_VALID = 0x04
 GROUP, VOLUME_SECTION = 0x03, 0x17
 
 
 def outcome(call: Callable[[], T]) -> T | fv.Fault:
-    """Returns what a call returns, or its fault."""
+    """Returns the result of a call, or its fault."""
     try:
         return call()
     except fv.FaultError as error:
@@ -40,7 +40,7 @@ def outcome(call: Callable[[], T]) -> T | fv.Fault:
 
 
 def is_missing(data: bytes, row: int) -> bool:
-    """Whether a volume has no row of this number."""
+    """Returns whether a volume has no row with this number."""
     try:
         fv.volume_extract(data, row)
     except IndexError:
@@ -49,8 +49,8 @@ def is_missing(data: bytes, row: int) -> bool:
 
 
 def listed(data: bytes) -> str:
-    """Returns what the rows say of a volume: its length, and of each file the first byte of the name, the type, the
-    attributes without bit 01, the number of bytes of its data, and the number of its outer sections."""
+    """Returns the contents of a volume by the rows: its length, and for each file the first byte of the name, the type,
+    the attributes without bit 01, the number of bytes of its data, and the number of its outer sections."""
     nodes = fv.volume_tree(data)
     parts = [str(nodes[0].length)]
     for row, node in enumerate(nodes):
@@ -65,12 +65,12 @@ def listed(data: bytes) -> str:
 
 
 def is_fault(found: object, wanted: tuple[int, ...]) -> bool:
-    """Whether a fault has this number, offset and depth."""
+    """Returns whether a fault has this number, offset and depth."""
     return isinstance(found, fv.Fault) and (int(found.code), found.offset, found.depth) == wanted
 
 
 def check_read() -> int:
-    """Each volume has its files, and cut short anywhere it is truncated there."""
+    """Checks that each volume has its files, and that it is reported as truncated if it is cut short anywhere."""
     count = 0
     for row, data, wanted in rows.read("accepted"):
         whole = data[: int(wanted.split(",")[0])]
@@ -83,7 +83,7 @@ def check_read() -> int:
 
 
 def check_rejected() -> int:
-    """Each of the others has its fault."""
+    """Checks that each of the other volumes has its fault."""
     count = 0
     for row, data, wanted in rows.read("rejected"):
         calls: list[Callable[[], object]] = [lambda: fv.volume_tree(data), lambda: fv.volume_tree_digests(data)]
@@ -96,7 +96,7 @@ def check_rejected() -> int:
 
 
 def check_data() -> int:
-    """The data of a file are where the row says."""
+    """Checks that the data of a file are at the place in its row."""
     count = 0
     for row, data, wanted in rows.read("data"):
         number, start, end = map(int, wanted.split())
@@ -109,7 +109,7 @@ def check_data() -> int:
 
 
 def check_remains(program: str | None) -> None:
-    """A deleted file, one whose data were never finished, and two headers that were never finished."""
+    """Checks a deleted file, a file whose data were never finished, and two headers that were never finished."""
     begun, invalid = "ff*16 fffffffefffffffe", "ff*16 fffffffeffffffde"
     data = rows.spelled(f"<c0> 0a*16 47aa0100180000e8 0a*16 47aa0100180000fc {begun} {invalid} ff*24")
     dead = [fv.CellKind.DELETED, fv.CellKind.UNFINISHED, fv.CellKind.UNFINISHED, fv.CellKind.UNFINISHED]
@@ -120,12 +120,12 @@ def check_remains(program: str | None) -> None:
 
 
 def cell_names(text: bytes) -> list[str]:
-    """Returns what the program calls the cells in the lines of `cells`."""
+    """Returns the program's names of the cells in the lines of `cells`."""
     return [line.split()[0] for line in text.decode().splitlines()[1:-1]]
 
 
 def files_of(volume: bytes) -> Iterator[fv.Cell]:
-    """Returns the files of a volume: its cells that are files, without those whose update is there too."""
+    """Returns the files of a volume: its cells that are files, without the files whose update is there too."""
     files = [cell for cell in fv.volume_cells(volume) if cell.kind == fv.CellKind.FILE]
     erased = fv.header_read(volume).erased_byte
     states = [volume[cell.offset + 23] ^ erased for cell in files]
@@ -136,7 +136,7 @@ def files_of(volume: bytes) -> Iterator[fv.Cell]:
 
 
 def content_of(kind: int, body: bytes) -> fv.Content:
-    """Returns what a section of this type and body holds (docs/FORMAT.md, Sections)."""
+    """Returns the kind of contents of a section of this type and body (docs/FORMAT.md, Sections)."""
     if kind == GROUP:
         return fv.Content.SECTIONS
     is_volume = len(body) >= 56 and body[40:44] == b"_FVH" and body[16:32] in FILE_SYSTEMS
@@ -146,7 +146,7 @@ def content_of(kind: int, body: bytes) -> fv.Content:
 
 
 def add_sections(wanted: list[fv.Node], data: bytes, start: int, end: int, holder: int) -> None:
-    """Adds the rows that the tree should have for a stream of sections of a row that is there."""
+    """Adds the rows that the tree should have for a stream of sections. The row around the stream is already there."""
     at, index, depth = start, 0, wanted[holder].depth + 1
     while at < end:
         size, header_length = int.from_bytes(data[at : at + 3], "little"), 4
@@ -179,7 +179,7 @@ def add_volume(wanted: list[fv.Node], data: bytes, start: int, end: int, holder:
 
 
 def add_file(wanted: list[fv.Node], data: bytes, base: int, index: int, cell: fv.Cell, volume: int) -> None:
-    """Adds the rows that the tree should have for a file of a volume, of which this is the cell."""
+    """Adds the rows that the tree should have for a file of a volume, which has this cell."""
     assert cell.header_length is not None and cell.attributes is not None and cell.efi_type is not None
     row, begin, end = len(wanted), base + cell.offset + cell.header_length, base + cell.offset + cell.length
     content = fv.Content.SECTIONS if rows.is_stream(cell.efi_type) else fv.Content.BYTES
@@ -191,7 +191,7 @@ def add_file(wanted: list[fv.Node], data: bytes, base: int, index: int, cell: fv
 
 
 def check_tree(data: bytes) -> None:
-    """The rows of the tree are what this script reads."""
+    """Checks that the rows of the tree agree with the reader of this script."""
     wanted: list[fv.Node] = []
     add_volume(wanted, data, 0, len(data), None)
     nodes = fv.volume_tree(data)
@@ -202,8 +202,8 @@ def check_tree(data: bytes) -> None:
 
 
 def check_parts(data: bytes) -> None:
-    """The part of each row is in the canonical image, where the tree of the image has its row; its digest is that of
-    the part. A volume that has no image has no digests, but the bodies of its sections are as stored."""
+    """Checks that the part of each row is in the canonical image, where the tree of the image has its row, and that its
+    digest covers the part. A volume without an image has no digests, but the bodies of its sections are as stored."""
     nodes, image = fv.volume_tree(data), outcome(lambda: fv.volume_normalise(data))
     assert is_missing(data, len(nodes)) and is_missing(data, -1) and is_missing(data, 2**64 - 1)
     if isinstance(image, fv.Fault):
@@ -229,7 +229,7 @@ def check_volume(data: bytes) -> None:
 
 
 def line_of(node: fv.Node, held: int) -> str:
-    """Returns the line of `list` for a row that holds so many rows, without what a leaf says."""
+    """Returns the line of `list` for a row that holds this many rows, without the text of a leaf."""
     indent = "  " * node.depth
     if node.kind == fv.NodeKind.VOLUME:
         name = f" name {node.guid}" if node.guid else ""
@@ -242,20 +242,20 @@ def line_of(node: fv.Node, held: int) -> str:
 
 
 def lines(nodes: list[fv.Node]) -> list[str]:
-    """Returns the lines of `list`, without what a leaf says."""
+    """Returns the lines of `list`, without the texts of leaves."""
     held = collections.Counter(node.parent for node in nodes)
     return [line_of(node, held[row]) for row, node in enumerate(nodes)]
 
 
 def program_lines(text: str) -> list[str]:
-    """Returns the same lines of what the program has written. A tree shows no name that consists of zeros."""
+    """Returns these lines from the program's output. A tree does not show a name that consists of zeros."""
     zeros = f" name {uuid.UUID(int=0)}"
     return [re.sub(r"(section \d+ type .. \w+ body \d+) .*", r"\1", it).replace(zeros, "") for it in text.splitlines()]
 
 
 def named_parts(nodes: list[fv.Node]) -> Iterator[tuple[int, list[str]]]:
-    """Returns the rows that the program can name, with the words that name them: the first file of a name, and the
-    first sections in it that are in no nested volume."""
+    """Returns the rows that the program can name, with the arguments that name them: the first file of each name, and
+    its first sections that are not in a nested volume."""
     owners: dict[int, int] = {}
     names: set[uuid.UUID | None] = set()
     instances: collections.Counter[tuple[int, int | None]] = collections.Counter()
@@ -274,7 +274,7 @@ def named_parts(nodes: list[fv.Node]) -> Iterator[tuple[int, list[str]]]:
 
 
 def check_program(program: str, path: str, data: bytes) -> int:
-    """Holds what is read of a volume against the program. Returns the number of outputs."""
+    """Compares the rows and parts of a volume with the program's output. Returns the number of outputs."""
 
     def run(*arguments: str) -> bytes:
         return subprocess.run([program, *arguments, path], capture_output=True, check=False).stdout

@@ -1,6 +1,6 @@
-/* Each allocation of each call is refused in turn, by three functions in place of those of src/heap.c. A call must then
- * return that memory ran out, at offset 0 and depth 0, and nothing else. It keeps no block, and leaves its buffer and
- * its other results unchanged. fv_header_read and fv_volume_unfix take no memory. */
+/* Refuses each allocation of each call in turn, by three functions that replace the functions of src/heap.c. A call
+ * must then return out of memory, at offset 0 and depth 0, and no other result. It must keep no block, and leave its
+ * buffer and its other results unchanged. fv_header_read and fv_volume_unfix take no memory. */
 #include "calls.h"
 #include <stdbool.h>
 
@@ -55,7 +55,7 @@ static bool is_all(const void *bytes, size_t count, uint8_t value)
     return true;
 }
 
-/* Refuses each allocation of a call in turn. Returns how many there are. */
+/* Refuses each allocation of a call in turn. Returns the number of allocations. */
 static long refuse_each(const struct call *call, const uint8_t *in, size_t size, struct outcome *usual)
 {
     union found_room found;

@@ -1,6 +1,6 @@
 #!/usr/bin/env python3
-"""test_fv.py FILE..: the calls of the Python package over files, each held against the others and against hashlib. Then
-the rules of the package: what it takes, what it raises, what it returns, and which libraries it loads."""
+"""test_fv.py FILE..: compares the calls of the Python package over files with each other and with hashlib. Then checks
+the rules of the package: its arguments, its exceptions, its results, and the libraries that it loads."""
 
 import concurrent.futures
 import copy
@@ -26,16 +26,16 @@ from pathlib import Path
 from typing import Any
 
 ROOT = Path(__file__).resolve().parents[2]
-# A copy that is installed, or that PYTHONPATH names, comes first.
+# An installed copy, or a copy that PYTHONPATH names, is used first.
 sys.path.append(str(ROOT / "clib/python"))
 import fv
 from fv import _library, _native
 
 Call = Callable[..., Any]
 A, B = uuid.UUID(int=1), uuid.UUID(int=2)
-# An expression that is true if both are installed.
+# An expression that is true if both GUIDs are installed.
 BOTH = b"\2" + A.bytes_le + b"\2" + B.bytes_le + b"\3\10"
-# The calls that take a volume and nothing else.
+# The calls whose only argument is a volume.
 OF_VOLUME = (
     fv.volume_is_canonical,
     fv.volume_normalise,
@@ -49,7 +49,7 @@ OF_IMAGE = (fv.image_scan, fv.image_check, fv.image_normalise)
 
 
 def outcome(call: Call, *arguments: Any, **named: Any) -> Any:
-    """What a call returns, or the fault that it raises."""
+    """Returns the result of a call, or the fault that it raises."""
     try:
         return call(*arguments, **named)
     except fv.FaultError as error:
@@ -57,7 +57,7 @@ def outcome(call: Call, *arguments: Any, **named: Any) -> Any:
 
 
 def raised(call: Call, *arguments: Any, **named: Any) -> Any:
-    """The exception that a call raises."""
+    """Returns the exception that a call raises."""
     try:
         call(*arguments, **named)
     except Exception as error:
@@ -66,23 +66,23 @@ def raised(call: Call, *arguments: Any, **named: Any) -> Any:
 
 
 def is_frozen(value: Any) -> bool:
-    """Whether no field of a value can be set or added."""
+    """Returns whether no field of a value can be set or added."""
     name = dataclasses.fields(value)[0].name
     assert not hasattr(value, "__dict__"), value
-    # A field of another name is refused by the slots, with one of these.
+    # The slots reject a field with another name by one of these exceptions.
     return isinstance(raised(setattr, value, name, 1), dataclasses.FrozenInstanceError) and isinstance(
         raised(setattr, value, "other", 1), (AttributeError, TypeError)
     )
 
 
 def again(value: Any) -> tuple[Any, ...]:
-    """A value after it was copied and pickled."""
+    """Returns a value after it was copied and pickled."""
     return copy.copy(value), copy.deepcopy(value), pickle.loads(pickle.dumps(value))
 
 
 def volume_of(stream: bytes, name: uuid.UUID | None = None, mark: int = 0) -> bytes:
-    """A volume with one file of sections. With a name it has an extended header. The mark is one of the file's
-    attributes."""
+    """Returns a volume with one file of sections. If a name is given, the volume has an extended header. The mark is an
+    attribute of the file."""
     first = 72 if name is None else 96
     size = 24 + len(stream)
     file = bytearray(b"\x0a" * 16 + b"\x00\xaa\x02" + bytes([mark]) + size.to_bytes(3, "little") + b"\x00") + stream
@@ -102,12 +102,12 @@ def volume_of(stream: bytes, name: uuid.UUID | None = None, mark: int = 0) -> by
 
 
 def hob(kind: int, length: int, fields: bytes = b"") -> bytes:
-    """A block of a hand-off list."""
+    """Returns a block of a hand-off list."""
     return (kind.to_bytes(2, "little") + length.to_bytes(2, "little") + bytes(4) + fields).ljust(length, b"\0")
 
 
 def calls_are_all() -> None:
-    """The package has a function for each call of fv.h, by its name, and nothing but that and its types."""
+    """Checks that the package has a function with the name of each call of fv.h, and nothing else except its types."""
     named = re.findall(r"\bFV_(?:API|CHECKED)_ [^;]*?\b(fv_\w+)\(", (ROOT / "clib/include/fv.h").read_text("utf-8"))
     assert len(named) == 18 and sorted(named) == sorted(_native.CALLS), named
     public = set(fv.__all__) - {it.removeprefix("fv_") for it in named}
@@ -118,7 +118,7 @@ def calls_are_all() -> None:
 
 
 def layouts_are_those_of_c() -> int:
-    """The C compiler has the same sizes and offsets. Returns their number, or 0 if there is no compiler."""
+    """Checks that the C compiler has the same sizes and offsets. Returns their number, or 0 if there is no compiler."""
     compiler = shutil.which(os.environ.get("CC", "cc"))
     if not compiler:
         return 0
@@ -135,7 +135,7 @@ def layouts_are_those_of_c() -> int:
 
 
 def libraries_are_asked() -> None:
-    """The first call fails if the library is missing, is another file, or has another major number."""
+    """Checks that the first call fails if the library is missing, is another file, or has another major number."""
 
     def said(library: str | Path) -> str:
         run = "import fv\ntry: fv.version()\nexcept ImportError as error: print(error.name, error.path, error)"
@@ -161,7 +161,7 @@ def libraries_are_asked() -> None:
 
 
 def faults_have_codes(volume: bytes) -> None:
-    """A fault is a value, and the exception that has it says what it means."""
+    """Checks that a fault is a value, and that the text of its exception explains it."""
     error = raised(fv.volume_normalise, b"bad")
     assert isinstance(error, fv.FaultError) and isinstance(error, fv.Error) and isinstance(error, ValueError)
     assert error.fault == fv.Fault(fv.FaultCode.TRUNCATED, 3) and error.fault.code is fv.FaultCode.TRUNCATED
@@ -174,7 +174,7 @@ def faults_have_codes(volume: bytes) -> None:
     depex, hobs = raised(fv.depex_evaluate, BOTH[:30]).fault, raised(fv.hobs_read, b"bad").fault
     assert (depex, hobs) == (fv.Fault(fv.FaultCode.DEPEX_SHORT, 17), fv.Fault(fv.FaultCode.HOB_SHORT, 0)), (depex, hobs)
     assert (depex.code, depex.number, str(depex)) == (0x201, 1, "fault 1 at 17") and depex.text != error.fault.text
-    # Every code of fv.h has a member, and a text of its own. A newer library may have others.
+    # Checks that every code of fv.h has a member, and a text of its own. A newer library may have other codes.
     known = {name.removeprefix("FAULT_"): it for name, it in vars(_native).items() if name.startswith("FAULT_")}
     known = {name: it for name, it in known.items() if isinstance(it, int)}
     assert known == {it.name: it for it in fv.FaultCode} and len(known) == 33
@@ -188,7 +188,7 @@ def faults_have_codes(volume: bytes) -> None:
 
 
 def faults_are_documented() -> None:
-    """The texts of the faults of volumes are those of docs/FAULTS.md."""
+    """Checks that the texts of the faults of volumes agree with docs/FAULTS.md."""
     page = (ROOT / "docs/FAULTS.md").read_text(encoding="utf-8")
     page = page.split("## What each fault means for you")[1].split("\n## ")[0]
     rows = [line.strip("| ").split(" | ") for line in page.splitlines() if line.startswith("| ")][1:]
@@ -198,8 +198,8 @@ def faults_are_documented() -> None:
 
 
 def faults_are_sent(volume: bytes) -> None:
-    """An exception is the same after it was copied, pickled, or sent from another process. (Processes are not forked,
-    since this one has threads.)"""
+    """Checks that an exception is the same after it was copied, pickled, or sent from another process. (Processes are
+    not forked, because this process has threads.)"""
     error: Any = raised(fv.volume_normalise, b"bad")
     error.note = "kept"
     for copied in again(error):
@@ -215,7 +215,7 @@ def faults_are_sent(volume: bytes) -> None:
 
 
 def numbers_are_indices(volume: bytes) -> None:
-    """A number is what operator.index takes, and no number is cut."""
+    """Checks that every argument of operator.index counts as a number, and that no number is cut."""
 
     class Two:
         def __index__(self) -> int:
@@ -238,7 +238,7 @@ def numbers_are_indices(volume: bytes) -> None:
 
 
 def rows_are_sequences(volume: bytes) -> None:
-    """Rows are a sequence that cannot be changed, and a slice of them is too."""
+    """Checks that rows are a sequence that cannot be changed, and that a slice of rows is one too."""
     rows: Any = fv.volume_tree(volume)
     none: Any = fv.image_scan(b"")
     assert isinstance(rows, Sequence) and type(rows).__name__ not in dir(fv) and len(rows) == 3
@@ -258,7 +258,7 @@ def rows_are_sequences(volume: bytes) -> None:
 
 
 def rows_are_typed(volume: bytes) -> None:
-    """Each call has the rows that it should, and a field that a part does not have is None."""
+    """Checks that each call returns the right rows, and that a field is None if the part does not have it."""
     header = fv.Header(0, len(volume), 72, 72, 0x4FEFF, 2, 255, None)
     assert fv.header_read(volume + b"more") == header
     assert fv.image_scan(bytes(8) + volume) == [dataclasses.replace(header, offset=8)]
@@ -298,7 +298,7 @@ def rows_are_typed(volume: bytes) -> None:
 
 
 def with_free_space(volume: bytes) -> bytes:
-    """A volume with 64 more bytes, which are free."""
+    """Returns a volume with 64 more bytes, which are free."""
     longer = bytearray(volume + b"\xff" * 64)
     longer[32:40], longer[60:64] = len(longer).to_bytes(8, "little"), len(longer).to_bytes(4, "little")
     longer[50:52] = b"\0\0"
@@ -308,7 +308,7 @@ def with_free_space(volume: bytes) -> bytes:
 
 
 def rows_may_be_many(volume: bytes) -> None:
-    """A call has as many rows as there are, however many there is room for at first."""
+    """Checks that a call returns all rows, whatever room its first buffer has."""
     for count in (1, 3, 1023, 1024, 1025, 3000, 70_000):
         many = volume_of(b"\x05\x00\x00\x19z000" * count)
         nodes, digests = fv.volume_tree(many), fv.volume_tree_digests(many)
@@ -322,13 +322,13 @@ def rows_may_be_many(volume: bytes) -> None:
         end = hob(0xFFFF, 8)
         found = fv.hobs_read(hob(1, 56) + hob(0xFFFE, 8) * (count - 1) + end)
         assert len(found.blocks) == count + 1 and found.length == 56 + 8 * count
-    # Empty sections of four bytes are more rows than there is room for at first.
+    # Checks a volume of empty sections of four bytes, which has more rows than the first buffer has room for.
     tiny = volume_of(b"\x04\x00\x00\x19" * 5000)
     assert len(fv.volume_tree(tiny)) == 5002
 
 
 def checks_have_faults(volume: bytes) -> None:
-    """The row of a volume that is rejected has its fault."""
+    """Checks that the row of a rejected volume has its fault."""
     wrong = volume.replace(b"\x05\x00\x00\x19", b"\x03\x00\x00\x19")
     fault = outcome(fv.volume_is_canonical, wrong)
     wanted = dataclasses.replace(fault, offset=fault.offset + len(volume))
@@ -339,7 +339,7 @@ def checks_have_faults(volume: bytes) -> None:
 
 
 def marks_are_taken_away(volume: bytes) -> None:
-    """A volume with a fixed file is read without the mark. The given bytes stay as they are."""
+    """Checks that a volume with a fixed file is read without the mark, and that the given bytes stay as they are."""
     at, marked = 72, volume_of(b"\x05\x00\x00\x19z", mark=4)
     for call in OF_VOLUME:
         if call != fv.volume_unfix:
@@ -355,7 +355,7 @@ def marks_are_taken_away(volume: bytes) -> None:
 
 
 def buffers_are_read(volume: bytes) -> None:
-    """Each kind of buffer is read, and none is changed."""
+    """Checks that each kind of buffer is read, and that no buffer is changed."""
     image, tree = fv.volume_normalise(volume), fv.volume_tree(volume)
     with tempfile.TemporaryFile() as file:
         file.write(volume)
@@ -385,7 +385,7 @@ def buffers_are_read(volume: bytes) -> None:
     for wrong in ("text", 5, None, [1]):
         for copied in (False, True):
             assert isinstance(raised(fv.volume_normalise, wrong, copy=copied), TypeError), wrong
-    # A view with gaps can only be copied.
+    # Checks that a view with gaps can only be copied.
     doubled = bytes(it for byte in volume for it in (byte, 0))
     for data in (memoryview(doubled)[::2], memoryview(bytearray(doubled))[::2]):
         assert fv.volume_normalise(data) == image
@@ -394,14 +394,14 @@ def buffers_are_read(volume: bytes) -> None:
 
 
 class Longer(bytes):
-    """Bytes that say that there are more of them."""
+    """Bytes that report a larger length than they have."""
 
     def __len__(self) -> int:
         return 1 << 20
 
 
 def buffers_are_in_place(volume: bytes) -> None:
-    """Checks which bytes the library reads: of a bytes object it reads the bytes in place."""
+    """Checks which bytes the library reads: it reads the bytes of a bytes object in place."""
 
     def value(place: Any) -> int:
         return ctypes.cast(place, ctypes.c_void_p).value or 0
@@ -421,7 +421,7 @@ def buffers_are_in_place(volume: bytes) -> None:
     assert address(memoryview(writable)[8:], False) == (start + 8, size - 8)
     assert address(writable, True)[0] != start and address(memoryview(writable).toreadonly(), True)[0] != start
     assert address(Longer(volume), False)[1] == address(Longer(volume), True)[1] == size
-    # The buffer is given back when the call returns, also if it raises.
+    # Checks that the buffer is released when the call returns or raises.
     for data in (bytearray(b"bad"), bytearray(volume)):
         error = raised(fv.volume_normalise, data, copy=False)
         data.append(0)
@@ -429,7 +429,7 @@ def buffers_are_in_place(volume: bytes) -> None:
 
 
 def buffers_may_change(seconds: int) -> int:
-    """A buffer to which another thread writes during a call is no danger."""
+    """Checks that a buffer to which another thread writes during a call does no harm."""
     sizes, ends = b"\x08\x00\x00\x19abcd", threading.Event()
     data = bytearray(volume_of(sizes * 100_000))
     at = data.index(sizes)
@@ -455,7 +455,7 @@ def buffers_may_change(seconds: int) -> int:
 
 
 def expressions_have_values() -> None:
-    """An expression is true, false or neither."""
+    """Checks expressions that are true, false or neither."""
     assert fv.depex_evaluate(BOTH, fv.Phase.PEI, [A, B]) is True and fv.depex_evaluate(BOTH, fv.Phase.PEI, {B}) is False
     assert fv.depex_evaluate(BOTH, installed=iter((B, A))) is True and fv.depex_evaluate(BOTH) is False
     assert fv.depex_evaluate(b"\0" + A.bytes_le + b"\10") is None
@@ -464,7 +464,7 @@ def expressions_have_values() -> None:
 
 
 def memory_may_run_out(volume: bytes) -> None:
-    """A call for which there is no memory raises MemoryError."""
+    """Checks that a call raises MemoryError if memory runs out."""
     run = """if True:
         import resource, sys, fv
         data = sys.stdin.buffer.read()
@@ -481,7 +481,7 @@ def memory_may_run_out(volume: bytes) -> None:
 
 
 def checks_are_of_volumes(path: str, data: bytes, headers: Sequence[fv.Header]) -> None:
-    """What is said of each volume of an image is what is said of the volume."""
+    """Checks that the results for each volume of an image are the results for this volume on its own."""
     checks = fv.image_check(data)
     assert [(it.offset, it.length) for it in checks] == [(it.offset, it.length) for it in headers], path
     for check, header in zip(checks, headers):
@@ -497,8 +497,8 @@ def checks_are_of_volumes(path: str, data: bytes, headers: Sequence[fv.Header]) 
 
 
 def parts_have_digests(path: str, data: bytes) -> None:
-    """Each part (of a large volume some parts) has the digest of the bytes that are extracted. There are no more parts
-    than rows."""
+    """Checks that each part (or some parts of a large volume) has the digest of the extracted bytes, and that there are
+    no more parts than rows."""
     nodes, digests = fv.volume_tree(data), fv.volume_tree_digests(data)
     assert len(nodes) == len(digests), path
     for row, node in enumerate(nodes):
@@ -515,7 +515,7 @@ def parts_have_digests(path: str, data: bytes) -> None:
 
 
 def check_file(path: str) -> bool:
-    """Holds the calls over a file against each other. Returns whether it is a volume with an image."""
+    """Compares the calls over a file with each other. Returns whether the file is a volume with an image."""
     data = Path(path).read_bytes()
     image, headers = outcome(fv.volume_normalise, data), fv.image_scan(data)
     whole = outcome(fv.image_normalise, data)

@@ -1,5 +1,6 @@
-/* threads FILE TURNS: threads that make every call at once, over one input, and get what one thread gets. Also built
- * with -fsanitize=thread. It sees this file, and of the library its copies and its blocks of memory. */
+/* threads FILE TURNS: makes every call in several threads at once, over one input, and checks that each thread gets the
+ * same results as one thread. Also built with -fsanitize=thread. The sanitizer checks this file, and in the library
+ * only copies and blocks of memory. */
 #include "calls.h"
 #include <pthread.h>
 
@@ -9,7 +10,7 @@ static size_t size;
 static int turns;
 static struct outcome usual[CALLS];
 
-/* Whether a call does again what it did before. */
+/* Returns whether a call has the same outcome as before. */
 static int differs(const struct outcome *a, const struct outcome *b, const struct call *call)
 {
     if (a->result != b->result || memcmp(&a->fault, &b->fault, sizeof a->fault) || a->needed != b->needed) return 1;

@@ -1,6 +1,7 @@
-/* fv_volume_unfix over volumes that were spelled by hand. Every allocation is refused, and none may be asked for. The
- * input cannot be written to, and it and the buffer lie against a page that cannot be touched: first after them, then
- * before them. The buffer has room for the volume, a little more, a byte less, and none. */
+/* Tries fv_volume_unfix over volumes that were written by hand. Every allocation is refused, and the call must not ask
+ * for any. The input cannot be written to. The input and the buffer are beside a page that cannot be touched: first
+ * before this page, then after it. The buffer has room for the volume, for a little more, for a byte less, and for
+ * nothing. */
 #define _DEFAULT_SOURCE
 #include <fv.h>
 #include <stdbool.h>
@@ -38,9 +39,9 @@ void rattle_dealloc(uint8_t *p)
 
 enum { MOST = 512, MORE = 24, A = 72 };
 
-/* A volume of `length` bytes: a header of 72 bytes, and then a body of bytes, of which NN*COUNT repeats one. Erased
- * bytes are FF. `after` more bytes follow it. The result is `fault` at `at`. If `fault` is 0, it is the input with
- * other values of the bytes that `changed` names, as OFFSET VALUE (0 0: no more). */
+/* A volume of `length` bytes: a header of 72 bytes, and then a body. In the text of the body, NN*COUNT repeats a byte.
+ * Erased bytes are FF. `after` more bytes follow the volume. The result is `fault` at `at`. If `fault` is 0, the output
+ * is the input with other values of the bytes that `changed` names, as OFFSET VALUE (0 0: no more). */
 struct row {
     const char *name;
     unsigned length, after;
@@ -100,7 +101,7 @@ static uint8_t *put(uint8_t *to, const char *words)
     return to;
 }
 
-/* The input of a row. Returns the number of its bytes. */
+/* Makes the input of a row. Returns the number of its bytes. */
 static size_t make(const struct row *it, uint8_t *to)
 {
     unsigned sum = 0;
@@ -118,7 +119,7 @@ static size_t make(const struct row *it, uint8_t *to)
     return (size_t)(end - to);
 }
 
-/* A page between two that cannot be touched. */
+/* A page between two pages that cannot be touched. */
 static uint8_t *guarded_page(size_t page)
 {
     uint8_t *p = mmap(NULL, 3 * page, PROT_NONE, MAP_PRIVATE | MAP_ANONYMOUS, -1, 0);
@@ -126,7 +127,7 @@ static uint8_t *guarded_page(size_t page)
     return p + page;
 }
 
-/* One call, with a buffer of this many bytes. */
+/* Makes a call with a buffer of this many bytes. */
 static void try_buffer(const struct row *it, const uint8_t *in, size_t n, uint8_t *buffer, size_t room,
                        const uint8_t *wanted)
 {
@@ -159,7 +160,7 @@ int main(void)
                 try_buffer(it, in, n, buffer_page + at_end * (page - rooms[i]), rooms[i], wanted);
         }
         if (it->fault) continue;
-        /* without its marks it is written as it is */
+        /* a volume without marks is written as it is */
         fv_fault fault;
         EXPECT(fv_volume_unfix(wanted, n, buffer_page, n, &fault) == FV_OK && !memcmp(buffer_page, wanted, n));
     }

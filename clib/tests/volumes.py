@@ -1,9 +1,10 @@
 #!/usr/bin/env python3
-"""volumes.py: the calls of the Python package that take volumes and images, except for trees and parts (parts.py), over
-the volumes of crates/fv_run_tests/rows, and depex_evaluate and hobs_read over its expressions and lists.
+"""volumes.py: checks the calls of the Python package that take volumes and images, except for trees and parts
+(parts.py), over the volumes of crates/fv_run_tests/rows, and depex_evaluate and hobs_read over its expressions and
+lists.
 
-The images and the faults of these were worked out by hand. Of some, each byte is then replaced by each other one: the
-calls have to agree on what they are given, and whatever has an image has to keep it."""
+The images and the faults of these volumes were worked out by hand. In some volumes, each byte is then replaced by every
+other value: the calls have to agree on each input, and the image of an input has to be its own image."""
 
 from __future__ import annotations
 
@@ -23,7 +24,7 @@ T = TypeVar("T")
 # A fault: its number in docs/FAULTS.md, its offset and its depth.
 Place = tuple[int, int, int]
 FIXED, NO_ROOM, TOP_ALIGNMENT = 15, 22, 23
-# What `cells` calls each cell, and in which of its sums the bytes are.
+# The name of each cell in `cells`, and the sum that its bytes are counted in.
 CELLS = {
     fv.CellKind.FILE: ("file", "files"),
     fv.CellKind.PAD: ("pad", "pads"),
@@ -45,7 +46,7 @@ VOLUMES = [
 
 
 def outcome(call: Callable[[bytes], T], data: bytes) -> T | Place:
-    """What a call returns, or of its fault the number, the offset and the depth."""
+    """Returns the result of a call, or the number, the offset and the depth of its fault."""
     try:
         return call(data)
     except fv.FaultError as error:
@@ -53,7 +54,7 @@ def outcome(call: Callable[[bytes], T], data: bytes) -> T | Place:
 
 
 def check_images() -> int:
-    """Each volume has its image, and is found to be its own image or not."""
+    """Checks that each volume has its image, and whether it is its own image."""
     for name, words in rows.images():
         volume, image = rows.spelled(name), rows.spelled(words)
         assert fv.volume_normalise(volume) == image, name
@@ -63,7 +64,7 @@ def check_images() -> int:
 
 
 def check_unfit(table: list[str]) -> int:
-    """Volumes that do not fit have no image, and are not canonical."""
+    """Checks that volumes that do not fit have no image, and are not canonical."""
     for name, number, depth in map(rows.parts, table):
         volume = rows.spelled(name)
         assert outcome(fv.volume_normalise, volume) == (int(number), 0, int(depth)), name
@@ -72,7 +73,8 @@ def check_unfit(table: list[str]) -> int:
 
 
 def check_flash(accepted: list[str], rejected: list[str]) -> int:
-    """Each volume of a flash image is renewed, or the first fault is that of the row."""
+    """Checks that each volume of a flash image is replaced by its image, or that the first fault is the fault of the
+    row."""
     for row in accepted:
         given, _, wanted = row.partition(" -> ")
         assert fv.image_normalise(rows.spelled(given)) == rows.spelled(wanted), row
@@ -83,14 +85,14 @@ def check_flash(accepted: list[str], rejected: list[str]) -> int:
 
 
 def said_of(check: fv.VolumeCheck) -> str:
-    """What is said of a volume of a flash image, as a row has it."""
+    """Returns the result for a volume of a flash image, in the form of the rows."""
     fault = check.fault
     words = "canonical" if check.canonical else "another" if fault is None else f"{fault.number} {fault.offset} {fault.depth}"
     return f"{check.offset} {check.length} {words}"
 
 
 def check_checks(table: list[str]) -> int:
-    """Each volume of a flash image is canonical, is another, or has its fault, as the row says."""
+    """Checks that each volume of a flash image is canonical, is not canonical, or has its fault, as in the row."""
     for row in table:
         given, _, wanted = row.partition(" -> ")
         found = [*map(said_of, fv.image_check(rows.spelled(given)))]
@@ -99,7 +101,7 @@ def check_checks(table: list[str]) -> int:
 
 
 def check_headers(table: list[str]) -> int:
-    """Each volume has its extent, and the attributes and the name that its bytes have."""
+    """Checks that each volume has its extent, and the attributes and the name in its bytes."""
     for name, words, _ in map(rows.parts, table):
         data = rows.spelled(name)
         header = fv.header_read(data)
@@ -113,7 +115,8 @@ def check_headers(table: list[str]) -> int:
 
 
 def file_text(cell: fv.Cell, header: bytes) -> str:
-    """What `cells` writes of a file after its length. The fields of a file or a pad are those of its header."""
+    """Returns the text of `cells` after the length of a file. The fields of a file or a pad are the fields of its
+    header."""
     assert cell.name is not None and cell.attributes is not None and cell.header_length is not None
     assert (cell.name.bytes_le, cell.efi_type, cell.attributes) == (header[:16], header[18], header[19])
     assert cell.header_length == (32 if cell.attributes & 1 else 24)
@@ -123,7 +126,7 @@ def file_text(cell: fv.Cell, header: bytes) -> str:
 
 
 def text_of(data: bytes) -> str:
-    """What `cells` writes of a volume, by what header_read and volume_cells return."""
+    """Returns the lines of `cells` for a volume, by the results of header_read and volume_cells."""
     sums = dict.fromkeys(("files", "pads", "deleted", "filler", "free"), 0)
     text = f"header at 0 length {fv.header_read(data).first_file}|"
     for cell in fv.volume_cells(data):
@@ -137,13 +140,13 @@ def text_of(data: bytes) -> str:
 
 
 def place_in(text: str) -> Place | None:
-    """The fault that the line of a command has, if it is one."""
+    """Returns the fault in the line of a command, if the line has a fault."""
     fault = re.fullmatch(r"fault (\d+) at (\d+)\|", text)
     return (int(fault[1]), int(fault[2]), 0) if fault else None
 
 
 def check_bodies(table: list[str]) -> int:
-    """Each body has the cells or the fault of its row."""
+    """Checks that each body has the cells or the fault of its row."""
     count = 0
     for row in table:
         text = rows.parts(row)[2].partition(" ")[2]
@@ -156,8 +159,8 @@ def check_bodies(table: list[str]) -> int:
 
 
 def check_unfixed(table: list[str], others: list[str]) -> int:
-    """Each volume of a row of `unfix` loses its marks, or has the fault of the row. Each body of the other rows is
-    written as it is, or has the same fault as the cells, except that a file is fixed."""
+    """Checks that each volume of a row of `unfix` loses its marks, or has the fault of the row. Each body of the other
+    rows must be written as it is, or have the same fault as the cells, except the fault that a file is fixed."""
     count = 0
     for name, words, result in map(rows.parts, table):
         if name != "unfix" or words.startswith("'"):  # a volume at an offset, or text that spells no bytes
@@ -178,7 +181,8 @@ def check_unfixed(table: list[str], others: list[str]) -> int:
 
 
 def check_rejected(table: list[str]) -> int:
-    """Each expression, hand-off list and head has the fault of its row, or an expression is accepted."""
+    """Checks that each expression, hand-off list and header has the fault of its row, or that an expression is
+    accepted."""
     calls: dict[str, Callable[[bytes], object]] = {
         "pei": lambda data: fv.depex_evaluate(data, fv.Phase.PEI),
         "dxe": fv.depex_evaluate,
@@ -195,7 +199,7 @@ def check_rejected(table: list[str]) -> int:
 
 
 def check_values(table: list[str]) -> int:
-    """Each expression has its values, with four lists of installed GUIDs."""
+    """Checks that each expression has its values, with four lists of installed GUIDs."""
     a, b = uuid.UUID(bytes=b"\x0a" * 16), uuid.UUID(bytes=b"\x0b" * 16)
     installed: list[list[uuid.UUID]] = [[], [a], [b], [b, a]]
     phases, values = {"pei": fv.Phase.PEI, "dxe": fv.Phase.DXE}, {"0": False, "1": True, "-": None}
@@ -206,7 +210,7 @@ def check_values(table: list[str]) -> int:
 
 
 def check_full() -> int:
-    """A volume of few and of many files is its own image."""
+    """Checks that volumes of few and of many files are their own images."""
     for count in range(301):
         data = rows.full_volume(count)
         assert fv.volume_normalise(data) == data and fv.volume_is_canonical(data), count
@@ -214,7 +218,7 @@ def check_full() -> int:
 
 
 def replaced(data: bytes) -> Iterator[bytes]:
-    """The data with each byte replaced by each other one."""
+    """Yields the data with each byte replaced by every other value."""
     for at, byte in enumerate(data):
         for other in range(256):
             if other != byte:
@@ -222,8 +226,8 @@ def replaced(data: bytes) -> Iterator[bytes]:
 
 
 def agree(data: bytes) -> bool:
-    """Whether two calls agree on some bytes: true if they are their own image, false if they have another image or do
-    not fit, and else the same fault."""
+    """Returns whether two calls agree on some bytes: true if the bytes are their own image, false if they have another
+    image or do not fit, and otherwise the same fault."""
     judged, image = outcome(fv.volume_is_canonical, data), outcome(fv.volume_normalise, data)
     if isinstance(judged, bool):
         return judged == (image == data) and (isinstance(image, bytes) or image[0] in (NO_ROOM, TOP_ALIGNMENT))
@@ -231,7 +235,7 @@ def agree(data: bytes) -> bool:
 
 
 def keeps(data: bytes) -> bool:
-    """Whether some bytes have no image, or one that is its own image and has their meaning."""
+    """Returns whether some bytes have no image, or an image that is its own image and has their meaning."""
     image = outcome(fv.volume_normalise, data)
     if not isinstance(image, bytes):
         return True
@@ -239,7 +243,7 @@ def keeps(data: bytes) -> bool:
 
 
 def check_replaced(names: list[str], holds: Callable[[bytes], bool]) -> int:
-    """Whatever byte of these volumes is replaced, this holds."""
+    """Checks these two conditions for each replaced byte of these volumes."""
     count = 0
     for name in names:
         for data in replaced(rows.spelled(name)):

@@ -2,8 +2,7 @@
 """blocks.py PROGRAM ARCHIVE: finds where the basic blocks of the library begin in a program that is linked with it.
 
 Writes PROGRAM.blocks: 32-bit offsets from fv_header_read. A block begins at a function, at the target of a direct jump,
-and after each jump. Targets of tables of jumps are found only if they come after a jump, as they do in code of a
-compiler."""
+and after each jump. Targets of jump tables are found only if they come after a jump, as in the code of compilers."""
 
 from __future__ import annotations
 
@@ -16,7 +15,7 @@ import sys
 from collections.abc import Iterator
 from dataclasses import dataclass
 
-# The object that the harness replaces by its own.
+# The object of the library that the harness replaces by an object of its own.
 REPLACED = "heap.o"
 # The instructions that a compiler puts between blocks.
 PADDING = re.compile(r"nop|data16|cs |int3|xchg %ax,%ax")

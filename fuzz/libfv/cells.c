@@ -1,14 +1,14 @@
-/* What holds of fv_volume_cells: the cells follow one another up to the end of the volume, and each is what its bytes
- * say. */
+/* Checks fv_volume_cells: the cells follow one another up to the end of the volume, and each cell agrees with its
+ * bytes. */
 #include "coverage.h"
 #include "results.h"
 #include "rows.h"
 #include "volume.h"
 
-/* The bits of State. The highest one that was written says what a cell is. */
+/* The bits of State. The highest bit that was written determines the kind of a cell. */
 enum { CONSTRUCTION = 0x01, HEADER_VALID = 0x02, DATA_VALID = 0x04, MARKED = 0x08, DELETED = 0x10, INVALID = 0x20 };
 
-/* Whether a cell of this state is reported as this. */
+/* Returns whether a cell of this state may be reported as this kind. */
 static bool fits_state(uint32_t kind, uint8_t state, uint8_t efi_type)
 {
     if (state & INVALID) return kind == FV_CELL_UNFINISHED;

@@ -1,12 +1,13 @@
-/* The changes that the mutator makes in a volume. Each takes the volume, its number of bytes and the most that it may
- * have, and returns the new number. They leave sums and lengths as they come: repair.c corrects them. */
+/* The changes that the mutator makes in a volume. Each function takes the volume, its number of bytes and the largest
+ * number of bytes that it may have, and returns the new number of bytes. These functions may leave wrong checksums and
+ * lengths, which repair.c corrects. */
 #include "mutate.h"
 
 #define MOST_CELLS 64u
 #define MOST_FOUND 64u
 #define MOST_FILE 8192u
 
-/* A cell of the volume by chance. `len` is 0 if there is none. */
+/* Returns a random cell of the volume. `len` is 0 if there is no cell. */
 struct cell {
     size_t at, len;
 };
@@ -95,7 +96,7 @@ static size_t add_file(uint8_t *volume, size_t len, size_t most, struct cell cel
     return new_len;
 }
 
-/* Adds files without data whose names differ in their last bytes, before all others. */
+/* Adds files without data before all other files. Their names differ in the last bytes. */
 static size_t add_small_files(uint8_t *volume, size_t len, size_t most)
 {
     uint32_t count = 2 + below(200);
@@ -167,7 +168,8 @@ static void change_file_system(uint8_t *volume)
         volume[FILE_SYSTEM] ^= 2;
 }
 
-/* Puts the volume into a section, that now and then into a group, and that into a file of a new volume. */
+/* Puts the volume into a section. Now and then the section is put into a group. The result is put into a file of a new
+ * volume. */
 static size_t nest(uint8_t *volume, size_t len, size_t most)
 {
     if (len + 128 > most) return len;
@@ -201,7 +203,7 @@ static size_t nest(uint8_t *volume, size_t len, size_t most)
     return end + room;
 }
 
-/* Gives the volume an extended header in a pad, or changes the size of the one that it has. */
+/* Gives the volume an extended header in a pad, or changes the size of its extended header. */
 static size_t change_ext_header(uint8_t *volume, size_t len, size_t most)
 {
     size_t ext = number_at(volume + EXT_HEADER, 2);
@@ -231,7 +233,7 @@ static size_t change_ext_header(uint8_t *volume, size_t len, size_t most)
     return new_len;
 }
 
-/* Changes the type or the size of a section of a file, if the cell is one. */
+/* Changes the type or the size of a section of a file, if the cell is a file. */
 static void change_section(uint8_t *volume, size_t len, struct cell cell)
 {
     size_t start = cell.at + HEAD, at = start, end = cell.at + cell.len;
@@ -248,7 +250,7 @@ static void change_section(uint8_t *volume, size_t len, struct cell cell)
         put_number(volume + at, 3, below(3) ? 4 + below(60) : 0xFFFFFF);
 }
 
-/* Names a file as the volume top file, and now and then ends the volume after it. */
+/* Gives a file the name of the volume top file, and now and then ends the volume after this file. */
 static size_t make_top_file(uint8_t *volume, size_t len, struct cell cell)
 {
     static const uint8_t name[16] = {0x2e, 0x06, 0xa0, 0x1b, 0x79, 0xc7, 0x82, 0x45,

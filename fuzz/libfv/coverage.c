@@ -1,6 +1,6 @@
-/* The library is not instrumented: it is the archive that users link. So a trap instruction is written at the head of
- * each of its basic blocks. The first time that one is reached, its handler puts the old byte back and counts the block
- * for libFuzzer. Each block costs one signal in the life of the process, and nothing from then on. */
+/* The library is not instrumented, because it is the archive that users link. So a trap instruction is written at the
+ * head of each of its basic blocks. When a trap is reached, the handler puts the old byte back and counts the block for
+ * libFuzzer. Each block costs one signal in the life of the process, and nothing after that. */
 #define _GNU_SOURCE
 #include "coverage.h"
 #include <fv.h>
@@ -16,7 +16,7 @@
 #define TRAP 0xCC
 #define PAGE 4096
 
-/* libFuzzer looks at this section after each run: a counter that is not 0 has been reached. */
+/* libFuzzer reads this section after each run: the block of a counter that is not 0 has been reached. */
 __attribute__((section("__libfuzzer_extra_counters"))) static uint8_t counters[MOST_BLOCKS + SEEN_COUNTERS];
 
 static uint8_t *first_byte; /* of the library's code */

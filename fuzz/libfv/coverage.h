@@ -1,10 +1,10 @@
-/* The feedback from the library, whose code has none of its own. */
+/* The feedback from the library, whose code is not instrumented. */
 #ifndef COVERAGE_H
 #define COVERAGE_H
 
 #include <stdint.h>
 
-/* What the harness itself reports to libFuzzer as reached. */
+/* The results that the harness itself reports to libFuzzer as reached. */
 enum {
     SEEN_HEADER,
     SEEN_NORMALISE,
@@ -28,11 +28,11 @@ enum {
  */
 void watch_blocks(const char *path);
 
-/* How many blocks were reached so far, and how many there are. */
+/* Return the number of blocks that were reached so far, and the number of all blocks. */
 uint32_t blocks_hit(void);
 uint32_t blocks_watched(void);
 
-/* Counts what was seen as one more thing that an input can reach. */
+/* Counts this result as a further one that an input can reach. */
 void saw(uint32_t what, uint32_t a, uint32_t b, uint64_t c);
 
 #endif

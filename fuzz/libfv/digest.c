@@ -16,7 +16,7 @@ static uint32_t turned(uint32_t x, unsigned bits)
     return x >> bits | x << (32 - bits);
 }
 
-/* A byte of the padded message, which has `padded` bytes. */
+/* Returns a byte of the padded message, which has `padded` bytes. */
 static uint8_t padded_byte(const uint8_t *bytes, size_t len, size_t padded, size_t at)
 {
     if (at < len) return bytes[at];

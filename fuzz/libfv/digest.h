@@ -1,4 +1,4 @@
-/* SHA-256 of the harness, to compare that of the library with. */
+/* SHA-256 of the harness. It is compared with the library's SHA-256. */
 #ifndef DIGEST_H
 #define DIGEST_H
 

@@ -1,15 +1,15 @@
-/* What holds of fv_volume_tree_digests: the digest of a row is the SHA-256 of its bytes in the image, whose tree has
- * the same rows. */
+/* Checks fv_volume_tree_digests: the digest of a row is the SHA-256 of its bytes in the image, whose tree has the same
+ * rows. */
 #include "digest.h"
 #include "results.h"
 #include "rows.h"
 #include "volume.h"
 
 #define MOST_DIGESTS (MOST_BUFFER / sizeof(fv_sha256))
-/* How many bytes of an image are hashed here. */
+/* The largest image, in bytes, that is hashed here. */
 #define MOST_HASHED 65536u
 
-/* The digests are those of the bytes in the image. A section that holds sections or a volume has none. */
+/* Checks that the digests cover the bytes in the image. A section that holds sections or a volume has no digest. */
 static void check_digests(const struct volume *v, const fv_sha256 *digests)
 {
     uint64_t hashed = 0;

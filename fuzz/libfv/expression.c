@@ -1,5 +1,5 @@
-/* What holds of fv_depex_evaluate: it returns what an evaluator of the harness returns (PI specification 1.8, volume 2,
- * section 10.7, and volume 1, section 5.7; the order of the faults is that of docs/FAULTS.md). */
+/* Checks fv_depex_evaluate: it returns the same result as an evaluator of the harness (PI specification 1.8, volume 2,
+ * section 10.7, and volume 1, section 5.7; docs/FAULTS.md defines the order of the faults). */
 #include "coverage.h"
 #include "harness.h"
 #include "heap.h"
@@ -10,7 +10,7 @@ enum { BEFORE, AFTER, PUSH, AND, OR, NOT, TRUE, FALSE, END, SOR };
 
 struct evaluation {
     const uint8_t *bytes;
-    size_t len, at; /* `at` is the place of the op, that of the fault if there is one */
+    size_t len, at; /* `at` is the place of the op, or of the fault if there is a fault */
     const fv_guid *installed;
     size_t installed_count;
     size_t height;
@@ -23,7 +23,7 @@ static bool has_guid(uint8_t op)
     return op == BEFORE || op == AFTER || op == PUSH;
 }
 
-/* The fault of an op, if it has one, by the first check that does not hold. */
+/* Returns the fault of an op, if it has a fault: the fault of the first check that fails. */
 static fv_result fault_of(const struct evaluation *e, uint8_t op)
 {
     bool is_known = e->is_pei ? op >= PUSH && op <= END : op <= SOR;
@@ -60,10 +60,10 @@ static void apply(struct evaluation *e, uint8_t op)
     }
 }
 
-/* What comes of an expression if the stack of the harness does not suffice. */
+/* The result for an expression that needs more than the harness's stack. */
 #define UNKNOWN UINT32_MAX
 
-/* The result, with the value or the place of the fault, or UNKNOWN. */
+/* Returns the result, with the value or the place of the fault, or UNKNOWN. */
 static fv_result evaluate(struct evaluation *e, uint32_t *value)
 {
     uint8_t before = END;
@@ -112,7 +112,7 @@ static void try_phase(struct evaluation *e, uint32_t phase, const uint8_t *param
     CHECK(value == (again ? UNTOUCHED : expected), "depex has written a value without memory");
 }
 
-/* There is no such phase, and a GUID may not be missing. */
+/* Checks arguments that are not allowed: a phase that does not exist, and missing GUIDs. */
 static void try_bad_arguments(const struct evaluation *e, uint8_t phase)
 {
     uint32_t value = UNTOUCHED;
@@ -130,7 +130,7 @@ void try_expression(const uint8_t *bytes, size_t len, const uint8_t *parameters)
     static struct evaluation evaluation;
     fv_guid installed[3];
     size_t count = parameters[PAIR] & 3;
-    for (size_t i = 0; i < count; i++) { /* GUIDs that the expression may push, or others */
+    for (size_t i = 0; i < count; i++) { /* GUIDs that the expression may push, or other GUIDs */
         size_t place = 1 + 17 * i;
         if (place + 16 <= len)
             memcpy(installed[i].bytes, bytes + place, 16);

@@ -1,4 +1,4 @@
-/* What holds of fv_hobs_read: the blocks follow one another up to the end block, and each is what its bytes say. */
+/* Checks fv_hobs_read: the blocks follow one another up to the end block, and each block agrees with its bytes. */
 #include "coverage.h"
 #include "harness.h"
 #include "results.h"

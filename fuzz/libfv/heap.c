@@ -1,6 +1,6 @@
-/* The three functions with which the library gets and returns memory. They find what it does wrong with a block: each
- * is put at the end of a room, with a page after it that cannot be touched, the bytes around it are looked at when it
- * is returned, and its room is used again as late as can be. Blocks that fit in no room come from malloc. */
+/* The three functions with which the library gets and returns memory. They find wrong uses of a block. Each block is at
+ * the end of a room, and the page after it cannot be touched. The bytes around the block are checked when it is
+ * returned, and its room is used again as late as possible. Blocks that do not fit into a room come from malloc. */
 #define _GNU_SOURCE
 #include "heap.h"
 #include "harness.h"
@@ -10,7 +10,7 @@
 #define ROOMS 512u
 #define ROOM (64u << 10)
 #define STRIDE (ROOM + PAGE)
-#define FENCE 32u /* the bytes before and after a block that are looked at */
+#define FENCE 32u /* the number of checked bytes before and after a block */
 #define FENCED 0xFD
 #define NEW 0xA5
 #define RETURNED 0xDE
@@ -22,7 +22,7 @@ struct tried {
     uint8_t *p;
 };
 
-/* Before a block from malloc. */
+/* The header before a block from malloc. */
 struct head {
     uint64_t magic;
     size_t len;
@@ -31,7 +31,7 @@ struct head {
 static uint8_t nothing;
 static uint8_t *rooms;
 static size_t len_in[ROOMS];                      /* of the block in a room, or 0 */
-static uint32_t queue[ROOMS], queue_from, queued; /* the rooms without a block, that which is longest empty first */
+static uint32_t queue[ROOMS], queue_from, queued; /* the empty rooms, the longest empty room first */
 static long live, refuse_in = -1;
 
 void open_heap(void)
@@ -62,7 +62,7 @@ void check_no_block_is_kept(const char *call)
     CHECK(live == 0, "%s: %ld blocks are kept", call, live);
 }
 
-/* Once true, it stays so for end_refusal: -1 comes after 0. */
+/* Returns whether this allocation is refused. After a refusal `refuse_in` is -1, which end_refusal reads. */
 static bool is_refused(void)
 {
     return refuse_in >= 0 && refuse_in-- == 0;

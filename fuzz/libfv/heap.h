@@ -1,19 +1,19 @@
-/* The memory of the library, in place of clib/src/heap.c. */
+/* The memory functions of the library, which replace clib/src/heap.c. */
 #ifndef HEAP_H
 #define HEAP_H
 
 #include <stdbool.h>
 
-/* Maps the rooms for blocks. Comes before all else. */
+/* Maps the rooms for blocks. Call this function before all others. */
 void open_heap(void);
 
-/* From here on the allocation of this number, from 0, is refused. */
+/* Has the allocation with this number, counted from 0 and from now on, refused. */
 void refuse_allocation(unsigned number);
 
-/* Whether one was refused since. From here on none is. */
+/* Returns whether an allocation was refused since then. After that, no allocation is refused. */
 bool end_refusal(void);
 
-/* A finding, if the library has kept a block. */
+/* Reports a finding if the library has kept a block. */
 void check_no_block_is_kept(const char *call);
 
 #endif

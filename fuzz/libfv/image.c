@@ -1,5 +1,6 @@
-/* What holds of fv_image_scan, fv_image_normalise and fv_image_check: each volume is found, and its row is its header;
- * nothing else is found; each is replaced by its image; and of each is said what fv_volume_is_canonical says of it. */
+/* Checks fv_image_scan, fv_image_normalise and fv_image_check: each volume is found, its row agrees with its header,
+ * and nothing else is found. Each volume is replaced by its image. The result of a volume's check is the result of
+ * fv_volume_is_canonical. */
 #include "coverage.h"
 #include "harness.h"
 #include "results.h"
@@ -9,7 +10,7 @@
 
 static fv_header headers[MOST_VOLUMES];
 
-/* There is no volume at the multiples of 8 from here up to there. */
+/* Checks that no volume begins at a multiple of 8 between these two offsets. */
 static void check_none_between(const uint8_t *bytes, size_t len, uint64_t from, uint64_t to)
 {
     for (uint64_t at = (from + 7) & ~UINT64_C(7); at < to; at += 8) {
@@ -20,7 +21,7 @@ static void check_none_between(const uint8_t *bytes, size_t len, uint64_t from, 
     }
 }
 
-/* A row is what the header at its offset says. */
+/* Checks that a row agrees with the header at its offset. */
 static void check_header(const uint8_t *bytes, size_t len, size_t number, uint64_t end)
 {
     uint64_t at = headers[number].offset;
@@ -32,7 +33,8 @@ static void check_header(const uint8_t *bytes, size_t len, size_t number, uint64
     CHECK(!memcmp(&header, headers + number, sizeof header), "image_scan: number %lu is not its header", number);
 }
 
-/* Writes to `expected` the image with each of its volumes normalised, up to the first that has a fault. Returns that.
+/* Writes to `expected` the image with each of its volumes normalised, up to the first volume that has a fault. Returns
+ * this fault.
  */
 static fv_result expected_image(const uint8_t *bytes, size_t len, size_t count, uint8_t *expected, fv_fault *fault)
 {
@@ -68,7 +70,7 @@ static void try_image_normalise(const uint8_t *bytes, size_t len, size_t count, 
     refuse_copy(&copy, parameters);
 }
 
-/* What fv_volume_is_canonical says of a volume of the image is what its row says. */
+/* Checks that the row of a volume in the image agrees with fv_volume_is_canonical of the volume. */
 static void check_row(const uint8_t *bytes, size_t number, const fv_volume_check *row)
 {
     uint64_t at = headers[number].offset, length = headers[number].length;

@@ -1,4 +1,4 @@
-/* A libFuzzer harness over every call of libfv. README.md says what it checks. */
+/* A libFuzzer harness over every call of libfv. README.md lists the checks. */
 #define _GNU_SOURCE
 #include "coverage.h"
 #include "harness.h"
@@ -17,7 +17,7 @@ static void report(void)
     fprintf(stderr, "%lu runs, %u blocks of %u\n", runs, blocks_hit(), blocks_watched());
 }
 
-/* The list of blocks lies beside the program, and has its name with `.blocks` after it. */
+/* The list of blocks is beside the program. Its name is the program's name with `.blocks` after it. */
 int LLVMFuzzerInitialize(int *argc, char ***argv)
 {
     (void)argc;

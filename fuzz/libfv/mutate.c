@@ -1,9 +1,9 @@
-/* The mutator that libFuzzer calls: by what an input is tried as, it changes a volume in it, an op or a block, and has
- * sums and lengths corrected. */
+/* The mutator that libFuzzer calls. It changes a volume, an op or a block in an input, depending on the kind of the
+ * input, and has checksums and lengths corrected. */
 #include "mutate.h"
 #include "harness.h"
 
-/* The most bytes of the data of an input, and of a volume in a flash image that is changed. */
+/* The largest number of bytes of the data of an input, and of a changed volume in a flash image. */
 #define MOST_DATA 40000u
 #define MOST_IN_IMAGE 30000u
 
@@ -14,7 +14,7 @@ static uint32_t how_often(void)
     return 1 + one_in(3) + 3 * one_in(8);
 }
 
-/* Puts ops into an expression after which the stack has as many values as before: NOT, or a value and AND or OR. */
+/* Puts ops into an expression that leave the number of values on the stack unchanged: NOT, or a value and AND or OR. */
 static size_t add_ops(uint8_t *ops, size_t len, size_t most)
 {
     static const uint8_t added[][2] = {{5, 5}, {6, 3}, {6, 4}, {7, 3}, {7, 4}};
@@ -25,7 +25,7 @@ static size_t add_ops(uint8_t *ops, size_t len, size_t most)
     return new_len;
 }
 
-/* An expression of right form: a value, what add_ops adds, and END. */
+/* Writes a valid expression: a value, the ops that add_ops adds, and END. */
 static size_t make_expression(uint8_t *ops, size_t most)
 {
     size_t len = 1;
@@ -52,7 +52,7 @@ static size_t mutate_expression(uint8_t *ops, size_t len, size_t most)
     return len;
 }
 
-/* Puts a block into a hand-off list, after its first ones. */
+/* Puts a block into a hand-off list, after its first blocks. */
 static size_t add_block(uint8_t *list, size_t len, size_t most)
 {
     static const struct {
@@ -85,7 +85,7 @@ static size_t changed_copy(uint8_t *copy, const uint8_t *volume, size_t len, siz
     return len;
 }
 
-/* Two copies of a volume, of which the second is changed now and then. */
+/* Makes two copies of a volume, and now and then changes the second copy. */
 static size_t pair_of(uint8_t *data, const uint8_t *volume, size_t len, size_t most, uint8_t *parameters)
 {
     if (2 * len > most) return 0;

@@ -1,4 +1,4 @@
-/* What the files of the mutator share: chance, numbers in bytes, and the parts of a volume. */
+/* The parts that the files of the mutator share: random choices, numbers in bytes, and the parts of a volume. */
 #ifndef MUTATE_H
 #define MUTATE_H
 
@@ -40,23 +40,25 @@ uint64_t number_at(const uint8_t *bytes, int width);
 void put_number(uint8_t *bytes, int width, uint64_t number);
 uint8_t erased_byte(const uint8_t *volume);
 
-/* The place of the first cell of a volume, as its header has it. */
+/* Returns the offset of the first cell of a volume, by its header. */
 size_t first_cell(const uint8_t *volume, size_t len);
 
-/* Makes room for `count` bytes at a place. Returns the new number of bytes, or the old one if that is over `most`. */
+/* Makes room for `count` bytes at an offset. Returns the new number of bytes, or the old number if the new number is
+ * above `most`. */
 size_t open_gap(uint8_t *bytes, size_t len, size_t most, size_t at, size_t count);
 
-/* Computes the sums and corrects the lengths of a volume and of those in it. Now and then it leaves one wrong. */
+/* Computes the checksums and corrects the lengths of a volume and of the volumes in it. Now and then it leaves a
+ * checksum or a length wrong. */
 void repair_volume(uint8_t *volume, size_t len, int depth);
 
 /* Changes one thing in a volume. Returns its new number of bytes. */
 size_t change_volume(uint8_t *volume, size_t len, size_t most);
 
-/* Changes one thing in a volume, or in one inside it, that has the same number of bytes afterwards. */
+/* Changes one thing in a volume, or in a volume inside it. The number of bytes stays the same. */
 void change_inside(uint8_t *volume, size_t len);
 
-/* What looks like a volume in some bytes, by chance; its length is 0 if there is none. Those in a volume count only if
- * `is_nested`. */
+/* Returns a random place in some bytes that looks like a volume. Its length is 0 if there is no volume. Volumes in a
+ * volume count only if `is_nested` is set. */
 struct place {
     size_t at, len;
 };

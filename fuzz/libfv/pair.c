@@ -1,4 +1,5 @@
-/* What holds of fv_volume_compare: it says the same both ways, and two volumes are the same if their digests are. */
+/* Checks fv_volume_compare: the result is the same both ways, and two volumes are the same if their digests are
+ * equal. */
 #define _GNU_SOURCE
 #include "coverage.h"
 #include "harness.h"
@@ -11,7 +12,7 @@ struct input {
     size_t len;
 };
 
-/* What a comparison has returned. */
+/* The results of a comparison. */
 struct outcome {
     fv_result result;
     fv_comparison found;
@@ -28,7 +29,7 @@ static struct outcome compare(struct input a, struct input b, void *text, size_t
     return it;
 }
 
-/* Counts the kind of a difference, with the steps to it and without their numbers. */
+/* Counts the kind of a difference and the steps to it, without the numbers of these steps. */
 static void saw_difference(const char *text)
 {
     uint32_t hash = 0;
@@ -46,7 +47,8 @@ static void check_digests(struct input a, struct input b, const fv_comparison *f
     if (found->same) CHECK(first == second, "compare: same, and the digests have %u and %u", first, second);
 }
 
-/* A buffer that is a byte too short for the text and its NUL, none, one of just that, and one of a byte more. */
+/* Tries four buffers: a buffer that is a byte too short for the text and its NUL, no buffer, a buffer of exactly this
+ * size, and a buffer with an extra byte. */
 static void try_buffers(struct input a, struct input b, const fv_comparison *found)
 {
     size_t needed = found->text_length + 1;
@@ -79,7 +81,8 @@ static void check_text(const char *text, const char *other, const fv_comparison 
     }
 }
 
-/* The fault is that of the first input, or that of the second if the first is a volume. */
+/* Checks that the fault is the fault of the first input, or the fault of the second input if the first input is a
+ * volume. */
 static void check_fault(struct input a, struct input b, const struct outcome *it)
 {
     fv_fault own;

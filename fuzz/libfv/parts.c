@@ -1,12 +1,12 @@
-/* What holds of fv_volume_extract: the part of a row has the bytes that the image has for that row, at every level, and
- * the part of the first row is the image. */
+/* Checks fv_volume_extract: the part of a row has the bytes that the image has for that row, at every level, and the
+ * part of the first row is the image. */
 #include "coverage.h"
 #include "heap.h"
 #include "results.h"
 #include "rooms.h"
 #include "volume.h"
 
-/* How many rows are extracted. */
+/* The largest number of rows that are extracted. */
 #define MOST_PARTS 9u
 
 static uint8_t part[MOST_BUFFER];
@@ -20,8 +20,8 @@ static fv_result extract(const struct volume *v, size_t row, void *buffer, size_
     return result;
 }
 
-/* A part is rejected only if a volume in it does not fit in its form; then what holds the part is rejected too, and the
- * whole volume has no image. */
+/* Checks that a part is rejected only if a volume in it does not fit in its canonical form. Then the parent of the part
+ * is rejected too, and the whole volume has no image. */
 static void check_no_part(const struct volume *v, size_t row, fv_result result, const fv_fault *fault)
 {
     size_t length;
@@ -41,7 +41,7 @@ static void check_no_part(const struct volume *v, size_t row, fv_result result, 
           row, above, parent);
 }
 
-/* A buffer of more bytes, and one of a byte less. */
+/* Tries a larger buffer, and a buffer that is a byte too short. */
 static void try_other_rooms(const struct volume *v, size_t row, size_t len)
 {
     size_t length, room = len + 1 + v->parameters[FILE_CHOICE] % 9;
@@ -59,7 +59,7 @@ static void try_other_rooms(const struct volume *v, size_t row, size_t len)
     CHECK(length == len, "extract: %lu bytes, then %lu", len, length);
 }
 
-/* The part is in `part`. Its bytes are those of the image, or those of the input if only their place may differ. */
+/* Checks the bytes in `part`. The image has the same bytes, and so has the input if only their place may differ. */
 static void check_part(const struct volume *v, size_t row)
 {
     const fv_node *node = v->nodes + row;
@@ -105,7 +105,7 @@ static void try_part(const struct volume *v, size_t row)
     if (again) check_untouched(buffer, "extract without memory");
 }
 
-/* There is no row of this number. */
+/* Checks that the tree has no row with this number. */
 static void check_no_row(const struct volume *v, size_t row)
 {
     size_t length;
@@ -114,7 +114,7 @@ static void check_no_row(const struct volume *v, size_t row)
     CHECK(length == UNTOUCHED_64, "extract has changed the length");
 }
 
-/* Each row of a volume that is rejected has the fault of the volume, also one that there cannot be. */
+/* Checks that each row of a rejected volume has the fault of the volume, also a row that cannot exist. */
 static void check_rejected(const struct volume *v)
 {
     size_t length;

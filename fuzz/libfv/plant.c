@@ -22,7 +22,7 @@ enum {
     NO_NOT,          /* a NOT at the third place, after FALSE, does nothing */
     UNMOVED_FILE,    /* the offset of a file in a nested volume counts from that volume */
     UNMOVED_FAULT,   /* the offset of the fault of a second volume counts from that volume */
-    SIXTH_DIGEST,    /* the last byte of the last of exactly six digests is wrong, if there is such a digest */
+    SIXTH_DIGEST,    /* the last byte of the last of exactly six digests is wrong, if this row has a digest */
     SECOND_MARK,     /* unfix leaves the last of several marks */
     DIGEST_ON_FAULT, /* tree_digests writes to the buffer after a fault */
     DIGEST_BEHIND,   /* tree_digests writes to the buffer after its digests */
@@ -39,7 +39,8 @@ static int planted(void)
     return number ? atoi(number) : 0;
 }
 
-/* How many pads an image has. Its cells are read here, since a call of the library would take memory. */
+/* Returns the number of pads in an image. This function reads the cells itself, because a call of the library would
+ * allocate memory. */
 static int pads_of(const uint8_t *image, size_t len)
 {
     int pads = 0;

@@ -1,5 +1,6 @@
-/* Faults that are put into calls of the library, to see that they are found. The number of the one that is there is in
- * the environment, as PLANT=1. In the program that looks for true findings there is none of this. */
+/* Faults that are put into calls of the library, to check that the fuzzer finds them. The environment variable PLANT
+ * has the number of the active fault, as in PLANT=1. The program that looks for true findings does not contain these
+ * faults. */
 #ifndef PLANT_H
 #define PLANT_H
 

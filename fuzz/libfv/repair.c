@@ -1,4 +1,4 @@
-/* Sums and lengths that fit what a volume has come to hold. Without them each change ends at the first sum. */
+/* Corrects the checksums and lengths of a changed volume. Otherwise the first wrong checksum would end each try. */
 #include "mutate.h"
 
 #define DEEPEST 12
@@ -18,7 +18,8 @@ static bool is_all(const uint8_t *bytes, size_t len, uint8_t value)
     return true;
 }
 
-/* The size of the section at the start of the bytes, corrected if it is too small or too large; 0: it is left wrong. */
+/* Returns the size of the section at the start of the bytes. A size that is too small or too large is corrected.
+ * Returns 0 if it is left wrong. */
 static size_t repair_size(uint8_t *section, size_t left, size_t *header)
 {
     uint64_t size = number_at(section, 3);
@@ -52,7 +53,8 @@ static void repair_sections(uint8_t *bytes, size_t len, int depth)
     }
 }
 
-/* One block of 8 bytes for each 8 bytes in the last pair, and nothing in those before it, if the map is wrong. */
+/* Corrects a wrong block map. The last pair gets one block of 8 bytes for each 8 bytes of the volume, and all pairs
+ * before it get zeros. */
 static void repair_block_map(uint8_t *volume, size_t len, size_t header)
 {
     uint64_t total = 0;
@@ -96,7 +98,7 @@ static void repair_ext_header(uint8_t *volume, size_t len, size_t header)
     if (size > len - ext || size < 20) put_number(volume + ext + 16, 4, 20);
 }
 
-/* A state that a file has. */
+/* Gives the header a state that is usual for a file. */
 static void repair_state(uint8_t *head, uint8_t erased)
 {
     uint8_t state = head[STATE] ^ erased;
@@ -104,7 +106,7 @@ static void repair_state(uint8_t *head, uint8_t erased)
     if (!is_usual && !one_in(8)) head[STATE] = ONE_OF(7, 7, 7, 7, 15, 0x17, 1, 3) ^ erased;
 }
 
-/* The size of a file, corrected if it is too small or too large; 0: it is left wrong. */
+/* Returns the size of a file. A size that is too small or too large is corrected. Returns 0 if it is left wrong. */
 static size_t repair_file_size(uint8_t *head, size_t left, size_t *header)
 {
     uint64_t size = number_at(head + SIZE, 3);
@@ -134,7 +136,7 @@ static void repair_file_sums(uint8_t *head, size_t header, size_t size)
     head[FILE_SUM] = head[ATTRIBUTES] & SUMMED ? (uint8_t)-sum_of(head + header, size - header) : 0xAA;
 }
 
-/* One file, and the filler after it. Returns the place after them, or `len` if the rest is left as it is. */
+/* Repairs a file and the filler after it. Returns the offset after them, or `len` if the rest is left as it is. */
 static size_t repair_file(uint8_t *volume, size_t len, size_t at, uint8_t erased, int depth)
 {
     uint8_t *head = volume + at;

@@ -5,7 +5,7 @@
 #include <sys/mman.h>
 
 #define PAGE 4096u
-#define BEFORE 64u /* how many bytes before a buffer are looked at */
+#define BEFORE 64u /* the number of checked bytes before a buffer */
 
 static uint8_t *input, *output;
 static bool is_null;

@@ -1,4 +1,4 @@
-/* What holds of any call that writes rows into a buffer, or as many bytes as its input has. */
+/* The checks of calls that write rows into a buffer, or as many bytes as their input has. */
 #ifndef ROWS_H
 #define ROWS_H
 
@@ -16,20 +16,20 @@ struct rows {
     size_t len;
 };
 
-/* Counts the rows by a call without a buffer. Returns 0, or the fault of an input that is rejected: then it has the
- * same fault with room for rows, which are not written, and no count. */
+/* Counts the rows by a call without a buffer. Returns 0, or the fault of a rejected input. For a rejected input, checks
+ * that the call with room for rows returns the same fault and writes neither rows nor a count. */
 fv_result count_rows(const struct rows *rows, size_t *count, fv_fault *fault);
 
-/* Reads these rows: in vain with room for a row less, and then with room for all, or for one more, which is left as it
- * is. */
+/* Reads the rows. The first call has room for one row too few and must fail. The second has room for all rows, or for
+ * an extra row, which must stay as it is. */
 void read_rows(const struct rows *rows, size_t n, bool has_more, void *into);
 
-/* Calls once more, where an allocation is refused, with room for all rows or for none. `result` is what count_rows has
- * returned, and `fault` may be NULL. */
+/* Makes the call again with an allocation refused, and with room for all rows or for no row. `result` is the result of
+ * count_rows, and `fault` may be NULL. */
 void refuse_rows(const struct rows *rows, size_t n, bool has_room, fv_result result, unsigned refused, fv_fault *fault);
 
-/* A call that writes as many bytes as its input has, and the input. make_copy adds what it has returned, and what it
- * has written, if it has. */
+/* A call that writes as many bytes as its input has, and the input. make_copy adds the result of the call, and the
+ * written bytes if there are any. */
 struct copy {
     const char *name;
     fv_result (*call)(const void *bytes, size_t len, void *buffer, size_t room, fv_fault *fault);
@@ -42,10 +42,11 @@ struct copy {
 
 void make_copy(struct copy *copy, uint8_t *into);
 
-/* Makes the same copy with other buffers: none, one that is too short by a byte, the same, and a longer one. */
+/* Makes the same copy with other buffers: no buffer, a buffer that is a byte too short, a buffer of the same size, and
+ * a longer buffer. */
 void try_rooms(const struct copy *copy, const uint8_t *parameters);
 
-/* The same where an allocation is refused. */
+/* Makes the same copy with an allocation refused. */
 void refuse_copy(const struct copy *copy, const uint8_t *parameters);
 
 #endif

@@ -1,8 +1,8 @@
 #!/usr/bin/env python3
 """seeds.py FOLDER: writes the first inputs of the fuzzer, always the same, each after the parameters that harness.h
 describes. FOLDER/seeds gets volumes, flash images, hand-off lists and expressions as fuzz/fuzz.py makes them.
-FOLDER/few gets an empty volume and an expression of two ops, from which the mutator has to reach all other inputs by
-itself."""
+FOLDER/few gets an empty volume and an expression of two ops. The mutator itself has to reach all other inputs from
+these two."""
 
 from __future__ import annotations
 
@@ -34,7 +34,8 @@ class Seed:
 
 
 def parameters(source: random.Random, mode: int, pair: int = 0) -> bytes:
-    """Returns parameters of an input: in each of its first runs no allocation fails, or an early one."""
+    """Returns parameters of an input. In each of its first runs either no allocation fails or an early allocation
+    fails."""
     refused = [source.choice((255, source.randrange(20))) for _ in range(3)]
     return bytes([mode, pair, *source.randbytes(3), *refused])
 

@@ -1,5 +1,5 @@
-/* What holds of fv_volume_tree: each row lies in that of its parent, and is what its header says; the files of the
- * volume are cells; the rows of a nested volume are those of its bytes; and the image has the same rows at other
+/* Checks fv_volume_tree: each row lies in the row of its parent, and agrees with its header. The files of the volume
+ * are cells. A nested volume has the same rows if its bytes are read on their own. The image has the same rows at other
  * offsets. */
 #include "coverage.h"
 #include "results.h"
@@ -11,7 +11,7 @@ static bool has_no_reserved(const fv_node *node)
     return !node->reserved[0] && !node->reserved[1] && !node->reserved[2];
 }
 
-/* What a row of this kind may hold, and whether its parent may hold it. */
+/* Checks that a row of this kind may hold its content, and that its parent may hold the row. */
 static bool is_held(const fv_node *parent, const fv_node *node)
 {
     switch (node->kind) {
@@ -28,7 +28,7 @@ static bool is_held(const fv_node *parent, const fv_node *node)
     }
 }
 
-/* A row of a volume has the fields of its header. */
+/* Checks that the row of a volume has the fields of its header. */
 static void check_volume_row(const struct volume *v, const fv_node *node, size_t row)
 {
     fv_header header;
@@ -41,7 +41,7 @@ static void check_volume_row(const struct volume *v, const fv_node *node, size_t
           "tree: the volume of number %lu", row);
 }
 
-/* A row of a file or a section has the fields of its header, and no other. */
+/* Checks that the row of a file or a section has the fields of its header, and no other fields. */
 static void check_part_row(const struct volume *v, const fv_node *node, size_t row)
 {
     static const fv_guid no_name;
@@ -52,7 +52,7 @@ static void check_part_row(const struct volume *v, const fv_node *node, size_t r
     CHECK(node->attributes == (is_file ? header[19] & ~1u : 0), "tree: the attributes of number %lu", row);
 }
 
-/* Each row lies in that of its parent, after the row before it there. */
+/* Checks that each row lies in the row of its parent, after the preceding row with the same parent. */
 static void check_nodes(const struct volume *v, const fv_node *nodes, size_t count)
 {
     static uint64_t held[MOST_NODES], ends[MOST_NODES];
@@ -82,7 +82,7 @@ static void check_nodes(const struct volume *v, const fv_node *nodes, size_t cou
     }
 }
 
-/* The files of the volume are cells, in their order. */
+/* Checks that the files of the volume are cells, in the same order. */
 static void check_files_are_cells(const struct volume *v, const fv_node *nodes, size_t count)
 {
     size_t at = 0;
@@ -101,7 +101,7 @@ static void check_files_are_cells(const struct volume *v, const fv_node *nodes, 
     }
 }
 
-/* The rows of the first nested volumes are those that the volume has by itself. */
+/* Checks that the first nested volumes have the same rows as on their own. */
 static void check_volumes_of_tree(const struct volume *v, const fv_node *nodes, size_t count)
 {
     static fv_node own[MOST_NODES];

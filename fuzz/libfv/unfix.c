@@ -1,6 +1,6 @@
-/* What holds of fv_volume_unfix: as many bytes are written as the input has; no file is fixed in them; they differ from
- * the input in the two bytes of each mark, and nowhere else; without marks they stay as they are. The fault is that of
- * the header or of the cells, but never that a file is fixed. */
+/* Checks fv_volume_unfix. The output has as many bytes as the input. No file is fixed in it. The output differs from
+ * the input only in the two bytes of each mark, so a volume without marks stays as it is. The fault is a fault of the
+ * header or of the cells, but never that a file is fixed. */
 #include "coverage.h"
 #include "heap.h"
 #include "results.h"
@@ -8,13 +8,13 @@
 #include "rows.h"
 #include "volume.h"
 
-/* Bytes of the header of a file, and the bit of its attributes that marks it. */
+/* The offsets of two fields in a file header, and the bit of the attributes that marks a file as fixed. */
 enum { HEADER_SUM = 16, ATTRIBUTES = 19, FIXED = 4 };
 
 static uint8_t unfixed[MOST_BUFFER];
 
-/* Cells tile the volume without the marks. Each of its files that was fixed has lost its mark, and no other byte is
- * another one. */
+/* Checks that the cells cover the volume without the marks. Each fixed file has lost its mark, and no other byte has
+ * changed. */
 static void check_marks(const struct volume *v)
 {
     static fv_cell cells[MOST_ROWS];
@@ -39,7 +39,8 @@ static void check_marks(const struct volume *v)
     saw(SEEN_UNFIX, marks > 9 ? 9 : (uint32_t)marks, 0, 0);
 }
 
-/* The other calls read what is written, as they read the input if no file is fixed in it. */
+/* Checks that the other calls read the output, and that their results are the results for the input if no file in the
+ * input is fixed. */
 static void check_others(const struct volume *v)
 {
     fv_header header;
@@ -56,7 +57,7 @@ static void check_others(const struct volume *v)
     }
 }
 
-/* The input is no buffer: it is not written to, which main.c sees. */
+/* Checks that the input is not accepted as a buffer. main.c detects a change of the input. */
 static void try_in_place(const struct volume *v)
 {
     if (!v->len) return;
@@ -65,7 +66,7 @@ static void try_in_place(const struct volume *v)
     check_bad_argument("unfix", result, &fault);
 }
 
-/* Twice is once. */
+/* Checks that a second call changes nothing. */
 static void check_twice(const struct volume *v)
 {
     uint8_t *buffer = new_buffer(v->len, 1);

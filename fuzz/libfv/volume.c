@@ -1,5 +1,5 @@
-/* What holds of the calls that take a volume: they agree about its fault; its image has its meaning, its digest, and is
- * its own image. */
+/* Checks the calls that take a volume. They agree about its fault. The image has the meaning and the digest of the
+ * volume, and is its own image. */
 #include "volume.h"
 #include "coverage.h"
 #include "digest.h"
@@ -128,7 +128,8 @@ static void try_compare_with_itself(const struct volume *v)
     check_untouched(text, "compare");
 }
 
-/* The input is no buffer, and no result may lie in the other: nothing is written. main.c sees a change of the input. */
+/* Checks that the input is not accepted as a buffer, and that results must not overlap: nothing is written. main.c
+ * detects a change of the input. */
 static void try_bad_arguments(const struct volume *v)
 {
     uint32_t canonical = UNTOUCHED_32;
@@ -143,7 +144,7 @@ static void try_bad_arguments(const struct volume *v)
     CHECK(canonical == UNTOUCHED_32, "is_canonical has written after a bad argument");
 }
 
-/* The image is a volume of the same meaning, and its own image. */
+/* Checks that the image is a volume of the same meaning, and its own image. */
 static void try_image_of(const struct volume *v)
 {
     static uint8_t second[MOST_BUFFER];

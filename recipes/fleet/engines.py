@@ -1,10 +1,10 @@
 """Runs the commands of README.md over made images, with each engine that is installed, and kills a worker, a job or a
-machine with SIGKILL in the middle. Each image must then have one line, the one that it was made for: none is lost, and
-none is there twice. An engine that is not installed is skipped. `test` runs this script, with the environment that it
-needs.
+machine with SIGKILL in the middle. Each image must then have exactly one line, with the result that it was made for: no
+line is lost, and no line occurs twice. An engine that is not installed is skipped. `test` runs this script, with the
+environment that it needs.
 
 By default there are 1,000 small images. With --images 10000 they are larger. The Slurm test then kills a machine, and
-waits for Slurm to give its task to the other one, which takes three minutes."""
+waits until Slurm gives its task to the other machine, which takes three minutes."""
 
 from __future__ import annotations
 
@@ -31,11 +31,11 @@ import images
 HERE = Path(__file__).resolve().parent
 FEW = 1000  # images of a run without options
 BATCH = 100  # images of a batch in README's commands
-ROOM, MACHINE = "FLEET_ROOM", "FLEET_MACHINE"  # variables of the processes of a run, and of those of one machine
+ROOM, MACHINE = "FLEET_ROOM", "FLEET_MACHINE"  # variables of the processes of a run, and of one machine
 
 
 class Wrong(Exception):
-    """README is wrong about something."""
+    """A statement of README is wrong."""
 
 
 def made_images(size: int) -> Iterator[tuple[bytes, str]]:
@@ -68,7 +68,7 @@ class Fleet:
             os.link(self.names[number % len(made)], name)
 
     def check(self, answers: str) -> None:
-        """Checks that each image has its one right line, and that nothing else is there."""
+        """Checks that each image has exactly one line, which is right, and that there is no other line."""
         given, wanted = Counter(answers.split("\n")[:-1]), Counter(self.lines)
         lost, more = wanted - given, given - wanted
         if lost or more:
@@ -139,7 +139,7 @@ class Run:
             return subprocess.Popen(words, cwd=self.room, env=variables, stdin=none, stdout=said, stderr=said)
 
     def said(self) -> str:
-        """Returns the end of what programs have written beside the lines."""
+        """Returns the end of the output that programs have written in addition to the lines."""
         return (self.room / "said").read_text(errors="replace")[-2000:]
 
     def ends(self, running: subprocess.Popen[bytes], *wanted: int) -> None:
@@ -149,19 +149,19 @@ class Run:
             raise Wrong(f"status {status}: {self.said()}")
 
     def processes(self, **variables: str) -> list[Process]:
-        """Returns the processes of this run that have such variables."""
+        """Returns the processes of this run that have these variables."""
         wanted = {ROOM: str(self.room), **variables}.items()
         return [it for it in processes() if it.variables.items() >= wanted]
 
     def kill(self, found: list[Process], event: str = "") -> None:
-        """Kills processes, of which some may have ended."""
+        """Kills processes. Some of them may have ended already."""
         self.event += f", {event} killed" if event else ""
         for it in found:
             with contextlib.suppress(ProcessLookupError):
                 os.kill(it.number, signal.SIGKILL)
 
     def wait_for_share(self, share: float) -> None:
-        """Waits until this share of the lines is there."""
+        """Waits until this share of the lines is written."""
 
         def is_there() -> bool:
             files = [self.answers, *self.room.glob("parts/*.tsv")]
@@ -171,7 +171,7 @@ class Run:
         wait_for(is_there, 600, f"no lines: {self.said()}")
 
     def kill_next(self, event: str) -> None:
-        """Kills the next `fv-check` that is started after a quarter of the lines is there."""
+        """Kills the next `fv-check` that is started after a quarter of the lines is written."""
 
         def workers() -> list[Process]:
             return [it for it in self.processes() if "/fv-check\0" in it.words or "\0fv-check\0" in it.words]
@@ -218,8 +218,8 @@ def by_xargs(it: Run) -> None:
 
 
 def by_parallel(it: Run) -> None:
-    """Kills a worker, whose batch GNU parallel gives to another one, and then GNU parallel. The same command then does
-    the jobs that are not in its log."""
+    """Kills a worker, whose batch GNU parallel gives to another worker, and then kills GNU parallel itself. The same
+    command then does the jobs that are not in its log."""
     (command,) = readme("GNU parallel")
     running = it.start(command)
     if it.is_killed:
@@ -284,8 +284,8 @@ def start_slurm(it: Run) -> None:
 
 
 def by_slurm(it: Run) -> None:
-    """Kills a machine in a long run, so that Slurm gives its task to the other one. In a short run only a task is
-    killed. It has failed then, and the same command does the tasks that have no file."""
+    """Kills a machine in a long run, so that Slurm gives its task to the other machine. In a short run, kills only a
+    task. This task has then failed, and the same command does the tasks that have no file."""
     start_slurm(it)
     folder, check, gather = readme("Slurm")
     check = check.replace("0-99", f"0-{len(it.fleet.names) // BATCH - 1}")
@@ -308,7 +308,7 @@ def by_slurm(it: Run) -> None:
 
 
 def by_dask(it: Run) -> None:
-    """Kills a machine, and dask gives its images to the other one."""
+    """Kills a machine. dask gives its images to the other machine."""
     it.variables["PATH"] = f"{Path(shutil.which('dask-worker') or '').parent}:{os.environ['PATH']}"  # its Python too
     (port,) = free_ports(1)
     scheduler, worker, check = (line.replace("SCHEDULER:8786", f"127.0.0.1:{port}") for line in readme("dask"))
@@ -361,8 +361,8 @@ def run_engine(fleet: Fleet, name: str, is_killed: bool) -> bool:
 
 
 def main() -> int:
-    """Runs the engines, all at once if there are few images: such a run waits for its cluster most of the time. Returns
-    the exit status."""
+    """Runs the engines, all at once if there are few images, because a short run waits for its cluster most of the
+    time. Returns the exit status."""
     reader = argparse.ArgumentParser(description=__doc__)
     reader.add_argument("--images", type=int, default=FEW, help=f"how many images; {FEW} if not given")
     reader.add_argument("--no-kill", action="store_true", help="kill nothing, to measure")

@@ -1,9 +1,9 @@
 #!/usr/bin/env bash
 # The task of a Slurm array: `sbatch --array=0-N fv-array.sh LIST FOLDER SIZE` checks the images of LIST, SIZE in each
-# task. A task writes its answers to another file and renames it to FOLDER/ID.tsv, so that file is always complete. A
-# task whose node is lost is put back in the queue (--requeue). A task whose file exists ends at once, so the same
-# command does the remaining tasks. Exit status 0: the file exists. 1: there is no task or no LIST. 3: the arguments are
-# wrong. 4: fv-check has failed.
+# task. A task writes its answers to another file and renames it to FOLDER/ID.tsv, so that file is always complete. If
+# the node of a task is lost, the task is put back in the queue (--requeue). A task whose file exists ends at once, so
+# the same command does the remaining tasks. Exit status 0: the file exists. 1: the task or LIST is missing. 3: the
+# arguments are wrong. 4: fv-check has failed.
 #SBATCH --requeue
 #SBATCH --job-name=fvcheck
 set -euo pipefail

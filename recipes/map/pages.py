@@ -21,17 +21,17 @@ import images
 
 OVMF, AAVMF = "/usr/share/OVMF/OVMF_CODE_4M.fd", "/usr/share/AAVMF/AAVMF_CODE.fd"
 CHROMIUM = next((it for it in ("chromium", "chromium-browser", "google-chrome") if shutil.which(it)), "")
-SECFV = uuid.UUID("763bed0d-de9f-48f5-81f1-3e90e1b1a015")  # a name that guids.txt has
+SECFV = uuid.UUID("763bed0d-de9f-48f5-81f1-3e90e1b1a015")  # a GUID whose name is in guids.txt
 HOSTILE = "</td><script>alert(\"1\")</script><img src=x onerror='y'>&amp;\u202e\ud800"
 SHOWN = "</td><script>alert(\"1\")</script><img src=x onerror='y'>&amp;\\u202e\\ud800"
 
-# What a page is made of: no script, no image, no link to a file.
+# The allowed contents of a page: no script, no image, no link to a file.
 TAGS = set("html head meta title style body header section h1 h2 p i span div table tr th td a details summary".split())
 TAGS |= {"b", "small", "wbr"}
 KEYS = set("lang charset http-equiv content name class style title href id role aria-label colspan open".split())
 
-# Scripts that write a JSON text into the title of a page: how wide the page is, and the narrowest cell and area that
-# shows a name; and the colours of a picture.
+# Scripts that write a JSON text into the title of a page. The first writes the width of the page, and of the narrowest
+# cell and area that shows a name. The second writes the colours of a picture.
 MEASURE = """<script>
 const widths = what =>
     [...document.querySelectorAll(what)].map(it => it.getBoundingClientRect().width).filter(it => it);
@@ -48,8 +48,9 @@ window.onload = () => {
     document.title = JSON.stringify([...found]);
 };
 </script>"""
-# The colours of a driver, an application, a volume image and a rejected volume, and those that are different in a dark
-# and in a light page: of the page, texts, bytes in no volume, and free space. The last ones are edges of changed files.
+# The colours of a driver, an application, a volume image and a rejected volume. Then the colours that differ between a
+# dark and a light page: the colours of the page, of texts, of bytes outside of volumes, and of free space. The last
+# colours are for edges of changed files.
 KINDS = {0x35618F, 0x1C7069, 0x56687C, 0xA63A3A}
 DARK, LIGHT = {0x15181B, 0xE4E7EA, 0x40361F, 0x2A2F34}, {0xFBFBFA, 0x1D2126, 0xF0DFB8, 0xECEEEF}
 DARK_EDGE, LIGHT_EDGE = {0xFFC64D}, {0xFFB000}
@@ -102,7 +103,7 @@ def write(name: str, data: bytes) -> str:
 
 
 class Reader(HTMLParser):
-    """What a page has: its elements, its texts, and the cells of the rows of its tables."""
+    """The contents of a page: its elements, its texts, and the cells of the rows of its tables."""
 
     def __init__(self, page: str) -> None:
         super().__init__()
@@ -141,7 +142,7 @@ class Reader(HTMLParser):
             self.rows[-1][-1] += data.strip("\n")
 
     def row_with(self, *words: str) -> list[str]:
-        """Returns the row one of whose cells is or begins with each of these words."""
+        """Returns the row that has a cell for each of these words. The cell is the word, or begins with it."""
         for row in self.rows:
             if all(any(cell == word or cell.startswith(word + " ") for cell in row) for word in words):
                 return row
@@ -153,7 +154,7 @@ class Reader(HTMLParser):
 
 
 def page_of(*words: str, wanted: int = 0) -> tuple[str, Reader]:
-    """Returns a page, which must hold no script and nothing from outside, and what is on it."""
+    """Returns a page and its contents. The page must not have a script or load anything from outside."""
     ran = subprocess.run(["fv-map", *words], capture_output=True, encoding="utf-8", check=False)
     assert ran.returncode == wanted and "Traceback" not in ran.stderr, (words, ran.returncode, ran.stderr)
     it = Reader(ran.stdout)
@@ -203,7 +204,7 @@ def test_page() -> None:
 
 
 def test_against() -> None:
-    """Finds what came, went and changed, and nothing else; and which image is which."""
+    """Finds the files that came, went and changed, and no others, and the names of the two images."""
     new, old = write("new.fd", made(True)[0]), write("old.fd", made(False)[0])
     written, page = page_of("--against", old, new)
     rows = {(row[0], row[1]): row[2:] for row in page.changes()}
@@ -224,7 +225,8 @@ def test_against() -> None:
 
 
 def test_fixed() -> None:
-    """A volume with fixed files is drawn as any other, and says how many they are. A mark that is gone is a change."""
+    """Checks that a volume with fixed files is drawn as any other, with the number of fixed files, and that a removed
+    mark counts as a change."""
     page, read = page_of("images/fixed.fd")
     assert "volume 0" in read.row_with("canonical 2 of 3 files fixed") and "rejected volume" not in read.texts
     assert "PEI core, fixed" in read.row_with("PeiCore", "4072", "0xfe8"), read.row_with("PeiCore")
@@ -237,14 +239,15 @@ def test_fixed() -> None:
 
 
 def test_none() -> None:
-    """Files that have no volume have a page too, with status 1."""
+    """Checks that files without a volume have a page too, with status 1."""
     for data in (b"", b"no volume\n" * 100):
         _, page = page_of(write("none", data), wanted=1)
         assert any("0 volumes" in it for it in page.texts) and "No firmware volume was found in this image." in page.texts
 
 
 def test_limits() -> None:
-    """Images that hold far more than their size: of many volumes, and of a packed volume with very many sections."""
+    """Draws images that hold far more than their size: an image of many volumes, and a packed volume with very many
+    sections."""
     page, read = page_of(write("many.fd", images.volume([], 72) * 251))
     assert "Not all is shown" in page and "no volume" not in read.texts
     assert ["not shown", "18000", "0x4650", "72 B", ""] in read.rows, "what is not shown"
@@ -255,7 +258,7 @@ def test_limits() -> None:
 
 
 def run_chromium(page: str, *words: str) -> str:
-    """Returns what Chromium writes of a page, without a screen."""
+    """Returns the output of Chromium for a page, without a screen."""
     path = Path("page.html").resolve()
     path.write_text(page, encoding="utf-8")
     command = [CHROMIUM, "--headless", "--no-sandbox", "--disable-gpu", "--hide-scrollbars"]
@@ -278,7 +281,7 @@ def colors_of(page: str, scheme: int) -> set[int]:
 
 
 def test_chromium() -> None:
-    """Chromium has the names, draws the colours, and has room for all in a narrow window."""
+    """Checks that Chromium has the names, draws the colours, and has room for the page in a narrow window."""
     new, old = write("new.fd", made(True)[0]), write("old.fd", made(False)[0])
     for words in ([new], ["--against", old, new]):
         page, _ = page_of(*words)
@@ -296,7 +299,7 @@ def test_chromium() -> None:
 
 
 def test_debian() -> None:
-    """Debian's OVMF has files with known names, and the first volume of AAVMF has fixed files."""
+    """Draws Debian's images: OVMF has files with known names, and the first volume of AAVMF has fixed files."""
     _, read = page_of(OVMF)
     assert all("canonical" in read.row_with(name) for name in ("DXEFV", "PEIFV", "SECFV"))
     assert {"Shell", "DxeCore"} <= set(read.drawn), read.drawn

@@ -1,7 +1,8 @@
 #!/usr/bin/env python3
 """beside.py [--runs N] IMAGE..: unpacks images with UEFIExtract and with fv-unpack, and checks that both find the same
-files (by GUID and size, without pads) and the same sections (by size). The rows of a table show how many they are, the
-least processor time of N runs of each tool, and how much each tool writes. Both tools run in a scratch folder.
+files (by GUID and size, without pads) and the same sections (by size). The rows of a table show the numbers of files
+and sections, the least processor time of N runs of each tool, and how much each tool writes. Both tools run in a
+scratch folder.
 
 Exit status 0: both found the same in each image. 1: otherwise. 3: the arguments are wrong. 4: a tool failed."""
 
@@ -28,14 +29,14 @@ COLUMNS = "Image", "Files", "Sections", "UEFIExtract", "fv-unpack", "UEFIExtract
 
 @dataclass(frozen=True)
 class Outcome:
-    """What a tool has found: its parts, its seconds, and the bytes that it has written."""
+    """The results of a tool: the parts that it has found, its seconds, and the number of bytes that it has written."""
 
     parts: Counter[tuple[str, str, int]]
     seconds: float
     written: int
 
     def count(self, part: str) -> int:
-        """Returns how many parts of a kind there are."""
+        """Returns the number of parts of a kind."""
         return sum(count for (kind, _, _), count in self.parts.items() if kind == part)
 
 
@@ -47,7 +48,8 @@ def theirs(report: str) -> Iterator[tuple[str, str, int]]:
 
 
 def ours(index: Path) -> Iterator[tuple[str, str, int]]:
-    """Yields the same from the index of fv-unpack, which shows a section that holds a volume as a volume."""
+    """Yields the kind, the GUID and the size of each part in the index of fv-unpack, which shows a section that holds a
+    volume as a volume."""
     with open(index, encoding="utf-8", newline="") as file:
         for row in csv.DictReader(file, delimiter="\t", quoting=csv.QUOTE_NONE):
             part = "section" if row["part"] == "volume" and row["in"] != "image" else row["part"]

@@ -113,7 +113,7 @@ def lines(image: memoryview, name: str) -> Iterator[Line]:
 
 def text_of(line: Line) -> str:
     """Returns a line as text: each field with its name. For a node of a tree the offset of its volume comes first, then
-    the indentation, then what the node is and its number, and then its fields."""
+    the indentation, then the kind of the node and its number, and then its fields."""
     if "row" in line and "depth" in line:
         head: str = f"volume {line['volume']} " + "  " * line["depth"]
         rest = {name: it for name, it in line.items() if name not in ("volume", *PLACE)}

@@ -28,13 +28,13 @@ from ._types import (
     VolumeCheck,
 )
 
-# The first buffer for rows has room for a row for each 8 bytes of the input (a section with a body takes as many), but
-# for at most 65,536 rows. Memory that a call does not write to costs little.
+# The first buffer for rows has room for a row for each 8 bytes of the input (a section with a body takes at least 8
+# bytes), but for at most 65,536 rows. Memory that a call does not write to costs little.
 BYTES_OF_ROW, MOST_ROOM = 8, 65_536
 # A view of fewer bytes is copied, because this takes less time than to get its address.
 LEAST_HELD = 4096
-# A call writes its results to bytes objects that no one else has seen. To make them takes less time than to make objects
-# of ctypes. These are the results that are not rows: a number of 64 bits, one of 32 bits, and a comparison.
+# A call writes its results to new bytes objects, which take less time to make than objects of ctypes. These are the
+# results that are not rows: a number of 64 bits, a number of 32 bits, and a comparison.
 _SIZE, _U32, _COMPARISON = struct.Struct("=Q"), struct.Struct("=I"), struct.Struct(native.COMPARISON_FORMAT)
 _TRUE = _U32.pack(1)
 _TRUTHS = {
@@ -129,8 +129,8 @@ def volume_normalise(volume: Buffer, *, copy: bool = True) -> bytes:
 
 def volume_unfix(volume: Buffer, *, copy: bool = True) -> bytes:
     """Returns a copy of a volume in which no file is marked as fixed. The data must be exactly that volume, and the
-    copy has its length. The functions that read the files of a volume reject one with fixed files (FIXED), but read
-    such a copy. The files of nested volumes keep their marks. The copy must not be flashed."""
+    copy has its length. The functions that read the files of a volume reject a volume with fixed files (FIXED), but
+    accept the copy. The files of nested volumes keep their marks. The copy must not be flashed."""
     return _over(volume, copy, _image, lib.fv_volume_unfix)
 
 
@@ -191,7 +191,7 @@ def _part(address: Any, size: int, number: int) -> bytes:
 def volume_extract(volume: Buffer, row: SupportsIndex, *, copy: bool = True) -> bytes:
     """Returns the bytes of a part as the canonical image has them. `row` is the number of the part's row in
     volume_tree(volume). A volume's row gives its canonical image, a file's row its data, and a section's row its body.
-    Raises IndexError if there is no such row."""
+    Raises IndexError if there is no row with this number."""
     number = operator.index(row)
     if not 0 <= number < 2**64:  # ctypes would cut it to 64 bits
         raise IndexError(result_text(native.NOT_FOUND))

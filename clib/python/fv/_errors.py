@@ -12,7 +12,7 @@ from ._library import result_text
 
 class FaultCode(enum.IntEnum):
     """The codes of the faults. docs/FAULTS.md explains each fault. The codes from 0x200 on are faults of dependency
-    expressions, and those from 0x300 on are faults of hand-off lists."""
+    expressions, and the codes from 0x300 on are faults of hand-off lists."""
 
     TRUNCATED = native.FAULT_TRUNCATED
     SIGNATURE = native.FAULT_SIGNATURE

@@ -1,5 +1,5 @@
-"""Loads libfv by ctypes, and passes bytes to it and from it. For the other modules: users of the package need nothing
-in here."""
+"""Loads libfv by ctypes, and passes bytes to it and from it. The other modules use this module. Users of the package do
+not need it."""
 
 from __future__ import annotations
 
@@ -45,8 +45,9 @@ class _Library:
 
 
 def _load() -> c.CDLL:
-    """Loads the library: the one that LIBFV names, otherwise the one in this package (a wheel has one), otherwise the
-    one that the system's loader finds. Raises ImportError if there is none, or if it has another major number."""
+    """Loads the library: the file that LIBFV names, otherwise the library in this package (a wheel contains it),
+    otherwise the library that the system's loader finds. Raises ImportError if there is no library, or if it has
+    another major number."""
     own = Path(__file__).with_name(NAME)
     path = os.environ.get("LIBFV") or (str(own) if own.exists() else NAME)
     try:
@@ -63,8 +64,8 @@ def _load() -> c.CDLL:
 
 lib: Any = _Library()
 
-# These functions of Python are taken by [], which does not share their types with other users of ctypes.
-# Makes a bytes object with undefined contents, so that an image is neither zeroed first nor copied afterwards.
+# These functions of Python are fetched by [], so that their types are not shared with other users of ctypes. Makes a
+# bytes object with undefined contents, so that an image is neither zeroed first nor copied afterwards.
 _bytes_of = c.pythonapi["PyBytes_FromStringAndSize"]
 _bytes_of.restype, _bytes_of.argtypes = c.py_object, [c.c_void_p, c.c_ssize_t]
 # Up to about this size, bytes(size) takes less time than _bytes_of, although it writes zeros.
@@ -90,10 +91,11 @@ _PLAIN = 0
 
 
 def unchanging(data: Buffer, least: int = 0) -> Any:
-    """Returns what a call reads in place of some data that may change while it runs. A bytes object is read in place,
-    and so is a view of one that has at least this many bytes, because nothing can write to it. Any other buffer is
-    copied. Raises TypeError if the data are not a buffer."""
-    # A class that is derived from bytes may have another length than its bytes, so it is not read as bytes.
+    """Returns the bytes that a call reads for some data, so that they cannot change while the call runs. A bytes object
+    is read in place, and so is a view of a bytes object that has at least this many bytes, because nothing can write to
+    it. Any other buffer is copied. Raises TypeError if the data are not a buffer."""
+    # An object of a class that is derived from bytes may report another length than its bytes have, so it is not read
+    # as bytes.
     if type(data) is bytes:
         return data
     view = data if type(data) is memoryview else memoryview(data)
@@ -102,7 +104,7 @@ def unchanging(data: Buffer, least: int = 0) -> Any:
 
 
 class Held:
-    """Some data while a call reads them: `with Held(data, copy) as (address, size)`. If `copy` is true, what is read are
+    """Some data while a call reads them: `with Held(data, copy) as (address, size)`. If `copy` is true, the call reads
     the data that `unchanging` returns, otherwise always the data in place. Raises TypeError if the data are not a
     buffer, and BufferError if they have gaps but may not be copied."""
 

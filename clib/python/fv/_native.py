@@ -57,24 +57,24 @@ FAULT_HOB_FIRST = 0x303
 FAULT_HOB_SHAPE = 0x304
 FAULT_HOB_NO_END = 0x305
 
-# What a cell of a volume's body is: a valid file, even if it is superseded; a pad file; a deleted file; a file whose
-# data or header were never finished; erased bytes up to the end of the volume. The state of the file decides between
-# deleted and unfinished.
+# The kinds of cells of a volume's body: a valid file, even if it is superseded; a pad file; a deleted file; a file
+# whose data or header were never finished; erased bytes up to the end of the volume. The state of the file decides
+# between deleted and unfinished.
 CELL_FILE = 1
 CELL_PAD = 2
 CELL_DELETED = 3
 CELL_UNFINISHED = 4
 CELL_FREE = 5
 
-# What a row of a tree is.
+# The kinds of rows of a tree.
 NODE_VOLUME = 1
 NODE_FILE = 2
 NODE_SECTION = 3
 
-# What the part of a row holds: a volume holds files; a file holds bytes or sections; a section holds bytes, sections
-# (it is a group) or a volume. The type of a file decides: it holds sections if the type is 0x02 or 0x04 to 0x0F, and
-# bytes otherwise, also for a security core (0x03). A file of these types, or a group, holds sections even if it has
-# no bytes: then no row is below its row.
+# The kinds of contents of a row's part: a volume holds files; a file holds bytes or sections; a section holds bytes,
+# sections (it is a group) or a volume. The type of a file decides: it holds sections if the type is 0x02 or 0x04 to
+# 0x0F, and bytes otherwise, also for a security core (0x03). A file of these types, or a group, holds sections even
+# if it has no bytes: then no row is below its row.
 CONTENT_FILES = 0
 CONTENT_BYTES = 1
 CONTENT_SECTIONS = 2

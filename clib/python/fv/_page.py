@@ -1,5 +1,5 @@
-"""Writes the HTML page of fv-map. It has no script, and nothing from outside. The texts of an image are not trusted:
-all are escaped, and characters that cannot be seen are shown as numbers."""
+"""Writes the HTML page of fv-map. The page contains no script and loads nothing from outside. The texts of an image are
+not trusted: all of them are escaped, and characters that cannot be seen are shown as numbers."""
 
 from __future__ import annotations
 
@@ -154,7 +154,7 @@ class Page:
         return self._anchors.setdefault(id(what), f"{letter}{len(self._anchors)}")
 
     def head(self, drawing: Drawing, name: str, is_cut: bool) -> str:
-        """Returns the head of the page, which says what image it is, and has the legend of the colours on the page."""
+        """Returns the head of the page, which names the image and has the legend of the colours on the page."""
         size, count = len(drawing.data), len(drawing.sheets)
         total = sum(sheet.volume.length for sheet in drawing.sheets)
         cut = f"\n<p>Not all is shown: there are more than {MOST_VOLUMES} volumes.</p>" if is_cut else ""
@@ -353,7 +353,7 @@ class Page:
         )
 
     def against(self, old: Drawing, new: Drawing, found: list[Change]) -> None:
-        """Adds which image is which, and what came, went and changed."""
+        """Adds the names of the two images, and the files that came, went and changed."""
         self.add(f"<section><h2>Against {text(name_of(old.path, new.path))}</h2>")
         self.add('<div class="wide"><table><tr><th><th>Image<th class="n">Size<th>SHA-256</tr>')
         for when, drawing, other in (("before", old, new), ("now", new, old)):

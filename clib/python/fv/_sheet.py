@@ -1,5 +1,5 @@
-"""Gathers what fv-map draws of an image: the parts and the files of each volume, the contents of the files, and what
-came, went and changed since another image."""
+"""Gathers the data that fv-map draws for an image: the parts and the files of each volume, the contents of the files,
+and the files that came, went and changed since another image."""
 
 from __future__ import annotations
 
@@ -17,7 +17,7 @@ from .shown import printable
 
 @dataclass(frozen=True)
 class Stretch:
-    """A part of a volume: what it is, its place in the volume, and Type if it is a file."""
+    """A part of a volume: its kind, its place in the volume, and Type if it is a file."""
 
     what: str
     at: int
@@ -37,8 +37,8 @@ class Held:
 
 @dataclass
 class Row:
-    """A file of a volume: the offset of its header in the volume, the digest of its data, its contents, and why
-    sections of it are not opened. The mark says what became of it since another image."""
+    """A file of a volume: the offset of its header in the volume, the digest of its data, its contents, and the reasons
+    why sections of it are not opened. The mark shows what happened to the file since another image."""
 
     file: File
     at: int
@@ -55,8 +55,8 @@ class Row:
 
 @dataclass
 class Sheet:
-    """A volume: its number in what contains it, whether it is its own canonical image, its parts and its files.
-    `before` is the volume of another image with which it is compared."""
+    """A volume: its number in the image or section around it, whether it is its own canonical image, its parts and its
+    files. `before` is the volume of another image with which it is compared."""
 
     volume: Volume
     number: int
@@ -71,7 +71,7 @@ class Sheet:
 
     @property
     def fixed(self) -> str:
-        """Returns how many of the files are fixed, in words, or an empty text if there are none."""
+        """Returns the number of fixed files in words, or an empty text if no file is fixed."""
         count = len(self.volume.fixed)
         return f"{count} of {len(self.volume.files)} files fixed" if count else ""
 
@@ -94,7 +94,7 @@ class Drawing:
 
 
 def drawing_of(path: str, image: Content, most_volumes: int) -> Drawing:
-    """Returns what is drawn of an image that was read with its sections opened."""
+    """Returns the sheet of an image that was read with its sections opened."""
     maker = _Maker(most_volumes)
     sheets = maker.sheets(image.volumes)
     rest = image.volumes[len(sheets) :]
@@ -176,7 +176,7 @@ class SheetNames:
         return printable(file.name or self._names.of(file.guid) or str(file.guid))
 
     def volume(self, sheet: Sheet) -> str:
-        """Returns the name of a volume, or its number in what contains it."""
+        """Returns the name of a volume, or its number in the image or section around it."""
         guid = sheet.volume.guid
         return printable(self._names.of(guid) or (str(guid) if guid else f"volume {sheet.number}"))
 
@@ -226,7 +226,8 @@ class _Known:
 
 
 def changes(names: SheetNames, old: list[Sheet], new: list[Sheet]) -> list[Change]:
-    """Returns what came, went and changed, the largest change first. Marks the files and volumes of the new image."""
+    """Returns the files that came, went and changed, the largest change first. Marks the files and volumes of the new
+    image."""
     before, now = _Known().add(names, old), _Known().add(names, new)
     found = [Change(" › ".join(key[:-1]), row, None) for key, row in before.rows.items() if key not in now.rows]
     for key, sheet in now.sheets.items():

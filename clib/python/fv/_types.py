@@ -17,8 +17,8 @@ Item = TypeVar("Item")
 
 
 class CellKind(enum.IntEnum):
-    """What a cell of a volume's body is: a valid file (even if it is superseded), a pad, a deleted file, a file whose
-    data or header were never finished, or erased bytes up to the end of the volume."""
+    """The kinds of cells of a volume's body: a valid file (even if it is superseded), a pad, a deleted file, a file
+    whose data or header were never finished, or erased bytes up to the end of the volume."""
 
     FILE = native.CELL_FILE
     PAD = native.CELL_PAD
@@ -28,7 +28,7 @@ class CellKind(enum.IntEnum):
 
 
 class NodeKind(enum.IntEnum):
-    """What a row of a tree is: a volume, a file, or a section."""
+    """The kinds of rows of a tree: a volume, a file, or a section."""
 
     VOLUME = native.NODE_VOLUME
     FILE = native.NODE_FILE
@@ -36,8 +36,8 @@ class NodeKind(enum.IntEnum):
 
 
 class Content(enum.IntEnum):
-    """What a row of a tree holds. A volume holds files. A file holds bytes or sections. A section holds bytes, sections
-    (the section is a group), or a volume."""
+    """The kinds of contents of a row of a tree. A volume holds files. A file holds bytes or sections. A section holds
+    bytes, sections (the section is a group), or a volume."""
 
     FILES = native.CONTENT_FILES
     BYTES = native.CONTENT_BYTES
@@ -85,7 +85,7 @@ class VolumeCheck:
 
 @dataclass(frozen=True, slots=True)
 class Cell:
-    """A cell of a volume's body: its offset and length in bytes, and what it is. A file or a pad also has the length of
+    """A cell of a volume's body: its offset and length in bytes, and its kind. A file or a pad also has the length of
     its header, its Type, its Attributes and its Name, as stored. These are None for any other cell."""
 
     offset: int
@@ -103,10 +103,10 @@ class Node:
 
     `offset` and `length` give the place in the data of the volume, the file's data or the section's body. `parent`
     is the number of the row that holds this one (None for the first), `index` its place among the parts that its
-    parent holds, and `depth` the number of rows around it. `kind` is what the row is, and `content` what it holds.
-    `efi_type` is Type of a file or a section. `attributes` is Attributes of a volume, or of a file without bit 0x01
-    (a file with that bit has a `header_length` of 32). `header_length` is the length of the header. `guid` is Name
-    of a file, or FvName of a volume that has a name. `file_system` is 2 or 3, for a volume."""
+    parent holds, and `depth` the number of rows around it. `kind` is the kind of the row, and `content` the kind of its
+    contents. `efi_type` is Type of a file or a section. `attributes` is Attributes of a volume, or of a file without
+    bit 0x01 (a file with that bit has a `header_length` of 32). `header_length` is the length of the header. `guid` is
+    Name of a file, or FvName of a volume that has a name. `file_system` is 2 or 3, for a volume."""
 
     offset: int
     length: int
@@ -146,11 +146,12 @@ class HobList:
 CELL_KINDS = {it.value: it for it in CellKind}
 NODE_KINDS = {it.value: it for it in NodeKind}
 CONTENTS = {it.value: it for it in Content}
-# What a row has in place of a GUID or a digest that a part does not have.
+# The value in a row if a part does not have a GUID or a digest.
 _NO_GUID, _NO_DIGEST = bytes(16), bytes(32)
 
 
-# The fields of a GUID as stored, and in the order of its number. By its number, a UUID is made sooner than by `bytes_le`.
+# The fields of a GUID as stored, and in the order of its number. A UUID is made faster from its number than from
+# `bytes_le`.
 _STORED, _ORDERED = struct.Struct("<IHH8s"), struct.Struct(">IHH8s")
 
 
@@ -163,10 +164,10 @@ def _guid_or_none(name: bytes) -> uuid.UUID | None:
 
 
 class Rows(Sequence[Item]):
-    """The rows that a call has written, in order. A row is made when it is accessed, so there is no list of all rows.
-    A slice of rows is rows too. Rows are equal to rows, lists and tuples with the same items."""
+    """The rows that a call has written, in order. A row is made when it is accessed, so there is no list of all rows. A
+    slice of rows is an object of this class too. Rows are equal to rows, lists and tuples with the same items."""
 
-    # How the structure of a row is unpacked, and what makes an item from its fields.
+    # The format by which the structure of a row is unpacked, and the function that makes an item from its fields.
     layout: ClassVar[struct.Struct]
     make: ClassVar[Callable[..., Any]]
 

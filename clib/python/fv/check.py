@@ -37,7 +37,7 @@ from ._types import VolumeCheck
 from .limits import Full
 
 NAME = "fv-check"
-MOST_VOLUMES = 1000  # of an image that have verdicts in its line
+MOST_VOLUMES = 1000  # volumes of an image that have verdicts in its line
 CHUNK = 200  # images that the threads get at a time; their lines are then written
 CANONICAL, NOT_CANONICAL, REJECTED = range(3)  # statuses of a line
 
@@ -61,7 +61,7 @@ def answer(name: bytes) -> bytes:
 
 
 def _checked(name: bytes) -> bytes:
-    """Does the same, but raises MemoryError if memory runs out."""
+    """Returns the line of an image, but raises MemoryError if memory runs out."""
     try:
         data = cli.read_file(name, LENGTH_MAX)
     except OSError:

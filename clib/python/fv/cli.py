@@ -1,4 +1,4 @@
-"""Has what the commands of the package share: their arguments, their inputs, and their exit statuses.
+"""Contains the parts that the commands of the package share: their arguments, their inputs, and their exit statuses.
 
     @cli.command("fv-same")
     def main(words: list[str]) -> int:
@@ -93,8 +93,8 @@ def command(name: str) -> Callable[[Callable[[list[str]], int]], Main]:
 
 
 def ended(name: str, run: Callable[[], int]) -> int:
-    """Runs a command, and returns its status. Nothing is left to be written then. An input that cannot be read, or
-    exceeds a limit, gives status 2."""
+    """Runs a command, and returns its status. All output is written by then. An input that cannot be read, or exceeds a
+    limit, gives status 2."""
     try:
         prepare_output()
         status = _status(run)
@@ -142,13 +142,13 @@ def prepare_output() -> None:
 
 
 def drop_output() -> None:
-    """Drops the rest of the output, so that it does not fail once more at the end of the process."""
+    """Drops the rest of the output, so that writing it does not fail again at the end of the process."""
     with contextlib.suppress(OSError):
         os.dup2(os.open(os.devnull, os.O_WRONLY), 1)
 
 
 def complain(name: str, what: str) -> None:
-    """Writes a line about a run to standard error, if that is open."""
+    """Writes a line about a run to standard error, if standard error is open."""
     if sys.stderr is not None:
         with contextlib.suppress(OSError):
             print(f"{name}: {printable(what)}", file=sys.stderr)

@@ -50,8 +50,8 @@ class Volume(Part):
     """A volume: FvName (None if it has no name), the number of its file system, and its files. A rejected volume has
     its fault, and no files.
 
-    libfv rejects a volume that has files marked as fixed. Such a volume is read without their marks, and `is_marked`.
-    All bytes and attributes here are as stored, so they have the marks."""
+    libfv rejects a volume that has files marked as fixed. This module reads the volume without their marks, and sets
+    `is_marked`. All bytes and attributes here are as stored, so they have the marks."""
 
     guid: uuid.UUID | None = None
     system: int = 0
@@ -120,7 +120,7 @@ class Section(Part):
 
     @property
     def is_packed(self) -> bool:
-        """Returns whether it is a section that may be opened."""
+        """Returns whether the section may be opened."""
         return self.kind in PACKED
 
     @property
@@ -216,8 +216,8 @@ def _files_under(sections: Iterable[Section]) -> Iterator[tuple[Volume, File]]:
 
 
 def read(data: bytes, limits: Limits = Limits()) -> Content:
-    """Returns the contents of an image, with all sections opened that can be. Raises Full if the image exceeds a limit.
-    If only the contents of a section exceed it, that section is not opened."""
+    """Returns the contents of an image, with all sections opened that can be opened. Raises Full if the image exceeds a
+    limit. A section is not opened if only its contents exceed the limit."""
     reader = Reader(data, limits)
     image = reader.image()
     reader.open_volumes(image.volumes, 0)
@@ -250,7 +250,8 @@ class Reader:
                 self.open(section, depth)
 
     def open(self, section: Section, depth: int) -> None:
-        """Opens a section and the sections inside it, or notes why not, unless that was done before."""
+        """Opens a section and the sections inside it, or notes why the section is not opened, unless that was done
+        before."""
         if section.opened or section.closed:
             return
         try:
@@ -348,7 +349,7 @@ class Reader:
 
 def _tree_of(volume: memoryview) -> tuple[Sequence[Node], bool]:
     """Returns the tree of a volume, and whether the volume was read without the marks of its fixed files. Files of
-    nested volumes keep their marks, so a volume with such a file is rejected."""
+    nested volumes keep their marks, so a volume with a fixed file in a nested volume is rejected."""
     try:
         return volume_tree(volume), False
     except FaultError as error:

@@ -1,5 +1,5 @@
-"""Limits how much of an image is read and opened. An image is not trusted: 64 KiB of LZMA can hold 256 MiB, and these
-can hold more of the same."""
+"""Limits how much of an image is read and opened. An image is not trusted: 64 KiB of LZMA can hold 256 MiB, and the
+contents can hold further LZMA data."""
 
 from __future__ import annotations
 
@@ -54,7 +54,8 @@ class Budget:
         self._left -= count
 
     def waste(self, count: int) -> None:
-        """Takes bytes that were unpacked or read, but are not kept. The next section is not opened if none is left."""
+        """Takes bytes that were unpacked or read, but are not kept. The next section is not opened if no bytes are
+        left."""
         self._wasted -= count
 
     def work(self, count: int) -> None:
@@ -72,8 +73,8 @@ class Budget:
 
     @contextlib.contextmanager
     def attempt(self) -> Iterator[None]:
-        """Gives the parts back that are taken in the block if a limit or the memory ends it. They still count as
-        tried."""
+        """Gives back the parts that the block has taken, if a limit or a lack of memory ends the block. These parts
+        still count as tried."""
         parts = self._parts
         try:
             yield

@@ -34,7 +34,7 @@ def draw(image: Drawing, against: Drawing | None, names: Names) -> str:
 
 
 def drawing(path: str) -> Drawing:
-    """Returns what is drawn of the image in a file."""
+    """Returns the sheet of the image in a file."""
     try:
         image = images.read(cli.read_for(NAME, path))
     except Full as what:

@@ -45,7 +45,7 @@ EDK2 = Path(__file__).with_name("guids.txt")
 
 
 def type_name(kind: int, types: dict[int, str]) -> str:
-    """Returns the name of a type in one of the tables above, or a text with its number."""
+    """Returns the name of a type in a table like those above, or a text with its number."""
     return types.get(kind, f"type {kind:02x}")
 
 

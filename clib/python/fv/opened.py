@@ -24,11 +24,11 @@ GUID_HEADER = 20  # bytes of the body before the data: the GUID, DataOffset, att
 COMPRESSION_HEADER = 5  # bytes of the body before the data: the length of the contents, and a type
 BROTLI_HEADER = 16  # bytes before the stream: the length of the contents, and of the memory that EDK II takes
 BROTLI_STEP = 16  # bytes of a stream that are unpacked at a time: Python's brotli does not limit its output
-BROTLI_PIECE = 1 << 24  # bytes that so few bytes may hold
+BROTLI_PIECE = 1 << 24  # bytes that this few bytes may hold
 
 
 class Closed(Exception):
-    """A section is not opened. The text says why."""
+    """A section is not opened. The text gives the reason."""
 
 
 @dataclass(frozen=True)

@@ -45,8 +45,8 @@ STATUS = {SAME: cli.DONE, DIFFERENT: cli.OTHER, REJECTED: cli.REJECTED}
 @dataclass
 class Change:
     """A file that only one of two volumes contains, or that has changed: the GUIDs of the files around it and its own
-    GUID, its readable name, the known name of its GUID, the types of its sections that differ, and what was opened in
-    it."""
+    GUID, its readable name, the known name of its GUID, the types of its sections that differ, and the sections that
+    were opened in it."""
 
     change: str
     guids: list[str]
@@ -223,8 +223,8 @@ def _verdict(report: Report) -> str:
 
 
 def _difference(old: Volume, new: Volume) -> str | None:
-    """Returns where two volumes without the marks of fixed files first differ, as `fvtool compare` does. If they do not
-    differ but the marks of a file do, names the attributes of the first such file. Returns None if nothing differs."""
+    """Returns where two volumes without the marks of fixed files first differ, as `fvtool compare` does. If only the
+    marks of files differ, names the attributes of the first of these files. Returns None if nothing differs."""
     if old.body == new.body:
         return None
     marks = (one.is_fixed != two.is_fixed for one, two in zip(old.files, new.files))
@@ -262,7 +262,8 @@ def _other_sections(old: list[Section], new: list[Section]) -> list[str]:
 
 
 def _other_bytes(first: Content, second: Content) -> int | None:
-    """Returns the offset of the first byte outside of volumes that differs. Both have volumes at the same places."""
+    """Returns the offset of the first byte outside of volumes that differs. The two images have volumes at the same
+    places."""
     starts = [0, *(it.offset + it.length for it in first.volumes)]
     ends = [*(it.offset for it in first.volumes), max(len(first.data), len(second.data))]
     for start, end in zip(starts, ends):

@@ -1,4 +1,4 @@
-"""Shows the texts of an image so that no character in them controls the terminal or begins another line."""
+"""Shows the texts of an image in a form in which no character controls the terminal or begins another line."""
 
 from __future__ import annotations
 

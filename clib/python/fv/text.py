@@ -47,7 +47,7 @@ def lines(image: Content, is_open: bool) -> Iterator[str]:
 
 
 def _sum(*data: bytes) -> str:
-    """Returns the digest of some bytes, one after another."""
+    """Returns the digest of some pieces of bytes, one after another."""
     digest = hashlib.sha256()
     for part in data:
         digest.update(part)
@@ -80,17 +80,17 @@ def _list(volume: Volume) -> Iterator[str]:
 
 
 def _fixed(file: File | None) -> str:
-    """Returns how the line of a file ends that is fixed."""
+    """Returns the end of the line of a fixed file."""
     return " fixed" if file and file.is_fixed else ""
 
 
 def _line(node: Node, files: int, data: bytes) -> str:
-    """Returns the line of a row of a tree, without its digest. `files` is how many files a volume has."""
+    """Returns the line of a row of a tree, without its digest. `files` is the number of files in a volume."""
     if node.kind == NodeKind.VOLUME:
         name = f" name {node.guid}" if node.guid else ""
         return f"volume ffs{node.file_system} length {node.length} files {files}{name}"
     if node.kind == NodeKind.FILE:
-        # The list has bit 0x01 too, which says that the file has a large header.
+        # The list also shows bit 0x01, which means that the file has a large header.
         attributes = (node.attributes or 0) | (node.header_length == 32)
         return f"file {node.guid} type {node.efi_type:02x} attributes {attributes:02x} data {node.length}"
     body = data[node.offset : node.offset + node.length]

@@ -46,16 +46,16 @@ from .names import DEPEX, PE32, TE, Names
 from .shown import file_name, printable
 
 NAME = "fv-unpack"
-IMAGE = "image"  # where the offsets of parts count from that are not in an opened section
+IMAGE = "image"  # the start of the offsets of parts that are not in an opened section
 INDEX = "index.tsv"
 ROOM = ".fv-unpack"  # the folder that a run writes to until everything is written
 
 
 @dataclass(frozen=True)
 class Entry:
-    """A part of an image: its path (the path of a folder ends with a slash), where its offset counts from, what it is,
-    its type, its GUID and its name, and a note. `line` is a line of text about it, and `status` the least status of a
-    run that unpacks it."""
+    """A part of an image: its path (the path of a folder ends with a slash), the start of its offset, its kind, its
+    type, its GUID and its name, and a note. `line` is a line of text about it, and `status` the least status of a run
+    that unpacks it."""
 
     path: str
     part: Part
@@ -81,7 +81,7 @@ class Entry:
 
 @dataclass(frozen=True)
 class Place:
-    """Where parts are: what their offsets count from, and the name of the file around them."""
+    """The place of parts: the start of their offsets, and the name of the file around them."""
 
     within: str = IMAGE
     holder: str = ""
@@ -221,8 +221,8 @@ def write(found: Iterable[Entry], folder: Path) -> None:
 
 @contextlib.contextmanager
 def filled_at_end(folder: Path) -> Iterator[Path]:
-    """Gives the block a path for a new folder. When the block ends, FOLDER has what was written there. If the block
-    raises an exception, nothing is left.
+    """Gives the block a path for a new folder. When the block ends, FOLDER has the contents of the new folder. If the
+    block raises an exception, nothing is left.
 
     A FOLDER that exists stays the same folder with its owner and its mode, because it may be a mount point or the
     current folder of a shell. So the new folder is made inside it, and its parts are moved, the index last. If there is
@@ -261,7 +261,7 @@ def _rename(parts: Path, folder: Path) -> None:
 
 
 def _move_parts(parts: Path, folder: Path) -> None:
-    """Moves the contents of a folder to another folder, which has nothing but ROOM. If that fails, moves them back."""
+    """Moves the contents of a folder to another folder, which contains only ROOM. If that fails, moves them back."""
     if [it.name for it in folder.iterdir()] != [ROOM]:
         raise FileExistsError(f"something else was written to {folder}")
     moved: list[Path] = []

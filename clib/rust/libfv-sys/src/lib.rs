@@ -26,10 +26,10 @@ pub const FV_DIFFERENCE_SIZE: u32 = 553;
 /// The parent of the first row of a tree.
 pub const FV_NO_PARENT: u64 = u64::MAX;
 
-// The result of a call. The bits from 8 on say what it is about: 0 a volume or an image, 1 the
-// call, 2 a dependency expression, 3 a hand-off list. For 0, 2 and 3 the low byte is the number of
-// the fault in docs/FAULTS.md; but out of memory is 24 in every call. `fv_result_text` has a
-// sentence for each result.
+// The result of a call. The bits from 8 on show what the result is about: 0 a volume or an image,
+// 1 the call, 2 a dependency expression, 3 a hand-off list. For 0, 2 and 3 the low byte is the
+// number of the fault in docs/FAULTS.md; but out of memory is 24 in every call. `fv_result_text`
+// has a sentence for each result.
 pub const FV_OK: fv_result = 0;
 pub const FV_FAULT_TRUNCATED: fv_result = 1;
 pub const FV_FAULT_SIGNATURE: fv_result = 2;
@@ -69,25 +69,25 @@ pub const FV_FAULT_HOB_FIRST: fv_result = 0x303;
 pub const FV_FAULT_HOB_SHAPE: fv_result = 0x304;
 pub const FV_FAULT_HOB_NO_END: fv_result = 0x305;
 
-// What a cell of a volume's body is: a valid file, even if it is superseded; a pad file; a deleted
-// file; a file whose data or header were never finished; erased bytes up to the end of the volume.
-// The state of the file decides between deleted and unfinished.
+// The kinds of cells of a volume's body: a valid file, even if it is superseded; a pad file; a
+// deleted file; a file whose data or header were never finished; erased bytes up to the end of the
+// volume. The state of the file decides between deleted and unfinished.
 pub const FV_CELL_FILE: u32 = 1;
 pub const FV_CELL_PAD: u32 = 2;
 pub const FV_CELL_DELETED: u32 = 3;
 pub const FV_CELL_UNFINISHED: u32 = 4;
 pub const FV_CELL_FREE: u32 = 5;
 
-// What a row of a tree is.
+// The kinds of rows of a tree.
 pub const FV_NODE_VOLUME: u32 = 1;
 pub const FV_NODE_FILE: u32 = 2;
 pub const FV_NODE_SECTION: u32 = 3;
 
-// What the part of a row holds: a volume holds files; a file holds bytes or sections; a section
-// holds bytes, sections (it is a group) or a volume. The type of a file decides: it holds sections
-// if the type is 0x02 or 0x04 to 0x0F, and bytes otherwise, also for a security core (0x03). A
-// file of these types, or a group, holds sections even if it has no bytes: then no row is below
-// its row.
+// The kinds of contents of a row's part: a volume holds files; a file holds bytes or sections; a
+// section holds bytes, sections (it is a group) or a volume. The type of a file decides: it holds
+// sections if the type is 0x02 or 0x04 to 0x0F, and bytes otherwise, also for a security core
+// (0x03). A file of these types, or a group, holds sections even if it has no bytes: then no row
+// is below its row.
 pub const FV_CONTENT_FILES: u32 = 0;
 pub const FV_CONTENT_BYTES: u32 = 1;
 pub const FV_CONTENT_SECTIONS: u32 = 2;
@@ -123,7 +123,7 @@ pub struct fv_sha256 {
 pub struct fv_fault {
     /// In bytes, from the first byte of the input.
     pub offset: u64,
-    /// The result of the call; of a row of `fv_image_check` the fault of that volume.
+    /// The result of the call; in a row of `fv_image_check` the fault of that volume.
     pub result: fv_result,
     /// The number of groups and opened volumes around it, 0 to 8.
     pub depth: u32,
@@ -173,7 +173,7 @@ pub struct fv_volume_check {
     pub reserved: u32,
 }
 
-/// What `fv_volume_compare` found.
+/// The findings of `fv_volume_compare`.
 #[repr(C)]
 #[derive(Clone, Copy, Debug, Default, PartialEq, Eq, Hash)]
 pub struct fv_comparison {
@@ -233,7 +233,7 @@ pub struct fv_node {
     pub header_length: u32,
     /// FvName of a volume, or zeros if it has none; Name of a file.
     pub guid: fv_guid,
-    /// Of a volume 2: FFS2, 3: FFS3.
+    /// For a volume 2: FFS2, 3: FFS3.
     pub file_system: u32,
     /// 0.
     pub reserved: [u32; 3],
@@ -306,14 +306,14 @@ extern "C" {
     /// has it.
     pub fn fv_version() -> *const c_char;
 
-    /// Returns a sentence, ended by a NUL, that explains a result. It has one for each member of
-    /// `fv_result`, and one for all other numbers; it never returns NULL.
+    /// Returns a sentence, ended by a NUL, that explains a result. Each member of `fv_result` has
+    /// its own sentence, and all other numbers share a sentence. Never returns NULL.
     pub fn fv_result_text(result: fv_result) -> *const c_char;
 
-    /// Reads the header of the volume with which the bytes begin. Checks this header only, and no
-    /// file: the volume may still be rejected by each of the `fv_volume_*` calls. Takes no memory.
-    /// Returns `FV_OK`, and sets `*header`, if the bytes begin with a header and all bytes of its
-    /// volume. Otherwise returns the first fault, 1 to 9, and leaves `*header` unchanged.
+    /// Reads the header of the volume with which the bytes begin. Checks only this header, and no
+    /// files: each of the `fv_volume_*` calls may still reject the volume. Takes no memory. Returns
+    /// `FV_OK`, and sets `*header`, if the bytes begin with a header and all bytes of its volume.
+    /// Otherwise returns the first fault, 1 to 9, and leaves `*header` unchanged.
     pub fn fv_header_read(
         bytes: *const c_void,
         size: usize,
@@ -392,12 +392,13 @@ extern "C" {
     /// added to the header checksum (modulo 256), so all checksums stay right. Files that are
     /// marked for update are among these files. All other bytes are the same as in the input, also
     /// in pads, in deleted files and in nested volumes. A volume without fixed files is written as
-    /// it is. The calls that read the files of a volume reject one with fixed files (15), so pass
-    /// them what this call writes. It is for reading, comparing and archiving, and must not be
-    /// flashed. Takes no memory. To learn which files were fixed, ask `fv_volume_cells` for the
-    /// cells of the result: a file was fixed if bit 0x04 of byte 19 of its header is set in the
-    /// input. Returns `FV_OK`; the first fault of the header or of the cells, or 8 if bytes follow
-    /// the volume: 1 to 16, but never 15; otherwise `FV_BUFFER_TOO_SMALL` if buffer_size < size.
+    /// it is. The calls that read the files of a volume reject a volume with fixed files (15), so
+    /// pass them the output of this call. The output is for reading, comparing and archiving, and
+    /// must not be flashed. Takes no memory. To learn which files were fixed, ask `fv_volume_cells`
+    /// for the cells of the result: a file was fixed if bit 0x04 of byte 19 of its header is set in
+    /// the input. Returns `FV_OK`; the first fault of the header or of the cells, or 8 if bytes
+    /// follow the volume: 1 to 16, but never 15; otherwise `FV_BUFFER_TOO_SMALL` if buffer_size <
+    /// size.
     pub fn fv_volume_unfix(
         volume: *const c_void,
         size: usize,
@@ -419,9 +420,9 @@ extern "C" {
     /// the start of `text`: `same`, or `different at` with the steps down to the first difference
     /// and its kind. Returns `FV_OK`, or `FV_BUFFER_TOO_SMALL` if text_size <=
     /// `found->text_length`; `FV_DIFFERENCE_SIZE` bytes are always enough. Otherwise returns the
-    /// first fault, 1 to 21, or 24, of the first input, or else of the second input, for which
-    /// `fault->input` is 1, and leaves `*found` unchanged. If memory runs out while the two volumes
-    /// are compared, `fault->input` is 0.
+    /// first fault, 1 to 21, or 24, of the first input, or of the second input if the first input
+    /// has no fault, and leaves `*found` unchanged. `fault->input` is 1 for a fault of the second
+    /// input. It is 0 if memory runs out while the two volumes are compared.
     pub fn fv_volume_compare(
         first: *const c_void,
         first_size: usize,
@@ -448,14 +449,14 @@ extern "C" {
     ) -> fv_result;
 
     /// Writes the whole tree of the volume: a row for the volume, its files, their sections and, in
-    /// the same way, each volume that a section holds. Each row is followed by the rows of what it
-    /// holds. Row 0 is the volume itself. Pads are not listed, nor is a file that is marked for
-    /// update if its update is in the volume. Sets `*count` to the number of rows. The bytes at an
-    /// offset are as stored in the input, also in a nested volume, whereas `fv_volume_extract`
-    /// writes its canonical image. Data are read once. To find the places of the parts, headers are
-    /// read again, except the headers of the volume's own files. Returns `FV_OK`, or
-    /// `FV_BUFFER_TOO_SMALL` if `*count` > room. Otherwise returns the first fault, 1 to 21, or 24,
-    /// and leaves `*count` unchanged.
+    /// the same way, each volume that a section holds. Each row is followed by the rows of the
+    /// parts that it holds. Row 0 is the volume itself. Pads are not listed, nor is a file that is
+    /// marked for update if its update is in the volume. Sets `*count` to the number of rows. The
+    /// bytes at an offset are as stored in the input, also in a nested volume, whereas
+    /// `fv_volume_extract` writes its canonical image. Data are read once. To find the places of
+    /// the parts, headers are read again, except the headers of the volume's own files. Returns
+    /// `FV_OK`, or `FV_BUFFER_TOO_SMALL` if `*count` > room. Otherwise returns the first fault, 1
+    /// to 21, or 24, and leaves `*count` unchanged.
     pub fn fv_volume_tree(
         volume: *const c_void,
         size: usize,
@@ -466,8 +467,8 @@ extern "C" {
     ) -> fv_result;
 
     /// Writes the SHA-256 digests of the parts of the volume, one for each row of `fv_volume_tree`,
-    /// in the same order. Each covers the bytes that `fv_volume_extract` writes for its row; so a
-    /// volume's digest covers its canonical image, as for `fv_volume_digest`. A section whose
+    /// in the same order. Each digest covers the bytes that `fv_volume_extract` writes for its row;
+    /// so a volume's digest covers its canonical image, as for `fv_volume_digest`. A section whose
     /// content is `FV_CONTENT_SECTIONS` or `FV_CONTENT_VOLUME`, and no other row, has 32 zero bytes
     /// instead of a digest. Sets `*count` to the number of digests. The input is read once, and no
     /// image is kept in memory. Returns `FV_OK`, or `FV_BUFFER_TOO_SMALL` if `*count` > room.
@@ -483,14 +484,14 @@ extern "C" {
 
     /// Writes the part of the volume that is row number `row` of `fv_volume_tree` to the start of
     /// the buffer, and the number of its bytes to `*length`. They are the bytes that the canonical
-    /// image of the volume has: of a volume its own canonical image, of a file its data, of a
+    /// image of the volume has: for a volume its own canonical image, for a file its data, for a
     /// section its body. A volume in a file or a section is its canonical image there, and the
     /// bytes between sections are 0. Row 0 is the canonical image of the whole volume. Plain data,
     /// and the body of a section that holds bytes, are as they are in the input. Returns `FV_OK`,
     /// or `FV_BUFFER_TOO_SMALL` if buffer_size < `*length`. Returns `FV_NOT_FOUND` if the tree has
-    /// no such row. Otherwise returns the first fault, 1 to 21; or 22 or 23, if the part is a
-    /// volume, or holds one, that does not fit in its canonical form; or 24. Leaves `*length`
-    /// unchanged after a fault and after `FV_NOT_FOUND`.
+    /// no row with this number. Otherwise returns the first fault, 1 to 21; or 22 or 23, if the
+    /// part is a volume, or holds one, that does not fit in its canonical form; or 24. Leaves
+    /// `*length` unchanged after a fault and after `FV_NOT_FOUND`.
     pub fn fv_volume_extract(
         volume: *const c_void,
         size: usize,

@@ -8,7 +8,7 @@ use std::error::Error;
 use std::io::{stdout, Write};
 use std::process::ExitCode;
 
-/// Returns what the line of a volume says of its files.
+/// Returns the text about the files in the line of a volume.
 fn files(image: &[u8], header: &Header) -> Result<String, fv::Error> {
     let nodes = fv::volume::tree(&image[header.range()])?;
     let is_file = |it: &&Node| it.kind() == NodeKind::File && it.parent() == Some(0);
@@ -17,7 +17,7 @@ fn files(image: &[u8], header: &Header) -> Result<String, fv::Error> {
     Ok(format!("{} files, {data} bytes of data", lengths.len()))
 }
 
-/// Returns what the last line says: whether all volumes of the image are canonical.
+/// Returns the text of the last line, which reports whether all volumes of the image are canonical.
 fn verdict(image: &[u8]) -> Result<String, fv::Error> {
     let is_canonical = fv::image::normalise(image)? == image;
     Ok(if is_canonical {
@@ -28,7 +28,7 @@ fn verdict(image: &[u8]) -> Result<String, fv::Error> {
     .to_owned())
 }
 
-/// Returns the text of a result: its value, or what the fault means.
+/// Returns the text of a result: its value, or the meaning of the fault.
 fn text(result: Result<String, fv::Error>) -> String {
     result.unwrap_or_else(|error| match error.fault() {
         Some(fault) => fault.kind().to_string(),

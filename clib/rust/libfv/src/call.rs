@@ -10,7 +10,7 @@ use std::mem::MaybeUninit;
 /// The number of rows that the first buffer has room for. If there are more, the call is repeated.
 const ROOM: usize = 1024;
 
-/// What a call leaves in the place of its fault if it writes nothing.
+/// The value that remains in the place of the fault if a call does not write it.
 pub(crate) const NO_FAULT: sys::fv_fault = sys::fv_fault {
     offset: 0,
     result: 0,
@@ -24,9 +24,9 @@ pub(crate) fn address(input: &[u8]) -> *const c_void {
     input.as_ptr().cast()
 }
 
-/// Returns what a call writes to a buffer. The call gets the address of the buffer, the number of
-/// elements that it has room for, and places for the count and the fault. The first buffer has room
-/// for `first` elements. If there are more, the call is repeated.
+/// Returns the elements that a call writes to a buffer. The call gets the address of the buffer,
+/// the number of elements that it has room for, and places for the count and the fault. The first
+/// buffer has room for `first` elements. If there are more, the call is repeated.
 ///
 /// # Safety
 ///

@@ -10,14 +10,14 @@ macro_rules! fault_kinds {
     ($($(#[$attribute:meta])* $name:ident = $result:ident,)*) => {
         /// The reason why an input is rejected. `docs/FAULTS.md` in the repository explains every kind.
         ///
-        /// Kinds of volumes and images have no prefix. The kinds that begin with `Depex` are those
-        /// of dependency expressions, and the kinds that begin with `Hob` those of hand-off lists.
+        /// Kinds of volumes and images have no prefix. The kinds that begin with `Depex` belong to
+        /// dependency expressions, and the kinds that begin with `Hob` to hand-off lists.
         #[derive(Clone, Copy, Debug, PartialEq, Eq, Hash)]
         #[non_exhaustive]
         pub enum FaultKind {
             $($(#[$attribute])* $name,)*
-            /// A fault with this result, which this version of the crate does not know. A later
-            /// version may have a variant for it.
+            /// A fault with this result, for which this version of the crate has no variant. A
+            /// later version may have one.
             Other(u32),
         }
 
@@ -154,7 +154,7 @@ impl Fault {
         (raw.result != sys::FV_OK).then_some(Fault(raw))
     }
 
-    /// Returns what is wrong.
+    /// Returns the kind of the fault.
     pub fn kind(&self) -> FaultKind {
         FaultKind::of(self.0.result)
     }
@@ -227,7 +227,7 @@ impl fmt::Display for Fault {
 
 impl error::Error for Fault {}
 
-/// Why a function of this crate returned no result.
+/// The reason why a function of this crate returned no result.
 #[derive(Clone, Copy, Debug, PartialEq, Eq, Hash)]
 #[non_exhaustive]
 pub enum Error {

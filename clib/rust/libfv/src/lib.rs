@@ -2,7 +2,7 @@
 //! firmware volumes (PI specification 1.8, volume 3).
 //!
 //! The calls are proved to do what `fv.h` says. This crate is not proved. It keeps the rules of
-//! `fv.h` for callers, and turns what the calls write into Rust values.
+//! `fv.h` for callers, and turns the results of the calls into Rust values.
 //!
 //! A function is in the module that is named after its input:
 //!
@@ -49,8 +49,8 @@
 //! memory, since another process may write to that file. No function may be called from a signal
 //! handler, nor in the child of a fork of a process with threads.
 //!
-//! Offsets and lengths are in bytes. Functions that return rows return a [`Vec`] of what the call
-//! has written: there is no second copy.
+//! Offsets and lengths are in bytes. Functions that return rows return the [`Vec`] to which the
+//! call has written, so the rows are not copied.
 //!
 //! # Panics
 //!

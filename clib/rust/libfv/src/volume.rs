@@ -15,7 +15,7 @@ use libfv_sys as sys;
 use std::fmt;
 use std::ops::Range;
 
-/// What a [`Cell`] is.
+/// The kind of a [`Cell`].
 #[derive(Clone, Copy, Debug, PartialEq, Eq, Hash)]
 pub enum CellKind {
     /// A valid file, even if it is superseded.
@@ -52,7 +52,7 @@ impl Cell {
         range(self.0.offset, self.0.length)
     }
 
-    /// Returns what the cell is.
+    /// Returns the kind of the cell.
     pub fn kind(&self) -> CellKind {
         match self.0.kind {
             sys::FV_CELL_FILE => CellKind::File,
@@ -92,7 +92,7 @@ impl Cell {
     }
 }
 
-/// What a [`Node`] is.
+/// The kind of a [`Node`].
 #[derive(Clone, Copy, Debug, PartialEq, Eq, Hash)]
 pub enum NodeKind {
     /// A volume.
@@ -103,7 +103,7 @@ pub enum NodeKind {
     Section,
 }
 
-/// What a [`Node`] holds.
+/// The kind of contents of a [`Node`].
 #[derive(Clone, Copy, Debug, PartialEq, Eq, Hash)]
 pub enum Content {
     /// Files: the node is a volume.
@@ -157,7 +157,7 @@ impl Node {
         self.0.depth as usize
     }
 
-    /// Returns what the node is.
+    /// Returns the kind of the node.
     pub fn kind(&self) -> NodeKind {
         match self.0.kind {
             sys::FV_NODE_VOLUME => NodeKind::Volume,
@@ -167,7 +167,7 @@ impl Node {
         }
     }
 
-    /// Returns what the node holds.
+    /// Returns the kind of the node's contents.
     pub fn content(&self) -> Content {
         match self.0.content {
             sys::FV_CONTENT_FILES => Content::Files,
@@ -305,8 +305,8 @@ pub fn normalise(volume: &[u8]) -> Result<Vec<u8>, Error> {
 ///
 /// In the header of each fixed file, bit 0x04 of the attributes is cleared, and 4 is added to the
 /// header checksum (modulo 256). All other bytes are as in the input, so the files of nested
-/// volumes keep their marks. The functions that read the files of a volume reject one with fixed
-/// files, but read such a copy. The copy must not be flashed.
+/// volumes keep their marks. The functions that read the files of a volume reject a volume with
+/// fixed files, but accept the copy. The copy must not be flashed.
 ///
 /// ```
 /// # include!(concat!(env!("CARGO_MANIFEST_DIR"), "/tests/sample/volumes.rs"));
@@ -429,10 +429,10 @@ pub fn cells(bytes: &[u8]) -> Result<Vec<Cell>, Error> {
 /// Returns the tree of the volume: a row for the volume, for each file and each section, and in the
 /// same way for each volume that a section holds.
 ///
-/// Each row is followed by the rows of what it holds. The first row is the volume itself. Pads are
-/// not listed, nor is a file that is marked for update if its update is in the volume. The bytes at
-/// an offset are as stored in the input, also in a nested volume, whereas [`extract`] returns them
-/// as the canonical image has them.
+/// Each row is followed by the rows of the parts that it holds. The first row is the volume itself.
+/// Pads are not listed, nor is a file that is marked for update if its update is in the volume. The
+/// bytes at an offset are as stored in the input, also in a nested volume, whereas [`extract`]
+/// returns them as the canonical image has them.
 ///
 /// ```
 /// # include!(concat!(env!("CARGO_MANIFEST_DIR"), "/tests/sample/volumes.rs"));
@@ -462,8 +462,8 @@ pub fn tree(volume: &[u8]) -> Result<Vec<Node>, Error> {
 /// Returns the SHA-256 digest for each row of [`tree`], in the same order.
 ///
 /// A volume's digest covers its canonical image, a file's digest its data in that image, and the
-/// digest of a section that holds bytes its body. A section that holds sections or a volume has
-/// none. So a row has the digest of what [`extract`] returns for it.
+/// digest of a section that holds bytes its body. A section that holds sections or a volume has no
+/// digest. So the digest of a row covers the bytes that [`extract`] returns for it.
 ///
 /// ```
 /// # include!(concat!(env!("CARGO_MANIFEST_DIR"), "/tests/sample/volumes.rs"));
@@ -508,8 +508,8 @@ pub fn tree_digests(volume: &[u8]) -> Result<Vec<NodeDigest>, Error> {
 ///
 /// # Errors
 ///
-/// [`Error::NoSuchRow`] if the tree has no such row. [`Error::Rejected`] if the bytes are not a
-/// volume, or if a volume in the part does not fit in the canonical form
+/// [`Error::NoSuchRow`] if the tree has no row with this number. [`Error::Rejected`] if the bytes
+/// are not a volume, or if a volume in the part does not fit in the canonical form
 /// ([`NoRoom`](crate::FaultKind::NoRoom), [`TopAlignment`](crate::FaultKind::TopAlignment)).
 /// [`Error::OutOfMemory`] if memory runs out.
 pub fn extract(volume: &[u8], row: usize) -> Result<Vec<u8>, Error> {

@@ -1,13 +1,14 @@
-//! Writes what the calls return of files, so that scripts can compare languages and the program.
+//! Writes the results of the calls over files, so that scripts can compare languages and the
+//! program.
 //!
 //!   lines normalise|all|unfix|check|checkall|scan|cells|list|sums|hobs|digest|parts FILE
 //!   lines extract FILE ROW
 //!   lines compare FIRST SECOND
 //!   lines rows FILE..
 //!
-//! The lines and the status are those of `fvc` in `clib/tests`, so `clib/tests/beside` runs with
-//! this program too. `parts` finds the part of each row in the canonical image. `rows` writes every
-//! field of every row, and compares each file with the file before it.
+//! The lines and the exit status are the same as for `fvc` in `clib/tests`, so `clib/tests/beside`
+//! runs with this program too. `parts` finds the part of each row in the canonical image. `rows`
+//! writes every field of every row, and compares each file with the file before it.
 
 use fv::depex::{Phase, Truth};
 use fv::volume::{CellKind, Content, Node, NodeKind};
@@ -18,7 +19,7 @@ use std::process::ExitCode;
 /// The output.
 type Out = BufWriter<StdoutLock<'static>>;
 
-/// The end of a command: its status, or why it cannot say anything.
+/// The end of a command: its exit status, or the reason why it has no result.
 type Ending = std::io::Result<u8>;
 
 /// Returns the number of a fault in docs/FAULTS.md.
@@ -274,7 +275,7 @@ fn parts(out: &mut Out, input: &[u8]) -> Ending {
     Ok(0)
 }
 
-/// Returns the number that `fv.h` has for an error.
+/// Returns the number of an error in `fv.h`.
 fn code_of(error: &Error) -> u32 {
     match error {
         Error::Rejected(fault) => fault.kind().code(),
@@ -392,7 +393,7 @@ fn hob_text(it: &fv::hobs::Hob) -> String {
     format!("{base} {length} {} {}", it.hob_type(), it.hob_length())
 }
 
-/// Writes what all calls say of a file, and of it after the file before.
+/// Writes the results of all calls for a file, and for the preceding file with this file.
 fn put_all(out: &mut Out, before: Option<&[u8]>, input: &[u8]) -> std::io::Result<()> {
     put_rows(
         out,

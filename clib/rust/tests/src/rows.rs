@@ -1,16 +1,16 @@
-//! What the rows of `crates/fv_run_tests/rows` spell. The README there has the notation.
+//! Reads the rows of `crates/fv_run_tests/rows`. The README there describes the notation.
 
 use std::collections::HashMap;
 use std::fs;
 
-/// The text of a file of the repository.
+/// Returns the text of a file of the repository.
 pub fn text_of(path: &str) -> String {
     let whole = format!("{}/../../../{path}", env!("CARGO_MANIFEST_DIR"));
     fs::read_to_string(&whole).unwrap_or_else(|error| panic!("{whole}: {error}"))
 }
 
-/// The rows of one heading of a file. Those above the first heading are at the heading of no
-/// letters.
+/// Returns the rows of one heading of a file. The heading of the rows above the first heading is
+/// empty.
 pub fn table(name: &str, heading: &str) -> Vec<String> {
     let (mut at, mut found) = (String::new(), Vec::new());
     for line in text_of(&format!("crates/fv_run_tests/rows/{name}.rows")).lines() {
@@ -26,21 +26,22 @@ pub fn table(name: &str, heading: &str) -> Vec<String> {
     found
 }
 
-/// Of a row NAME: WORDS -> RESULT its three parts. The result is empty if there is no arrow.
+/// Returns the three parts of a row NAME: WORDS -> RESULT. The result is empty if there is no
+/// arrow.
 pub fn parts(row: &str) -> (&str, &str, &str) {
     let (name, rest) = row.split_once(": ").unwrap_or((row, ""));
     let (words, result) = rest.split_once(" ->").unwrap_or((rest, ""));
     (name, words, result.trim())
 }
 
-/// The numbers that a text has.
+/// Returns the numbers in a text.
 pub fn numbers(text: &str) -> Vec<usize> {
     text.split_whitespace()
         .map(|it| it.parse().expect(text))
         .collect()
 }
 
-/// The names of volumes and other words, and what they spell.
+/// The names of volumes and other words, with the words that they replace.
 #[derive(Default)]
 pub struct Words {
     named: HashMap<String, String>,
@@ -57,8 +58,8 @@ impl Words {
         Words { named }
     }
 
-    /// The bytes that words spell: hexadecimal digits, which a star and a number repeat, headers as
-    /// `<80>`, and names.
+    /// Returns the bytes that words spell: hexadecimal digits, which a star and a number repeat,
+    /// headers as `<80>`, and names.
     pub fn spelled(&self, text: &str) -> Vec<u8> {
         let mut found = Vec::new();
         for word in text.split_whitespace() {
@@ -80,8 +81,8 @@ impl Words {
         bytes.repeat(count.parse().expect(word))
     }
 
-    /// The header with a name: `80`, of a volume of 0x80 bytes; `c0+48`, with an extended header at
-    /// 0x48.
+    /// Returns the header with a name: `80` is the header of a volume of 0x80 bytes, and `c0+48`
+    /// has an extended header at 0x48.
     fn header(&self, name: &str) -> Vec<u8> {
         let (length, extended) = name.split_once('+').unwrap_or((name, "0"));
         let number = |it| u32::from_str_radix(it, 16).expect(name);
@@ -93,8 +94,8 @@ impl Words {
         with_sum(head)
     }
 
-    /// A volume of these files in a file system, with erased bytes after them up to a multiple of
-    /// 8.
+    /// Returns a volume of these files in a file system, with erased bytes after them up to a
+    /// multiple of 8.
     pub fn volume_of(&self, files: &[u8], system: u32, erased: u8) -> Vec<u8> {
         let size = (72 + files.len() + 7) / 8 * 8;
         let mut head = self.spelled("H72");
@@ -111,7 +112,7 @@ impl Words {
     }
 }
 
-/// A header of 72 bytes with the right sum.
+/// Returns a header of 72 bytes with the right checksum.
 fn with_sum(mut head: Vec<u8>) -> Vec<u8> {
     head[50..52].fill(0);
     let words = head.chunks(2).map(|it| u16::from_le_bytes([it[0], it[1]]));
@@ -120,7 +121,7 @@ fn with_sum(mut head: Vec<u8>) -> Vec<u8> {
     head
 }
 
-/// A file of this type, with these data, named by a number.
+/// Returns a file of this type, with these data and a number as its name.
 pub fn file_of(kind: u8, data: &[u8], number: u128) -> Vec<u8> {
     let mut file = number.to_le_bytes().to_vec();
     file.extend_from_slice(&[0, 0xaa, kind, 0]);

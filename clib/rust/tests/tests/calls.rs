@@ -1,6 +1,6 @@
-//! Each call over the rows of `crates/fv_run_tests/rows`, whose results were worked out by hand;
-//! over inputs of no bytes; over more rows than there is room for at first; and from several
-//! threads.
+//! Tries each call over the rows of `crates/fv_run_tests/rows`, whose results were worked out by
+//! hand, over empty inputs, over inputs with more rows than the first buffer has room for, and from
+//! several threads.
 
 use fv::depex::{Phase, Truth};
 use fv::volume::{Cell, CellKind, Content, Node, NodeKind};
@@ -8,8 +8,8 @@ use fv::{Error, FaultKind, Guid};
 use rows::{file_of, numbers, parts, table, Words};
 use std::collections::HashMap;
 
-/// The number of a fault in docs/FAULTS.md, its offset and its depth. The number of an error that
-/// is not a fault of the input is 0.
+/// Returns the number of a fault in docs/FAULTS.md, its offset and its depth. The number is 0 if
+/// the error is not a fault of the input.
 fn place_of(error: &Error) -> Vec<usize> {
     match error.fault() {
         Some(it) => vec![it.kind().code() as usize & 0xff, it.offset(), it.depth()],
@@ -17,7 +17,7 @@ fn place_of(error: &Error) -> Vec<usize> {
     }
 }
 
-/// The place of the fault of a result.
+/// Returns the place of the fault of a result.
 fn fault_of<T: std::fmt::Debug>(result: Result<T, Error>) -> Vec<usize> {
     place_of(&result.unwrap_err())
 }
@@ -195,7 +195,7 @@ fn volumes_of_flash_images_have_their_headers() {
 
 #[test]
 fn digests_are_of_the_image() {
-    // What `sha256sum` says of the empty volume, which is its own image.
+    // The output of `sha256sum` for the empty volume, which is its own image.
     let wanted = "fa2372b57e3223fafe321ef347cb77d4373819ad5abdea2446fff51d258ed758";
     let found = fv::volume::digest(&Words::new().spelled("empty")).unwrap();
     assert_eq!(found.to_string(), wanted);
@@ -243,7 +243,7 @@ fn volumes_are_compared() {
     }
 }
 
-/// What `fvtool cells` writes of a volume, by what `header::read` and `cells` return.
+/// Returns the lines of `fvtool cells` for a volume, by the results of `header::read` and `cells`.
 fn cells_text(data: &[u8]) -> Result<String, Error> {
     let first = fv::header::read(data).map_or(0, |it| it.first_file());
     let mut text = format!("header at 0 length {first}|");
@@ -361,17 +361,19 @@ fn expressions_have_their_values() {
     }
 }
 
-/// Whether the data of a file of this type are sections.
+/// Returns whether the data of a file of this type are sections.
 fn is_stream(efi_type: Option<u8>) -> bool {
     matches!(efi_type, Some(2 | 4..=15))
 }
 
-/// The rows of a tree lie in the rows that hold them, in order, and have what their headers say.
+/// Checks that the rows of a tree lie in the rows that hold them, in order, and agree with their
+/// headers.
 fn check_tree(data: &[u8]) {
     let nodes = fv::volume::tree(data).unwrap();
     check_volume(data, &nodes, 0);
     assert_eq!(nodes[0].parent(), None);
-    // Of each row: how many parts it holds so far, and where the next section begins.
+    // For each row: the number of parts that it holds so far, and the place where the next section
+    // begins.
     let mut held: Vec<(usize, usize)> = nodes.iter().map(|it| (0, it.offset())).collect();
     for (row, node) in nodes.iter().enumerate().skip(1) {
         let parent = node.parent().unwrap();
@@ -464,8 +466,8 @@ fn check_volume(data: &[u8], nodes: &[Node], row: usize) {
     assert!(after.map_or(true, |it| it.depth() <= top.depth()));
 }
 
-/// The parts of the rows are those that the tree of the canonical image has. Their digests are the
-/// same exactly if their bytes are.
+/// Checks that the parts of the rows are the parts in the tree of the canonical image. Two parts
+/// have equal digests exactly if they have equal bytes.
 fn check_parts(data: &[u8]) {
     let image = match fv::volume::normalise(data) {
         Ok(image) => image,
@@ -507,7 +509,7 @@ fn check_parts(data: &[u8]) {
     }
 }
 
-/// The files of a volume: the rows below the first row.
+/// Returns the files of a volume: the rows below the first row.
 fn files_of(nodes: &[Node]) -> Vec<(usize, &Node)> {
     let rows = nodes.iter().enumerate();
     rows.filter(|(_, it)| it.parent() == Some(0)).collect()
@@ -702,8 +704,8 @@ fn the_library_has_the_version_of_the_crate() {
     assert!(fv::version().starts_with(&text));
 }
 
-/// The volume of `clib/tests/layout.c`, which was spelled by hand: an FFS2 volume of one file and
-/// 16 free bytes. `inner` is the size that the header of section 2 says; 9 is right.
+/// Returns the volume of `clib/tests/layout.c`, which was written by hand: an FFS2 volume of one
+/// file and 16 free bytes. `inner` is the size in the header of section 2; 9 is right.
 fn layout(words: &Words, inner: u8) -> Vec<u8> {
     let mut data = words.spelled(
         "ffffff140e000000 070076003100 0000 14000003 09000019 a1a2a3a4a5 000000
@@ -718,7 +720,7 @@ fn layout(words: &Words, inner: u8) -> Vec<u8> {
     [words.spelled("<a0>"), file, data, vec![0xff; 20]].concat()
 }
 
-/// The fields of a cell, without its name.
+/// Returns the fields of a cell, without its name.
 type CellFields = (
     usize,
     usize,
@@ -733,8 +735,8 @@ fn cell_fields(it: &Cell) -> CellFields {
     (it.offset(), it.length(), it.kind(), form.0, form.1, form.2)
 }
 
-/// Where a section is: its offset, length, parent, index and depth; and its type, the length of its
-/// header and what it holds.
+/// Returns the fields of a section: its offset, length, parent, index and depth, its type, the
+/// length of its header and the kind of its contents.
 type SectionFields = ([usize; 5], (Option<u8>, usize, Content));
 
 fn section_fields(it: &Node) -> SectionFields {
@@ -816,7 +818,7 @@ fn fields_are_where_the_header_has_them() {
     }
     check_tree(&volume);
     check_parts(&volume);
-    // What `sha256sum` says of the bytes b1, b2 and b3.
+    // The output of `sha256sum` for the bytes b1, b2 and b3.
     let wanted = "0de80e00e7763e2e4197607b23278a56debaac84613f97f439a670286d04866c";
     let found = fv::volume::tree_digests(&volume).unwrap()[6].digest();
     assert_eq!(found.unwrap().to_string(), wanted);
