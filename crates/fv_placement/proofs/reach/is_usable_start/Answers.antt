@@ -1,5 +1,5 @@
 use Rattle.std.proofs.Common.{rules}
-use Rattle.fv_placement.proofs.reach.usable.Goals as goal
+use Rattle.fv_placement.proofs.reach.is_usable_start.Goals as goal
 
 pub returns-then-start-item : goal.returns-then-start-item
 returns-then-start-item c = search rules fits 300 steps 1000000
