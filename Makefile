@@ -1,3 +1,4 @@
+# SPDX-License-Identifier: BSD-2-Clause-Patent
 # Builds, installs and packs the program fvtool and the library libfv. docs/INSTALL.md says what goes where.
 #
 #   make                  the program and the library, proved and built where sources have changed: out/ and clib/out/

@@ -1,3 +1,4 @@
+# SPDX-License-Identifier: BSD-2-Clause-Patent
 """The parts that the checks in Python share: the folder of the repository, its files, and the form of a report."""
 
 from __future__ import annotations

@@ -1,3 +1,4 @@
+/* SPDX-License-Identifier: BSD-2-Clause-Patent */
 /* Loaded into the program: each write to standard output is interrupted. */
 #define _GNU_SOURCE
 #include <dlfcn.h>

@@ -1,3 +1,4 @@
+# SPDX-License-Identifier: BSD-2-Clause-Patent
 """Runs the built program at a terminal, for .ci/streams. Checks what standard error says there, and that it says
 nothing to a file or a pipe. Standard output and the status are the same in all three."""
 

@@ -1,4 +1,5 @@
 #!/usr/bin/env python3
+# SPDX-License-Identifier: BSD-2-Clause-Patent
 """Measures the built program over volumes, beside cat, cmp, sha256sum and, where they are installed, VolInfo and
 UEFIExtract, and prints a table: of each command the least processor time of the runs, its ratio to that of cat, and its
 peak of memory. README.md says more."""

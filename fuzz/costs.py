@@ -1,3 +1,4 @@
+# SPDX-License-Identifier: BSD-2-Clause-Patent
 """Measures what the runs of a program cost, for hostile.py and bench.py."""
 
 from __future__ import annotations

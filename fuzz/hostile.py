@@ -1,4 +1,5 @@
 #!/usr/bin/env python3
+# SPDX-License-Identifier: BSD-2-Clause-Patent
 """Writes inputs that aim at cost, runs the built program over each, and prints what each run took: it is to end within
 3 seconds of processor time (10 with --sums, which digests each byte twice at each level), or that for each 16 MiB of a
 larger input, in a peak of memory of at most twice its input, or the multiple in RATIOS, and 64 MiB. README.md says

@@ -1,3 +1,4 @@
+# SPDX-License-Identifier: BSD-2-Clause-Patent
 # Completion for bash of the commands of the Python package fv: the options that their help shows, and names of files.
 _fv() { # COMMAND WORD
     COMPREPLY=()

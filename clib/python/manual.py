@@ -1,4 +1,5 @@
 #!/usr/bin/env python3
+# SPDX-License-Identifier: BSD-2-Clause-Patent
 """Writes the manual pages of the program and of the package's commands to a folder. The page of the program is
 man/fvtool.md with the parts of docs/PROGRAM.md that it links to. The pages of the commands are made from their parsers
 and from the text that `--help` shows.

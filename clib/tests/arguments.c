@@ -1,3 +1,4 @@
+/* SPDX-License-Identifier: BSD-2-Clause-Patent */
 /* What each call does with an argument that is not allowed: it returns FV_BAD_ARGUMENT, and writes nothing, not even
  * the fault. And what it does with NULL where that is allowed: the same as with a pointer.
  *

@@ -1,4 +1,5 @@
 #!/usr/bin/env python3
+# SPDX-License-Identifier: BSD-2-Clause-Patent
 """command.py [--program PROGRAM] FILE..: `python3 -m fv` over each FILE: its lines are what the calls of the package
 return, with --json too; with the program also what `scan`, `check`, `cells`, `list` and `list --sums` write. Then
 wrong arguments, a file that is not there, and outputs that are full or closed."""

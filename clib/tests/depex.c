@@ -1,3 +1,4 @@
+/* SPDX-License-Identifier: BSD-2-Clause-Patent */
 /* Dependency expressions by hand: PUSH A PUSH B AND END in both phases, BEFORE A END, an unknown op, an expression that
  * is cut short. */
 #include <fv.h>

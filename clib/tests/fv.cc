@@ -1,3 +1,4 @@
+/* SPDX-License-Identifier: BSD-2-Clause-Patent */
 // The library from C++, with a vector for each buffer: the image of a volume, that it is its own image, and the data of
 // its files. A vector of no elements may have a null pointer.
 #include <fv.h>

@@ -1,3 +1,4 @@
+/* SPDX-License-Identifier: BSD-2-Clause-Patent */
 /* guards FILE..: each call over each file, with arguments that lie against pages which cannot be touched: first with
  * such a page after each of them, then with one before each. The input cannot be written to. The buffer has room for
  * just what is written, for more, for an element less, and for none, with and without a pointer. What a call may not

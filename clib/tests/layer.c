@@ -1,3 +1,4 @@
+/* SPDX-License-Identifier: BSD-2-Clause-Patent */
 /* What the layer in C (src/calls.c) passes to the proved calls. Here these are functions that only remember what they
  * were passed, and return a number: so the linker leaves the proved ones out. The layer must pass each argument as it
  * is, in the same order, except NULL: in its place the address of something that is aligned for each type. And it must

@@ -1,3 +1,4 @@
+/* SPDX-License-Identifier: BSD-2-Clause-Patent */
 /* The structures of fv.h are those of the library. Each call fills one from a volume whose fields are known by hand.
  * Each field is read through the header. The bytes after a structure must be unchanged. */
 #include <fv.h>

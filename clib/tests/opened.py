@@ -1,4 +1,5 @@
 #!/usr/bin/env python3
+# SPDX-License-Identifier: BSD-2-Clause-Patent
 """opened.py: checks what `fv.images` reads of made images: volumes at every level, compressed sections, volumes with
 fixed files, volumes at odd places; and how far its limits let it go."""
 

@@ -1,3 +1,4 @@
+/* SPDX-License-Identifier: BSD-2-Clause-Patent */
 /* Each allocation of each call is refused in turn, by three functions in place of those of src/heap.c. A call must then
  * return that memory ran out, at offset 0 and depth 0, and nothing else. It keeps no block, and leaves its buffer and
  * its other results unchanged. fv_header_read and fv_volume_unfix take no memory. */

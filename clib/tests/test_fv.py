@@ -1,4 +1,5 @@
 #!/usr/bin/env python3
+# SPDX-License-Identifier: BSD-2-Clause-Patent
 """test_fv.py FILE..: the calls of the Python package over files, each held against the others and against hashlib. Then
 the rules of the package: what it takes, what it raises, what it returns, and which libraries it loads."""
 

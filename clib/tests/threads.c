@@ -1,3 +1,4 @@
+/* SPDX-License-Identifier: BSD-2-Clause-Patent */
 /* threads FILE TURNS: threads that make every call at once, over one input, and get what one thread gets. Also built
  * with -fsanitize=thread. It sees this file, and of the library its copies and its blocks of memory. */
 #include "calls.h"

@@ -1,3 +1,4 @@
+/* SPDX-License-Identifier: BSD-2-Clause-Patent */
 /* fv_volume_unfix over volumes that were spelled by hand. Every allocation is refused, and none may be asked for. The
  * input cannot be written to, and it and the buffer lie against a page that cannot be touched: first after them, then
  * before them. The buffer has room for the volume, a little more, a byte less, and none. */

@@ -1,3 +1,4 @@
+/* SPDX-License-Identifier: BSD-2-Clause-Patent */
 /* What holds of fv_volume_cells: the cells follow one another up to the end of the volume, and each is what its bytes
  * say. */
 #include "coverage.h"

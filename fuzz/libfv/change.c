@@ -1,3 +1,4 @@
+/* SPDX-License-Identifier: BSD-2-Clause-Patent */
 /* The changes that the mutator makes in a volume. Each takes the volume, its number of bytes and the most that it may
  * have, and returns the new number. They leave sums and lengths as they come: repair.c corrects them. */
 #include "mutate.h"

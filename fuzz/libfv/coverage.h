@@ -1,3 +1,4 @@
+/* SPDX-License-Identifier: BSD-2-Clause-Patent */
 /* The feedback from the library, whose code has none of its own. */
 #ifndef COVERAGE_H
 #define COVERAGE_H

@@ -1,3 +1,4 @@
+/* SPDX-License-Identifier: BSD-2-Clause-Patent */
 /* SHA-256 of the harness, to compare that of the library with. */
 #ifndef DIGEST_H
 #define DIGEST_H

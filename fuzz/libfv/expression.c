@@ -1,3 +1,4 @@
+/* SPDX-License-Identifier: BSD-2-Clause-Patent */
 /* What holds of fv_depex_evaluate: it returns what an evaluator of the harness returns (PI specification 1.8, volume 2,
  * section 10.7, and volume 1, section 5.7; the order of the faults is that of docs/FAULTS.md). */
 #include "coverage.h"

@@ -1,3 +1,4 @@
+/* SPDX-License-Identifier: BSD-2-Clause-Patent */
 /* What holds of fv_hobs_read: the blocks follow one another up to the end block, and each is what its bytes say. */
 #include "coverage.h"
 #include "harness.h"

@@ -1,3 +1,4 @@
+/* SPDX-License-Identifier: BSD-2-Clause-Patent */
 /* What all files of the harness share: the parameters of an input, what a call may return, and how a finding ends the
  * process. */
 #ifndef HARNESS_H

@@ -1,3 +1,4 @@
+/* SPDX-License-Identifier: BSD-2-Clause-Patent */
 /* The three functions with which the library gets and returns memory. They find what it does wrong with a block: each
  * is put at the end of a room, with a page after it that cannot be touched, the bytes around it are looked at when it
  * is returned, and its room is used again as late as can be. Blocks that fit in no room come from malloc. */

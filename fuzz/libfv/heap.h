@@ -1,3 +1,4 @@
+/* SPDX-License-Identifier: BSD-2-Clause-Patent */
 /* The memory of the library, in place of clib/src/heap.c. */
 #ifndef HEAP_H
 #define HEAP_H

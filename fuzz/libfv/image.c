@@ -1,3 +1,4 @@
+/* SPDX-License-Identifier: BSD-2-Clause-Patent */
 /* What holds of fv_image_scan, fv_image_normalise and fv_image_check: each volume is found, and its row is its header;
  * nothing else is found; each is replaced by its image; and of each is said what fv_volume_is_canonical says of it. */
 #include "coverage.h"

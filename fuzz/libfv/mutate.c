@@ -1,3 +1,4 @@
+/* SPDX-License-Identifier: BSD-2-Clause-Patent */
 /* The mutator that libFuzzer calls: by what an input is tried as, it changes a volume in it, an op or a block, and has
  * sums and lengths corrected. */
 #include "mutate.h"

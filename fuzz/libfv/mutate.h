@@ -1,3 +1,4 @@
+/* SPDX-License-Identifier: BSD-2-Clause-Patent */
 /* What the files of the mutator share: chance, numbers in bytes, and the parts of a volume. */
 #ifndef MUTATE_H
 #define MUTATE_H

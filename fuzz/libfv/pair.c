@@ -1,3 +1,4 @@
+/* SPDX-License-Identifier: BSD-2-Clause-Patent */
 /* What holds of fv_volume_compare: it says the same both ways, and two volumes are the same if their digests are. */
 #define _GNU_SOURCE
 #include "coverage.h"

@@ -1,3 +1,4 @@
+/* SPDX-License-Identifier: BSD-2-Clause-Patent */
 /* Faults that are put into calls of the library, to see that they are found. The number of the one that is there is in
  * the environment, as PLANT=1. In the program that looks for true findings there is none of this. */
 #ifndef PLANT_H

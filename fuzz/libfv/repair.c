@@ -1,3 +1,4 @@
+/* SPDX-License-Identifier: BSD-2-Clause-Patent */
 /* Sums and lengths that fit what a volume has come to hold. Without them each change ends at the first sum. */
 #include "mutate.h"
 

@@ -1,3 +1,4 @@
+/* SPDX-License-Identifier: BSD-2-Clause-Patent */
 /* What holds of any call that writes rows into a buffer, or as many bytes as its input has. */
 #ifndef ROWS_H
 #define ROWS_H

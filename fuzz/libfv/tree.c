@@ -1,3 +1,4 @@
+/* SPDX-License-Identifier: BSD-2-Clause-Patent */
 /* What holds of fv_volume_tree: each row lies in that of its parent, and is what its header says; the files of the
  * volume are cells; the rows of a nested volume are those of its bytes; and the image has the same rows at other
  * offsets. */

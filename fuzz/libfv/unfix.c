@@ -1,3 +1,4 @@
+/* SPDX-License-Identifier: BSD-2-Clause-Patent */
 /* What holds of fv_volume_unfix: as many bytes are written as the input has; no file is fixed in them; they differ from
  * the input in the two bytes of each mark, and nowhere else; without marks they stay as they are. The fault is that of
  * the header or of the cells, but never that a file is fixed. */

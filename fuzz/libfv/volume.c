@@ -1,3 +1,4 @@
+/* SPDX-License-Identifier: BSD-2-Clause-Patent */
 /* What holds of the calls that take a volume: they agree about its fault; its image has its meaning, its digest, and is
  * its own image. */
 #include "volume.h"

@@ -1,3 +1,4 @@
+/* SPDX-License-Identifier: BSD-2-Clause-Patent */
 /* A volume that is tried, and what the calls so far have returned of it. */
 #ifndef VOLUME_H
 #define VOLUME_H

@@ -1,3 +1,4 @@
+# SPDX-License-Identifier: BSD-2-Clause-Patent
 """Loads libfv by ctypes, and passes bytes to it and from it. For the other modules: users of the package need nothing
 in here."""
 

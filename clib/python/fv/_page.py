@@ -1,3 +1,4 @@
+# SPDX-License-Identifier: BSD-2-Clause-Patent
 """Writes the HTML page of fv-map. It has no script, and nothing from outside. The texts of an image are not trusted:
 all are escaped, and characters that cannot be seen are shown as numbers."""
 

@@ -1,3 +1,4 @@
+# SPDX-License-Identifier: BSD-2-Clause-Patent
 """Gathers what fv-map draws of an image: the parts and the files of each volume, the contents of the files, and what
 came, went and changed since another image."""
 

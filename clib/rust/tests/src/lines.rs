@@ -1,3 +1,4 @@
+// SPDX-License-Identifier: BSD-2-Clause-Patent
 //! Writes what the calls return of files, so that scripts can compare languages and the program.
 //!
 //!   lines normalise|all|unfix|check|checkall|scan|cells|list|sums|hobs|digest|parts FILE

@@ -1,3 +1,4 @@
+// SPDX-License-Identifier: BSD-2-Clause-Patent
 //! What the rows of `crates/fv_run_tests/rows` spell. The README there has the notation.
 
 use std::collections::HashMap;

@@ -1,3 +1,4 @@
+// SPDX-License-Identifier: BSD-2-Clause-Patent
 //! Each call over the rows of `crates/fv_run_tests/rows`, whose results were worked out by hand;
 //! over inputs of no bytes; over more rows than there is room for at first; and from several
 //! threads.
