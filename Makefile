@@ -8,6 +8,7 @@
 #   make install-lib      the library, with files for pkg-config, CMake and Python: after `make`
 #   make uninstall        removes both
 #   make dist             out/capstanolive-VERSION.tar.gz, the files of the last commit
+#   make release          dist/, with everything that a release has: packaging/verify compares it with what it makes
 #   make version          writes VERSION into the files that show it
 #   make clean            removes out/ and clib/out/, not what is proved
 #
@@ -16,6 +17,7 @@
 MAKEFLAGS += --no-builtin-rules
 VERSION := $(shell cat VERSION)
 OUT ?= out
+DIST ?= dist
 PREFIX ?= /usr/local
 BINDIR ?= $(PREFIX)/bin
 MANDIR ?= $(PREFIX)/share/man
@@ -44,7 +46,7 @@ COMMANDS = $(shell python3 -B clib/python/backend.py commands) fvmap
 CLIB := $(MAKE) --no-print-directory -f clib/Makefile PREFIX="$(PREFIX)" DESTDIR="$(DESTDIR)" LIBFV="$(ARCHIVE)" \
     TOOLDIR="$(DATADIR)/clib"
 
-.PHONY: all try check install install-lib uninstall dist version clean FORCE
+.PHONY: all try check install install-lib uninstall dist release version clean FORCE
 all: $(OUT)/fvtool $(ARCHIVE)
 	+$(CLIB) OUT=clib/out lib
 
@@ -116,6 +118,9 @@ uninstall:
 dist:
 	mkdir -p "$(OUT)"
 	git archive --format=tar.gz --prefix=capstanolive-$(VERSION)/ --output="$(OUT)/capstanolive-$(VERSION).tar.gz" HEAD
+
+release:
+	MAKEFLAGS= packaging/release "$(DIST)"
 
 # Python and Debian write a version under development in their own ways: packaging/version knows them.
 version:

@@ -20,7 +20,7 @@ def read(path: str | Path) -> str:
 def found_by(*patterns: str) -> list[str]:
     """Returns the files with such names, without those that are built."""
     found = {path for pattern in patterns for path in glob.glob(pattern, recursive=True)}
-    return sorted(path for path in found if not re.search(r"(^|/)(?:out|target)/", path))
+    return sorted(path for path in found if not re.search(r"(^|/)(?:out|target|dist)/", path))
 
 
 def scripts(*patterns: str) -> list[str]:
