@@ -160,7 +160,9 @@ def main() -> None:
     about = f'{title.split()[-1]} "Capstanolive {version}" "User Commands"'
     for name, page in pages.items():
         lines = [f".TH {escaped(name.upper())} 1 {about}", *roff(page), ""]
-        (given.folder / f"{name}.1").write_text("\n".join(lines), encoding="utf-8")
+        made: Path = given.folder / f"{name}.1"
+        made.unlink(missing_ok=True)  # a link is replaced, and not written through
+        made.write_text("\n".join(lines), encoding="utf-8")
 
 
 if __name__ == "__main__":
