@@ -3,7 +3,7 @@
 # make, pkg-config or CMake reads as something else. A space and letters of any language are allowed.
 FOLDERS := PREFIX DESTDIR BINDIR MANDIR DOCDIR DATADIR BASHDIR ZSHDIR INCLUDEDIR LIBDIR PYTHONDIR LIBDOCDIR TOOLDIR
 # Only the shell sees the values, as they were given. The defaults are made from PREFIX.
-export FOLDERS_GIVEN := $(strip $(foreach it,$(FOLDERS),$(if $(filter command environment,$(firstword $(origin $(it)))),$(value $(it)))))
+export FOLDERS_GIVEN := $(foreach it,$(FOLDERS),$(if $(filter command environment,$(firstword $(origin $(it)))),$(value $(it))))
 
 .PHONY: folders
 folders:
