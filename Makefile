@@ -1,3 +1,4 @@
+# SPDX-License-Identifier: BSD-2-Clause-Patent
 # Builds, installs and packs the program fvtool and the library libfv. docs/INSTALL.md says what goes where.
 #
 #   make                  the program and the library, proved and built where sources have changed: out/ and clib/out/
@@ -7,6 +8,7 @@
 #   make install-lib      the library, with files for pkg-config, CMake and Python: after `make`
 #   make uninstall        removes both
 #   make dist             out/capstanolive-VERSION.tar.gz, the files of the last commit
+#   make release          dist/, with everything that a release has: packaging/verify compares it with what it makes
 #   make version          writes VERSION into the files that show it
 #   make clean            removes out/ and clib/out/, not what is proved
 #
@@ -15,6 +17,7 @@
 MAKEFLAGS += --no-builtin-rules
 VERSION := $(shell cat VERSION)
 OUT ?= out
+DIST ?= dist
 PREFIX ?= /usr/local
 BINDIR ?= $(PREFIX)/bin
 MANDIR ?= $(PREFIX)/share/man
@@ -33,7 +36,7 @@ BUILT_ARCHIVE := crates/fv_c/out/libfv_c.a
 ARCHIVE ?= $(BUILT_ARCHIVE)
 # With the folders, so that a file that is removed counts too.
 SOURCES := crates.txt $(shell find crates/fv_*/src crates/fv_*/specs crates/fv_*/proofs)
-DOCUMENTS := CHANGELOG.md SECURITY.md docs/PROGRAM.md docs/FAULTS.md packaging/copyright
+DOCUMENTS := packaging/installed.md CHANGELOG.md SECURITY.md docs/PROGRAM.md docs/FAULTS.md packaging/copyright
 # The commands of the Python package are links to LAUNCHER in BINDIR. DATADIR has it, the package and the library where
 # this folder has them, so that they find each other there as here. fvmap is the name of fv-map in 1.0.
 LAUNCHER := clib/python/bin/run
@@ -43,7 +46,10 @@ COMMANDS = $(shell python3 -B clib/python/backend.py commands) fvmap
 CLIB := $(MAKE) --no-print-directory -f clib/Makefile PREFIX="$(PREFIX)" DESTDIR="$(DESTDIR)" LIBFV="$(ARCHIVE)" \
     TOOLDIR="$(DATADIR)/clib"
 
-.PHONY: all try check install install-lib uninstall dist version clean FORCE
+include clib/folders.mk
+
+.PHONY: all try check install install-lib uninstall dist release version clean FORCE
+.DEFAULT_GOAL := all
 all: $(OUT)/fvtool $(ARCHIVE)
 	+$(CLIB) OUT=clib/out lib
 
@@ -71,13 +77,10 @@ try: $(OUT)/fvtool
 check: try
 	MAKEFLAGS= .ci/quick
 
-# Installs a text, with the folders of this run in place of those of a package. A link that is in the way is replaced.
-text = rm -f $(2) && python3 -c 'import re, sys; places = "/usr/share/doc/fvtool", "/usr/share/fvtool", "/usr/bin/"; \
-    of = dict(zip(places, sys.argv[3:])); text = open(sys.argv[1], encoding="utf-8").read(); \
-    open(sys.argv[2], "w", encoding="utf-8").write(re.sub("|".join(of), lambda it: of[it[0]], text))' \
-    $(1) $(2) "$(DOCDIR)" "$(DATADIR)" "$(BINDIR)/" && chmod 644 $(2)
+# Writes pages to a folder, with the folders of this run in place of those of a package.
+page = packaging/page --places "$(DOCDIR)" "$(DATADIR)" "$(BINDIR)/"
 
-install:
+install: folders
 	@if [ "$(PROGRAM)" = "$(BUILT)" ]; then packaging/prove --is-made fv_tool; fi
 	@if [ "$(ARCHIVE)" = "$(BUILT_ARCHIVE)" ]; then packaging/prove --is-made fv_c; fi
 	$(INSTALL) -d "$(DESTDIR)$(BINDIR)" "$(DESTDIR)$(MANDIR)/man1" "$(DESTDIR)$(DOCDIR)"
@@ -86,26 +89,25 @@ install:
 	    $(CLIB) OUT="$$room" install-tools; status=$$?; rm -rf "$$room"; exit $$status
 	$(INSTALL) -D -m 755 $(LAUNCHER) "$(DESTDIR)$(DATADIR)/$(LAUNCHER)"
 	for it in $(COMMANDS); do ln -srf "$(DESTDIR)$(DATADIR)/$(LAUNCHER)" "$(DESTDIR)$(BINDIR)/$$it" || exit; done
-	$(INSTALL) -m 644 $(DOCUMENTS) "$(DESTDIR)$(DOCDIR)"
-	$(call text,packaging/installed.md,"$(DESTDIR)$(DOCDIR)/README.md")
-	$(call text,packaging/gitconfig,"$(DESTDIR)$(DATADIR)/gitconfig")
+	$(page) "$(DESTDIR)$(DOCDIR)" $(DOCUMENTS)
+	$(page) "$(DESTDIR)$(DATADIR)" packaging/gitconfig
 	python3 -B clib/python/manual.py "$(DESTDIR)$(MANDIR)/man1" "$(DOCDIR)"
 	$(INSTALL) -m 644 packaging/completion.bash "$(DESTDIR)$(BASHDIR)/fvtool"
 	$(INSTALL) -m 644 packaging/completion.zsh "$(DESTDIR)$(ZSHDIR)/_fvtool"
-	for it in $(COMMANDS); do { cat packaging/commands.bash; echo "complete -o default -F _fv $$it"; } \
-	    > "$(DESTDIR)$(BASHDIR)/$$it" && chmod 644 "$(DESTDIR)$(BASHDIR)/$$it" || exit; done
-	printf '#compdef %s\n_gnu_generic\n' "$(COMMANDS)" > "$(DESTDIR)$(ZSHDIR)/_fv" && chmod 644 "$(DESTDIR)$(ZSHDIR)/_fv"
+	for it in $(COMMANDS); do { cat packaging/commands.bash; echo "complete -o default -F _fv $$it"; } | \
+	    $(INSTALL) -m 644 /dev/stdin "$(DESTDIR)$(BASHDIR)/$$it" || exit; done
+	printf '#compdef %s\n_gnu_generic\n' "$(COMMANDS)" | $(INSTALL) -m 644 /dev/stdin "$(DESTDIR)$(ZSHDIR)/_fv"
 
-install-lib:
+install-lib: folders
 	@if [ "$(ARCHIVE)" = "$(BUILT_ARCHIVE)" ]; then packaging/prove --is-made fv_c; fi
 	+room=$$(mktemp -d) && $(CLIB) OUT="$$room" install; status=$$?; rm -rf "$$room"; exit $$status
 
 # The folders may be shared, so only the files that were installed go, and then those folders of fvtool that are empty.
-uninstall:
+uninstall: folders
 	rm -f $(foreach it,fvtool $(COMMANDS),"$(DESTDIR)$(BINDIR)/$(it)")
 	rm -f $(foreach it,fvtool $(COMMANDS),"$(DESTDIR)$(BASHDIR)/$(it)") $(foreach it,_fvtool _fv,"$(DESTDIR)$(ZSHDIR)/$(it)")
 	rm -f $(foreach it,fvtool $(COMMANDS),"$(DESTDIR)$(MANDIR)/man1/$(it).1")
-	rm -f $(foreach it,README.md $(notdir $(DOCUMENTS)),"$(DESTDIR)$(DOCDIR)/$(it)")
+	rm -f $(foreach it,README.md $(filter-out installed.md,$(notdir $(DOCUMENTS))),"$(DESTDIR)$(DOCDIR)/$(it)")
 	rm -f $(foreach it,gitconfig $(LAUNCHER),"$(DESTDIR)$(DATADIR)/$(it)")
 	[ ! -d "$(DESTDIR)$(DATADIR)/$(dir $(LAUNCHER))" ] || rmdir --ignore-fail-on-non-empty "$(DESTDIR)$(DATADIR)/$(dir $(LAUNCHER))"
 	+$(CLIB) uninstall uninstall-tools
@@ -115,6 +117,9 @@ uninstall:
 dist:
 	mkdir -p "$(OUT)"
 	git archive --format=tar.gz --prefix=capstanolive-$(VERSION)/ --output="$(OUT)/capstanolive-$(VERSION).tar.gz" HEAD
+
+release:
+	MAKEFLAGS= packaging/release "$(DIST)"
 
 # Python and Debian write a version under development in their own ways: packaging/version knows them.
 version:

@@ -1,3 +1,4 @@
+# SPDX-License-Identifier: BSD-2-Clause-Patent
 """The parts that the checks in Python share: the folder of the repository, its files, and the form of a report."""
 
 from __future__ import annotations
@@ -19,7 +20,7 @@ def read(path: str | Path) -> str:
 def found_by(*patterns: str) -> list[str]:
     """Returns the files whose names match the patterns, except built files."""
     found = {path for pattern in patterns for path in glob.glob(pattern, recursive=True)}
-    return sorted(path for path in found if not re.search(r"(^|/)(?:out|target)/", path))
+    return sorted(path for path in found if not re.search(r"(^|/)(?:out|target|dist)/", path))
 
 
 def scripts(*patterns: str) -> list[str]:

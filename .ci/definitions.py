@@ -1,3 +1,4 @@
+# SPDX-License-Identifier: BSD-2-Clause-Patent
 """Reads the definitions of specs/ and the contracts of src/, with their comments, and finds the definitions that the
 contracts reach."""
 

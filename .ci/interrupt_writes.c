@@ -1,3 +1,4 @@
+/* SPDX-License-Identifier: BSD-2-Clause-Patent */
 /* This object is loaded into the program. It interrupts each write to standard output. */
 #define _GNU_SOURCE
 #include <dlfcn.h>

@@ -1,3 +1,4 @@
+# SPDX-License-Identifier: BSD-2-Clause-Patent
 """Finds the module of the Rattle kit for Python, which knows how a crate is checked and built."""
 
 from __future__ import annotations

@@ -1,3 +1,4 @@
+# SPDX-License-Identifier: BSD-2-Clause-Patent
 """The parts of `.ci/mutants`: edits and the functions that they change, the answers of a proof, and the goals that a
 check reports."""
 

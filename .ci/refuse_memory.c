@@ -1,3 +1,4 @@
+/* SPDX-License-Identifier: BSD-2-Clause-Patent */
 /* This object is loaded into a program. It refuses the program's allocation with the number REFUSE_AT, counted from 1,
    and reports this by a byte on descriptor 9. If descriptor 8 is open when the program ends, four numbers are written
    there: the most bytes that the program held at one time, the number of allocations that it asked for, and the sizes

@@ -1,3 +1,4 @@
+# SPDX-License-Identifier: BSD-2-Clause-Patent
 """Runs the built program at a terminal, for .ci/streams. Checks the text on standard error there, and that nothing is
 written to standard error if it is a file or a pipe. Standard output and the status are the same in all three cases."""
 

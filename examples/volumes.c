@@ -1,3 +1,4 @@
+/* SPDX-License-Identifier: BSD-2-Clause-Patent */
 /* An example for C programs: lists the volumes of a flash image with their files and bytes of data, and reports whether
  * all of the volumes are canonical.
  *   cc -std=c11 volumes.c $(pkg-config --cflags --libs libfv)        ./a.out IMAGE */

@@ -1,4 +1,5 @@
 #!/usr/bin/env python3
+# SPDX-License-Identifier: BSD-2-Clause-Patent
 """An example for Python programs: lists the volumes of a flash image with their files and bytes of data, and reports
 whether all of the volumes are canonical.
 

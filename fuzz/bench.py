@@ -1,4 +1,5 @@
 #!/usr/bin/env python3
+# SPDX-License-Identifier: BSD-2-Clause-Patent
 """Measures the built program over volumes, beside cat, cmp, sha256sum and, where they are installed, VolInfo and
 UEFIExtract, and prints a table. The table has the least processor time of the runs of each command, the ratio of this
 time to the time of cat, and the peak of memory. README.md describes more."""

@@ -1,4 +1,5 @@
 #!/usr/bin/env python3
+# SPDX-License-Identifier: BSD-2-Clause-Patent
 """Measures the calls of libfv from Python, over a volume of 128 bytes without files, a volume of large files, and a
 volume of files of 24 bytes. Prints the least time of each call in microseconds. The script counts the rows of a call
 and does not read them."""

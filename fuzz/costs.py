@@ -1,3 +1,4 @@
+# SPDX-License-Identifier: BSD-2-Clause-Patent
 """Measures the time and the memory of a program's runs, for hostile.py and bench.py."""
 
 from __future__ import annotations

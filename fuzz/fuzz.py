@@ -1,4 +1,5 @@
 #!/usr/bin/env python3
+# SPDX-License-Identifier: BSD-2-Clause-Patent
 """Writes firmware volumes, flash images and hand-off lists, valid, nearly valid and broken, runs the built program over
 them, and checks from outside whether it keeps the promises of docs/PROGRAM.md. README.md in this folder describes
 more."""

@@ -1,3 +1,4 @@
+# SPDX-License-Identifier: BSD-2-Clause-Patent
 # Completion for bash of the commands of the Python package fv. It offers the options that a command's --help lists, and
 # names of files.
 _fv() { # COMMAND WORD

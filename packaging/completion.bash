@@ -1,3 +1,4 @@
+# SPDX-License-Identifier: BSD-2-Clause-Patent
 # Completion of fvtool(1) for bash. It needs no other package, and runs the fvtool in PATH to get offsets and names.
 
 # Writes the Nth file among the other arguments.

@@ -1,4 +1,5 @@
 #compdef fvtool
+# SPDX-License-Identifier: BSD-2-Clause-Patent
 # Completion of fvtool(1) for zsh. It runs the fvtool in PATH to get offsets and names.
 
 # Writes the Nth file among the arguments.

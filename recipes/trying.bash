@@ -1,3 +1,4 @@
+# SPDX-License-Identifier: BSD-2-Clause-Patent
 # shellcheck shell=bash
 # Shared code of the tests of the recipes: the made images in $room/images, and functions that
 # check a run. A test sources this file and ends with `tried`. It works in a scratch folder, and writes nothing beside

@@ -1,3 +1,4 @@
+/* SPDX-License-Identifier: BSD-2-Clause-Patent */
 /* fv.h - the calls of libfv 2, for C and C++ programs that read, check, compare or rebuild UEFI firmware volumes (PI
  * specification 1.8, volume 3). Link with `pkg-config --libs libfv`.
  *

@@ -1,3 +1,4 @@
+# SPDX-License-Identifier: BSD-2-Clause-Patent
 """Makes the wheel and the source archive of the package for pip, as PEP 517 defines, with Python's standard library
 only: without network, without setuptools, without a compiler. Both contain the library, because only the kit can build
 it. The library is the file that LIBFV names, otherwise fv/libfv.so.2 (which an unpacked source archive contains),
@@ -20,6 +21,8 @@ from pathlib import Path
 
 HERE = Path(__file__).resolve().parent
 LIBRARY = "libfv.so.2"
+# The licence of this repository, and the licences of the code that is linked in: each file, and its place here.
+LICENCES = {"LICENSE": HERE.parent.parent / "LICENSE", "copyright": HERE.parent.parent / "packaging/copyright"}
 # The date of all files: the earliest that a zip archive can hold.
 DATE = (1980, 1, 1, 0, 0, 0)
 
@@ -43,8 +46,7 @@ def sources() -> dict[str, bytes]:
     places = [Path(named)] if named else [HERE / "fv" / LIBRARY, HERE.parent / "out" / LIBRARY]
     found = {f"fv/{it.name}": it.read_bytes() for it in package()}
     found[f"fv/{LIBRARY}"] = first_of(LIBRARY, *places)
-    found["copyright"] = first_of("copyright", HERE / "copyright", HERE.parents[1] / "packaging/copyright")
-    return found
+    return found | {name: first_of(name, HERE / name, place) for name, place in LICENCES.items()}
 
 
 def tag(library: bytes) -> str:
@@ -110,7 +112,8 @@ def metadata() -> bytes:
     lines = ["Metadata-Version: 2.4", f"Name: {field('name')}", f"Version: {version()}"]
     lines += [f"Summary: {field('description')}", f"Author-email: {author()}"]
     lines += [f"Keywords: {','.join(texts('keywords'))}", *(f"Classifier: {it}" for it in texts("classifiers"))]
-    lines += [f"Requires-Python: {field('requires-python')}", "License-File: copyright"]
+    lines += [f"License-Expression: {field('license')}", *(f"License-File: {it}" for it in LICENCES)]
+    lines += [f"Requires-Python: {field('requires-python')}"]
     lines += ["Description-Content-Type: text/markdown", ""]
     return "\n".join(lines).encode() + b"\n" + (HERE / "README.md").read_bytes()
 
@@ -128,7 +131,7 @@ def build_wheel(wheel_directory: str, config_settings: object = None, metadata_d
     """Writes the wheel to a folder, and returns its name."""
     about, files = f"{title()}.dist-info", sources()
     tagged = tag(files[f"fv/{LIBRARY}"])
-    files[f"{about}/licenses/copyright"] = files.pop("copyright")
+    files.update({f"{about}/licenses/{it}": files.pop(it) for it in LICENCES})
     files[f"{about}/METADATA"] = metadata()
     files[f"{about}/WHEEL"] = f"Wheel-Version: 1.0\nGenerator: libfv\nRoot-Is-Purelib: false\nTag: {tagged}\n".encode()
     files[f"{about}/entry_points.txt"] = entry_points()

@@ -1,4 +1,5 @@
 #!/usr/bin/env python3
+# SPDX-License-Identifier: BSD-2-Clause-Patent
 """Writes the manual pages of the program and of the package's commands to a folder. The page of the program is
 man/fvtool.md with the parts of docs/PROGRAM.md that it links to. The pages of the commands are made from their parsers
 and from the text that `--help` shows.
@@ -159,7 +160,9 @@ def main() -> None:
     about = f'{title.split()[-1]} "Capstanolive {version}" "User Commands"'
     for name, page in pages.items():
         lines = [f".TH {escaped(name.upper())} 1 {about}", *roff(page), ""]
-        (given.folder / f"{name}.1").write_text("\n".join(lines), encoding="utf-8")
+        made: Path = given.folder / f"{name}.1"
+        made.unlink(missing_ok=True)  # a link is replaced, and not written through
+        made.write_text("\n".join(lines), encoding="utf-8")
 
 
 if __name__ == "__main__":

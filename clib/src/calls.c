@@ -1,3 +1,4 @@
+/* SPDX-License-Identifier: BSD-2-Clause-Patent */
 /* The calls of fv.h, over the proved calls. Each call checks its pointers, sizes and choices, and passes them on to the
  * proved call of the same name with the prefix fvp_, which has the same parameters. This layer reads no byte of an
  * input, and changes no result. This file is not proved: tests/arguments.c and tests/layer.c try it.

@@ -1,3 +1,4 @@
+/* SPDX-License-Identifier: BSD-2-Clause-Patent */
 /* The heap of libfv: the three functions with which the proved code gets and returns memory. They call malloc,
  * realloc and free, and are not proved. To link libfv.a on a system without malloc, replace these three.
  *

@@ -1,3 +1,4 @@
+/* SPDX-License-Identifier: BSD-2-Clause-Patent */
 /* The sentences that explain the results of calls. docs/FAULTS.md has the same texts for faults. */
 #include "fv.h"
 

@@ -1,3 +1,4 @@
+/* SPDX-License-Identifier: BSD-2-Clause-Patent */
 /* Checks that each call returns FV_BAD_ARGUMENT for an argument that is not allowed, and writes nothing, not even the
  * fault. Also checks that a call does the same with NULL as with a pointer if NULL is allowed.
  *

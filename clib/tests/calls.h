@@ -1,3 +1,4 @@
+/* SPDX-License-Identifier: BSD-2-Clause-Patent */
 /* Every call of fv.h that takes an input, in one form, for the tests that try all calls. */
 #ifndef CALLS_H
 #define CALLS_H

@@ -1,4 +1,5 @@
 #!/usr/bin/env python3
+# SPDX-License-Identifier: BSD-2-Clause-Patent
 """command.py [--program PROGRAM] FILE..: `python3 -m fv` over each FILE. Checks that its lines agree with the results
 of the package's calls, also with --json. With the program, also checks that they agree with the output of `scan`,
 `check`, `cells`, `list` and `list --sums`. Then tries wrong arguments, a missing file, and outputs that are full or

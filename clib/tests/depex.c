@@ -1,3 +1,4 @@
+/* SPDX-License-Identifier: BSD-2-Clause-Patent */
 /* Tries dependency expressions that were written by hand: PUSH A PUSH B AND END in both phases, BEFORE A END, an
  * unknown op, and an expression that is cut short. */
 #include <fv.h>

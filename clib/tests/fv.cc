@@ -1,3 +1,4 @@
+/* SPDX-License-Identifier: BSD-2-Clause-Patent */
 // Tries the library from C++, with a vector for each buffer: the image of a volume, whether the image is its own image,
 // and the data of its files. A vector without elements may have a null pointer.
 #include <fv.h>

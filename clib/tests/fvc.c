@@ -1,3 +1,4 @@
+/* SPDX-License-Identifier: BSD-2-Clause-Patent */
 /* Runs the commands of the program by the library, so that a script can compare the outputs, and makes runs for a
  * sanitizer.
  *   fvc normalise|all|unfix|check|checkall|scan|cells|list|sums|hobs|digest|parts|flips|prefixes FILE

@@ -1,3 +1,4 @@
+/* SPDX-License-Identifier: BSD-2-Clause-Patent */
 /* guards FILE..: makes each call over each file, with arguments beside pages that cannot be touched: first with a page
  * after each argument, then with a page before each argument. The input cannot be written to. The buffer has room for
  * exactly the output, for more, for an element less, and for no element, with and without a pointer. Checks that

@@ -1,3 +1,4 @@
+/* SPDX-License-Identifier: BSD-2-Clause-Patent */
 /* Checks the arguments that the layer in C (src/calls.c) passes to the proved calls. Here the proved calls are replaced
  * by functions that only remember their arguments, and return a number. So the linker leaves the proved calls out. The
  * layer must pass each argument as it is, in the same order. It must replace NULL by an address that is aligned for

@@ -1,3 +1,4 @@
+/* SPDX-License-Identifier: BSD-2-Clause-Patent */
 /* Checks that the library has the same structures as fv.h. Each call fills a structure from a volume whose fields were
  * worked out by hand. Each field is read through the header. The bytes after a structure must be unchanged. */
 #include <fv.h>

@@ -1,4 +1,5 @@
 #!/usr/bin/env python3
+# SPDX-License-Identifier: BSD-2-Clause-Patent
 """opened.py: checks `fv.images` over made images: volumes at every level, compressed sections, volumes with fixed
 files, volumes at odd places, and the limits of reading."""
 

@@ -1,4 +1,5 @@
 #!/usr/bin/env python3
+# SPDX-License-Identifier: BSD-2-Clause-Patent
 """parts.py [--program PROGRAM] FILE..: checks the tree of volumes, its digests and its parts, by the Python package.
 
 First checks the volumes of crates/fv_run_tests/rows/read.rows, whose files and faults were worked out by hand. Then

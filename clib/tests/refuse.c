@@ -1,3 +1,4 @@
+/* SPDX-License-Identifier: BSD-2-Clause-Patent */
 /* Refuses each allocation of each call in turn, by three functions that replace the functions of src/heap.c. A call
  * must then return out of memory, at offset 0 and depth 0, and no other result. It must keep no block, and leave its
  * buffer and its other results unchanged. fv_header_read and fv_volume_unfix take no memory. */

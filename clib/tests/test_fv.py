@@ -1,4 +1,5 @@
 #!/usr/bin/env python3
+# SPDX-License-Identifier: BSD-2-Clause-Patent
 """test_fv.py FILE..: compares the calls of the Python package over files with each other and with hashlib. Then checks
 the rules of the package: its arguments, its exceptions, its results, and the libraries that it loads."""
 

@@ -1,3 +1,4 @@
+/* SPDX-License-Identifier: BSD-2-Clause-Patent */
 /* threads FILE TURNS: makes every call in several threads at once, over one input, and checks that each thread gets the
  * same results as one thread. Also built with -fsanitize=thread. The sanitizer checks this file, and in the library
  * only copies and blocks of memory. */

@@ -1,3 +1,4 @@
+/* SPDX-License-Identifier: BSD-2-Clause-Patent */
 /* Tries fv_volume_unfix over volumes that were written by hand. Every allocation is refused, and the call must not ask
  * for any. The input cannot be written to. The input and the buffer are beside a page that cannot be touched: first
  * before this page, then after it. The buffer has room for the volume, for a little more, for a byte less, and for

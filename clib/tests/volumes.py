@@ -1,4 +1,5 @@
 #!/usr/bin/env python3
+# SPDX-License-Identifier: BSD-2-Clause-Patent
 """volumes.py: checks the calls of the Python package that take volumes and images, except for trees and parts
 (parts.py), over the volumes of crates/fv_run_tests/rows, and depex_evaluate and hobs_read over its expressions and
 lists.

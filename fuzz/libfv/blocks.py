@@ -1,4 +1,5 @@
 #!/usr/bin/env python3
+# SPDX-License-Identifier: BSD-2-Clause-Patent
 """blocks.py PROGRAM ARCHIVE: finds where the basic blocks of the library begin in a program that is linked with it.
 
 Writes PROGRAM.blocks: 32-bit offsets from fv_header_read. A block begins at a function, at the target of a direct jump,

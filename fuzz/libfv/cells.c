@@ -1,3 +1,4 @@
+/* SPDX-License-Identifier: BSD-2-Clause-Patent */
 /* Checks fv_volume_cells: the cells follow one another up to the end of the volume, and each cell agrees with its
  * bytes. */
 #include "coverage.h"

@@ -1,3 +1,4 @@
+/* SPDX-License-Identifier: BSD-2-Clause-Patent */
 #include "mutate.h"
 
 static uint32_t state = 1;

@@ -1,3 +1,4 @@
+/* SPDX-License-Identifier: BSD-2-Clause-Patent */
 /* The changes that the mutator makes in a volume. Each function takes the volume, its number of bytes and the largest
  * number of bytes that it may have, and returns the new number of bytes. These functions may leave wrong checksums and
  * lengths, which repair.c corrects. */

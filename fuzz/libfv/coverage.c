@@ -1,3 +1,4 @@
+/* SPDX-License-Identifier: BSD-2-Clause-Patent */
 /* The library is not instrumented, because it is the archive that users link. So a trap instruction is written at the
  * head of each of its basic blocks. When a trap is reached, the handler puts the old byte back and counts the block for
  * libFuzzer. Each block costs one signal in the life of the process, and nothing after that. */

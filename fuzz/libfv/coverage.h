@@ -1,3 +1,4 @@
+/* SPDX-License-Identifier: BSD-2-Clause-Patent */
 /* The feedback from the library, whose code is not instrumented. */
 #ifndef COVERAGE_H
 #define COVERAGE_H

@@ -1,3 +1,4 @@
+/* SPDX-License-Identifier: BSD-2-Clause-Patent */
 /* SHA-256 (FIPS 180-4), written without regard to speed. */
 #include "digest.h"
 

@@ -1,3 +1,4 @@
+/* SPDX-License-Identifier: BSD-2-Clause-Patent */
 /* SHA-256 of the harness. It is compared with the library's SHA-256. */
 #ifndef DIGEST_H
 #define DIGEST_H

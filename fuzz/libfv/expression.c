@@ -1,3 +1,4 @@
+/* SPDX-License-Identifier: BSD-2-Clause-Patent */
 /* Checks fv_depex_evaluate: it returns the same result as an evaluator of the harness (PI specification 1.8, volume 2,
  * section 10.7, and volume 1, section 5.7; docs/FAULTS.md defines the order of the faults). */
 #include "coverage.h"

@@ -1,3 +1,4 @@
+/* SPDX-License-Identifier: BSD-2-Clause-Patent */
 /* Checks fv_hobs_read: the blocks follow one another up to the end block, and each block agrees with its bytes. */
 #include "coverage.h"
 #include "harness.h"

@@ -1,3 +1,4 @@
+/* SPDX-License-Identifier: BSD-2-Clause-Patent */
 /* The parts that all files of the harness share: the parameters of an input, the limits of calls, and the function by
  * which a finding ends the process. */
 #ifndef HARNESS_H

@@ -1,3 +1,4 @@
+/* SPDX-License-Identifier: BSD-2-Clause-Patent */
 /* The three functions with which the library gets and returns memory. They find wrong uses of a block. Each block is at
  * the end of a room, and the page after it cannot be touched. The bytes around the block are checked when it is
  * returned, and its room is used again as late as possible. Blocks that do not fit into a room come from malloc. */

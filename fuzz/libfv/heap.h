@@ -1,3 +1,4 @@
+/* SPDX-License-Identifier: BSD-2-Clause-Patent */
 /* The memory functions of the library, which replace clib/src/heap.c. */
 #ifndef HEAP_H
 #define HEAP_H

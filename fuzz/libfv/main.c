@@ -1,3 +1,4 @@
+/* SPDX-License-Identifier: BSD-2-Clause-Patent */
 /* A libFuzzer harness over every call of libfv. README.md lists the checks. */
 #define _GNU_SOURCE
 #include "coverage.h"

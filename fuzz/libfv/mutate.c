@@ -1,3 +1,4 @@
+/* SPDX-License-Identifier: BSD-2-Clause-Patent */
 /* The mutator that libFuzzer calls. It changes a volume, an op or a block in an input, depending on the kind of the
  * input, and has checksums and lengths corrected. */
 #include "mutate.h"

@@ -1,3 +1,4 @@
+/* SPDX-License-Identifier: BSD-2-Clause-Patent */
 /* The parts that the files of the mutator share: random choices, numbers in bytes, and the parts of a volume. */
 #ifndef MUTATE_H
 #define MUTATE_H

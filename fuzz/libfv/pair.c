@@ -1,3 +1,4 @@
+/* SPDX-License-Identifier: BSD-2-Clause-Patent */
 /* Checks fv_volume_compare: the result is the same both ways, and two volumes are the same if their digests are
  * equal. */
 #define _GNU_SOURCE

@@ -1,3 +1,4 @@
+/* SPDX-License-Identifier: BSD-2-Clause-Patent */
 #include "plant.h"
 #include "mutate.h"
 #include <stdlib.h>

@@ -1,3 +1,4 @@
+/* SPDX-License-Identifier: BSD-2-Clause-Patent */
 /* Faults that are put into calls of the library, to check that the fuzzer finds them. The environment variable PLANT
  * has the number of the active fault, as in PLANT=1. The program that looks for true findings does not contain these
  * faults. */

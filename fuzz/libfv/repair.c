@@ -1,3 +1,4 @@
+/* SPDX-License-Identifier: BSD-2-Clause-Patent */
 /* Corrects the checksums and lengths of a changed volume. Otherwise the first wrong checksum would end each try. */
 #include "mutate.h"
 

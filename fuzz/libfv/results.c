@@ -1,3 +1,4 @@
+/* SPDX-License-Identifier: BSD-2-Clause-Patent */
 #include "results.h"
 #include "harness.h"
 #include "heap.h"

@@ -1,3 +1,4 @@
+/* SPDX-License-Identifier: BSD-2-Clause-Patent */
 /* The checks of the result and the fault of any call. */
 #ifndef RESULTS_H
 #define RESULTS_H

@@ -1,3 +1,4 @@
+/* SPDX-License-Identifier: BSD-2-Clause-Patent */
 /* A read or a write past an argument ends the process by a signal, or changes a byte that is UNTOUCHED. */
 #define _GNU_SOURCE
 #include "rooms.h"

@@ -1,3 +1,4 @@
+/* SPDX-License-Identifier: BSD-2-Clause-Patent */
 /* The arguments of calls, between pages that cannot be touched. */
 #ifndef ROOMS_H
 #define ROOMS_H

@@ -1,3 +1,4 @@
+/* SPDX-License-Identifier: BSD-2-Clause-Patent */
 /* The checks of calls that write rows into a buffer, or as many bytes as their input has. */
 #ifndef ROWS_H
 #define ROWS_H

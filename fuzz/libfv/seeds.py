@@ -1,4 +1,5 @@
 #!/usr/bin/env python3
+# SPDX-License-Identifier: BSD-2-Clause-Patent
 """seeds.py FOLDER: writes the first inputs of the fuzzer, always the same, each after the parameters that harness.h
 describes. FOLDER/seeds gets volumes, flash images, hand-off lists and expressions as fuzz/fuzz.py makes them.
 FOLDER/few gets an empty volume and an expression of two ops. The mutator itself has to reach all other inputs from

@@ -1,3 +1,4 @@
+/* SPDX-License-Identifier: BSD-2-Clause-Patent */
 /* Checks fv_volume_tree: each row lies in the row of its parent, and agrees with its header. The files of the volume
  * are cells. A nested volume has the same rows if its bytes are read on their own. The image has the same rows at other
  * offsets. */

@@ -1,3 +1,4 @@
+/* SPDX-License-Identifier: BSD-2-Clause-Patent */
 /* Checks the calls that take a volume. They agree about its fault. The image has the meaning and the digest of the
  * volume, and is its own image. */
 #include "volume.h"

@@ -1,3 +1,4 @@
+/* SPDX-License-Identifier: BSD-2-Clause-Patent */
 /* A volume that is tried, and the results of the calls that were made so far. */
 #ifndef VOLUME_H
 #define VOLUME_H

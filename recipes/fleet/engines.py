@@ -1,3 +1,4 @@
+# SPDX-License-Identifier: BSD-2-Clause-Patent
 """Runs the commands of README.md over made images, with each engine that is installed, and kills a worker, a job or a
 machine with SIGKILL in the middle. Each image must then have exactly one line, with the result that it was made for: no
 line is lost, and no line occurs twice. An engine that is not installed is skipped. `test` runs this script, with the

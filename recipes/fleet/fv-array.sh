@@ -1,4 +1,5 @@
 #!/usr/bin/env bash
+# SPDX-License-Identifier: BSD-2-Clause-Patent
 # The task of a Slurm array: `sbatch --array=0-N fv-array.sh LIST FOLDER SIZE` checks the images of LIST, SIZE in each
 # task. A task writes its answers to another file and renames it to FOLDER/ID.tsv, so that file is always complete. If
 # the node of a task is lost, the task is put back in the queue (--requeue). A task whose file exists ends at once, so

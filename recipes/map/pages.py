@@ -1,3 +1,4 @@
+# SPDX-License-Identifier: BSD-2-Clause-Patent
 """Draws made flash images with fv-map, and reads the pages back: each part of an image is on the page, at its place,
 with its size, and nothing of the image is markup. If Chromium is installed, it opens pages without a screen: the names
 are in the opened page, the colours are in the drawn page, light and dark, and a window of 500 pixels is wide enough. If

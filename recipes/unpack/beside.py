@@ -1,4 +1,5 @@
 #!/usr/bin/env python3
+# SPDX-License-Identifier: BSD-2-Clause-Patent
 """beside.py [--runs N] IMAGE..: unpacks images with UEFIExtract and with fv-unpack, and checks that both find the same
 files (by GUID and size, without pads) and the same sections (by size). The rows of a table show the numbers of files
 and sections, the least processor time of N runs of each tool, and how much each tool writes. Both tools run in a

@@ -1,3 +1,4 @@
+# SPDX-License-Identifier: BSD-2-Clause-Patent
 """The calls of libfv, for Python programs that read, check, compare or rebuild UEFI firmware volumes.
 
     import fv

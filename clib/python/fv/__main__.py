@@ -1,3 +1,4 @@
+# SPDX-License-Identifier: BSD-2-Clause-Patent
 """Lists the contents of the volumes in a flash image for scripts, one line for each part, as text or as JSON.
 
     python3 -m fv scan IMAGE [--json]       each volume, by its header

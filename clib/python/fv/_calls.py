@@ -1,3 +1,4 @@
+# SPDX-License-Identifier: BSD-2-Clause-Patent
 """The functions of the package, one for each call of fv.h."""
 
 from __future__ import annotations

@@ -1,3 +1,4 @@
+# SPDX-License-Identifier: BSD-2-Clause-Patent
 """The faults of an input, and the exceptions that the calls raise."""
 
 from __future__ import annotations

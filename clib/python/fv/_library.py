@@ -1,3 +1,4 @@
+# SPDX-License-Identifier: BSD-2-Clause-Patent
 """Loads libfv by ctypes, and passes bytes to it and from it. The other modules use this module. Users of the package do
 not need it."""
 

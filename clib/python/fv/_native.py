@@ -1,3 +1,4 @@
+# SPDX-License-Identifier: BSD-2-Clause-Patent
 """The constants, structures and calls of fv.h, for ctypes and struct.
 
 Made from fv.h by clib/generate: change fv.h, and run clib/generate."""

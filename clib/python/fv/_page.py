@@ -1,3 +1,4 @@
+# SPDX-License-Identifier: BSD-2-Clause-Patent
 """Writes the HTML page of fv-map. The page contains no script and loads nothing from outside. The texts of an image are
 not trusted: all of them are escaped, and characters that cannot be seen are shown as numbers."""
 

@@ -1,3 +1,4 @@
+# SPDX-License-Identifier: BSD-2-Clause-Patent
 """Gathers the data that fv-map draws for an image: the parts and the files of each volume, the contents of the files,
 and the files that came, went and changed since another image."""
 

@@ -1,3 +1,4 @@
+# SPDX-License-Identifier: BSD-2-Clause-Patent
 """The types of the values that the calls return."""
 
 from __future__ import annotations

@@ -1,3 +1,4 @@
+# SPDX-License-Identifier: BSD-2-Clause-Patent
 """Checks many images. Writes a line for each image, with its status, its verdicts and its name, separated by tabs:
 
     0	0 canonical	/images/a.fd

@@ -1,3 +1,4 @@
+# SPDX-License-Identifier: BSD-2-Clause-Patent
 """Contains the parts that the commands of the package share: their arguments, their inputs, and their exit statuses.
 
     @cli.command("fv-same")

@@ -1,3 +1,4 @@
+# SPDX-License-Identifier: BSD-2-Clause-Patent
 """Reports to git whether two volumes or flash images mean the same, and which files differ: a diff driver for git.
 
     git config diff.fv.command fv-diff

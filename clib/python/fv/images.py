@@ -1,3 +1,4 @@
+# SPDX-License-Identifier: BSD-2-Clause-Patent
 """Reads the contents of a flash image at every level: its volumes, their files, their sections, and the contents of
 compressed sections.
 

@@ -1,3 +1,4 @@
+# SPDX-License-Identifier: BSD-2-Clause-Patent
 """Limits how much of an image is read and opened. An image is not trusted: 64 KiB of LZMA can hold 256 MiB, and the
 contents can hold further LZMA data."""
 

@@ -1,3 +1,4 @@
+# SPDX-License-Identifier: BSD-2-Clause-Patent
 """Draws a flash image or a firmware volume as one HTML page, which shows the parts, their sizes and the free space.
 
     fv-map IMAGE > map.html

@@ -1,3 +1,4 @@
+# SPDX-License-Identifier: BSD-2-Clause-Patent
 """Names the types of files and sections as the PI specification does, and GUIDs as EDK II does."""
 
 from __future__ import annotations

@@ -1,3 +1,4 @@
+# SPDX-License-Identifier: BSD-2-Clause-Patent
 """Opens sections that libfv keeps whole: compressed sections, and sections that a GUID defines.
 
 `open_section` returns the contents of a section. This is not proved, and an image is not trusted, so a budget limits

@@ -1,3 +1,4 @@
+# SPDX-License-Identifier: BSD-2-Clause-Patent
 """Reports whether two firmware volumes or two flash images mean the same, and which files differ.
 
 Equal bytes always mean the same. Two flash images mean the same if each volume means the same as the volume at its

@@ -1,3 +1,4 @@
+# SPDX-License-Identifier: BSD-2-Clause-Patent
 """Lists the files of a flash image or of a firmware volume as a CycloneDX 1.5 bill of materials.
 
     fv-sbom IMAGE > bill.json

@@ -1,3 +1,4 @@
+# SPDX-License-Identifier: BSD-2-Clause-Patent
 """Shows the texts of an image in a form in which no character controls the terminal or begins another line."""
 
 from __future__ import annotations

@@ -1,3 +1,4 @@
+# SPDX-License-Identifier: BSD-2-Clause-Patent
 """Writes the meaning of the volumes of an image as lines that git can compare.
 
     git config diff.fv.textconv fv-text

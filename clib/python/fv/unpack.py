@@ -1,3 +1,4 @@
+# SPDX-License-Identifier: BSD-2-Clause-Patent
 """Unpacks a flash image or a firmware volume into files, or lists its parts.
 
 FOLDER gets a folder for each volume at every level. That folder has a folder for each file, and in it a file for each

@@ -1,3 +1,4 @@
+// SPDX-License-Identifier: BSD-2-Clause-Patent
 //! Finds libfv 2: in the folder that LIBFV_DIR names, otherwise where pkg-config says.
 
 use std::env;

@@ -1,4 +1,5 @@
 #!/usr/bin/env python3
+# SPDX-License-Identifier: BSD-2-Clause-Patent
 """Reads the rows of this folder, and the bytes that they spell. README.md describes the notation. `rows.py WORD..`
 writes the bytes that these words spell."""
 

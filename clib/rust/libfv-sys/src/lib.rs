@@ -1,3 +1,4 @@
+// SPDX-License-Identifier: BSD-2-Clause-Patent
 //! The declarations of `fv.h`, the header of libfv 2, which reads, checks, compares and rebuilds UEFI
 //! firmware volumes. The crate `libfv` has safe functions over them. The rules for callers are those
 //! of `fv.h`.

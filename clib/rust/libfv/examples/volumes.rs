@@ -1,3 +1,4 @@
+// SPDX-License-Identifier: BSD-2-Clause-Patent
 //! An example for Rust programs: lists the volumes of a flash image with their files and bytes of
 //! data, and reports whether all of the volumes are canonical.
 //!   cargo run --offline --manifest-path clib/rust/Cargo.toml --example volumes IMAGE

@@ -1,3 +1,4 @@
+// SPDX-License-Identifier: BSD-2-Clause-Patent
 //! Dependency expressions: [`evaluate`].
 
 use crate::call::{address, NO_FAULT};

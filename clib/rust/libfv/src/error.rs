@@ -1,3 +1,4 @@
+// SPDX-License-Identifier: BSD-2-Clause-Patent
 //! Why a call returned no result.
 
 use libfv_sys as sys;

@@ -1,3 +1,4 @@
+// SPDX-License-Identifier: BSD-2-Clause-Patent
 //! The header of a volume: [`read`].
 
 use crate::call;

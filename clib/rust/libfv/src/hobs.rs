@@ -1,3 +1,4 @@
+// SPDX-License-Identifier: BSD-2-Clause-Patent
 //! Hand-off lists: [`read`].
 
 use crate::call::{address, filled};

@@ -1,3 +1,4 @@
+// SPDX-License-Identifier: BSD-2-Clause-Patent
 //! Flash images: any bytes, in which volumes may lie.
 
 use crate::call;

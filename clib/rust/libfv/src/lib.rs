@@ -1,3 +1,4 @@
+// SPDX-License-Identifier: BSD-2-Clause-Patent
 //! Safe functions over the calls of libfv, for programs that read, check, compare or rebuild UEFI
 //! firmware volumes (PI specification 1.8, volume 3).
 //!

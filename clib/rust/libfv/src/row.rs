@@ -1,3 +1,4 @@
+// SPDX-License-Identifier: BSD-2-Clause-Patent
 //! Rows: the structures that calls write, with getters.
 
 use libfv_sys as sys;

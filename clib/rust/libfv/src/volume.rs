@@ -1,3 +1,4 @@
+// SPDX-License-Identifier: BSD-2-Clause-Patent
 //! Volumes: bytes that are exactly one firmware volume.
 //!
 //! The *meaning* of a volume is the content of its header, files and sections, wherever they are

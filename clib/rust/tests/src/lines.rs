@@ -1,3 +1,4 @@
+// SPDX-License-Identifier: BSD-2-Clause-Patent
 //! Writes the results of the calls over files, so that scripts can compare languages and the
 //! program.
 //!

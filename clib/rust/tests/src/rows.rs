@@ -1,3 +1,4 @@
+// SPDX-License-Identifier: BSD-2-Clause-Patent
 //! Reads the rows of `crates/fv_run_tests/rows`. The README there describes the notation.
 
 use std::collections::HashMap;

@@ -1,3 +1,4 @@
+// SPDX-License-Identifier: BSD-2-Clause-Patent
 //! Tries each call over the rows of `crates/fv_run_tests/rows`, whose results were worked out by
 //! hand, over empty inputs, over inputs with more rows than the first buffer has room for, and from
 //! several threads.

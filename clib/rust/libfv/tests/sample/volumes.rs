@@ -1,3 +1,4 @@
+// SPDX-License-Identifier: BSD-2-Clause-Patent
 // Volumes for examples: one of a file with two sections, and an empty one. An example includes this
 // file.
 fn spelled(digits: &str) -> Vec<u8> {
