@@ -18,8 +18,9 @@ from dataclasses import dataclass, field, replace
 
 from . import names
 from ._calls import header_read, image_scan, volume_tree, volume_unfix
-from ._errors import Fault, FaultCode, FaultError
-from ._types import Node, NodeKind
+from ._errors import Fault, FaultError
+from ._native import FaultCode, NodeKind
+from ._types import Node
 from .limits import Budget, Full, Limits
 from .opened import PACKED, Closed, Way, frames, open_section
 

@@ -24,7 +24,8 @@ from dataclasses import replace
 from . import cli, images
 from ._calls import volume_tree, volume_tree_digests
 from ._errors import FaultError
-from ._types import Node, NodeKind
+from ._native import NodeKind
+from ._types import Node
 from .images import Content, File, Opened, Section, Volume, files_in, leaves
 from .limits import Full
 from .names import GROUP, SUBTYPE, UI, VERSION
