@@ -185,7 +185,7 @@ def _end(number: int, _: object) -> NoReturn:
     sys.exit(128 + number)
 
 
-def read_file(name: str | bytes, most: int) -> bytes:
+def read_file(name: str | bytes | int, most: int) -> bytes:
     """Returns the bytes of a file, a pipe or a device. Raises Full if there are more than `most` bytes."""
     pieces, left = [], most + 1
     with open(name, "rb", buffering=0) as file:
