@@ -7,6 +7,7 @@ from __future__ import annotations
 
 import functools
 import importlib
+import io
 import lzma
 import struct
 import uuid
@@ -152,21 +153,18 @@ def open_section(kind: int, header_length: int, body: bytes, budget: Budget) -> 
     suffice."""
     budget.open()
     way, data = _compression(body) if kind == COMPRESSION else _guided(header_length, body)
-    pieces: list[bytes] = []
-    size = 0
+    found = io.BytesIO()  # its bytes are not copied at the end
     try:
         for piece in way.unpack(data, budget):
-            pieces.append(piece)
-            size += len(piece)
-            if size > budget.limits.section:
+            found.write(piece)
+            if found.tell() > budget.limits.section:
                 raise Closed(f"{way.name}: more than {budget.limits.section} bytes")
-            budget.check(size)
-        found = b"".join(pieces)
+            budget.check(found.tell())
     except (Closed, Full, MemoryError):
-        budget.waste(size)
+        budget.waste(found.tell())
         raise
-    budget.keep(size)
-    return way, found
+    budget.keep(found.tell())
+    return way, found.getvalue()
 
 
 def _compression(body: bytes) -> tuple[Way, bytes]:
