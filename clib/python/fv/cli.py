@@ -181,7 +181,7 @@ def undisturbed() -> Iterator[None]:
 
 def _end(number: int, _: object) -> NoReturn:
     for it in SIGNALS:
-        signal.signal(it, signal.SIG_IGN)
+        signal.signal(it, lambda *_: None)  # Python complains if a signal that has come is ignored
     sys.exit(128 + number)
 
 
