@@ -4,6 +4,7 @@ fixed files, volumes at odd places; and how far its limits let it go."""
 
 from __future__ import annotations
 
+import lzma
 import struct
 import sys
 import uuid
@@ -117,7 +118,7 @@ def test_limits() -> None:
 
 def test_waste() -> None:
     """Counts what is unpacked but not kept: sections that are cut short, and sections with too many parts."""
-    cut = made.guided(made.LZMA, made.lzma.compress(bytes(5 << 20), format=made.lzma.FORMAT_ALONE)[:700])
+    cut = made.guided(made.LZMA, lzma.compress(bytes(5 << 20), format=lzma.FORMAT_ALONE)[:700])
     full = made.compressed(made.section(made.RAW, b"") * 60)
     for packed, limits, count, reason in (
         (cut, Limits(wasted=10 << 20), 3, "LZMA: the data are cut short"),
