@@ -938,7 +938,8 @@ def check_placed(tool: Tool, case: Case, image: bytes) -> None:
     at = ["--at", str(len(front))]
     command = tool.pick.choice(("normalise", "list", "check"))
     require(tool.ask(command, more, options=at) == tool.ask(command, case.data), f"{command}: {at} is another answer")
-    for shown in (str, hex):
+    forms: tuple[Callable[[int], str], ...] = (str, hex)
+    for shown in forms:
         at = ["--at", shown(len(front)), "--other-at", shown(len(other))]
         answer = tool.ask("compare", more, other + image, options=at)
         require(answer == (0, b"same\n"), f"compare: {at} is another answer")
