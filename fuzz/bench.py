@@ -16,8 +16,8 @@ from dataclasses import dataclass
 
 sys.dont_write_bytecode = True  # no folder beside the scripts
 
-from costs import MIB, Cost, Make, cost_of, write  # noqa: E402
 from fuzz import ROOT  # noqa: E402
+from hostile import MIB, Cost, Make, cost_of, write  # noqa: E402
 from hostile import empty_sections, file_head, named_files, volume  # noqa: E402
 
 OURS = ("scan", "list", "cells", "check", "normalise", "list --sums")

@@ -7,6 +7,7 @@ and does not read them."""
 from __future__ import annotations
 
 import argparse
+import re
 import sys
 import timeit
 from collections.abc import Callable
@@ -17,28 +18,16 @@ from typing import Any
 sys.dont_write_bytecode = True  # no folder beside the scripts
 
 from bench import data_files, small_files  # noqa: E402
-from costs import MIB  # noqa: E402
 from fuzz import ROOT  # noqa: E402
-from hostile import volume  # noqa: E402
+from hostile import MIB, volume  # noqa: E402
 
 # A package that PYTHONPATH names is used first.
 sys.path.append(str(ROOT / "clib/python"))
 import fv  # noqa: E402
 
-# The functions whose only argument is a volume.
-CALLS: tuple[Callable[[Any], Any], ...] = (
-    fv.header_read,
-    fv.image_scan,
-    fv.image_check,
-    fv.image_normalise,
-    fv.volume_is_canonical,
-    fv.volume_normalise,
-    fv.volume_unfix,
-    fv.volume_digest,
-    fv.volume_cells,
-    fv.volume_tree,
-    fv.volume_tree_digests,
-)
+# The functions that take a volume and nothing else.
+NAMES = [it for it in fv.__all__ if re.match("header_|image_|volume_(?!compare|extract)", it)]
+CALLS: list[Callable[[Any], Any]] = [getattr(fv, it) for it in NAMES]
 
 
 @dataclass(frozen=True)

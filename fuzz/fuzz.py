@@ -942,10 +942,11 @@ def check_placed(tool: Tool, case: Case, image: bytes) -> None:
     at = ["--at", str(len(front))]
     command = tool.pick.choice(("normalise", "list", "check"))
     require(tool.ask(command, more, options=at) == tool.ask(command, case.data), f"{command}: {at} is another answer")
-    at += ["--other-at", str(len(other))]
-    require(tool.ask("compare", more, other + image, options=at) == (0, b"same\n"), f"compare: {at} is another answer")
-    at = ["--at", hex(len(front)), "--other-at", hex(len(other))]
-    require(tool.ask("compare", more, other + image, options=at) == (0, b"same\n"), f"compare: {at} is another answer")
+    forms: tuple[Callable[[int], str], ...] = (str, hex)
+    for shown in forms:
+        at = ["--at", shown(len(front)), "--other-at", shown(len(other))]
+        answer = tool.ask("compare", more, other + image, options=at)
+        require(answer == (0, b"same\n"), f"compare: {at} is another answer")
     past = len(more) + tool.pick.choice((0, 1, 1 << 20, (1 << 64) - 1 - len(more)))
     answer = tool.ask(command, more, options=["--at", str(past)])
     require(answer == (2, line("fault 1 at 0")), f"{command}: --at {past} is past the end", answer)
@@ -1300,8 +1301,6 @@ class Run:
             try:
                 while chunk := list(itertools.islice(numbers, 500)):
                     collections.deque(pool.map(self.try_one, chunk), 0)
-                    if self.options.progress:
-                        print(self.summary(time.monotonic() - start), file=sys.stderr, flush=True)
             except KeyboardInterrupt:
                 pool.shutdown(cancel_futures=True)
         print(self.summary(time.monotonic() - start))
@@ -1328,7 +1327,6 @@ def main() -> int:
     reader.add_argument("--seconds", type=float, default=10, help="how long one run of the program may take")
     reader.add_argument("--keep", default=str(ROOT / "fuzz/out"), help="the folder for inputs with a finding")
     reader.add_argument("--show", action="store_true", help="write the inputs to that folder, and run nothing")
-    reader.add_argument("--progress", action="store_true", help="print the figures so far to standard error")
     options = reader.parse_args()
     if options.show:
         return show(options)

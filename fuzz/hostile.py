@@ -11,13 +11,14 @@ import argparse
 import os
 import random
 import struct
+import subprocess
 import sys
 import tempfile
-from collections.abc import Iterator
+from collections.abc import Callable, Iterator
+from dataclasses import dataclass
 
 sys.dont_write_bytecode = True  # no folder beside the scripts
 
-from costs import MIB, Cost, Make, cost_of, write  # noqa: E402
 import fuzz  # noqa: E402
 from fuzz import DATA_VALID, DXE_DEPEX, FFS3, GROUP, LARGE, MARKED, PAD, SUMMED, VOLUME  # noqa: E402
 from fuzz import Header, sum8, sum16  # noqa: E402
@@ -27,6 +28,9 @@ COMMANDS = (
     *("unfix", "check", "check --all", "scan", "compare"),
 )
 MOST_SECONDS, MOST_SUMS_SECONDS = 3, 10
+MIB = 1 << 20
+# A function that returns an input of about this size.
+Make = Callable[[int], bytes]
 EMPTY_SECTION = b"\x04\0\0\x19"
 NAME = bytes([0x0A]) * 16
 
@@ -243,6 +247,37 @@ RATIOS |= {empty_sections: 8, empty_expressions: 8}
 RATIOS |= {small_groups: 10, groups_of_three: 11, nested_sections: 9, entries: 7}
 # These inputs take less memory if they have 16 MiB.
 RATIOS |= {stubs: 5, pads: 4, levels: 8, level_groups: 8, small_volumes: 5}
+
+
+@dataclass(frozen=True)
+class Cost:
+    """The cost of a run: its exit status, its seconds of processor time, and its peak of memory in bytes."""
+
+    status: int
+    seconds: float
+    peak: int
+
+
+def cost_of(words: list[str], is_quiet: bool = False) -> Cost:
+    """Runs a command without input, and drops its output, and its standard error if it is to be quiet. Returns the
+    cost."""
+    error = subprocess.DEVNULL if is_quiet else None
+    run = subprocess.Popen(words, stdin=subprocess.DEVNULL, stdout=subprocess.DEVNULL, stderr=error)
+    _, status, used = os.wait4(run.pid, 0)
+    run.returncode = os.waitstatus_to_exitcode(status)
+    return Cost(run.returncode, used.ru_utime + used.ru_stime, used.ru_maxrss * 1024)
+
+
+def write(make: Make, size: int, path: str) -> None:
+    """Writes an input in a process of its own, because the peak that the system reports of a run begins at the memory
+    of its parent."""
+    child = os.fork()
+    if child == 0:
+        with open(path, "wb") as out:
+            out.write(make(size))
+        os._exit(0)
+    if os.waitpid(child, 0)[1]:
+        sys.exit(f"{make.__name__} was not written")
 
 
 def measure(program: str, command: str, path: str) -> Cost:

@@ -80,6 +80,15 @@ has_library() {
     fi
 }
 
+# Returns whether the version of a Debian package of firmware is installed that the tests know.
+has_firmware() { # PACKAGE
+    local version=2022.11-6+deb12u2
+    if [[ $(dpkg-query -W -f '${Version}' "$1" 2> said) != "$version" ]]; then
+        skipped "Debian's package $1 $version"
+        return 1
+    fi
+}
+
 skipped() { # WHAT IS MISSING
     echo "skipped: $1"
 }

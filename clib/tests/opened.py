@@ -5,6 +5,7 @@ files, volumes at odd places, and the limits of reading."""
 
 from __future__ import annotations
 
+import lzma
 import struct
 import sys
 import uuid
@@ -83,6 +84,8 @@ def test_fixed() -> None:
     free = made.volume([made.A, made.file(made.guid(4), made.noise("d", 777)), made.C])
     assert volume.is_marked and volume.plain != volume.body and fv.volume_compare(volume.plain, free) is None
     assert all(it.data is volume.data and data[it.offset :][: it.length] == it.body for it in volume.files)
+    many = images.read(made.volume([FIXED], 72 + len(FIXED)) * 5_000).volumes
+    assert len(many) == 5_000 and all(len(it.fixed) == 1 for it in many) and len({id(it.data) for it in many}) == 1
     (volume,) = images.read(made.IMAGES["damaged.fd"]()).volumes[:1]
     assert str(volume.fault) == "fault 11 at 4168" and volume.files == [] and volume.guid is None
     (volume,) = images.read(made.IMAGES["fixed-inside.fv"]()).volumes
@@ -114,6 +117,20 @@ def test_limits() -> None:
         raise AssertionError(limits)
 
 
+def test_waste() -> None:
+    """Counts what is unpacked but not kept: sections that are cut short, and sections with too many parts."""
+    cut = made.guided(made.LZMA, lzma.compress(bytes(5 << 20), format=lzma.FORMAT_ALONE)[:700])
+    full = made.compressed(made.section(made.RAW, b"") * 60)
+    for packed, limits, count, reason in (
+        (cut, Limits(wasted=10 << 20), 3, "LZMA: the data are cut short"),
+        (full, Limits(parts=60), 30, "more than 60 parts"),
+    ):
+        data = made.volume([made.file(made.guid(1), made.stream(*[packed] * 40), made.FREEFORM)])
+        no_more = f"more than {limits.wasted} bytes that are not kept"
+        found = closed_in(data, limits)
+        assert found == [reason] * count + [no_more] * (40 - count), found
+
+
 def test_tiano() -> None:
     """Opens the compression of the UEFI specification and of Tiano, up to the limit for Python's own work. Data that
     have neither are not opened."""
@@ -122,6 +139,9 @@ def test_tiano() -> None:
     for width in (4, 5):
         packed = made.packed_by_tiano(driver, width)
         assert names_of(packed_file(head + packed)) == ["Old"]
+        guided = made.guided(uuid.UUID("a31280ad-481e-41b6-95e8-127f4c984779"), packed)
+        found = names_of(made.volume([made.file(made.guid(1), guided, made.FREEFORM)]))
+        assert found == ["Old"] * (width == 5)
         assert closed_in(packed_file(head + packed), Limits(slow=5000)) == ["more than 5000 bytes of slow compression"]
         for wrong in (packed[:7], packed[:-20], packed[:8] + made.noise("tiano", 300)):
             assert closed_in(packed_file(head + wrong))[0].startswith("compression: ")
@@ -155,7 +175,8 @@ def test_names() -> None:
 
 def main() -> None:
     """Runs the tests."""
-    tests = [test_levels, test_bytes, test_fixed, test_places, test_limits, test_tiano, test_brotli, test_names]
+    tests = [test_levels, test_bytes, test_fixed, test_places, test_limits, test_waste, test_tiano, test_brotli]
+    tests.append(test_names)
     for test in tests:
         test()
     print(f"fv.images: {len(tests)} tests")

@@ -14,6 +14,7 @@ import os
 import pickle
 import re
 import shutil
+import struct
 import subprocess
 import sys
 import tempfile
@@ -119,16 +120,17 @@ def calls_are_all() -> None:
 
 
 def layouts_are_those_of_c() -> int:
-    """Checks that the C compiler has the same sizes and offsets. Returns their number, or 0 if there is no compiler."""
+    """Checks that the C compiler has the sizes and offsets of the formats. Returns their number, or 0 if there is no compiler."""
     compiler = shutil.which(os.environ.get("CC", "cc"))
     if not compiler:
         return 0
-    wanted = []
-    for kind in vars(_native).values():
-        if isinstance(kind, type) and issubclass(kind, ctypes.Structure):
-            name = str(kind.__doc__).split("`")[1]
-            wanted.append(f"sizeof({name}) == {ctypes.sizeof(kind)}")
-            wanted += [f"offsetof({name}, {it[0]}) == {getattr(kind, it[0]).offset}" for it in kind._fields_]
+    declared = subprocess.run([ROOT / "clib/generate", "--interface"], capture_output=True, text=True, check=True).stdout
+    sizes = dict(re.findall(r"(?m)^structure fv_(\w+) (\d+)$", declared))
+    formats = {name: it for name, it in vars(_native).items() if name.endswith("_FORMAT")}
+    assert {f"{name.upper()}_FORMAT" for name in sizes} == formats.keys(), formats
+    assert all(struct.calcsize(formats[f"{name.upper()}_FORMAT"]) == int(size) for name, size in sizes.items()), sizes
+    wanted = [f"sizeof(fv_{name}) == {size}" for name, size in sizes.items()]
+    wanted += [f"offsetof({name}) == {at}".replace(".", ", ") for name, at in re.findall(r"field (\S+) (\d+)", declared)]
     text = "#include <fv.h>\n" + "".join(f'_Static_assert({it}, "{it}");\n' for it in wanted)
     command = [compiler, "-std=c11", f"-I{ROOT}/clib/include", "-fsyntax-only", "-x", "c", "-"]
     subprocess.run(command, input=text.encode(), check=True)
@@ -176,8 +178,8 @@ def faults_have_codes(volume: bytes) -> None:
     assert (depex, hobs) == (fv.Fault(fv.FaultCode.DEPEX_SHORT, 17), fv.Fault(fv.FaultCode.HOB_SHORT, 0)), (depex, hobs)
     assert (depex.code, depex.number, str(depex)) == (0x201, 1, "fault 1 at 17") and depex.text != error.fault.text
     # Checks that every code of fv.h has a member, and a text of its own. A newer library may have other codes.
-    known = {name.removeprefix("FAULT_"): it for name, it in vars(_native).items() if name.startswith("FAULT_")}
-    known = {name: it for name, it in known.items() if isinstance(it, int)}
+    header = (ROOT / "clib/include/fv.h").read_text(encoding="utf-8")
+    known = {name: int(number, 0) for name, number in re.findall(r"\bFV_FAULT_(\w+) = (\w+)", header)}
     assert known == {it.name: it for it in fv.FaultCode} and len(known) == 33
     assert fv._errors.fault_of(7, 99, 1, 0) == fv.Fault(99, 7, 1) and type(fv._errors.fault_of(7, 99, 1, 0).code) is int
     results = [*known.values(), _native.OK, _native.OUT_OF_MEMORY, _native.BUFFER_TOO_SMALL, _native.NOT_FOUND]

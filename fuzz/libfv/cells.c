@@ -62,10 +62,7 @@ static void check_cells(const struct volume *v)
     CHECK(at == v->header.length, "cells: they end at %lu of %lu", at, v->header.length);
 }
 
-static fv_result call(const uint8_t *bytes, size_t len, void *rows, size_t room, size_t *count, fv_fault *fault)
-{
-    return fv_volume_cells(bytes, len, rows, room, count, fault);
-}
+ROWS_CALL(call, fv_volume_cells)
 
 void try_cells(struct volume *v)
 {

@@ -26,10 +26,7 @@ static void check_digests(const struct volume *v, const fv_sha256 *digests)
     }
 }
 
-static fv_result call(const uint8_t *bytes, size_t len, void *rows, size_t room, size_t *count, fv_fault *fault)
-{
-    return fv_volume_tree_digests(bytes, len, rows, room, count, fault);
-}
+ROWS_CALL(call, fv_volume_tree_digests)
 
 void try_digests(const struct volume *v)
 {

@@ -86,10 +86,7 @@ static void check_row(const uint8_t *bytes, size_t number, const fv_volume_check
     saw(SEEN_CHECK, number > 3 ? 3 : (uint32_t)number, result, canonical);
 }
 
-static fv_result check(const uint8_t *bytes, size_t len, void *rows, size_t room, size_t *count, fv_fault *fault)
-{
-    return fv_image_check(bytes, len, rows, room, count, fault);
-}
+ROWS_CALL(check, fv_image_check)
 
 static void try_image_check(const uint8_t *bytes, size_t len, size_t n, const uint8_t *parameters)
 {
@@ -102,10 +99,7 @@ static void try_image_check(const uint8_t *bytes, size_t len, size_t n, const ui
     refuse_rows(&rows, n, parameters[REFUSED] & 1, FV_OK, parameters[REFUSED + 2], wanted);
 }
 
-static fv_result scan(const uint8_t *bytes, size_t len, void *rows, size_t room, size_t *count, fv_fault *fault)
-{
-    return fv_image_scan(bytes, len, rows, room, count, fault);
-}
+ROWS_CALL(scan, fv_image_scan)
 
 void try_image(const uint8_t *bytes, size_t len, const uint8_t *parameters)
 {

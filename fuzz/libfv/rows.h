@@ -8,6 +8,13 @@
 #include <stddef.h>
 #include <stdint.h>
 
+/* Defines `call`, which makes a call of the library for `struct rows`. */
+#define ROWS_CALL(call, function)                                                                                      \
+    static fv_result call(const uint8_t *bytes, size_t len, void *rows, size_t room, size_t *count, fv_fault *fault)   \
+    {                                                                                                                  \
+        return function(bytes, len, rows, room, count, fault);                                                         \
+    }
+
 /* A call, the size and the alignment of its rows, and the input that it is tried on. */
 struct rows {
     const char *name;

@@ -144,10 +144,7 @@ static const fv_node *check_tree_of_image(const struct volume *v, const fv_node 
     return of_image;
 }
 
-static fv_result call(const uint8_t *bytes, size_t len, void *rows, size_t room, size_t *count, fv_fault *fault)
-{
-    return fv_volume_tree(bytes, len, rows, room, count, fault);
-}
+ROWS_CALL(call, fv_volume_tree)
 
 void try_tree(struct volume *v)
 {

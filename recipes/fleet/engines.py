@@ -1,11 +1,11 @@
 # SPDX-License-Identifier: BSD-2-Clause-Patent
 """Runs the commands of README.md over made images, with each engine that is installed, and kills a worker, a job or a
-machine with SIGKILL in the middle. Each image must then have exactly one line, with the result that it was made for: no
-line is lost, and no line occurs twice. An engine that is not installed is skipped. `test` runs this script, with the
-environment that it needs.
-
-By default there are 1,000 small images. With --images 10000 they are larger. The Slurm test then kills a machine, and
-waits until Slurm gives its task to the other machine, which takes three minutes."""
+machine with SIGKILL in the middle. Each image must then have exactly one line, with the result that it was made for:
+no line is lost, and no line occurs twice. A run that is killed cannot have ended before: one of its images is a pipe
+without a writer, and becomes a file only afterwards. An engine that is not installed is skipped. `test` runs this
+script, with the environment that it needs. By default there are 1,000 small images. With --images 10000 they are
+larger. The Slurm test then kills a machine, and waits until Slurm gives its task to the other machine, which takes
+three minutes."""
 
 from __future__ import annotations
 
@@ -14,6 +14,7 @@ import contextlib
 import getpass
 import os
 import random
+import re
 import resource
 import shutil
 import signal
@@ -33,6 +34,7 @@ HERE = Path(__file__).resolve().parent
 FEW = 1000  # images of a run without options
 BATCH = 100  # images of a batch in README's commands
 ROOM, MACHINE = "FLEET_ROOM", "FLEET_MACHINE"  # variables of the processes of a run, and of one machine
+HELD = images.volume([], 72)  # the contents of the image that a run waits for
 
 
 class Wrong(Exception):
@@ -67,13 +69,6 @@ class Fleet:
             name.write_bytes(data)
         for number, name in enumerate(self.names[len(made) :]):
             os.link(self.names[number % len(made)], name)
-
-    def check(self, answers: str) -> None:
-        """Checks that each image has exactly one line, which is right, and that there is no other line."""
-        given, wanted = Counter(answers.split("\n")[:-1]), Counter(self.lines)
-        lost, more = wanted - given, given - wanted
-        if lost or more:
-            raise Wrong(f"{lost.total()} lost, {more.total()} too many: {[*lost][:3]} {[*more][:3]}")
 
 
 def readme(name: str) -> list[str]:
@@ -120,17 +115,33 @@ def wait_for(what: Callable[[], object], seconds: float, why: str, every: float 
 
 
 class Run:
-    """A run of an engine over a fleet, in a folder of its own, which has the list of the images."""
+    """A run of an engine over a fleet, in a folder of its own, which has the list of the images. In place of one image
+    of the fleet the list has the held image. If something is to be killed, a worker that reads the held image waits
+    until it is let go."""
 
     def __init__(self, fleet: Fleet, name: str, is_killed: bool) -> None:
-        self.fleet, self.is_killed, self.is_long = fleet, is_killed, len(fleet.names) > FEW
+        self.count, self.is_killed, self.is_long = len(fleet.names), is_killed, len(fleet.names) > FEW
         self.room = fleet.room / name
         self.room.mkdir()
         self.answers = self.room / "answers.tsv"
-        (self.room / "LIST").write_text("".join(f"{name}\n" for name in fleet.names))
+        self.held, at = self.room / "held.fd", self.count * 3 // 4
+        if is_killed:
+            os.mkfifo(self.held)
+        else:
+            self.held.write_bytes(HELD)
+        names = [*fleet.names[:at], self.held, *fleet.names[at + 1 :]]
+        self.lines = [*fleet.lines[:at], f"0\t0 canonical\t{self.held}", *fleet.lines[at + 1 :]]
+        (self.room / "LIST").write_text("".join(f"{name}\n" for name in names))
         self.variables = {**os.environ, ROOM: str(self.room)}
         self.start_time = time.monotonic()
         self.event = ""  # what was killed
+
+    def check(self) -> None:
+        """Checks that each image has exactly one line, which is right, and that there is no other line."""
+        given, wanted = Counter(self.answers.read_text().split("\n")[:-1]), Counter(self.lines)
+        lost, more = wanted - given, given - wanted
+        if lost or more:
+            raise Wrong(f"{lost.total()} lost, {more.total()} too many: {[*lost][:3]} {[*more][:3]}")
 
     def start(self, command: str, machine: str = "") -> subprocess.Popen[bytes]:
         """Starts a command in the folder, as one process of a machine."""
@@ -161,32 +172,45 @@ class Run:
             with contextlib.suppress(ProcessLookupError):
                 os.kill(it.number, signal.SIGKILL)
 
-    def wait_for_share(self, share: float) -> None:
-        """Waits until this share of the lines is written."""
+    def written(self) -> int:
+        """Returns the number of lines that are written."""
+        files = [self.answers, *self.room.glob("parts/*.tsv")]
+        return sum(path.read_bytes().count(b"\n") for path in files if path.exists())
+
+    def wait_for_quarter(self) -> None:
+        """Waits until a quarter of the lines is written."""
+        wait_for(lambda: self.written() >= self.count / 4, 600, f"no lines: {self.said()}")
+
+    def kill_holder(self, event: str) -> set[int]:
+        """Kills the `fv-check` that waits for the held image, once a quarter of the lines is written. Returns its
+        number."""
+        self.wait_for_quarter()
+        found = self.holders(set())
+        self.kill(found, event)
+        return {it.number for it in found}
+
+    def holders(self, killed: set[int]) -> list[Process]:
+        """Waits until an `fv-check`, except the killed ones, has the held image among its arguments. Returns it."""
+        found: list[Process] = []
 
         def is_there() -> bool:
-            files = [self.answers, *self.room.glob("parts/*.tsv")]
-            count = sum(path.read_bytes().count(b"\n") for path in files if path.exists())
-            return count >= share * len(self.fleet.names)
+            workers = (it for it in self.processes() if re.search("(?:^|[/\0])fv-check\0", it.words))
+            found[:] = [it for it in workers if f"\0{self.held}\0" in it.words and it.number not in killed]
+            return bool(found)
 
-        wait_for(is_there, 600, f"no lines: {self.said()}")
+        wait_for(is_there, 60, f"no worker has the held image: {self.said()}")
+        return found
 
-    def kill_next(self, event: str) -> None:
-        """Kills the next `fv-check` that is started after a quarter of the lines is written."""
-
-        def workers() -> list[Process]:
-            return [it for it in self.processes() if "/fv-check\0" in it.words or "\0fv-check\0" in it.words]
-
-        self.wait_for_share(1 / 4)
-        before = {it.number for it in workers()}
-        new: list[Process] = []
-
-        def is_there() -> bool:
-            new[:] = [it for it in workers() if it.number not in before]
-            return bool(new)
-
-        wait_for(is_there, 60, "no new worker")
-        self.kill(new[:1], event)
+    def let_go(self) -> None:
+        """Checks that the run was killed before its end, and makes the held image a file. A worker that still waits
+        for the pipe gets the same bytes."""
+        if self.written() >= self.count:
+            raise Wrong("all lines were there before anything was killed")
+        pipe, file = os.open(self.held, os.O_RDWR), self.room / "file"
+        file.write_bytes(HELD)
+        file.replace(self.held)
+        os.write(pipe, HELD)
+        os.close(pipe)
 
 
 # Engines
@@ -197,10 +221,11 @@ def by_one_process(it: Run) -> None:
     (command,) = readme("One process")
     running = it.start(command)
     if it.is_killed:
-        it.wait_for_share(1 / 4)
+        it.wait_for_quarter()
         running.kill()
-        it.ends(running, -signal.SIGKILL, 0)
+        it.ends(running, -signal.SIGKILL)
         it.event = ", the process killed"
+        it.let_go()
         os.truncate(it.answers, it.answers.stat().st_size // 2)
         running = it.start(command)
     it.ends(running)
@@ -211,8 +236,9 @@ def by_xargs(it: Run) -> None:
     command, left = readme("xargs")
     running = it.start(command)
     if it.is_killed:
-        it.kill_next("a worker")
+        it.kill_holder("a worker")
         it.ends(running, 125)
+        it.let_go()
         it.ends(it.start(left))
         running = it.start(command.replace("LIST", "LEFT"))
     it.ends(running)
@@ -224,12 +250,12 @@ def by_parallel(it: Run) -> None:
     (command,) = readme("GNU parallel")
     running = it.start(command)
     if it.is_killed:
-        it.kill_next("a worker")
-        it.wait_for_share(1 / 2)
+        it.holders(it.kill_holder("a worker"))
         running.kill()
         it.ends(running, -signal.SIGKILL)
-        wait_for(lambda: not it.processes(), 60, "workers go on")
         it.event += ", parallel killed"
+        it.let_go()
+        wait_for(lambda: not it.processes(), 60, "workers go on")
         running = it.start(command)
     it.ends(running)
 
@@ -289,20 +315,22 @@ def by_slurm(it: Run) -> None:
     task. This task has then failed, and the same command does the tasks that have no file."""
     start_slurm(it)
     folder, check, gather = readme("Slurm")
-    check = check.replace("0-99", f"0-{len(it.fleet.names) // BATCH - 1}")
+    check = check.replace("0-99", f"0-{it.count // BATCH - 1}")
     it.ends(it.start(folder))
     running = it.start(check)
     if it.is_killed and it.is_long:
-        it.wait_for_share(1 / 4)
+        it.wait_for_quarter()
         wait_for(lambda: it.processes(SLURMD_NODENAME="w2"), 60, "no task on w2")
         tasks = it.processes(SLURMD_NODENAME="w2")
         # slurmstepd, which has overwritten its environment, would report the end of its task. So it is killed first.
         parents = {task.parent for task in tasks}
         steps = [step for step in processes() if step.number in parents and "slurmstepd" in step.words]
         it.kill(it.processes(**{MACHINE: "w2"}) + steps + tasks, "a machine")
+        it.let_go()
     elif it.is_killed:
-        it.kill_next("a task")
+        it.kill_holder("a task")
         it.ends(running, 1, 137)
+        it.let_go()
         running = it.start(check)
     it.ends(running)
     it.ends(it.start(gather))
@@ -318,8 +346,9 @@ def by_dask(it: Run) -> None:
         it.start(worker.partition(" &")[0] + f" --no-dashboard --local-directory {it.room}", machine)
     running = it.start(check)
     if it.is_killed:
-        it.wait_for_share(1 / 4)
+        it.wait_for_quarter()
         it.kill(it.processes(**{MACHINE: "w2"}), "a machine")
+        it.let_go()
     it.ends(running)
 
 
@@ -349,15 +378,14 @@ def run_engine(fleet: Fleet, name: str, is_killed: bool) -> bool:
     try:
         by_engine(it)
         took = time.monotonic() - it.start_time
-        fleet.check(it.answers.read_text())
+        it.check()
     except Wrong as why:
         print(f"{name}: WRONG, {why}")
         return False
     finally:
         it.kill(it.processes())
-    count = len(fleet.names)
-    figures = f": {took:.1f} s, {count / took:,.0f} a second, CPU {seconds_of_children() - before:.1f} s"
-    print(f"{name}: {count} lines, none lost, none twice{it.event}{figures if it.is_long else ''}", flush=True)
+    figures = f": {took:.1f} s, {it.count / took:,.0f} a second, CPU {seconds_of_children() - before:.1f} s"
+    print(f"{name}: {it.count} lines, none lost, none twice{it.event}{figures if it.is_long else ''}", flush=True)
     return True
 
 
@@ -369,6 +397,8 @@ def main() -> int:
     reader.add_argument("--no-kill", action="store_true", help="kill nothing, to measure")
     reader.add_argument("engine", nargs="*", help=f"of {', '.join(ENGINES)}; all if none is given")
     given = reader.parse_args()
+    if given.images < FEW and not given.no_kill:
+        reader.error(f"with fewer than {FEW} images nothing can be killed in the middle: --no-kill")
     room = Path("engines").resolve()
     room.mkdir()
     # Two workers in each engine: nproc prints OMP_NUM_THREADS, and GNU parallel reads PARALLEL.

@@ -70,10 +70,10 @@ from ._calls import (
     volume_tree_digests,
     volume_unfix,
 )
-from ._errors import Error, Fault, FaultCode, FaultError
+from ._errors import Error, Fault, FaultError
 from ._library import result_text
-from ._native import LENGTH_MAX
-from ._types import Cell, CellKind, Content, Header, Hob, HobList, Node, NodeKind, Phase, VolumeCheck
+from ._native import LENGTH_MAX, CellKind, Content, FaultCode, NodeKind, Phase
+from ._types import Cell, Header, Hob, HobList, Node, VolumeCheck
 
 __version__ = "2.0.0.dev0"
 __all__ = [

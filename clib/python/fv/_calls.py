@@ -12,22 +12,9 @@ from typing import Any, SupportsIndex, TypeVar
 from . import _native as native
 from ._errors import FAULT_SIZE, error_of
 from ._library import Buffer, Held, lib, new_bytes, result_text, unchanging
-from ._types import (
-    Cell,
-    Cells,
-    Checks,
-    Digests,
-    Header,
-    Headers,
-    Hob,
-    HobList,
-    Hobs,
-    Node,
-    Nodes,
-    Phase,
-    Rows,
-    VolumeCheck,
-)
+from ._native import Phase
+from ._types import Cell, Header, Hob, HobList, Node, VolumeCheck
+from ._types import Cells, Checks, Digests, Headers, Hobs, Nodes, Rows
 
 # The first buffer for rows has room for a row for each 8 bytes of the input (a section with a body takes at least 8
 # bytes), but for at most 65,536 rows. Memory that a call does not write to costs little.

@@ -3,51 +3,12 @@
 
 from __future__ import annotations
 
-import enum
 import struct
 from dataclasses import dataclass
 
 from . import _native as native
 from ._library import result_text
-
-
-class FaultCode(enum.IntEnum):
-    """The codes of the faults. docs/FAULTS.md explains each fault. The codes from 0x200 on are faults of dependency
-    expressions, and the codes from 0x300 on are faults of hand-off lists."""
-
-    TRUNCATED = native.FAULT_TRUNCATED
-    SIGNATURE = native.FAULT_SIGNATURE
-    FILE_SYSTEM = native.FAULT_FILE_SYSTEM
-    REVISION = native.FAULT_REVISION
-    HEADER_LENGTH = native.FAULT_HEADER_LENGTH
-    HEADER_SUM = native.FAULT_HEADER_SUM
-    BLOCK_MAP = native.FAULT_BLOCK_MAP
-    LENGTH = native.FAULT_LENGTH
-    EXT_HEADER = native.FAULT_EXT_HEADER
-    FILE_STATE = native.FAULT_FILE_STATE
-    FILE_HEADER_SUM = native.FAULT_FILE_HEADER_SUM
-    FILE_SIZE = native.FAULT_FILE_SIZE
-    LARGE_FILE = native.FAULT_LARGE_FILE
-    FILE_SUM = native.FAULT_FILE_SUM
-    FIXED = native.FAULT_FIXED
-    FREE_SPACE = native.FAULT_FREE_SPACE
-    DUPLICATE_NAME = native.FAULT_DUPLICATE_NAME
-    TOP_FILE = native.FAULT_TOP_FILE
-    SECTION_SIZE = native.FAULT_SECTION_SIZE
-    SECTION_TAIL = native.FAULT_SECTION_TAIL
-    DEPTH = native.FAULT_DEPTH
-    NO_ROOM = native.FAULT_NO_ROOM
-    TOP_ALIGNMENT = native.FAULT_TOP_ALIGNMENT
-    DEPEX_SHORT = native.FAULT_DEPEX_SHORT
-    DEPEX_OPCODE = native.FAULT_DEPEX_OPCODE
-    DEPEX_STACK = native.FAULT_DEPEX_STACK
-    DEPEX_NO_END = native.FAULT_DEPEX_NO_END
-    DEPEX_POSITION = native.FAULT_DEPEX_POSITION
-    HOB_SHORT = native.FAULT_HOB_SHORT
-    HOB_LENGTH = native.FAULT_HOB_LENGTH
-    HOB_FIRST = native.FAULT_HOB_FIRST
-    HOB_SHAPE = native.FAULT_HOB_SHAPE
-    HOB_NO_END = native.FAULT_HOB_NO_END
+from ._native import FaultCode
 
 
 @dataclass(frozen=True, slots=True)

@@ -3,54 +3,18 @@
 
 from __future__ import annotations
 
-import enum
 import struct
 import uuid
 from collections.abc import Callable, Iterator, Sequence
-from dataclasses import dataclass, fields
+from dataclasses import dataclass, fields, make_dataclass
 from itertools import starmap
 from typing import Any, ClassVar, TypeVar, overload
 
 from . import _native as native
 from ._errors import Fault, fault_of
+from ._native import CellKind, Content, NodeKind, Phase
 
 Item = TypeVar("Item")
-
-
-class CellKind(enum.IntEnum):
-    """The kinds of cells of a volume's body: a valid file (even if it is superseded), a pad, a deleted file, a file
-    whose data or header were never finished, or erased bytes up to the end of the volume."""
-
-    FILE = native.CELL_FILE
-    PAD = native.CELL_PAD
-    DELETED = native.CELL_DELETED
-    UNFINISHED = native.CELL_UNFINISHED
-    FREE = native.CELL_FREE
-
-
-class NodeKind(enum.IntEnum):
-    """The kinds of rows of a tree: a volume, a file, or a section."""
-
-    VOLUME = native.NODE_VOLUME
-    FILE = native.NODE_FILE
-    SECTION = native.NODE_SECTION
-
-
-class Content(enum.IntEnum):
-    """The kinds of contents of a row of a tree. A volume holds files. A file holds bytes or sections. A section holds
-    bytes, sections (the section is a group), or a volume."""
-
-    FILES = native.CONTENT_FILES
-    BYTES = native.CONTENT_BYTES
-    SECTIONS = native.CONTENT_SECTIONS
-    VOLUME = native.CONTENT_VOLUME
-
-
-class Phase(enum.IntEnum):
-    """The phase in which a dependency expression is evaluated."""
-
-    PEI = native.PHASE_PEI
-    DXE = native.PHASE_DXE
 
 
 @dataclass(frozen=True, slots=True)
@@ -216,123 +180,67 @@ class Rows(Sequence[Item]):
         return type(self), (self._data,)
 
 
-# Each class `_Read..` takes the fields of a row, and then becomes the class of the items: both have the same slots. The
-# __init__ of a frozen class makes a call for each field, which takes three times as long.
-def _slots(kind: type[Any]) -> tuple[str, ...]:
-    """Returns the names of the fields of a class of items."""
-    return tuple(it.name for it in fields(kind))
+def _quick(kind: type[Any], mend: Callable[[Any], None]) -> type[Any]:
+    """Returns a class that takes the fields of a row, has `mend` change them, and then becomes the class of the items:
+    both have the same slots. (The __init__ of a frozen class makes a call for each field, which takes three times as
+    long.)"""
+
+    def end(it: Any) -> None:
+        mend(it)
+        it.__class__ = kind
+
+    names = [it.name for it in fields(kind)]
+    return make_dataclass(f"_Read{kind.__name__}", names, namespace={"__post_init__": end}, slots=True)
 
 
-class _ReadHeader:
-    __slots__ = _slots(Header)
-
-    def __init__(
-        self: Any,
-        offset: int,
-        length: int,
-        first_file: int,
-        header_length: int,
-        attributes: int,
-        file_system: int,
-        erased_byte: int,
-        name: bytes,
-    ) -> None:
-        self.offset = offset
-        self.length = length
-        self.first_file = first_file
-        self.header_length = header_length
-        self.attributes = attributes
-        self.file_system = file_system
-        self.erased_byte = erased_byte
-        self.name = _guid_or_none(name)
-        self.__class__ = Header
+def _mend_header(it: Any) -> None:
+    it.name = _guid_or_none(it.name)
 
 
 class Headers(Rows[Header]):
-    layout, make = struct.Struct(native.HEADER_FORMAT), _ReadHeader
-
-
-class _ReadCheck:
-    __slots__ = _slots(VolumeCheck)
-
-    def __init__(
-        self: Any, offset: int, length: int, at: int, result: int, depth: int, side: int, canonical: int
-    ) -> None:
-        self.offset = offset
-        self.length = length
-        self.fault = fault_of(at, result, depth, side) if result else None
-        self.canonical = canonical == 1
-        self.__class__ = VolumeCheck
+    layout, make = struct.Struct(native.HEADER_FORMAT), _quick(Header, _mend_header)
 
 
 class Checks(Rows[VolumeCheck]):
-    layout, make = struct.Struct(native.VOLUME_CHECK_FORMAT), _ReadCheck
+    layout = struct.Struct(native.VOLUME_CHECK_FORMAT)
+
+    @staticmethod
+    def make(offset: int, length: int, at: int, result: int, depth: int, side: int, canonical: int) -> VolumeCheck:
+        fault = fault_of(at, result, depth, side) if result else None
+        return VolumeCheck(offset, length, fault, canonical == 1)
 
 
-class _ReadCell:
-    __slots__ = _slots(Cell)
+_WITH_HEADER = int(CellKind.FILE), int(CellKind.PAD)
 
-    def __init__(
-        self: Any,
-        offset: int,
-        length: int,
-        kind: int,
-        header_length: int,
-        efi_type: int,
-        attributes: int,
-        name: bytes,
-    ) -> None:
-        has_header = kind == native.CELL_FILE or kind == native.CELL_PAD
-        self.offset = offset
-        self.length = length
-        self.kind = CELL_KINDS[kind]
-        self.header_length = header_length if has_header else None
-        self.efi_type = efi_type if has_header else None
-        self.attributes = attributes if has_header else None
-        self.name = _guid(name) if has_header else None
-        self.__class__ = Cell
+
+def _mend_cell(it: Any) -> None:
+    if it.kind in _WITH_HEADER:
+        it.name = _guid(it.name)
+    else:
+        it.header_length = it.efi_type = it.attributes = it.name = None
+    it.kind = CELL_KINDS[it.kind]
 
 
 class Cells(Rows[Cell]):
-    layout, make = struct.Struct(native.CELL_FORMAT), _ReadCell
+    layout, make = struct.Struct(native.CELL_FORMAT), _quick(Cell, _mend_cell)
 
 
-class _ReadNode:
-    __slots__ = _slots(Node)
-
-    def __init__(
-        self: Any,
-        offset: int,
-        length: int,
-        parent: int,
-        index: int,
-        depth: int,
-        kind: int,
-        content: int,
-        efi_type: int,
-        attributes: int,
-        header_length: int,
-        guid: bytes,
-        file_system: int,
-    ) -> None:
-        is_volume, is_section = kind == native.NODE_VOLUME, kind == native.NODE_SECTION
-        self.offset = offset
-        self.length = length
-        self.parent = None if parent == native.NO_PARENT else parent
-        self.index = index
-        self.depth = depth
-        self.kind = NODE_KINDS[kind]
-        self.content = CONTENTS[content]
-        self.efi_type = None if is_volume else efi_type
-        self.attributes = None if is_section else attributes
-        self.header_length = header_length
-        self.guid = None if is_section else _guid_or_none(guid) if is_volume else _guid(guid)
-        self.file_system = file_system if is_volume else None
-        self.__class__ = Node
+def _mend_node(it: Any) -> None:
+    it.kind, it.content = NODE_KINDS[it.kind], CONTENTS[it.content]
+    if it.parent == native.NO_PARENT:
+        it.parent = None
+    if it.kind is NodeKind.VOLUME:
+        it.efi_type, it.guid = None, _guid_or_none(it.guid)
+        return
+    it.file_system = None
+    if it.kind is NodeKind.FILE:
+        it.guid = _guid(it.guid)
+    else:
+        it.attributes = it.guid = None
 
 
 class Nodes(Rows[Node]):
-    layout, make = struct.Struct(native.NODE_FORMAT), _ReadNode
+    layout, make = struct.Struct(native.NODE_FORMAT), _quick(Node, _mend_node)
 
 
 class Digests(Rows[bytes | None]):
@@ -347,17 +255,10 @@ class Digests(Rows[bytes | None]):
 _OF_VOLUMES = 0x0005, 0x0009
 
 
-class _ReadHob:
-    __slots__ = _slots(Hob)
-
-    def __init__(self: Any, volume_base: int, volume_length: int, hob_type: int, hob_length: int) -> None:
-        describes = hob_type in _OF_VOLUMES
-        self.volume_base = volume_base if describes else None
-        self.volume_length = volume_length if describes else None
-        self.hob_type = hob_type
-        self.hob_length = hob_length
-        self.__class__ = Hob
+def _mend_hob(it: Any) -> None:
+    if it.hob_type not in _OF_VOLUMES:
+        it.volume_base = it.volume_length = None
 
 
 class Hobs(Rows[Hob]):
-    layout, make = struct.Struct(native.HOB_FORMAT), _ReadHob
+    layout, make = struct.Struct(native.HOB_FORMAT), _quick(Hob, _mend_hob)

@@ -14,16 +14,19 @@ more than 1,000 volumes, the last verdict says so, and the status is 2. A contro
     fv-check --from LIST --to ANSWERS
 
 LIST has the name of an image in each line, and `-` is standard input. The lines are added to ANSWERS. Images that have
-an answer there already are skipped, so a run that was interrupted can be repeated with the same command.
+an answer there already are skipped, so a run that was interrupted can be repeated with the same command. ANSWERS must
+be a file with nothing but answers, which no other run writes to.
 
-Exit status 0: every image has a line, whatever its status. 3: the arguments are wrong. 4: the library libfv or LIST
-cannot be used, or an answer cannot be written."""
+Exit status 0: every image has a line, whatever its status. 3: the arguments are wrong. 4: the library libfv, LIST or
+ANSWERS cannot be used, or an answer cannot be written."""
 
 from __future__ import annotations
 
 import argparse
+import fcntl
 import os
 import re
+import stat
 import sys
 from collections.abc import Iterable, Iterator
 from concurrent.futures import ThreadPoolExecutor
@@ -35,12 +38,13 @@ from ._calls import image_check, volume_is_canonical
 from ._errors import FaultError
 from ._native import LENGTH_MAX
 from ._types import VolumeCheck
-from .limits import Full
+from .limits import Full, Limits
 
 NAME = "fv-check"
 MOST_VOLUMES = 1000  # volumes of an image that have verdicts in its line
 CHUNK = 200  # images that the threads get at a time; their lines are then written
 CANONICAL, NOT_CANONICAL, REJECTED = range(3)  # statuses of a line
+LINE, FIRST_PART = re.compile(rb"[0-2]\t[^\t]+\t.+"), re.compile(rb"([0-2](\t.*)?)?")
 
 
 def line(status: int, verdicts: str, name: bytes) -> bytes:
@@ -50,7 +54,7 @@ def line(status: int, verdicts: str, name: bytes) -> bytes:
 
 def shown(name: bytes) -> bytes:
     """Returns a name without control characters, which could look like the end of a field."""
-    return re.sub(rb"[\x01-\x1f\x7f]", b"?", name)
+    return re.sub(rb"[\x00-\x1f\x7f]", b"?", name)
 
 
 def answer(name: bytes) -> bytes:
@@ -65,7 +69,7 @@ def _checked(name: bytes) -> bytes:
     """Returns the line of an image, but raises MemoryError if memory runs out."""
     try:
         data = cli.read_file(name, LENGTH_MAX)
-    except OSError:
+    except (OSError, ValueError):  # no file has a name with a NUL
         return line(REJECTED, "0 fault 25 at 0", name)
     except Full:
         return line(REJECTED, f"0 fault 8 at {LENGTH_MAX}", name)
@@ -101,20 +105,38 @@ def answers(names: Iterable[bytes], pool: ThreadPoolExecutor) -> Iterator[bytes]
         yield b"".join(answer(name) if is_failed else run.result() for name, run, is_failed in zip(chunk, runs, failed))
 
 
+def open_answers(path: str) -> BinaryIO:
+    """Opens a file of answers, or makes it. Raises OSError if it is not a file, or if another run writes to it."""
+    file = os.fdopen(os.open(path, os.O_RDWR | os.O_CREAT | os.O_APPEND, 0o666), "r+b", buffering=0)
+    if not stat.S_ISREG(os.fstat(file.fileno()).st_mode):
+        raise OSError(f"{path} is not a file")
+    try:
+        fcntl.flock(file, fcntl.LOCK_EX | fcntl.LOCK_NB)
+    except BlockingIOError:
+        raise OSError(f"another run writes to {path}") from None
+    except OSError:
+        pass  # a file system without locks
+    return file
+
+
 def answered(file: BinaryIO) -> set[bytes]:
-    """Returns the names that have an answer in a file that is open for reading and writing. Removes an incomplete last
-    line, as a killed command leaves it."""
+    """Returns the names that have an answer in a file. Removes an incomplete last line, as a killed command leaves it.
+    Raises OSError if something else than answers is in the file, which then stays as it is."""
     data = file.read()
-    whole = data.rfind(b"\n") + 1
-    file.truncate(whole)
-    file.seek(whole)
-    return {it.split(b"\t", 2)[2] for it in data[:whole].splitlines() if it.count(b"\t") >= 2}
+    *lines, last = data.split(b"\n")
+    if not all(map(LINE.fullmatch, lines)) or not FIRST_PART.fullmatch(last):
+        raise OSError("the file for the answers has other lines")
+    file.truncate(len(data) - len(last))
+    return {it.split(b"\t", 2)[2] for it in lines}
 
 
 def names_in(path: str) -> list[bytes]:
     """Returns the names in a list, which has one in each line. `-` is standard input."""
-    with open(0 if path == "-" else path, "rb") as file:
-        return [it for it in file.read().split(b"\n") if it]
+    try:
+        data = cli.read_file(0 if path == "-" else path, Limits().total)
+    except Full as what:
+        raise OSError(f"{path} has more than {what}") from None
+    return [it for it in data.split(b"\n") if it]
 
 
 def parser() -> cli.Parser:
@@ -136,10 +158,12 @@ def _run(names: list[bytes], given: argparse.Namespace, pool: ThreadPoolExecutor
             sys.stdout.buffer.write(chunk)
             sys.stdout.buffer.flush()  # so the lines of a chunk are one write, as far as a pipe takes them
         return
-    with os.fdopen(os.open(given.answers, os.O_RDWR | os.O_CREAT, 0o666), "r+b", buffering=0) as file:
+    with open_answers(given.answers) as file:
         before = answered(file)
         for chunk in answers((it for it in names if shown(it) not in before), pool):
-            file.write(chunk)
+            rest = memoryview(chunk)
+            while rest:  # a full disk takes only a first part
+                rest = rest[file.write(rest) :]
 
 
 @cli.command(NAME)

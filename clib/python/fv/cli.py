@@ -182,11 +182,11 @@ def undisturbed() -> Iterator[None]:
 
 def _end(number: int, _: object) -> NoReturn:
     for it in SIGNALS:
-        signal.signal(it, signal.SIG_IGN)
+        signal.signal(it, lambda *_: None)  # Python complains if a signal that has come is ignored
     sys.exit(128 + number)
 
 
-def read_file(name: str | bytes, most: int) -> bytes:
+def read_file(name: str | bytes | int, most: int) -> bytes:
     """Returns the bytes of a file, a pipe or a device. Raises Full if there are more than `most` bytes."""
     pieces, left = [], most + 1
     with open(name, "rb", buffering=0) as file:

@@ -19,8 +19,9 @@ from dataclasses import dataclass, field, replace
 
 from . import names
 from ._calls import header_read, image_scan, volume_tree, volume_unfix
-from ._errors import Fault, FaultCode, FaultError
-from ._types import Node, NodeKind
+from ._errors import Fault, FaultError
+from ._native import FaultCode, NodeKind
+from ._types import Node
 from .limits import Budget, Full, Limits
 from .opened import PACKED, Closed, Way, frames, open_section
 
@@ -28,6 +29,7 @@ SIGNATURE, SIGNATURE_AT = b"_FVH", 40  # the signature in the header of a volume
 LONGEST_HEADER = 1 << 16  # bytes of the header of a volume
 FIXED, ATTRIBUTES_AT = 0x04, 19  # the attribute of a file that may not be moved; where a file header has the attributes
 SYSTEMS = {2: "FFS2", 3: "FFS3"}
+LONGEST_TEXT = 4096  # characters of a text that are read
 
 
 @dataclass
@@ -131,8 +133,9 @@ class Section(Part):
 
     @property
     def text(self) -> str:
-        """Returns the text of a user interface section or a version section."""
-        body = self.body[2:] if self.kind == names.VERSION else self.body  # after the build number
+        """Returns the text of a user interface section or a version section, at most LONGEST_TEXT characters of it."""
+        start = 2 if self.kind == names.VERSION else 0  # after the build number
+        body = self.data[self.offset + start : self.offset + min(self.length, start + 2 * LONGEST_TEXT)]
         return body[: len(body) & ~1].decode("utf-16-le", "surrogatepass").split("\0")[0]
 
 
@@ -308,8 +311,10 @@ class Reader:
 
     def _volumes(self, data: bytes, start: int) -> list[Volume]:
         """Returns the volumes in some data, from an offset on. They may have fixed files."""
-        found = [(start + it.offset, it.length) for it in image_scan(memoryview(data)[start:])]
-        return [self._volume(data, at, length, True) for at, length in found or self._odd_places(data, start)]
+        headers = image_scan(memoryview(data)[start:])
+        # One by one, because there may be very many: at the limit of parts, this ends.
+        places = ((start + it.offset, it.length) for it in headers) if headers else self._odd_places(data, start)
+        return [self._volume(data, at, length, True) for at, length in places]
 
     def _odd_places(self, data: bytes, start: int) -> Iterator[tuple[int, int]]:
         """Yields the offsets and lengths of the volumes in data that have no volume at a multiple of 8, such as a

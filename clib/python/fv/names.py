@@ -40,6 +40,7 @@ SECTIONS = {
 # The ops of dependency expressions, by their codes. The first three have a GUID.
 OPS = ("BEFORE", "AFTER", "PUSH", "AND", "OR", "NOT", "TRUE", "FALSE", "END", "SOR")
 OPS_WITH_GUID = OPS[:3]
+MOST_OPS = 1000  # of an expression that are shown
 
 # The names that EDK II gives to its files and GUIDs, as lines of a GUID and a name.
 EDK2 = Path(__file__).with_name("guids.txt")
@@ -74,10 +75,14 @@ class Names:
 
     def depex(self, expression: bytes) -> str:
         """Returns the ops of a dependency expression with the names of its GUIDs, up to END or the first byte that is
-        not an op."""
+        not an op. After MOST_OPS ops, two dots take the place of the rest."""
         words: list[str] = []
-        at = 0
+        at = ops = 0
         while at < len(expression) and expression[at] < len(OPS):
+            ops += 1
+            if ops > MOST_OPS:
+                words.append("..")
+                break
             words.append(OPS[expression[at]])
             guid = expression[at + 1 : at + 17] if words[-1] in OPS_WITH_GUID else b""
             if words[-1] == "END" or 0 < len(guid) < 16:

@@ -8,6 +8,7 @@ from __future__ import annotations
 
 import functools
 import importlib
+import io
 import lzma
 import struct
 import uuid
@@ -152,24 +153,19 @@ def open_section(kind: int, header_length: int, body: bytes, budget: Budget) -> 
     the body does not include. Raises Closed if no way is known or the data are damaged, and Full if the budget does not
     suffice."""
     budget.open()
-    way, data = packed_in(kind, header_length, body)
-    found = bytearray()
+    way, data = _compression(body) if kind == COMPRESSION else _guided(header_length, body)
+    found = io.BytesIO()  # its bytes are not copied at the end
     try:
         for piece in way.unpack(data, budget):
-            found += piece
-            if len(found) > budget.limits.section:
+            found.write(piece)
+            if found.tell() > budget.limits.section:
                 raise Closed(f"{way.name}: more than {budget.limits.section} bytes")
-            budget.check(len(found))
+            budget.check(found.tell())
     except (Closed, Full, MemoryError):
-        budget.waste(len(found))
+        budget.waste(found.tell())
         raise
-    budget.keep(len(found))
-    return way, bytes(found)
-
-
-def packed_in(kind: int, header_length: int, body: bytes) -> tuple[Way, bytes]:
-    """Returns the way to open a section, and its data without the header of its type."""
-    return _compression(body) if kind == COMPRESSION else _guided(header_length, body)
+    budget.keep(found.tell())
+    return way, found.getvalue()
 
 
 def _compression(body: bytes) -> tuple[Way, bytes]:

@@ -5,9 +5,9 @@
 
 Each volume has the lines of `fvtool list --sums`, without the numbers of files and sections, because an extra file
 would change every line after it. A volume with fixed files is listed without their marks, and the lines say which files
-are fixed. With --open, compressed sections have lines too. A rejected volume, a file without a volume, and an image
-with more than 100,000 parts are shown by their digests. All bytes outside of volumes share one digest. The last
-argument is the name of the image, even if it begins with a hyphen.
+are fixed. A text of more than 4,096 characters is left out. With --open, compressed sections have lines too. A rejected
+volume, a file without a volume, and an image with more than 100,000 parts are shown by their digests. All bytes outside
+of volumes share one digest. The last argument is the name of the image, even if it begins with a hyphen.
 
 Exit status 0: the lines are written, whatever the image is. 2: the image cannot be read, or has more than 1 GiB. 3: the
 arguments are wrong. 4: the library libfv cannot be used, the output cannot be written, or memory ran out. git stops at
@@ -25,8 +25,9 @@ from dataclasses import replace
 from . import cli, images
 from ._calls import volume_tree, volume_tree_digests
 from ._errors import FaultError
-from ._types import Node, NodeKind
-from .images import Content, File, Opened, Section, Volume, files_in, leaves
+from ._native import NodeKind
+from ._types import Node
+from .images import LONGEST_TEXT, Content, File, Opened, Section, Volume, files_in, leaves
 from .limits import Full
 from .names import GROUP, SUBTYPE, UI, VERSION
 from .shown import indented, quoted
@@ -108,7 +109,7 @@ def _detail(kind: int, body: bytes) -> str:
     """Returns the build number, the text or the GUID of a body that has the form of its type."""
     if kind == VERSION and len(body) >= 2:
         return f" version {struct.unpack_from('<H', body)[0]}"
-    if kind == UI and len(body) % 2 == 0 and body[-2:] == b"\0\0":
+    if kind == UI and len(body) % 2 == 0 and body[-2:] == b"\0\0" and len(body) <= 2 * LONGEST_TEXT + 2:
         return f" ui {quoted(body[:-2].decode('utf-16-le', 'surrogatepass'))}"
     if kind == SUBTYPE and len(body) >= 16:
         return f" subtype {uuid.UUID(bytes_le=body[:16])}"

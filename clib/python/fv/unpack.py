@@ -233,11 +233,12 @@ def filled_at_end(folder: Path) -> Iterator[Path]:
     room = None
     try:
         folder.parent.mkdir(parents=True, exist_ok=True)
-        if is_there:
-            (folder / ROOM).mkdir()
-            room = folder / ROOM
-        else:
-            room = Path(tempfile.mkdtemp(prefix=f"{ROOM}-", dir=folder.parent))
+        with cli.undisturbed():
+            if is_there:
+                (folder / ROOM).mkdir()
+                room = folder / ROOM
+            else:
+                room = Path(tempfile.mkdtemp(prefix=f"{ROOM}-", dir=folder.parent))
         yield room / "parts"
         with cli.undisturbed():
             if is_there:
@@ -317,7 +318,7 @@ def parser() -> cli.Parser:
 def main(words: list[str]) -> int:
     """Runs the command."""
     given = parser().parse_args(words)
-    if given.list == (given.folder is not None) or (not given.list and (given.sums or given.json)):
+    if given.folder == "" or given.list == bool(given.folder) or (not given.list and (given.sums or given.json)):
         parser().error("IMAGE and FOLDER are needed, or --list and IMAGE")
     cli.limit_memory()
     cli.end_by_signals()
