@@ -13,3 +13,4 @@ pub mod TreeBytes
 pub mod WalkRows
 pub mod UnfixKinds
 pub mod HeaderLaws
+pub mod HeaderRows

@@ -1,11 +1,12 @@
 //! The caller's buffer.
 
-ghost use Rattle.std.specs.Prelude.{◌≡◌, ◌<◌, ◌≤◌, ◌++◌, length, drop, IfOk, IfErr};
+ghost use Rattle.std.specs.Prelude.{◌≡◌, ◌<◌, ◌≤◌, ◌++◌, length, drop, map, IfOk, IfErr};
 ghost use Rattle.fv_base.specs.Words.{fault_number};
 ghost use Rattle.fv_c.specs.Reports.{no_fault, reported_fault};
 ghost use Rattle.fv_c.specs.inner.Rows.{IsWritten};
 
 use crate::reports::{BUFFER_TOO_SMALL, FvFault, NO_FAULT, set_fault};
+use crate::translate::Translate;
 use fv_base::Fault;
 
 // Writes the elements at the start of the buffer. The rest of the buffer is unchanged.
@@ -51,6 +52,38 @@ pub(crate) fn put_found<T: Copy>(
 {
     *fault = NO_FAULT;
     put_rows(rows, buffer, count)
+}
+
+// Writes the values in the type of the other side at the start of the buffer. The rest of the
+// buffer is unchanged.
+fn put_each<T: Translate>(values: &[T], buffer: &mut [T::Target])
+    requires { length values.now ≤ length buffer.old }
+    ensures { buffer.new ≡ map T.translated values.now ++ drop (length values.now) buffer.old }
+{
+    for i in 0..values.len() {
+        buffer[i] = values[i].translate();
+    }
+}
+
+// Does the same as `put_found` for the values in the type of the other side. No list of them is
+// made.
+pub(crate) fn put_translated<T: Translate>(
+    values: &[T],
+    buffer: &mut [T::Target],
+    count: &mut u64,
+    fault: &mut FvFault,
+) -> u32
+    ensures written { IsWritten (map T.translated values.now) buffer.old buffer.new result }
+    ensures count { count.new ≡ length values.now }
+    ensures fault { fault.new ≡ no_fault }
+{
+    *fault = NO_FAULT;
+    *count = values.len() as u64;
+    if buffer.len() < values.len() {
+        return BUFFER_TOO_SMALL;
+    }
+    put_each(values, buffer);
+    0
 }
 
 // Does the same as `put_found` if elements were found, and otherwise reports the fault.

@@ -1,6 +1,6 @@
 //! The cells of a volume's body: its files, pads, deleted files and free bytes, with their offsets.
 
-ghost use Rattle.std.specs.Prelude.{◌≡◌, ◌≢◌, ◌<◌, ◌++◌, List, length, drop, map, IfErr, IfOk};
+ghost use Rattle.std.specs.Prelude.{◌≡◌, ◌≢◌, ◌<◌, ◌++◌, List, length, drop, map};
 ghost use Rattle.fv_base.specs.Words.{fault_number, out_of_memory};
 ghost use Rattle.fv_base.specs.declared.fault.Fault.{Fault};
 ghost use Rattle.fv_file.specs.Words.{attribute_bits, cell_form, CellForm, file_header_len, is_large};
@@ -8,15 +8,15 @@ ghost use Rattle.fv_head.specs.declared.extent.Extent.{Extent};
 ghost use Rattle.fv_tree.specs.Words.{BeginsTiled, NotTiled};
 ghost use Rattle.fv_c.specs.ReportedCells.{dead_number, of_bytes, of_file, reported_cell};
 ghost use Rattle.fv_c.specs.Reports.{BeginsWithHeader, reported_fault, no_fault};
+ghost use Rattle.fv_c.specs.inner.Rows.{IsWritten};
 
-use crate::buffer::put_result;
-use crate::reports::FvFault;
-use crate::translate::{Translate, translate_all};
-use fv_base::Fault;
+use crate::buffer::put_translated;
+use crate::reports::{FvFault, set_fault};
+use crate::translate::Translate;
 use fv_file::offsets::{HEADER_LEN, LARGE_HEADER_LEN};
 use fv_file::{Cell, Cells, FileAttributes, FileHead, FileState};
 use fv_tree::volume_cells;
-use std::alloc::{AllocError, Global};
+use std::alloc::Global;
 
 /// A cell of a volume's body. A field that the cell does not have is 0. (PI specification, volume
 /// 3, sections 3.2.2 and 3.2.3.)
@@ -111,22 +111,14 @@ impl<'a> Translate for Cell<'a> {
     }
 }
 
-// Returns the reports for C of a volume's cells.
-fn reported_list(alloc: Global, list: &Cells<'_>) -> Result<Vec<FvCell>, AllocError>
-    ensures { IfOk result (λ v. v.items ≡ map reported_cell list.now) }
+// Writes the reports for C of a volume's cells at the start of the buffer, and returns 0. If the
+// buffer has fewer elements, returns 256 and leaves it unchanged.
+fn put_cells(list: &Cells<'_>, rows: &mut [FvCell], count: &mut u64, fault: &mut FvFault) -> u32
+    ensures written { IsWritten (map reported_cell list.now) rows.old rows.new result }
+    ensures count { count.new ≡ length list.now }
+    ensures fault { fault.new ≡ no_fault }
 {
-    translate_all(alloc, list.as_slice())
-}
-
-// Returns the reports for C of the cells of the volume with which the bytes begin.
-fn cell_rows(alloc: Global, volume: &[u8]) -> Result<Vec<FvCell>, Fault>
-    ensures ok { IfOk result (λ v. (e : Extent) × (cs : List CellForm) × BeginsTiled e cs volume.now
-        × (v.items ≡ map reported_cell cs)) }
-    ensures err { IfErr result (λ f. f ≢ out_of_memory → NotTiled volume.now f) }
-    ensures memory { IfErr result (λ f. f ≡ out_of_memory → BeginsWithHeader volume.now) }
-{
-    let (_, list) = volume_cells(alloc, volume)?;
-    Ok(reported_list(alloc, &list)?)
+    put_translated(list.as_slice(), rows, count, fault)
 }
 
 /// Writes the cells of the volume with which the bytes begin, in order, at the start of the buffer
@@ -161,5 +153,8 @@ pub extern "C" fn fvp_volume_cells(
         × (f ≡ out_of_memory → BeginsWithHeader volume.now)
         × (result ≡ fault_number f.kind) × (fault.new ≡ reported_fault f) × (count.new ≡ count.old) }
 {
-    put_result(cell_rows(alloc, volume), rows, count, fault)
+    match volume_cells(alloc, volume) {
+        Ok((_, list)) => put_cells(&list, rows, count, fault),
+        Err(f) => set_fault(f, fault),
+    }
 }

@@ -1,15 +1,15 @@
 //! The blocks of a hand-off list.
 
-ghost use Rattle.std.specs.Prelude.{◌≡◌, ◌≢◌, ◌<◌, ◌≤◌, ◌++◌, List, length, take, drop, map, IfOk, IfErr};
+ghost use Rattle.std.specs.Prelude.{◌≡◌, ◌≢◌, ◌<◌, ◌≤◌, ◌++◌, List, length, take, drop, map};
 ghost use Rattle.fv_hob.specs.Words.{BeginsTable, hob_out_of_memory, HobForm, IsHobList};
 ghost use Rattle.fv_hob.specs.declared.fault.HobFault.{HobFault};
 ghost use Rattle.fv_c.specs.ReportedHobs.{NoHobs, hob_result, reported_hob, reported_hob_fault};
 ghost use Rattle.fv_c.specs.Reports.{no_fault};
 
-use crate::buffer::put_found;
+use crate::buffer::put_translated;
 use crate::reports::{FvFault, HOB_FAULTS, OUT_OF_MEMORY, set_fault_at};
-use crate::translate::{Translate, translate_all};
-use fv_hob::{Hob, HobFault, HobFaultKind, Span, read_hobs};
+use crate::translate::Translate;
+use fv_hob::{Hob, HobFaultKind, Span, read_hobs};
 use std::alloc::Global;
 
 /// A block of a hand-off list. (PI specification, volume 3, section 5.)
@@ -58,19 +58,6 @@ fn hob_result(kind: HobFaultKind) -> u32
     }
 }
 
-// Returns the blocks of the hand-off list with which the bytes begin, for C, and the length of the
-// list in bytes.
-fn hob_rows(alloc: Global, list: &[u8]) -> Result<(Vec<FvHob>, u64), HobFault>
-    ensures ok { IfOk result (λ r. (all : List HobForm) × (r.1 ≤ length list.now)
-        × IsHobList all (take r.1 list.now) × (r.0.items ≡ map reported_hob all)) }
-    ensures err { IfErr result (λ f. f ≢ hob_out_of_memory → NoHobs list.now f) }
-    ensures memory { IfErr result (λ f. f ≡ hob_out_of_memory → BeginsTable list.now) }
-{
-    let (hobs, len) = read_hobs(alloc, list)?;
-    let rows = translate_all(alloc, hobs.as_slice())?;
-    Ok((rows, len))
-}
-
 /// Writes the blocks of the hand-off list with which the bytes begin, in order, at the start of the
 /// buffer `rows`. `count` is their number, and `list_length` the number of bytes of the list.
 /// Returns 0. (PI specification, volume 3, section 5.)
@@ -106,10 +93,10 @@ pub extern "C" fn fvp_hobs_read(
         × (result ≡ hob_result f.kind) × (fault.new ≡ reported_hob_fault f) × (count.new ≡ count.old)
         × (list_length.new ≡ list_length.old) }
 {
-    match hob_rows(alloc, list) {
+    match read_hobs(alloc, list) {
         Ok((hobs, len)) => {
             *list_length = len;
-            put_found(hobs.as_slice(), rows, count, fault)
+            put_translated(hobs.as_slice(), rows, count, fault)
         }
         Err(f) => set_fault_at(f.offset, hob_result(f.kind), fault),
     }

@@ -1,6 +1,6 @@
 //! Checks each volume of a flash image and reports the outcome to C.
 
-ghost use Rattle.std.specs.Prelude.{◌≡◌, ◌≢◌, ◌⊎◌, ◌<◌, ◌≤◌, ◌++◌, ℕ, List, length, drop, map, IfErr, IfOk};
+ghost use Rattle.std.specs.Prelude.{◌≡◌, ◌≢◌, ◌⊎◌, ◌<◌, ◌≤◌, ◌++◌, ℕ, List, length, drop, map};
 ghost use Rattle.fv_base.specs.Words.{OrMemory, fault_number, out_of_memory, volume_limit};
 ghost use Rattle.fv_base.specs.declared.fault.Fault.{Fault};
 ghost use Rattle.fv_canon.specs.Words.{ChecksImage, IsAboveLimit};
@@ -9,10 +9,9 @@ ghost use Rattle.fv_flash.specs.Words.{IsPlace};
 ghost use Rattle.fv_c.specs.ReportedChecks.{canonical_flag, fault_in, reported_check};
 ghost use Rattle.fv_c.specs.Reports.{no_fault, reported_fault};
 
-use crate::buffer::put_result;
+use crate::buffer::put_translated;
 use crate::reports::{FvFault, NO_FAULT, reported_fault, set_fault};
-use crate::translate::{Translate, translate_all};
-use fv_base::Fault;
+use crate::translate::Translate;
 use fv_canon::{VolumeCheck, VolumeOutcome, check_image};
 use std::alloc::Global;
 
@@ -71,18 +70,6 @@ impl Translate for VolumeCheck {
     }
 }
 
-// Returns the report for C on each volume of the image.
-fn check_rows(alloc: Global, image: &[u8]) -> Result<Vec<FvVolumeCheck>, Fault>
-    ensures ok { IfOk result (λ v. (checks : List VolumeCheck) × ChecksImage image.now checks
-        × (v.items ≡ map reported_check checks)) }
-    ensures err { IfErr result (OrMemory (IsAboveLimit image.now)) }
-    ensures memory { IfErr result (λ f. f ≡ out_of_memory
-        → (length image.now ≤ volume_limit) × ((place : ℕ) × IsPlace image.now place)) }
-{
-    let checks = check_image(alloc, image)?;
-    Ok(translate_all(alloc, checks.as_slice())?)
-}
-
 /// Writes a report on each volume that `fvp_image_scan` finds in a flash image, in order, at the
 /// start of the buffer `rows`. `count` is their number. Returns 0, also if a volume is rejected:
 /// the volume's row then contains the fault. (PI specification, volume 3, section 3.2.)
@@ -115,5 +102,8 @@ pub extern "C" fn fvp_image_check(
         × (f ≡ out_of_memory → (length image.now ≤ volume_limit) × ((place : ℕ) × IsPlace image.now place))
         × (result ≡ fault_number f.kind) × (fault.new ≡ reported_fault f) × (count.new ≡ count.old) }
 {
-    put_result(check_rows(alloc, image), rows, count, fault)
+    match check_image(alloc, image) {
+        Ok(checks) => put_translated(checks.as_slice(), rows, count, fault),
+        Err(f) => set_fault(f, fault),
+    }
 }

@@ -1,46 +1,64 @@
 //! The headers of the volumes in a flash image.
 
-ghost use Rattle.std.specs.Prelude.{◌≡◌, ◌≢◌, ◌<◌, ◌++◌, ℕ, List, length, drop, IfOk, IfErr};
+ghost use Rattle.std.specs.Prelude.{◌≡◌, ◌≢◌, ◌<◌, ◌≤◌, ◌++◌, ℕ, List, length, drop};
 ghost use Rattle.fv_base.specs.Words.{out_of_memory};
-ghost use Rattle.fv_flash.specs.Words.{IsPlace, VolumeAt};
+ghost use Rattle.fv_flash.specs.Words.{AreFound, IsPlace, VolumeAt};
 ghost use Rattle.fv_c.specs.ReportedHeaders.{AreHeaders, IsHeaderIn};
 ghost use Rattle.fv_c.specs.Reports.{no_fault, reported_fault};
+ghost use Rattle.fv_c.specs.inner.Rows.{IsWritten};
 ghost use Rattle.fv_c.specs.declared.header.FvHeader.{FvHeader};
 
-use crate::buffer::put_result;
 use crate::header::{FvHeader, header_of};
-use crate::reports::FvFault;
-use fv_base::Fault;
+use crate::reports::{BUFFER_TOO_SMALL, FvFault, NO_FAULT, set_fault};
 use fv_base::field::bytes_from;
 use fv_flash::{FoundVolume, volumes};
-use fv_head::verify_fv;
+use fv_head::checked_extent;
 use std::alloc::Global;
 
-// Returns the header of a volume that was found in the image, for C.
-fn header_in(image: &[u8], volume: FoundVolume) -> FvHeader
-    requires { VolumeAt image.now volume.offset volume.length }
-    ensures offset { result.offset ≡ volume.offset }
+// Returns the header of the volume at an offset of the image, for C.
+fn header_at(image: &[u8], offset: u64) -> FvHeader
+    requires { (n : ℕ) × VolumeAt image.now offset n }
+    ensures offset { result.offset ≡ offset }
     ensures header { IsHeaderIn image.now result }
 {
-    let bytes = bytes_from(image, volume.offset as usize);
-    let Ok(extent) = verify_fv(bytes) else {
-        unreachable!()
-    };
-    header_of(volume.offset, bytes, extent)
+    let bytes = bytes_from(image, offset as usize);
+    header_of(offset, bytes, checked_extent(bytes))
 }
 
-// Returns the headers of the volumes in the image, for C.
-fn header_rows(alloc: Global, image: &[u8]) -> Result<Vec<FvHeader>, Fault>
-    ensures ok { IfOk result (λ v. AreHeaders image.now v.items) }
-    ensures err { IfErr result (λ f. f ≡ out_of_memory) }
-    ensures memory { IfErr result (λ _. (place : ℕ) × IsPlace image.now place) }
+// Writes the headers of the volumes in the image at the start of the buffer. The rest of the buffer
+// is unchanged.
+fn put_each_header(image: &[u8], volumes: &[FoundVolume], rows: &mut [FvHeader])
+    requires volumes { AreFound image.now volumes.now }
+    requires room { length volumes.now ≤ length rows.old }
+    ensures { (headers : List FvHeader) × AreHeaders image.now headers × (length headers ≡ length volumes.now)
+        × (rows.new ≡ headers ++ drop (length headers) rows.old) }
 {
-    let found = volumes(alloc, image)?;
-    let mut rows = Vec::new(alloc);
-    for volume in found.as_slice() {
-        rows.push(header_in(image, *volume))?;
+    for i in 0..volumes.len() {
+        rows[i] = header_at(image, volumes[i].offset);
     }
-    Ok(rows)
+}
+
+// Writes the headers of the volumes in the image at the start of the buffer and returns 0. If the
+// buffer has fewer elements, returns 256 and leaves it unchanged.
+fn put_headers(
+    image: &[u8],
+    volumes: &[FoundVolume],
+    rows: &mut [FvHeader],
+    count: &mut u64,
+    fault: &mut FvFault,
+) -> u32
+    requires { AreFound image.now volumes.now }
+    ensures written { (headers : List FvHeader) × AreHeaders image.now headers × IsWritten headers rows.old rows.new result
+        × (count.new ≡ length headers) }
+    ensures fault { fault.new ≡ no_fault }
+{
+    *fault = NO_FAULT;
+    *count = volumes.len() as u64;
+    if rows.len() < volumes.len() {
+        return BUFFER_TOO_SMALL;
+    }
+    put_each_header(image, volumes, rows);
+    0
 }
 
 /// Writes the headers of the volumes in a flash image, in the order of their offsets, at the start
@@ -71,5 +89,8 @@ pub extern "C" fn fvp_image_scan(
     ensures memory { result ≢ 0 → result ≢ 256 → (result ≡ 24) × (fault.new ≡ reported_fault out_of_memory)
         × (count.new ≡ count.old) × ((place : ℕ) × IsPlace image.now place) }
 {
-    put_result(header_rows(alloc, image), rows, count, fault)
+    match volumes(alloc, image) {
+        Ok(found) => put_headers(image, found.as_slice(), rows, count, fault),
+        Err(f) => set_fault(f, fault),
+    }
 }
