@@ -4,7 +4,8 @@
  *   fvc normalise|all|unfix|check|checkall|scan|cells|list|sums|hobs|digest|parts|flips|prefixes FILE
  *   fvc extract FILE ROW
  *   fvc compare FIRST SECOND
- * The exit status is that of the program. `parts` extracts each row of the tree, and finds it in the canonical image. */
+ * The exit status is the same as for the program. `parts` extracts each row of the tree, and finds the row's bytes in
+ * the canonical image. */
 #include <fv.h>
 #include <inttypes.h>
 #include <stdbool.h>

@@ -120,7 +120,8 @@ def calls_are_all() -> None:
 
 
 def layouts_are_those_of_c() -> int:
-    """Checks that the C compiler has the sizes and offsets of the formats. Returns their number, or 0 if there is no compiler."""
+    """Checks that the C compiler has the sizes and offsets of the formats. Returns how many it has checked, which is 0
+    without a compiler."""
     compiler = shutil.which(os.environ.get("CC", "cc"))
     if not compiler:
         return 0
