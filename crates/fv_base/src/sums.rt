@@ -1,10 +1,8 @@
 //! The sums that header checksums use.
 
-ghost use Rattle.std.specs.Prelude.{◌≡◌, ◌%◌, ◌≤◌, length, take};
+ghost use Rattle.std.specs.Prelude.{◌≡◌, ◌%◌, length};
 ghost use Rattle.fv_base.specs.Measures.{sum8_of};
 ghost use Rattle.fv_base.specs.Sums.{sum16_of};
-
-use crate::field::u16_at;
 
 /// Returns the plain sum of the bytes, modulo 256, as `IntegrityCheck` of a file uses it. (PI
 /// specification, volume 3, section 3.2.3.1.)
@@ -18,17 +16,6 @@ pub fn sum8(bytes: &[u8]) -> u8
     total
 }
 
-// Returns the sum of the four words in the first 8 bytes, modulo 65536.
-fn sum_of_four(bytes: &[u8]) -> u16
-    requires { 8 ≤ length bytes.now }
-    ensures { result ≡ sum16_of (take 8 bytes.now) }
-{
-    u16_at(bytes, 0)
-        .wrapping_add(u16_at(bytes, 2))
-        .wrapping_add(u16_at(bytes, 4))
-        .wrapping_add(u16_at(bytes, 6))
-}
-
 /// Returns the plain sum of the little-endian 16-bit words, modulo 65536, as `Checksum` of a volume
 /// header uses it. The number of bytes must be even. (PI specification, volume 3, section 3.2.1.1.)
 pub fn sum16(bytes: &[u8]) -> u16
@@ -36,12 +23,7 @@ pub fn sum16(bytes: &[u8]) -> u16
     ensures { result ≡ sum16_of bytes.now }
 {
     let mut total = 0u16;
-    let mut whole = bytes;
-    while whole.len() >= 8 {
-        total = total.wrapping_add(sum_of_four(whole));
-        whole = &whole[8..];
-    }
-    let mut rest = whole;
+    let mut rest = bytes;
     while rest.len() >= 2 {
         total = total.wrapping_add(u16::from_le_bytes([rest[0], rest[1]]));
         rest = &rest[2..];

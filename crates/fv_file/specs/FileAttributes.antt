@@ -11,7 +11,7 @@ attribute_bits a = a.0
 abbrev pub attributes_by : ℕ → FileAttributes
 attributes_by bits = record { 0 = bits }
 
--- bit 0x01, FFS_ATTRIB_LARGE_FILE, is set: the header has 32 bytes, and the size follows its first 24 bytes
+-- bit 0x01, FFS_ATTRIB_LARGE_FILE, is set: the header has 32 bytes, and its field ExtendedSize states the size
 abbrev pub is_large : ℕ → Bool
 is_large attributes = attributes % 2 == 1
 

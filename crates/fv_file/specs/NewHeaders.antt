@@ -35,7 +35,8 @@ complement n = (256 - n % 256) % 256
 abbrev pub file_sum_for : ℕ → List ℕ → ℕ
 file_sum_for attributes payload = if is_summed attributes then complement (sum payload) else fixed_checksum
 
--- the bytes of a header with these two checksums, in order; in a large header Size is zero, and the size follows State
+-- the bytes of a header with these two checksums, in order. In a large header Size is zero, and ExtendedSize, after
+-- State, states the size
 abbrev pub header_with : ℕ → ℕ → List ℕ → ℕ → ℕ → ℕ → Bool → ℕ → List ℕ
 header_with header_sum file_sum name kind attributes size large state =
     name ++ (header_sum ∷ file_sum ∷ kind ∷ attributes ∷ [])

@@ -106,7 +106,7 @@ later_checks b =
 abbrev pub head_checks : List ℕ → List (Check Fault)
 head_checks b = leading_checks b ++ later_checks b
 
--- the bytes begin with a volume, as far as its header says. Only then does a call that reads them as a volume take
--- memory
+-- the bytes begin with the header of a volume and have at least FvLength bytes; the body of the volume may have faults.
+-- A call that reads the bytes as a volume takes memory only in this case
 abbrev pub BeginsWithHeader : List ℕ → Type 0
 BeginsWithHeader b = (h : HeadFields) × (e : Extent) × BeginsVolume h e b

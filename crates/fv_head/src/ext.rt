@@ -53,9 +53,9 @@ impl<'a> ExtEntry<'a> {
     }
 }
 
-/// The extended header of a volume. Only reading an extended header makes one. In contracts, it is
-/// an `Extension` for which `IsReadExt` holds: there are bytes that form an extended header with
-/// this meaning. (PI specification, volume 3, section 3.2.1.2, `EFI_FIRMWARE_VOLUME_EXT_HEADER`.)
+/// The extended header of a volume. A value of this type is made only by reading an extended
+/// header. In contracts, it is an `Extension` for which `IsReadExt` holds: there are bytes that form
+/// an extended header with this meaning. (PI specification, volume 3, section 3.2.1.2, `EFI_FIRMWARE_VOLUME_EXT_HEADER`.)
 #[derive(Drop)]
 pub struct ExtHeader<'a> {
     name: Guid,

@@ -189,8 +189,9 @@ impl NameIndex {
             → result ≡ position (is_name name.now) names }
     {
         let key = halves(*name);
-        // Entries with the same name are ordered by file number. So Ok means that file 0 has this
-        // name, and Err gives the place of the first entry with the name, if a file has the name.
+        // The search is for the entry of this name and file 0. Entries with the same name are
+        // ordered by file number. So Ok means that file 0 has this name. Err gives the place of the
+        // first entry with the name, if any other file has the name.
         let Err(place) = self.sorted.binary_search(&(key, 0)) else {
             return Some(0);
         };

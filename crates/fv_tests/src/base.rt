@@ -139,7 +139,8 @@ const ALIGNMENTS: [(u8, u64, u64); 8] = [
     (56, 65_536, 16_777_216),
 ];
 
-// Returns whether attributes with these bits have this alignment, whatever the other bits are.
+// Returns whether attributes with these bits have this alignment, both if all other bits are clear
+// and if all other bits are set.
 fn has_alignment(bits: u8, want: u64) -> bool {
     Align::from_attributes(bits).bytes() == want
         && Align::from_attributes(bits | 0xc5).bytes() == want

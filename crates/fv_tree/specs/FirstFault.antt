@@ -60,8 +60,8 @@ OneOf {A} {B} which R fault xs =
     (before : List A) × (x : A) × (after : List A) × (xs ≡ before ++ (x ∷ after))
     × IfFirst which ((read : List B) × Pairwise R before read) × fault x
 
--- the file has a twin among the files preceding it; if it is to be the first such file, no two of the preceding files
--- are twins
+-- the file has a twin among the files preceding it. If `which` is `First`, the file is also the first that has one: no
+-- two of the files preceding it are twins
 abbrev pub HasTwin : Which → FileForm → List FileForm → Type 0
 HasTwin which f fs =
     (before : List FileForm) × (after : List FileForm) × (fs ≡ before ++ (f ∷ after)) × IfFirst which (NoTwins before)

@@ -61,8 +61,8 @@ impl Mark {
         matches!(self, Mark::Replaced)
     }
 
-    /// Returns the mark of the same file, which also notes whether one of the other files replaces
-    /// it.
+    /// Returns this mark, with a note of whether one of the other files replaces the file. Only a
+    /// marked file may be replaced.
     pub(crate) fn with_replaced(self, replaced: bool) -> Mark
         requires { IsTrue replaced → is_marked (state_by self) ≡ true }
         ensures same { state_by result ≡ state_by self }
@@ -223,7 +223,7 @@ fn is_placed(file: &LocatedFile, last: bool, length: u64) -> bool
 }
 
 // Checks that a volume top file, if there is one, is the last file and ends where the volume ends.
-// The fault is TopFile at a volume top file that does not.
+// Otherwise the fault is TopFile, at a volume top file that is not the last file or ends elsewhere.
 fn check_top(files: &[LocatedFile], length: u64) -> Result<(), Fault>
     ensures found { OnOk result (TopAtEnd length (map file_form files.now)) }
     ensures first { IfErr result (λ e. (f : FileForm) × TopElsewhere length f (map file_form files.now)

@@ -6,8 +6,8 @@ use fv_base::{FileSystem, Guid, Polarity};
 use fv_file::{FileAttributes, HeadBytes, file_head_bytes, pad_head_bytes, verify_ffs_file};
 
 /// A file: the type, the attribute bits, the length of the data, the file checksum and the
-/// polarity; then the bytes after the name as two numbers of eight bytes, of which the second may
-/// be 0 for no bytes.
+/// polarity; then the bytes after the name, as two numbers of eight bytes each. A short header ends
+/// after the first number, and the second number is then 0.
 type FileRow = (u8, u8, u64, u8, Polarity, u64, u64);
 
 /// A pad: its size, its polarity and the eight bytes after its name.
@@ -96,9 +96,9 @@ fn pad_head_is_written(row: PadRow) -> bool {
         && (size != 24 || is_read_back(bytes, P, 0xf0, 0, 0xaa, polarity))
 }
 
-// The data of one file are the longest that fit a short header, and those of another are one byte
-// longer. The last two files have the most data, and are 256 MiB long; the second of them has all
-// other attribute bits.
+// The data of one file are the longest that fit a short header, and the data of the next file are
+// one byte longer. The last two files have the most data that a file may have. The last file has
+// all attribute bits that the call accepts, which are all bits except 0x01 and 0x04.
 #[test]
 fn headers_are_written(rt: HostRuntime) {
     let (ones, zeros) = (Polarity::Ones, Polarity::Zeros);
