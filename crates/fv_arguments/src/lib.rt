@@ -1,4 +1,4 @@
-//! The command line: reads its arguments into a plan.
+//! Reads the arguments of a command line into a plan.
 #![tactic(auto)]
 
 mod options;

@@ -118,8 +118,8 @@ fn task_by(given: bool, task: Task, other: Task) -> Task
     if given { task } else { other }
 }
 
-// Reads the arguments of `normalise` or `check`. The task is `whole`, for an image with all its
-// volumes, if the flag `--all` is given. It is `single`, for one volume, otherwise. With the flag,
+// Reads the arguments of `normalise` or `check`. If the flag `--all` is given, the task is `whole`,
+// for an image with all its volumes. Otherwise it is `single`, for one volume. With the flag,
 // `--at` is wrong.
 fn on_image(
     alloc: Global,

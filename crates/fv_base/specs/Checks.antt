@@ -48,8 +48,8 @@ pub data Which : Type 0 where
   First : Which
   Any : Which
 
--- f is the fault of a check that does not hold. For `First` all checks before it hold. For `Any` all guards before it
--- hold, which are checks that bytes exist. So every fault is about bytes that exist
+-- f is the fault of a check that does not hold. For `First`, all checks before it hold. For `Any`, all guards
+-- (`is_guard`) before it hold. In both cases the bytes that the failing check reads exist
 abbrev pub Fails : Which → List (Check Fault) → Fault → Type 0
 Fails First cs f = IsFirstFault cs f
 Fails Any cs f = FailsAfter GuardsHold cs f

@@ -19,7 +19,7 @@ abbrev pub digits_at : List ℕ → List ℕ → List ℕ
 digits_at places b = digits (map (slice_index b) places)
 
 -- the text of a GUID, 8-4-4-4-12 digits: the three numbers, most significant byte first, then the last eight bytes in
--- order; 45 is a hyphen
+-- order. In the definition, 45 is the code of a hyphen
 unfoldable pub guid_text : List ℕ → List ℕ
 guid_text b =
     digits_at (3 ∷ 2 ∷ 1 ∷ 0 ∷ []) b ++ 45 ∷ digits_at (5 ∷ 4 ∷ []) b ++ 45 ∷ digits_at (7 ∷ 6 ∷ []) b

@@ -13,10 +13,10 @@ use std::io::{ErrorKind, Read};
 
 /// Collects an input, piece after piece.
 pub trait Collector {
-    /// Its state is the result of collecting exactly these bytes.
+    /// The collector's state is the result of collecting exactly these bytes.
     ghost holds: { Self → List ℕ → Type 0 };
 
-    /// It has to take more memory to hold this many bytes.
+    /// The collector must take more memory before it can hold this many bytes.
     ghost lacks: { Self → ℕ → Type 0 };
 
     /// Takes the next piece of the input, which is at most as long as one read. A collector that
@@ -54,9 +54,9 @@ fn zeros(alloc: Global, count: usize) -> Result<Vec<u8>, AllocError>
     vec![in alloc; 0u8; count]
 }
 
-// Returns how many bytes a read asks for if its reader is expected to give `room` bytes: a sixteenth
-// of them, but at least 16,384 and at most 65,536. If no number is known, a read asks for 65,536
-// bytes, because short reads of a pipe take more time.
+// Returns how many bytes a read asks for if its reader is expected to give `room` bytes: a
+// sixteenth of them, but at least 16,384 and at most 65,536. If no number is known, a read asks for
+// 65,536 bytes, because short reads of a pipe take more time.
 fn read_len(room: usize) -> usize
     ensures some { 0 < result }
     ensures most { result ≤ read_limit }
@@ -68,11 +68,11 @@ fn read_len(room: usize) -> usize
 }
 
 /// Reads a reader to its end and passes its bytes to the collector, up to `limit` bytes. The
-/// collector must hold no bytes at first. A read asks for at most 65,536 bytes, and for fewer if the
-/// port's `room` is small. A read that returns `Interrupted` is repeated. There are at most
+/// collector must hold no bytes at first. A read asks for at most 65,536 bytes, and for fewer if
+/// the port's `room` is small. A read that returns `Interrupted` is repeated. There are at most
 /// `limit` + 2 reads. A reader that gives one byte per call needs `limit` + 1 of them: the last
 /// finds the end, or gives one byte too many. The other read is spare, so the reads run out only if
-/// one of them was interrupted. How often `read` is called is only tested.
+/// one of them was interrupted. Tests, and not the clauses, show how often `read` is called.
 ///
 /// # Errors
 ///

@@ -16,8 +16,8 @@ use crate::port::Port;
 use std::alloc::{AllocError, Global};
 use std::io::Write;
 
-/// Takes bytes, part after part. A sink that can stop remembers that it has stopped, and takes
-/// nothing after that.
+/// A sink takes bytes, part after part. If a sink can stop, it remembers that it has stopped, and
+/// takes nothing after that.
 pub trait Sink {
     /// Relates the state of a sink before it takes the bytes to its state afterwards.
     ghost takes: { Self → List ℕ → Self → Type 0 };
@@ -48,7 +48,7 @@ fn write_prefix<W: Write>(port: &mut Port<W>, bytes: &[u8]) -> usize
     at
 }
 
-/// Writes to a borrowed port until a write fails.
+/// A sink that writes to a borrowed port until a write fails.
 #[derive(Drop)]
 pub struct WriteSink<'a, W: Write> {
     port: &'a mut Port<W>,
@@ -113,7 +113,7 @@ impl<'a, W: Write> WriteSink<'a, W> {
     }
 }
 
-/// Keeps bytes in memory, until memory runs out.
+/// A sink that keeps bytes in memory until memory runs out.
 #[derive(Drop)]
 pub struct ListSink {
     bytes: Vec<u8>,
@@ -154,8 +154,8 @@ impl ListSink {
     }
 }
 
-/// The sink is on until memory runs out: it keeps all of the bytes, after the bytes that it kept
-/// before. Then it goes off, and never goes on again.
+/// The sink is on until memory runs out. While it is on, it keeps all of the bytes, after the bytes
+/// that it kept before. When memory runs out, it goes off and stays off.
 impl Sink for ListSink {
     ghost takes = { KeptTakes (λ s. s.bytes.items) (λ s. s.on) };
 
@@ -168,13 +168,13 @@ impl Sink for ListSink {
     }
 }
 
-/// The source of fills with 0x00.
+/// The bytes from which `fill` takes bytes 0x00.
 static ZEROS: [u8; 65536] = [0; 65536];
 
-/// The source of fills with 0xFF.
+/// The bytes from which `fill` takes bytes 0xFF.
 static ONES: [u8; 65536] = [0xff; 65536];
 
-// Returns a block of copies of the byte, at least one.
+// Returns a block that consists of copies of the byte, and is not empty.
 fn fill_block(byte: u8) -> &'static [u8]
     requires { (byte ≡ 0) ⊎ (byte ≡ 255) }
     ensures some { 0 < length result.now }

@@ -54,8 +54,8 @@ pub(crate) fn put_found<T: Copy>(
     put_rows(rows, buffer, count)
 }
 
-// Writes the values in the type of the other side at the start of the buffer. The rest of the
-// buffer is unchanged.
+// Translates the values, and writes the results at the start of the buffer. The rest of the buffer
+// is unchanged.
 fn put_each<T: Translate>(values: &[T], buffer: &mut [T::Target])
     requires { length values.now ≤ length buffer.old }
     ensures { buffer.new ≡ map T.translated values.now ++ drop (length values.now) buffer.old }
@@ -65,8 +65,8 @@ fn put_each<T: Translate>(values: &[T], buffer: &mut [T::Target])
     }
 }
 
-// Does the same as `put_found` for the values in the type of the other side. No list of them is
-// made.
+// Translates the values, and does the same as `put_found` for the results, without making a list of
+// them.
 pub(crate) fn put_translated<T: Translate>(
     values: &[T],
     buffer: &mut [T::Target],

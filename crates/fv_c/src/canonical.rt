@@ -166,9 +166,9 @@ pub extern "C" fn fvp_volume_normalise(
     0
 }
 
-/// Writes a flash image with each volume that `fvp_image_scan` finds replaced by its canonical image. The
-/// result is as long as the image, and is at the start of the buffer. Returns 0. (PI specification,
-/// volume 3, section 3.2.)
+/// Writes a flash image with each volume that `fvp_image_scan` finds replaced by its canonical
+/// image. The result is as long as the image, and is at the start of the buffer. Returns 0. (PI
+/// specification, volume 3, section 3.2.)
 ///
 /// # Errors
 ///

@@ -122,8 +122,8 @@ fn put_cells(list: &Cells<'_>, rows: &mut [FvCell], count: &mut u64, fault: &mut
 }
 
 /// Writes the cells of the volume with which the bytes begin, in order, at the start of the buffer
-/// `rows`. `count` is their number. Returns 0. Sections, duplicate names and the volume top file are not
-/// checked. (PI specification, volume 3, sections 3.2.2 and 3.2.3.)
+/// `rows`. `count` is their number. Returns 0. Sections, duplicate names and the volume top file
+/// are not checked. (PI specification, volume 3, sections 3.2.2 and 3.2.3.)
 ///
 /// # Errors
 ///

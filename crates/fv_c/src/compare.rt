@@ -16,7 +16,8 @@ use fv_compare::put_comparison;
 use fv_tree::VolumeView;
 use std::alloc::Global;
 
-/// The size in bytes of a buffer in which every text of a comparison has room, with its byte 0.
+/// The size in bytes of a buffer that has room for every text of a comparison and the byte 0 after
+/// it.
 pub const DIFFERENCE_SIZE: usize = 553;
 
 /// The result of a comparison.

@@ -64,9 +64,9 @@ fn hob_result(kind: HobFaultKind) -> u32
 ///
 /// # Errors
 ///
-/// 256 if the buffer has fewer elements than `count`. The first fault, which is in `fault`: 768 plus
-/// the number of the `HobFaultKind` for a fault of `read_hobs`; 24 if memory runs out. `count` and
-/// `list_length` are unchanged then. The buffer is unchanged in both cases.
+/// 256 if the buffer has fewer elements than `count`. The first fault, which is in `fault`: 768
+/// plus the number of the `HobFaultKind` for a fault of `read_hobs`; 24 if memory runs out. `count`
+/// and `list_length` are unchanged then. The buffer is unchanged in both cases.
 #[unsafe(no_mangle)]
 pub extern "C" fn fvp_hobs_read(
     alloc: Global,

@@ -11,10 +11,10 @@ ghost use Rattle.fv_c.specs.declared.tree.FvNode.{FvNode};
 
 /// States which rows `fvp_volume_tree` writes for the parts of each part. The volume itself is the
 /// only row of depth 0, and has no parent. The rows with the parent `n` are exactly the parts that
-/// row number `n` holds, in order and numbered from 0, and their depth is one more: the files of a
-/// volume, the sections of a file or a group, the volume of a section. There are none if that row
-/// holds bytes, or no row has that number. (PI specification, volume 3, sections 3.2.1, 3.2.3 and
-/// 3.2.4.)
+/// row number `n` holds, in order and numbered from 0: the files of a volume, the sections of a
+/// file or a group, the volume of a section. Their depth is one more than the depth of row `n`.
+/// There are none if row `n` holds bytes, or if there is no row `n`. (PI specification, volume 3,
+/// sections 3.2.1, 3.2.3 and 3.2.4.)
 pub fn rows_have_their_parent()
     ensures first { (m : Meaning) → filter is_first (tree_rows m) ≡ rows_of_parts no_parent 0 0 (VolumeNode m ∷ []) }
     ensures inner { (m : Meaning) (n : ℕ) → filter (is_held_by n) (tree_rows m)
@@ -22,9 +22,9 @@ pub fn rows_have_their_parent()
 {}
 
 /// States which bytes of the input are at the places of the rows that `fvp_volume_tree` writes. At
-/// a volume's place are the bytes of a volume with its meaning. At the place of a file of plain
-/// bytes are these bytes, and at the place of a section that holds bytes are these bytes. (PI
-/// specification, volume 3, sections 3.2.1, 3.2.3 and 3.2.4.)
+/// the place of a volume, the input has bytes that are a volume with the same meaning. At the place
+/// of a file with plain data it has these data, and at the place of a section that holds bytes it
+/// has these bytes. (PI specification, volume 3, sections 3.2.1, 3.2.3 and 3.2.4.)
 pub fn rows_have_their_bytes()
     ensures volume { (input : List ℕ) (rows : List FvNode) (row : FvNode) (r : TreeRow) (m : Meaning)
         → IsNodeIn input rows row r → r.node ≡ VolumeNode m → Accepted (bytes_at input row) m }

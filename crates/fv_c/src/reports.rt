@@ -33,9 +33,10 @@ pub struct FvFault {
     /// The result of the call: the number of the `FaultKind`, or a number that begins with
     /// `DEPEX_FAULTS` or `HOB_FAULTS`.
     pub result: u32,
-    /// The number of groups and opened volumes around it; 0 in expressions and hand-off lists.
+    /// The number of groups and opened volumes around the fault; 0 in expressions and hand-off
+    /// lists.
     pub depth: u32,
-    /// 1 if the fault is of the second input of a comparison, else 0.
+    /// 1 if the fault is in the second input of a comparison, otherwise 0.
     pub input: u32,
     /// Always 0.
     pub reserved: u32,

@@ -11,12 +11,12 @@ pub(crate) trait Translate {
 
     ghost translated: { Self → Self.Target };
 
-    // Returns the value in the type of the other side.
+    // Returns the value, translated to the type of the other side.
     fn translate(&self) -> Self::Target
         ensures { result ≡ translated self.now };
 }
 
-// Returns the values in the type of the other side.
+// Returns the values, each translated to the type of the other side.
 pub(crate) fn translate_all<T: Translate>(
     alloc: Global,
     list: &[T],

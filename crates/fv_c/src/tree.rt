@@ -47,18 +47,18 @@ pub struct FvNode {
     pub kind: u32,
     /// The contents of the part: 0 is files, 1 bytes, 2 sections, 3 a volume.
     pub content: u32,
-    /// `Type` of a file or a section, 0 of a volume.
+    /// `Type` of a file or a section. 0 for a volume.
     pub efi_type: u32,
-    /// `Attributes` of a volume, `Attributes` of a file without `FFS_ATTRIB_LARGE_FILE`, 0 of a
+    /// `Attributes` of a volume, or `Attributes` of a file without `FFS_ATTRIB_LARGE_FILE`. 0 for a
     /// section.
     pub attributes: u32,
-    /// The length of the part's header in bytes: `HeaderLength` of a volume, 24 or 32 of a file, 4
-    /// or 8 of a section.
+    /// The length of the part's header in bytes: `HeaderLength` of a volume, 24 or 32 for a file, 4
+    /// or 8 for a section.
     pub header_length: u32,
-    /// `FvName` of a volume with an extended header, `Name` of a file, both as stored. Zeros
-    /// otherwise.
+    /// `FvName` of a volume with an extended header, or `Name` of a file, both as stored. Zeros for
+    /// any other part.
     pub guid: [u8; 16],
-    /// The file system of a volume: 2 for FFS2, 3 for FFS3. 0 of a file or a section.
+    /// The file system of a volume: 2 for FFS2, 3 for FFS3. 0 for a file or a section.
     pub file_system: u32,
     /// Always 0.
     pub reserved: [u32; 3],

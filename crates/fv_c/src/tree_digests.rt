@@ -1,5 +1,5 @@
-//! The SHA-256 digests of the parts of a volume. A digest is computed from the bytes as the walk over
-//! the part puts them: no bytes are kept in memory.
+//! The SHA-256 digests of the parts of a volume. A digest is computed from the bytes as the walk
+//! over the part puts them: no bytes are kept in memory.
 
 ghost use Rattle.std.specs.Prelude.{◌≡◌, ◌≢◌, ◌<◌, ◌++◌, ℕ, List, length, drop, IfOk, IfErr};
 ghost use Rattle.fv_base.specs.Words.{OrMemory, fault_number, out_of_memory};

@@ -16,8 +16,8 @@ use fv_base::{Fault, FaultKind, Sink};
 use fv_tree::{VolumeView, whole_volume};
 use std::alloc::Global;
 
-// A sink that compares expected bytes with the bytes that are put into it. The bytes that are put
-// are taken off the front of the expected bytes, until the two differ.
+// A sink that compares expected bytes with the bytes that are put into it. As long as the two
+// agree, the bytes that are put are removed from the start of the expected bytes.
 #[derive(Drop)]
 struct MatchSink<'a> {
     // The expected bytes that have not been put yet.

@@ -62,7 +62,7 @@ fn laid_at_each<'a>(
     ensures ok { IfOk result (λ volumes. AreLaid image.now (offsets_of found.now) volumes.items) }
     ensures err { IfErr result (OrMemory (FirstRejected image.now (offsets_of found.now))) }
 
-    // It fails only if there is a volume.
+    // The call fails only if there is a volume.
     ensures some { IfErr result (λ _. (place : ℕ) × IsPlace image.now place) }
     ensures kind { IfErr result (λ f. (f.kind ≢ FaultKind.ReadFault) × (f.kind ≢ FaultKind.WriteFault)) }
 {
@@ -144,9 +144,9 @@ pub fn lay_out_image(alloc: Global, image: &[u8]) -> Result<LaidImage<'_>, Fault
     Ok(LaidImage { image, volumes })
 }
 
-/// Puts the image into a sink, with each volume that `volumes` finds in it replaced by its canonical
-/// image. Every other byte is kept. The walk takes no memory. (PI specification, volume 3, section
-/// 3.2.)
+/// Puts the image into a sink, with each volume that `volumes` finds in it replaced by its
+/// canonical image. Every other byte is kept. The walk takes no memory. (PI specification, volume
+/// 3, section 3.2.)
 pub fn put_laid_image<S: Sink>(laid: &LaidImage<'_>, out: &mut S)
     ensures { (bytes : List ℕ) × NormalisesAll laid.now bytes × S.takes out.old bytes out.new }
 {

@@ -73,9 +73,9 @@ fn check_at(alloc: Global, image: &[u8], volume: FoundVolume) -> Result<VolumeCh
     })
 }
 
-/// Checks each volume that `volumes` finds in the image, and returns the results in the order of the
-/// volumes. A volume that is rejected does not stop the check of the other volumes. `volumes` walks
-/// the image once, and each volume is read once. (PI specification, volume 3, section 3.2.)
+/// Checks each volume that `volumes` finds in the image, and returns the results in the order of
+/// the volumes. A volume that is rejected does not stop the check of the other volumes. `volumes`
+/// walks the image once, and each volume is read once. (PI specification, volume 3, section 3.2.)
 ///
 /// # Errors
 ///

@@ -1,5 +1,5 @@
-//! The digests of `list --sums` and of the C library's `fv_volume_tree_digests`: the SHA-256 of each
-//! volume's canonical image, of each file's data as they are in that image, and of each leaf
+//! The digests of `list --sums` and of the C library's `fv_volume_tree_digests`: the SHA-256 of
+//! each volume's canonical image, of each file's data as they are in that image, and of each leaf
 //! section's body.
 
 ghost use Rattle.std.specs.Prelude.{◌≡◌, ℕ, List, Some};
@@ -50,7 +50,7 @@ fn section_digest(section: &SectionView<'_>) -> Option<[u8; 32]>
 /// sink.
 #[derive(Clone, Copy)]
 pub struct ImageDigests<'s> {
-    /// The starts of a layout that remain. The starts of the next volume come first.
+    /// The remaining starts of a layout. The starts of the next volume come first.
     starts: &'s [u64],
 }
 

@@ -35,8 +35,8 @@ fn complement(sum: u8) -> u8
     0u8.wrapping_sub(sum)
 }
 
-// Puts sections, with the zero bytes between them and after the last. Each of these walks returns
-// the starts that it has not used.
+// Puts sections, with the zero bytes between them and after the last. Returns the starts that the
+// walk has not used, as the functions below do too.
 #[cycle(put)]
 fn put_sections<'s, S: Sink>(
     out: &mut SummingSink<'_, S>,
@@ -86,8 +86,8 @@ fn put_body<'s, S: Sink>(
     }
 }
 
-// Returns the file checksum of a file. If it covers the data, a walk over the data sums them, and
-// nothing is put.
+// Returns the file checksum of a file. If the file has the checksum attribute, a walk over the data
+// sums their bytes. Nothing is put.
 #[cycle(put)]
 fn file_sum<S: Sink>(out: &mut SummingSink<'_, S>, file: &FileView<'_>, starts: &[u64]) -> u8
     requires laid { BeginsWithStarts (volumes_in_file file.now) starts.now }

@@ -2,8 +2,8 @@
 //! parts in the canonical image.
 //!
 //! A caller that puts the parts of a volume that is laid out walks the volume in preorder: each
-//! volume, then its files in order, with the volumes inside each file. It keeps the starts of the
-//! layout that it has not used, which begin with the starts of the volume that comes next.
+//! volume, then its files in order, with the volumes inside each file. The caller keeps the starts
+//! of the layout that it has not used. These begin with the starts of the next volume.
 
 ghost use Rattle.std.specs.Prelude.{◌≡◌, ◌≢◌, ◌⊎◌, ◌++◌, ℕ, List, [], Any, length, drop, IfOk, IfErr};
 ghost use Rattle.fv_base.specs.Words.{OrMemory, out_of_memory};

@@ -33,7 +33,7 @@ pub fn finish<W: Write>(writer: &mut Port<W>, is_written: bool, status: Status) 
     ensures last { (text : List ℕ) (before : PortView) → Written is_written text before (view_of W.contents writer.old)
         → StopsIn before (view_of W.contents writer.new) text ⊎ (is_flushed writer.new ≡ true) }
 
-    // The same, if no call to the writer has failed.
+    // If no call to the writer has failed, the last call to the writer was a flush.
     ensures fine { (text : List ℕ) (before : PortView) → Written is_written text before (view_of W.contents writer.old)
         → has_erred writer.new ≡ false → is_flushed writer.new ≡ true }
 {

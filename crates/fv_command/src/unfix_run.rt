@@ -12,8 +12,8 @@ use fv_text::put_shown;
 use fv_tree::{unfix, verify_unfixed};
 use std::alloc::Global;
 
-// Returns a copy of the input, which is a volume, with none of its files marked as fixed. The faults
-// of `verify_unfixed` come first.
+// Returns a copy of the input, which is a volume, with none of its files marked as fixed. The
+// faults of `verify_unfixed` come first.
 fn unfixed(alloc: Global, input: &[u8]) -> Result<ByteList, Fault>
     ensures ok { IfOk result (UnfixesTo input.now) }
     ensures err { IfErr result (OrMemory (NotUnfixed input.now)) }

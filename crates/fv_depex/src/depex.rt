@@ -8,7 +8,8 @@ use fv_base::ByteList;
 use std::marker::Model;
 
 /// A dependency expression: its ops, the last of which is END, and the bytes after END. Only
-/// `read_depex` makes one. (PI specification, volume 1, section 3.4, and volume 2, section 10.7.)
+/// `read_depex` makes a value of this type. (PI specification, volume 1, section 3.4, and volume 2,
+/// section 10.7.)
 #[derive(Drop)]
 pub struct Depex {
     phase: Phase,

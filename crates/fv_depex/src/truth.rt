@@ -19,7 +19,7 @@ fn is_among(guid: &Guid, installed: &[Guid]) -> bool
     installed.iter().any(|other| other == guid)
 }
 
-// Pops the two values on top of a stack, and returns the lower one first.
+// Pops the two values on top of a stack. Returns the lower value first.
 fn pop_two(stack: &mut Vec<bool>) -> Option<(bool, bool)>
     ensures found { IfSome result (λ p. reverse stack.old.items ≡ p.1 ∷ p.0 ∷ reverse stack.new.items) }
     ensures none { IfNone result (length stack.old.items < 2) }

@@ -22,12 +22,12 @@ abbrev pub leading_count : ℕ → List ℕ → ℕ
 leading_count e [] = 0
 leading_count e (x ∷ xs) = if x == e then 1 + leading_count e xs else 0
 
--- the file system allows large headers, as only FFS3 does
+-- the file system allows large headers: only FFS3 does
 abbrev pub allows_large : FileSystem → Bool
 allows_large Ffs2 = false
 allows_large Ffs3 = true
 
--- from the header at the start of r: the length of the header, the size of the file, and the file's data
+-- the length of the header at the start of r; the size of the file that it begins; and the data of this file
 abbrev pub file_header_len_at : List ℕ → ℕ
 file_header_len_at r = file_header_len (is_large (attributes_at r))
 
@@ -45,13 +45,13 @@ may_be_large system r = not (is_large (attributes_at r)) || allows_large system
 abbrev pub has_header_sum : List ℕ → Bool
 has_header_sum r = header_sum_of (take (file_header_len_at r) r) == 0
 
--- the size is at least the header's length and at most the number of bytes, and Size of a large header is zero
+-- the file's size is at least the header's length and at most the length of r, and Size of a large header is zero
 abbrev pub has_file_size : List ℕ → Bool
 has_file_size r =
     nat_le (file_header_len_at r) (file_size_at r)
     && (nat_le (file_size_at r) (length r) && (not (is_large (attributes_at r)) || (le_at 20 3 r == 0)))
 
--- the data of the file are not checked: it is a pad, or it is not valid
+-- the fixed bit and the file checksum are not checked: the file is a pad, or is not valid
 abbrev pub skips_data : Bool → List ℕ → Bool
 skips_data alive r = not alive || (file_type_at r == pad_kind)
 

@@ -44,7 +44,7 @@ abbrev pub file_size_in : Bool → List ℕ → ℕ
 file_size_in false b = le_at 20 3 b
 file_size_in true b = le_at 24 8 b
 
--- the fields of the header at the start of b, with this state
+-- the fields of the header at the start of b; the state is an argument
 abbrev pub head_in : FileState → List ℕ → FileHead
 head_in state b = record {
   name = guid_of (take 16 b);

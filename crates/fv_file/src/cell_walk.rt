@@ -20,10 +20,10 @@ use fv_base::field::{bytes_from, up_to_8};
 use fv_base::{Fault, FaultKind, FileSystem, Polarity, all_are, check};
 use std::alloc::Global;
 
-// Returns whether a free cell begins here, which means that all remaining bytes are erased. All
-// remaining bytes are read only if fewer than 24 are left or `State` is erased. In this case
-// `cell_at` rejects the body if one of the bytes is not erased. So this test reads each byte of a
-// body at most once.
+// Returns whether `rest`, the part of the body that is left, is a free cell: all of its bytes are
+// erased. The test reads all of them only if fewer than 24 are left or `State` is erased. If one of
+// them is then not erased, `cell_at` rejects the body. So the test reads each byte of a body at
+// most once.
 pub(crate) fn is_free(rest: &[u8], polarity: Polarity) -> bool
     ensures { result ≡ all_are (erased_byte polarity) rest.now }
 {
@@ -70,7 +70,8 @@ fn file_cell(offset: u64, head: FileHead, payload: &[u8]) -> Cell<'_>
     }
 }
 
-// Returns the cell at the offset `at`, where no free cell begins, or the first fault there.
+// Returns the cell at the start of `rest`, or its first fault. `rest` is at the offset `at` of the
+// volume, and is not a free cell.
 pub(crate) fn cell_at<'a>(
     rest: &'a [u8],
     at: u64,
@@ -117,8 +118,8 @@ pub(crate) fn span_of(cell: &Cell) -> u64
     }
 }
 
-// Returns whether there is a state, and it is the state of a header under construction or of an
-// invalid header.
+// Returns whether this is the state of a stub: of a header under construction, or of an invalid
+// header. Returns false if there is no state.
 fn is_unfinished(state: Option<FileState>) -> bool
     ensures { result ≡ is_unfinished state }
 {
@@ -128,14 +129,14 @@ fn is_unfinished(state: Option<FileState>) -> bool
     )
 }
 
-// Returns the number of bytes from the header here to the next cell. If a cell begins here, this is
-// the length that `cell_at` finds, but nothing is checked.
+// Returns the number of bytes from the start of `rest`, where a header begins, to the next cell.
+// Checks nothing. If a cell that is not free begins there, the result is its length.
 pub(crate) fn stride_at(rest: &[u8], polarity: Polarity) -> usize
     requires { 24 ≤ length rest.now }
     ensures least { 24 ≤ result }
     ensures within { result ≤ length rest.now }
 
-    // If a cell that is not free begins here, this is its length.
+    // If a cell that is not free begins at the start of `rest`, the result is its length.
     ensures cell { (system : FileSystem) (c : CellForm) (x after : List ℕ) → rest.now ≡ x ++ after → IsCell system polarity c x
         → is_free c ≡ false → result ≡ length x }
 {
@@ -152,11 +153,11 @@ pub(crate) fn stride_at(rest: &[u8], polarity: Polarity) -> usize
 
 // Returns how many cells a body has, so that room for all of them is allocated at once.
 fn cell_count(body: &[u8], polarity: Polarity) -> usize
-    // If cells tile the body, this is their number.
+    // If cells tile the body, the result is the number of these cells.
     ensures cells { (system : FileSystem) (first : ℕ) (cs : List CellForm) → Tiles system polarity first cs body.now
         → result ≡ length cs }
 
-    // In any case it is at most the number of 24-byte headers that cover the body.
+    // In any case the result is at most the number of 24-byte headers that cover the body.
     ensures most { 24 * result ≤ length body.now + 23 }
 {
     let mut rest = body;
@@ -209,10 +210,10 @@ fn cells_in(
 ///
 /// # Errors
 ///
-/// The fault of the first cell that has one. A cell is checked in this order: FreeSpace, FileState;
-/// then for a stub FileSize, and for any other cell LargeFile, FileSize if a large header is cut
-/// short, FileHeaderSum, FileSize; and last, for a valid file that is not a pad, Fixed, FileSum.
-/// OutOfMemory at offset 0.
+/// The fault of the first cell that has a fault. A cell is checked in this order: FreeSpace,
+/// FileState; then for a stub FileSize, and for any other cell LargeFile, FileSize if a large
+/// header is cut short, FileHeaderSum, FileSize; and last, for a valid file that is not a pad,
+/// Fixed, FileSum. OutOfMemory at offset 0.
 pub fn cells(
     alloc: Global,
     volume: &[u8],

@@ -25,8 +25,8 @@ use fv_base::{Fault, FaultKind, FileSystem, Guid, check, guid_at, sum8};
 /// (PI specification, volume 3, section 3.2.3.1.)
 pub const FIXED_CHECKSUM: u8 = 0xaa;
 
-/// The header of a file, as found. (PI specification, volume 3, section 3.2.3.1,
-/// `EFI_FFS_FILE_HEADER` and `EFI_FFS_FILE_HEADER2`.)
+/// The header of a file, with the values that were read. (PI specification, volume 3, section
+/// 3.2.3.1, `EFI_FFS_FILE_HEADER` and `EFI_FFS_FILE_HEADER2`.)
 #[derive(Clone, Copy, Debug, PartialEq, Eq)]
 pub struct FileHead {
     /// The size of the file in bytes, including its header: `Size`, or `ExtendedSize` of a large
@@ -96,7 +96,7 @@ pub(crate) fn size_at(rest: &[u8]) -> u64
     }
 }
 
-// Returns the fields of the header that the bytes begin with, with this state.
+// Returns the fields of the header at the start of `rest`. The state is not read, but passed in.
 pub(crate) fn head_in(rest: &[u8], state: FileState) -> FileHead
     requires least { 24 ≤ length rest.now }
     requires header { file_header_len_at rest.now ≤ length rest.now }
@@ -142,8 +142,8 @@ fn has_header_sum(rest: &[u8]) -> bool
     header_sum(&rest[..header_len_at(rest)]) == 0
 }
 
-// Returns whether the size is at least the header's length and at most the number of bytes, and
-// `Size` of a large header is zero.
+// Returns whether the file's size is at least the header's length and at most the length of `rest`,
+// and whether `Size` of a large header is zero.
 fn has_file_size(head: &FileHead, rest: &[u8]) -> bool
     requires { 24 ≤ length rest.now }
     ensures { result ≡ (nat_le head.now.header_len head.now.size && (nat_le head.now.size (length rest.now)
@@ -167,15 +167,16 @@ pub(crate) fn has_file_sum(head: &FileHead, payload: &[u8]) -> bool
     }
 }
 
-// Returns whether the file's data are checked. The data of a pad, and of a file that is not valid,
-// are not checked.
+// Returns whether the fixed bit and the file checksum are checked: only in a valid file that is not
+// a pad.
 fn checks_data(head: &FileHead) -> bool
     ensures { result ≡ (is_alive head.now.state && not (head.now.kind == pad_kind)) }
 {
     head.state.is_alive() && head.kind != FFS_PAD
 }
 
-// Checks the file at the offset `at`. Returns its header, or the first fault.
+// Checks the file at the start of `rest`, which is at the offset `at` of the volume. Returns the
+// file's header, or its first fault.
 pub(crate) fn file_at(
     rest: &[u8],
     at: u64,

@@ -33,8 +33,8 @@ fn sound_size(rest: &[u8], at: u64) -> Result<u64, Fault>
     Ok(head.size)
 }
 
-// Returns the length of the cell at the offset `at`, in bytes, where no free cell begins, or the
-// first fault there. A fixed file is read as if its mark was taken away.
+// Returns the length in bytes of the cell at the offset `at`, including its filler, or the first
+// fault there. No free cell begins there. A fixed file is read as if its mark had been taken away.
 fn span_unmarked(rest: &[u8], at: u64, system: FileSystem, polarity: Polarity) -> Result<u64, Fault>
     requires place { at + length rest.now < 2 ^ 63 }
     requires multiple { length rest.now % 8 ≡ 0 }

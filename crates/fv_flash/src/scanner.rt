@@ -56,7 +56,8 @@ impl Offsets {
     }
 }
 
-// Returns whether the signature is 40 bytes after the offset `at`, its place in a volume header.
+// Returns whether the signature is 40 bytes after the offset `at`, where the header of a volume at
+// `at` would have it.
 fn is_signed(bytes: &[u8], at: usize) -> bool
     requires { at + 56 ≤ length bytes.now }
     ensures { result ≡ has_signature (drop at bytes.now) }

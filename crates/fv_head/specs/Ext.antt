@@ -10,7 +10,7 @@ pub record Extension : Type 0 where
   pub entries : List (ℕ × List ℕ)
   pub tail : List ℕ
 
--- the payload that is kept of a used size: four zero bytes
+-- the payload that is kept in place of a used size: four zero bytes
 abbrev pub zero_used_size : List ℕ
 zero_used_size = 0 ∷ 0 ∷ 0 ∷ 0 ∷ []
 

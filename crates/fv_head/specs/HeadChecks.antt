@@ -91,7 +91,8 @@ leading_checks b =
     ∷ check (is_header_len (header_len_at b)) kinds.HeaderLength 48
     ∷ []
 
--- the checks of the whole header, of FvLength and of the extended header, in order, each with its fault
+-- the checks after the leading checks, in order, each with its fault: all HeaderLength bytes are there, their checksum,
+-- the block map, FvLength, and the extended header
 abbrev pub later_checks : List ℕ → List (Check Fault)
 later_checks b =
     check (nat_le (header_len_at b) (length b)) kinds.Truncated (length b)
@@ -106,7 +107,7 @@ later_checks b =
 abbrev pub head_checks : List ℕ → List (Check Fault)
 head_checks b = leading_checks b ++ later_checks b
 
--- the bytes begin with the header of a volume and have at least FvLength bytes; the body of the volume may have faults.
--- A call that reads the bytes as a volume takes memory only in this case
+-- the bytes begin with the header of a volume, and there are at least FvLength bytes. The body of the volume may have
+-- faults. A call that reads the bytes as a volume takes memory only in this case
 abbrev pub BeginsWithHeader : List ℕ → Type 0
 BeginsWithHeader b = (h : HeadFields) × (e : Extent) × BeginsVolume h e b

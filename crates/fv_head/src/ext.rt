@@ -53,9 +53,10 @@ impl<'a> ExtEntry<'a> {
     }
 }
 
-/// The extended header of a volume. A value of this type is made only by reading an extended
-/// header. In contracts, it is an `Extension` for which `IsReadExt` holds: there are bytes that form
-/// an extended header with this meaning. (PI specification, volume 3, section 3.2.1.2, `EFI_FIRMWARE_VOLUME_EXT_HEADER`.)
+/// The extended header of a volume. Only reading an extended header makes a value of this type. In
+/// contracts, it is an `Extension` for which `IsReadExt` holds: there are bytes that form an
+/// extended header with this meaning. (PI specification, volume 3, section 3.2.1.2,
+/// `EFI_FIRMWARE_VOLUME_EXT_HEADER`.)
 #[derive(Drop)]
 pub struct ExtHeader<'a> {
     name: Guid,
@@ -139,8 +140,8 @@ fn entry_of(entry: &[u8]) -> ExtEntry<'_>
     ExtEntry { kind, payload }
 }
 
-// Reads the entries that the bytes begin with. Returns them and the tail, which is the bytes after
-// them.
+// Reads the entries that the bytes begin with. Returns the entries, and the tail, which is the
+// bytes after the last entry.
 fn entries_of(alloc: Global, bytes: &[u8]) -> Result<(Vec<ExtEntry<'_>>, &[u8]), Fault>
     ensures ok { IfOk result (λ r. SplitsEntries r.0.items r.1.now bytes.now) }
     ensures err { IfErr result (λ f. f ≡ out_of_memory) }

@@ -36,7 +36,7 @@ pub fn len_of_ext(ext: &ExtHeader<'_>) -> u32
     20 + len_of_entries(ext.entries()) + ext.tail().len() as u32
 }
 
-// Puts the payload of an entry into a sink. If it is a used size, its value is `used`.
+// Puts the payload of an entry into a sink. If the entry holds the used size, the value is `used`.
 fn put_payload<S: Sink>(out: &mut S, entry: &ExtEntry<'_>, used: u32)
     ensures { S.takes out.old (payload_with used entry.now) out.new }
 {

@@ -23,9 +23,9 @@ use fv_base::{Fault, FileSystem};
 use std::alloc::Global;
 use std::marker::Model;
 
-/// The header of a volume. Only reading a volume header makes one. In contracts, it is a
-/// `HeadFields` for which `IsReadHead` holds: there are bytes that form a volume header with these
-/// fields. (PI specification, volume 3, section 3.2.1.1, `EFI_FIRMWARE_VOLUME_HEADER`.)
+/// The header of a volume. Only reading a volume header makes a value of this type. In contracts,
+/// it is a `HeadFields` for which `IsReadHead` holds: there are bytes that form a volume header
+/// with these fields. (PI specification, volume 3, section 3.2.1.1, `EFI_FIRMWARE_VOLUME_HEADER`.)
 #[derive(Drop)]
 pub struct VolumeHead<'a> {
     zero_vector: [u8; 16],

@@ -254,8 +254,9 @@ fn leading_verdict(bytes: &[u8]) -> Result<FileSystem, Fault>
     Ok(file_system)
 }
 
-// Makes the remaining checks, which are the checks of the whole header, of FvLength and of the
-// extended header. Returns the first fault, if there is one.
+// Makes the checks that come after `leading_verdict`: whether all HeaderLength bytes are there,
+// their checksum, the block map, FvLength, and the extended header. Returns the first fault, if
+// there is one.
 fn later_verdict(bytes: &[u8]) -> Result<(), Fault>
     requires long { 56 ≤ length bytes.now }
     requires header_len { is_header_len (header_len_at bytes.now) ≡ true }

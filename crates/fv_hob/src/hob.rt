@@ -138,7 +138,8 @@ pub enum HobKind {
     },
 }
 
-/// A hand-off block. Only `read_hobs` makes one. (PI specification, volume 3, section 5.)
+/// A hand-off block. Only `read_hobs` makes a value of this type. (PI specification, volume 3,
+/// section 5.)
 #[derive(Drop)]
 pub struct Hob {
     reserved: u32,

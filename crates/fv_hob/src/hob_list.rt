@@ -6,9 +6,9 @@ ghost use Rattle.fv_hob.specs.Lists.{IsReadList};
 use crate::hob::Hob;
 use std::marker::Model;
 
-/// A hand-off block list. Only `read_hobs` makes one. Its first block is a hand-off information
-/// table (PHIT), and its last block is the only end block. Contracts see it as the list of its
-/// blocks. (PI specification, volume 3, section 5.)
+/// A hand-off block list. Only `read_hobs` makes a value of this type. Its first block is a
+/// hand-off information table (PHIT), and its last block is the only end block. Contracts see it as
+/// the list of its blocks. (PI specification, volume 3, section 5.)
 #[derive(Drop)]
 pub struct HobList {
     list: Vec<Hob>,

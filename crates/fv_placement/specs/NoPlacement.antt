@@ -4,13 +4,14 @@ use Rattle.std.specs.Prelude.{◌≢◌, ℕ, ◌+◌, ◌-◌, ◌%◌, ◌⊎�
 use Rattle.fv_placement.specs.Starts.{Placement}
 use Rattle.fv_placement.specs.declared.first_placement.PlacementItem.{PlacementItem}
 
--- the volume top file f cannot begin at its only possible start, which is the start with which it ends at the volume's
--- end, or 0 if the file is longer than the volume: its data are not aligned there, or the start is not a multiple of 8
+-- the volume top file f cannot begin at its only possible start: the file's data are not aligned there, or the start is
+-- not a multiple of 8. With this start the file ends at the volume's end. (The start is 0 if the file is longer than
+-- the volume.)
 abbrev pub IsMisaligned : ℕ → PlacementItem → Type 0
 IsMisaligned total f = ((total - f.size + f.header) % f.alignment ≢ 0) ⊎ ((total - f.size) % 8 ≢ 0)
 
--- there is a volume top file that cannot begin at its only possible start: its data are not aligned there, or the start
--- is not a multiple of 8
+-- there is a volume top file that cannot begin at its only possible start: the file's data are not aligned there, or
+-- the start is not a multiple of 8
 abbrev pub TopMisaligned : ℕ → List PlacementItem → Type 0
 TopMisaligned total [] = ⊥
 TopMisaligned total (f ∷ fs) = (IsTrue f.top × IsMisaligned total f) ⊎ TopMisaligned total fs

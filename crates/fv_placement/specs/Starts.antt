@@ -4,8 +4,8 @@ use Rattle.std.specs.Prelude.{◌≡◌, ℕ, ◌+◌, ◌%◌, ◌≤◌, ◌�
 use Rattle.fv_base.specs.Words.{up_to_8}
 use Rattle.fv_placement.specs.declared.first_placement.PlacementItem.{PlacementItem}
 
--- s is a start that the file f may have after the edge e: a multiple of 8, either e itself or at least 24 bytes after
--- it for a pad, and with the file's data aligned
+-- the file f may begin at s after the edge e: s is a multiple of 8, the file's data are aligned, and s is e itself or
+-- at least 24 bytes after e, so that a pad fits in the gap
 pub record Lawful (e : ℕ) (f : PlacementItem) (s : ℕ) : Type 0 where
   pub eighth : s % 8 ≡ 0
   pub gap : (s ≡ e) ⊎ (e + 24 ≤ s)
@@ -18,8 +18,8 @@ pub record IsStartInVolume (total e : ℕ) (f : PlacementItem) (s : ℕ) : Type 
   pub within : s + f.size ≤ total
   pub at_end : IsTrue f.top → s + f.size ≡ total
 
--- there is one start for each file, after the preceding edge. This edge is e for the first file, and otherwise the end
--- of the previous file, rounded up to 8
+-- there is one start for each file, and it is a start of the file after the preceding edge (`IsStartInVolume`). The
+-- preceding edge of the first file is e. For any other file it is the end of the previous file, rounded up to 8
 abbrev pub StartsFollow : ℕ → ℕ → List PlacementItem → List ℕ → Type 0
 StartsFollow total e [] [] = Unit {0}
 StartsFollow total e [] (s ∷ ss) = ⊥

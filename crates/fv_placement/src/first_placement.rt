@@ -193,8 +193,8 @@ fn is_usable_below(total: u64, item: &PlacementItem, after: Reach, greatest: u64
     by <= greatest && is_usable_start(total, item, after, greatest - by)
 }
 
-// Returns whether the only possible start of the volume top file is not a multiple of 8, or its
-// data are not aligned there.
+// Returns whether the volume top file cannot begin at its only possible start: the start is not a
+// multiple of 8, or the file's data are not aligned there.
 fn is_misaligned(total: u64, item: &PlacementItem) -> bool
     requires total { total ≤ volume_limit }
     requires item { IsLawfulItem total item.now }
@@ -204,10 +204,11 @@ fn is_misaligned(total: u64, item: &PlacementItem) -> bool
     (start + item.header) % item.alignment != 0 || start % 8 != 0
 }
 
-/// Returns whether there is a volume top file that cannot begin at its only possible start, with
-/// which it ends at the end of the volume of `total` bytes: the start is not a multiple of 8, or
-/// the file's data are not aligned there. `total` is within the limit of a volume, and the files
-/// are as for `first_starts`. Takes no memory. (PI specification, volume 3, section 3.2.1.3.)
+/// Returns whether there is a volume top file that cannot begin at its only possible start: the
+/// start is not a multiple of 8, or the file's data are not aligned there. With its only possible
+/// start, the file ends where the volume of `total` bytes ends. `total` is within the limit of a
+/// volume, and the files are as for `first_starts`. Takes no memory. (PI specification, volume 3,
+/// section 3.2.1.3.)
 pub fn is_top_misaligned(total: u64, items: &[PlacementItem]) -> bool
     requires total { total ≤ volume_limit }
     requires items { All (IsLawfulItem total) items.now }

@@ -47,10 +47,10 @@ fn widened(alignment: u64) -> u64
 }
 
 // Returns the first usable start at or after `edge`, if there is one: `edge` itself, or a start
-// that leaves room for a pad. The loop tries at most two starts. A start fails only if the edge
-// after the file is 8 or 16 bytes below the greatest usable edge. With a step of 8 this does not
-// happen, because then `edge` itself is a usable start, and has already been returned. A larger
-// step is at least 16, so the next start leads to the greatest usable edge or past it.
+// that leaves room for a pad. The loop tries at most two starts. A start in the loop fails only if
+// the edge after the file is 8 or 16 bytes below `after.greatest`. With a step of 8 no start in the
+// loop fails, because `edge` would have been a usable start and would have been returned before. A
+// larger step is at least 16, so the next start leads to `after.greatest` or past it.
 pub(crate) fn first_start(total: u64, edge: u64, item: &PlacementItem, after: Reach) -> Option<u64>
     requires total { total ≤ volume_limit }
     requires edge { (edge % 8 ≡ 0) × (edge ≤ total) }
@@ -81,12 +81,13 @@ pub(crate) fn first_start(total: u64, edge: u64, item: &PlacementItem, after: Re
     None
 }
 
-// Returns the greatest usable start, if there is one. For a file other than the volume top file, it
-// is one of the two greatest multiples of 8 at which the file's data are aligned and with which the
-// edge after the file is at or below the greatest usable edge. With a step of 8 the greater start
-// leads exactly to this edge. With a larger step, which is at least 16, the greater start may lead
-// to an edge 8 or 16 bytes below this edge, which may be unusable. The lesser start then leads to
-// an edge at least 24 bytes below, which is usable.
+// Returns the greatest usable start, if there is one. The volume top file has one possible start.
+// For any other file, a candidate is a multiple of 8 at which the file's data are aligned, and with
+// which the edge after the file is at most `after.greatest`. One of the two greatest candidates is
+// the greatest usable start. With a step of 8 the greatest candidate leads exactly to
+// `after.greatest`. With a larger step, which is at least 16, it may lead to an edge 8 or 16 bytes
+// below `after.greatest`, which may be unusable. The next lower candidate then leads to an edge at
+// least 24 bytes below `after.greatest`, which is usable.
 pub(crate) fn greatest_start(total: u64, item: &PlacementItem, after: Reach) -> Option<u64>
     requires total { (total ≤ volume_limit) × (total % 8 ≡ 0) }
     requires item { IsLawfulItem total item.now }

@@ -55,14 +55,14 @@ abbrev pub left_in : ℕ → List Level → List TreeRow
 left_in depth [] = []
 left_in depth (l ∷ levels) = left_in (depth + 1) levels ++ rows_of_nodes depth l.nesting l.number (nodes_of l.parts)
 
--- a part at this depth, whose groups and volumes nest so few levels deep that all rows in it are at a depth below 27
+-- groups and volumes in a part at this depth nest only so deep that all rows in the part are at a depth below 27
 abbrev pub NestsAt : ℕ → NodeMeaning → Type 0
 NestsAt depth (VolumeNode v) = (n : ℕ) × (depth + 3 * n ≤ 24) × (b : List ℕ) × Denotes n b v
 NestsAt depth (FileNode f) = (n : ℕ) × (depth + 3 * n ≤ 25) × (form : FileForm) × MeansFile (Stream n) form f
 NestsAt depth (SectionNode s) = (n : ℕ) × (depth + 3 * n ≤ 26) × (f : FrameForm) × MeansSection n f s
 
--- the parts of a level are at this depth, so few that their numbers fit, and have at most this number of sections around
--- them
+-- the parts of a level are at this depth, their numbers are below 2 ^ 63, and the number of sections around them is at
+-- most the depth
 abbrev pub FitsAt : ℕ → Level → Type 0
 FitsAt depth l =
     AllByRecursion (NestsAt depth) (nodes_of l.parts) × (l.number + length (nodes_of l.parts) < 2 ^ 63) × (l.nesting ≤ depth)

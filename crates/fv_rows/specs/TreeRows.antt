@@ -12,8 +12,8 @@ pub data NodeMeaning : Type 0 where
   FileNode : FileMeaning → NodeMeaning
   SectionNode : SectionMeaning → NodeMeaning
 
--- a part in the tree: the number of parts around it, the number of sections among these, its number among the parts of
--- the part that contains it (from 0), and the part
+-- a part in the tree: the number of parts around it, the number of sections among these, its number in the part that
+-- contains it (counted from 0), and the part itself
 pub record TreeRow : Type 0 where
   pub depth : ℕ
   pub nesting : ℕ

@@ -7,8 +7,8 @@ ghost use Rattle.fv_rows.specs.RowWalks.{part_node, row_of};
 use crate::tree_walk::Row;
 
 /// The digests of volumes, files and leaf sections, for a walk that visits the rows of a volume in
-/// their order. A value is the state of the walk: it knows the digests of the rows that are still to
-/// come.
+/// their order. A value is the state of the walk: it knows the digests of the rows that are still
+/// to come.
 pub trait Digests: Copy {
     /// The state covers these rows: they are the rows that are still to come, and their digests are
     /// available.

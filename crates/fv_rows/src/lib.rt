@@ -1,5 +1,5 @@
-//! A walk over the parts of a volume: the volume, its files and sections, and nested volumes. A type
-//! that computes the digest of each part implements the trait `Digests`.
+//! A walk over the parts of a volume: the volume, its files and sections, and nested volumes. A
+//! type that computes the digest of each part implements the trait `Digests`.
 #![tactic(auto)]
 
 mod digests;

@@ -23,9 +23,9 @@ pub enum Part<'v, 'a> {
 /// A part of a volume, with its place in the tree of the parts.
 #[derive(Clone, Copy)]
 pub struct Row<'v, 'a> {
-    /// The number of parts around it.
+    /// The number of parts around this part.
     pub depth: usize,
-    /// The number of sections around it.
+    /// The number of sections around this part.
     pub nesting: u8,
     /// The number of this part in the part that contains it, counted from 0.
     pub number: u64,
@@ -33,7 +33,7 @@ pub struct Row<'v, 'a> {
     pub part: Part<'v, 'a>,
 }
 
-// Some parts in the same part.
+// Some of the parts that one part contains.
 #[derive(Clone, Copy)]
 enum Parts<'v, 'a> {
     Nothing,
@@ -92,8 +92,8 @@ fn parts_in<'v, 'a>(part: Part<'v, 'a>) -> Parts<'v, 'a>
     }
 }
 
-// Gives the fact that in a part, which was read, groups and volumes nest so little that a stack of 28
-// levels has room for a walk.
+// Computes nothing. After the call, a proof knows that groups and volumes in this part, which was
+// read, nest only so deep that a stack of 28 levels has room for a walk.
 fn known(part: Part<'_, '_>)
     ensures { NestsAt 0 (part_node part.entry) }
 {

@@ -21,8 +21,8 @@ fn put_after(buffer: &mut [u8], at: usize, bytes: &[u8]) -> usize
     at + count
 }
 
-/// Fills a borrowed buffer from its start. Bytes that do not fit are dropped. The other bytes of
-/// the buffer stay as they are.
+/// A sink that fills a borrowed buffer from its start. Bytes that do not fit are dropped. The other
+/// bytes of the buffer stay as they are.
 #[derive(Drop)]
 pub struct BufferSink<'b> {
     buffer: &'b mut [u8],

@@ -8,7 +8,7 @@ ghost use Rattle.fv_sinks.specs.inner.SinkLaws.{digest_by};
 use fv_base::Sink;
 use sha2::{Digest, Sha256};
 
-/// Computes the SHA-256 of the bytes that it takes.
+/// A sink that computes the SHA-256 of the bytes that it takes.
 #[derive(Drop)]
 pub struct DigestSink {
     hasher: Sha256,

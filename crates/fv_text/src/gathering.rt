@@ -10,8 +10,8 @@ use fv_base::Sink;
 /// The maximum number of bytes that wait.
 const ROOM: usize = 8192;
 
-/// Gathers small pieces, of at most 8,192 bytes each, and puts them into the sink below together.
-/// `finish` puts the bytes that still wait.
+/// A sink that gathers small pieces, of at most 8,192 bytes each, and puts them into the sink below
+/// together. `finish` puts the bytes that still wait.
 #[derive(Drop)]
 pub struct GatheringSink<S: Sink> {
     /// The sink into which the pieces are put.

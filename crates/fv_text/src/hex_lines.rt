@@ -37,8 +37,8 @@ fn put_last<S: Sink>(out: &mut S, bytes: &[u8])
     }
 }
 
-/// Turns bytes into lines of 64 lower-case digits, and puts the lines into the sink below. `finish`
-/// puts the last line if it is shorter than the others.
+/// A sink that turns bytes into lines of 64 lower-case digits, and puts the lines into the sink
+/// below. `finish` puts the last line if it is shorter than the others.
 #[derive(Drop)]
 pub struct HexSink<S: Sink> {
     /// The sink into which the lines are put.

@@ -87,7 +87,7 @@ impl Decoder {
 impl Collector for Decoder {
     ghost holds = { Decodes };
 
-    // No clause is about its memory.
+    // No clause is about the memory of a decoder.
     ghost lacks = { λ _ _. ⊤ };
 
     // A text that was found wrong stays wrong.

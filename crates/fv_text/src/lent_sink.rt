@@ -6,15 +6,15 @@ ghost use Rattle.fv_text.specs.inner.SinkAdapterLaws.{lent_by};
 
 use fv_base::Sink;
 
-/// Lends a sink to another sink, as the sink below it. The lent sink takes all bytes that this sink
-/// takes.
+/// A sink that passes all bytes to a borrowed sink. It lends that sink to another sink, as the sink
+/// below it.
 #[derive(Drop)]
 pub struct LentSink<'a, S: Sink> {
     sink: &'a mut S,
 }
 
 impl<'a, S: Sink> LentSink<'a, S> {
-    /// Lends the sink.
+    /// Makes a sink that lends this sink.
     pub fn new(sink: &'a mut S) -> LentSink<'a, S>
         ensures name { result.sink.ghost_name ≡ sink.entry.ghost_name }
         ensures now { result.sink.now ≡ sink.old }

@@ -81,7 +81,7 @@ NamesFault which length fs e =
     ⊎ (IfFirst which (NoTwins fs)
     × (f : FileForm) × TopElsewhere length f (current_in fs) × (e ≡ outer_fault kinds.TopFile f.offset))
 
--- e is a fault in the layout of a volume's body: a fault of a cell, or a fault of the files in the cells. Faults in the
+-- e is a fault of a cell in a volume's body, or a fault of the files in the cells (`NamesFault`). Faults in the
 -- sections of the files are not included
 abbrev pub LayoutFault : Which → Extent → List ℕ → Fault → Type 0
 LayoutFault which x volume e =
@@ -100,8 +100,8 @@ StreamFault which n in_section e b at =
 abbrev pub FileFault : Faulty → Fault → FileForm → Place → Type 0
 FileFault in_stream e f at = (holds_sections f.head.kind ≡ true) × in_stream e f.payload (data_at at f)
 
--- a fault of the body of a volume: a fault of its layout; or a fault in the data of a file, which is the first fault
--- only if the layout has none
+-- a fault of the body of a volume: a fault of its cells or of the files in them (`LayoutFault`); or a fault in the data
+-- of a file, which is the first fault only if there is no fault of the other kind
 abbrev pub BodyFault : Which → ℕ → Faulty → Extent → Faulty
 BodyFault which n in_stream x e volume at =
     Moved at (LayoutFault which x volume) e

@@ -22,8 +22,8 @@ abbrev pub IsUnfixed : List ℕ → List ℕ → Type 0
 IsUnfixed b o =
     (e : Extent) × (body : List ℕ) × Unfixes e b o body × ((cells : List CellForm) × BeginsTiled e cells o)
 
--- the marks of b cannot be taken away because of the fault f: the first fault of the header; or the first fault of the
--- body after all marks before it were taken away, which is not Fixed
+-- the marks of b cannot be taken away because of the fault f. This is the first fault of the header; or it is not
+-- Fixed, and is the first fault of the body after all marks before it were taken away
 abbrev pub UnfixStops : List ℕ → Fault → Type 0
 UnfixStops b f =
     IsFirstFault (head_checks b) f

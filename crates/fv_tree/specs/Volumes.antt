@@ -14,8 +14,9 @@ pub record Inside : Type 0 where
 abbrev pub deeper : List Inside → List Inside
 deeper vs = map (λ v. record { depth = v.depth + 1; volume = v.volume }) vs
 
--- a volume, followed by the volumes in its files, in preorder. The body of a section is one level deeper than the
--- section. In `volumes_in_body`, a body that is a volume is at depth 0
+-- the volumes in a part of a volume, in preorder: each volume is followed by the volumes in its files. The depth counts
+-- the sections around a volume in this part. If the part itself is a volume, or is a body that is a volume, that volume
+-- has the depth 0
 abbrev mutual
   pub volumes_in : Meaning → List Inside
   volumes_in (Volume h files) = record { depth = 0; volume = Volume h files } ∷ volumes_in_files files

@@ -111,8 +111,8 @@ fn differ_in(alloc: Global, word: DifferenceKind) -> Difference
     }
 }
 
-// Returns the difference as seen from one level further out. During the search, the steps are kept
-// from the innermost out.
+// Adds a step to a difference, which is then the difference as seen from one level further out.
+// During the search, the steps are kept from the innermost out.
 fn under(step: Step, found: Difference) -> Result<Difference, Fault>
     ensures ok { IfOk result (λ d. reversed_steps (Some d) ≡ under step (reversed_steps (Some found))) }
     ensures err { IfErr result (λ f. f ≡ out_of_memory) }

@@ -13,8 +13,9 @@ use fv_head::verify_fv;
 
 /// Takes the marks away from all fixed files of the volume at the start of the bytes. For each such
 /// file, bit 0x04 of its attributes is cleared and 4 is added to its header checksum (modulo 256).
-/// All other bytes stay as they are, also the bytes of volumes inside this volume and the bytes that
-/// follow it. Takes no memory. (PI specification, volume 3, section 3.2.3.1, `FFS_ATTRIB_FIXED`.)
+/// All other bytes stay as they are, also the bytes of volumes inside this volume and the bytes
+/// that follow it. Takes no memory. (PI specification, volume 3, section 3.2.3.1,
+/// `FFS_ATTRIB_FIXED`.)
 ///
 /// # Errors
 ///
@@ -57,7 +58,8 @@ pub fn verify_unfixed(input: &[u8]) -> Result<(), Fault>
     // away.
     ensures ok { OnOk result ((o : List ℕ) × UnfixesTo input.now o) }
 
-    // They cannot, and this is the first fault.
+    // The input is not such a volume, or its marks cannot be taken away, and this is the first
+    // fault.
     ensures err { IfErr result (NotUnfixed input.now) }
 {
     let extent = verify_fv(input)?;

@@ -1,6 +1,6 @@
 //! The meaning of a firmware volume, read as a view of its bytes. The definitions recur on how many
-//! more levels of groups and opened volumes may nest. `scan`, `volumes`, `Offsets` and `FoundVolume`
-//! come from fv_flash. Only `read_volume`, `whole_volume`, `whole_volume_with_files`,
+//! more levels of groups and opened volumes may nest. `scan`, `volumes`, `Offsets` and
+//! `FoundVolume` come from fv_flash. Only `read_volume`, `whole_volume`, `whole_volume_with_files`,
 //! `located_files`, `volume_cells`, `first_difference`, `scan` and `volumes` take memory.
 //!
 //! `plain` and `leaf` return slices of the input, and `Content::Plain` and `Body::Leaf` hold them.

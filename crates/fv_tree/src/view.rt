@@ -11,9 +11,10 @@ use fv_names::NameIndex;
 use std::marker::Model;
 use std::mem::size_of;
 
-/// The meaning of a volume. Only reading a volume makes one. The bytes of the files and of the
-/// extended header are slices of the bytes that were read. Contracts see the meaning, and know that
-/// some bytes are a volume with this meaning. (PI specification, volume 3, section 3.2.)
+/// The meaning of a volume. Only reading a volume makes a value of this type. The bytes of the
+/// files and of the extended header are slices of the bytes that were read. Contracts see the
+/// meaning, and know that some bytes are a volume with this meaning. (PI specification, volume 3,
+/// section 3.2.)
 #[cycle(tree)]
 #[derive(Drop)]
 pub struct VolumeView<'a> {
@@ -23,7 +24,7 @@ pub struct VolumeView<'a> {
 }
 
 /// The meaning of a file: its name, its type, its attributes and its content. Only reading a volume
-/// makes one. (PI specification, volume 3, section 3.2.3.)
+/// makes a value of this type. (PI specification, volume 3, section 3.2.3.)
 #[cycle(tree)]
 #[derive(Drop)]
 pub struct FileView<'a> {
@@ -51,7 +52,7 @@ pub enum Content<'a> {
 }
 
 /// The meaning of a section: its type, the form of its header, and its body. Only reading a volume
-/// makes one. (PI specification, volume 3, section 3.2.4.)
+/// makes a value of this type. (PI specification, volume 3, section 3.2.4.)
 #[cycle(tree)]
 #[derive(Drop)]
 pub struct SectionView<'a> {

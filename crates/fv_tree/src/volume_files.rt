@@ -181,7 +181,7 @@ fn check_twins(files: &[LocatedFile], index: &NameIndex) -> Result<(), Fault>
     Ok(())
 }
 
-// Notes in each file's mark whether one of the other files replaces it.
+// Records in the mark of each file whether another file replaces this file.
 fn set_replaced(files: &mut [LocatedFile], index: &NameIndex)
     requires index { IsIndex (names_in (map named_file files.old)) (entries_of index.now) }
     requires no_twins { NoTwins (map file_form files.old) }
@@ -214,8 +214,8 @@ fn ends_at(file: &LocatedFile, place: u64) -> bool
     start <= place && file.payload.len() as u64 == place - start
 }
 
-// Returns whether a file is not a volume top file, or is the last file and ends where the volume
-// ends.
+// Returns whether a file is where it may be. A volume top file must be the last file, and must end
+// where the volume ends. Any other file may be anywhere.
 fn is_placed(file: &LocatedFile, last: bool, length: u64) -> bool
     ensures { result ≡ (not (is_top (file_form file.now)) || (last && (end_of (file_form file.now) == length))) }
 {
@@ -223,7 +223,8 @@ fn is_placed(file: &LocatedFile, last: bool, length: u64) -> bool
 }
 
 // Checks that a volume top file, if there is one, is the last file and ends where the volume ends.
-// Otherwise the fault is TopFile, at a volume top file that is not the last file or ends elsewhere.
+// Otherwise the fault is TopFile, at the first volume top file that is not the last file or ends
+// elsewhere.
 fn check_top(files: &[LocatedFile], length: u64) -> Result<(), Fault>
     ensures found { OnOk result (TopAtEnd length (map file_form files.now)) }
     ensures first { IfErr result (λ e. (f : FileForm) × TopElsewhere length f (map file_form files.now)
@@ -241,7 +242,8 @@ fn check_top(files: &[LocatedFile], length: u64) -> Result<(), Fault>
     Ok(())
 }
 
-// Returns the same as `current_files`, for files of which some may share a name.
+// Returns the same as `current_files`, if some of the files may share a name. `index` is the index
+// of the files' names.
 fn files_sharing_names<'a>(
     alloc: Global,
     files: Vec<LocatedFile<'a>>,

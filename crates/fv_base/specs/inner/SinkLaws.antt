@@ -1,5 +1,6 @@
--- The laws of the sink that keeps bytes in memory, and of the sink that writes to a borrowed port. These are proofs, so
--- nothing here has to be taken on trust. They are in specs/ because ghost members cite the last of each.
+-- The laws of the sink that keeps bytes in memory, and of the sink that writes to a borrowed port. These laws are
+-- proofs, so nothing here has to be taken on trust. They are in specs/ because ghost members cite the last law of each
+-- sink (`kept_by` and `write_by`).
 use Rattle.std.proofs.Common.{ℕ, List, [], ◌++◌, ap, sym, ◌∙◌, append_assoc, append-nil, Bool, true, false, ◌≡◌, ◌+◌}
 use Rattle.std.proofs.Common.{◌%◌, ◌^◌, ◌<◌, length, take, refl, subst, arith, add_assoc, add-zero, length-append}
 use Rattle.fv_base.specs.Sinks.{KeptLatched, KeptTakes, WalkLaws, PortState, WritesBytes, WritesAll, WritesPrefix}
