@@ -1,19 +1,19 @@
 # SPDX-License-Identifier: BSD-2-Clause-Patent
 # Builds, installs and packs the program fvtool and the library libfv. docs/INSTALL.md says what goes where.
 #
-#   make                  the program and the library, proved and built where sources have changed: out/ and clib/out/
-#   make try              runs it over a volume
-#   make check            that, and all checks that prove nothing (.ci/quick). The gate is .ci/run
-#   make install          the program, the tools that use it, manual pages, completion, documents: after `make`
-#   make install-lib      the library, with files for pkg-config, CMake and Python: after `make`
-#   make uninstall        removes both
-#   make dist             out/capstanolive-VERSION.tar.gz, the files of the last commit
-#   make release          dist/, with everything that a release has: packaging/verify compares it with what it makes
+#   make                  proves and builds the program and the library if sources have changed: out/ and clib/out/
+#   make try              runs the program over a volume
+#   make check            does `make try`, and all checks that prove nothing (.ci/quick). The gate is .ci/run
+#   make install          after `make`: installs the program, the tools that use it, manual pages, completion, documents
+#   make install-lib      after `make`: installs the library, with files for pkg-config, CMake and Python
+#   make uninstall        removes the installed program and the installed library
+#   make dist             makes out/capstanolive-VERSION.tar.gz from the files of the last commit
+#   make release          makes dist/ with all files of a release, which packaging/verify can make again and compare
 #   make version          writes VERSION into the files that show it
-#   make clean            removes out/ and clib/out/, not what is proved
+#   make clean            removes out/ and clib/out/, but not the results of proofs
 #
-# `make install PREFIX=/usr DESTDIR=folder` puts into folder/usr what is to be in /usr. What installs proves nothing, and
-# writes nothing into this folder.
+# `make install PREFIX=/usr DESTDIR=folder` puts the files for /usr into folder/usr. The targets that install prove
+# nothing, and write nothing into this folder.
 MAKEFLAGS += --no-builtin-rules
 VERSION := $(shell cat VERSION)
 OUT ?= out
@@ -28,21 +28,22 @@ ZSHDIR ?= $(PREFIX)/share/zsh/site-functions
 OBJCOPY ?= objcopy
 INSTALL ?= install
 
-# What is installed: the program and the library that `make` or rt ci has built. PROGRAM=FILE names another program, of
-# packaging/static, and ARCHIVE=FILE another library.
+# The program and the library to install are by default those that `make` or rt ci has built. PROGRAM=FILE names another
+# program, for example one that packaging/static has made, and ARCHIVE=FILE another library.
 BUILT := crates/fv_tool/out/fv_tool
 PROGRAM ?= $(BUILT)
 BUILT_ARCHIVE := crates/fv_c/out/libfv_c.a
 ARCHIVE ?= $(BUILT_ARCHIVE)
-# With the folders, so that a file that is removed counts too.
+# The folders are listed too, so that a removed file counts as a change.
 SOURCES := crates.txt $(shell find crates/fv_*/src crates/fv_*/specs crates/fv_*/proofs)
 DOCUMENTS := packaging/installed.md CHANGELOG.md SECURITY.md docs/PROGRAM.md docs/FAULTS.md packaging/copyright
-# The commands of the Python package are links to LAUNCHER in BINDIR. DATADIR has it, the package and the library where
-# this folder has them, so that they find each other there as here. fvmap is the name of fv-map in 1.0.
+# In BINDIR, the commands of the Python package are links to the installed LAUNCHER. LAUNCHER, the package and the
+# library have the same places below DATADIR as in this folder, so that they find each other. fvmap was the name of
+# fv-map in 1.0.
 LAUNCHER := clib/python/bin/run
 COMMANDS = $(shell python3 -B clib/python/backend.py commands) fvmap
-# clib/Makefile with the variables of this run. It has PREFIX, INCLUDEDIR, LIBDIR and PYTHONDIR. `-tools` is of what the
-# tools need of it.
+# This calls clib/Makefile, which defines INCLUDEDIR, LIBDIR and PYTHONDIR, with the variables of this run. Its targets
+# `install-tools` and `uninstall-tools` are for the parts of the library that the tools need.
 CLIB := $(MAKE) --no-print-directory -f clib/Makefile PREFIX="$(PREFIX)" DESTDIR="$(DESTDIR)" LIBFV="$(ARCHIVE)" \
     TOOLDIR="$(DATADIR)/clib"
 
@@ -53,19 +54,20 @@ include clib/folders.mk
 all: $(OUT)/fvtool $(ARCHIVE)
 	+$(CLIB) OUT=clib/out lib
 
-# Both prove nothing where a source is newer but has not changed. What they leave is newer than its sources.
+# Both commands prove nothing if a source has a newer date but the same bytes. They leave a file that is newer than its
+# sources.
 $(BUILT): $(SOURCES)
 	packaging/prove fv_tool
 
 $(BUILT_ARCHIVE): $(SOURCES)
 	packaging/prove fv_c
 
-# Makes of the program in a folder `fvtool`: it has no symbols, and a section that names the version. The section is not
-# loaded: the bytes that run are those that were proved and built. `strings` shows it.
+# Makes FOLDER/fvtool from the program: removes its symbols, and adds a section that names the version. The section is
+# not loaded, so the bytes that run are the bytes that were proved and built. `strings` shows the version.
 shipped = rm -f $(1)/fvtool $(1)/version && printf 'fvtool %s\0' "$(VERSION)" > $(1)/version && \
     $(OBJCOPY) --strip-unneeded --remove-section=.comment --add-section=.fvtool.version=$(1)/version "$(PROGRAM)" $(1)/fvtool
 
-# It is made each time, since PROGRAM may have changed.
+# This file is made each time, because PROGRAM may have changed.
 $(OUT)/fvtool: $(PROGRAM) VERSION FORCE
 	mkdir -p "$(OUT)"
 	$(call shipped,"$(OUT)")
@@ -102,7 +104,8 @@ install-lib: folders
 	@if [ "$(ARCHIVE)" = "$(BUILT_ARCHIVE)" ]; then packaging/prove --is-made fv_c; fi
 	+room=$$(mktemp -d) && $(CLIB) OUT="$$room" install; status=$$?; rm -rf "$$room"; exit $$status
 
-# The folders may be shared, so only the files that were installed go, and then those folders of fvtool that are empty.
+# Other packages may use the same folders, so this removes only the installed files, and then the folders of fvtool that
+# are empty.
 uninstall: folders
 	rm -f $(foreach it,fvtool $(COMMANDS),"$(DESTDIR)$(BINDIR)/$(it)")
 	rm -f $(foreach it,fvtool $(COMMANDS),"$(DESTDIR)$(BASHDIR)/$(it)") $(foreach it,_fvtool _fv,"$(DESTDIR)$(ZSHDIR)/$(it)")
@@ -121,7 +124,7 @@ dist:
 release:
 	MAKEFLAGS= packaging/release "$(DIST)"
 
-# Python and Debian write a version under development in their own ways: packaging/version knows them.
+# Python and Debian write a version under development in their own forms, which packaging/version knows.
 version:
 	packaging/version --write
 

@@ -204,8 +204,8 @@ FV_ASSERT_(sizeof(fv_sha256) == 32, "the layout of fv_sha256");
 typedef struct fv_fault {
     uint64_t offset;   /* in bytes, from the first byte of the input */
     fv_result result;  /* the result of the call; in a row of fv_image_check the fault of that volume */
-    uint32_t depth;    /* the number of groups and opened volumes around it, 0 to 8 */
-    uint32_t input;    /* 1 if it is a fault of the second input of fv_volume_compare, otherwise 0 */
+    uint32_t depth;    /* the number of groups and opened volumes around the fault, 0 to 8 */
+    uint32_t input;    /* 1 if the fault is in the second input of fv_volume_compare, otherwise 0 */
     uint32_t reserved; /* 0 */
 } fv_fault;
 FV_ASSERT_(sizeof(fv_fault) == 24 && offsetof(fv_fault, offset) == 0 && offsetof(fv_fault, result) == 8 &&
@@ -235,8 +235,8 @@ FV_ASSERT_(sizeof(fv_header) == 64 && offsetof(fv_header, offset) == 0 && offset
 typedef struct fv_volume_check {
     uint64_t offset;    /* where the volume begins, from the first byte of the image */
     uint64_t length;    /* FvLength */
-    fv_fault fault;     /* why it is rejected, with the offset in the image; all fields are 0 if it is not */
-    uint32_t canonical; /* 1 if it is its own canonical image, otherwise 0 */
+    fv_fault fault;     /* the fault of a rejected volume, at its offset in the image; otherwise all fields are 0 */
+    uint32_t canonical; /* 1 if the volume is its own canonical image, otherwise 0 */
     uint32_t reserved;  /* 0 */
 } fv_volume_check;
 FV_ASSERT_(sizeof(fv_volume_check) == 48 && offsetof(fv_volume_check, offset) == 0 &&
@@ -259,7 +259,7 @@ typedef struct fv_cell {
     uint64_t offset;        /* from the first byte of the volume */
     uint64_t length;        /* the number of its bytes; for a file or a pad, without the filler after it */
     uint32_t kind;          /* FV_CELL_* */
-    uint32_t header_length; /* 24 or 32, of a file or a pad, whose data are at offset + header_length */
+    uint32_t header_length; /* of a file or a pad, 24 or 32: its data begin at offset + header_length */
     uint32_t efi_type;      /* Type of a file or a pad */
     uint32_t attributes;    /* Attributes of a file or a pad, as stored: with 0x01 if its header is large */
     fv_guid name;           /* Name of a file or a pad */
@@ -281,8 +281,8 @@ typedef struct fv_node {
     uint32_t kind;          /* FV_NODE_* */
     uint32_t content;       /* FV_CONTENT_* */
     uint32_t efi_type;      /* Type of a file or a section */
-    uint32_t attributes;    /* Attributes of a volume, or of a file without bit 0x01: header_length is 32 instead */
-    uint32_t header_length; /* HeaderLength of a volume; 24 or 32 (file), 4 or 8 (section): a header before offset */
+    uint32_t attributes;    /* Attributes of a volume; of a file, without bit 0x01, which header_length 32 shows */
+    uint32_t header_length; /* HeaderLength of a volume; 24 or 32 for a file, 4 or 8 for a section, before offset */
     fv_guid guid;           /* FvName of a volume, or zeros if it has none; Name of a file */
     uint32_t file_system;   /* for a volume 2: FFS2, 3: FFS3 */
     uint32_t reserved[3];   /* 0 */
@@ -325,9 +325,9 @@ FV_API_ const char *fv_result_text(fv_result result);
  * first fault, 1 to 9, and leaves *header unchanged. */
 FV_CHECKED_ fv_result fv_header_read(const void *bytes, size_t size, fv_header *header, fv_fault *fault);
 
-/* Finds the volumes of a flash image: the bytes at a multiple of 8 with which fv_header_read finds no fault, except
- * those in a volume that was found. Writes a row for each, in the order of their offsets, and their number to *count.
- * An image of any size is accepted.
+/* Finds the volumes of a flash image. A volume begins at each multiple of 8 from which on fv_header_read finds no
+ * fault, unless this offset is in a volume that was found before. Writes a row for each volume, in the order of the
+ * offsets, and the number of volumes to *count. An image of any size is accepted.
  * Returns FV_OK, or FV_BUFFER_TOO_SMALL if *count > room. Returns FV_OUT_OF_MEMORY if memory runs out, and leaves
  * *count unchanged. Memory can run out only if a volume begins in the image. */
 FV_CHECKED_ fv_result fv_image_scan(const void *image, size_t size, fv_header *rows, size_t room, size_t *count,
@@ -345,7 +345,7 @@ FV_CHECKED_ fv_result fv_image_check(const void *image, size_t size, fv_volume_c
  * kept, to the first `size` bytes of the buffer.
  * Returns FV_OK. Otherwise returns the first fault, 1 to 24: FV_FAULT_LENGTH if size > FV_LENGTH_MAX; then the fault of
  * the first volume that has no canonical image, with its offset in the flash image. Memory can run out only if a volume
- * begins in an image within the limit. Otherwise returns FV_BUFFER_TOO_SMALL if buffer_size < size. */
+ * begins in an image within the limit. Without a fault, returns FV_BUFFER_TOO_SMALL if buffer_size < size. */
 FV_CHECKED_ fv_result fv_image_normalise(const void *image, size_t size, void *buffer, size_t buffer_size,
                                          fv_fault *fault);
 
@@ -355,7 +355,8 @@ FV_CHECKED_ fv_result fv_image_normalise(const void *image, size_t size, void *b
 FV_CHECKED_ fv_result fv_volume_is_canonical(const void *volume, size_t size, uint32_t *canonical, fv_fault *fault);
 
 /* Writes the canonical image of the volume to the first `size` bytes of the buffer. The image is as long as the volume.
- * Returns FV_OK; the first fault, 1 to 24; otherwise FV_BUFFER_TOO_SMALL if buffer_size < size. */
+ * Returns FV_OK. Otherwise returns the first fault, 1 to 24, or, without a fault, FV_BUFFER_TOO_SMALL if buffer_size <
+ * size. */
 FV_CHECKED_ fv_result fv_volume_normalise(const void *volume, size_t size, void *buffer, size_t buffer_size,
                                           fv_fault *fault);
 
@@ -367,8 +368,8 @@ FV_CHECKED_ fv_result fv_volume_normalise(const void *volume, size_t size, void 
  * The output is for reading, comparing and archiving, and must not be flashed. Takes no memory. To learn which files
  * were fixed, ask fv_volume_cells for the cells of the result: a file was fixed if bit 0x04 of byte 19 of its header is
  * set in the input.
- * Returns FV_OK; the first fault of the header or of the cells, or 8 if bytes follow the volume: 1 to 16, but never 15;
- * otherwise FV_BUFFER_TOO_SMALL if buffer_size < size. */
+ * Returns FV_OK. Otherwise returns the first fault of the header or of the cells, or 8 if bytes follow the volume: 1 to
+ * 16, but never 15. Without a fault, returns FV_BUFFER_TOO_SMALL if buffer_size < size. */
 FV_CHECKED_ fv_result fv_volume_unfix(const void *volume, size_t size, void *buffer, size_t buffer_size,
                                       fv_fault *fault);
 
@@ -379,9 +380,9 @@ FV_CHECKED_ fv_result fv_volume_digest(const void *volume, size_t size, fv_sha25
 /* Compares the meanings of two volumes. Sets *found, and writes a text, ended by a NUL, to the start of `text`: `same`,
  * or `different at` with the steps down to the first difference and its kind.
  * Returns FV_OK, or FV_BUFFER_TOO_SMALL if text_size <= found->text_length; FV_DIFFERENCE_SIZE bytes are always enough.
- * Otherwise returns the first fault, 1 to 21, or 24, of the first input, or of the second input if the first input has
- * no fault, and leaves *found unchanged. fault->input is 1 for a fault of the second input. It is 0 if memory runs out
- * while the two volumes are compared. */
+ * Otherwise returns a fault, 1 to 21, or 24: the first fault of the first input or, if that input has no fault, the
+ * first fault of the second input. Then *found is unchanged. fault->input is 1 for a fault of the second input. It is 0
+ * if memory runs out while the two volumes are compared. */
 FV_CHECKED_ fv_result fv_volume_compare(const void *first, size_t first_size, const void *second, size_t second_size,
                                         char *text, size_t text_size, fv_comparison *found, fv_fault *fault);
 
@@ -415,9 +416,9 @@ FV_CHECKED_ fv_result fv_volume_tree_digests(const void *volume, size_t size, fv
 
 /* Writes the part of the volume that is row number `row` of fv_volume_tree to the start of the buffer, and the number
  * of its bytes to *length. They are the bytes that the canonical image of the volume has: for a volume its own
- * canonical image, for a file its data, for a section its body. A volume in a file or a section is its canonical image
- * there, and the bytes between sections are 0. Row 0 is the canonical image of the whole volume. Plain data, and the
- * body of a section that holds bytes, are as they are in the input.
+ * canonical image, for a file its data, for a section its body. In these bytes, a volume in a file or a section is
+ * replaced by its own canonical image, and the bytes between sections are 0. Row 0 is the canonical image of the whole
+ * volume. Plain data, and the body of a section that holds bytes, are as they are in the input.
  * Returns FV_OK, or FV_BUFFER_TOO_SMALL if buffer_size < *length. Returns FV_NOT_FOUND if the tree has no row with this
  * number. Otherwise returns the first fault, 1 to 21; or 22 or 23, if the part is a volume, or holds one, that does not
  * fit in its canonical form; or 24. Leaves *length unchanged after a fault and after FV_NOT_FOUND. */

@@ -32,7 +32,7 @@ SIGNS = str.maketrans({"\\": r"\e", "-": r"\-", "'": r"\(aq", "^": r"\(ha", "~":
 TERM = re.compile(r"((?:(?:`[^`]+`|\*+[^*]+\*+)(?:,? and |, | to )?)+): ")
 ENDING = """## Environment
 
-- **LIBFV**: Names the shared object of the library, in place of the one that is installed with this command.
+- **LIBFV**: Names a shared object of the library, which is used in place of the installed shared object.
 
 ## Caveats
 

@@ -33,7 +33,7 @@ void watch_blocks(const char *path);
 uint32_t blocks_hit(void);
 uint32_t blocks_watched(void);
 
-/* Counts this result as a further one that an input can reach. */
+/* Counts this result as a further result that an input can reach. */
 void saw(uint32_t what, uint32_t a, uint32_t b, uint64_t c);
 
 #endif

@@ -8,10 +8,10 @@
 /* Maps the rooms for blocks. Call this function before all others. */
 void open_heap(void);
 
-/* Has the allocation with this number, counted from 0 and from now on, refused. */
+/* Refuses one allocation: the allocation with this number, where the next allocation has the number 0. */
 void refuse_allocation(unsigned number);
 
-/* Returns whether an allocation was refused since then. After that, no allocation is refused. */
+/* Returns whether an allocation was refused since the last call of refuse_allocation. From now on, none is refused. */
 bool end_refusal(void);
 
 /* Reports a finding if the library has kept a block. */

@@ -24,10 +24,10 @@ The functions have the names of the calls in fv.h, without `fv_`. An `image` may
 exactly one volume. `data` begin with the volume or the list that is read, and the bytes after it are ignored.
 
 An input may be any object with the buffer protocol: bytes, bytearray, memoryview, mmap. A bytes object is read in
-place, and so is a memoryview of one. Any other buffer is copied first, since something else may write to it during the
-call: another Python thread, or a process that has mapped the same file. With copy=False it is read in place too, also
-if it is read-only. Pass copy=False only if nothing writes to the buffer until the call returns, since the process can
-crash otherwise.
+place, and so is a memoryview of a bytes object. Any other buffer is copied first, since something else may write to it
+during the call: another Python thread, or a process that has mapped the same file. With copy=False every buffer is read
+in place, also if it is read-only. Pass copy=False only if nothing writes to the buffer until the call returns, since
+the process can crash otherwise.
 
 Any number of threads may call at once. A process that has threads must not call the library in a child that it has
 forked: let multiprocessing use spawn or forkserver.

@@ -36,7 +36,7 @@ class Fault:
         return result_text(self.code)
 
     def __str__(self) -> str:
-        """Returns the fault as a line of fvtool has it."""
+        """Returns the fault in the form of a line of fvtool."""
         return f"fault {self.number} at {self.offset}" + (" of the second input" if self.input else "")
 
 

@@ -31,7 +31,7 @@ DEPEX_FALSE = 0
 DEPEX_TRUE = 1
 DEPEX_ORDER = 2
 
-# The formats by which struct unpacks the structures, without what is reserved.
+# The formats by which struct unpacks the structures, without reserved fields.
 GUID_FORMAT = "=16s"
 SHA256_FORMAT = "=32s"
 FAULT_FORMAT = "=QIII4x"

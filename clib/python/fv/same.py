@@ -8,8 +8,8 @@ fault. With --open, sections that differ are opened if they are compressed, so t
 name that begins with a hyphen comes after `--`.
 
 Each volume that differs or is rejected has a line, and after it each of its files: `changed`, `only in the first` or
-`only in the second`, the GUIDs of the files around it and its own GUID, and its name. A name in quotes is that of its
-user interface section, and a name in parentheses is EDK II's name for its GUID.
+`only in the second`, the GUIDs of the files around it and its own GUID, and its name. A name in quotes is the text of
+its user interface section, and a name in parentheses is EDK II's name for its GUID.
 
 With --json the output is an object: `verdict`; `fault`, why the inputs were not compared, or null; `is_other_layout`,
 whether the two have volumes at different offsets or of different lengths; `other_bytes`, the offset of the first byte

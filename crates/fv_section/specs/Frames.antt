@@ -43,8 +43,9 @@ pub record BeginsFrame (f : FrameForm) (b rest : List ℕ) : Type 0 where
 abbrev pub up_to_4 : ℕ → ℕ
 up_to_4 n = (n + 3) / 4 * 4
 
--- b is the part of a stream from the offset `at` on: these frames, in order; between two frames, filler of any value
--- leads to the next multiple of 4; after the last frame `tail` bytes follow, at most up to the next multiple of 4
+-- b is the part of a stream from the offset `at` on: it consists of these frames, in order. Between two frames, filler
+-- of any value leads to the next multiple of 4. After the last frame `tail` bytes follow, at most up to the next
+-- multiple of 4
 abbrev pub SplitsFrom : ℕ → List FrameForm → ℕ → List ℕ → Type 0
 SplitsFrom at [] tail b = (b ≡ []) × (tail ≡ 0)
 SplitsFrom at (f ∷ []) tail b =

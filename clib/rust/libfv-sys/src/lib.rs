@@ -126,9 +126,9 @@ pub struct fv_fault {
     pub offset: u64,
     /// The result of the call; in a row of `fv_image_check` the fault of that volume.
     pub result: fv_result,
-    /// The number of groups and opened volumes around it, 0 to 8.
+    /// The number of groups and opened volumes around the fault, 0 to 8.
     pub depth: u32,
-    /// 1 if it is a fault of the second input of `fv_volume_compare`, otherwise 0.
+    /// 1 if the fault is in the second input of `fv_volume_compare`, otherwise 0.
     pub input: u32,
     /// 0.
     pub reserved: u32,
@@ -166,9 +166,9 @@ pub struct fv_volume_check {
     pub offset: u64,
     /// FvLength.
     pub length: u64,
-    /// Why it is rejected, with the offset in the image; all fields are 0 if it is not.
+    /// The fault of a rejected volume, at its offset in the image; otherwise all fields are 0.
     pub fault: fv_fault,
-    /// 1 if it is its own canonical image, otherwise 0.
+    /// 1 if the volume is its own canonical image, otherwise 0.
     pub canonical: u32,
     /// 0.
     pub reserved: u32,
@@ -196,7 +196,7 @@ pub struct fv_cell {
     pub length: u64,
     /// `FV_CELL_*`.
     pub kind: u32,
-    /// 24 or 32, of a file or a pad, whose data are at offset + header_length.
+    /// Of a file or a pad, 24 or 32: its data begin at offset + header_length.
     pub header_length: u32,
     /// Type of a file or a pad.
     pub efi_type: u32,
@@ -228,9 +228,9 @@ pub struct fv_node {
     pub content: u32,
     /// Type of a file or a section.
     pub efi_type: u32,
-    /// Attributes of a volume, or of a file without bit 0x01: header_length is 32 instead.
+    /// Attributes of a volume; of a file, without bit 0x01, which header_length 32 shows.
     pub attributes: u32,
-    /// HeaderLength of a volume; 24 or 32 (file), 4 or 8 (section): a header before offset.
+    /// HeaderLength of a volume; 24 or 32 for a file, 4 or 8 for a section, before offset.
     pub header_length: u32,
     /// FvName of a volume, or zeros if it has none; Name of a file.
     pub guid: fv_guid,
@@ -322,12 +322,12 @@ extern "C" {
         fault: *mut fv_fault,
     ) -> fv_result;
 
-    /// Finds the volumes of a flash image: the bytes at a multiple of 8 with which `fv_header_read`
-    /// finds no fault, except those in a volume that was found. Writes a row for each, in the order
-    /// of their offsets, and their number to `*count`. An image of any size is accepted. Returns
-    /// `FV_OK`, or `FV_BUFFER_TOO_SMALL` if `*count` > room. Returns `FV_OUT_OF_MEMORY` if memory
-    /// runs out, and leaves `*count` unchanged. Memory can run out only if a volume begins in the
-    /// image.
+    /// Finds the volumes of a flash image. A volume begins at each multiple of 8 from which on
+    /// `fv_header_read` finds no fault, unless this offset is in a volume that was found before.
+    /// Writes a row for each volume, in the order of the offsets, and the number of volumes to
+    /// `*count`. An image of any size is accepted. Returns `FV_OK`, or `FV_BUFFER_TOO_SMALL` if
+    /// `*count` > room. Returns `FV_OUT_OF_MEMORY` if memory runs out, and leaves `*count`
+    /// unchanged. Memory can run out only if a volume begins in the image.
     pub fn fv_image_scan(
         image: *const c_void,
         size: usize,
@@ -357,8 +357,8 @@ extern "C" {
     /// image, and all other bytes kept, to the first `size` bytes of the buffer. Returns `FV_OK`.
     /// Otherwise returns the first fault, 1 to 24: `FV_FAULT_LENGTH` if size > `FV_LENGTH_MAX`;
     /// then the fault of the first volume that has no canonical image, with its offset in the flash
-    /// image. Memory can run out only if a volume begins in an image within the limit. Otherwise
-    /// returns `FV_BUFFER_TOO_SMALL` if buffer_size < size.
+    /// image. Memory can run out only if a volume begins in an image within the limit. Without a
+    /// fault, returns `FV_BUFFER_TOO_SMALL` if buffer_size < size.
     pub fn fv_image_normalise(
         image: *const c_void,
         size: usize,
@@ -378,8 +378,8 @@ extern "C" {
     ) -> fv_result;
 
     /// Writes the canonical image of the volume to the first `size` bytes of the buffer. The image
-    /// is as long as the volume. Returns `FV_OK`; the first fault, 1 to 24; otherwise
-    /// `FV_BUFFER_TOO_SMALL` if buffer_size < size.
+    /// is as long as the volume. Returns `FV_OK`. Otherwise returns the first fault, 1 to 24, or,
+    /// without a fault, `FV_BUFFER_TOO_SMALL` if buffer_size < size.
     pub fn fv_volume_normalise(
         volume: *const c_void,
         size: usize,
@@ -397,9 +397,9 @@ extern "C" {
     /// pass them the output of this call. The output is for reading, comparing and archiving, and
     /// must not be flashed. Takes no memory. To learn which files were fixed, ask `fv_volume_cells`
     /// for the cells of the result: a file was fixed if bit 0x04 of byte 19 of its header is set in
-    /// the input. Returns `FV_OK`; the first fault of the header or of the cells, or 8 if bytes
-    /// follow the volume: 1 to 16, but never 15; otherwise `FV_BUFFER_TOO_SMALL` if buffer_size <
-    /// size.
+    /// the input. Returns `FV_OK`. Otherwise returns the first fault of the header or of the cells,
+    /// or 8 if bytes follow the volume: 1 to 16, but never 15. Without a fault, returns
+    /// `FV_BUFFER_TOO_SMALL` if buffer_size < size.
     pub fn fv_volume_unfix(
         volume: *const c_void,
         size: usize,
@@ -420,10 +420,10 @@ extern "C" {
     /// Compares the meanings of two volumes. Sets `*found`, and writes a text, ended by a NUL, to
     /// the start of `text`: `same`, or `different at` with the steps down to the first difference
     /// and its kind. Returns `FV_OK`, or `FV_BUFFER_TOO_SMALL` if text_size <=
-    /// `found->text_length`; `FV_DIFFERENCE_SIZE` bytes are always enough. Otherwise returns the
-    /// first fault, 1 to 21, or 24, of the first input, or of the second input if the first input
-    /// has no fault, and leaves `*found` unchanged. `fault->input` is 1 for a fault of the second
-    /// input. It is 0 if memory runs out while the two volumes are compared.
+    /// `found->text_length`; `FV_DIFFERENCE_SIZE` bytes are always enough. Otherwise returns a
+    /// fault, 1 to 21, or 24: the first fault of the first input or, if that input has no fault,
+    /// the first fault of the second input. Then `*found` is unchanged. `fault->input` is 1 for a
+    /// fault of the second input. It is 0 if memory runs out while the two volumes are compared.
     pub fn fv_volume_compare(
         first: *const c_void,
         first_size: usize,
@@ -486,13 +486,13 @@ extern "C" {
     /// Writes the part of the volume that is row number `row` of `fv_volume_tree` to the start of
     /// the buffer, and the number of its bytes to `*length`. They are the bytes that the canonical
     /// image of the volume has: for a volume its own canonical image, for a file its data, for a
-    /// section its body. A volume in a file or a section is its canonical image there, and the
-    /// bytes between sections are 0. Row 0 is the canonical image of the whole volume. Plain data,
-    /// and the body of a section that holds bytes, are as they are in the input. Returns `FV_OK`,
-    /// or `FV_BUFFER_TOO_SMALL` if buffer_size < `*length`. Returns `FV_NOT_FOUND` if the tree has
-    /// no row with this number. Otherwise returns the first fault, 1 to 21; or 22 or 23, if the
-    /// part is a volume, or holds one, that does not fit in its canonical form; or 24. Leaves
-    /// `*length` unchanged after a fault and after `FV_NOT_FOUND`.
+    /// section its body. In these bytes, a volume in a file or a section is replaced by its own
+    /// canonical image, and the bytes between sections are 0. Row 0 is the canonical image of the
+    /// whole volume. Plain data, and the body of a section that holds bytes, are as they are in the
+    /// input. Returns `FV_OK`, or `FV_BUFFER_TOO_SMALL` if buffer_size < `*length`. Returns
+    /// `FV_NOT_FOUND` if the tree has no row with this number. Otherwise returns the first fault, 1
+    /// to 21; or 22 or 23, if the part is a volume, or holds one, that does not fit in its
+    /// canonical form; or 24. Leaves `*length` unchanged after a fault and after `FV_NOT_FOUND`.
     pub fn fv_volume_extract(
         volume: *const c_void,
         size: usize,

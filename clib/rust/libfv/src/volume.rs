@@ -184,8 +184,9 @@ impl Node {
         (self.kind() != NodeKind::Volume).then(|| narrow(self.0.efi_type, "Type"))
     }
 
-    /// Returns `Attributes` of a volume, or `Attributes` of a file without bit 0x01, in place of
-    /// which [`header_length`](Node::header_length) is 32. Returns `None` for a section.
+    /// Returns `Attributes` of a volume, or `Attributes` of a file without bit 0x01. The
+    /// [`header_length`](Node::header_length) of a file with this bit is 32. Returns `None` for a
+    /// section.
     pub fn attributes(&self) -> Option<u32> {
         (self.kind() != NodeKind::Section).then_some(self.0.attributes)
     }
