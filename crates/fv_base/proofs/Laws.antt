@@ -1,5 +1,5 @@
 -- The laws of this crate that crates above may cite. Each is passed on from the module that proves it. A lemma that is
--- not listed here is an inner one.
+-- not listed here is internal.
 
 -- Fields and the numbers that they spell. A field is the same within a cut or a join. Bytes that are cut, joined or
 -- filled are bytes. A number and its bytes determine each other. k bytes spell a number below 256 ^ k. Equal joins are

@@ -77,9 +77,9 @@ pub(crate) fn header_of(offset: u64, bytes: &[u8], extent: Extent) -> FvHeader
     }
 }
 
-/// Reads the header of the volume with which the bytes begin. Returns 0 if they begin with one, and
-/// `header` is then its header, at the offset 0. The volume's files are not looked at. Takes no
-/// memory. (PI specification, volume 3, sections 3.2.1.1 and 3.2.1.2.)
+/// Reads the header of the volume with which the bytes begin. If the bytes begin with a volume,
+/// returns 0, and `header` is the header of this volume, with the offset 0. The volume's files are
+/// not looked at. Takes no memory. (PI specification, volume 3, sections 3.2.1.1 and 3.2.1.2.)
 ///
 /// # Errors
 ///

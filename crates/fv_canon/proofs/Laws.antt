@@ -9,11 +9,12 @@ pub use Rattle.fv_canon.proofs.StoredTilingLaws.{PadErased}
 pub use Rattle.fv_canon.proofs.OneImageLaws.{data_one, body_one}
 -- bytes that are a volume at a depth within the limit are accepted
 pub use Rattle.fv_canon.proofs.HeadlineLaws.{accepted}
--- a flash image whose volumes are all laid out has a renewed image
+-- if all volumes of a flash image are laid out, some bytes are this image with each volume replaced by its canonical
+-- image
 pub use Rattle.fv_canon.proofs.LaidVolumeLaws.{laid_renewed}
 -- the starts of some volumes begin with the starts of these volumes, and no starts follow
 pub use Rattle.fv_canon.proofs.PartLengthLaws.{begin_all}
--- an input that does not fit is rejected
+-- an input that is a volume and does not fit is rejected
 pub use Rattle.fv_canon.proofs.RejectedInputLaws.{not_placed}
 -- the data of a file that was read, with a short header, are within the limit of a volume's length
 pub use Rattle.fv_canon.proofs.PartBytesLaws.{data_short}

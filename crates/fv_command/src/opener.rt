@@ -99,7 +99,7 @@ pub fn run_over<O: Opener, W: Write>(
     writer: &mut Port<W>,
 ) -> Ending
     // The first input is the file that the plan names for it, or standard input. The second input
-    // is the file that the plan names for it, if it names one.
+    // is the file that the plan names for it, if the plan names a second file.
     ensures runs { RunsOver O.Standard.remaining O.File.remaining (O.opens opener.now) (O.is_standard opener.now)
         plan.now result (change W.contents writer.old writer.new) }
 

@@ -8,8 +8,8 @@ pub const FREEFORM: u8 = 0x02;
 /// sections.
 pub const SECURITY_CORE: u8 = 0x03;
 
-/// `EFI_FV_FILETYPE_PEI_CORE`. The data of a file are sections if its type is this one,
-/// `MM_CORE_STANDALONE` or any type between them.
+/// `EFI_FV_FILETYPE_PEI_CORE`. The data of a file are also sections if the file has this type,
+/// `MM_CORE_STANDALONE` or any type between the two.
 pub const PEI_CORE: u8 = 0x04;
 
 /// `EFI_FV_FILETYPE_MM_CORE_STANDALONE`, the last type of this range.

@@ -1,5 +1,5 @@
 -- The laws of this crate that crates above may cite. Each is passed on from the module that proves it. A lemma that is
--- not listed here is an inner one.
+-- not listed here is internal.
 
 -- The volumes in some bytes begin at one list of places.
 pub use Rattle.fv_flash.proofs.ScanLaws.{one_found, found_walk}

@@ -1,5 +1,5 @@
 -- The laws of this crate that crates above may cite. Each is passed on from the module that proves it. A lemma that is
--- not listed here is an inner one.
+-- not listed here is internal.
 
 -- If bytes begin with a volume, no other header fields and no other extent fit the bytes, the checks of the header
 -- hold, and the extent follows from the header. Only the volume's own bytes decide this.

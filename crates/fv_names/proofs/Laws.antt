@@ -1,5 +1,5 @@
 -- The laws of this crate that crates above may cite. Each is passed on from the module that proves it. A lemma that is
--- not listed here is an inner one.
+-- not listed here is internal.
 
 -- The file and the entry that are read past the ends of their lists.
 pub use Rattle.fv_names.proofs.IndexLaws.{no_named, no_entry}

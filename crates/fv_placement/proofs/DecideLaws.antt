@@ -179,7 +179,7 @@ top_dec : (total : ℕ) (fs : List PlacementItem) → Decided (TopMisaligned tot
 top_dec total [] = inr (λ h. h)
 top_dec total (f ∷ fs) = either (both (true_dec f.top) (off_dec total f)) (top_dec total fs)
 
--- files have a first placement, or the volume top file is off, or there is no room
+-- files have a first placement, or the volume top file cannot begin at its only possible start, or there is no room
 pub placed_or_not : (total first : ℕ) (fs : List PlacementItem) → ((starts : List ℕ) × IsFirstPlacement total first fs starts)
     ⊎ (TopMisaligned total fs ⊎ HasNoRoom total first fs)
 placed_or_not total first fs = go (top_dec total fs) (placed_or_none total first fs) where

@@ -4,7 +4,7 @@
 -- 2. The least starts are such starts, if they are a placement.
 -- 3. Two first placements are equal.
 -- 4. Placing each file in turn at its first start gives such starts.
--- 5. If a volume top file is off at its only possible start, there is no placement.
+-- 5. If a volume top file cannot begin at its only possible start, there is no placement.
 use Rattle.fv_base.specs.Words.{up_to_8}
 use Rattle.std.proofs.Common.{◌≡◌, ℕ, ◌+◌, ◌-◌, ◌%◌, ◌<◌, ◌≤◌, inl, inr, refl, sym, ◌∙◌, ap, subst, arith, List, [], ◌∷◌, ◌++◌, Bool}
 use Rattle.std.proofs.Common.{true, false, append_assoc, append-nil, length, get_or, take, drop, zero, suc, add-one}
@@ -146,7 +146,7 @@ off_none total e f s at aligned eighth (inr b) = b (ap (λ (n : ℕ). n % 8) (st
     start : (total n : ℕ) → s + n ≡ total → total - n ≡ s
     start total n e = omega (arith, e)
 
--- files whose volume top file is off cannot be placed
+-- files cannot be placed if the volume top file cannot begin at its only possible start
 pub top_none : (total e : ℕ) (fs : List PlacementItem) (ss : List ℕ) → TopMisaligned total fs → StartsFollow total e fs ss → ⊥
 top_none total e [] ss off follow = absurd off
 top_none total e (f ∷ fs) [] off follow = absurd follow
