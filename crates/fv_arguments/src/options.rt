@@ -149,8 +149,8 @@ fn list(alloc: Global, matches: &ArgMatches<'_>) -> Result<Command, WordFault>
     Ok(Command::Single { task, at, file })
 }
 
-// Returns the image with this path and this base, if both are given. It is wrong to give only one
-// of them.
+// Returns the image with this path and this base, if both are given. If only one of the two is
+// given, the arguments are wrong.
 fn image_of(
     alloc: Global,
     path: Option<&str>,

@@ -21,7 +21,7 @@ pub record GivesAll (old new : Option (List ℕ)) (bytes : List ℕ) : Type 0 wh
   pub gave : Consumes old new bytes
   pub at_end : IsAtEnd new
 
--- the reader gave these bytes, and they are all that it had: at most `volume_limit`
+-- the reader gave these bytes, they are all that it had, and there are at most `volume_limit` of them
 pub record ReadsWhole (old new : Option (List ℕ)) (input : List ℕ) : Type 0 where
   pub gives : GivesAll old new input
   pub small : length input ≤ volume_limit

@@ -126,7 +126,7 @@ impl FaultKind {
         }
     }
 
-    // The meaning of the kind, as `Display` writes it.
+    // Returns the meaning of the kind, as `Display` writes it.
     fn text(self) -> &'static str {
         match self {
             FaultKind::Truncated => "the bytes end before the volume does",

@@ -72,8 +72,8 @@ pub fn canonical(alloc: Global, view: &VolumeView<'_>) -> Result<ByteList, Fault
     ensures image { IfOk result (λ bytes. IsImage view.now bytes) }
     ensures only { (other : List ℕ) → IsImage view.now other → IfOk result (λ bytes. bytes ≡ other) }
 
-    // The result is a volume with this meaning. It is not the image of any other meaning that some
-    // bytes have.
+    // The result is a volume with this meaning. The result is not the image of any other meaning
+    // that some bytes have.
     ensures denotes { IfOk result (λ bytes. Accepted bytes view.now) }
     ensures meaning { IfOk result (λ bytes. (m : Meaning) → IsMeaning m → IsImage m bytes → m ≡ view.now) }
 

@@ -1,8 +1,8 @@
 //! Computes the canonical image of a firmware volume and its layout, which says where the files of
-//! the image begin. It does the same for each volume of a flash image, and writes images to a port.
-//! `whole_volume` comes from fv_tree, and `run_compare` and `Side` from fv_compare. The calls of
-//! the modules `headline` and `further_laws` do nothing: their contracts are laws, among them the
-//! headline.
+//! the image begin. The crate does the same for each volume of a flash image, and writes images to
+//! a port. `whole_volume` comes from fv_tree, and `run_compare` and `Side` from fv_compare. The
+//! calls of the modules `headline` and `further_laws` do nothing: their contracts are laws, among
+//! them the headline.
 #![tactic(auto)]
 
 mod canonical_image;

@@ -80,7 +80,8 @@ Runs p ended ports =
 abbrev pub fresh : {S F : Type 0} → (S → Option (List ℕ)) → (F → Option (List ℕ)) → Source S F → PortView
 fresh of_input of_file source = port_view (unread of_input of_file source) false
 
--- a run of the plan over the sources that it names: the files that opening its paths returns, and standard input
+-- a run of the plan over the sources that the plan names: the files that opening the plan's paths returns, and standard
+-- input
 abbrev pub RunsOver : {S F : Type 0} → (S → Option (List ℕ)) → (F → Option (List ℕ)) → (List ℕ → Option F → Type 0)
     → (S → Type 0) → Plan → Ending → Change → Type 0
 RunsOver {S} {F} of_input of_file opens is_standard p ended output =

@@ -8,7 +8,7 @@ use Rattle.fv_head.specs.declared.extent.Extent.{Extent}
 use Rattle.fv_tree.specs.Words.{Accepted, IsFirstOfVolume, Meaning}
 use Rattle.fv_text.specs.Words.{SpellsWhole, TextStops, PortView}
 
--- the input was read to its end: as bytes, or as hexadecimal text that spells them
+-- the input was read to its end: as the bytes themselves, or as hexadecimal text that spells these bytes
 abbrev pub Gives : Bool → PortView → PortView → List ℕ → Type 0
 Gives false old new input = ReadsWhole old.bytes new.bytes input
 Gives true old new input = SpellsWhole old.bytes new.bytes input

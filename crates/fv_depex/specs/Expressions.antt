@@ -104,6 +104,6 @@ pub record DepexForm : Type 0 where
   pub ops : List Op
   pub rest : List ℕ
 
--- some bytes spell this expression, which is true of every `Depex`
+-- some bytes spell this expression; this is true of every `Depex`
 abbrev pub IsReadDepex : DepexForm → Type 0
 IsReadDepex d = (b : List ℕ) × Spells d.phase d.ops d.rest b

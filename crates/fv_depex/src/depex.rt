@@ -7,9 +7,9 @@ use crate::op::{Op, Phase};
 use fv_base::ByteList;
 use std::marker::Model;
 
-/// A dependency expression: its ops, the last of which is END, and the bytes after END. Only
-/// `read_depex` makes a value of this type. (PI specification, volume 1, section 3.4, and volume 2,
-/// section 10.7.)
+/// A dependency expression: its ops, which end with END, and the bytes after END. Only `read_depex`
+/// makes a value of this type. (PI specification, volume 1, section 3.4, and volume 2, section
+/// 10.7.)
 #[derive(Drop)]
 pub struct Depex {
     phase: Phase,

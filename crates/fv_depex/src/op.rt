@@ -17,10 +17,10 @@ pub enum Phase {
 #[derive(Clone, Copy, Debug, PartialEq, Eq)]
 pub enum Op {
     /// EFI_DEP_BEFORE, 0x00: the driver is dispatched right before the driver whose file has this
-    /// name. It must be the first op, and END must follow it. DXE only.
+    /// name. The op must be the first, and END must follow it. DXE only.
     Before(Guid),
     /// EFI_DEP_AFTER, 0x01: the driver is dispatched right after the driver whose file has this
-    /// name. It must be the first op, and END must follow it. DXE only.
+    /// name. The op must be the first, and END must follow it. DXE only.
     After(Guid),
     /// EFI_DEP_PUSH, 0x02: pushes whether the protocol (in PEI, the PPI) with this GUID is
     /// installed.
@@ -38,7 +38,7 @@ pub enum Op {
     /// EFI_DEP_END, 0x08: ends the expression, whose value is the only value on the stack. After
     /// BEFORE or AFTER, the stack is empty.
     End,
-    /// EFI_DEP_SOR, 0x09: schedule on request, which does not change the value. It must be the
-    /// first op, and an expression must follow it. DXE only.
+    /// EFI_DEP_SOR, 0x09: schedule on request, which does not change the value. The op must be the
+    /// first, and an expression must follow it. DXE only.
     Sor,
 }

@@ -196,12 +196,12 @@ fn pad_header(size: u64) -> NewHeader
     }
 }
 
-/// Returns the header of a file whose data are valid. It has the short form if header and data are
-/// at most 0xFFFFFF bytes, and otherwise the large form. `kind` is not the type of a pad. In
-/// `attributes`, bit 0x04 is clear, and so is bit 0x01, which this call sets for the large form.
-/// `data_len` is the length of the data in bytes, at most 268,435,424 (the limit of a volume minus
-/// a large header). `file_sum` is written as the file checksum. Takes no memory. (PI specification,
-/// volume 3, section 3.2.3.1.)
+/// Returns the header of a file whose data are valid. The header has the short form if header and
+/// data together have at most 0xFFFFFF bytes, and otherwise the large form. `kind` is not the type
+/// of a pad. In `attributes`, bit 0x04 is clear, and so is bit 0x01, which this call sets for the
+/// large form. `data_len` is the length of the data in bytes, at most 268,435,424 (the limit of a
+/// volume minus a large header). `file_sum` is written as the file checksum. Takes no memory. (PI
+/// specification, volume 3, section 3.2.3.1.)
 pub fn file_head_bytes(
     name: Guid,
     kind: u8,

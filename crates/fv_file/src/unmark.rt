@@ -68,9 +68,9 @@ fn take_marks(body: &mut [u8], first: u64, system: FileSystem, polarity: Polarit
 
 /// Takes the marks away from all fixed files of a volume's body, which begins at the offset `first`
 /// of the volume, in bytes. For each such file, bit 0x04 of its attributes is cleared and 4 is
-/// added to its header checksum (modulo 256), so no checksum becomes wrong. This includes files
-/// that are marked for update, whether or not they are superseded. Pads, deleted files, and files
-/// of volumes inside the body stay as they are. Takes no memory. (PI specification, volume 3,
+/// added to its header checksum (modulo 256), so no checksum becomes wrong. The fixed files include
+/// files that are marked for update, whether or not they are superseded. Pads, deleted files, and
+/// files of volumes inside the body stay as they are. Takes no memory. (PI specification, volume 3,
 /// section 3.2.3.1, `FFS_ATTRIB_FIXED`.)
 ///
 /// # Errors
@@ -85,8 +85,8 @@ pub fn unmark_files(
     requires multiple { length body.old % 8 ≡ 0 }
     requires place { first + length body.old < 2 ^ 63 }
 
-    // After Ok, the marks were taken away from the files at some offsets of the body, each of which
-    // was fixed, and nothing else was changed. Cells tile the body, so none of its files is fixed.
+    // After Ok, the marks were taken away from some fixed files of the body, and nothing else was
+    // changed. Cells tile the body, so none of its files is fixed.
     ensures tiled { OnOk result ((places : List ℕ) × Unmarks system polarity first places body.old body.new
         × ((cells : List CellForm) × Tiles system polarity first cells body.new)) }
 

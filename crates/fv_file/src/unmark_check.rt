@@ -71,8 +71,7 @@ pub fn verify_unmarked(
     requires multiple { length body.now % 8 ≡ 0 }
     requires place { first + length body.now < 2 ^ 63 }
 
-    // Cells tile the body after the marks were taken away from the files at some offsets, each of
-    // which was fixed.
+    // Cells tile the body after the marks were taken away from some fixed files.
     ensures tiled { OnOk result ((places : List ℕ) × (o : List ℕ) × Unmarks system polarity first places body.now o
         × ((cells : List CellForm) × Tiles system polarity first cells o)) }
 

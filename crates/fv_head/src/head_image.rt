@@ -103,8 +103,9 @@ fn canonical_offset(head: &VolumeHead<'_>) -> u16
 /// Returns the first edge: the offset at which the first file of the canonical image may begin, in
 /// bytes from the volume's start. Without an extended header, this is the end of the volume header.
 /// Otherwise it is the end of the pad file that holds the extended header, rounded up to a multiple
-/// of 8. (That pad file follows the volume header. It consists of its own header, 24 bytes, and the
-/// extended header.) Takes no memory. (PI specification, volume 3, sections 3.2.1.1 and 3.2.1.2.)
+/// of 8. (That pad file follows the volume header. The pad file consists of its own header, 24
+/// bytes, and the extended header.) Takes no memory. (PI specification, volume 3, sections 3.2.1.1
+/// and 3.2.1.2.)
 pub fn first_edge(head: &VolumeHead<'_>) -> u64
     ensures edge { result ≡ first_edge head.now head.now.ext }
     ensures most { result ≤ up_to_8 (header_limit + 24 + ext_limit) }

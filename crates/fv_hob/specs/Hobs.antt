@@ -139,7 +139,7 @@ pub record IsHob (h : HobForm) (b : List ℕ) : Type 0 where
   pub block : IsBlock b
   pub hob_is : h ≡ hob_in b
 
--- some bytes are this block, which is true of every `Hob`
+-- some bytes are this block; this is true of every `Hob`
 abbrev pub IsReadHob : HobForm → Type 0
 IsReadHob h = (b : List ℕ) × IsHob h b
 

@@ -38,7 +38,7 @@ pub record IsHobList (all : List HobForm) (b : List ℕ) : Type 0 where
 abbrev pub IsUsedHob : HobForm → Type 0
 IsUsedHob h = hob_type h.kind ≢ 0xfffe
 
--- some bytes are this list, which is true of every `HobList`
+-- some bytes are this list; this is true of every `HobList`
 abbrev pub IsReadList : List HobForm → Type 0
 IsReadList all = (b : List ℕ) × IsHobList all b
 

@@ -181,7 +181,7 @@ fn list_spelled(alloc: Global, hobs: &[Hob]) -> Result<Vec<u8>, AllocError>
     Ok(bytes)
 }
 
-/// Returns the bytes of a list. They are the bytes from which the list was read, except that the
+/// Returns the bytes of a list. These are the bytes from which the list was read, except that the
 /// body of an unused block (EFI_HOB_TYPE_UNUSED) is zeros. (PI specification, volume 3, section 5.)
 ///
 /// # Errors

@@ -49,7 +49,7 @@ rows_of_nodes depth nesting number (node ∷ nodes) =
     record { depth = depth; nesting = nesting; number = number; node = node }
     ∷ (rows_inside (depth + 1) (nesting_inside nesting node) node ++ rows_of_nodes depth nesting (number + 1) nodes)
 
--- the rows that are left in some levels, the first of which is at this depth. The last level is the innermost, and its
+-- the rows that are left in some levels; the first level is at this depth. The last level is the innermost, and its
 -- rows come first
 abbrev pub left_in : ℕ → List Level → List TreeRow
 left_in depth [] = []

@@ -5,7 +5,7 @@ use Rattle.std.specs.List.{AllByRecursion}
 use Rattle.fv_base.specs.Words.{bytes_of, words_of, le}
 use Rattle.fv_base.specs.declared.guid.Guid.{Guid}
 
--- b is the 16-bit units of a text, none of which is zero, followed by one zero unit
+-- b consists of the 16-bit units of a text, followed by a zero unit; no unit of the text is zero
 pub record IsText (b text : List ℕ) : Type 0 where
   pub joined : b ≡ text ++ (0 ∷ 0 ∷ [])
   pub whole_units : length text % 2 ≡ 0

@@ -116,8 +116,8 @@ impl<'a> FrameWalk<'a> {
         })
     }
 
-    /// Returns the next frame, or None after the last one. It cannot fail, because all frames were
-    /// checked when the walk began. Allocates no memory. (PI specification, volume 3, section
+    /// Returns the next frame, or None after the last one. The call cannot fail, because all frames
+    /// were checked when the walk began. Allocates no memory. (PI specification, volume 3, section
     /// 3.2.4.)
     pub fn next_frame(&mut self) -> Option<Frame<'a>>
         // The returned frame is the first of the remaining frames, and the others still remain.

@@ -23,7 +23,7 @@ fn none_zero(units: &[u8]) -> bool
     true
 }
 
-// Returns whether the bytes are 16-bit units of which only the last one is zero.
+// Returns whether the bytes are 16-bit units, and only the last unit is zero.
 fn is_text(bytes: &[u8]) -> bool
     ensures { result ≡ is_text bytes.now }
 {

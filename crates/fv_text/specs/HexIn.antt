@@ -60,8 +60,8 @@ TextFault text fault =
     (IsNotDigitPairs text × (fault ≡ outer_fault kinds.ReadFault 0))
     ⊎ (IsLongText text × (fault ≡ outer_fault kinds.Length volume_limit))
 
--- reading hexadecimal text stopped with this fault, and if it is ReadFault, the port's error flag is set; or the text
--- was read to its end, and is rejected with this fault
+-- reading hexadecimal text stopped with this fault, and if the fault is ReadFault, the port's error flag is set; or the
+-- text was read to its end, and is rejected with this fault
 pub record TextStops (old new : Option (List ℕ)) (erred : Bool) (fault : Fault) : Type 0 where
   pub cause : (StopsWithin text_limit old new fault × (fault.kind ≡ kinds.ReadFault → erred ≡ true))
       ⊎ ((text : List ℕ) × GivesAll old new text × (length text ≤ text_limit) × TextFault text fault)

@@ -37,6 +37,7 @@ pub record Ports : Type 0 where
 abbrev pub Writes : PortView → PortView → List ℕ → Type 0
 Writes old new text = Appends old.bytes new.bytes text × (new.erred ≡ old.erred)
 
--- a write of the text failed: only its first n bytes were written, which are not all of it, and the error flag is set
+-- a write of the text failed: only the first n bytes of the text were written, which are not the whole text, and the
+-- error flag is set
 abbrev pub StopsIn : PortView → PortView → List ℕ → Type 0
 StopsIn old new text = (n : ℕ) × (n < length text) × Appends old.bytes new.bytes (take n text) × (new.erred ≡ true)

@@ -2,7 +2,8 @@
 
 ghost use Rattle.std.specs.Prelude.{◌≡◌, ◌≤◌, ◌+◌, ◌++◌, length, take};
 
-/// Copies the bytes into the buffer, to the offset `at` in bytes. They must fit.
+/// Copies the bytes into the buffer, to the offset `at` in bytes. The bytes must fit into the
+/// buffer there.
 pub(crate) fn copy_to(buffer: &mut [u8], at: usize, bytes: &[u8])
     requires { at + length bytes.now ≤ length buffer.old }
     ensures copied { take (at + length bytes.now) buffer.new ≡ take at buffer.old ++ bytes.now }

@@ -22,8 +22,8 @@ pub(crate) fn take_odd(digits: &mut Vec<u8>) -> Option<u8>
     }
 }
 
-// Returns the value of a digit, in upper or lower case, or 16 if the byte is not a digit. It has no
-// branch that random digits would mispredict.
+// Returns the value of a digit, in upper or lower case, or 16 if the byte is not a digit. The
+// function has no branch that random digits would mispredict.
 fn digit_value(byte: u8) -> u8
     ensures { result ≡ value_or_16 byte }
 {

@@ -44,7 +44,7 @@ impl fmt::Display for Escaped<'_> {
     }
 }
 
-/// A message for a person, which `Display` writes. It is not part of the result of a run.
+/// A message for a person, which `Display` writes. The message is not part of the result of a run.
 #[derive(Clone, Copy)]
 pub enum Advice<'a> {
     /// Standard input is read next.

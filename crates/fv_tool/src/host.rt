@@ -49,8 +49,8 @@ pub trait Process {
     /// Returns whether standard error is a terminal, so that a person sees the messages.
     fn is_at_terminal(&self) -> bool;
 
-    /// Shows the message to the person at the terminal, if there is one. It is not part of the
-    /// result of the run: if it cannot be shown, nothing changes.
+    /// Shows the message to the person at the terminal, if there is one. The message is not part of
+    /// the result of the run: if it cannot be shown, nothing changes.
     fn advise(&self, advice: Advice<'_>);
 
     /// Returns whether standard output was asked to write any bytes. Only messages depend on it.

@@ -143,9 +143,9 @@ fn exit_with(status: Status) -> ExitCode
 }
 
 // Runs the plan that the arguments of a process ask for, and explains at a terminal how the run
-// ended. Returns the exit code for the status with which the run ended, and the output.
-// The last call to the output was a flush, unless the status is Refused and a call to the output
-// has failed. This holds for any process: whatever its arguments are, whatever opens its files, and
+// ended. Returns the exit code for the status with which the run ended, and the output. The last
+// call to the output was a flush, unless the status is Refused and a call to the output has failed.
+// The clause holds for any process: whatever its arguments are, whatever opens its files, and
 // wherever it writes.
 fn process<P: Opener + Process>(alloc: Global, process: &P) -> (ExitCode, Port<P::Writer>)
     ensures { (writer : P.Writer) × P.is_output process.now writer

@@ -122,6 +122,6 @@ Accepted b m = IsBytes b × Denotes depth_limit b m
 
 -- ---- a fact about everything that was read
 
--- some bytes are a volume with this meaning: true of every `VolumeView`
+-- some bytes are a volume with this meaning; this is true of every `VolumeView`
 abbrev pub IsMeaning : Meaning → Type 0
 IsMeaning m = (n : ℕ) × (n ≤ depth_limit) × (b : List ℕ) × IsBytes b × Denotes n b m

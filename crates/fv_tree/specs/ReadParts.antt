@@ -15,7 +15,7 @@ IsStoredFile f =
     (system : FileSystem) × (polarity : Polarity) × (b : List ℕ) × IsBytes b × (length b ≤ volume_limit)
     × IsCell system polarity (Valid f.offset f.head f.payload) b
 
--- a valid file in some bytes has this meaning: true of every `FileView`
+-- a valid file in some bytes has this meaning; this is true of every `FileView`
 abbrev pub IsReadFile : FileMeaning → Type 0
 IsReadFile m = (n : ℕ) × (n ≤ depth_limit) × (f : FileForm) × IsStoredFile f × MeansFile (Stream n) f m
 
@@ -23,6 +23,6 @@ IsReadFile m = (n : ℕ) × (n ≤ depth_limit) × (f : FileForm) × IsStoredFil
 abbrev pub IsStoredFrame : FrameForm → Type 0
 IsStoredFrame f = (b : List ℕ) × IsBytes b × (length b ≤ volume_limit) × HasFrameAt f f.offset b
 
--- a frame in some bytes has this meaning: true of every `SectionView`
+-- a frame in some bytes has this meaning; this is true of every `SectionView`
 abbrev pub IsReadSection : SectionMeaning → Type 0
 IsReadSection m = (n : ℕ) × (n ≤ depth_limit) × (f : FrameForm) × IsStoredFrame f × MeansSection n f m

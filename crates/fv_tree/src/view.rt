@@ -80,7 +80,7 @@ enum Parts<'a> {
         len: u32,
         sections: Sections<'a>,
     },
-    /// A volume. It is behind a pointer, so that sections without a volume stay small.
+    /// A volume. The volume is behind a pointer, so that sections without a volume stay small.
     Nested {
         kind: u8,
         extended: bool,

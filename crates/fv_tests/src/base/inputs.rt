@@ -138,8 +138,8 @@ fn read_count(alloc: Global, reader: &mut Port<CountingReader>) -> Result<usize,
     }
 }
 
-// Returns whether reading has this outcome after this many calls, the largest of which asks for
-// this many bytes.
+// Returns whether reading has this outcome after this many calls, and whether the largest call asks
+// for this many bytes.
 fn is_read_in(
     alloc: Global,
     mut reader: Port<CountingReader>,
