@@ -52,7 +52,7 @@ pads polarity (suc n) gap =
     else (pad_bytes polarity long_pad ++ pads polarity n (gap - long_pad))
 
 -- the bytes of a gap between an edge and the next file: none if the gap is empty, and otherwise its pads. A gap has
--- fewer pads than bytes
+-- fewer pads than bytes, so its number of bytes is a bound on the pads
 unfoldable pub gap_bytes : Polarity → ℕ → List ℕ
 gap_bytes polarity gap = if gap == 0 then [] else pads polarity gap gap
 

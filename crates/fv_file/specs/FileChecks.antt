@@ -71,7 +71,7 @@ file_checks system alive p r =
     ∷ check (skips_data alive r || has_file_sum r) kinds.FileSum (p + 17)
     ∷ []
 
--- the checks of a stub, which is a header under construction or an invalid header
+-- the only check of a stub (a header under construction or an invalid header): the header is complete
 abbrev pub stub_checks : ℕ → List ℕ → List (Check Fault)
 stub_checks p r = check (nat_le (file_header_len_at r) (length r)) kinds.FileSize (p + 20) ∷ []
 

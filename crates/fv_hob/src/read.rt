@@ -26,7 +26,7 @@ fn is_hob_len(len: usize) -> bool
 }
 
 // Returns the length of the block at the start of `rest`, or the kind of fault of the first check
-// that fails.
+// that fails. `first` says whether this is the first block of the list.
 fn check_block(rest: &[u8], first: bool) -> Result<usize, HobFaultKind>
     ensures ok { IfOk result (λ len. (first_fault (hob_checks first rest.now) ≡ None) × (len ≡ hob_len_at rest.now)) }
     ensures err { IfErr result (λ kind. first_fault (hob_checks first rest.now) ≡ Some kind) }
