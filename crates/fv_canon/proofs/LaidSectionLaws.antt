@@ -93,7 +93,7 @@ pub section_passed : (ss : List SectionMeaning) (i : ℕ) (s : SectionMeaning) (
     → ComesTo (volumes_in_sections (sections_from (drop i ss))) starts last
     → BeginsWithStarts (volumes_in_section s) starts
     × ComesTo (volumes_in_sections (sections_from (drop (i + 1) ss))) (drop (starts_in (volumes_in_section s)) starts) last
-section_passed = item_passed (λ xs. volumes_in_sections (sections_from xs)) volumes_in_section refl (λ x xs. refl)
+section_passed = item_passed (λ xs. volumes_in_sections (sections_from xs)) volumes_in_section (λ x xs. refl)
 
 pub in_body : (s : SectionMeaning) → starts_in (volumes_in_section s) ≡ starts_in (volumes_in_body (body_of s))
 in_body s = ap starts_in (in_section s) ∙ count_deeper (volumes_in_body (body_of s))
