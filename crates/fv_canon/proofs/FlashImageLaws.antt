@@ -129,25 +129,19 @@ covered_known b o [] k all = inr none where
   none : IsCovered b [] k → ⊥
   none (p, m, (j, l, e), w, low, high) = omega (arith, l)
 covered_known b o (p ∷ ps) k ((n, v, to), all) = go (cases_lt k p) (cases_lt k (p + n)) (covered_known b o ps k all) where
-  before : k < p → (IsCovered b ps k → ⊥) → IsCovered b (p ∷ ps) k → ⊥
-  before less none (q, m, has, w, low, high) = at (first_or_behind p ps q has) where
+  outside : (k < p) ⊎ (p + n ≤ k) → (IsCovered b ps k → ⊥) → IsCovered b (p ∷ ps) k → ⊥
+  outside away none (q, m, has, w, low, high) = at (first_or_behind p ps q has) where
     at : (p ≡ q) ⊎ Contains ps q → ⊥
-    at (inl e) = omega (arith, e, less, low)
-    at (inr h) = none (q, m, h, w, low, high)
-
-  past : p + n ≤ k → (IsCovered b ps k → ⊥) → IsCovered b (p ∷ ps) k → ⊥
-  past most none (q, m, has, w, low, high) = at (first_or_behind p ps q has) where
-    at : (p ≡ q) ⊎ Contains ps q → ⊥
-    at (inl e) = omega (arith, e, most, high, one_length b p n m v (subst (λ (i : ℕ). VolumeAt b i m) (sym e) w))
+    at (inl e) = omega (arith, e, away, low, high, one_length b p n m v (subst (λ (i : ℕ). VolumeAt b i m) (sym e) w))
     at (inr h) = none (q, m, h, w, low, high)
 
   go : (k < p) ⊎ (p ≤ k) → (k < p + n) ⊎ (p + n ≤ k) → IsCovered b ps k ⊎ (IsCovered b ps k → ⊥)
       → IsCovered b (p ∷ ps) k ⊎ (IsCovered b (p ∷ ps) k → ⊥)
   go (inr at) (inl inside) _ = inl (p, n, (0, omega arith, refl), v, at, inside)
   go (inr at) (inr most) (inl c) = inl (c.0, c.1, one_behind p ps c.0 c.2, c.3, c.4, c.5)
-  go (inr at) (inr most) (inr none) = inr (past most none)
+  go (inr at) (inr most) (inr none) = inr (outside (inr most) none)
   go (inl less) _ (inl c) = inl (c.0, c.1, one_behind p ps c.0 c.2, c.3, c.4, c.5)
-  go (inl less) _ (inr none) = inr (before less none)
+  go (inl less) _ (inr none) = inr (outside (inl less) none)
 
 -- the canonical image of the volume at a place, given the volume's length
 image_at : (b places o : List ℕ) (p n : ℕ) → NormalisesEach b places o → Contains places p → VolumeAt b p n

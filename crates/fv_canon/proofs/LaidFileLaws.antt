@@ -70,9 +70,9 @@ here_is total e f fs s ss placed =
       stands = st;
       low = low st.lawful.gap;
       apart = apart st.lawful.gap;
-      multiple = eighth st.lawful.gap;
+      multiple = omega (arith, st.lawful.gap, placed.eighth, placed.follow.0.lawful.eighth);
       most =
-          small (data_len_of f) (head_len_for (data_len_of f)) (header_least (needs_large (data_len_of f))) (low st.lawful.gap) st.within;
+          omega (arith, header_least (needs_large (data_len_of f)), low st.lawful.gap, st.within, placed.after_header, placed.limit);
       ends = st.within;
       next = omega (arith, st.within, placed.multiple);
     }
@@ -84,12 +84,6 @@ here_is total e f fs s ss placed =
     apart : (s ≡ e) ⊎ (e + 24 ≤ s) → (s - e ≡ 0) ⊎ (24 ≤ s - e)
     apart (inl a) = inl (omega arith)
     apart (inr a) = inr (omega arith)
-
-    eighth : (s ≡ e) ⊎ (e + 24 ≤ s) → (s - e) % 8 ≡ 0
-    eighth a = omega (arith, placed.eighth, placed.follow.0.lawful.eighth)
-
-    small : (n k : ℕ) → 24 ≤ k → e ≤ s → s + (k + n) ≤ total → n ≤ data_limit
-    small n k l o w = omega (arith, l, o, w, placed.after_header, placed.limit)
 
 pub placed_on : (total e : ℕ) (f : FileMeaning) (fs : List FileMeaning) (s : ℕ) (ss : List ℕ) → ArePlaced total e (f ∷ fs) (s ∷ ss)
     → ArePlaced total (up_to_8 (s + size_for (data_len_of f))) fs ss
