@@ -146,11 +146,5 @@ pad_cell system p size least most multiple at =
     let head : FileHead = pad_fields size (slice_index h 16) in
     let cell = head_of_pad p head h written refl refl refl in
     subst (λ (x : List ℕ). IsCell system p (Pad at head payload) (h ++ x)) (append-nil payload)
-    (cell system at payload [] (sized (length h) (length payload) (length-pad_head size p) (length-replicate (size - 24) (erased_byte p)))
-    (omega arith) (whole size multiple))
-  where
-    sized : (a b : ℕ) → a ≡ 24 → b ≡ size - 24 → size ≡ a + b
-    sized a b e f = omega (arith, least)
-
-    whole : (n : ℕ) → n % 8 ≡ 0 → (n + 0) % 8 ≡ 0
-    whole n e = omega arith
+    (cell system at payload [] (omega (arith, length-pad_head size p, length-replicate (size - 24) (erased_byte p), least))
+    (omega arith) (omega (arith, multiple)))

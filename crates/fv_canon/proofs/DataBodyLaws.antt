@@ -1,10 +1,9 @@
 -- The data of a file can be seen as the body of a section: this body has the same volumes, the same bytes, the same
 -- number of values and the same depth.
-use Rattle.std.proofs.Common.{◌≡◌, ◌<◌, ◌≤◌, ◌+◌, ℕ, List, length, get_or, refl, arith}
-use Rattle.fv_tree.specs.Words.{FileMeaning, File, Plain, Sectioned, content_of, files_from}
+use Rattle.std.proofs.Common.{◌≡◌, ◌+◌, ℕ, List, refl}
+use Rattle.fv_tree.specs.Words.{FileMeaning, File, Plain, Sectioned, content_of}
 use Rattle.fv_tree.specs.Words.{volumes_in_body, volumes_in_content, volumes_in_file}
-use Rattle.fv_tree.specs.inner.Sizes.{body_size, file_size, files_size}
-use Rattle.fv_tree.proofs.Laws.{file_falls}
+use Rattle.fv_tree.specs.inner.Sizes.{body_size, file_size}
 use Rattle.fv_canon.specs.inner.ImageOf.{data_body, body_image, data_of}
 
 pub data_volumes : (m : FileMeaning) → volumes_in_body (data_body m) ≡ volumes_in_file m
@@ -22,7 +21,3 @@ data_image (File name kind attributes (Sectioned ss tail)) starts = refl
 pub data_size : (m : FileMeaning) → file_size m ≡ body_size (data_body m) + 1
 data_size (File name kind attributes (Plain b)) = refl
 data_size (File name kind attributes (Sectioned ss tail)) = refl
-
-pub data_falls : (fs : List FileMeaning) (i : ℕ) (m : FileMeaning) → i < length fs → m ≡ get_or fs i m
-    → body_size (data_body m) + 2 ≤ files_size (files_from fs)
-data_falls fs i m l is = omega (arith, file_falls fs i m l is, data_size m)

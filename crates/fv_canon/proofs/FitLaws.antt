@@ -4,7 +4,7 @@ use Rattle.std.proofs.Common.{◌≡◌, ◌⊎◌, inl, inr, ◌+◌, ℕ, List
 use Rattle.fv_base.specs.declared.fault.Fault.{Fault}
 use Rattle.fv_base.specs.declared.fault.FaultKind.TheVariants as kinds
 use Rattle.fv_head.specs.Words.{first_edge}
-use Rattle.fv_placement.specs.Words.{HasNoRoom, TopMisaligned, IsFirstPlacement}
+use Rattle.fv_placement.specs.Words.{IsFirstPlacement}
 use Rattle.fv_placement.proofs.Laws.{agree, placed_or_not, top_none}
 use Rattle.fv_tree.specs.Words.{Meaning, head_of, length_of, Inside, volumes_in}
 use Rattle.fv_canon.specs.Words.{IsOfLayout, Rejects, WhatDoesNotFitIsRejected, placement_items, AreStarts, IsPlaced, Fits, AreLeast, StartsOfEach}
@@ -62,15 +62,13 @@ least_laid m starts laid = least_are (volumes_in m) starts laid
 
 here_or : (m : Meaning) (depth : ℕ) → ((starts : List ℕ)
     × IsFirstPlacement (length_of m) (first_edge (head_of m) (head_of m).ext) (placement_items m) starts) ⊎ ((f : Fault) × UnfitHere m depth f)
-here_or m depth = go (placed_or_not (length_of m) (first_edge (head_of m) (head_of m).ext) (placement_items m))
-  where
-    go : ((starts : List ℕ) × IsFirstPlacement (length_of m) (first_edge (head_of m) (head_of m).ext) (placement_items m) starts)
-        ⊎ (TopMisaligned (length_of m) (placement_items m)
-        ⊎ HasNoRoom (length_of m) (first_edge (head_of m) (head_of m).ext) (placement_items m)) → ((starts : List ℕ)
-        × IsFirstPlacement (length_of m) (first_edge (head_of m) (head_of m).ext) (placement_items m) starts) ⊎ ((f : Fault) × UnfitHere m depth f)
-    go (inl placed) = inl placed
-    go (inr (inl off)) = inr (layout_fault kinds.TopAlignment depth, inl (off, refl))
-    go (inr (inr short)) = inr (layout_fault kinds.NoRoom depth, inr (short, refl))
+here_or m depth = elim (placed_or_not (length_of m) (first_edge (head_of m) (head_of m).ext) (placement_items m)) [
+  | inl placed ↦ inl placed
+  | inr other ↦ elim other [
+    | inl off ↦ inr (layout_fault kinds.TopAlignment depth, inl (off, refl))
+    | inr short ↦ inr (layout_fault kinds.NoRoom depth, inr (short, refl))
+  ]
+]
 
 all_or : (vs : List Inside) (depth : ℕ) → AllFit vs ⊎ ((f : Fault) × FirstUnplaced vs depth f)
 all_or [] depth = inl tt

@@ -17,7 +17,7 @@ use Rattle.fv_head.specs.declared.extent.Extent.{Extent}
 use Rattle.fv_tree.specs.Words.{moved_fault, BytesFollowVolume, IsFirstOfInput, IsFirstOfVolume, Meaning, NotRead, head_of, length_of, outermost}
 use Rattle.fv_tree.proofs.Laws.{fault_refuses, fault_stands, first_once, front_of, one_meaning, stands_other}
 use Rattle.fv_base.specs.Words.{First}
-use Rattle.fv_canon.specs.ImageChecks.{AreCanonical, AreChecked, CanonicalImagesStay, ChecksImage, HasOutcome, IsChecked}
+use Rattle.fv_canon.specs.ImageChecks.{AreCanonical, CanonicalImagesStay, ChecksImage, HasOutcome, IsChecked}
 use Rattle.fv_canon.specs.Words.{IsImage, IsNormalisedAt, NormalisesTo}
 use Rattle.fv_canon.specs.declared.image_check.VolumeCheck.{VolumeCheck}
 use Rattle.fv_canon.specs.declared.image_check.VolumeOutcome.{VolumeOutcome}
@@ -66,34 +66,31 @@ one_outcome at b (Rejected f) (Rejected g) (own, bad, e) (own', bad', e') =
 one_check : (b : List ℕ) (c d : VolumeCheck) → c.offset ≡ d.offset → IsChecked b c → IsChecked b d → c ≡ d
 one_check b c d same (v, has) (w, has') =
     let long : c.length ≡ d.length = one_length b d.offset c.length d.length (subst (λ (k : ℕ). VolumeAt b k c.length) same v) w in
-    let there : HasOutcome d.offset (field d.offset c.length b) c.outcome =
-    subst (λ (k : ℕ). HasOutcome k (field k c.length b) c.outcome) same has in
-    let has_it : HasOutcome d.offset (field d.offset d.length b) c.outcome =
-    subst (λ (n : ℕ). HasOutcome d.offset (field d.offset n b) c.outcome) long there in
+    let has_it : HasOutcome d.offset (field d.offset d.length b) c.outcome = rw (← same, ← long) has in
     let out : c.outcome ≡ d.outcome = one_outcome d.offset (field d.offset d.length b) c.outcome d.outcome has_it has' in
     let made : ℕ → ℕ → VolumeOutcome → VolumeCheck = λ o n x. record { offset = o; length = n; outcome = x } in
     ap (λ (o : ℕ). made o c.length c.outcome) same ∙ (ap (λ (n : ℕ). made d.offset n c.outcome) long
     ∙ ap (λ (x : VolumeOutcome). made d.offset d.length x) out)
 
+-- the offsets of some checks
+abbrev offsets_in : List VolumeCheck → List ℕ
+offsets_in checks = map (λ (c : VolumeCheck). c.offset) checks
+
 -- so the volumes at some places have at most one list of checks
-each_one : (b offsets : List ℕ) (xs ys : List VolumeCheck) → AreChecked b offsets xs → AreChecked b offsets ys → xs ≡ ys
-each_one b [] [] [] (at, all) (at', all') = refl
-each_one b [] (x ∷ xs) ys (at, all) other = let bad : x.offset ∷ map (λ (c : VolumeCheck). c.offset) xs ≡ [] = at in cc
-each_one b [] [] (y ∷ ys) (at, all) (at', all') = let bad : y.offset ∷ map (λ (c : VolumeCheck). c.offset) ys ≡ [] = at' in cc
-each_one b (o ∷ os) [] ys (at, all) other = let bad : [] ≡ o ∷ os = at in cc
-each_one b (o ∷ os) (x ∷ xs) [] (at, all) (at', all') = let bad : [] ≡ o ∷ os = at' in cc
-each_one b (o ∷ os) (x ∷ xs) (y ∷ ys) (at, (is, all)) (at', (is', all')) =
-    let first : x.offset ≡ o = cc in
-    let other : y.offset ≡ o = cc in
-    let rest : map (λ (c : VolumeCheck). c.offset) xs ≡ os = cc in
-    let rest' : map (λ (c : VolumeCheck). c.offset) ys ≡ os = cc in
-    ap (λ (c : VolumeCheck). c ∷ xs) (one_check b x y (first ∙ sym other) is is')
-    ∙ ap (λ (l : List VolumeCheck). y ∷ l) (each_one b os xs ys (rest, all) (rest', all'))
+each_one : (b : List ℕ) (xs ys : List VolumeCheck) → offsets_in xs ≡ offsets_in ys → AllByRecursion (IsChecked b) xs
+    → AllByRecursion (IsChecked b) ys → xs ≡ ys
+each_one b [] [] at all all' = refl
+each_one b [] (y ∷ ys) at all all' = let bad : [] ≡ y.offset ∷ offsets_in ys = at in cc
+each_one b (x ∷ xs) [] at all all' = let bad : x.offset ∷ offsets_in xs ≡ [] = at in cc
+each_one b (x ∷ xs) (y ∷ ys) at (is, all) (is', all') =
+    let first : x.offset ≡ y.offset = cc in
+    let rest : offsets_in xs ≡ offsets_in ys = cc in
+    ap (λ (c : VolumeCheck). c ∷ xs) (one_check b x y first is is') ∙ ap (λ (l : List VolumeCheck). y ∷ l) (each_one b xs ys rest all all')
 
 -- so the volumes of an image have at most one list of checks
 pub checks_one : (b : List ℕ) (xs ys : List VolumeCheck) → ChecksImage b xs → ChecksImage b ys → xs ≡ ys
-checks_one b xs ys (short, offsets, found, are) (short', offsets', found', are') =
-    each_one b offsets' xs ys (subst (λ (l : List ℕ). AreChecked b l xs) (one_found b offsets offsets' found found') are) are'
+checks_one b xs ys (short, offsets, found, (at, all)) (short', offsets', found', (at', all')) =
+    each_one b xs ys (at ∙ (one_found b offsets offsets' found found' ∙ sym at')) all all'
 
 -- ---- 2. a volume that is rejected
 
@@ -123,45 +120,29 @@ is_rejected at b own f why other moved kind =
 -- ---- 3. an image whose volumes are all canonical
 
 -- if all checks are Canonical, the image has the canonical image of each volume
-renewed_own : (b offsets : List ℕ) (checks : List VolumeCheck) → AreChecked b offsets checks → AreCanonical checks
-    → AllByRecursion (IsNormalisedAt b b) offsets
-renewed_own b [] [] (at, all) own = tt
-renewed_own b [] (c ∷ cs) (at, all) own = tt
-renewed_own b (o ∷ os) [] (at, all) own = let bad : [] ≡ o ∷ os = at in cc
-renewed_own b (o ∷ os) (c ∷ cs) (at, ((v, has), all)) (is, own) =
-    let first : c.offset ≡ o = cc in
-    let rest : map (λ (d : VolumeCheck). d.offset) cs ≡ os = cc in
+renewed_own : (b : List ℕ) (checks : List VolumeCheck) → AllByRecursion (IsChecked b) checks → AreCanonical checks
+    → AllByRecursion (IsNormalisedAt b b) (offsets_in checks)
+renewed_own b [] all own = tt
+renewed_own b (c ∷ cs) ((v, has), all) (is, own) =
     let to : NormalisesTo (field c.offset c.length b) (field c.offset c.length b) =
     subst (HasOutcome c.offset (field c.offset c.length b)) is has in
-    (subst (IsNormalisedAt b b) first (c.length, v, to), renewed_own b os cs (rest, all) own)
+    ((c.length, v, to), renewed_own b cs all own)
 
--- if a volume is its own canonical image, its outcome is Canonical
-is_own : (at : ℕ) (b : List ℕ) (x : VolumeOutcome) → HasOutcome at b x → NormalisesTo b b → x ≡ Canonical
-is_own at b x has to = one_outcome at b x Canonical has to
-
-own_renewed : (b offsets : List ℕ) (checks : List VolumeCheck) → AreChecked b offsets checks → AllByRecursion (IsNormalisedAt b b) offsets
-    → AreCanonical checks
-own_renewed b offsets [] (at, all) renewed = tt
-own_renewed b [] (c ∷ cs) (at, all) renewed = let bad : c.offset ∷ map (λ (d : VolumeCheck). d.offset) cs ≡ [] = at in cc
-own_renewed b (o ∷ os) (c ∷ cs) (at, ((v, has), all)) ((n, w, to), renewed) =
-    let first : o ≡ c.offset = cc in
-    let rest : map (λ (d : VolumeCheck). d.offset) cs ≡ os = cc in
-    let there : VolumeAt b c.offset n = subst (λ (k : ℕ). VolumeAt b k n) first w in
-    let long : n ≡ c.length = one_length b c.offset n c.length there v in
+-- if each volume is its own canonical image, all checks are Canonical
+own_renewed : (b : List ℕ) (checks : List VolumeCheck) → AllByRecursion (IsChecked b) checks
+    → AllByRecursion (IsNormalisedAt b b) (offsets_in checks) → AreCanonical checks
+own_renewed b [] all renewed = tt
+own_renewed b (c ∷ cs) ((v, has), all) ((n, w, to), renewed) =
     let own : NormalisesTo (field c.offset c.length b) (field c.offset c.length b) =
-    subst (λ (k : ℕ). NormalisesTo (field c.offset k b) (field c.offset k b)) long
-    (subst (λ (k : ℕ). NormalisesTo (field k n b) (field k n b)) first to) in
-    (is_own c.offset (field c.offset c.length b) c.outcome has own, own_renewed b os cs (rest, all) renewed)
+    subst (λ (k : ℕ). NormalisesTo (field c.offset k b) (field c.offset k b)) (one_length b c.offset n c.length w v) to in
+    (one_outcome c.offset (field c.offset c.length b) c.outcome Canonical has own, own_renewed b cs all renewed)
 
 pub canonical_images_stay : CanonicalImagesStay
-canonical_images_stay b checks (short, offsets, found, are) = (
-  λ own. (
-    short,
-    offsets,
-    found,
-    record { length_is = refl; volumes = renewed_own b offsets checks are own; others = λ k inside none. refl },
-  ),
+canonical_images_stay b checks (short, offsets, found, (at, all)) = (
+  λ own.
+      let each = subst (AllByRecursion (IsNormalisedAt b b)) at (renewed_own b checks all own) in
+      (short, offsets, found, record { length_is = refl; volumes = each; others = λ k inside none. refl }),
   λ (short', places, found', renewed).
-      own_renewed b offsets checks are
-      (subst (AllByRecursion (IsNormalisedAt b b)) (one_found b places offsets found' found) renewed.volumes),
+      own_renewed b checks all
+      (subst (AllByRecursion (IsNormalisedAt b b)) (one_found b places offsets found' found ∙ sym at) renewed.volumes),
 )

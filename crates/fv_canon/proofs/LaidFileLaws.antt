@@ -18,7 +18,7 @@ use Rattle.fv_canon.specs.inner.ImageOf.{stored_of, stored_file, data_of, starts
 use Rattle.fv_canon.specs.Words.{BeginsWithStarts, placement_item, stored_len, size_for, head_len_for, stored_bytes, gap_bytes}
 use Rattle.fv_canon.proofs.ImageParts.{ComesTo, TakesFront}
 use Rattle.fv_base.proofs.Laws.{item_at}
-use Rattle.fv_canon.proofs.VolumeListLaws.{item_last, item_passed}
+use Rattle.fv_canon.proofs.VolumeListLaws.{item_passed}
 use Rattle.fv_canon.proofs.WrittenImageLaws.{data_made, stream_made, sections_made}
 use Rattle.fv_placement.proofs.Laws.{follow_length}
 use Rattle.fv_canon.proofs.StreamImageLaws.{stream_again}
@@ -70,9 +70,9 @@ here_is total e f fs s ss placed =
       stands = st;
       low = low st.lawful.gap;
       apart = apart st.lawful.gap;
-      multiple = eighth st.lawful.gap;
+      multiple = omega (arith, st.lawful.gap, placed.eighth, placed.follow.0.lawful.eighth);
       most =
-          small (data_len_of f) (head_len_for (data_len_of f)) (header_least (needs_large (data_len_of f))) (low st.lawful.gap) st.within;
+          omega (arith, header_least (needs_large (data_len_of f)), low st.lawful.gap, st.within, placed.after_header, placed.limit);
       ends = st.within;
       next = omega (arith, st.within, placed.multiple);
     }
@@ -84,12 +84,6 @@ here_is total e f fs s ss placed =
     apart : (s ≡ e) ⊎ (e + 24 ≤ s) → (s - e ≡ 0) ⊎ (24 ≤ s - e)
     apart (inl a) = inl (omega arith)
     apart (inr a) = inr (omega arith)
-
-    eighth : (s ≡ e) ⊎ (e + 24 ≤ s) → (s - e) % 8 ≡ 0
-    eighth a = omega (arith, placed.eighth, placed.follow.0.lawful.eighth)
-
-    small : (n k : ℕ) → 24 ≤ k → e ≤ s → s + (k + n) ≤ total → n ≤ data_limit
-    small n k l o w = omega (arith, l, o, w, placed.after_header, placed.limit)
 
 pub placed_on : (total e : ℕ) (f : FileMeaning) (fs : List FileMeaning) (s : ℕ) (ss : List ℕ) → ArePlaced total e (f ∷ fs) (s ∷ ss)
     → ArePlaced total (up_to_8 (s + size_for (data_len_of f))) fs ss
@@ -133,11 +127,7 @@ pub file_passed : (fs : List FileMeaning) (i : ℕ) (f : FileMeaning) (starts la
     → ComesTo (volumes_in_files (files_from (drop i fs))) starts last
     → BeginsWithStarts (volumes_in_file f) starts
     × ComesTo (volumes_in_files (files_from (drop (i + 1) fs))) (drop (starts_in (volumes_in_file f)) starts) last
-file_passed = item_passed (λ xs. volumes_in_files (files_from xs)) volumes_in_file refl (λ x xs. refl)
-
-pub files_last : (fs : List FileMeaning) (i : ℕ) (starts last : List ℕ) → length fs ≤ i
-    → ComesTo (volumes_in_files (files_from (drop i fs))) starts last → starts ≡ last
-files_last = item_last (λ xs. volumes_in_files (files_from xs)) volumes_in_file refl (λ x xs. refl)
+file_passed = item_passed (λ xs. volumes_in_files (files_from xs)) volumes_in_file (λ x xs. refl)
 
 -- the bytes that are left at a file are its gap, the file and its filler, and then the files after it
 pub walk_goes : (p : Polarity) (total e : ℕ) (fs : List FileMeaning) (own : List ℕ) (i : ℕ) (f : FileMeaning) (starts : List ℕ)

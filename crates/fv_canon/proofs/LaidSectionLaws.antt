@@ -44,8 +44,7 @@ section_known (Section kind extended body) starts (n, l, f, (b, small, most, sta
       fits = subst (λ (x : Bool). FitsForm x (body_len body)) (sym form)
           (subst (FitsForm f.extended) (sym own) (fits f part stands.rest bytes stands.begins));
       long = ap (λ (xs : List ℕ). length (body_image body xs)) text ∙ again.long ∙ sym own;
-      small = below (section_len (Section kind extended body)) (frame_len f) (length part) (length b) (length stands.rest) f.offset
-          again.len (length_begun f part stands.rest stands.begins) (length-drop f.offset b) most;
+      small = omega (arith, again.len, length_begun f part stands.rest stands.begins, length-drop f.offset b, most);
     }
   where
     form_of : (n : ℕ) (m : SectionMeaning) (f : FrameForm) → MeansSection n f m → section_is_extended m ≡ f.extended
@@ -54,9 +53,6 @@ section_known (Section kind extended body) starts (n, l, f, (b, small, most, sta
 
     cancel : (x y : Bool) (n k : ℕ) → x ≡ y → section_header_len y + n ≡ section_header_len x + k → k ≡ n
     cancel x y n k e h = let same : section_header_len x ≡ section_header_len y = ap section_header_len e in omega (arith, h, same)
-
-    below : (s z p b r o : ℕ) → z ≡ s → p ≡ z + r → p ≡ b - o → b ≤ volume_limit → s < 2 ^ 32
-    below s z p b r o e g h l = omega (arith, e, g, h, l)
 
 -- ---- a stream is its first section followed by the others
 stream_goes : (at : ℕ) (s : SectionMeaning) (ss : SectionMeanings) (starts : List ℕ) (tail : ℕ)
@@ -93,7 +89,7 @@ pub section_passed : (ss : List SectionMeaning) (i : ℕ) (s : SectionMeaning) (
     → ComesTo (volumes_in_sections (sections_from (drop i ss))) starts last
     → BeginsWithStarts (volumes_in_section s) starts
     × ComesTo (volumes_in_sections (sections_from (drop (i + 1) ss))) (drop (starts_in (volumes_in_section s)) starts) last
-section_passed = item_passed (λ xs. volumes_in_sections (sections_from xs)) volumes_in_section refl (λ x xs. refl)
+section_passed = item_passed (λ xs. volumes_in_sections (sections_from xs)) volumes_in_section (λ x xs. refl)
 
 pub in_body : (s : SectionMeaning) → starts_in (volumes_in_section s) ≡ starts_in (volumes_in_body (body_of s))
 in_body s = ap starts_in (in_section s) ∙ count_deeper (volumes_in_body (body_of s))

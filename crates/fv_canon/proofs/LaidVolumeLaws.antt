@@ -2,25 +2,28 @@
 -- 1. The offset of a volume's fault is the volume's place in the flash image (`told_at`). A volume that is laid out has
 --    an image (`has_image`).
 -- 2. If the first volumes are laid out and the next one is rejected, it is the first that is rejected (`lays_stop`).
--- 3. The images are put with the bytes between the volumes: none, the next, and all (`laid_none`, `laid_next`,
---    `laid_more`, `laid_all`).
+-- 3. The loop keeps `Puts`: the bytes that were put so far, followed by the rest of any renewed image, are a renewed
+--    image. It holds at first (`laid_none`) and after each volume (`laid_more`), and at the end all bytes are put
+--    (`laid_all`).
 -- 4. So a flash image whose volumes are laid out has a renewed image (`laid_renewed`).
 use Rattle.std.proofs.lemmas.Grind.{common_steps}
-use Rattle.std.proofs.Common.{◌≡◌, ◌≢◌, ◌⊎◌, ◌≤◌, ◌<◌, ◌+◌, ◌-◌, ℕ, zero, suc, List, [], ◌∷◌, ◌++◌, length, take, drop, get_or}
-use Rattle.std.proofs.Common.{refl, sym, ap, ◌∙◌, subst, arith, inl, inr}
+use Rattle.std.proofs.Common.{◌≡◌, ◌≢◌, ◌⊎◌, ◌≤◌, ◌<◌, ◌+◌, ◌-◌, ℕ, List, [], ◌∷◌, ◌++◌, length, take, drop, get_or}
+use Rattle.std.proofs.Common.{refl, sym, ap, ◌∙◌, subst, arith, inl, inr, append_assoc, length-append}
 use Rattle.std.specs.List.{AllByRecursion}
-use Rattle.std.proofs.lemmas.List.{drop_more, get_or-map, length-drop, length-map, length-take-le, map-append, take-append-drop}
+use Rattle.std.proofs.lemmas.List.{drop_more, length-drop, length-take-le, map-append, take-append-drop}
 use Rattle.fv_base.specs.Words.{out_of_memory, volume_limit, WalkLaws, field}
 use Rattle.fv_base.specs.declared.fault.Fault.{Fault}
 use Rattle.fv_base.proofs.Laws.{at_index, or_more, want_known}
-use Rattle.fv_flash.proofs.Laws.{at_within}
+use Rattle.fv_flash.proofs.Laws.{at_within, found_walk, one_length}
+use Rattle.fv_flash.specs.inner.FoundWalks.{FoundFrom}
 use Rattle.fv_tree.specs.Words.{Accepted, moved_fault, Meaning, head_of}
 use Rattle.fv_flash.specs.Words.{Found, VolumeAt, offsets_of}
 use Rattle.fv_flash.specs.declared.scanner.FoundVolume.{FoundVolume}
 use Rattle.fv_canon.specs.Words.{IsImage, NormalisesTo, Rejects, FirstRejected, HasImageAt, NormalisesAll, RejectedAt, AreLaid, IsLaid}
 use Rattle.fv_canon.specs.Words.{IsLaidOut, starts_of}
 use Rattle.fv_canon.specs.declared.flash_image.LocatedVolume.{LocatedVolume}
-use Rattle.fv_canon.proofs.FlashImageLaws.{Puts, next_of, puts_all, puts_more, puts_none}
+use Rattle.fv_canon.proofs.FlashImageLaws.{RenewsFrom, drop_joined, renewed_is, renews_more}
+use Rattle.fv_canon.proofs.ImageLaws.{image_stays_long}
 
 -- ---- one volume
 
@@ -66,79 +69,91 @@ lays_stop b found i d volumes f (same, all) less why = or_more why (λ rejected.
 
 -- ---- the loop over the volumes that are laid out
 
--- volume number i is laid out at its start
-laid_item : (b : List ℕ) (volumes : List LocatedVolume) (i : ℕ) (v : LocatedVolume) → AllByRecursion (IsLaid b) volumes → i < length volumes
-    → v ≡ get_or volumes i v → (get_or (starts_of volumes) i 0 ≡ v.start) × IsLaid b v
-laid_item b volumes i v all less is = (
-  get_or-map (λ (w : LocatedVolume). w.start) volumes i v 0 less ∙ ap (λ (w : LocatedVolume). w.start) (sym is),
-  subst (IsLaid b) (sym is) (at_index (IsLaid b) volumes i v all less),
-)
-
 -- the volume ends within the limit
 pub laid_ends : (b : List ℕ) (volumes : List LocatedVolume) (i : ℕ) (v : LocatedVolume) → IsLaidOut b volumes → i < length volumes
     → v ≡ get_or volumes i v → v.start + (head_of v.laid).length ≤ volume_limit
 laid_ends b volumes i v (short, places, found, (same, all)) less is =
-    let at = (laid_item b volumes i v all less is).1 in
-    let long : at.0 ≡ (head_of v.laid).length = laid_long b v.start at.0 v.laid at.1 at.2 in
-    omega (arith, short, at_within b v.start at.0 at.1, long)
+    let at : IsLaid b v = subst (IsLaid b) (sym is) (at_index (IsLaid b) volumes i v all less) in
+    omega (arith, short, at_within b v.start at.0 at.1, laid_long b v.start at.0 v.laid at.1 at.2)
+
+-- the sink took `bytes`, the first `from` bytes of a renewed image. Followed by bytes in which the volumes that are left
+-- are renewed, they make a whole renewed image
+pub record Puts {S : Type 0} (takes : S → List ℕ → S → Type 0) (s t : S) (b : List ℕ) (volumes left : List LocatedVolume) (from : ℕ) : Type 0 where
+  pub bytes : List ℕ
+  pub taken : takes s bytes t
+  pub long : length bytes ≡ from
+  pub inside : from ≤ length b
+  pub found : FoundFrom from b (starts_of left)
+  pub laid : AllByRecursion (IsLaid b) left
+  pub whole : (rest : List ℕ) → RenewsFrom from b (starts_of left) (bytes ++ rest) → RenewsFrom 0 b (starts_of volumes) (bytes ++ rest)
 
 module _ {S : Type 0} (takes : S → List ℕ → S → Type 0) (laws : WalkLaws takes) (s : S) (b : List ℕ) (volumes : List LocatedVolume) where
   -- at first nothing is put
-  pub laid_none : IsLaidOut b volumes → Puts takes s s b (starts_of volumes) 0 0
-  laid_none (short, places, found, (same, all)) =
-      puts_none takes laws s b (starts_of volumes) (subst (Found b) (sym same) found)
+  pub laid_none : IsLaidOut b volumes → Puts takes s s b volumes volumes 0
+  laid_none (short, places, found, (same, all)) = record {
+    bytes = [];
+    taken = laws.none s;
+    long = refl;
+    inside = omega arith;
+    found = found_walk b (starts_of volumes) (subst (Found b) (sym same) found);
+    laid = all;
+    whole = λ rest all. all;
+  }
 
   -- the next volume begins after the bytes that were put, and lies within the flash image
-  pub laid_next : {t : S} (i from : ℕ) (v : LocatedVolume) → IsLaidOut b volumes → Puts takes s t b (starts_of volumes) i from
-      → i < length volumes → v ≡ get_or volumes i v
-      → (from ≤ v.start) × (v.start ≤ length b)
-  laid_next i from v (short, places, found, (same, all)) puts less is =
-      let item = laid_item b volumes i v all less is in
-      let at = item.1 in
-      let counted : i < length (starts_of volumes) = omega (arith, length-map volumes (λ (w : LocatedVolume). w.start), less) in
-      let next = next_of takes laws s b (starts_of volumes) i from puts counted in (
-        omega (arith, next.0, item.0),
-        omega (arith, at_within b v.start at.0 at.1),
-      )
+  pub laid_next : {t : S} (left : List LocatedVolume) (from : ℕ) (v : LocatedVolume) (vs : List LocatedVolume)
+      → Puts takes s t b volumes left from → left ≡ v ∷ vs → (from ≤ v.start) × (v.start ≤ length b)
+  laid_next {t} left from v vs puts' now =
+      let puts = subst (λ (xs : List LocatedVolume). Puts takes s t b volumes xs from) now puts' in
+      (puts.found.1.0, omega (arith, at_within b v.start puts.laid.0.0 puts.laid.0.1))
 
   -- the bytes up to the volume and its image are put
-  pub laid_more : {t u w : S} (i from : ℕ) (v : LocatedVolume) (gap image : List ℕ) → IsLaidOut b volumes
-      → Puts takes s t b (starts_of volumes) i from → i < length volumes → v ≡ get_or volumes i v
-      → gap ≡ field from (v.start - from) b → takes t gap u → IsImage v.laid image → takes u image w
-      → Puts takes s w b (starts_of volumes) (i + 1) (v.start + (head_of v.laid).length)
-  laid_more {t} {u} {w} i from v gap image (short, places, found, (same, all)) puts less is gap_is put is_image put' =
-      let item = laid_item b volumes i v all less is in
-      let at = item.1 in
-      let n : ℕ = at.0 in
-      let counted : i < length (starts_of volumes) = omega (arith, length-map volumes (λ (w : LocatedVolume). w.start), less) in
-      let long : n ≡ (head_of v.laid).length = laid_long b v.start n v.laid at.1 at.2 in
-      let volume : VolumeAt b (get_or (starts_of volumes) i 0) n = subst (λ (k : ℕ). VolumeAt b k n) (sym item.0) at.1 in
-      let to : NormalisesTo (field (get_or (starts_of volumes) i 0) n b) image =
-      subst (λ (k : ℕ). NormalisesTo (field k n b) image) (sym item.0) (v.laid, at.2, is_image) in
-      let gap_at : gap ≡ field from (get_or (starts_of volumes) i 0 - from) b =
-      gap_is ∙ ap (λ (k : ℕ). field from (k - from) b) (sym item.0) in
-      let more = puts_more takes laws s b (starts_of volumes) i from n gap image puts counted volume gap_at put to put' in
-      subst (λ (k : ℕ). Puts takes s w b (starts_of volumes) (i + 1) k) (omega (arith, item.0, long)) more
+  pub laid_more : {t u w : S} (left : List LocatedVolume) (from : ℕ) (v : LocatedVolume) (vs : List LocatedVolume) (gap image : List ℕ)
+      → Puts takes s t b volumes left from → left ≡ v ∷ vs → gap ≡ field from (v.start - from) b → takes t gap u
+      → IsImage v.laid image → takes u image w → Puts takes s w b volumes vs (v.start + (head_of v.laid).length)
+  laid_more {t} {u} {w} left from v vs gap image puts' now is put is_image put' =
+      let puts = subst (λ (xs : List LocatedVolume). Puts takes s t b volumes xs from) now puts' in
+      let p : ℕ = v.start in
+      let n : ℕ = puts.laid.0.0 in
+      let volume : VolumeAt b p n = puts.laid.0.1 in
+      let to : NormalisesTo (field p n b) image = (v.laid, puts.laid.0.2, is_image) in
+      let low : from ≤ p = puts.found.1.0 in
+      let within : p + n ≤ length b = at_within b p n volume in
+      let same : puts.found.0 ≡ n = one_length b p puts.found.0 n puts.found.1.3 volume in
+      let gap_long : length gap ≡ p - from =
+      ap length is ∙ length-take-le (p - from) (drop from b) (omega (arith, length-drop from b, low, within)) in
+      let image_long : length image ≡ n =
+      image_stays_long (field p n b) image to ∙ length-take-le n (drop p b) (omega (arith, length-drop p b, within)) in
+      let front_long : length (puts.bytes ++ gap) ≡ p = omega (arith, length-append puts.bytes gap, puts.long, gap_long, low) in
+      let flat = λ (rest : List ℕ). append_assoc (puts.bytes ++ gap) image rest ∙ append_assoc puts.bytes gap (image ++ rest) in
+      let more : Puts takes s w b volumes vs (p + n) = record {
+        bytes = (puts.bytes ++ gap) ++ image;
+        taken = laws.joined (laws.joined puts.taken put) put';
+        long = omega (arith, length-append (puts.bytes ++ gap) image, front_long, image_long);
+        inside = within;
+        found = subst (λ (k : ℕ). FoundFrom (p + k) b (starts_of vs)) same puts.found.2;
+        laid = puts.laid.1;
+        whole = λ rest after. subst (RenewsFrom 0 b (starts_of volumes)) (sym (flat rest)) (puts.whole (gap ++ (image ++ rest))
+            (renews_more b (starts_of vs) puts.bytes gap image rest from p n low volume is puts.long gap_long front_long image_long to
+            (subst (RenewsFrom (p + n) b (starts_of vs)) (flat rest) after)));
+      } in
+      subst (λ (k : ℕ). Puts takes s w b volumes vs (p + k)) (laid_long b p n v.laid volume puts.laid.0.2) more
 
   -- after the last volume, the bytes after it are put, and the renewed image is complete
-  pub laid_all : {t u : S} (i from : ℕ) (rest : List ℕ) → IsLaidOut b volumes → Puts takes s t b (starts_of volumes) i from
-      → length volumes ≤ i → rest ≡ drop from b → takes t rest u
-      → (bytes : List ℕ) × NormalisesAll b bytes × takes s bytes u
-  laid_all i from rest (short, places, found, (same, all)) puts past is put =
-      let found' : Found b (starts_of volumes) = subst (Found b) (sym same) found in
-      let counted : length (starts_of volumes) ≤ i = omega (arith, length-map volumes (λ (w : LocatedVolume). w.start), past) in
-      let done = puts_all takes laws s b (starts_of volumes) i from rest found' puts counted is put in
-      (done.0, (short, starts_of volumes, found', done.1), done.2)
+  pub laid_all : {t u : S} (left : List LocatedVolume) (from : ℕ) (rest : List ℕ) → IsLaidOut b volumes → Puts takes s t b volumes left from
+      → left ≡ [] → rest ≡ drop from b → takes t rest u → (bytes : List ℕ) × NormalisesAll b bytes × takes s bytes u
+  laid_all {t} left from rest (short, places, found, (same, all)) puts' none is put =
+      let puts = subst (λ (xs : List LocatedVolume). Puts takes s t b volumes xs from) none puts' in
+      let o : List ℕ = puts.bytes ++ rest in
+      let walk : RenewsFrom 0 b (starts_of volumes) o = puts.whole rest (drop_joined puts.bytes rest from puts.long ∙ is) in
+      let long : length o ≡ length b =
+      omega (arith, length-append puts.bytes rest, ap length is, puts.long, length-drop from b, puts.inside) in (
+        o,
+        (short, starts_of volumes, subst (Found b) (sym same) found, renewed_is b (starts_of volumes) o walk long),
+        laws.joined puts.taken put,
+      )
 
 -- ---- the renewed image of volumes that are laid out
-
--- a list has an item at each place before its end
-item_at : {X : Type 0} (xs : List X) (i : ℕ) → i < length xs → (x : X) × (x ≡ get_or xs i x)
-item_at [] i less = absurd (never less) where
-  never : i < 0 → ⊥
-  never h = omega (arith, h)
-item_at (x ∷ xs) zero less = (x, refl)
-item_at (x ∷ xs) (suc i) less = item_at xs i (omega arith)
 
 -- a sink that keeps nothing
 abbrev nothing : Unit {0} → List ℕ → Unit {0} → Type 0
@@ -147,25 +162,16 @@ nothing s bytes t = Unit {0}
 nothing_by : WalkLaws nothing
 nothing_by = record { none = λ s. tt; joined = λ p q. tt }
 
--- the first i volumes can be put into this sink
-first_put : (b : List ℕ) (volumes : List LocatedVolume) (i : ℕ) → IsLaidOut b volumes → i ≤ length volumes
-    → (from : ℕ) × Puts nothing tt tt b (starts_of volumes) i from
-first_put b volumes zero laid few = (0, laid_none nothing nothing_by tt b volumes laid)
-first_put b volumes (suc i) laid few =
-    let less : i < length volumes = omega arith in
-    let item = item_at volumes i less in
-    let v : LocatedVolume = item.0 in
-    let before = first_put b volumes i laid (omega arith) in
-    let image = (laid_item b volumes i v laid.3.1 less item.1).1.3 in
-    let more = laid_more nothing nothing_by tt b volumes i before.0 v (field before.0 (v.start - before.0) b) image.0 laid before.1 less
-    item.1 refl tt image.1 tt in
-    let end : ℕ = v.start + (head_of v.laid).length in
-    let next : i + 1 ≡ suc i = omega arith in
-    (end, subst (λ (k : ℕ). Puts nothing tt tt b (starts_of volumes) k end) next more)
+-- the volumes that are left can be put into this sink
+all_put : (b : List ℕ) (volumes left : List LocatedVolume) (from : ℕ) → IsLaidOut b volumes → Puts nothing tt tt b volumes left from
+    → (bytes : List ℕ) × NormalisesAll b bytes
+all_put b volumes [] from laid puts =
+    let whole = laid_all nothing nothing_by tt b volumes [] from (drop from b) laid puts refl refl tt in (whole.0, whole.1)
+all_put b volumes (v ∷ vs) from laid puts =
+    let image = puts.laid.0.3 in
+    all_put b volumes vs (v.start + (head_of v.laid).length) laid (laid_more nothing nothing_by tt b volumes (v ∷ vs) from v vs
+    (field from (v.start - from) b) image.0 puts refl refl tt image.1 tt)
 
 -- if the volumes are laid out, the flash image has a renewed image
 pub laid_renewed : (b : List ℕ) (volumes : List LocatedVolume) → IsLaidOut b volumes → (bytes : List ℕ) × NormalisesAll b bytes
-laid_renewed b volumes laid =
-    let put = first_put b volumes (length volumes) laid (omega arith) in
-    let whole = laid_all nothing nothing_by tt b volumes (length volumes) put.0 (drop put.0 b) laid put.1 (omega arith) refl tt in
-    (whole.0, whole.1)
+laid_renewed b volumes laid = all_put b volumes volumes 0 laid (laid_none nothing nothing_by tt b volumes laid)

@@ -14,7 +14,6 @@ pub mod ImageFits
 pub mod ImageLaws
 pub mod ImageParts
 pub mod ImagePieceLaws
-pub mod ItemLaws
 pub mod LaidFileLaws
 pub mod LaidSectionLaws
 pub mod LaidVolumeLaws

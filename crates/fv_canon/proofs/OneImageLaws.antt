@@ -25,14 +25,11 @@ byte_in : (b : List ℕ) (p : PlacedBytes) (k : ℕ) → ContainsSpan b p → p.
     → get_or b k 0 ≡ get_or p.bytes (k - p.at) 0
 byte_in b p k stands low high =
     ap (λ (n : ℕ). get_or b n 0) (back p.at k low) ∙ sym (get_or-drop p.at b (k - p.at) 0)
-    ∙ sym (get_or-take (length p.bytes) (drop p.at b) (k - p.at) 0 (inside p.at k (length p.bytes) low high))
+    ∙ sym (get_or-take (length p.bytes) (drop p.at b) (k - p.at) 0 (omega (arith, low, high)))
     ∙ ap (λ (xs : List ℕ). get_or xs (k - p.at) 0) stands.1
   where
     back : (a k : ℕ) → a ≤ k → k ≡ a + (k - a)
     back a k l = omega arith
-
-    inside : (a k n : ℕ) → a ≤ k → k < a + n → k - a < n
-    inside a k n l h = omega arith
 
 same_byte : (ps : List PlacedBytes) (b c : List ℕ) (k e : ℕ) → AllByRecursion (ContainsSpan b) ps
     → AllByRecursion (ContainsSpan c) ps → (AllByRecursion (λ p. IsIn k p → ⊥) ps → get_or b k 0 ≡ e)

@@ -46,17 +46,11 @@ pads_rule p gap least eighth = (
   ),
 )
   where
-    less : (n : ℕ) → suc n - 0xffff00 ≤ n
-    less n = omega arith
-
-    same : (n : ℕ) → n ≤ n
-    same n = omega arith
-
     split : (gap : ℕ) → 0xfffff8 < gap → pads p gap gap ≡ pad_bytes p long_pad ++ pads p (gap - long_pad) (gap - long_pad)
     split zero past = absurd (omega (arith, past))
     split (suc n) past =
         pads_more p n (suc n) past ∙ ap (λ xs. pad_bytes p long_pad ++ xs)
-        (pads_enough p n (suc n - long_pad) (suc n - long_pad) (less n) (same (suc n - long_pad)))
+        (pads_enough p n (suc n - long_pad) (suc n - long_pad) (omega arith) (omega arith))
 
 -- if P holds for a single pad, and for the longest pad followed by a gap for which P holds, then P holds for every gap
 module _ (p : Polarity) (P : ℕ → List ℕ → Type 0)

@@ -127,8 +127,5 @@ parts_fit (Volume h files) (n, few, b, small, d) =
     let behind = first_behind h.ext d.extent b d.begins.ext in
     let whole : length b ≡ h.length = d.length_is ∙ d.begins.length_is in
     are_parts n h.file_system body h.length d.files (files_list files)
-    (λ k l. room body (length b) d.extent.first d.extent.header_len h.length k (length-drop d.extent.first b) whole lies.least behind l)
+    (λ k l. omega (arith, length-drop d.extent.first b, whole, lies.least, behind, l))
     (files_read (Stream n) h files b small d) d.meanings
-  where
-    room : (body b first head total k : ℕ) → body ≡ b - first → b ≡ total → 64 ≤ head → head ≤ first → 24 + k ≤ body → 32 + k ≤ total
-    room body b first head total k p q r s t = omega (arith, p, q, r, s, t)

@@ -55,11 +55,9 @@ painted_later erased total x y (p ∷ ps) l o =
 painted_here : (erased total e at : ℕ) (bytes : List ℕ) (ps : List PlacedBytes) → at ≡ e
     → painted erased total e (record { at = at; bytes = bytes } ∷ ps) ≡ bytes ++ painted erased total (e + length bytes) ps
 painted_here erased total e at bytes ps same =
-    ap (λ (n : ℕ). (replicate n erased ++ bytes) ++ painted erased total (at + length bytes) ps) (zero_is at e same)
+    let none : at - e ≡ 0 = omega arith in
+    ap (λ (n : ℕ). (replicate n erased ++ bytes) ++ painted erased total (at + length bytes) ps) none
     ∙ ap (λ (n : ℕ). bytes ++ painted erased total (n + length bytes) ps) same
-  where
-    zero_is : (a e : ℕ) → a ≡ e → a - e ≡ 0
-    zero_is a e s = omega arith
 
 -- ---- the files
 
@@ -113,18 +111,10 @@ pub length-ext_pad : (p : Polarity) (h : HeadFields) (x : Option Extension) (use
 unfolding ext_pad
 length-ext_pad p h None used k = omega arith
 length-ext_pad p h (Some x) used k =
-    joined (header_len_of h) (length (pad_head_of (24 + ext_len x) p ++ ext_spelled x used)) (length (pad_head_of (24 + ext_len x) p))
-    (length (ext_spelled x used)) (ext_len x)
-    (length-append (pad_head_of (24 + ext_len x) p) (ext_spelled x used)) (length-pad_head (24 + ext_len x) p) (ext_again x used k).1
-  where
-    joined : (n a b c l : ℕ) → a ≡ b + c → b ≡ 24 → c ≡ l → n + a ≡ n + 24 + l
-    joined n a b c l p q r = omega arith
+    omega (arith, length-append (pad_head_of (24 + ext_len x) p) (ext_spelled x used), length-pad_head (24 + ext_len x) p, (ext_again x used k).1)
 
 pub first_is : (h : HeadFields) (x : Option Extension) → (canonical_end h x ≤ first_edge h x) × (first_edge h x % 8 ≡ 0)
-first_is h None = (omega arith, len_even h.blocks)
-  where
-    len_even : (bs : List (ℕ × ℕ)) → (56 + 8 * (length bs + 1)) % 8 ≡ 0
-    len_even bs = omega arith
+first_is h None = (omega arith, omega arith)
 first_is h (Some x) = (omega arith, omega arith)
 
 volume_in_order : (h : HeadFields) (fs : List StoredFile) (ss : List ℕ) → Writable h fs ss → InOrder h.length 0 (placed_in_volume h fs ss)
@@ -136,15 +126,12 @@ volume_in_order h fs ss k =
     let pad : List ℕ = ext_pad p h.ext used in (
       omega arith,
       (
-        before (length (canonical_head h)) (header_len_of h) (length-canonical h k.read),
+        (omega (arith, length-canonical h k.read)),
         lower h.length (header_len_of h + length pad) first (placed_files p first fs ss)
             (subst (λ (n : ℕ). n ≤ first) (sym (length-ext_pad p h h.ext used k.ext)) f.0)
             (files_placed h.file_system p h.length first fs ss k.multiple f.1 k.room k.files k.follow).0,
       ),
     )
-  where
-    before : (a b : ℕ) → a ≡ b → 0 + a ≤ b
-    before a b e = omega (arith, e)
 
 pub volume_painted : (h : HeadFields) (fs : List StoredFile) (ss : List ℕ) → Writable h fs ss
     → painted (erased_byte (polarity_of h.attributes)) h.length 0 (placed_in_volume h fs ss) ≡ volume_bytes h fs ss
@@ -158,7 +145,7 @@ volume_painted h fs ss k =
     let later : List PlacedBytes = placed_files p first fs ss in
     let f = first_is h h.ext in
     let files = files_placed h.file_system p h.length first fs ss k.multiple f.1 k.room k.files k.follow in
-    let place : header_len_of h ≡ 0 + length head = own (header_len_of h) (length head) (length-canonical h k.read) in
+    let place : header_len_of h ≡ 0 + length head = omega (arith, length-canonical h k.read) in
     let ended : (0 + length head) + length pad ≡ canonical_end h h.ext =
     ap (λ (n : ℕ). n + length pad) (sym place) ∙ length-ext_pad p h h.ext used k.ext in
     painted_here erased h.length 0 0 head (record { at = header_len_of h; bytes = pad } ∷ later) refl
@@ -166,9 +153,6 @@ volume_painted h fs ss k =
     ∙ ap (λ (xs : List ℕ). pad ++ xs)
     (ap (λ (n : ℕ). painted erased h.length n later) ended ∙ painted_later erased h.length (canonical_end h h.ext) first later f.0 files.0
     ∙ ap (λ (xs : List ℕ). replicate (first - canonical_end h h.ext) erased ++ xs) files.1))
-  where
-    own : (a b : ℕ) → b ≡ a → a ≡ 0 + b
-    own a b e = omega (arith, e)
 
 -- only one list of bytes shows the volume, and the walk writes this list
 pub volume_shows : (h : HeadFields) (fs : List StoredFile) (ss b : List ℕ) → Writable h fs ss

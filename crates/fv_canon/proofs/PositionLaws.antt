@@ -49,8 +49,7 @@ walk_shows erased total e (p ∷ ps) front l o =
     record {
       contained = (
         (
-          subst (λ xs. p.at + length p.bytes ≤ length xs) (sym moved) (long (length (((front ++ gap) ++ p.bytes) ++ behind)) (length behind)
-              (length-append ((front ++ gap) ++ p.bytes) behind ∙ ap (λ n. n + length behind) far)),
+          subst (λ xs. p.at + length p.bytes ≤ length xs) (sym moved) (omega (arith, length-append ((front ++ gap) ++ p.bytes) behind ∙ ap (λ n. n + length behind) far)),
           ap (λ xs. take (length p.bytes) (drop p.at xs)) apart ∙ (ap (λ xs. take (length p.bytes) xs)
               (drop_at (front ++ gap) (p.bytes ++ behind) p.at there) ∙ take_at p.bytes behind (length p.bytes) refl),
         ),
@@ -59,7 +58,7 @@ walk_shows erased total e (p ∷ ps) front l o =
       rest = λ k a b n. elim (cases_lt k p.at) [
         | inl c ↦
             ap (λ xs. get_or xs k 0) apart
-            ∙ (get_or_append_left (front ++ gap) (p.bytes ++ behind) 0 k (in_front (length (front ++ gap)) k there c)
+            ∙ (get_or_append_left (front ++ gap) (p.bytes ++ behind) 0 k (omega (arith, there, c))
             ∙ (get_behind front gap k (omega arith)
             ∙ get_or-replicate (p.at - e) (k - length front) erased 0 (omega (arith, o.0))))
         | inr c ↦ elim (cases_lt k (p.at + length p.bytes)) [
@@ -72,24 +71,13 @@ walk_shows erased total e (p ∷ ps) front l o =
     there_is : (g : ℕ) → g ≡ p.at - e → length front + g ≡ p.at
     there_is g h = omega (arith, o.0)
 
-    long : (n m : ℕ) → n ≡ (p.at + length p.bytes) + m → p.at + length p.bytes ≤ n
-    long n m h = omega arith
-
-    in_front : (m k : ℕ) → m ≡ p.at → k < p.at → k < m
-    in_front m k h c = omega arith
-
 pub walk_length : (erased total e : ℕ) (ps : List PlacedBytes) → InOrder total e ps → e + length (painted erased total e ps) ≡ total
 walk_length erased total e [] o = let g = length-replicate (total - e) erased in omega arith
 walk_length erased total e (p ∷ ps) o =
     let gap = replicate (p.at - e) erased in
     let behind = painted erased total (p.at + length p.bytes) ps in
     let all = walk_length erased total (p.at + length p.bytes) ps o.1 in
-    joined (length gap) (length behind) (length (gap ++ p.bytes)) (length ((gap ++ p.bytes) ++ behind)) (length-replicate (p.at - e) erased)
-    (length-append gap p.bytes) (length-append (gap ++ p.bytes) behind) all
-  where
-    joined : (g b gp all : ℕ) → g ≡ p.at - e → gp ≡ g + length p.bytes → all ≡ gp + b → (p.at + length p.bytes) + b ≡ total
-        → e + all ≡ total
-    joined g b gp all h i j k = omega (arith, o.0)
+    omega (arith, length-replicate (p.at - e) erased, length-append gap p.bytes, length-append (gap ++ p.bytes) behind, all, o.0)
 
 pub shows_walk : (erased total : ℕ) (ps : List PlacedBytes) → InOrder total 0 ps → ShowsPlaced total erased ps (painted erased total 0 ps)
 shows_walk erased total ps o =
@@ -106,24 +94,18 @@ pub walk_from : (erased total e : ℕ) (ps : List PlacedBytes) (b : List ℕ) �
 walk_from erased total e [] b l o s r =
     ext_get_or 0 (drop e b) (replicate (total - e) erased)
     (length-drop e b ∙ (ap (λ n. n - e) l ∙ sym (length-replicate (total - e) erased)))
-    (λ i h. get_or-drop e b i 0 ∙ (r (e + i) (omega arith) (near i (length (drop e b)) (length-drop e b) h) tt
-    ∙ sym (get_or-replicate (total - e) i erased 0 (short i (length (drop e b)) (length-drop e b) h))))
-  where
-    near : (i n : ℕ) → n ≡ length b - e → i < n → e + i < total
-    near i n g h = omega (arith, l)
-
-    short : (i n : ℕ) → n ≡ length b - e → i < n → i < total - e
-    short i n g h = omega (arith, l)
+    (λ i h. get_or-drop e b i 0 ∙ (r (e + i) (omega arith) (omega (arith, length-drop e b, h, l)) tt
+    ∙ sym (get_or-replicate (total - e) i erased 0 (omega (arith, length-drop e b, h, l)))))
 walk_from erased total e (p ∷ ps) b l o s r =
     let gap = replicate (p.at - e) erased in
     let cut : take (p.at - e) (drop e b) ≡ gap = ext_get_or 0 (take (p.at - e) (drop e b)) gap (length-take-le (p.at - e) (drop e b)
-    (room (length (drop e b)) (length-drop e b)) ∙ sym (length-replicate (p.at - e) erased)) (λ i h. let within =
-    shorter i (length (take (p.at - e) (drop e b))) (length-take-le (p.at - e) (drop e b) (room (length (drop e b)) (length-drop e b))) h in
-    get_or-take (p.at - e) (drop e b) i 0 within ∙ (get_or-drop e b i 0 ∙ (r (e + i) (omega arith) (under i within) (
-      λ z. not_yet i within z.0,
-      before_none total (p.at + length p.bytes) (e + i) ps o.1 (earlier i within),
+    (omega (arith, length-drop e b, s.0.0)) ∙ sym (length-replicate (p.at - e) erased)) (λ i h. let within =
+    shorter i (length (take (p.at - e) (drop e b))) (length-take-le (p.at - e) (drop e b) (omega (arith, length-drop e b, s.0.0))) h in
+    get_or-take (p.at - e) (drop e b) i 0 within ∙ (get_or-drop e b i 0 ∙ (r (e + i) (omega arith) (omega (arith, within, s.0.0, l)) (
+      λ z. omega (arith, within, z.0),
+      before_none total (p.at + length p.bytes) (e + i) ps o.1 (omega (arith, within)),
     ) ∙ sym (get_or-replicate (p.at - e) i erased 0 within)))) in
-    let behind = walk_from erased total (p.at + length p.bytes) ps b l o.1 s.1 (λ k a c n. r k (later k a) c (λ z. past k a z.1, n)) in
+    let behind = walk_from erased total (p.at + length p.bytes) ps b l o.1 s.1 (λ k a c n. r k (omega (arith, a, o.0)) c (λ z. omega (arith, a, z.1), n)) in
     sym (take-append-drop (p.at - e) (drop e b))
     ∙ (ap (λ xs. xs ++ drop (p.at - e) (drop e b)) cut
     ∙ (ap (λ xs. gap ++ xs)
@@ -134,26 +116,8 @@ walk_from erased total e (p ∷ ps) b l o s r =
     at_is : e + (p.at - e) ≡ p.at
     at_is = omega (arith, o.0)
 
-    room : (n : ℕ) → n ≡ length b - e → p.at - e ≤ n
-    room n h = omega (arith, s.0.0)
-
     shorter : (i n : ℕ) → n ≡ p.at - e → i < n → i < p.at - e
     shorter i n h g = omega arith
-
-    under : (i : ℕ) → i < p.at - e → e + i < total
-    under i h = omega (arith, s.0.0, l)
-
-    not_yet : (i : ℕ) → i < p.at - e → p.at ≤ e + i → ⊥
-    not_yet i h g = omega arith
-
-    earlier : (i : ℕ) → i < p.at - e → e + i < p.at + length p.bytes
-    earlier i h = omega arith
-
-    later : (k : ℕ) → p.at + length p.bytes ≤ k → e ≤ k
-    later k h = omega (arith, o.0)
-
-    past : (k : ℕ) → p.at + length p.bytes ≤ k → k < p.at + length p.bytes → ⊥
-    past k h g = omega arith
 
 -- only one list of bytes shows the spans, and the walk writes this list
 pub one_image : (erased total : ℕ) (ps : List PlacedBytes) (b : List ℕ) → InOrder total 0 ps → ShowsPlaced total erased ps b

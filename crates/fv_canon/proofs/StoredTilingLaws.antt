@@ -77,19 +77,13 @@ gap_tiles : (system : FileSystem) (p : Polarity) (gap at : ℕ) (rest : List ℕ
     → Tiled system p (at + gap) rest forms → Tiled system p at (gap_bytes p gap ++ rest) forms
 gap_tiles system p gap at rest forms (inl z) multiple behind =
     subst (λ (xs : List ℕ). Tiled system p at (xs ++ rest) forms) (sym (gap_none p gap z))
-    (subst (λ (k : ℕ). Tiled system p k rest forms) (same at gap z) behind)
-  where
-    same : (at gap : ℕ) → gap ≡ 0 → at + gap ≡ at
-    same at gap z = omega arith
+    (subst (λ (k : ℕ). Tiled system p k rest forms) (omega (arith, z)) behind)
 gap_tiles system p gap at rest forms (inr l) multiple behind =
     gap_has p (λ n xs. (at : ℕ) (rest : List ℕ) → Tiled system p (at + n) rest forms → Tiled system p at (xs ++ rest) forms)
     (λ n least most eighth at rest behind. pad_tiles system p n at rest forms least (omega (arith, most)) eighth behind)
     (λ n xs past next at rest behind. subst (λ ys. Tiled system p at ys forms) (sym (append_assoc (pad_bytes p long_pad) xs rest))
     (pad_tiles system p long_pad at (xs ++ rest) forms (omega arith) (omega arith) refl
-    (next (at + long_pad) rest (subst (λ (k : ℕ). Tiled system p k rest forms) (moved at n past) behind)))) gap l multiple at rest behind
-  where
-    moved : (at gap : ℕ) → 0xfffff8 < gap → at + gap ≡ (at + 0xffff00) + (gap - 0xffff00)
-    moved at gap l = omega (arith, l)
+    (next (at + long_pad) rest (subst (λ (k : ℕ). Tiled system p k rest forms) (omega (arith, past)) behind)))) gap l multiple at rest behind
 
 pub length-gap : (p : Polarity) (gap : ℕ) → (gap ≡ 0) ⊎ (24 ≤ gap) → gap % 8 ≡ 0 → length (gap_bytes p gap) ≡ gap
 length-gap p gap (inl z) multiple = ap length (gap_none p gap z) ∙ sym z
@@ -156,10 +150,9 @@ body_tiles system p total e (f ∷ fs) (s ∷ ss) h m all follow =
     let rest : List ℕ = files_bytes p total (up_to_8 x) fs ss in
     let few : length filler < 8 = subst (λ (n : ℕ). n < 8) (sym short) fill.0 in
     let cell = file_cell system p f all.0 s filler few
-    (whole s (stored_len f) (length filler) (up_to_8 x) follow.0.lawful.eighth fill.2 (ap (λ (n : ℕ). x + n) short ∙ fill.1)) in
+    (omega (arith, follow.0.lawful.eighth, fill.2, ap (λ (n : ℕ). x + n) short ∙ fill.1)) in
     let place : s + length (stored_bytes p f ++ filler) ≡ up_to_8 x =
-    ended s (length (stored_bytes p f ++ filler)) (length (stored_bytes p f)) (stored_len f) (length filler) (up_to_8 x)
-    (length-append (stored_bytes p f) filler) long (ap (λ (n : ℕ). x + n) short ∙ fill.1) in
+    omega (arith, length-append (stored_bytes p f) filler, long, ap (λ (n : ℕ). x + n) short ∙ fill.1) in
     gap_tiles system p (s - e) e (stored_bytes p f ++ (filler ++ rest)) (forms_of p (f ∷ fs) (s ∷ ss)) a.0 a.1
     (subst (λ (k : ℕ). Tiled system p k (stored_bytes p f ++ (filler ++ rest)) (forms_of p (f ∷ fs) (s ∷ ss))) (sym a.2) (record {
       cells = Valid s (stored_head p f) f.payload ∷ behind.cells;
@@ -177,9 +170,3 @@ body_tiles system p total e (f ∷ fs) (s ∷ ss) h m all follow =
       erased = (tt, behind.erased);
       fixed = (tt, behind.fixed);
     }))
-  where
-    whole : (s n k u : ℕ) → s % 8 ≡ 0 → u % 8 ≡ 0 → (s + n) + k ≡ u → (n + k) % 8 ≡ 0
-    whole s n k u p q r = omega arith
-
-    ended : (s a b n k u : ℕ) → a ≡ b + k → b ≡ n → (s + n) + k ≡ u → s + a ≡ u
-    ended s a b n k u p q r = omega arith

@@ -92,11 +92,11 @@ none_again is_section at end tail b m e z none count = record {
   pairs = tt;
   bytes = none_at;
   long = sym (ap length none);
-  len = joined at end (length b) tail z (ap length none) count;
+  len = omega (arith, z, ap length none, count);
 }
-  where
-    joined : (a e n t : ℕ) → a ≡ e → n ≡ 0 → t ≡ 0 → a + n ≡ e + t
-    joined a e n t p q r = omega arith
+
+same_size : (x y : Bool) (n k : ℕ) → y ≡ x → k ≡ n → section_header_len y + k ≡ section_header_len x + n
+same_size x y n k p q = rw (p, q)
 
 last_again : (is_section : SectionRelation) → SectionsAgain is_section
     → (at end : ℕ) (s : SectionMeaning) (f g : FrameForm) (tail : ℕ) (b : List ℕ) → IsBytes b → up_to_4 end ≡ at
@@ -115,24 +115,9 @@ last_again is_section again at end s f g tail b small e (rest, begun, offset, co
       pairs = (a.is, tt);
       bytes =
           bytes_begun g f.kind (replicate tail 0) a.kind (begun_kind f b rest small begun) a.bytes (bytes_replicate tail 0 (omega arith));
-      long = whole (length (section_head_of g.kind g.extended (length g.body))) (length g.body) (length (replicate tail 0)) tail
-          (length (g.body ++ replicate tail 0)) (length (stream_of (g ∷ []) tail)) (length b) (length rest) (section_header_len g.extended)
-          (frame_len f) (head_long g.kind g.extended (length g.body)) (length-replicate tail 0) (length-append g.body (replicate tail 0))
-          (length-append (section_head_of g.kind g.extended (length g.body)) (g.body ++ replicate tail 0)) sizes
-          (length_begun f b rest begun) count;
-      len = ended at end (up_to_4 end) (length b) (frame_len f) (section_len s) (length rest) tail
-          (length_begun f b rest begun) count e a.len;
+      long = omega (arith, head_long g.kind g.extended (length g.body), length-replicate {A = ℕ} tail 0, length-append g.body (replicate tail 0), length-append (section_head_of g.kind g.extended (length g.body)) (g.body ++ replicate tail 0), sizes, length_begun f b rest begun, count);
+      len = omega (arith, length_begun f b rest begun, count, e, a.len);
     }
-  where
-    same_size : (x y : Bool) (n k : ℕ) → y ≡ x → k ≡ n → section_header_len y + k ≡ section_header_len x + n
-    same_size x y n k p q = rw (p, q)
-
-    whole : (h k r t kr all b rest hl sf : ℕ) → h ≡ hl → r ≡ t → kr ≡ k + r → all ≡ h + kr → hl + k ≡ sf → b ≡ sf + rest → rest ≡ t
-        → all ≡ b
-    whole h k r t kr all b rest hl sf p1 p2 p3 p4 p5 p6 p7 = omega arith
-
-    ended : (at end up n sf sl rest tail : ℕ) → n ≡ sf + rest → rest ≡ tail → up ≡ at → sf ≡ sl → at + n ≡ (up + sl) + tail
-    ended at end up n sf sl rest tail p q r l = omega arith
 
 more_again : (is_section : SectionRelation) → SectionsAgain is_section → (at end : ℕ) (s t : SectionMeaning) (ss : SectionMeanings)
     (f h : FrameForm) (fs : List FrameForm) (g k : FrameForm) (gs : List FrameForm) (tail : ℕ) (b filler rest : List ℕ)
@@ -159,28 +144,9 @@ more_again is_section again at end s t ss f h fs g k gs tail b filler rest small
       pairs = (a.is, r.pairs);
       bytes = bytes_begun g f.kind (fill ++ others) a.kind (begun_kind f b (filler ++ rest) small begun) a.bytes
           (bytes_append fill others (bytes_replicate (up_to_4 (frame_len g) - frame_len g) 0 (omega arith)) r.bytes);
-      long = whole at (length head) (length g.body) (length fill) (length others) (length (fill ++ others))
-          (length (g.body ++ (fill ++ others))) (length (head ++ (g.body ++ (fill ++ others)))) (length b) (length (filler ++ rest))
-          (length filler) (length rest) (section_header_len g.extended) (frame_len f) (frame_len g)
-          m (head_long g.kind g.extended (length g.body)) (length-replicate (up_to_4 (frame_len g) - frame_len g) 0)
-          (length-append fill others) (length-append g.body (fill ++ others)) (length-append head (g.body ++ (fill ++ others))) refl sizes
-          (length_begun f b (filler ++ rest) begun) (length-append filler rest) count r.long;
-      len = ended at end (up_to_4 (at + frame_len g)) (length b) (length (filler ++ rest)) (length filler) (length rest) (frame_len f)
-          (frame_len g) (sections_end (up_to_4 end + section_len s) (MoreSections t ss) + tail)
-          sizes refl (length_begun f b (filler ++ rest) begun) (length-append filler rest) count r.len;
+      long = omega (arith, m, head_long g.kind g.extended (length g.body), length-replicate {A = ℕ} (up_to_4 (frame_len g) - frame_len g) 0, length-append fill others, length-append g.body (fill ++ others), length-append head (g.body ++ (fill ++ others)), sizes, length_begun f b (filler ++ rest) begun, length-append filler rest, count, r.long);
+      len = omega (arith, sizes, length_begun f b (filler ++ rest) begun, length-append filler rest, count, r.len);
     }
-  where
-    same_size : (x y : Bool) (n k : ℕ) → y ≡ x → k ≡ n → section_header_len y + k ≡ section_header_len x + n
-    same_size x y n k p q = rw (p, q)
-
-    whole : (at h k z o zo kzo all b fr fi rest hl sf sg : ℕ) → at % 4 ≡ 0 → h ≡ hl → z ≡ up_to_4 sg - sg → zo ≡ z + o → kzo ≡ k + zo
-        → all ≡ h + kzo → sg ≡ hl + k → sg ≡ sf → b ≡ sf + fr → fr ≡ fi + rest
-        → at + sf + fi ≡ up_to_4 (at + sf) → o ≡ rest → all ≡ b
-    whole at h k z o zo kzo all b fr fi rest hl sf sg p0 p1 p2 p3 p4 p5 p6 p7 p8 p9 p10 p11 = omega arith
-
-    ended : (at end next b fr fi rest sf sg e : ℕ) → sg ≡ sf → next ≡ up_to_4 (at + sg) → b ≡ sf + fr → fr ≡ fi + rest
-        → at + sf + fi ≡ up_to_4 (at + sf) → next + rest ≡ e → at + b ≡ e
-    ended at end next b fr fi rest sf sg e p0 p1 p2 p3 p4 p5 = omega arith
 
 up_is : (n : ℕ) → up_to_4 n % 4 ≡ 0
 up_is n = omega arith
@@ -224,11 +190,11 @@ stream_again is_section again ss tail b o small (fs, split, pairs) (gs, frames, 
       is = (gs, subst (Splits gs tail) (sym text) (streams_are_read 0 gs tail refl r.placed), r.pairs);
       bytes = subst IsBytes (sym text) r.bytes;
       long = ap length text ∙ r.long;
-      len = zero_off (length b) (sections_end 0 ss + tail) r.len;
+      len = omega (arith, r.len);
     }
-  where
-    zero_off : (n k : ℕ) → 0 + n ≡ k → n ≡ k
-    zero_off n k e = omega arith
+
+sized : (f : FrameForm) (x : Bool) (n : ℕ) → x ≡ f.extended → length f.body ≡ n → frame_len f ≡ section_header_len x + n
+sized f x n p q = rw (p, q)
 
 -- a section is read again if the streams and volumes inside are
 pub section_again : (is_stream : StreamRelation) (is_volume : VolumeRelation) → StreamsAgain is_stream → VolumesAgain is_volume
@@ -245,9 +211,6 @@ section_again is_stream is_volume streams volumes (Section kind extended (Leaf b
       long = ap length bodies;
       len = sized f extended (length body) e (ap length (sym same));
     }
-  where
-    sized : (f : FrameForm) (x : Bool) (n : ℕ) → x ≡ f.extended → length f.body ≡ n → frame_len f ≡ section_header_len x + n
-    sized f x n p q = rw (p, q)
 section_again is_stream is_volume streams volumes (Section kind extended (Group sections tail)) f g small
     (k, e, (is_group, is)) (gk, ge, image) =
     let a = streams sections tail f.body g.body small is image in
@@ -260,9 +223,6 @@ section_again is_stream is_volume streams volumes (Section kind extended (Group 
       long = a.long;
       len = sized f extended (sections_end 0 sections + tail) e a.len;
     }
-  where
-    sized : (f : FrameForm) (x : Bool) (n : ℕ) → x ≡ f.extended → length f.body ≡ n → frame_len f ≡ section_header_len x + n
-    sized f x n p q = rw (p, q)
 section_again is_stream is_volume streams volumes (Section kind extended (Nested volume)) f g small
     (k, e, (is_there, opens, is)) (gk, ge, image) =
     let a = volumes volume f.body g.body small is image in
@@ -275,6 +235,3 @@ section_again is_stream is_volume streams volumes (Section kind extended (Nested
       long = a.long;
       len = sized f extended (length_of volume) e a.len;
     }
-  where
-    sized : (f : FrameForm) (x : Bool) (n : ℕ) → x ≡ f.extended → length f.body ≡ n → frame_len f ≡ section_header_len x + n
-    sized f x n p q = rw (p, q)

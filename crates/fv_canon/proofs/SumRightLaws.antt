@@ -73,17 +73,11 @@ ext_cell system p x used filler read few multiple at =
     let h : List ℕ = pad_head_of size p in
     let payload : List ℕ = ext_spelled x used in
     let head : FileHead = pad_fields size (slice_index h 16) in
-    let written = pad_written p size h (most (ext_len x) (ext_len_most x read)) (bytes_pad_head size p) refl in
+    let written = pad_written p size h (omega (arith, ext_len_most x read)) (bytes_pad_head size p) refl in
     let cell = head_of_pad p head h written refl refl refl in
     subst (λ (y : List ℕ). IsCell system p (Pad at head payload) y) (sym (append_assoc h payload filler))
-    (cell system at payload filler (sized (length h) (length payload) (ext_len x) (length-pad_head size p) (ext_again x used read).1) few
+    (cell system at payload filler (omega (arith, length-pad_head size p, (ext_again x used read).1)) few
     multiple)
-  where
-    most : (n : ℕ) → n ≤ 65535 → 24 + n ≤ 0xffffff
-    most n l = omega (arith, l)
-
-    sized : (a b n : ℕ) → a ≡ 24 → b ≡ n → 24 + n ≡ a + b
-    sized a b n e f = omega (arith, e, f)
 
 -- after the header come the pad with the extended header, if there is one, and then the files; cells with right
 -- checksums tile these bytes

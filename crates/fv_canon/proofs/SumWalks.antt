@@ -13,12 +13,7 @@ use Rattle.fv_canon.proofs.SumLaws.{stored_adds}
 pub summed_adds : (p : Polarity) (m : FileMeaning) (starts : List ℕ) (t u : ℕ) → is_summed (attributes_of m) ≡ true
     → u % 256 ≡ (t + sum (state_byte p ∷ [])) % 256 → u % 256 ≡ (t + sum (stored_bytes p (stored_file m starts))) % 256
 summed_adds p (File name kind attributes content) starts t u is e =
-    join t u (sum (stored_bytes p (stored_file (File name kind attributes content) starts))) (state_byte p) e
-    (stored_adds p (stored_file (File name kind attributes content) starts)
-    ∙ ap (λ (b : Bool). (if b then state_byte p else (fixed_checksum + state_byte p + sum (data_of content starts))) % 256) is)
-  where
-    join : (t u x s : ℕ) → u % 256 ≡ (t + sum (s ∷ [])) % 256 → x % 256 ≡ s % 256 → u % 256 ≡ (t + x) % 256
-    join t u x s p q = omega (arith, p, q)
+    omega (arith, e, stored_adds p (stored_file (File name kind attributes content) starts) ∙ ap (λ (b : Bool). (if b then state_byte p else (fixed_checksum + state_byte p + sum (data_of content starts))) % 256) is)
 
 -- so a sink that sums takes only the State of a file with the checksum attribute
 pub state_adds : {S : Type 0} (takes : S → List ℕ → S → Type 0) (sums : Bool) (s t : S) (m n : ℕ) (p : Polarity) (file : FileMeaning)

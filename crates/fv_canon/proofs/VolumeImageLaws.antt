@@ -120,7 +120,7 @@ file_again is_stream streams system limit (File name kind attributes content) f 
         short = ap is_large bits_are ∙ half_even a;
         moves = ap is_fixed bits_are ∙ half_moves a r.moves;
         large = λ e. large_system system (is_large a) (length f.payload) r.large r.short (ap needs_large (sym d.long) ∙ e);
-        most = inside (length x.payload) (length f.payload) d.long r.within most;
+        most = omega (arith, d.long, r.within, most);
         payload = d.bytes;
       };
       part = same_part (length x.payload) (content_len content) x.attributes attributes x.name name d.len xa xn;
@@ -129,9 +129,6 @@ file_again is_stream streams system limit (File name kind attributes content) f 
           (ap (λ (g : Guid). g) (sym xn) ∙ refl, sym xk, sym xa ∙ back (needs_large (length x.payload)) a x.attributes bits_are, d.is);
     }
   where
-    inside : (n k : ℕ) → n ≡ k → 24 + k ≤ limit → limit ≤ 24 + data_limit → n ≤ data_limit
-    inside n k e l m = omega (arith, e, l, m)
-
     back : (l : Bool) (a y : ℕ) → y ≡ a / 2 * 2 → y ≡ without_large (with_large l y)
     back l a y e = rw e (half_back l a)
 
@@ -214,14 +211,8 @@ body_is h fs ss read ext =
     let files : List ℕ = files_bytes p h.length first fs ss in
     let joined : volume_bytes h fs ss ≡ ((head ++ pad) ++ fill) ++ files =
     sym (append_assoc (head ++ pad) fill files ∙ append_assoc head pad (fill ++ files)) in
-    let long : length ((head ++ pad) ++ fill) ≡ first = sum_of (length head) (length pad) (length fill) (header_len_of h)
-    (canonical_end h h.ext) first (length (head ++ pad)) (length ((head ++ pad) ++ fill))
-    (length-canonical h read) (length-ext_pad p h h.ext used ext) (length-replicate (first - canonical_end h h.ext) (erased_byte p))
-    (first_is h h.ext).0 (length-append head pad) (length-append (head ++ pad) fill) in
+    let long : length ((head ++ pad) ++ fill) ≡ first = omega (arith, length-canonical h read, length-ext_pad p h h.ext used ext, length-replicate (first - canonical_end h h.ext) (erased_byte p), (first_is h h.ext).0, length-append head pad, length-append (head ++ pad) fill) in
     ap (drop first) joined ∙ drop_at ((head ++ pad) ++ fill) files first long
-  where
-    sum_of : (a b c l e f ab abc : ℕ) → a ≡ l → l + b ≡ e → c ≡ f - e → e ≤ f → ab ≡ a + b → abc ≡ ab + c → abc ≡ f
-    sum_of a b c l e f ab abc p1 p2 p3 p4 p5 p6 = omega arith
 
 -- bytes that begin with the header of a volume of their own length are opened as a volume
 opened : (h : HeadFields) (e : Extent) (o : List ℕ) → BeginsVolume h e o → length o ≡ h.length → Opens o
@@ -262,8 +253,7 @@ known is_stream streams h files b small d stored starts are placed =
     let lies = front_lies b h e d.begins in
     let body : List ℕ = drop e.first b in
     let current = files_read is_stream h files b small d in
-    let limit : length body ≤ 24 + data_limit = most (length body) (length b) e.first e.header_len e.length (length-drop e.first b) d.length_is
-    lies.limit lies.least (first_behind h.ext e b d.begins.ext) in
+    let limit : length body ≤ 24 + data_limit = omega (arith, length-drop e.first b, d.length_is, lies.limit, lies.least, first_behind h.ext e b d.begins.ext) in
     let a = files_again is_stream streams h.file_system (length body) files d.files stored limit current d.meanings are in
     let place : IsFirstPlacement h.length first (map stored_item stored) starts =
     subst (λ (qs : List PlacementItem). IsFirstPlacement h.length first qs starts) (sym a.items) placed in
@@ -278,9 +268,6 @@ known is_stream streams h files b small d stored starts are placed =
       };
       again = a;
     }
-  where
-    most : (n b f l len : ℕ) → n ≡ b - f → b ≡ len → len ≤ volume_limit → 64 ≤ l → l ≤ f → n ≤ 24 + data_limit
-    most n b f l len p q r s t = omega (arith, p, q, r, s, t)
 
 -- an image begins with its header, and then with the extended header in its pad
 pub image_front : (h : HeadFields) (fs : List StoredFile) (ss o : List ℕ) → Writable h fs ss
@@ -293,16 +280,10 @@ image_front h fs ss o k shows =
     let fill : List ℕ = replicate (first - canonical_end h h.ext) (erased_byte p) ++ files_bytes p h.length first fs ss in
     let rest : List ℕ = ext_pad p h.ext (used_size first fs ss) ++ fill in
     let all : List ℕ = canonical_head h ++ rest in
-    let long : h.length ≤ length all = full (length o) (length all) (ap length text) shows.length_is in
+    let long : h.length ≤ length all = omega (arith, ap length text, shows.length_is) in
     subst (BeginsVolume h (extent_of h first)) (sym text)
     (canonical_front h rest k.read k.ext (rest_is p h h.ext (used_size first fs ss) fill)
-    (within (canonical_end h h.ext) first (first_is h h.ext).0 k.room) long)
-  where
-    full : (n m : ℕ) → n ≡ m → n ≡ h.length → h.length ≤ m
-    full n m p q = omega (arith, p, q)
-
-    within : (x f : ℕ) → x ≤ f → f ≤ h.length → x ≤ h.length
-    within x f p q = omega arith
+    (omega (arith, (first_is h h.ext).0, k.room)) long)
 
 -- the files and pads of an image tile the bytes from the first edge on
 pub image_tiled : (h : HeadFields) (fs : List StoredFile) (ss o : List ℕ) → Writable h fs ss

@@ -1,32 +1,22 @@
 -- Facts about each volume of a list, if two lists are joined or nest one level deeper. The steps:
--- 1. The starts of two lists of volumes can be joined and split (`laid_joined`, `laid_split`), and do not change one
---    level deeper (`laid_deeper`, `laid_higher`). The same is true of their numbers (`count_joined`, `count_deeper`).
--- 2. All volumes of two lists fit if the volumes of each list do (`fit_joined`). The first volume that does not fit is
---    in the first list (`unfit_front`), or otherwise in the second (`unfit_behind`).
--- 3. So a walk over items adds the starts of each item (`item_grew`), or stops at the first that does not fit
---    (`item_unfit`).
--- 4. A walk that takes starts goes from each item to the next (`item_passed`, `item_last`).
-use Rattle.std.proofs.Common.{◌≡◌, ◌≤◌, ◌<◌, inl, inr, ◌+◌, ℕ, List, [], ◌∷◌, ◌++◌, length, take, drop, get_or, refl, sym, ap, ◌∙◌, subst, arith}
-use Rattle.std.proofs.Common.{append_assoc, append-nil, length-append, drop-drop}
+-- 1. The starts of two lists of volumes can be split (`laid_split`), and do not change one level deeper
+--    (`laid_deeper`, `laid_higher`). The same is true of their numbers (`count_joined`, `count_deeper`).
+-- 2. All volumes of two lists fit if the volumes of each list do (`fit_joined`).
+-- 3. A walk that takes starts goes from each item to the next (`item_passed`).
+use Rattle.std.proofs.Common.{◌≡◌, ◌≤◌, ◌<◌, ◌+◌, ℕ, List, [], ◌∷◌, ◌++◌, length, drop, get_or, refl, sym, ap, ◌∙◌, subst, arith}
+use Rattle.std.proofs.Common.{append_assoc, length-append, drop-drop}
 use Rattle.std.specs.List.{AllByRecursion}
-use Rattle.std.proofs.lemmas.List.{length-map, take_more, drop_all, drop_at}
-use Rattle.fv_base.specs.declared.fault.Fault.{Fault}
+use Rattle.std.proofs.lemmas.List.{length-map, drop_at}
 use Rattle.fv_head.specs.Words.{HeadFields}
 use Rattle.fv_tree.specs.Words.{Meaning, Volume, FileMeaning, files_of, head_of, files_from, Inside, deeper, volumes_in, volumes_in_files}
 use Rattle.fv_canon.specs.inner.ImageOf.{starts_in}
 use Rattle.fv_canon.proofs.ImageParts.{ComesTo}
-use Rattle.fv_canon.specs.Words.{BeginsWithStarts, StartsOfEach, AreStarts, IsPlaced, placement_item, placement_items, AllFit, FirstUnplaced}
+use Rattle.fv_canon.specs.Words.{BeginsWithStarts, StartsOfEach, AreStarts, IsPlaced, placement_item, placement_items, AllFit}
 use Rattle.fv_base.proofs.Laws.{item_at}
 use Rattle.fv_tree.proofs.Laws.{files_list_back}
 use Rattle.fv_placement.proofs.Laws.{follow_length}
 
 -- ---- the starts of two lists
-
-pub laid_joined : (own : Meaning → List ℕ → Type 0) (vs ws : List Inside) (a b : List ℕ) → StartsOfEach own vs a → StartsOfEach own ws b
-    → StartsOfEach own (vs ++ ws) (a ++ b)
-laid_joined own [] ws a b p q = subst (λ (xs : List ℕ). StartsOfEach own ws (xs ++ b)) (sym p) q
-laid_joined own (v ∷ vs) ws a b (here, behind, text, p, r) q =
-    (here, behind ++ b, ap (λ (xs : List ℕ). xs ++ b) text ∙ append_assoc here behind b, p, laid_joined own vs ws behind b r q)
 
 pub laid_split : (own : Meaning → List ℕ → Type 0) (vs ws : List Inside) (starts : List ℕ) → StartsOfEach own (vs ++ ws) starts
     → (here : List ℕ) × (behind : List ℕ) × (starts ≡ here ++ behind) × StartsOfEach own vs here × StartsOfEach own ws behind
@@ -117,74 +107,29 @@ pub fit_laid : (vs : List Inside) → AllFit vs → (starts : List ℕ) × Start
 fit_laid [] fit = ([], refl)
 fit_laid (v ∷ vs) (own, fit) = let l = fit_laid vs fit in (own.0 ++ l.0, (own.0, l.0, refl, own.1, l.1))
 
--- ---- the first volume that does not fit
-
-pub unfit_front : (vs ws : List Inside) (depth : ℕ) (f : Fault) → FirstUnplaced vs depth f → FirstUnplaced (vs ++ ws) depth f
-unfit_front [] ws depth f un = absurd un
-unfit_front (v ∷ vs) ws depth f (inl un) = inl un
-unfit_front (v ∷ vs) ws depth f (inr (placed, un)) = inr (placed, unfit_front vs ws depth f un)
-
-pub unfit_behind : (vs ws : List Inside) (depth : ℕ) (f : Fault) → AllFit vs → FirstUnplaced ws depth f → FirstUnplaced (vs ++ ws) depth f
-unfit_behind [] ws depth f fit un = un
-unfit_behind (v ∷ vs) ws depth f (placed, fit) un = inr (placed, unfit_behind vs ws depth f fit un)
-
 -- ---- the volumes in the items of a list
 
-module _ {A : Type 0} (all : List A → List Inside) (one : A → List Inside) (none : all [] ≡ [])
-    (more : (x : A) (xs : List A) → all (x ∷ xs) ≡ one x ++ all xs) where
-  joined : (xs ys : List A) → all (xs ++ ys) ≡ all xs ++ all ys
-  joined [] ys = ap (λ ws. ws ++ all ys) (sym none)
-  joined (x ∷ xs) ys =
-      more x (xs ++ ys) ∙ ap (λ ws. one x ++ ws) (joined xs ys) ∙ sym (append_assoc (one x) (all xs) (all ys))
-      ∙ ap (λ ws. ws ++ all ys) (sym (more x xs))
+-- a walk that comes to the volumes of two lists passes the starts of the first list, and then comes to the second list
+passed_on : (vs ws : List Inside) (starts last : List ℕ) → ComesTo (vs ++ ws) starts last
+    → BeginsWithStarts vs starts × ComesTo ws (drop (starts_in vs) starts) last
+passed_on vs ws starts last at =
+    let (whole, rest, text, laid) = at.laid in
+    let items = laid_split AreStarts vs ws whole laid in
+    let here : starts ≡ items.0 ++ (items.1 ++ rest) =
+    text ∙ ap (λ (ys : List ℕ). ys ++ rest) items.2 ∙ append_assoc items.0 items.1 rest in
+    let behind : drop (starts_in vs) starts ≡ items.1 ++ rest =
+    ap (drop (starts_in vs)) here ∙ drop_at items.0 (items.1 ++ rest) (starts_in vs) (laid_count vs items.0 items.3) in (
+      (items.0, items.1 ++ rest, here, items.3),
+      record {
+        laid = (items.1, rest, behind, items.4);
+        left = drop-drop (starts_in ws) (starts_in vs) starts ∙ ap (λ n. drop n starts) (sym (count_joined vs ws)) ∙ at.left;
+      },
+    )
 
-  -- the volumes in the first i + 1 items are the volumes in the first i items, and then the volumes in item i
-  pub pushed : (xs : List A) (i : ℕ) (x : A) → i < length xs → x ≡ get_or xs i x → all (take (i + 1) xs) ≡ all (take i xs) ++ one x
-  pushed xs i x l is =
-      ap all (take_more xs i x l) ∙ joined (take i xs) (get_or xs i x ∷ [])
-      ∙ ap (λ ws. all (take i xs) ++ ws) (more _ [] ∙ ap (λ ws. one (get_or xs i x) ++ ws) none ∙ append-nil _ ∙ ap one (sym is))
-
-  -- the volumes in the items from i on are the volumes in item i, and then the volumes in the items after it
-  pub item_first : (xs : List A) (i : ℕ) (x : A) → i < length xs → x ≡ get_or xs i x → all (drop i xs) ≡ one x ++ all (drop (i + 1) xs)
-  item_first xs i x l is = ap all (item_at xs i x l is) ∙ more x (drop (i + 1) xs)
-
-  -- starts that begin with the starts of the items from a place on begin with the starts of the first of these items,
-  -- and go on with the starts of the other items
-  item_begins : (xs : List A) (i : ℕ) (x : A) (starts : List ℕ) → i < length xs → x ≡ get_or xs i x
-      → BeginsWithStarts (all (drop i xs)) starts
-      → BeginsWithStarts (one x) starts × BeginsWithStarts (all (drop (i + 1) xs)) (drop (starts_in (one x)) starts)
-  item_begins xs i x starts l is (whole, rest, text, laid) =
-      let items = laid_split AreStarts (one x) (all (drop (i + 1) xs)) whole
-      (subst (λ ws. StartsOfEach AreStarts ws whole) (item_first xs i x l is) laid) in
-      let here : starts ≡ items.0 ++ (items.1 ++ rest) =
-      text ∙ ap (λ (ys : List ℕ). ys ++ rest) items.2 ∙ append_assoc items.0 items.1 rest in (
-        (items.0, items.1 ++ rest, here, items.3),
-        (
-          items.1,
-          rest,
-          ap (drop (starts_in (one x))) here
-              ∙ drop_at items.0 (items.1 ++ rest) (starts_in (one x)) (laid_count (one x) items.0 items.3),
-          items.4,
-        ),
-      )
-
-  -- dropping the starts of the items from i on is dropping the starts of item i, and then the starts of the items after
-  -- it
-  item_left : (xs : List A) (i : ℕ) (x : A) (starts : List ℕ) → i < length xs → x ≡ get_or xs i x
-      → drop (starts_in (all (drop i xs))) starts ≡ drop (starts_in (all (drop (i + 1) xs))) (drop (starts_in (one x)) starts)
-  item_left xs i x starts l is =
-      ap (λ n. drop n starts) (ap starts_in (item_first xs i x l is) ∙ count_joined (one x) (all (drop (i + 1) xs)))
-      ∙ sym (drop-drop (starts_in (all (drop (i + 1) xs))) (starts_in (one x)) starts)
-
-  -- after an item the walk goes on with the items after it
-  pub item_passed : (xs : List A) (i : ℕ) (x : A) (starts last : List ℕ) → i < length xs → x ≡ get_or xs i x
-      → ComesTo (all (drop i xs)) starts last
-      → BeginsWithStarts (one x) starts × ComesTo (all (drop (i + 1) xs)) (drop (starts_in (one x)) starts) last
-  item_passed xs i x starts last l is at =
-      let begins = item_begins xs i x starts l is at.laid in
-      (begins.0, record { laid = begins.1; left = sym (item_left xs i x starts l is) ∙ at.left })
-
-  -- after the last item only the last starts are left
-  pub item_last : (xs : List A) (i : ℕ) (starts last : List ℕ) → length xs ≤ i → ComesTo (all (drop i xs)) starts last → starts ≡ last
-  item_last xs i starts last end at =
-      ap (λ vs. drop (starts_in vs) starts) (sym (ap all (drop_all i xs end) ∙ none)) ∙ at.left
+-- after an item the walk goes on with the items after it
+pub item_passed : {A : Type 0} (all : List A → List Inside) (one : A → List Inside) → ((x : A) (xs : List A) → all (x ∷ xs) ≡ one x ++ all xs)
+    → (xs : List A) (i : ℕ) (x : A) (starts last : List ℕ) → i < length xs → x ≡ get_or xs i x → ComesTo (all (drop i xs)) starts last
+    → BeginsWithStarts (one x) starts × ComesTo (all (drop (i + 1) xs)) (drop (starts_in (one x)) starts) last
+item_passed all one more xs i x starts last l is at =
+    passed_on (one x) (all (drop (i + 1) xs)) starts last
+    (subst (λ ws. ComesTo ws starts last) (ap all (item_at xs i x l is) ∙ more x (drop (i + 1) xs)) at)

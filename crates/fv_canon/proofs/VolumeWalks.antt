@@ -87,8 +87,7 @@ volume_laid h fs starts (k, few, b, small, d) (laid, more, whole, (own, inner, t
     ∙ sym (used_files first fs own) in
     let f = first_is h h.ext in
     record {
-      enough = long n (length own) (length inner) (length more) (length laid) (length starts) count
-          (ap length text ∙ length-append own inner) (ap length whole ∙ length-append laid more);
+      enough = omega (arith, count, ap length text ∙ length-append own inner, ap length whole ∙ length-append laid more);
       placed = subst (λ (ss : List ℕ). ArePlaced h.length first fs ss) (sym front) (record {
         follow = follow;
         eighth = f.1;
@@ -101,9 +100,6 @@ volume_laid h fs starts (k, few, b, small, d) (laid, more, whole, (own, inner, t
       used = subst (λ (ss : List ℕ). used_size first (stored_of files (drop n starts)) ss ≡ used_by first fs ss) (sym front)
           (subst (λ (xs : List ℕ). used_size first (stored_of files xs) own ≡ used_by first fs own) (sym behind) used);
     }
-  where
-    long : (n a b c l s : ℕ) → a ≡ n → l ≡ a + b → s ≡ l + c → n ≤ s
-    long n a b c l s p q r = omega arith
 
 -- the walk writes the header, the extended header in its pad, and the files
 pub volume_text : (h : HeadFields) (fs : List FileMeaning) (starts : List ℕ) → VolumeLaid h fs starts

@@ -26,10 +26,7 @@ is_multiple d x a e = grind (arith, common_steps, add_right_cancel, div-add-mod,
 pub multiples_apart : (a x y : ℕ) → 0 < a → x % a ≡ 0 → y % a ≡ 0 → x < y → x + a ≤ y
 multiples_apart a x y h p q l =
     let less : x / a < y / a = div_below x a (y / a) h (subst (λ n. x < n) (multiple_is a y q ∙ mul_comm a (y / a)) l) in
-    step a (x / a) (y / a) x y (mul-le-mul_left a less) (multiple_is a x p) (multiple_is a y q)
-  where
-    step : (a m n x y : ℕ) → a * suc m ≤ a * n → x ≡ a * m → y ≡ a * n → x + a ≤ y
-    step a m n x y h e f = omega arith
+    omega (arith, mul-le-mul_left a less, multiple_is a x p, multiple_is a y q)
 
 -- there is no multiple between a multiple and the next one
 pub none_between : (a d y : ℕ) → 0 < a → d % a ≡ 0 → y % a ≡ 0 → y < d + a → y ≤ d
@@ -39,10 +36,7 @@ none_between a d y h p q near = grind (arith, common_steps, cases_lt, multiples_
 
 -- a multiple of a power of two is a multiple of each smaller power of two
 coarser : (d k x : ℕ) → x % 2 ^ (d + k) ≡ 0 → x % 2 ^ k ≡ 0
-coarser d k x h = last (x / 2 ^ k % 2 ^ d * 2 ^ k) (x % 2 ^ k) (sym (mod-pow-add x d k) ∙ h)
-  where
-    last : (m n : ℕ) → m + n ≡ 0 → n ≡ 0
-    last m n e = omega arith
+coarser d k x h = omega (arith, sym (mod-pow-add x d k) ∙ h)
 
 coarser_at : (j k x : ℕ) → k ≤ j → x % 2 ^ j ≡ 0 → x % 2 ^ k ≡ 0
 coarser_at j k x l h = let e : j ≡ (j - k) + k = omega arith in coarser (j - k) k x (subst (λ n. x % 2 ^ n ≡ 0) e h)

@@ -137,10 +137,7 @@ placed_end total first fs e i done l room o =
 -- ---- 5. no placement
 
 off_none : (total e : ℕ) (f : PlacementItem) (s : ℕ) → s + f.size ≡ total → (s + f.header) % f.alignment ≡ 0 → s % 8 ≡ 0 → IsMisaligned total f → ⊥
-off_none total e f s at aligned eighth (inl a) = a (ap (λ (n : ℕ). (n + f.header) % f.alignment) (start total f.size at) ∙ aligned)
-  where
-    start : (total n : ℕ) → s + n ≡ total → total - n ≡ s
-    start total n e = omega (arith, e)
+off_none total e f s at aligned eighth (inl a) = a (ap (λ (n : ℕ). (n + f.header) % f.alignment) (omega (arith, at)) ∙ aligned)
 off_none total e f s at aligned eighth (inr b) = b (ap (λ (n : ℕ). n % 8) (start total f.size at) ∙ eighth)
   where
     start : (total n : ℕ) → s + n ≡ total → total - n ≡ s

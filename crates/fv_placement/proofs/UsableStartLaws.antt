@@ -38,14 +38,8 @@ data_at total f r a t w h v = w.joined (t + f.header) (eighth_sum t f.header v.e
 
 step_apart : (f : PlacementItem) (a s t : ℕ) → Widens a f.alignment → (s + f.header) % a ≡ 0 → (t + f.header) % a ≡ 0 → s < t → s + a ≤ t
 step_apart f a s t w p q l =
-    let far : (s + f.header) + a ≤ t + f.header = multiples_apart a (s + f.header) (t + f.header) (positive w.wide) p q (more l) in
+    let far : (s + f.header) + a ≤ t + f.header = multiples_apart a (s + f.header) (t + f.header) (omega (arith, w.wide)) p q (omega (arith, l)) in
     omega (arith, far)
-  where
-    positive : 8 ≤ a → 0 < a
-    positive g = omega arith
-
-    more : s < t → s + f.header < t + f.header
-    more g = omega arith
 
 -- if s is not usable, a usable start is at least a step after it or at least a step before it
 pub after_missed : (total : ℕ) (f : PlacementItem) (r : Reach) (a s t : ℕ) → Widens a f.alignment → f.header % 8 ≡ 0
@@ -72,24 +66,18 @@ pub from_pad : (total e : ℕ) (f : PlacementItem) (r : Reach) (a d t : ℕ) →
 from_pad total e f r a d t w h least not l v = grind (arith, common_steps, data_at)
 
 pub multiple_next : (s h a : ℕ) → (s + h) % a ≡ 0 → ((s + a) + h) % a ≡ 0
-multiple_next s h a p = mod-eq-sub-mod (reached s h a) ∙ (ap (λ n. n % a) (turned s h a) ∙ p)
+multiple_next s h a p = mod-eq-sub-mod (omega arith) ∙ (ap (λ n. n % a) (turned s h a) ∙ p)
   where
     turned : (s h a : ℕ) → ((s + a) + h) - a ≡ s + h
     turned s h a = omega arith
 
-    reached : (s h a : ℕ) → a ≤ (s + a) + h
-    reached s h a = omega arith
-
 -- ---- 3. down
 
 multiple_back : (s h a : ℕ) → (s + h) % a ≡ 0 → a ≤ s → ((s - a) + h) % a ≡ 0
-multiple_back s h a p l = ap (λ n. n % a) (turned s h a l) ∙ (sym (mod-eq-sub-mod (reached s h a l)) ∙ p)
+multiple_back s h a p l = ap (λ n. n % a) (turned s h a l) ∙ (sym (mod-eq-sub-mod (omega (arith, l))) ∙ p)
   where
     turned : (s h a : ℕ) → a ≤ s → (s - a) + h ≡ (s + h) - a
     turned s h a l = omega arith
-
-    reached : (s h a : ℕ) → a ≤ s → a ≤ s + h
-    reached s h a l = omega arith
 
 pub data_back : (d h a : ℕ) → h ≤ d → d % a ≡ 0 → ((d - h) + h) % a ≡ 0
 data_back d h a l p = ap (λ n. n % a) (back d h l) ∙ p
@@ -102,10 +90,7 @@ data_back d h a l p = ap (λ n. n % a) (back d h l) ∙ p
 pub data_most : (total : ℕ) (f : PlacementItem) (r : Reach) (a d t : ℕ) → Widens a f.alignment → f.header % 8 ≡ 0
     → ((y : ℕ) → y % a ≡ 0 → y ≤ r.greatest - up_to_8 f.size + f.header → y ≤ d) → IsUsableStart total f r t → t + f.header ≤ d
 data_most total f r a d t w h most v =
-    most (t + f.header) (data_at total f r a t w h v) (ends f.size f.header v.eighth (usable_most r (up_to_8 (t + f.size)) v.edge))
-  where
-    ends : (n k : ℕ) → t % 8 ≡ 0 → up_to_8 (t + n) ≤ r.greatest → t + k ≤ r.greatest - up_to_8 n + k
-    ends n k p q = omega arith
+    most (t + f.header) (data_at total f r a t w h v) (omega (arith, v.eighth, usable_most r (up_to_8 (t + f.size)) v.edge))
 
 -- if the start with its data at d is not usable, a usable start is at least a step before it
 pub below_missed : (total : ℕ) (f : PlacementItem) (r : Reach) (a d t : ℕ) → Widens a f.alignment → f.header % 8 ≡ 0 → d % a ≡ 0

@@ -110,13 +110,10 @@ put_file-returns-clause-bytes g t c =
 pub put_files-overflow_sub-start : goal.put_files-overflow_sub-start
 put_files-overflow_sub-start g t c = (at_file _ _ _ _ _ _ c.loop-i-test.true c.index-files-i.is c.loop-i.invariant.placed).here.low
 
-pub put_files-put_gap-requires-clause-fits : goal.put_files-put_gap-requires-clause-fits
-put_files-put_gap-requires-clause-fits g t c =
-    (at_file _ _ _ _ _ _ c.loop-i-test.true c.index-files-i.is c.loop-i.invariant.placed).here.apart
-
-pub put_files-put_gap-requires-clause-multiple : goal.put_files-put_gap-requires-clause-multiple
-put_files-put_gap-requires-clause-multiple g t c =
-    (at_file _ _ _ _ _ _ c.loop-i-test.true c.index-files-i.is c.loop-i.invariant.placed).here.multiple
+pub put_files-put_gap-requires : goal.put_files-put_gap-requires
+put_files-put_gap-requires g t c =
+    let at = (at_file _ _ _ _ _ _ c.loop-i-test.true c.index-files-i.is c.loop-i.invariant.placed).here in
+    record { fits = at.apart; multiple = at.multiple }
 
 pub put_files-put_file-rest-requires : goal.put_files-put_file-rest-requires
 put_files-put_file-rest-requires g t c κs within =

@@ -1,25 +1,19 @@
-use Rattle.std.proofs.Common.{◌≡◌, ◌≤◌, ◌⊎◌, inl, inr, ◌-◌, ℕ, List, [], ◌++◌, refl, sym, ap, ◌∙◌, subst, arith, append_assoc}
+use Rattle.std.proofs.Common.{◌-◌, ℕ, List, [], ◌++◌, refl, sym, ap, ◌∙◌, subst, arith, append_assoc}
 use Rattle.fv_canon.specs.Words.{pad_bytes, long_pad, gap_bytes}
 use Rattle.fv_canon.proofs.PadLaws.{gap_none, pads_rule}
 use Rattle.fv_canon.proofs.pads_and_headers.put_gap.Goals as goal
-
-least_of : (n : ℕ) → (n ≡ 0) ⊎ (24 ≤ n) → (n ≡ 0 → ⊥) → 24 ≤ n
-least_of n (inl z) h = absurd (h z)
-least_of n (inr l) h = l
 
 pub returns-then-gap-eq0 : goal.returns-then-gap-eq0
 returns-then-gap-eq0 g c = subst (λ (xs : List ℕ). g.S.Sink.takes c.args.out.now xs c.args.out.now)
     (sym (gap_none c.args.polarity c.args.gap c.if-gap-eq0.true)) (g.S.Sink.laws.none c.args.out.now)
 
 pub loop-left-init : goal.loop-left-init
-loop-left-init g c =
-    let least = least_of c.args.gap c.requires.fits (λ z. c.if-gap-eq0.false z) in
-    record {
-      least = least;
-      most = omega arith;
-      multiple = c.requires.multiple;
-      done = record { front = []; taken = g.S.Sink.laws.none c.args.out.now; whole_is = refl };
-    }
+loop-left-init g c = record {
+  least = omega (arith, c.requires.fits, c.if-gap-eq0.false);
+  most = omega arith;
+  multiple = c.requires.multiple;
+  done = record { front = []; taken = g.S.Sink.laws.none c.args.out.now; whole_is = refl };
+}
 
 pub loop-left-preserved : goal.loop-left-preserved
 loop-left-preserved g c =

@@ -1,4 +1,4 @@
-use Rattle.std.proofs.Common.{◌≡◌, ◌≤◌, ◌<◌, ◌+◌, ◌-◌, ℕ, suc, length, get_or, sym, ap, ◌∙◌, arith}
+use Rattle.std.proofs.Common.{◌≡◌, ◌≤◌, ◌<◌, ◌+◌, ◌-◌, ℕ, length, get_or, sym, ap, ◌∙◌, arith}
 use Rattle.std.specs.Prelude.{map}
 use Rattle.std.proofs.lemmas.Grind.{common_steps}
 use Rattle.std.proofs.lemmas.List.{length-map}
@@ -10,9 +10,6 @@ use Rattle.fv_tree.specs.Words.{data_len_of}
 use Rattle.fv_canon.proofs.VolumeWalks.{used_last}
 use Rattle.fv_canon.proofs.pads_and_headers.used_end.Goals.{After-data_len}
 use Rattle.fv_canon.proofs.pads_and_headers.used_end.Goals as goal
-
-one_more : (n : ℕ) → 0 < n → n ≡ suc (n - 1)
-one_more n l = omega (arith, l)
 
 pub bounds-own-last : goal.bounds-own-last
 bounds-own-last c =
@@ -28,7 +25,7 @@ last_end c =
     let some : 0 < length c.args.files.now = grind (arith, common_steps, c.is_empty.ensures, c.if-is_empty.false) in
     let n : ℕ = length c.args.files.now - 1 in
     let r = used_last c.requires.0 c.args.first c.args.first c.args.files.now c.args.own.now n c.index-files-last.result
-    (one_more (length c.args.files.now) some) c.requires.1.follow in
+    (omega (arith, some)) c.requires.1.follow in
     let same = ap (λ (k : ℕ). get_or c.args.own.now n 0 + size_for k) (c.data_len.ensures ∙ ap data_len_of c.index-files-last.is) in
     (same ∙ sym r.0, omega (arith, r.1, same, c.requires.1.limit))
 
