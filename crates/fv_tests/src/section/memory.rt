@@ -59,6 +59,16 @@ const GUID: [u8; 16] = [
     0x10, 0x11, 0x12, 0x13, 0x14, 0x15, 0x16, 0x17, 0x18, 0x19, 0x1a, 0x1b, 0x1c, 0x1d, 0x1e, 0x1f,
 ];
 
+// Returns whether the body has this text.
+fn has_text(body: &[u8], text: &[u8]) -> bool {
+    ui_text(body) == Some(text)
+}
+
+// Returns whether the body has this build number and text.
+fn has_version(body: &[u8], number: u16, text: &[u8]) -> bool {
+    version(body) == Some((number, text))
+}
+
 // Returns whether the body has this GUID, and these bytes after it.
 fn has_freeform_parts(body: &[u8], name: &[u8], bytes: &[u8]) -> bool {
     match freeform(body) {
@@ -72,9 +82,11 @@ fn has_freeform_parts(body: &[u8], name: &[u8], bytes: &[u8]) -> bool {
 
 // Returns whether the calls that do not allocate return the right results for texts.
 fn texts_are_right() -> bool {
-    ui_text(&[0x41, 0x00, 0x42, 0x00, 0x00, 0x00]) == Some([0x41, 0x00, 0x42, 0x00].as_slice())
-        && version(&[0x01, 0x00, 0x31, 0x00, 0x00, 0x00]) == Some((1, [0x31, 0x00].as_slice()))
-        && version(&[0x34, 0x12, 0x00, 0x00]) == Some((0x1234, b"".as_slice()))
+    has_text(
+        &[0x41, 0x00, 0x42, 0x00, 0x00, 0x00],
+        &[0x41, 0x00, 0x42, 0x00],
+    ) && has_version(&[0x01, 0x00, 0x31, 0x00, 0x00, 0x00], 1, &[0x31, 0x00])
+        && has_version(&[0x34, 0x12, 0x00, 0x00], 0x1234, &[])
 }
 
 // Returns whether the calls that do not allocate return the right results for freeform bodies.
