@@ -63,22 +63,14 @@ const FORMS: &str = "\
     1BA0062E-C779-4582-8566-336AE8F78F09 1BA0062EC77945828566336AE8F78F09 \
     {1BA0062E-C779-4582-8566-336AE8F78F09}";
 
-// Returns whether all forms in a line are read as the same GUID.
-fn gives_one_guid(line: &str) -> Option<bool> {
-    let mut forms = line.split_whitespace();
-    let guid = Guid::parse(forms.next()?)?;
-    for form in forms {
-        if Guid::parse(form)? != guid {
-            return Some(false);
-        }
-    }
-    Some(true)
-}
-
+// All forms in a line are read as the same GUID.
 #[test]
 fn guids_are_parsed_from_each_form(rt: HostRuntime) {
     for line in FORMS.lines() {
-        assert!(rt; gives_one_guid(line) == Some(true), "{line}");
+        let guid = Guid::parse(line.split_whitespace().next().unwrap_or(""));
+        for form in line.split_whitespace() {
+            assert!(rt; guid.is_some() && Guid::parse(form) == guid, "{form}");
+        }
     }
 }
 

@@ -38,11 +38,18 @@ fn long_expression() -> [u8; 2003] {
     bytes
 }
 
-// Returns whether an expression is written as these bytes.
-fn is_written_as(alloc: Global, depex: &Depex, bytes: &[u8]) -> bool {
+/// The fault that a call returns if memory ran out.
+const OUT_OF_MEMORY: DepexFault = DepexFault {
+    kind: DepexFaultKind::OutOfMemory,
+    offset: 0,
+};
+
+// Returns whether an expression is written as these bytes. If `is_scarce` is set, memory may also
+// run out.
+fn is_written_as(alloc: Global, depex: &Depex, bytes: &[u8], is_scarce: bool) -> bool {
     match depex_bytes(alloc, depex) {
         Ok(written) => written.as_slice() == bytes,
-        Err(_) => false,
+        Err(fault) => is_scarce && fault == OUT_OF_MEMORY,
     }
 }
 

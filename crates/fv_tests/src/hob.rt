@@ -9,7 +9,7 @@ mod memory;
 mod read;
 mod written;
 
-use fv_hob::{HobList, hob_bytes};
+use fv_hob::{HobFault, HobFaultKind, HobList, hob_bytes};
 use std::alloc::Global;
 
 /// Blocks, or parts of them.
@@ -145,10 +145,16 @@ fn header_of(code: u16, length: u16) -> [u8; 4] {
     [code_low, code_high, length_low, length_high]
 }
 
-// Returns whether a list is written as these bytes.
-fn is_list_written_as(alloc: Global, list: &HobList, expected: &[u8]) -> bool {
+/// The fault that a call returns if memory ran out.
+const OUT_OF_MEMORY: HobFault = HobFault {
+    kind: HobFaultKind::OutOfMemory,
+    offset: 0,
+};
+
+// Returns whether a list is written as these bytes. If `is_scarce` is set, memory may also run out.
+fn is_list_written_as(alloc: Global, list: &HobList, expected: &[u8], is_scarce: bool) -> bool {
     match hob_bytes(alloc, list) {
         Ok(written) => written.as_slice() == expected,
-        Err(_) => false,
+        Err(fault) => is_scarce && fault == OUT_OF_MEMORY,
     }
 }

@@ -87,54 +87,32 @@ fn first_thousand() -> [u8; 1000] {
     bytes
 }
 
-// Returns a reader that fails after `good` of the bytes.
-fn failing_reader<'a>(bytes: &'a [u8], good: usize) -> Port<FailingReader<'a>> {
-    Port::new(FailingReader {
+// Returns whether a reader that fails after `good` of the bytes is reported as failing at this
+// offset or, if it gives more bytes than there are, all bytes are read. The port remembers an error
+// in both cases, because an interruption is an error too.
+fn is_read_until_failure(alloc: Global, bytes: &[u8], good: usize) -> bool {
+    let mut reader = Port::new(FailingReader {
         bytes,
         calls: 0,
         good,
-    })
-}
-
-// Returns whether all bytes are read, and the port remembers an error. An interruption is an error
-// too.
-fn is_read_on(alloc: Global, bytes: &[u8], good: usize) -> bool {
-    let mut reader = failing_reader(bytes, good);
+    });
     match read_input(alloc, &mut reader) {
-        Ok(got) => got.as_slice() == bytes && reader.erred(),
-        Err(_) => false,
+        Ok(got) => good > bytes.len() && got.as_slice() == bytes && reader.erred(),
+        Err(fault) => {
+            good <= bytes.len()
+                && fault == Fault::outer(FaultKind::ReadFault, good as u64)
+                && reader.erred()
+        }
     }
 }
 
-// The reader fails only after one byte more than there are, so the reading finds the end of the
-// input.
-#[test]
-fn reading_goes_on_after_an_interruption(rt: HostRuntime) {
-    assert!(rt; is_read_on(rt.alloc(), &first_thousand(), 1001));
-}
-
-// Returns whether a read that fails after `good` of the bytes is reported at this offset.
-fn fails_after(alloc: Global, bytes: &[u8], good: usize) -> bool {
-    let mut reader = failing_reader(bytes, good);
-    match read_input(alloc, &mut reader) {
-        Ok(_got) => false,
-        Err(fault) => { fault == Fault::outer(FaultKind::ReadFault, good as u64) && reader.erred() }
-    }
-}
-
+// Reading goes on after an interruption. The last reader fails only after one byte more than there
+// are, so the reading finds the end of the input.
 #[test]
 fn a_failed_read_is_reported_at_its_offset(rt: HostRuntime) {
     let bytes = first_thousand();
-    for good in [0usize, 1, 2, 7, 1000] {
-        assert!(rt; fails_after(rt.alloc(), &bytes, good), "{good}");
-    }
-}
-
-// Returns the number of bytes that are read, or the fault.
-fn read_count(alloc: Global, reader: &mut Port<CountingReader>) -> Result<usize, Fault> {
-    match read_input(alloc, reader) {
-        Ok(got) => Ok(got.len()),
-        Err(fault) => Err(fault),
+    for good in [0usize, 1, 2, 7, 1000, 1001] {
+        assert!(rt; is_read_until_failure(rt.alloc(), &bytes, good), "{good}");
     }
 }
 
@@ -147,7 +125,10 @@ fn is_read_in(
     calls: u64,
     largest: usize,
 ) -> bool {
-    let outcome = read_count(alloc, &mut reader);
+    let outcome = match read_input(alloc, &mut reader) {
+        Ok(got) => Ok(got.len()),
+        Err(fault) => Err(fault),
+    };
     let reader = reader.into_inner();
     outcome == want && reader.calls == calls && reader.largest == largest
 }

@@ -1,17 +1,11 @@
 //! Failed allocations: `.ci/memory` makes each allocation of the test fail in turn, and no wrong
 //! result may be returned.
 
-use super::A;
 use super::read::NOT_A;
+use super::{A, OUT_OF_MEMORY, is_written_as};
 use fv_base::Guid;
-use fv_depex::{Depex, DepexFault, DepexFaultKind, Phase, depex_bytes, evaluate, read_depex};
+use fv_depex::{Depex, Phase, evaluate, read_depex};
 use std::alloc::Global;
-
-/// The fault that a call returns if memory ran out.
-const OUT_OF_MEMORY: DepexFault = DepexFault {
-    kind: DepexFaultKind::OutOfMemory,
-    offset: 0,
-};
 
 /// FALSE, five times TRUE, four times AND, OR and END, and two bytes after END.
 const SEVERAL: [u8; 14] = [
@@ -21,20 +15,12 @@ const SEVERAL: [u8; 14] = [
 /// Bodies, and their values if A is installed.
 const BODIES: [(&[u8], bool); 2] = [(&NOT_A, false), (&SEVERAL, true)];
 
-// Returns whether an expression is written as it was read, or memory ran out.
-fn is_written_or_out_of_memory(alloc: Global, depex: &Depex, bytes: &[u8]) -> bool {
-    match depex_bytes(alloc, depex) {
-        Ok(written) => written.as_slice() == bytes,
-        Err(fault) => fault == OUT_OF_MEMORY,
-    }
-}
-
 // Returns whether an expression has this truth value and is written as it was read, or memory ran
 // out.
 fn has_value_or_out_of_memory(alloc: Global, depex: &Depex, bytes: &[u8], value: bool) -> bool {
     let truth = evaluate(alloc, depex, &[Guid::from_bytes(A)]);
     let is_right = truth == Ok(Some(value)) || truth == Err(OUT_OF_MEMORY);
-    is_written_or_out_of_memory(alloc, depex, bytes) && is_right
+    is_written_as(alloc, depex, bytes, true) && is_right
 }
 
 // Returns whether a body is read and has this truth value, or memory ran out.

@@ -56,7 +56,7 @@ const BODIES: &[(Phase, Parts)] = &[
 // Returns whether a body is written as it was read.
 fn is_written_back(alloc: Global, bytes: &[u8], phase: Phase) -> bool {
     match read_depex(alloc, bytes, phase) {
-        Ok(depex) => is_written_as(alloc, &depex, bytes),
+        Ok(depex) => is_written_as(alloc, &depex, bytes, false),
         Err(_) => false,
     }
 }

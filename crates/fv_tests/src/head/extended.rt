@@ -209,7 +209,7 @@ fn extended_headers_are_read(rt: HostRuntime) {
 }
 
 // Writes the volume header, or the extended header with a used size of 152, until `full` is full.
-pub(super) fn write_to(head: &VolumeHead, is_ext: bool, full: &mut [u8]) -> Result<(), Fault> {
+fn write_to(head: &VolumeHead, is_ext: bool, full: &mut [u8]) -> Result<(), Fault> {
     let mut port = Port::new(full);
     match head.ext() {
         Some(ext) if is_ext => write_ext(ext, 152, &mut port),
@@ -218,7 +218,7 @@ pub(super) fn write_to(head: &VolumeHead, is_ext: bool, full: &mut [u8]) -> Resu
 }
 
 // Returns whether as many of these bytes are written as there is room for.
-fn is_written_until(head: &VolumeHead, is_ext: bool, whole: &[u8], room: usize) -> bool {
+pub(super) fn is_written_until(head: &VolumeHead, is_ext: bool, whole: &[u8], room: usize) -> bool {
     let mut taken = [0u8; 72];
     let outcome = write_to(head, is_ext, &mut taken[..room.min(72)]);
     let expected = if room < whole.len() {

@@ -1,7 +1,7 @@
 //! The fields of a header, and failed allocations: `.ci/memory` makes each allocation of the test
 //! fail in turn, and no wrong result may be returned.
 
-use super::extended::{BARE, has_ext, image_ext, image_head, write_to};
+use super::extended::{BARE, has_ext, image_ext, image_head, is_written_until};
 use crate::faults::OUT_OF_MEMORY;
 use bitflags::Flags;
 use fv_base::{ByteList, Fault, FileSystem, Polarity};
@@ -48,20 +48,13 @@ fn has_heads_or_out_of_memory(alloc: Global, head: &VolumeHead) -> bool {
         && is_expected_or_out_of_memory(ext_bytes(alloc, ext, 0), &BARE[72..100])
 }
 
-// Returns whether these bytes are written if there is just enough room for them.
-fn is_written(head: &VolumeHead, is_ext: bool, wanted: &[u8]) -> bool {
-    let mut taken = [0u8; 72];
-    let room = wanted.len().min(72);
-    write_to(head, is_ext, &mut taken[..room]) == Ok(()) && &taken[..room] == wanted
-}
-
 // Returns whether the calls that do not allocate return the right results.
 fn calls_without_memory_are_right(head: &VolumeHead) -> bool {
     verify_fv(&BARE) == Ok(EXTENT)
         && is_one_volume(&BARE)
         && first_edge(head) == 128
-        && is_written(head, false, &image_head())
-        && is_written(head, true, image_ext())
+        && is_written_until(head, false, &image_head(), 72)
+        && is_written_until(head, true, image_ext(), 28)
 }
 
 // Returns whether the bare volume is read, and its headers are made again, or memory ran out.

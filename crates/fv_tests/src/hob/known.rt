@@ -57,7 +57,7 @@ const SECOND: Said = Said::Handoff(Handoff {
 });
 
 /// The list of 160 bytes.
-pub(super) const KNOWN_LIST: Known = Known {
+const KNOWN_LIST: Known = Known {
     parts: LIST,
     length: 160,
     blocks: &[
@@ -80,7 +80,7 @@ pub(super) const KNOWN_LIST: Known = Known {
 };
 
 /// The list of all types.
-pub(super) const KNOWN_TYPES: Known = Known {
+const KNOWN_TYPES: Known = Known {
     parts: TYPES,
     length: 448,
     blocks: &[

@@ -39,7 +39,7 @@ fn list_with(alloc: Global, code: u16, length: u16) -> Result<Vec<u8>, AllocErro
 // Returns whether the bytes are read as a list, and written as they were.
 fn is_written_back(alloc: Global, bytes: &[u8]) -> bool {
     match read_hobs(alloc, bytes) {
-        Ok((list, _)) => is_list_written_as(alloc, &list, bytes),
+        Ok((list, _)) => is_list_written_as(alloc, &list, bytes, false),
         Err(_) => false,
     }
 }

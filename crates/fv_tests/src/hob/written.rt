@@ -51,7 +51,7 @@ fn is_long_list(alloc: Global, bytes: &[u8]) -> bool {
             list.as_slice().len() == 1002
                 && length == 24064
                 && has_thousand_volumes(alloc, &list)
-                && is_list_written_as(alloc, &list, bytes)
+                && is_list_written_as(alloc, &list, bytes, false)
         }
         Err(_) => false,
     }
