@@ -150,7 +150,7 @@ fn file_of<'a>(cell: &Cell<'a>) -> Option<LocatedFile<'a>>
 }
 
 // Returns the number of files for which room is allocated at once. A volume that has free bytes has
-// them in the last of its cells, which is no file.
+// them in the last of its cells, which is not a file.
 fn room_for(cells: &[Cell<'_>]) -> usize
     ensures { result ≤ length_of cells.now }
 {
