@@ -142,14 +142,12 @@ fn front_bytes(head: &VolumeHead<'_>, checksum: u16) -> [u8; BLOCK_MAP_OFFSET]
     );
     LittleEndian::write_u16(&mut bytes[CHECKSUM_OFFSET..], checksum);
     LittleEndian::write_u16(&mut bytes[HEADER_LENGTH_OFFSET..], head.header_len());
-    LittleEndian::write_u32(
-        &mut bytes[ATTRIBUTES_OFFSET..],
-        head.attributes().bits(),
-    );
+    LittleEndian::write_u32(&mut bytes[ATTRIBUTES_OFFSET..], head.attributes().bits());
     bytes[SIGNATURE_OFFSET..ATTRIBUTES_OFFSET].copy_from_slice(&SIGNATURE);
     LittleEndian::write_u64(&mut bytes[FV_LENGTH_OFFSET..], head.length());
-    bytes[FILE_SYSTEM_GUID_OFFSET..FV_LENGTH_OFFSET]
-        .copy_from_slice(&system_guid(head.file_system()).to_bytes());
+    bytes[FILE_SYSTEM_GUID_OFFSET..FV_LENGTH_OFFSET].copy_from_slice(&system_guid(
+        head.file_system(),
+    ).to_bytes());
     bytes[..FILE_SYSTEM_GUID_OFFSET].copy_from_slice(head.zero_vector());
     bytes
 }

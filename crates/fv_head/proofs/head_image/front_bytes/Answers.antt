@@ -10,7 +10,7 @@ returns-clause-bytes c =
     let h = c.args.head.now in
     rw (
       ← nine_joined h.zero_vector (system_guid h.file_system) (le_bytes 8 h.length) signature_bytes (le_bytes 4 h.attributes)
-      (le_bytes 2 (header_len_of h)) (le_bytes 2 c.args.checksum) (le_bytes 2 (canonical_offset h h.ext)) (h.reserved ∷ 2 ∷ []),
+          (le_bytes 2 (header_len_of h)) (le_bytes 2 c.args.checksum) (le_bytes 2 (canonical_offset h h.ext)) (h.reserved ∷ 2 ∷ []),
       shr-shr h.length 8 8,
       shr-shr h.length 16 8,
       shr-shr h.length 24 8,
