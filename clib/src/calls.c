@@ -28,6 +28,9 @@ fv_result fvp_hobs_read(const void *, size_t, fv_hob *, size_t, size_t *, size_t
 /* The checks are inlined into each call, so most of their numbers are known there. */
 #define INLINE static inline __attribute__((always_inline))
 
+/* In almost every call this condition holds. */
+#define LIKELY(condition) __builtin_expect(condition, true)
+
 /* An argument: its address, the number of its elements, their size and alignment, and whether the call writes to it. */
 struct span {
     uintptr_t at;
@@ -42,21 +45,27 @@ struct span {
 #define RESULT(pointer) ROWS(pointer, 1)
 #define NONE BYTES(NULL, 0)
 
-/* Returns whether this argument on its own is not allowed. The last comparison finds NULL too, because 0 - 1 is the
- * largest address. */
+/* Returns the address after the last byte of an argument, or 0 for an empty argument. Every argument begins at or after
+ * address 0, so none overlaps an empty argument. */
+INLINE uintptr_t end_of(struct span it)
+{
+    return LIKELY(it.count != 0) ? it.at + it.count * it.size : 0;
+}
+
+/* Returns whether this argument on its own is not allowed. The last comparison finds NULL, where the end is the number
+ * of bytes, and a size that reaches past the last address, where the end is less than this number. */
 INLINE bool is_bad(struct span it)
 {
     if (it.at % it.align) return true;
     if (!it.count) return false;
-    return it.count > SIZE_MAX / 2 / it.size || it.at - 1 >= UINTPTR_MAX - it.count * it.size;
+    return it.count > SIZE_MAX / 2 / it.size || end_of(it) <= it.count * it.size;
 }
 
 /* Returns whether these two arguments, each of which is allowed on its own, have a byte in common, and the call writes
  * to one of them. */
 INLINE bool collide(struct span a, struct span b)
 {
-    if (!(a.is_result || b.is_result) || !a.count || !b.count) return false;
-    return a.at < b.at + b.count * b.size && b.at < a.at + a.count * a.size;
+    return (a.is_result || b.is_result) && a.at < end_of(b) && b.at < end_of(a);
 }
 
 /* Returns whether one of the arguments is not allowed, or overlaps an argument to which the call writes. */
@@ -67,35 +76,42 @@ INLINE bool are_bad(struct span a, struct span b, struct span c, struct span d, 
            collide(b, e) || collide(c, d) || collide(c, e) || collide(d, e);
 }
 
-/* Returns FV_BAD_ARGUMENT from the call if one of these two to four arguments is bad, or `fault`. If the caller does
- * not ask for the fault, it is written to a variable of the call. */
+/* Returns FV_BAD_ARGUMENT from the call if one of these two to four arguments is bad, or `fault`. */
 #define CHECK(...) CHECK_FOUR(__VA_ARGS__, NONE, NONE, NONE)
-#define CHECK_FOUR(a, b, c, d, ...)                                                            \
-    fv_fault unwanted;                                                                         \
-    if (!fault) fault = &unwanted;                                                             \
-    if (__builtin_expect(are_bad(RESULT(fault), a, b, c, d), 0)) return FV_BAD_ARGUMENT
+#define CHECK_FOUR(a, b, c, d, ...) \
+    if (!LIKELY(!are_bad(RESULT(fault), a, b, c, d))) return FV_BAD_ARGUMENT
+
+/* If the caller does not ask for the fault, makes the call again with a variable `unwanted`. No other path of the call
+ * has a variable on the stack, so the proved call can take the place of this one. */
+#define NEEDS_FAULT(...)                  \
+    if (!LIKELY(fault != NULL)) {         \
+        fv_fault unwanted;                \
+        return __VA_ARGS__;               \
+    }
 
 /* The target of an empty argument that is NULL. It is aligned for each type of fv.h, and neither read nor written. */
 static _Alignas(16) uint8_t nothing[16];
 
 INLINE const void *input(const void *pointer)
 {
-    return pointer ? pointer : nothing;
+    return LIKELY(pointer != NULL) ? pointer : nothing;
 }
 
 INLINE void *buffer_of(void *pointer)
 {
-    return pointer ? pointer : nothing;
+    return LIKELY(pointer != NULL) ? pointer : nothing;
 }
 
 fv_result fv_header_read(const void *bytes, size_t size, fv_header *header, fv_fault *fault)
 {
+    NEEDS_FAULT(fv_header_read(bytes, size, header, &unwanted))
     CHECK(BYTES(bytes, size), RESULT(header));
     return fvp_header_read(input(bytes), size, header, fault);
 }
 
 fv_result fv_image_scan(const void *image, size_t size, fv_header *rows, size_t room, size_t *count, fv_fault *fault)
 {
+    NEEDS_FAULT(fv_image_scan(image, size, rows, room, count, &unwanted))
     CHECK(BYTES(image, size), ROWS(rows, room), RESULT(count));
     return fvp_image_scan(input(image), size, buffer_of(rows), room, count, fault);
 }
@@ -103,36 +119,42 @@ fv_result fv_image_scan(const void *image, size_t size, fv_header *rows, size_t 
 fv_result fv_image_check(const void *image, size_t size, fv_volume_check *rows, size_t room, size_t *count,
                          fv_fault *fault)
 {
+    NEEDS_FAULT(fv_image_check(image, size, rows, room, count, &unwanted))
     CHECK(BYTES(image, size), ROWS(rows, room), RESULT(count));
     return fvp_image_check(input(image), size, buffer_of(rows), room, count, fault);
 }
 
 fv_result fv_image_normalise(const void *image, size_t size, void *buffer, size_t buffer_size, fv_fault *fault)
 {
+    NEEDS_FAULT(fv_image_normalise(image, size, buffer, buffer_size, &unwanted))
     CHECK(BYTES(image, size), BUFFER(buffer, buffer_size));
     return fvp_image_normalise(input(image), size, buffer_of(buffer), buffer_size, fault);
 }
 
 fv_result fv_volume_is_canonical(const void *volume, size_t size, uint32_t *canonical, fv_fault *fault)
 {
+    NEEDS_FAULT(fv_volume_is_canonical(volume, size, canonical, &unwanted))
     CHECK(BYTES(volume, size), RESULT(canonical));
     return fvp_volume_is_canonical(input(volume), size, canonical, fault);
 }
 
 fv_result fv_volume_normalise(const void *volume, size_t size, void *buffer, size_t buffer_size, fv_fault *fault)
 {
+    NEEDS_FAULT(fv_volume_normalise(volume, size, buffer, buffer_size, &unwanted))
     CHECK(BYTES(volume, size), BUFFER(buffer, buffer_size));
     return fvp_volume_normalise(input(volume), size, buffer_of(buffer), buffer_size, fault);
 }
 
 fv_result fv_volume_unfix(const void *volume, size_t size, void *buffer, size_t buffer_size, fv_fault *fault)
 {
+    NEEDS_FAULT(fv_volume_unfix(volume, size, buffer, buffer_size, &unwanted))
     CHECK(BYTES(volume, size), BUFFER(buffer, buffer_size));
     return fvp_volume_unfix(input(volume), size, buffer_of(buffer), buffer_size, fault);
 }
 
 fv_result fv_volume_digest(const void *volume, size_t size, fv_sha256 *digest, fv_fault *fault)
 {
+    NEEDS_FAULT(fv_volume_digest(volume, size, digest, &unwanted))
     CHECK(BYTES(volume, size), RESULT(digest));
     return fvp_volume_digest(input(volume), size, digest, fault);
 }
@@ -140,6 +162,7 @@ fv_result fv_volume_digest(const void *volume, size_t size, fv_sha256 *digest, f
 fv_result fv_volume_compare(const void *first, size_t first_size, const void *second, size_t second_size, char *text,
                             size_t text_size, fv_comparison *found, fv_fault *fault)
 {
+    NEEDS_FAULT(fv_volume_compare(first, first_size, second, second_size, text, text_size, found, &unwanted))
     CHECK(BYTES(first, first_size), BYTES(second, second_size), BUFFER(text, text_size), RESULT(found));
     return fvp_volume_compare(input(first), first_size, input(second), second_size, buffer_of(text), text_size, found,
                               fault);
@@ -147,12 +170,14 @@ fv_result fv_volume_compare(const void *first, size_t first_size, const void *se
 
 fv_result fv_volume_cells(const void *volume, size_t size, fv_cell *rows, size_t room, size_t *count, fv_fault *fault)
 {
+    NEEDS_FAULT(fv_volume_cells(volume, size, rows, room, count, &unwanted))
     CHECK(BYTES(volume, size), ROWS(rows, room), RESULT(count));
     return fvp_volume_cells(input(volume), size, buffer_of(rows), room, count, fault);
 }
 
 fv_result fv_volume_tree(const void *volume, size_t size, fv_node *rows, size_t room, size_t *count, fv_fault *fault)
 {
+    NEEDS_FAULT(fv_volume_tree(volume, size, rows, room, count, &unwanted))
     CHECK(BYTES(volume, size), ROWS(rows, room), RESULT(count));
     return fvp_volume_tree(input(volume), size, buffer_of(rows), room, count, fault);
 }
@@ -160,6 +185,7 @@ fv_result fv_volume_tree(const void *volume, size_t size, fv_node *rows, size_t 
 fv_result fv_volume_tree_digests(const void *volume, size_t size, fv_sha256 *rows, size_t room, size_t *count,
                                  fv_fault *fault)
 {
+    NEEDS_FAULT(fv_volume_tree_digests(volume, size, rows, room, count, &unwanted))
     CHECK(BYTES(volume, size), ROWS(rows, room), RESULT(count));
     return fvp_volume_tree_digests(input(volume), size, buffer_of(rows), room, count, fault);
 }
@@ -167,6 +193,7 @@ fv_result fv_volume_tree_digests(const void *volume, size_t size, fv_sha256 *row
 fv_result fv_volume_extract(const void *volume, size_t size, size_t row, void *buffer, size_t buffer_size,
                             size_t *length, fv_fault *fault)
 {
+    NEEDS_FAULT(fv_volume_extract(volume, size, row, buffer, buffer_size, length, &unwanted))
     CHECK(BYTES(volume, size), BUFFER(buffer, buffer_size), RESULT(length));
     return fvp_volume_extract(input(volume), size, row, buffer_of(buffer), buffer_size, length, fault);
 }
@@ -174,6 +201,7 @@ fv_result fv_volume_extract(const void *volume, size_t size, size_t row, void *b
 fv_result fv_depex_evaluate(const void *expression, size_t size, uint32_t phase, const fv_guid *installed,
                             size_t installed_count, uint32_t *value, fv_fault *fault)
 {
+    NEEDS_FAULT(fv_depex_evaluate(expression, size, phase, installed, installed_count, value, &unwanted))
     if (phase > FV_PHASE_DXE) return FV_BAD_ARGUMENT;
     CHECK(BYTES(expression, size), SPAN(installed, installed_count, sizeof *installed, 1, false), RESULT(value));
     return fvp_depex_evaluate(input(expression), size, phase, input(installed), installed_count, value, fault);
@@ -182,6 +210,7 @@ fv_result fv_depex_evaluate(const void *expression, size_t size, uint32_t phase,
 fv_result fv_hobs_read(const void *list, size_t size, fv_hob *rows, size_t room, size_t *count, size_t *list_length,
                        fv_fault *fault)
 {
+    NEEDS_FAULT(fv_hobs_read(list, size, rows, room, count, list_length, &unwanted))
     CHECK(BYTES(list, size), ROWS(rows, room), RESULT(count), RESULT(list_length));
     return fvp_hobs_read(input(list), size, buffer_of(rows), room, count, list_length, fault);
 }

@@ -7,11 +7,11 @@
 --    (`patched_head`). There is one such checksum (`sum_patched`, `checksum_right`, `checksum_only`).
 -- 4. So the canonical head is a canonical header (`canonical_is`), and the only one (`canonical_only`). With its
 --    extended header in a pad file after it, it begins a volume with its fields (`canonical_front`).
--- 5. The checksum is computed from a sum of words (`weight-words`, `checksum_from`).
+-- 5. The checksum is computed from a sum of words (`weight-words`, `words_added`, `checksum_from`).
 use Rattle.std.proofs.lemmas.Grind.{common_steps}
 use Rattle.std.proofs.Common.{◌≡◌, ◌≤◌, ◌<◌, ℕ, ◌+◌, ◌-◌, ◌*◌, ◌%◌, List, [], ◌∷◌, ◌++◌, length, take, drop, refl, sym, ap, ◌∙◌, subst}
 use Rattle.std.proofs.Common.{arith, false, length-append, length-drop, append_assoc, drop-drop, rules}
-use Rattle.std.specs.Prelude.{slice_index, sum, Option, None, Some}
+use Rattle.std.specs.Prelude.{slice_index, sum, Bool, Option, None, Some}
 use Rattle.std.proofs.Math.Seq.{take-add}
 use Rattle.std.proofs.lemmas.List.{take-append-drop, take_at, drop_at, drop_more, get_or-drop, length-take-le}
 use Rattle.fv_base.specs.Words.{words_of, sum16_of, header_limit, IsBytes, le, le_bytes, field, le_at, up_to_8}
@@ -21,7 +21,7 @@ use Rattle.std.proofs.lemmas.List.Sums.{sum_by-cons}
 use Rattle.fv_head.specs.Words.{Extension, HasExt, HeadFields, IsHead, BeginsVolume, canonical_offset, IsReadHead, IsCanonicalHead}
 use Rattle.fv_head.specs.Words.{extent_of, IfRead, CanonicalRest, header_len_of, signature_bytes, system_guid, pairs_of, pairs_bytes}
 use Rattle.fv_head.specs.Words.{ext_spelled, canonical_end, first_edge, head_spelled, checksum_of, canonical_head}
-use Rattle.fv_head.specs.inner.WordSums.{word_weight}
+use Rattle.fv_head.specs.inner.WordSums.{is_high_after, word_weight}
 use Rattle.fv_head.proofs.BlockMapLemmas.{by_eights}
 use Rattle.fv_head.proofs.ExtImageLemmas.{ext_again}
 
@@ -357,6 +357,17 @@ weight-words (x ∷ y ∷ xs) h =
     let rest = weight-words xs (omega arith) in
     let first = sum_by-cons (λ (n : ℕ). n) (le (x ∷ y ∷ [])) (words_of xs) in
     omega (arith, rest, first)
+
+-- after whole words comes the low byte of a word
+high_even : (xs : List ℕ) → length xs % 2 ≡ 0 → is_high_after false xs ≡ false
+high_even [] h = refl
+high_even (x ∷ []) h = absurd (omega arith)
+high_even (x ∷ y ∷ xs) h = high_even xs (omega arith)
+
+-- whole words add their sum
+pub words_added : (high : Bool) (xs : List ℕ) (t s : ℕ) → high ≡ false → length xs % 2 ≡ 0 → s ≡ sum16_of xs
+    → (high ≡ is_high_after high xs) × ((t + s) % 65536 % 65536 ≡ (t + word_weight high xs) % 65536)
+words_added high xs t s low even is = rw (low, high_even xs even, weight-words xs even, is) (refl, omega arith)
 
 -- a header has an even number of bytes
 pub spelled_even : (h : HeadFields) (checksum offset : ℕ) → IsReadHead h → length (head_spelled h checksum offset) % 2 ≡ 0

@@ -4,7 +4,7 @@ use Rattle.std.proofs.Common.{◌≡◌, ◌<◌, ◌≤◌, ℕ, ◌+◌, ◌%�
 use Rattle.std.proofs.Common.{append_assoc, append-nil, Bool}
 use Rattle.std.specs.Prelude.{not}
 use Rattle.std.proofs.lemmas.List.{take_more, drop_more, drop_all}
-use Rattle.fv_base.specs.Words.{WalkLaws, le_bytes}
+use Rattle.fv_base.specs.Words.{le_bytes}
 use Rattle.fv_head.specs.Words.{pairs_bytes}
 use Rattle.fv_head.specs.inner.WordSums.{adds_joined, word_weight, is_high_after}
 
@@ -29,15 +29,10 @@ pub pairs_end : (front : List ℕ) (ps : List (ℕ × ℕ)) (i : ℕ) → length
     → front ≡ pairs_bytes ps
 pairs_end front ps i past is = sym (append-nil front) ∙ ap (λ (qs : List (ℕ × ℕ)). front ++ pairs_bytes qs) (sym (drop_all i ps past)) ∙ is
 
--- eleven walks in a row are one walk over the joined bytes
-pub eleven : {S : Type 0} {takes : S → List ℕ → S → Type 0} (laws : WalkLaws takes) {s0 s1 s2 s3 s4 s5 s6 s7 s8 s9 s10 s11 : S}
-    {a b c d e f g h i j k : List ℕ}
-    → takes s0 a s1 → takes s1 b s2 → takes s2 c s3 → takes s3 d s4 → takes s4 e s5 → takes s5 f s6 → takes s6 g s7 → takes s7 h s8
-    → takes s8 i s9 → takes s9 j s10 → takes s10 k s11
-    → takes s0 (a ++ b ++ c ++ d ++ e ++ f ++ g ++ h ++ i ++ j ++ k) s11
-eleven laws p1 p2 p3 p4 p5 p6 p7 p8 p9 p10 p11 =
-    laws.joined (laws.joined (laws.joined (laws.joined (laws.joined (laws.joined (laws.joined (laws.joined (laws.joined (laws.joined
-    p1 p2) p3) p4) p5) p6) p7) p8) p9) p10) p11
+-- nine lists that are joined from the right are the same lists joined from the left
+pub nine_joined : (a b c d e f g h i : List ℕ)
+    → a ++ (b ++ (c ++ (d ++ (e ++ (f ++ (g ++ (h ++ i))))))) ≡ a ++ b ++ c ++ d ++ e ++ f ++ g ++ h ++ i
+nine_joined a b c d e f g h i = simp append_assoc refl
 
 -- a walk over some bytes is a walk over equal bytes
 pub renamed : {S : Type 0} (takes : S → List ℕ → S → Type 0) {s t : S} {a b : List ℕ} → takes s a t → a ≡ b → takes s b t

@@ -1,3 +1,4 @@
 -- Definitions that only private clauses cite: a reviewer does not need to read them.
+pub mod HeadFronts
 pub mod HeadVerdicts
 pub mod WordSums

@@ -8,15 +8,21 @@ ghost use Rattle.fv_head.specs.Pairs.{pairs_bytes};
 ghost use Rattle.fv_head.specs.HeadReads.{CanonicalRest, IfRead};
 ghost use Rattle.fv_head.specs.ExtImage.{canonical_end, first_edge};
 ghost use Rattle.fv_head.specs.HeadImage.{head_spelled, canonical_head, checksum_of};
+ghost use Rattle.fv_head.specs.inner.HeadFronts.{front_spelled};
 ghost use Rattle.fv_head.specs.inner.WordSums.{adds_words_by, AddsWords, word_weight};
 
 use crate::ext_image::len_of_ext;
 use crate::head::VolumeHead;
 use crate::header_checks::{REVISION, SIGNATURE, system_guid};
+use crate::offsets::{
+    ATTRIBUTES_OFFSET, BLOCK_MAP_OFFSET, CHECKSUM_OFFSET, EXT_HEADER_OFFSET_OFFSET,
+    FILE_SYSTEM_GUID_OFFSET, FV_LENGTH_OFFSET, HEADER_LENGTH_OFFSET, RESERVED_OFFSET,
+    REVISION_OFFSET, SIGNATURE_OFFSET,
+};
 use bitflags::Flags;
 use byteorder::{ByteOrder, LittleEndian};
 use fv_base::field::up_to_8;
-use fv_base::{ByteList, Fault, ListSink, Sink};
+use fv_base::{ByteList, Fault, ListSink, Sink, sum16};
 use std::alloc::Global;
 
 /// A sink that sums the 16-bit words of the bytes that are put, modulo 65536.
@@ -41,6 +47,11 @@ impl Sink for WordSink {
     ghost laws = { adds_words_by (λ s. s.total) (λ s. s.high) };
 
     fn put(&mut self, bytes: &[u8]) {
+        // Most parts of a header are whole words, which are summed without looking at each byte.
+        if !self.high && bytes.len() % 2 == 0 {
+            self.total = self.total.wrapping_add(sum16(bytes));
+            return;
+        }
         for byte in bytes {
             self.total = self.total.wrapping_add(word_weight(*byte, self.high));
             self.high = !self.high;
@@ -117,21 +128,38 @@ pub fn first_edge(head: &VolumeHead<'_>) -> u64
     }
 }
 
+// Returns the canonical header up to the block map, but with this checksum.
+fn front_bytes(head: &VolumeHead<'_>, checksum: u16) -> [u8; BLOCK_MAP_OFFSET]
+    ensures bytes { result ≡ front_spelled head.now checksum (canonical_offset head.now head.now.ext) }
+    ensures read { IsReadHead head.now }
+    ensures ext { IfRead head.now.ext }
+{
+    let mut bytes = [0u8; BLOCK_MAP_OFFSET];
+    bytes[RESERVED_OFFSET] = head.reserved();
+    bytes[REVISION_OFFSET] = REVISION;
+    LittleEndian::write_u16(
+        &mut bytes[EXT_HEADER_OFFSET_OFFSET..],
+        canonical_offset(head),
+    );
+    LittleEndian::write_u16(&mut bytes[CHECKSUM_OFFSET..], checksum);
+    LittleEndian::write_u16(&mut bytes[HEADER_LENGTH_OFFSET..], head.header_len());
+    LittleEndian::write_u32(&mut bytes[ATTRIBUTES_OFFSET..], head.attributes().bits());
+    bytes[SIGNATURE_OFFSET..ATTRIBUTES_OFFSET].copy_from_slice(&SIGNATURE);
+    LittleEndian::write_u64(&mut bytes[FV_LENGTH_OFFSET..], head.length());
+    bytes[FILE_SYSTEM_GUID_OFFSET..FV_LENGTH_OFFSET].copy_from_slice(&system_guid(
+        head.file_system(),
+    ).to_bytes());
+    bytes[..FILE_SYSTEM_GUID_OFFSET].copy_from_slice(head.zero_vector());
+    bytes
+}
+
 // Puts the canonical header, but with this checksum, into a sink.
 fn put_spelled<S: Sink>(out: &mut S, head: &VolumeHead<'_>, checksum: u16)
     ensures bytes { S.takes out.old (head_spelled head.now checksum (canonical_offset head.now head.now.ext)) out.new }
     ensures read { IsReadHead head.now }
     ensures ext { IfRead head.now.ext }
 {
-    out.put(head.zero_vector());
-    out.put(&system_guid(head.file_system()).to_bytes());
-    put_u64(out, head.length());
-    out.put(&SIGNATURE);
-    put_u32(out, head.attributes().bits());
-    put_u16(out, head.header_len());
-    put_u16(out, checksum);
-    put_u16(out, canonical_offset(head));
-    out.put(&[head.reserved(), REVISION]);
+    out.put(&front_bytes(head, checksum));
     put_pairs(out, head.blocks().as_slice());
     put_u64(out, 0);
 }

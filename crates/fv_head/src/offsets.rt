@@ -24,8 +24,11 @@ pub(crate) const SIGNATURE_OFFSET: usize = 40;
 /// `Attributes`, 4 bytes.
 pub(crate) const ATTRIBUTES_OFFSET: usize = 44;
 
-/// `HeaderLength`, 2 bytes; `Checksum`, 2 bytes, follows it.
+/// `HeaderLength`, 2 bytes.
 pub(crate) const HEADER_LENGTH_OFFSET: usize = 48;
+
+/// `Checksum`, 2 bytes.
+pub(crate) const CHECKSUM_OFFSET: usize = 50;
 
 /// `ExtHeaderOffset`, 2 bytes.
 pub(crate) const EXT_HEADER_OFFSET_OFFSET: usize = 52;

@@ -149,13 +149,24 @@ fn file_of<'a>(cell: &Cell<'a>) -> Option<LocatedFile<'a>>
     }
 }
 
+// Returns the number of files for which room is allocated at once. A volume that has free bytes has
+// them in the last of its cells, which is not a file.
+fn room_for(cells: &[Cell<'_>]) -> usize
+    ensures { result ≤ length_of cells.now }
+{
+    match cells.split_last() {
+        Some((Cell::Free { .. }, others)) => others.len(),
+        _ => cells.len(),
+    }
+}
+
 // Returns the files in some cells, in order.
 pub(crate) fn files_in<'a>(alloc: Global, cells: &[Cell<'a>]) -> Result<Vec<LocatedFile<'a>>, Fault>
     requires { AllByRecursion IsSmallCell (map cellular.cell_form cells.now) }
     ensures found { IfOk result (λ fs. map file_form fs.items ≡ files_in (map cellular.cell_form cells.now)) }
     ensures err { IfErr result (λ f. f ≡ out_of_memory) }
 {
-    let mut files = Vec::with_capacity(alloc, cells.len())?;
+    let mut files = Vec::with_capacity(alloc, room_for(cells))?;
     for cell in cells {
         let Some(file) = file_of(cell) else {
             continue;

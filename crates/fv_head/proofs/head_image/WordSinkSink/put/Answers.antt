@@ -1,6 +1,12 @@
 use Rattle.std.proofs.lemmas.List.{take_all}
+use Rattle.fv_head.proofs.HeadImageLemmas.{words_added}
 use Rattle.fv_head.proofs.HeadWalkLemmas.{byte_added}
 use Rattle.fv_head.proofs.head_image.WordSinkSink.put.Goals as goal
+
+pub returns-then-bytes-eq0 : goal.returns-then-bytes-eq0
+returns-then-bytes-eq0 c =
+    words_added c.args.self.now.high c.args.bytes.now c.args.self.now.total c.sum16.result c.if-not-self.true c.if-bytes-eq0.true
+    c.sum16.ensures
 
 pub loop-byte-preserved : goal.loop-byte-preserved
 loop-byte-preserved c =
