@@ -1,14 +1,12 @@
 pub mod RowLemmas
-pub mod StoredFiles
 pub mod PartLaws
 pub mod MemoryLaws
 pub mod RowNumbers
 pub mod TreeNesting
 pub mod TreePlaces
-pub mod TreeSiblings
-pub mod TreeGrowth
 pub mod TreeRows
 pub mod TreeParents
+pub mod TreeLoop
 pub mod TreeBytes
 pub mod WalkRows
 pub mod UnfixKinds

@@ -2,20 +2,23 @@
 -- the first row has no holder (`first_is`). The steps:
 -- 1. `Good` states this for the rows of consecutive parts, in a form that its proof by recursion needs. It holds for no
 --    parts (`good_none`), and after one more part is put in front (`good_more`).
--- 2. By recursion it holds for the rows of a volume (`good_volume`), of files, of sections and of bodies.
+-- 2. The parents of the rows of a part are found among these rows and the row of the part (`Under`, `under_more`).
+-- 3. By recursion this holds for the rows of a volume (`under_volume`), of files, of sections and of bodies.
 use Rattle.std.proofs.Common.{◌≡◌, ◌∙◌, ◌⊎◌, ℕ, ◌+◌, ◌≤◌, List, [], ◌∷◌, ◌++◌, length, Some, true, false, cond, map, refl, sym, ap}
 use Rattle.std.proofs.Common.{append-nil, arith, inl, inr, subst}
 use Rattle.std.proofs.lemmas.Bool.{eq-eqb, eqb-true, eqb-false, ne_eqb}
 use Rattle.std.proofs.lemmas.List.Elements.{filter-append}
-use Rattle.std.specs.List.{filter}
+use Rattle.std.specs.List.{AllByRecursion, filter}
 use Rattle.std.specs.Prelude.{◌==◌, ◌≢◌, ◌&&◌, Bool, not, Option, slice_get}
 use Rattle.fv_tree.specs.Words.{Meaning, Volume, FileMeanings, NoFiles, MoreFiles, File, ContentMeaning, Plain, Sectioned, SectionMeanings}
 use Rattle.fv_tree.specs.Words.{NoSections, MoreSections, Section, BodyMeaning, Leaf, Group, Nested, files_list, sections_list}
 use Rattle.fv_tree.specs.Words.{sections_in_data}
 use Rattle.fv_c.proofs.RowNumbers.{in_either, none_before, row_at, row_is_at}
 use Rattle.fv_rows.specs.Words.{NodeMeaning, VolumeNode, FileNode, SectionNode, parts_in, parts_in_body}
-use Rattle.fv_c.specs.TreeParts.{TreeRow, is_first, is_held_by, no_parent, rows_held, tree_in_body, tree_in_content, tree_of_files}
-use Rattle.fv_c.specs.TreeParts.{rows_of_parts, tree_of_sections, tree_of_volume, tree_rows}
+use Rattle.fv_rows.specs.Words.{TreeRow as Row, tree_rows as rows_of}
+use Rattle.fv_rows.specs.TreeRows.{rows_in_body, rows_in_content, rows_of_files, rows_of_sections, rows_of_volume}
+use Rattle.fv_c.specs.TreeParts.{TreeRow, is_first, is_held_by, last_above, no_parent, parent_of, rows_held, rows_of_parts, tree_rows}
+use Rattle.fv_c.specs.TreeParts.{with_parents}
 
 -- ---- a row
 
@@ -111,58 +114,146 @@ module _ (n parent depth number : ℕ) (node : NodeMeaning) (nodes : List NodeMe
     good_more : Good n parent depth number (node ∷ nodes) (row ∷ inside ++ rest)
     good_more = record { none = more_none; own = more_own; inner = more_inner }
 
+-- ---- the parents
+
+-- the depths of these rows, and then of the rows before them, the last row first
+abbrev depths_after : List Row → List ℕ → List ℕ
+depths_after [] before = before
+depths_after (r ∷ rows) before = depths_after rows (r.depth ∷ before)
+
+after_long : (rows : List Row) (before : List ℕ) → length (depths_after rows before) ≡ length before + length (with_parents before rows)
+after_long [] before = omega arith
+after_long (r ∷ rows) before = omega (arith, after_long rows (r.depth ∷ before))
+
+parents_joined : (before : List ℕ) (a b : List Row)
+    → with_parents before (a ++ b) ≡ with_parents before a ++ with_parents (depths_after a before) b
+parents_joined before [] b = refl
+parents_joined before (r ∷ a) b =
+    ap (λ (l : List TreeRow). record { parent = parent_of r.depth before; depth = r.depth; number = r.number; node = r.node } ∷ l)
+    (parents_joined (r.depth ∷ before) a b)
+
+-- the rows are at this depth or deeper
+abbrev pub AreDeep : ℕ → List Row → Type 0
+AreDeep depth rows = AllByRecursion (λ (r : Row). depth ≤ r.depth) rows
+
+deep_joined : (depth : ℕ) (a b : List Row) → AreDeep (depth + 1) a → AreDeep depth b → AreDeep depth (a ++ b)
+deep_joined depth [] b x y = y
+deep_joined depth (r ∷ a) b x y = (omega (arith, x.0), deep_joined depth a b x.1 y)
+
+-- deeper rows do not change the parent of a later row
+same_above : (depth d : ℕ) (before : List ℕ) → depth ≤ d → parent_of depth (d ∷ before) ≡ parent_of depth before
+same_above depth d before l =
+    ap (λ (t : Bool). cond (depth == 0) no_parent (cond t (length before) (last_above depth before))) (ne_eqb (d + 1) depth (λ e. omega arith))
+
+same_parent : (depth : ℕ) (rows : List Row) (before : List ℕ) → AreDeep (depth + 1) rows
+    → parent_of depth (depths_after rows before) ≡ parent_of depth before
+same_parent depth [] before deep = refl
+same_parent depth (r ∷ rows) before deep =
+    same_parent depth rows (r.depth ∷ before) deep.1 ∙ same_above depth r.depth before (omega (arith, deep.0))
+
+-- the parent of a row right after a row that is one less deep
+next_parent : (depth : ℕ) (before : List ℕ) → parent_of (depth + 1) (depth ∷ before) ≡ length before
+next_parent depth before =
+    ap (λ (t : Bool). cond t no_parent (last_above (depth + 1) (depth ∷ before))) (ne_eqb (depth + 1) 0 (λ e. omega arith))
+    ∙ ap (λ (t : Bool). cond t (length before) (last_above (depth + 1) before)) (eq-eqb (depth + 1) (depth + 1) refl)
+
+-- these are the rows of consecutive parts, at this depth, and their parents are the right ones
+record Under (before : List ℕ) (parent depth number : ℕ) (nodes : List NodeMeaning) (rows : List Row) : Type 0 where
+  deep : AreDeep depth rows
+  good : Good (length before) parent depth number nodes (with_parents before rows)
+
+under_none : (before : List ℕ) (parent depth number : ℕ) → Under before parent depth number [] []
+under_none before parent depth number = record { deep = tt; good = good_none (length before) parent depth number }
+
+later_parent : (before : List ℕ) (parent depth : ℕ) (inside : List Row) → parent_of depth before ≡ parent → AreDeep (depth + 1) inside
+    → parent_of depth (depths_after inside (depth ∷ before)) ≡ parent
+later_parent before parent depth inside is deep =
+    same_parent depth inside (depth ∷ before) deep ∙ same_above depth depth before (omega arith) ∙ is
+
+under_more : (before : List ℕ) (parent depth nesting number : ℕ) (node : NodeMeaning) (nodes : List NodeMeaning) (inside rest : List Row)
+    → parent_of depth before ≡ parent → Under (depth ∷ before) (length before) (depth + 1) 0 (parts_in node) inside
+    → Under (depths_after inside (depth ∷ before)) parent depth (number + 1) nodes rest
+    → Under before parent depth number (node ∷ nodes) (record { depth = depth; nesting = nesting; number = number; node = node } ∷ inside ++ rest)
+under_more before parent depth nesting number node nodes inside rest is first more =
+    let n : ℕ = length before in
+    let here : ℕ → TreeRow = λ p. record { parent = p; depth = depth; number = number; node = node } in
+    let rows : List TreeRow = with_parents (depth ∷ before) inside in
+    let later : List TreeRow = with_parents (depths_after inside (depth ∷ before)) rest in
+    let one : length (depth ∷ before) ≡ n + 1 = omega arith in
+    let all : length (depths_after inside (depth ∷ before)) ≡ n + length (here parent ∷ rows) =
+    omega (arith, after_long inside (depth ∷ before)) in
+    let own : Good (n + 1) n (depth + 1) 0 (parts_in node) rows =
+    subst (λ (k : ℕ). Good k n (depth + 1) 0 (parts_in node) rows) one first.good in
+    let others : Good (n + length (here parent ∷ rows)) parent depth (number + 1) nodes later =
+    subst (λ (k : ℕ). Good k parent depth (number + 1) nodes later) all more.good in record {
+      deep = (omega arith, deep_joined depth inside rest first.deep more.deep);
+      good = subst (Good n parent depth number (node ∷ nodes))
+          (ap (λ (p : ℕ). here p ∷ rows ++ later) (sym is)
+          ∙ ap (λ (l : List TreeRow). here (parent_of depth before) ∷ l) (sym (parents_joined (depth ∷ before) inside rest)))
+          (good_more n parent depth number node nodes rows later own others);
+    }
+
 -- ---- a tree
 
 mutual
-  good_volume : (n parent depth : ℕ) (m : Meaning) → Good n parent depth 0 (VolumeNode m ∷ []) (tree_of_volume n parent depth m)
-  good_volume n parent depth (Volume h files) =
-      let inside : List TreeRow = tree_of_files (n + 1) n (depth + 1) 0 files in
-      let first : TreeRow = record { parent = parent; depth = depth; number = 0; node = VolumeNode (Volume h files) } in
-      subst (λ (l : List TreeRow). Good n parent depth 0 (VolumeNode (Volume h files) ∷ []) (first ∷ l)) (append-nil inside)
-      (good_more n parent depth 0 (VolumeNode (Volume h files)) [] inside [] (good_files (n + 1) n (depth + 1) 0 files)
-      (good_none (n + length (first ∷ inside)) parent depth 1))
+  under_volume : (depth nesting : ℕ) (before : List ℕ) (parent : ℕ) (m : Meaning) → parent_of depth before ≡ parent
+      → Under before parent depth 0 (VolumeNode m ∷ []) (rows_of_volume depth nesting m)
+  under_volume depth nesting before parent (Volume h files) is =
+      let inside : List Row = rows_of_files (depth + 1) nesting 0 files in
+      let first = under_files (depth + 1) nesting 0 (depth ∷ before) (length before) files (next_parent depth before) in
+      subst (λ (l : List Row). Under before parent depth 0 (VolumeNode (Volume h files) ∷ [])
+      (record { depth = depth; nesting = nesting; number = 0; node = VolumeNode (Volume h files) } ∷ l)) (append-nil inside)
+      (under_more before parent depth nesting 0 (VolumeNode (Volume h files)) [] inside [] is first
+      (under_none (depths_after inside (depth ∷ before)) parent depth 1))
 
-  good_files : (n parent depth number : ℕ) (files : FileMeanings)
-      → Good n parent depth number (map FileNode (files_list files)) (tree_of_files n parent depth number files)
-  good_files n parent depth number NoFiles = good_none n parent depth number
-  good_files n parent depth number (MoreFiles (File name kind attributes content) fs) =
-      let inside : List TreeRow = tree_in_content (n + 1) n (depth + 1) content in
-      let first : TreeRow = record { parent = parent; depth = depth; number = number; node = FileNode (File name kind attributes content) } in
-      good_more n parent depth number (FileNode (File name kind attributes content)) (map FileNode (files_list fs)) inside
-      (tree_of_files (n + length (first ∷ inside)) parent depth (number + 1) fs)
-      (good_content (n + 1) n (depth + 1) content)
-      (good_files (n + length (first ∷ inside)) parent depth (number + 1) fs)
+  under_files : (depth nesting number : ℕ) (before : List ℕ) (parent : ℕ) (files : FileMeanings) → parent_of depth before ≡ parent
+      → Under before parent depth number (map FileNode (files_list files)) (rows_of_files depth nesting number files)
+  under_files depth nesting number before parent NoFiles is = under_none before parent depth number
+  under_files depth nesting number before parent (MoreFiles (File name kind attributes content) fs) is =
+      let inside : List Row = rows_in_content (depth + 1) nesting content in
+      let first = under_content (depth + 1) nesting (depth ∷ before) (length before) content (next_parent depth before) in
+      under_more before parent depth nesting number (FileNode (File name kind attributes content)) (map FileNode (files_list fs)) inside
+      (rows_of_files depth nesting (number + 1) fs) is first
+      (under_files depth nesting (number + 1) (depths_after inside (depth ∷ before)) parent fs
+      (later_parent before parent depth inside is first.deep))
 
-  good_content : (n parent depth : ℕ) (content : ContentMeaning)
-      → Good n parent depth 0 (map SectionNode (sections_list (sections_in_data content))) (tree_in_content n parent depth content)
-  good_content n parent depth (Plain b) = good_none n parent depth 0
-  good_content n parent depth (Sectioned ss tail) = good_sections n parent depth 0 ss
+  under_content : (depth nesting : ℕ) (before : List ℕ) (parent : ℕ) (content : ContentMeaning) → parent_of depth before ≡ parent
+      → Under before parent depth 0 (map SectionNode (sections_list (sections_in_data content))) (rows_in_content depth nesting content)
+  under_content depth nesting before parent (Plain b) is = under_none before parent depth 0
+  under_content depth nesting before parent (Sectioned ss tail) is = under_sections depth nesting 0 before parent ss is
 
-  good_sections : (n parent depth number : ℕ) (ss : SectionMeanings)
-      → Good n parent depth number (map SectionNode (sections_list ss)) (tree_of_sections n parent depth number ss)
-  good_sections n parent depth number NoSections = good_none n parent depth number
-  good_sections n parent depth number (MoreSections (Section kind extended body) ss) =
-      let inside : List TreeRow = tree_in_body (n + 1) n (depth + 1) body in
-      let first : TreeRow = record { parent = parent; depth = depth; number = number; node = SectionNode (Section kind extended body) } in
-      good_more n parent depth number (SectionNode (Section kind extended body)) (map SectionNode (sections_list ss)) inside
-      (tree_of_sections (n + length (first ∷ inside)) parent depth (number + 1) ss)
-      (good_body (n + 1) n (depth + 1) body)
-      (good_sections (n + length (first ∷ inside)) parent depth (number + 1) ss)
+  under_sections : (depth nesting number : ℕ) (before : List ℕ) (parent : ℕ) (ss : SectionMeanings) → parent_of depth before ≡ parent
+      → Under before parent depth number (map SectionNode (sections_list ss)) (rows_of_sections depth nesting number ss)
+  under_sections depth nesting number before parent NoSections is = under_none before parent depth number
+  under_sections depth nesting number before parent (MoreSections (Section kind extended body) ss) is =
+      let inside : List Row = rows_in_body (depth + 1) (nesting + 1) body in
+      let first = under_body (depth + 1) (nesting + 1) (depth ∷ before) (length before) body (next_parent depth before) in
+      under_more before parent depth nesting number (SectionNode (Section kind extended body)) (map SectionNode (sections_list ss)) inside
+      (rows_of_sections depth nesting (number + 1) ss) is first
+      (under_sections depth nesting (number + 1) (depths_after inside (depth ∷ before)) parent ss
+      (later_parent before parent depth inside is first.deep))
 
-  good_body : (n parent depth : ℕ) (body : BodyMeaning) → Good n parent depth 0 (parts_in_body body) (tree_in_body n parent depth body)
-  good_body n parent depth (Leaf b) = good_none n parent depth 0
-  good_body n parent depth (Group ss tail) = good_sections n parent depth 0 ss
-  good_body n parent depth (Nested volume) = good_volume n parent depth volume
+  under_body : (depth nesting : ℕ) (before : List ℕ) (parent : ℕ) (body : BodyMeaning) → parent_of depth before ≡ parent
+      → Under before parent depth 0 (parts_in_body body) (rows_in_body depth nesting body)
+  under_body depth nesting before parent (Leaf b) is = under_none before parent depth 0
+  under_body depth nesting before parent (Group ss tail) is = under_sections depth nesting 0 before parent ss is
+  under_body depth nesting before parent (Nested volume) is = under_volume depth nesting before parent volume is
 
 -- ---- the rows of a volume
 
+under_tree : (m : Meaning) → Under [] no_parent 0 0 (VolumeNode m ∷ []) (rows_of m)
+under_tree m = under_volume 0 0 [] no_parent m refl
+
 pub first_is : (m : Meaning) → filter is_first (tree_rows m) ≡ rows_of_parts no_parent 0 0 (VolumeNode m ∷ [])
-first_is m =
-    (good_volume 0 no_parent 0 m).own is_first (λ number node. refl) (λ r p d. ne_eqb r.depth 0 (λ e. omega arith))
+first_is m = (under_tree m).good.own is_first (λ number node. refl) (λ r p d. ne_eqb r.depth 0 (λ e. omega arith))
 
 pub held_are : (m : Meaning) (n : ℕ) → filter (is_held_by n) (tree_rows m) ≡ rows_held n (slice_get (tree_rows m) n)
 held_are m n =
     let rows : List TreeRow = tree_rows m in
     let same : n ≡ 0 + n = omega arith in
-    (good_volume 0 no_parent 0 m).inner n (inl refl)
+    (under_tree m).good.inner n (inl refl)
     ∙ ap (λ (k : ℕ). rows_held n (row_at 0 rows k)) same ∙ ap (rows_held n) (row_is_at 0 rows n)
+
+-- all rows in a volume are deeper than the volume
+pub inside_deep : (files : FileMeanings) → AreDeep 1 (rows_of_files 1 0 0 files)
+inside_deep files = (under_files 1 0 0 (0 ∷ []) 0 files refl).deep

@@ -1,10 +1,8 @@
 -- The tree of a volume: the volume, its files and their sections, and in the same way each volume that a section holds (PI
 -- specification, volume 3, sections 3.2.1, 3.2.3 and 3.2.4).
-use Rattle.std.specs.Prelude.{ℕ, ◌+◌, ◌==◌, ◌&&◌, not, Bool, List, [], ◌∷◌, ◌++◌, length, Option, Some, None}
-use Rattle.fv_tree.specs.Words.{Meaning, Volume, FileMeanings, NoFiles, MoreFiles, FileMeaning, File, ContentMeaning}
-use Rattle.fv_tree.specs.Words.{Plain, Sectioned, SectionMeanings, NoSections, MoreSections, SectionMeaning, Section}
-use Rattle.fv_tree.specs.Words.{BodyMeaning, Leaf, Group, Nested}
-use Rattle.fv_rows.specs.Words.{NodeMeaning, VolumeNode, FileNode, SectionNode, parts_in}
+use Rattle.std.specs.Prelude.{ℕ, ◌+◌, ◌==◌, ◌&&◌, not, if◌then◌else◌, Bool, List, [], ◌∷◌, length, Option, Some, None}
+use Rattle.fv_tree.specs.Words.{Meaning}
+use Rattle.fv_rows.specs.Words.{NodeMeaning, parts_in, TreeRow as Row, tree_rows as rows_of}
 
 -- the parent number of the first row, which no row holds: 2 ^ 64 - 1
 abbrev pub no_parent : ℕ
@@ -18,48 +16,26 @@ pub record TreeRow : Type 0 where
   pub number : ℕ
   pub node : NodeMeaning
 
--- the rows of some parts in preorder: the row of a part is followed by the rows of the parts inside it. The first of
--- these rows is row n of the tree
-abbrev mutual
-  pub tree_of_volume : (n parent depth : ℕ) → Meaning → List TreeRow
-  tree_of_volume n parent depth (Volume h files) =
-      record { parent = parent; depth = depth; number = 0; node = VolumeNode (Volume h files) }
-      ∷ tree_of_files (n + 1) n (depth + 1) 0 files
+-- the number of the last row before a row whose depth is one less. `before` are the depths of the rows before it, the last
+-- of them first. 0 if there is no such row
+abbrev pub last_above : (depth : ℕ) (before : List ℕ) → ℕ
+last_above depth [] = 0
+last_above depth (d ∷ before) = if d + 1 == depth then length before else last_above depth before
 
-  pub tree_of_files : (n parent depth number : ℕ) → FileMeanings → List TreeRow
-  tree_of_files n parent depth number NoFiles = []
-  tree_of_files n parent depth number (MoreFiles f fs) =
-      tree_of_file n parent depth number f
-      ++ tree_of_files (n + length (tree_of_file n parent depth number f)) parent depth (number + 1) fs
+-- the number of the row that holds a row of this depth. No row holds a row of depth 0
+abbrev pub parent_of : (depth : ℕ) (before : List ℕ) → ℕ
+parent_of depth before = if depth == 0 then no_parent else last_above depth before
 
-  pub tree_of_file : (n parent depth number : ℕ) → FileMeaning → List TreeRow
-  tree_of_file n parent depth number (File name kind attributes content) =
-      record { parent = parent; depth = depth; number = number; node = FileNode (File name kind attributes content) }
-      ∷ tree_in_content (n + 1) n (depth + 1) content
-
-  pub tree_in_content : (n parent depth : ℕ) → ContentMeaning → List TreeRow
-  tree_in_content n parent depth (Plain b) = []
-  tree_in_content n parent depth (Sectioned sections tail) = tree_of_sections n parent depth 0 sections
-
-  pub tree_of_sections : (n parent depth number : ℕ) → SectionMeanings → List TreeRow
-  tree_of_sections n parent depth number NoSections = []
-  tree_of_sections n parent depth number (MoreSections s ss) =
-      tree_of_section n parent depth number s
-      ++ tree_of_sections (n + length (tree_of_section n parent depth number s)) parent depth (number + 1) ss
-
-  pub tree_of_section : (n parent depth number : ℕ) → SectionMeaning → List TreeRow
-  tree_of_section n parent depth number (Section kind extended body) =
-      record { parent = parent; depth = depth; number = number; node = SectionNode (Section kind extended body) }
-      ∷ tree_in_body (n + 1) n (depth + 1) body
-
-  pub tree_in_body : (n parent depth : ℕ) → BodyMeaning → List TreeRow
-  tree_in_body n parent depth (Leaf b) = []
-  tree_in_body n parent depth (Group sections tail) = tree_of_sections n parent depth 0 sections
-  tree_in_body n parent depth (Nested volume) = tree_of_volume n parent depth volume
+-- the rows with their parents. `before` are the depths of the rows before them, the last of them first
+abbrev pub with_parents : (before : List ℕ) → List Row → List TreeRow
+with_parents before [] = []
+with_parents before (r ∷ rows) =
+    record { parent = parent_of r.depth before; depth = r.depth; number = r.number; node = r.node }
+    ∷ with_parents (r.depth ∷ before) rows
 
 -- all rows of a volume. The first row is the volume itself, and has no parent
 abbrev pub tree_rows : Meaning → List TreeRow
-tree_rows m = tree_of_volume 0 no_parent 0 m
+tree_rows m = with_parents [] (rows_of m)
 
 -- ---- the parts that a part holds
 

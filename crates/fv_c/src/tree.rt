@@ -1,26 +1,27 @@
 //! Lists the tree of a volume: all parts at every level, with their places in the input.
 
-ghost use Rattle.std.specs.Prelude.{◌≡◌, ◌≢◌, ◌⊎◌, ◌<◌, ◌≤◌, ◌+◌, ◌^◌, ◌++◌, List, length, drop, map};
+ghost use Rattle.std.specs.Prelude.{◌≡◌, ◌≢◌, ◌<◌, ◌≤◌, ◌+◌, ◌^◌, ◌++◌, ℕ, List, Some, length, drop, map, slice_get};
 ghost use Rattle.std.specs.Prelude.{IfOk, IfErr, OnOk};
-ghost use Rattle.fv_base.specs.Words.{OrMemory, fault_number, out_of_memory};
+ghost use Rattle.std.specs.List.{AllByRecursion};
+ghost use Rattle.fv_base.specs.Words.{OrMemory, fault_number, out_of_memory, volume_limit};
 ghost use Rattle.fv_base.specs.declared.fault.Fault.{Fault};
-ghost use Rattle.fv_section.specs.Words as framed;
-ghost use Rattle.fv_tree.specs.Words.{NotRead, data_place, body_place, file_form, content_of, body_of};
-ghost use Rattle.fv_tree.specs.Words.{body_len, files_from, sections_from};
+ghost use Rattle.fv_section.specs.Words.{FrameForm, Splits};
+ghost use Rattle.fv_tree.specs.Words.{Accepted, BeginWithFiles, FileForm, HasDataIn, NotRead, body_of, content_of, file_form};
 ghost use Rattle.fv_c.specs.Reports.{BeginsWithHeader, reported_fault, no_fault};
-ghost use Rattle.fv_rows.specs.Words.{VolumeNode, FileNode, SectionNode};
-ghost use Rattle.fv_c.specs.TreeParts.{tree_of_files, tree_in_content, tree_of_sections, tree_in_body};
+ghost use Rattle.fv_rows.specs.Words.{part_node, parts_in};
+ghost use Rattle.fv_c.specs.TreeParts.{TreeRow};
 ghost use Rattle.fv_c.specs.ReportedTree.{HasTreeRows, reported_node, bytes_at};
 ghost use Rattle.fv_c.specs.ReportedTree.{body_number, content_number};
 ghost use Rattle.fv_c.specs.ReportedHeaders.{volume_name};
-ghost use Rattle.fv_c.specs.inner.Trees.{Grows, IsAdded, IsHolder, HoldsFiles, HoldsContent, HoldsSections, HoldsBody};
+ghost use Rattle.fv_c.specs.inner.Trees.{HasPlaces, IsFound, file_place, section_place};
 
 use crate::buffer::put_result;
 use crate::reports::{FvFault, system_number};
 use bitflags::Flags;
 use fv_base::Fault;
 use fv_head::VolumeHead;
-use fv_section::{Frame, FrameWalk, section_header_len};
+use fv_rows::{Part, Row, TreeWalk};
+use fv_section::{FrameWalk, section_header_len};
 use fv_tree::{
     Body, Content, FileView, LocatedFile, SectionView, VolumeView, located_files,
     whole_volume_with_files,
@@ -67,11 +68,48 @@ pub struct FvNode {
 /// The parent of the first row.
 const NO_PARENT: u64 = 0xffff_ffff_ffff_ffff;
 
-// A row and its number.
+// The numbers for the contents of a part.
+const FILES: u32 = 0;
+
+const BYTES: u32 = 1;
+
+const SECTIONS: u32 = 2;
+
+const VOLUME: u32 = 3;
+
+// The row of no part.
+const NO_NODE: FvNode = FvNode {
+    offset: 0,
+    length: 0,
+    parent: NO_PARENT,
+    index: 0,
+    depth: 0,
+    kind: 0,
+    content: FILES,
+    efi_type: 0,
+    attributes: 0,
+    header_length: 0,
+    guid: [0; 16],
+    file_system: 0,
+    reserved: [0; 3],
+};
+
+// Where a part lies in the input.
 #[derive(Clone, Copy)]
-struct Holder {
+struct PartPlace {
+    // The offset of the part, as in `FvNode`.
+    offset: u64,
+    // The length of the header of a file, 0 for other parts.
+    header_len: u32,
+}
+
+// The last row of a depth.
+#[derive(Clone, Copy)]
+struct Level {
+    // The number of the row.
     number: u64,
-    node: FvNode,
+    // The index of the place of the first part that the row holds.
+    first: usize,
 }
 
 // Returns `FvName` of a volume, or zeros if it has no extended header.
@@ -84,36 +122,13 @@ fn volume_name(head: &VolumeHead<'_>) -> [u8; 16]
     }
 }
 
-// Returns the row of a volume at this offset, for C.
-fn volume_node(volume: &VolumeView<'_>, parent: u64, depth: u32, offset: u64) -> FvNode
-    ensures { result ≡ reported_node offset 0
-        (record { parent = parent; depth = depth; number = 0; node = VolumeNode volume.now }) }
-{
-    let head = volume.head();
-    FvNode {
-        offset,
-        length: head.length(),
-        parent,
-        index: 0,
-        depth,
-        kind: 1,
-        content: 0,
-        efi_type: 0,
-        attributes: head.attributes().bits(),
-        header_length: u32::from(head.header_len()),
-        guid: volume_name(head),
-        file_system: system_number(head.file_system()),
-        reserved: [0; 3],
-    }
-}
-
 // Returns the number for the content of a file: 1 for plain bytes, 2 for sections.
 fn content_number(file: &FileView<'_>) -> u32
     ensures { result ≡ content_number (content_of file.now) }
 {
     match file.content() {
-        Content::Plain(_) => 1,
-        Content::Stream { .. } => 2,
+        Content::Plain(_) => BYTES,
+        Content::Stream { .. } => SECTIONS,
     }
 }
 
@@ -122,74 +137,57 @@ fn body_number(section: &SectionView<'_>) -> u32
     ensures { result ≡ body_number (body_of section.now) }
 {
     match section.body() {
-        Body::Leaf(_) => 1,
-        Body::Group { .. } => 2,
-        Body::Nested(_) => 3,
+        Body::Leaf(_) => BYTES,
+        Body::Group { .. } => SECTIONS,
+        Body::Nested(_) => VOLUME,
     }
 }
 
-// Returns the row of file number `number` of the volume in a row, for C.
-fn file_node(stored: &LocatedFile<'_>, file: &FileView<'_>, holder: &Holder, number: u64) -> FvNode
-    requires offset { holder.now.node.offset + data_place (file_form stored.now) < 2 ^ 63 }
-    requires depth { holder.now.node.depth < 2 ^ 31 }
-    ensures { result ≡ reported_node (holder.now.node.offset + data_place (file_form stored.now))
-        (file_form stored.now).head.header_len
-        (record { parent = holder.now.number; depth = holder.now.node.depth + 1; number = number; node = FileNode file.now }) }
+// Returns the row of a part at this place, for C. `parent` is the number of the row that holds it.
+fn node_of(row: &Row<'_, '_>, parent: u64, place: PartPlace) -> FvNode
+    requires { row.now.depth < 2 ^ 32 }
+    ensures { result ≡ reported_node place.offset place.header_len
+        (record { parent = parent; depth = row.now.depth; number = row.now.number; node = part_node row.now.part }) }
 {
-    let header_len = stored.header_len();
-    FvNode {
-        offset: holder.node.offset + (u64::from(stored.offset) + header_len),
-        length: file.data_len(),
-        parent: holder.number,
-        index: number,
-        depth: holder.node.depth + 1,
-        kind: 2,
-        content: content_number(file),
-        efi_type: u32::from(file.kind()),
-        attributes: u32::from(file.attributes().byte()),
-        header_length: header_len as u32,
-        guid: file.name().to_bytes(),
-        file_system: 0,
-        reserved: [0; 3],
+    let placed = FvNode {
+        offset: place.offset,
+        parent,
+        index: row.number,
+        depth: row.depth as u32,
+        ..NO_NODE
+    };
+    match row.part {
+        Part::Volume(volume) => {
+            let head = volume.head();
+            FvNode {
+                length: head.length(),
+                kind: 1,
+                attributes: head.attributes().bits(),
+                header_length: u32::from(head.header_len()),
+                guid: volume_name(head),
+                file_system: system_number(head.file_system()),
+                ..placed
+            }
+        }
+        Part::File(file) => FvNode {
+            length: file.data_len(),
+            kind: 2,
+            content: content_number(file),
+            efi_type: u32::from(file.kind()),
+            attributes: u32::from(file.attributes().byte()),
+            header_length: place.header_len,
+            guid: file.name().to_bytes(),
+            ..placed
+        },
+        Part::Section(section) => FvNode {
+            length: section.body_len(),
+            kind: 3,
+            content: body_number(section),
+            efi_type: u32::from(section.kind()),
+            header_length: section_header_len(section.extended()) as u32,
+            ..placed
+        },
     }
-}
-
-// Returns the row of section number `number` of the stream in a row, for C.
-fn section_node(
-    frame: &Frame<'_>,
-    section: &SectionView<'_>,
-    holder: &Holder,
-    number: u64,
-) -> FvNode
-    requires offset { holder.now.node.offset + body_place (framed.frame_form frame.now) < 2 ^ 63 }
-    requires depth { holder.now.node.depth < 2 ^ 31 }
-    ensures { result ≡ reported_node (holder.now.node.offset + body_place (framed.frame_form frame.now)) 0
-        (record { parent = holder.now.number; depth = holder.now.node.depth + 1; number = number; node = SectionNode section.now }) }
-{
-    FvNode {
-        offset: holder.node.offset + (frame.offset + section_header_len(frame.extended)),
-        length: section.body_len(),
-        parent: holder.number,
-        index: number,
-        depth: holder.node.depth + 1,
-        kind: 3,
-        content: body_number(section),
-        efi_type: u32::from(section.kind()),
-        attributes: 0,
-        header_length: section_header_len(section.extended()) as u32,
-        guid: [0; 16],
-        file_system: 0,
-        reserved: [0; 3],
-    }
-}
-
-// Adds a row, and returns it with its number.
-fn add_row(node: FvNode, rows: &mut Vec<FvNode>) -> Result<Holder, AllocError>
-    ensures { IfOk result (IsAdded rows.old.items rows.new.items node) }
-{
-    let number = rows.len() as u64;
-    rows.push(node)?;
-    Ok(Holder { number, node })
 }
 
 // Returns the bytes of the input that a row describes.
@@ -201,125 +199,134 @@ fn bytes_of_row<'a>(input: &'a [u8], node: &FvNode) -> &'a [u8]
     &input[start..start + node.length as usize]
 }
 
-// Adds a row for each file of the volume in the row `holder`, each followed by the rows inside the
-// file.
-#[cycle(tree)]
-fn add_files(
-    alloc: Global,
-    input: &[u8],
-    holder: &Holder,
+// Adds the places of the files that are stored in a volume at offset `start` of the input.
+fn add_file_places(
     stored: &[LocatedFile<'_>],
-    files: &[FileView<'_>],
-    rows: &mut Vec<FvNode>,
-) -> Result<(), Fault>
-    requires holder { IsHolder input.now rows.old.items holder.now }
-    requires volume { HoldsFiles (bytes_at input.now holder.now.node) (map file_form stored.now) files.now }
-    ensures rows { OnOk result (Grows input.now rows.old.items rows.new.items (tree_of_files
-        (length rows.old.items) holder.now.number (holder.now.node.depth + 1) 0 (files_from files.now))) }
-    ensures err { IfErr result (λ f. f ≡ out_of_memory) }
+    start: u64,
+    places: &mut Vec<PartPlace>,
+) -> Result<(), AllocError>
+    requires { start < 2 ^ 63 }
+    ensures { OnOk result
+        (places.new.items ≡ places.old.items ++ map (file_place start) (map file_form stored.now)) }
 {
-    for (number, file) in files.iter().enumerate() {
-        let node = file_node(&stored[number], file, holder, number as u64);
-        let added = add_row(node, rows)?;
-        add_content(alloc, input, &added, file, rows)?;
+    for file in stored {
+        let header_len = file.header_len();
+        places.push(PartPlace {
+            offset: start + (u64::from(file.offset) + header_len),
+            header_len: header_len as u32,
+        })?;
     }
     Ok(())
 }
 
-// Adds a row for each section in the data of the file in the row `holder`, each followed by the
-// rows inside the section.
-#[cycle(tree)]
-fn add_content(
-    alloc: Global,
-    input: &[u8],
-    holder: &Holder,
-    file: &FileView<'_>,
-    rows: &mut Vec<FvNode>,
-) -> Result<(), Fault>
-    requires holder { IsHolder input.now rows.old.items holder.now }
-    requires content { HoldsContent (bytes_at input.now holder.now.node) (content_of file.now) }
-    ensures rows { OnOk result (Grows input.now rows.old.items rows.new.items (tree_in_content
-        (length rows.old.items) holder.now.number (holder.now.node.depth + 1) (content_of file.now))) }
-    ensures err { IfErr result (λ f. f ≡ out_of_memory) }
+// Adds the places of the sections of a stream at offset `start` of the input.
+fn add_section_places(
+    stream: &[u8],
+    start: u64,
+    places: &mut Vec<PartPlace>,
+) -> Result<(), AllocError>
+    requires { start + length stream.now < 2 ^ 63 }
+    ensures { OnOk result ((frames : List FrameForm) (tail : ℕ) → Splits frames tail stream.now
+        → places.new.items ≡ places.old.items ++ map (section_place start) frames) }
 {
-    match file.content() {
-        Content::Plain(_) => Ok(()),
-        Content::Stream { sections, .. } => add_sections(
-            alloc,
-            input,
-            holder,
-            sections.as_slice(),
-            rows,
-        ),
-    }
-}
-
-// Adds a row for each section of the stream in the row `holder`, each followed by the rows inside
-// the section.
-#[cycle(tree)]
-fn add_sections(
-    alloc: Global,
-    input: &[u8],
-    holder: &Holder,
-    sections: &[SectionView<'_>],
-    rows: &mut Vec<FvNode>,
-) -> Result<(), Fault>
-    requires holder { IsHolder input.now rows.old.items holder.now }
-    requires stream { HoldsSections (bytes_at input.now holder.now.node) sections.now }
-    ensures rows { OnOk result (Grows input.now rows.old.items rows.new.items (tree_of_sections
-        (length rows.old.items) holder.now.number (holder.now.node.depth + 1) 0 (sections_from sections.now))) }
-    ensures err { IfErr result (λ f. f ≡ out_of_memory) }
-{
-    let Ok(mut walk) = FrameWalk::of(bytes_of_row(input, &holder.node)) else {
+    let Ok(mut walk) = FrameWalk::of(stream) else {
         return Ok(());
     };
-    for (number, section) in sections.iter().enumerate() {
-        let Some(frame) = walk.next_frame() else {
-            break;
-        };
-        let node = section_node(&frame, section, holder, number as u64);
-        let added = add_row(node, rows)?;
-        add_body(alloc, input, &added, section, rows)?;
+    while let Some(frame) = walk.next_frame() {
+        places.push(PartPlace {
+            offset: start + (frame.offset + section_header_len(frame.extended)),
+            header_len: 0,
+        })?;
     }
     Ok(())
 }
 
-// Adds the rows inside the section in the row `holder`: sections or a volume, each followed by the
-// rows inside it.
-#[cycle(tree)]
-fn add_body(
+// Adds the places of the parts that the part of a row holds.
+fn add_places(
     alloc: Global,
     input: &[u8],
-    holder: &Holder,
-    section: &SectionView<'_>,
-    rows: &mut Vec<FvNode>,
+    node: &FvNode,
+    places: &mut Vec<PartPlace>,
 ) -> Result<(), Fault>
-    requires holder { IsHolder input.now rows.old.items holder.now }
-    requires body { HoldsBody (bytes_at input.now holder.now.node) (body_of section.now) }
-    requires long { holder.now.node.length ≡ body_len (body_of section.now) }
-    requires depth { holder.now.node.depth ≤ holder.now.node.offset }
-    ensures rows { OnOk result (Grows input.now rows.old.items rows.new.items (tree_in_body
-        (length rows.old.items) holder.now.number (holder.now.node.depth + 1) (body_of section.now))) }
+    requires row { (rows : List FvNode) × (r : TreeRow) × IsFound input.now rows node.now r }
+    requires short { length input.now ≤ volume_limit }
+    ensures places { OnOk result ((rows : List FvNode) (r : TreeRow) → IsFound input.now rows node.now r
+        → HasPlaces input.now node.now (parts_in r.node) places.old.items places.new.items) }
     ensures err { IfErr result (λ f. f ≡ out_of_memory) }
 {
-    match section.body() {
-        Body::Leaf(_) => Ok(()),
-        Body::Group { sections, .. } => add_sections(alloc, input, holder, sections, rows),
-        Body::Nested(volume) => {
-            let Holder { number, node } = *holder;
-            let nested = volume_node(volume, number, node.depth + 1, node.offset);
-            let added = add_row(nested, rows)?;
-            let stored = located_files(alloc, bytes_of_row(input, &added.node))?;
-            add_files(
-                alloc,
-                input,
-                &added,
-                stored.as_slice(),
-                volume.files(),
-                rows,
-            )
+    let bytes = bytes_of_row(input, node);
+    match node.content {
+        FILES => {
+            let stored = located_files(alloc, bytes)?;
+            add_file_places(stored.as_slice(), node.offset, places)?;
         }
+        SECTIONS => add_section_places(bytes, node.offset, places)?,
+        VOLUME => places.push(PartPlace {
+            offset: node.offset,
+            header_len: 0,
+        })?,
+        _ => {}
     }
+    Ok(())
+}
+
+// Sets the level of a depth. The depth before must have a level.
+fn set_level(levels: &mut Vec<Level>, depth: usize, level: Level) -> Result<(), AllocError>
+    requires { depth ≤ length levels.old.items }
+    ensures set { OnOk result (slice_get levels.new.items depth ≡ Some level) }
+    ensures others { OnOk result
+        ((d : ℕ) → d ≢ depth → slice_get levels.new.items d ≡ slice_get levels.old.items d) }
+{
+    if depth < levels.len() {
+        levels[depth] = level;
+    } else {
+        levels.push(level)?;
+    }
+    Ok(())
+}
+
+// Returns the rows of a volume, which is the input, for C. `places` are the places of its files.
+fn rows_of(
+    alloc: Global,
+    input: &[u8],
+    volume: &VolumeView<'_>,
+    mut places: Vec<PartPlace>,
+) -> Result<Vec<FvNode>, Fault>
+    requires read { Accepted input.now volume.now }
+    requires places { (stored : List LocatedFile) × BeginWithFiles input.now (map file_form stored)
+        × AllByRecursion (HasDataIn input.now) (map file_form stored)
+        × (places.items ≡ map (file_place 0) (map file_form stored)) }
+    ensures ok { IfOk result (λ v. HasTreeRows input.now v.items) }
+    ensures err { IfErr result (λ f. f ≡ out_of_memory) }
+{
+    let mut rows = Vec::new(alloc);
+    let mut levels = Vec::new(alloc);
+    let mut walk = TreeWalk::of(volume);
+    let Some(whole) = walk.next() else {
+        return Ok(rows);
+    };
+    let start = PartPlace {
+        offset: 0,
+        header_len: 0,
+    };
+    rows.push(node_of(&whole, NO_PARENT, start))?;
+    levels.push(Level {
+        number: 0,
+        first: 0,
+    })?;
+    for row in walk {
+        let holder: Level = levels[row.depth - 1];
+        let place = places[holder.first + row.number as usize];
+        let node = node_of(&row, holder.number, place);
+        let level = Level {
+            number: rows.len() as u64,
+            first: places.len(),
+        };
+        set_level(&mut levels, row.depth, level)?;
+        add_places(alloc, input, &node, &mut places)?;
+        rows.push(node)?;
+    }
+    Ok(rows)
 }
 
 // Reads the input as a volume, and returns its tree, for C.
@@ -329,17 +336,9 @@ fn rows_in(alloc: Global, volume: &[u8]) -> Result<Vec<FvNode>, Fault>
     ensures memory { IfErr result (λ f. f ≡ out_of_memory → BeginsWithHeader volume.now) }
 {
     let (view, stored) = whole_volume_with_files(alloc, volume)?;
-    let mut rows = Vec::new(alloc);
-    let added = add_row(volume_node(&view, NO_PARENT, 0, 0), &mut rows)?;
-    add_files(
-        alloc,
-        volume,
-        &added,
-        stored.as_slice(),
-        view.files(),
-        &mut rows,
-    )?;
-    Ok(rows)
+    let mut places = Vec::new(alloc);
+    add_file_places(stored.as_slice(), 0, &mut places)?;
+    rows_of(alloc, volume, &view, places)
 }
 
 /// Writes the rows of the tree of a volume, which is the whole input, to the start of `rows`: the

@@ -1,56 +1,40 @@
--- The rows of a tree that a walk has added, and the facts that it has about the row that holds them.
-use Rattle.std.specs.Prelude.{◌≡◌, ℕ, ◌+◌, ◌≤◌, List, [], ◌∷◌, ◌++◌, length, Some, Bool, slice_get}
-use Rattle.std.specs.List.{AllByRecursion}
-use Rattle.fv_base.specs.Words.{depth_limit, volume_limit}
+-- The places of the parts that a row holds.
+use Rattle.std.specs.Prelude.{◌≡◌, ℕ, ◌+◌, ◌≤◌, List, ◌++◌, length, Some, slice_get}
 use Rattle.fv_section.specs.Words.{FrameForm}
-use Rattle.fv_tree.specs.Words.{BeginWithFiles, HasDataIn, FileForm, FileMeaning, ContentMeaning, SectionMeaning, Section, BodyMeaning}
-use Rattle.fv_tree.specs.Words.{MeansContent, MeansFile, MeansSection, Pairwise, Stream}
+use Rattle.fv_tree.specs.Words.{FileForm, body_place, data_place}
+use Rattle.fv_rows.specs.Words.{NodeMeaning}
 use Rattle.fv_c.specs.TreeParts.{TreeRow}
-use Rattle.fv_c.specs.ReportedTree.{IsNodeIn}
+use Rattle.fv_c.specs.ReportedTree.{IsNodeIn, reported_node}
 use Rattle.fv_c.specs.declared.tree.FvNode.{FvNode}
-use Rattle.fv_c.specs.declared.tree.Holder.{Holder}
+use Rattle.fv_c.specs.declared.tree.PartPlace.{PartPlace}
 
--- the rows of some parts, as a function of the number of the first row (n), the number of the row that holds the parts
--- (`parent`), its depth plus 1 (`depth`), and the number of the first part among the parts of this row (`number`)
-abbrev pub TreeRows : Type 0
-TreeRows = (n parent depth number : ℕ) → List TreeRow
+-- the place of a file of a volume, or of a section of a stream, that begins at offset `start` of the input
+abbrev pub file_place : (start : ℕ) → FileForm → PartPlace
+file_place start f = record { offset = start + data_place f; header_len = f.head.header_len }
 
--- `news` are `olds`, followed by the rows of this tree
-pub record Grows (input : List ℕ) (olds news : List FvNode) (tree : List TreeRow) : Type 0 where
-  pub added : List FvNode
-  pub joined : news ≡ olds ++ added
-  pub nodes : Pairwise (IsNodeIn input news) added tree
+abbrev pub section_place : (start : ℕ) → FrameForm → PartPlace
+section_place start f = record { offset = start + body_place f; header_len = 0 }
 
--- `row` was added after the rows `olds`, and h is this row with its number
-pub record IsAdded (olds news : List FvNode) (row : FvNode) (h : Holder) : Type 0 where
-  pub joined : news ≡ olds ++ row ∷ []
-  pub number : h.number ≡ length olds
-  pub node : h.node ≡ row
+-- `row` reports the row r of the tree. Its depth is not greater than its offset allows, because each file and section
+-- around it has a header of at least 4 bytes. So the depth fits in 32 bits
+pub record IsFound (input : List ℕ) (rows : List FvNode) (row : FvNode) (r : TreeRow) : Type 0 where
+  pub node : IsNodeIn input rows row r
+  pub deep : row.depth + row.kind ≤ row.offset + 2
 
--- h is one of the rows, with its number, and its bytes are within the input, which is within the limit. Its depth is at
--- most its offset plus 1, because each file and section around it has a header of at least 4 bytes. So the depth fits
--- in 32 bits
-pub record IsHolder (input : List ℕ) (rows : List FvNode) (h : Holder) : Type 0 where
-  pub row : slice_get rows h.number ≡ Some h.node
-  pub deep : h.node.depth ≤ h.node.offset + 1
-  pub within : h.node.offset + h.node.length ≤ length input
-  pub short : length input ≤ volume_limit
+-- the row of a part that row n holds
+abbrev pub held_row : (n depth number : ℕ) → NodeMeaning → TreeRow
+held_row n depth number node = record { parent = n; depth = depth; number = number; node = node }
 
--- the bytes begin with a volume in which these files are stored. The data of the files are in the bytes, and the files
--- have these meanings
-pub record HoldsFiles (b : List ℕ) (stored : List FileForm) (files : List FileMeaning) : Type 0 where
-  pub found : BeginWithFiles b stored
-  pub data_in : AllByRecursion (HasDataIn b) stored
-  pub means : Pairwise (MeansFile (Stream depth_limit)) stored files
+-- the parts that row n holds have these places, from the index `first` on. The parts are at this depth
+abbrev pub PartsPlaced : (input : List ℕ) (rows : List FvNode) (n depth : ℕ) → List NodeMeaning → List PartPlace → (first : ℕ) → Type 0
+PartsPlaced input rows n depth nodes places first =
+    (i : ℕ) (node : NodeMeaning) → slice_get nodes i ≡ Some node
+    → (place : PartPlace) × (slice_get places (first + i) ≡ Some place)
+    × IsFound input rows (reported_node place.offset place.header_len (held_row n depth i node)) (held_row n depth i node)
 
--- the bytes are the data of a file with this content (`HoldsContent`), a stream of these sections (`HoldsSections`), or
--- this body of a section (`HoldsBody`)
-abbrev pub HoldsContent : List ℕ → ContentMeaning → Type 0
-HoldsContent b content = (kind : ℕ) × MeansContent (Stream depth_limit) kind b content
-
-abbrev pub HoldsSections : List ℕ → List SectionMeaning → Type 0
-HoldsSections b sections = (tail : ℕ) × Stream depth_limit sections tail b
-
-abbrev pub HoldsBody : List ℕ → BodyMeaning → Type 0
-HoldsBody b body =
-    (f : FrameForm) × (kind : ℕ) × (extended : Bool) × MeansSection depth_limit f (Section kind extended body) × (b ≡ f.body)
+-- the places of the parts that the row `holder` holds were added, whichever number the row has
+abbrev pub HasPlaces : (input : List ℕ) (holder : FvNode) → List NodeMeaning → (olds news : List PartPlace) → Type 0
+HasPlaces input holder nodes olds news =
+    (added : List PartPlace) × (news ≡ olds ++ added)
+    × ((rows : List FvNode) (n : ℕ) → slice_get rows n ≡ Some holder
+    → PartsPlaced input rows n (holder.depth + 1) nodes news (length olds))

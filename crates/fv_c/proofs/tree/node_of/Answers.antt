@@ -1,10 +1,11 @@
 use Rattle.std.proofs.Common.{refl}
 use Rattle.fv_c.proofs.TreePlaces.{length_in_head}
-use Rattle.fv_c.proofs.tree.volume_node.Goals as goal
+use Rattle.fv_c.proofs.tree.node_of.Goals as goal
 
-pub returns : goal.returns
-returns c =
+pub returns-in-Volume : goal.returns-in-Volume
+returns-in-Volume c =
     rw (
+      c.in-Volume.is,
       c.length.ensures,
       c.bits.ensures,
       c.attributes.ensures,
@@ -14,6 +15,6 @@ returns c =
       c.system_number.ensures,
       c.file_system.ensures,
       c.head-head.ensures.head,
-      length_in_head c.args.volume.now,
+      length_in_head c.in-Volume.volume.now,
     )
     refl
