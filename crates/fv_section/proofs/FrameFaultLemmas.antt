@@ -29,7 +29,7 @@ frame_fails b f first = grind (arith, common_steps, any_fails)
 -- the fault of a section header is not before the end of frames that join
 frame_later : (b : List ℕ) (f g : Fault) → (x : IsFirstFrameFault b f) → (y : IsFirstFrameFault b g) → x.at < y.at → ⊥
 frame_later b f g x y l =
-    let r = cut 0 x.frames y.frames x.tail y.tail (take x.at b) part x.split in_fours whole (some_between b x.at y.at l y.inside) in
+    let r = cut 0 x.frames y.frames x.tail y.tail (take x.at b) part x.split (omega (arith, place, x.multiple)) whole (some_between b x.at y.at l y.inside) in
     go r.0 (subst (λ (k : ℕ). SplitsFrom k r.0 y.tail part) place r.2)
   where
     part : List ℕ
@@ -40,9 +40,6 @@ frame_later b f g x y l =
 
     place : 0 + length (take x.at b) ≡ x.at
     place = omega (arith, length-take-le x.at b (omega (arith, x.inside)))
-
-    in_fours : 0 + length (take x.at b) ≡ up_to_4 (0 + length (take x.at b))
-    in_fours = omega (arith, place, x.multiple)
 
     whole : Splits y.frames y.tail (take x.at b ++ part)
     whole = subst (λ (c : List ℕ). Splits y.frames y.tail c) (take_past b x.at y.at l) y.split

@@ -60,11 +60,8 @@ text_holds b text is =
     let end : drop (length b - 2) b ≡ 0 ∷ 0 ∷ [] = ap (drop (length b - 2)) is.joined ∙ drop_at text (0 ∷ 0 ∷ []) (length b - 2) k in
     and_join _ _
     (and_join _ _ (and_join _ _ (le-leb 2 (length b) (omega (arith, n)))
-    (eq-eqb (length b % 2) 0 (even (length b) (length text) n is.whole_units))) (eq-eqb (le (drop (length b - 2) b)) 0 (ap le end)))
+    (eq-eqb (length b % 2) 0 (omega (arith, n, is.whole_units)))) (eq-eqb (le (drop (length b - 2) b)) 0 (ap le end)))
     (ap (λ (u : List ℕ). none_zero (words_of u)) front ∙ all-none_zero (words_of text) is.none_zero)
-  where
-    even : (m k : ℕ) → m ≡ k + 2 → k % 2 ≡ 0 → m % 2 ≡ 0
-    even m k e z = omega arith
 
 pub text_none : (b text : List ℕ) → is_text b ≡ false → IsText b text → ⊥
 text_none b text h is = grind (arith, common_steps, text_holds)

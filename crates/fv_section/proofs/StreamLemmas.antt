@@ -146,16 +146,10 @@ pub form_fits : (extended : Bool) (n : ℕ) (h : List ℕ) → length h ≡ sect
     → IsBytes h → FitsForm extended n
 form_fits false n h long (is, other) bytes =
     let three : length (field 0 3 h) ≡ 3 = length-take-le 3 h (omega (arith, long)) in
-    below (le_at 0 3 h) n is other (le_below 3 (field 0 3 h) (bytes_take 3 h bytes) three)
-  where
-    below : (v n : ℕ) → v ≡ 4 + n → 4 + n ≢ 0xffffff → v < 0x1000000 → 4 + n ≤ 0xfffffe
-    below v n e d l = omega (arith, e, d, l)
+    omega (arith, is, other, le_below 3 (field 0 3 h) (bytes_take 3 h bytes) three)
 form_fits true n h long (full, is) bytes =
     let four : length (field 4 4 h) ≡ 4 = length-take-le 4 (drop 4 h) (omega (arith, length-drop 4 h, long)) in
-    below (le_at 4 4 h) n is (le_below 4 (field 4 4 h) (bytes_take 4 (drop 4 h) (bytes_drop 4 h bytes)) four)
-  where
-    below : (v n : ℕ) → v ≡ 8 + n → v < 0x100000000 → 8 + n ≤ 0xffffffff
-    below v n e l = omega (arith, e, l)
+    omega (arith, is, le_below 4 (field 4 4 h) (bytes_take 4 (drop 4 h) (bytes_drop 4 h bytes)) four)
 
 -- the body of a header in bytes fits its form
 pub fits_form : (extended : Bool) (kind n : ℕ) (h : List ℕ) → IsBytes h → IsSectionHeader extended kind n h → FitsForm extended n
