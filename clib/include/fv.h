@@ -16,10 +16,10 @@
  *   Which digest do all volumes of one meaning share?     fv_volume_digest          a volume         14
  *   Do two volumes mean the same? Where do they differ?   fv_volume_compare         two volumes      13, of both
  *   Where are files, pads, deleted files, free bytes?     fv_volume_cells           begins with one  14
- *   What is in a volume, at every level?                  fv_volume_tree            a volume         30
- *   Which digest does each of these parts have?           fv_volume_tree_digests    a volume         17
+ *   What is in a volume, at every level?                  fv_volume_tree            a volume         32
+ *   Which digest does each of these parts have?           fv_volume_tree_digests    a volume         18
  *   What are the bytes of one of these parts?             fv_volume_extract         a volume         14
- *   Is a dependency expression true?                      fv_depex_evaluate         an expression    14
+ *   Is a dependency expression true?                      fv_depex_evaluate         an expression    18
  *   Which blocks does a hand-off list have?               fv_hobs_read              begins with one  14
  *   What does a result mean?                              fv_result_text            a number         none
  *   Which version of the library is this?                 fv_version(_number)       none             none
@@ -28,8 +28,8 @@
  * are fault 8. If the input only "begins with one", the bytes after it are not read, and neither are the bytes after an
  * expression. Any bytes may be passed to any call: bytes that are not an input of this kind are rejected with a fault.
  * Memory: in addition to its arguments, a call takes up to this many times the size of the input. This was measured
- * for inputs that consist of tiny parts only, which cost most; 14 is the highest figure among the calls listed with 14.
- * Stack: at most 16.5 KiB, as measured.
+ * for inputs that consist of tiny parts only, which cost most. No call that is listed with 14 took more.
+ * Stack: at most 20.5 KiB, as measured.
  *
  * Rules for the caller
  *   1. NULL. An input may be NULL if its size is 0, a buffer may be NULL if its room is 0, and `fault` may always be
