@@ -4,7 +4,8 @@ only: without network, without setuptools, without a compiler. Both contain the 
 it. The library is the file that LIBFV names, otherwise fv/libfv.so.2 (which an unpacked source archive contains),
 otherwise clib/out/libfv.so.2 (which clib/build makes). Two runs make the same bytes.
 
-`backend.py files` prints the files of the package for `make install`, and `backend.py commands` its commands."""
+`backend.py build FOLDER` writes both to a folder, for a release. `backend.py files` prints the files of the package for
+`make install`, and `backend.py commands` its commands."""
 
 from __future__ import annotations
 
@@ -160,5 +161,18 @@ def build_sdist(sdist_directory: str, config_settings: object = None) -> str:
     return name
 
 
+def main() -> None:
+    """Writes the wheel and the source archive, or prints names of the package."""
+    match sys.argv[1:]:
+        case ["build", folder]:
+            print(build_wheel(folder), build_sdist(folder))
+        case ["commands"]:
+            print(*commands())
+        case ["files"]:
+            print(*(it.name for it in package()))
+        case _:
+            sys.exit("usage: backend.py build FOLDER | files | commands")
+
+
 if __name__ == "__main__":
-    print(*(commands() if sys.argv[1:] == ["commands"] else [it.name for it in package()]))
+    main()

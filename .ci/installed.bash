@@ -1,0 +1,57 @@
+# SPDX-License-Identifier: BSD-2-Clause-Patent
+# shellcheck shell=bash
+# Shared code of .ci/install and .ci/roots: a scratch folder with images, and functions that try the installed files.
+# $room/volume is a volume of one file, and $room/flash a flash image of two copies of it. $room/wanted has the lines
+# that examples/volumes.* print for this image, and $room/made has the images of recipes/images.py.
+set -euo pipefail
+cd "$(dirname "${BASH_SOURCE[0]}")/.."
+room=$(mktemp -d)
+trap 'rm -rf --one-file-system "$room"' EXIT
+chmod 755 "$room"
+umask 022
+skipped=()
+
+fail() { # WHAT
+    echo "${0##*/}: $*" >&2
+    exit 1
+}
+
+# Runs a command, and shows its output only if it fails.
+quietly() { # COMMAND..
+    "$@" > "$room/said" 2>&1 || { tail -n 30 "$room/said"; fail "failed: $*"; }
+}
+
+# Succeeds if a tool is installed. Otherwise notes that the check which needs the tool is skipped.
+has() { # TOOL WHAT
+    command -v "$1" > /dev/null || { skipped+=("$2 (no $1)"); return 1; }
+}
+
+# Prints what was skipped.
+show_skipped() {
+    local what
+    for what in "${skipped[@]}"; do echo "${0##*/}: skipped: $what"; done
+}
+
+# The volume is not canonical, because an image has another filler after the section.
+python3 -B crates/fv_run_tests/rows/rows.py two-sections > "$room/volume"
+(head -c 64 /dev/zero; cat "$room/volume" "$room/volume") > "$room/flash"
+printf '%s\n' 'volume at 64: 1 files, 14 bytes of data' 'volume at 192: 1 files, 14 bytes of data' 'not canonical' > "$room/wanted"
+python3 -B recipes/images.py "$room/made"
+
+# Runs the tools over the made images of a folder. The PATH has only the folders of the system, so the tools use the
+# files that are installed beside them. WAY is the command that runs them, and FOLDER is for their output.
+tools_work() { # BIN MADE FOLDER [WAY..]
+    local bin=$1 made=$2 parts=$3/parts way=("${@:4}" env -i PATH=/usr/bin:/bin) status=0
+    [[ $("${way[@]}" "$bin/fv-same" "$made/plain.fd" "$made/stored.fd") == same ]] || fail "fv-same does not say same"
+    "${way[@]}" "$bin/fv-same" --open "$made/firmware.fd" "$made/firmware-changed.fd" > "$room/said" || status=$?
+    [[ $status == 1 && $(< "$room/said") == *'"Beta"'* ]] || fail "fv-same says $(< "$room/said")"
+    "${way[@]}" "$bin/fv-unpack" "$made/firmware.fd" "$parts" > "$room/said" || true # a section of it is of an unknown kind
+    "${way[@]}" grep '/[0-9]*-Beta/pe32.efi' "$parts/index.tsv" > "$room/said" || fail "fv-unpack: $(< "$room/said")"
+    "${way[@]}" rm -r "$parts"
+    "${way[@]}" "$bin/fv-map" "$made/firmware.fd" > "$room/map"; grep -q Pei0 "$room/map" || fail "fv-map does not draw what is compressed"
+}
+
+# Checks that fvmap, the name of fv-map in 1.0, draws the map that tools_work has drawn.
+fvmap_works() { # BIN MADE [WAY..]
+    "${@:3}" env -i PATH=/usr/bin:/bin "$1/fvmap" "$2/firmware.fd" | cmp - "$room/map" || fail "fvmap is not fv-map"
+}
