@@ -244,7 +244,7 @@ INPUTS += (small_groups, groups_of_three, nested_sections, entries, small_volume
 # The memory that a run may take, as a multiple of its input. For the other inputs this multiple is 2.
 RATIOS: dict[Make, int] = {names: 10, replaced_names: 8, mixed_names: 8, late_pair: 10}
 RATIOS |= {empty_sections: 8, empty_expressions: 8}
-RATIOS |= {small_groups: 10, groups_of_three: 11, nested_sections: 9, entries: 7}
+RATIOS |= {small_groups: 10, groups_of_three: 11, nested_sections: 9, entries: 5}
 # These inputs take less memory if they have 16 MiB.
 RATIOS |= {stubs: 5, pads: 4, levels: 8, level_groups: 8, small_volumes: 5}
 

@@ -13,6 +13,7 @@ use fv_base::field::u16_at;
 use fv_base::{Fault, Guid, guid_at};
 use std::alloc::Global;
 use std::marker::Model;
+use std::mem::size_of;
 
 /// The type of an entry that holds the used size: `EFI_FV_EXT_TYPE_USED_SIZE_TYPE`.
 const USED_SIZE: u16 = 3;
@@ -24,14 +25,24 @@ const ZERO_USED_SIZE: [u8; 4] = [0; 4];
 /// specification, volume 3, section 3.2.1.2, `EFI_FIRMWARE_VOLUME_EXT_ENTRY`.)
 #[derive(Drop)]
 pub struct ExtEntry<'a> {
-    kind: u16,
-    payload: &'a [u8],
+    // The entry's header of 4 bytes, and then its payload. The type and the payload are read from
+    // them, because an entry may be as short as its header.
+    bytes: &'a [u8],
 }
 
+// An entry takes at least 4 bytes of a volume, so it takes at most 4 times its length of memory.
+const _: () = prove!(size_of::<ExtEntry<'static>>() == 16);
+
 impl<'a> Model for ExtEntry<'a> {
+    ghost use Rattle.std.specs.Prelude.{◌≤◌, ℕ, List, drop, length};
+    ghost use Rattle.fv_base.specs.Words.{le_at};
+    ghost use Rattle.fv_head.specs.Ext.{kept_payload};
+
     ghost Value = { ℕ × List ℕ };
 
-    ghost view = { λ e. (e.kind, e.payload.now) };
+    ghost view = { λ e. (le_at 2 2 e.bytes.now, kept_payload (le_at 2 2 e.bytes.now) (drop 4 e.bytes.now)) };
+
+    ghost invariant = { λ e. 4 ≤ length e.bytes.now };
 }
 
 impl<'a> ExtEntry<'a> {
@@ -41,7 +52,7 @@ impl<'a> ExtEntry<'a> {
     pub fn kind(&self) -> u16
         ensures { result ≡ self.now.0 }
     {
-        self.kind
+        u16_at(self.bytes, EXT_ENTRY_TYPE_OFFSET)
     }
 
     /// Returns the bytes after the entry's header. For a used size (an entry of type 3 with 4 bytes
@@ -49,7 +60,11 @@ impl<'a> ExtEntry<'a> {
     pub fn payload(&self) -> &'a [u8]
         ensures { result.now ≡ self.now.1 }
     {
-        self.payload
+        let payload = &self.bytes[EXT_ENTRY_HEADER_LEN..];
+        if is_used_size(self.kind(), payload) {
+            return &ZERO_USED_SIZE;
+        }
+        payload
     }
 }
 
@@ -125,19 +140,12 @@ pub(crate) fn is_used_size(kind: u16, payload: &[u8]) -> bool
 }
 
 // Reads these bytes as an entry: a header of 4 bytes, and then the payload.
-fn entry_of(entry: &[u8]) -> ExtEntry<'_>
-    requires { 4 ≤ length entry.now }
-    ensures kind { result.0 ≡ le_at 2 2 entry.now }
-    ensures payload { result.1 ≡ kept_payload (le_at 2 2 entry.now) (drop 4 entry.now) }
+fn entry_of(bytes: &[u8]) -> ExtEntry<'_>
+    requires { 4 ≤ length bytes.now }
+    ensures kind { result.0 ≡ le_at 2 2 bytes.now }
+    ensures payload { result.1 ≡ kept_payload (le_at 2 2 bytes.now) (drop 4 bytes.now) }
 {
-    let kind = u16_at(entry, EXT_ENTRY_TYPE_OFFSET);
-    let payload = &entry[EXT_ENTRY_HEADER_LEN..];
-    let payload = if is_used_size(kind, payload) {
-        &ZERO_USED_SIZE
-    } else {
-        payload
-    };
-    ExtEntry { kind, payload }
+    ExtEntry { bytes }
 }
 
 // Reads the entries that the bytes begin with. Returns the entries, and the tail, which is the
