@@ -1,107 +1,35 @@
--- Proves that the loop over the rows of a volume adds the rows of its tree (`walk_begun`, `walk_more`, `walk_ended`). The
--- steps:
--- 1. A row keeps its properties if rows are added after it (`node_later`), and so do places (`parts_later`).
--- 2. The places that are added for a row are right (`files_added`, `sections_added`, `nested_added`, `none_added`).
--- 3. The next row is a part of the last row whose depth is one less, by the law `held_are`, so its place is known
---    (`next_is`).
-use Rattle.std.proofs.Common.{◌≡◌, ◌∙◌, ℕ, zero, suc, ◌+◌, ◌<◌, ◌≤◌, List, [], ◌∷◌, ◌++◌, length, cond, Some, refl, sym, ap, subst}
+-- Proves that the loop over the rows of a volume adds the rows of its tree (`walk_first`, `walk_more`). The steps:
+-- 1. A row keeps its properties if rows are added after it (`node_later`).
+-- 2. The places of the parts of a row are right (`files_are`, `sections_are`, `nested_are`, `none_are`).
+-- 3. The rows that are left are the rows of the parts that wait, each followed by the rows in it (`flat`).
+use Rattle.std.proofs.Common.{◌≡◌, ◌∙◌, ℕ, zero, suc, ◌+◌, ◌≤◌, List, [], ◌∷◌, ◌++◌, length, Some, refl, sym, ap, ap₂, subst}
 use Rattle.std.proofs.Common.{append-nil, append_assoc, arith, length-append}
-use Rattle.std.proofs.lemmas.Bool.{cond_both, eq-eqb, eqb-true, eqb-false, ne_eqb}
-use Rattle.std.specs.List.{filter}
-use Rattle.std.specs.Prelude.{◌≢◌, ◌-◌, ◌==◌, ◌&&◌, not, slice_get, map, Bool, true, false}
+use Rattle.std.proofs.lemmas.List.{map-append}
+use Rattle.std.specs.Prelude.{◌≢◌, slice_get, map}
 use Rattle.fv_base.specs.Words.{IsBytes}
 use Rattle.fv_section.specs.Words.{FrameForm, Splits}
 use Rattle.fv_tree.specs.Words.{Accepted, BeginWithFiles, Meaning, Volume, Pairwise, file_form}
 use Rattle.fv_tree.specs.declared.volume_files.LocatedFile.{LocatedFile}
-use Rattle.fv_rows.specs.Words.{NodeMeaning, VolumeNode, FileNode, SectionNode, TreeRow as Row, parts_in, tree_rows as rows_of}
-use Rattle.fv_rows.specs.TreeRows.{rows_of_files}
-use Rattle.fv_c.specs.TreeParts.{TreeRow, is_held_by, last_above, no_parent, parent_of, rows_held, rows_of_parts, tree_rows, with_parents}
-use Rattle.fv_c.specs.ReportedTree.{Held, HasTreeRows, IsNodeIn, IsPlaced, bytes_at, node_content, reported_node}
+use Rattle.fv_rows.specs.Words.{NodeMeaning, VolumeNode, FileNode, SectionNode, TreeRow as Row, nesting_inside, parts_in, rows_inside}
+use Rattle.fv_rows.specs.Words.{tree_rows as rows_of}
+use Rattle.fv_rows.specs.RowWalks.{rows_of_nodes}
+use Rattle.fv_rows.proofs.Laws.{inside_rows}
+use Rattle.fv_c.specs.TreeParts.{TreeRow, no_parent, parent_of, rows_of_parts, tree_rows, with_parents}
+use Rattle.fv_c.specs.ReportedTree.{Held, IsNodeIn, IsPlaced, bytes_at, node_content, reported_node}
 use Rattle.fv_c.specs.declared.tree.FvNode.{FvNode}
-use Rattle.fv_c.specs.declared.tree.Level.{Level}
 use Rattle.fv_c.specs.declared.tree.PartPlace.{PartPlace}
-use Rattle.fv_c.specs.inner.Trees.{HasPlaces, IsFound, PartsPlaced, file_place, held_row, section_place}
+use Rattle.fv_c.specs.inner.Trees.{HasPlaces, IsFound, LiesAt, file_place, section_place}
 use Rattle.fv_c.proofs.TreeNesting.{pairs_map}
-use Rattle.fv_c.proofs.TreeParents.{AreDeep, held_are, inside_deep}
-use Rattle.fv_c.proofs.TreeRows.{ArePlaced, all_bytes, files_in, files_placed, nested_placed, nothing_in, root_found, root_node, root_row}
+use Rattle.fv_c.proofs.TreeParents.{next_parent, same_above}
+use Rattle.fv_c.proofs.TreeRows.{all_bytes, files_in, files_placed, get_middle, nested_placed, nothing_in, root_found, root_node}
 use Rattle.fv_c.proofs.TreeRows.{sections_placed, stream_in, volume_in}
 
--- ---- lists
+-- ---- more rows
 
 get_later : {X : Type 0} (xs ys : List X) (i : ℕ) (x : X) → slice_get xs i ≡ Some x → slice_get (xs ++ ys) i ≡ Some x
 get_later [] ys i x is = cc
 get_later (y ∷ xs) ys zero x is = is
 get_later (y ∷ xs) ys (suc i) x is = get_later xs ys i x is
-
-get_middle : {X : Type 0} (xs : List X) (x : X) (ys : List X) → slice_get (xs ++ x ∷ ys) (length xs) ≡ Some x
-get_middle [] x ys = refl
-get_middle (y ∷ xs) x ys = get_middle xs x ys
-
-get_after : {X : Type 0} (xs ys : List X) (i : ℕ) → slice_get (xs ++ ys) (length xs + i) ≡ slice_get ys i
-get_after [] ys i = let same : 0 + i ≡ i = omega arith in ap (slice_get ys) same
-get_after (x ∷ xs) ys i =
-    let same : length (x ∷ xs) + i ≡ suc (length xs + i) = omega arith in
-    ap (slice_get (x ∷ xs ++ ys)) same ∙ get_after xs ys i
-
-get_some : {X : Type 0} (xs : List X) (i : ℕ) → i < length xs → (x : X) × (slice_get xs i ≡ Some x)
-get_some [] i l = absurd (none l) where
-  none : i < 0 → ⊥
-  none l = omega (arith, l)
-get_some (x ∷ xs) zero l = (x, refl)
-get_some (x ∷ xs) (suc i) l = get_some xs i (omega (arith, l))
-
-in_filter : {X : Type 0} (test : X → Bool) (xs : List X) (i : ℕ) (x : X) → slice_get xs i ≡ Some x → test x ≡ true
-    → (j : ℕ) × (slice_get (filter test xs) j ≡ Some x)
-in_filter test [] i x is passes = cc
-in_filter test (y ∷ xs) zero x is passes =
-    let same : y ≡ x = cc in (
-      zero,
-      ap (λ (t : Bool). slice_get (cond t (y ∷ filter test xs) (filter test xs)) zero) (ap test same ∙ passes) ∙ ap (λ z. Some z) same,
-    )
-in_filter {X} test (y ∷ xs) (suc i) x is passes = go (test y) (in_filter test xs i x is passes) where
-  go : (t : Bool) → (j : ℕ) × (slice_get (filter test xs) j ≡ Some x)
-      → (j : ℕ) × (slice_get (cond t (y ∷ filter test xs) (filter test xs)) j ≡ Some x)
-  go true (j, e) = (suc j, e)
-  go false (j, e) = (j, e)
-
-in_parts : (n depth number : ℕ) (nodes : List NodeMeaning) (j : ℕ) (r : TreeRow) → slice_get (rows_of_parts n depth number nodes) j ≡ Some r
-    → (r.depth ≡ depth) × (r.number ≡ number + j) × (slice_get nodes j ≡ Some r.node)
-in_parts n depth number [] j r is = cc
-in_parts n depth number (node ∷ nodes) zero r is =
-    let same : held_row n depth number node ≡ r = cc in
-    let none : number ≡ number + zero = omega arith in
-    (ap (λ (x : TreeRow). x.depth) (sym same), ap (λ (x : TreeRow). x.number) (sym same) ∙ none, ap (λ (x : TreeRow). Some x.node) same)
-in_parts n depth number (node ∷ nodes) (suc j) r is =
-    let found = in_parts n depth (number + 1) nodes j r is in
-    let next : number + 1 + j ≡ number + suc j = omega arith in
-    (found.0, found.1 ∙ next, found.2)
-
-pairs_join : {A B : Type 0} (R : A → B → Type 0) (xs : List A) (ys : List B) (x : A) (y : B) → Pairwise R xs ys → R x y
-    → Pairwise R (xs ++ x ∷ []) (ys ++ y ∷ [])
-pairs_join R [] [] x y p r = (r, tt)
-pairs_join R [] (b ∷ ys) x y p r = absurd p
-pairs_join R (a ∷ xs) [] x y p r = absurd p
-pairs_join R (a ∷ xs) (b ∷ ys) x y p r = (p.0, pairs_join R xs ys x y p.1 r)
-
-pairs_long : {A B : Type 0} (R : A → B → Type 0) (xs : List A) (ys : List B) → Pairwise R xs ys → length xs ≡ length ys
-pairs_long R [] [] p = refl
-pairs_long R [] (y ∷ ys) p = absurd p
-pairs_long R (x ∷ xs) [] p = absurd p
-pairs_long R (x ∷ xs) (y ∷ ys) p = ap suc (pairs_long R xs ys p.1)
-
-last_most : (depth : ℕ) (before : List ℕ) → last_above depth before ≤ length before
-last_most depth [] = omega arith
-last_most depth (d ∷ before) =
-    cond_both (d + 1 == depth) (length before) (last_above depth before) (λ (n : ℕ). n ≤ length (d ∷ before)) (λ _. omega arith)
-    (λ _. omega (arith, last_most depth before))
-
-last_less : (depth : ℕ) (before : List ℕ) → 1 ≤ length before → last_above depth before < length before
-last_less depth [] l = omega (arith, l)
-last_less depth (d ∷ before) l =
-    cond_both (d + 1 == depth) (length before) (last_above depth before) (λ (n : ℕ). n < length (d ∷ before)) (λ _. omega arith)
-    (λ _. omega (arith, last_most depth before))
-
--- ---- more rows, and more places
 
 held_later : (rows more : List FvNode) (row : FvNode) (P : FvNode → Type 0) → Held rows row P → Held (rows ++ more) row P
 held_later rows more row P (holder, is, holds) = (holder, get_later rows more row.parent holder is, holds)
@@ -117,24 +45,17 @@ node_later : (input : List ℕ) (rows more : List FvNode) (row : FvNode) (r : Tr
     → IsNodeIn input (rows ++ more) row r
 node_later input rows more row r h = record { is = h.is; within = h.within; placed = placed_later input rows more row r.node h.placed }
 
-parts_later : (input : List ℕ) (rows more : List FvNode) (n depth : ℕ) (nodes : List NodeMeaning) (places added : List PartPlace) (first : ℕ)
-    → PartsPlaced input rows n depth nodes places first → PartsPlaced input (rows ++ more) n depth nodes (places ++ added) first
-parts_later input rows more n depth nodes places added first placed i node is =
-    let (place, at, found) = placed i node is in (
-      place,
-      get_later places added (first + i) place at,
-      record { node = node_later input rows more _ _ found.node; deep = found.deep },
-    )
+lies_later : (input : List ℕ) (rows more : List FvNode) (place : PartPlace) (r : TreeRow) → LiesAt input rows place r
+    → LiesAt input (rows ++ more) place r
+lies_later input rows more place r (parent, found) =
+    (parent, record { node = node_later input rows more _ r found.node; deep = found.deep })
 
-places_added : (input : List ℕ) (h : FvNode) (nodes : List NodeMeaning) (olds added news : List PartPlace) → news ≡ olds ++ added
-    → ((rows : List FvNode) (n : ℕ) → slice_get rows n ≡ Some h → ArePlaced input rows n h nodes added) → HasPlaces input h nodes olds news
-places_added input h nodes olds added news is placed = (
-  added,
-  is,
-  λ rows n at i node here.
-      let (place, there, found) = placed rows n at i node here in
-      (place, ap (λ (l : List PartPlace). slice_get l (length olds + i)) is ∙ get_after olds added i ∙ there, found),
-)
+pairs_join : {A B : Type 0} (R : A → B → Type 0) (xs : List A) (ys : List B) (zs : List A) (ws : List B) → Pairwise R xs ys → Pairwise R zs ws
+    → Pairwise R (xs ++ zs) (ys ++ ws)
+pairs_join R [] [] zs ws p q = q
+pairs_join R [] (y ∷ ys) zs ws p q = absurd p
+pairs_join R (x ∷ xs) [] zs ws p q = absurd p
+pairs_join R (x ∷ xs) (y ∷ ys) zs ws p q = (p.0, pairs_join R xs ys zs ws p.1 q)
 
 -- ---- the places of the parts of a row
 
@@ -147,226 +68,223 @@ module _ {input : List ℕ} {rows : List FvNode} {h : FvNode} {r : TreeRow} (fou
       let (m, parts, accepted) = files_in input rows h r.node found.node.placed (content 0 is) in
       (m, accepted)
 
-  pub files_added : (olds news : List PartPlace) → h.content ≡ 0 → (stored : List LocatedFile) → BeginWithFiles (bytes_at input h) (map file_form stored)
-      → news ≡ olds ++ map (file_place h.offset) (map file_form stored) → HasPlaces input h (parts_in r.node) olds news
-  files_added olds news is stored begin added =
-      let (m, parts, accepted) = files_in input rows h r.node found.node.placed (content 0 is) in
-      subst (λ (ns : List NodeMeaning). HasPlaces input h ns olds news) (sym parts)
-      (places_added input h _ olds _ news added
-      (λ rs n at. files_placed input rs n h at found.node.within found.deep stored m accepted begin))
+  module _ (n : ℕ) where
+    -- if the parts of the row are these, it is enough to know their places
+    placed : (nodes : List NodeMeaning) (places : List PartPlace) → parts_in r.node ≡ nodes
+        → ((rs : List FvNode) → slice_get rs n ≡ Some h → Pairwise (LiesAt input rs) places (rows_of_parts n (h.depth + 1) 0 nodes))
+        → HasPlaces input h n r.node places
+    placed nodes places parts lie rs at =
+        subst (λ (ns : List NodeMeaning). Pairwise (LiesAt input rs) places (rows_of_parts n (h.depth + 1) 0 ns)) (sym parts) (lie rs at)
 
-  pub sections_added : (olds news : List PartPlace) → h.content ≡ 2
-      → ((frames : List FrameForm) (tail : ℕ) → Splits frames tail (bytes_at input h) → news ≡ olds ++ map (section_place h.offset) frames)
-      → HasPlaces input h (parts_in r.node) olds news
-  sections_added olds news is added =
-      let (ss, parts, (tail, (frames, split, pairs))) = stream_in input rows h r.node found.node.placed (content 2 is) in
-      subst (λ (ns : List NodeMeaning). HasPlaces input h ns olds news) (sym parts)
-      (places_added input h _ olds _ news (added frames tail split)
-      (λ rs n at. sections_placed input rs n h at found.node.within found.deep ss frames tail split pairs))
+    pub files_are : h.content ≡ 0 → (stored : List LocatedFile) → BeginWithFiles (bytes_at input h) (map file_form stored)
+        → HasPlaces input h n r.node
+        (map (file_place (record { parent = n; offset = h.offset; header_len = 0 })) (map file_form stored))
+    files_are is stored begin =
+        let (m, parts, accepted) = files_in input rows h r.node found.node.placed (content 0 is) in
+        placed _ _ parts (λ rs at. files_placed input rs n h at found.node.within found.deep stored m accepted begin)
 
-  pub nested_added : (olds news : List PartPlace) → h.content ≡ 3 → IsBytes input → news ≡ olds ++ record { offset = h.offset; header_len = 0 } ∷ []
-      → HasPlaces input h (parts_in r.node) olds news
-  nested_added olds news is bytes added =
-      let (m, parts, denotes, long, kind) = volume_in input rows h r.node found.node.placed (content 3 is) in
-      subst (λ (ns : List NodeMeaning). HasPlaces input h ns olds news) (sym parts)
-      (places_added input h (VolumeNode m ∷ []) olds _ news added
-      (λ rs n at. nested_placed input rs n h at found.node.within found.deep m bytes denotes
-      (ap (λ (x : FvNode). x.length) found.node.is ∙ long) (ap (λ (x : FvNode). x.kind) found.node.is ∙ kind)))
+    pub sections_are : h.content ≡ 2 → (places : List PartPlace)
+        → ((frames : List FrameForm) (tail : ℕ) → Splits frames tail (bytes_at input h)
+        → places ≡ map (section_place (record { parent = n; offset = h.offset; header_len = 0 })) frames)
+        → HasPlaces input h n r.node places
+    sections_are is places only =
+        let (ss, parts, (tail, (frames, split, pairs))) = stream_in input rows h r.node found.node.placed (content 2 is) in
+        subst (HasPlaces input h n r.node) (sym (only frames tail split))
+        (placed _ _ parts (λ rs at. sections_placed input rs n h at found.node.within found.deep ss frames tail split pairs))
 
-  pub none_added : (olds news : List PartPlace) → h.content ≢ 0 → h.content ≢ 2 → h.content ≢ 3 → news ≡ olds → HasPlaces input h (parts_in r.node) olds news
-  none_added olds news a b c same =
-      let own = ap (λ (n : FvNode). n.content) found.node.is in
-      subst (λ (ns : List NodeMeaning). HasPlaces input h ns olds news)
-      (sym (nothing_in r.node (λ e. a (own ∙ e)) (λ e. b (own ∙ e)) (λ e. c (own ∙ e))))
-      (places_added input h [] olds [] news (same ∙ sym (append-nil olds)) (λ rs n at i node is. cc))
+    pub nested_are : h.content ≡ 3 → IsBytes input
+        → HasPlaces input h n r.node (record { parent = n; offset = h.offset; header_len = 0 } ∷ [])
+    nested_are is bytes =
+        let (m, parts, denotes, long, kind) = volume_in input rows h r.node found.node.placed (content 3 is) in
+        placed (VolumeNode m ∷ []) (record { parent = n; offset = h.offset; header_len = 0 } ∷ []) parts
+        (λ rs at. nested_placed input rs n h at found.node.within found.deep m bytes denotes
+        (ap (λ (x : FvNode). x.length) found.node.is ∙ long) (ap (λ (x : FvNode). x.kind) found.node.is ∙ kind))
 
--- ---- the loop
+    pub none_are : h.content ≢ 0 → h.content ≢ 2 → h.content ≢ 3 → HasPlaces input h n r.node []
+    none_are a b c =
+        let own = ap (λ (x : FvNode). x.content) found.node.is in
+        placed [] [] (nothing_in r.node (λ e. a (own ∙ e)) (λ e. b (own ∙ e)) (λ e. c (own ∙ e))) (λ rs at. tt)
 
--- each row that is the last of its depth has a level, and the places of its parts are right
-abbrev LevelsHold : (input : List ℕ) (rows : List FvNode) (done : List TreeRow) (before : List ℕ) (levels : List Level)
-    (places : List PartPlace) → Type 0
-LevelsHold input rows done before levels places =
-    (n : ℕ) (r : TreeRow) → slice_get done n ≡ Some r → n ≡ last_above (r.depth + 1) before
-    → (l : Level) × (slice_get levels r.depth ≡ Some l) × (l.number ≡ n)
-    × PartsPlaced input rows n (r.depth + 1) (parts_in r.node) places l.first
+-- ---- the parts that wait
 
--- `rows` are the first rows of the tree, `done`, whose depths are `before`; these rows are left
-pub record Walked (input : List ℕ) (m : Meaning) (rows : List FvNode) (levels : List Level) (places : List PartPlace) (left : List Row)
-    : Type 0 where
-  pub before : List ℕ
-  pub done : List TreeRow
-  pub all : tree_rows m ≡ done ++ with_parents before left
-  pub nodes : Pairwise (IsNodeIn input rows) rows done
-  pub long : length before ≡ length rows
-  pub some : 1 ≤ length rows
-  pub deep : AreDeep 1 left
-  pub held : LevelsHold input rows done before levels places
+-- the rows of these parts, each followed by the rows in it
+abbrev flat : List Row → List Row
+flat [] = []
+flat (r ∷ rows) = r ∷ rows_inside (r.depth + 1) (nesting_inside r.nesting r.node) r.node ++ flat rows
 
--- the next row with its parent, its level and its place
-pub record Next (input : List ℕ) (rows : List FvNode) (levels : List Level) (places : List PartPlace) (r : TreeRow) : Type 0 where
-  pub level : Level
-  pub has_level : slice_get levels (r.depth - 1) ≡ Some level
-  pub number : level.number ≡ r.parent
-  pub place : PartPlace
-  pub has_place : slice_get places (level.first + r.number) ≡ Some place
-  pub found : IsFound input rows (reported_node place.offset place.header_len r) r
+-- the rows of the parts in one part, without the rows in them
+abbrev own_rows : (depth nesting number : ℕ) → List NodeMeaning → List Row
+own_rows depth nesting number [] = []
+own_rows depth nesting number (node ∷ nodes) =
+    record { depth = depth; nesting = nesting; number = number; node = node } ∷ own_rows depth nesting (number + 1) nodes
 
+flat_own : (depth nesting number : ℕ) (nodes : List NodeMeaning) (rows : List Row)
+    → flat (own_rows depth nesting number nodes ++ rows) ≡ rows_of_nodes depth nesting number nodes ++ flat rows
+flat_own depth nesting number [] rows = refl
+flat_own depth nesting number (node ∷ nodes) rows =
+    let inside : List Row = rows_inside (depth + 1) (nesting_inside nesting node) node in
+    ap (λ (l : List Row). record { depth = depth; nesting = nesting; number = number; node = node } ∷ inside ++ l)
+    (flat_own depth nesting (number + 1) nodes rows)
+    ∙ ap (λ (l : List Row). record { depth = depth; nesting = nesting; number = number; node = node } ∷ l)
+    (sym (append_assoc inside (rows_of_nodes depth nesting (number + 1) nodes) (flat rows)))
+
+-- no row is deeper than k, and none is deeper than the row before it
+abbrev Falling : ℕ → List Row → Type 0
+Falling k [] = Unit {0}
+Falling k (r ∷ rows) = (r.depth ≤ k) × Falling r.depth rows
+
+falling_own : (depth nesting number : ℕ) (nodes : List NodeMeaning) (rows : List Row) → Falling depth rows
+    → Falling depth (own_rows depth nesting number nodes ++ rows)
+falling_own depth nesting number [] rows falls = falls
+falling_own depth nesting number (node ∷ nodes) rows falls = (omega arith, falling_own depth nesting (number + 1) nodes rows falls)
+
+falling_less : (k n : ℕ) (rows : List Row) → k ≤ n → Falling k rows → Falling n rows
+falling_less k n [] l falls = tt
+falling_less k n (r ∷ rows) l falls = (omega (arith, l, falls.0), falls.1)
+
+-- the row with its parent
 abbrev pub next_row : List ℕ → Row → TreeRow
 next_row before r = record { parent = parent_of r.depth before; depth = r.depth; number = r.number; node = r.node }
 
-module _ {input : List ℕ} {m : Meaning} {rows : List FvNode} {levels : List Level} {places : List PartPlace} {r : Row} {left : List Row}
-    (w : Walked input m rows levels places (r ∷ left)) where
-  abbrev next : TreeRow
-  next = next_row w.before r
+own_parents : (depth nesting number : ℕ) (before : List ℕ) (nodes : List NodeMeaning)
+    → map (next_row (depth ∷ before)) (own_rows (depth + 1) nesting number nodes) ≡ rows_of_parts (length before) (depth + 1) number nodes
+own_parents depth nesting number before [] = refl
+own_parents depth nesting number before (node ∷ nodes) =
+    ap₂ (λ (n : ℕ) (l : List TreeRow). record { parent = n; depth = depth + 1; number = number; node = node } ∷ l) (next_parent depth before)
+    (own_parents depth nesting (number + 1) before nodes)
 
-  as_many : length w.before ≡ length w.done
-  as_many = w.long ∙ pairs_long (IsNodeIn input rows) rows w.done w.nodes
+same_parents : (depth k : ℕ) (before : List ℕ) (rows : List Row) → k ≤ depth → Falling k rows
+    → map (next_row (depth ∷ before)) rows ≡ map (next_row before) rows
+same_parents depth k before [] l falls = refl
+same_parents depth k before (r ∷ rows) l falls =
+    ap₂ (λ (n : ℕ) (t : List TreeRow). record { parent = n; depth = r.depth; number = r.number; node = r.node } ∷ t)
+    (same_above r.depth depth before (omega (arith, l, falls.0)))
+    (same_parents depth r.depth before rows (omega (arith, l, falls.0)) falls.1)
 
-  some_before : 1 ≤ length w.before
-  some_before = omega (arith, w.some, w.long)
+-- ---- the loop
 
-  pub next_is : Next input rows levels places next
-  next_is =
-      let n : ℕ = last_above r.depth w.before in
-      let inside : (r.depth == 0) ≡ false = ne_eqb r.depth 0 (λ e. omega (arith, w.deep.0, e)) in
-      let up : next.parent ≡ n = ap (λ (t : Bool). cond t no_parent n) inside in
-      let less : n < length w.done = omega (arith, last_less r.depth w.before some_before, as_many) in
-      let here : slice_get (tree_rows m) (length w.done) ≡ Some next =
-      ap (λ (l : List TreeRow). slice_get l (length w.done)) w.all ∙ get_middle w.done next (with_parents (r.depth ∷ w.before) left) in
-      let holder = get_some w.done n less in
-      let there : slice_get (tree_rows m) n ≡ Some holder.0 =
-      ap (λ (l : List TreeRow). slice_get l n) w.all ∙ get_later w.done (with_parents w.before (r ∷ left)) n holder.0 holder.1 in
-      let passes : is_held_by n next ≡ true =
-      ap (λ (t : Bool). not t && (next.parent == n)) inside ∙ eq-eqb next.parent n up in
-      let one = in_filter (is_held_by n) (tree_rows m) (length w.done) next here passes in
-      let part = in_parts n (holder.0.depth + 1) 0 (parts_in holder.0.node) one.0 next
-      (ap (λ (l : List TreeRow). slice_get l one.0) (sym (held_are m n ∙ ap (rows_held n) there)) ∙ one.1) in
-      let same : one.0 ≡ r.number = omega (arith, part.1) in
-      let above : holder.0.depth ≡ r.depth - 1 = omega (arith, part.0) in
-      let (level, has, number, placed) = w.held n holder.0 holder.1 (ap (λ (d : ℕ). last_above d w.before) part.0) in
-      let (place, at, found) = placed r.number r.node (subst (λ (j : ℕ). slice_get (parts_in holder.0.node) j ≡ Some r.node) same part.2) in
-      let row : held_row n (holder.0.depth + 1) r.number r.node ≡ next =
-      ap (λ (d : ℕ). held_row n d r.number r.node) (sym part.0) ∙ ap (λ (p : ℕ). held_row p r.depth r.number r.node) (sym up) in record {
-        level = level;
-        has_level = ap (slice_get levels) (sym above) ∙ has;
-        number = number ∙ sym up;
-        place = place;
-        has_place = at;
-        found = subst (λ (t : TreeRow). IsFound input rows (reported_node place.offset place.header_len t) t) row found;
-      }
+-- `rows` are the first rows of the tree, `done`, whose depths are `before`. The rows `left` are those of the parts that
+-- wait, whose places are `places`
+pub record Walked (input : List ℕ) (m : Meaning) (rows : List FvNode) (places : List PartPlace) (left : List Row) : Type 0 where
+  pub before : List ℕ
+  pub done : List TreeRow
+  pub waits : List Row
+  pub most : ℕ
+  pub all : tree_rows m ≡ done ++ with_parents before left
+  pub nodes : Pairwise (IsNodeIn input rows) rows done
+  pub long : length before ≡ length rows
+  pub left_are : left ≡ flat waits
+  pub falls : Falling most waits
+  pub lie : Pairwise (LiesAt input rows) places (map (next_row before) waits)
 
-  module _ {node : FvNode} {news : List FvNode} (found : IsFound input rows node next) (joined : news ≡ rows ++ node ∷ []) where
-    later : (row : FvNode) (t : TreeRow) → IsNodeIn input rows row t → IsNodeIn input news row t
-    later row t is = subst (λ (l : List FvNode). IsNodeIn input l row t) (sym joined) (node_later input rows (node ∷ []) row t is)
+-- the first of the parts that wait is the next row
+first_waits : (waits : List Row) (r : Row) (left : List Row) → r ∷ left ≡ flat waits
+    → (rest : List Row) × (waits ≡ r ∷ rest) × (left ≡ rows_inside (r.depth + 1) (nesting_inside r.nesting r.node) r.node ++ flat rest)
+first_waits [] r left is = cc
+first_waits (x ∷ rest) r left is =
+    let same : x ≡ r = cc in
+    let after : left ≡ rows_inside (x.depth + 1) (nesting_inside x.nesting x.node) x.node ++ flat rest = cc in (
+      rest,
+      ap (λ (y : Row). y ∷ rest) same,
+      after ∙ ap (λ (y : Row). rows_inside (y.depth + 1) (nesting_inside y.nesting y.node) y.node ++ flat rest) same,
+    )
 
-    module _ {more : List PartPlace} (places_of : HasPlaces input node (parts_in r.node) places more) where
-      own_places : PartsPlaced input news (length rows) (r.depth + 1) (parts_in r.node) more (length places)
-      own_places =
-          let at : slice_get news (length rows) ≡ Some node =
-          ap (λ (l : List FvNode). slice_get l (length rows)) joined ∙ get_middle rows node [] in
-          subst (λ (d : ℕ). PartsPlaced input news (length rows) (d + 1) (parts_in r.node) more (length places))
-          (ap (λ (x : FvNode). x.depth) found.node.is) (places_of.2 news (length rows) at)
+module _ {input : List ℕ} {m : Meaning} {rows : List FvNode} {r : Row} {left : List Row} where
+  -- a part waits, if a row is left
+  pub some_waits : Walked input m rows [] (r ∷ left) → ⊥
+  some_waits w =
+      let (rest, waits, after) = first_waits w.waits r left w.left_are in
+      subst (λ (l : List Row). Pairwise (LiesAt input rows) [] (map (next_row w.before) l)) waits w.lie
 
-      module _ (moved : List Level) (set : slice_get moved r.depth ≡ Some (record { number = length rows; first = length places }))
-          (others : (d : ℕ) → d ≢ r.depth → slice_get moved d ≡ slice_get levels d) where
-        levels_hold : LevelsHold input news (w.done ++ next ∷ []) (r.depth ∷ w.before) moved more
-        levels_hold n t is last = go (r.depth + 1 == t.depth + 1) refl last where
-          Result : ℕ → TreeRow → Type 0
-          Result k x = (l : Level) × (slice_get moved x.depth ≡ Some l) × (l.number ≡ k)
-              × PartsPlaced input news k (x.depth + 1) (parts_in x.node) more l.first
+  module _ {place : PartPlace} {places : List PartPlace} (w : Walked input m rows (place ∷ places) (r ∷ left)) where
+    waiting : Pairwise (LiesAt input rows) (place ∷ places) (map (next_row w.before) (r ∷ (first_waits w.waits r left w.left_are).0))
+    waiting = subst (λ (l : List Row). Pairwise (LiesAt input rows) (place ∷ places) (map (next_row w.before) l))
+        (first_waits w.waits r left w.left_are).1 w.lie
 
-          go : (b : Bool) → (r.depth + 1 == t.depth + 1) ≡ b → n ≡ cond b (length w.before) (last_above (t.depth + 1) w.before) → Result n t
-          go true e f =
-              let whole : n ≡ length w.done = f ∙ as_many in
-              let same : next ≡ t = some_same
-              (sym (ap (slice_get (w.done ++ next ∷ [])) whole ∙ get_middle w.done next []) ∙ is) in
-              subst (Result n) same (subst (λ (k : ℕ). Result k next) (sym (f ∙ w.long))
-              ((record { number = length rows; first = length places }, set, refl, own_places)))
-            where
-              some_same : {X : Type 0} {x y : X} → Some x ≡ Some y → x ≡ y
-              some_same e = cc
-          go false e f =
-              let apart : t.depth ≢ r.depth = λ same. eqb-false (r.depth + 1) (t.depth + 1) e (ap (λ (d : ℕ). d + 1) (sym same)) in
-              let less : n < length w.done = omega (arith, last_less (t.depth + 1) w.before some_before, as_many, f) in
-              let old = get_some w.done n less in
-              let same : slice_get w.done n ≡ Some t = old.1 ∙ sym (get_later w.done (next ∷ []) n old.0 old.1) ∙ is in
-              let (level, has, number, placed) = w.held n t same f in (
-                level,
-                others t.depth apart ∙ has,
-                number,
-                subst (λ (l : List PartPlace). PartsPlaced input news n (t.depth + 1) (parts_in t.node) l level.first) (sym places_of.1)
-                    (subst (λ (l : List FvNode). PartsPlaced input l n (t.depth + 1) (parts_in t.node) (places ++ places_of.0) level.first) (sym joined)
-                    (parts_later input rows (node ∷ []) n (t.depth + 1) (parts_in t.node) places places_of.0 level.first placed)),
-              )
+    pub next_lies : LiesAt input rows place (next_row w.before r)
+    next_lies = waiting.0
 
-        pub walk_more : Walked input m news moved more left
-        walk_more = record {
+    pub walk_more : {node : FvNode} {news : List FvNode} {more : List PartPlace} (parts : List PartPlace) → IsFound input rows node (next_row w.before r)
+        → news ≡ rows ++ node ∷ [] → HasPlaces input node (length rows) r.node parts → more ≡ parts ++ places → Walked input m news more left
+    walk_more {node} {news} {more} parts found joined has is =
+        let next : TreeRow = next_row w.before r in
+        let rest : List Row = (first_waits w.waits r left w.left_are).0 in
+        let nodes : List NodeMeaning = parts_in r.node in
+        let own : List Row = own_rows (r.depth + 1) (nesting_inside r.nesting r.node) 0 nodes in
+        let falls : (r.depth ≤ w.most) × Falling r.depth rest = subst (Falling w.most) (first_waits w.waits r left w.left_are).1 w.falls in
+        let at : slice_get news (length rows) ≡ Some node =
+        ap (λ (l : List FvNode). slice_get l (length rows)) joined ∙ get_middle rows node [] in
+        let later : (row : FvNode) (t : TreeRow) → IsNodeIn input rows row t → IsNodeIn input news row t =
+        λ row t here. subst (λ (l : List FvNode). IsNodeIn input l row t) (sym joined) (node_later input rows (node ∷ []) row t here) in
+        let lies : (p : PartPlace) (t : TreeRow) → LiesAt input rows p t → LiesAt input news p t =
+        λ p t here. subst (λ (l : List FvNode). LiesAt input l p t) (sym joined) (lies_later input rows (node ∷ []) p t here) in
+        let own_lie : Pairwise (LiesAt input news) parts (rows_of_parts (length w.before) (r.depth + 1) 0 nodes) =
+        subst (λ (k : ℕ). Pairwise (LiesAt input news) parts (rows_of_parts k (r.depth + 1) 0 nodes)) (sym w.long)
+        (subst (λ (d : ℕ). Pairwise (LiesAt input news) parts (rows_of_parts (length rows) (d + 1) 0 nodes))
+        (ap (λ (x : FvNode). x.depth) found.node.is) (has news at)) in
+        let rows_are : map (next_row (r.depth ∷ w.before)) (own ++ rest)
+        ≡ rows_of_parts (length w.before) (r.depth + 1) 0 nodes ++ map (next_row w.before) rest =
+        map-append (next_row (r.depth ∷ w.before)) own rest
+        ∙ ap₂ (λ (a b : List TreeRow). a ++ b) (own_parents r.depth (nesting_inside r.nesting r.node) 0 w.before nodes)
+        (same_parents r.depth r.depth w.before rest (omega arith) falls.1) in record {
           before = r.depth ∷ w.before;
           done = w.done ++ next ∷ [];
+          waits = own ++ rest;
+          most = r.depth + 1;
           all = w.all ∙ sym (append_assoc w.done (next ∷ []) (with_parents (r.depth ∷ w.before) left));
           nodes = subst (λ (l : List FvNode). Pairwise (IsNodeIn input news) l (w.done ++ next ∷ [])) (sym joined)
-              (pairs_join (IsNodeIn input news) rows w.done node next
-              (pairs_map (IsNodeIn input rows) (IsNodeIn input news) later rows w.done w.nodes) (later node next found.node));
+              (pairs_join (IsNodeIn input news) rows w.done (node ∷ []) (next ∷ [])
+              (pairs_map (IsNodeIn input rows) (IsNodeIn input news) later rows w.done w.nodes) (later node next found.node, tt));
           long = omega (arith, w.long, ap length joined, length-append rows (node ∷ []));
-          some = omega (arith, w.some, ap length joined, length-append rows (node ∷ []));
-          deep = w.deep.1;
-          held = levels_hold;
+          left_are = (first_waits w.waits r left w.left_are).2
+              ∙ ap (λ (l : List Row). l ++ flat rest) (inside_rows (r.depth + 1) (nesting_inside r.nesting r.node) r.node)
+              ∙ sym (flat_own (r.depth + 1) (nesting_inside r.nesting r.node) 0 nodes rest);
+          falls = falling_own (r.depth + 1) (nesting_inside r.nesting r.node) 0 nodes rest
+              (falling_less r.depth (r.depth + 1) rest (omega arith) falls.1);
+          lie = subst (λ (l : List PartPlace). Pairwise (LiesAt input news) l (map (next_row (r.depth ∷ w.before)) (own ++ rest))) (sym is)
+              (subst (Pairwise (LiesAt input news) (parts ++ places)) (sym rows_are)
+              (pairs_join (LiesAt input news) parts _ places _ own_lie
+              (pairs_map (LiesAt input rows) (LiesAt input news) lies places (map (next_row w.before) rest) waiting.1)));
         }
 
--- the first row has been added
-pub walk_begun : (input : List ℕ) (m : Meaning) (first : Row) (left : List Row) (stored : List LocatedFile) (news : List FvNode)
-    → Accepted input m → rows_of m ≡ first ∷ left → BeginWithFiles input (map file_form stored)
-    → news ≡ reported_node 0 0 (held_row no_parent first.depth first.number first.node) ∷ []
-    → Walked input m news (record { number = 0; first = 0 } ∷ []) (map (file_place 0) (map file_form stored)) left
-walk_begun input (Volume head files) first left stored news accepted are found is =
-    let m : Meaning = Volume head files in
-    let rows : List FvNode = root_node m ∷ [] in
-    let top : record { depth = 0; nesting = 0; number = 0; node = VolumeNode m } ≡ first = cc in
-    let made : rows ≡ news =
-    ap (λ (r : Row). reported_node 0 0 (held_row no_parent r.depth r.number r.node) ∷ []) top ∙ sym is in
-    let places : List PartPlace = map (file_place 0) (map file_form stored) in
-    let rest : rows_of_files 1 0 0 files ≡ left = cc in
-    let root = root_found input m accepted rows in
-    let same : bytes_at input (root_node m) ≡ input = all_bytes input m accepted in
-    let placed : ArePlaced input rows 0 (root_node m) (parts_in (VolumeNode m)) places =
-    files_placed input rows 0 (root_node m) refl root.node.within root.deep stored m
-    (subst (λ (b : List ℕ). Accepted b m) (sym same) accepted)
-    (subst (λ (b : List ℕ). BeginWithFiles b (map file_form stored)) (sym same) found) in
-    subst (λ (l : List FvNode). Walked input m l (record { number = 0; first = 0 } ∷ []) places left) made
-    (subst (λ (l : List Row). Walked input m rows (record { number = 0; first = 0 } ∷ []) places l) rest (record {
-      before = 0 ∷ [];
-      done = root_row m ∷ [];
-      all = refl;
-      nodes = (root.node, tt);
-      long = refl;
-      some = omega arith;
-      deep = inside_deep files;
-      held = held m rows places placed;
-    }))
-  where
-    held : (m : Meaning) (rows : List FvNode) (places : List PartPlace)
-        → ArePlaced input rows 0 (root_node m) (parts_in (VolumeNode m)) places
-        → LevelsHold input rows (root_row m ∷ []) (0 ∷ []) (record { number = 0; first = 0 } ∷ []) places
-    held m rows places placed zero r is last =
-        let same : root_row m ≡ r = cc in
-        subst (λ (x : TreeRow). (l : Level) × (slice_get (record { number = 0; first = 0 } ∷ []) x.depth ≡ Some l) × (l.number ≡ 0)
-        × PartsPlaced input rows 0 (x.depth + 1) (parts_in x.node) places l.first) same
-        ((
-          record { number = 0; first = 0 },
-          refl,
-          refl,
-          λ i node at.
-              let (place, there, found) = placed i node at in
-              let index : 0 + i ≡ i = omega arith in
-              (place, ap (slice_get places) index ∙ there, found),
-        ))
-    held m rows places placed (suc n) r is last = cc
-
--- no row is left
-pub walk_ended : {input : List ℕ} {m : Meaning} {rows : List FvNode} {levels : List Level} {places : List PartPlace}
-    → Walked input m rows levels places [] → Accepted input m → HasTreeRows input rows
-walk_ended {input} {m} {rows} w accepted = record {
-  meaning = m;
-  volume = accepted;
-  nodes = subst (Pairwise (IsNodeIn input rows) rows) (sym (w.all ∙ append-nil w.done)) w.nodes;
+-- the volume waits, before any row has been added
+walk_begun : (input : List ℕ) (m : Meaning) → Accepted input m
+    → Walked input m [] (record { parent = no_parent; offset = 0; header_len = 0 } ∷ []) (rows_of m)
+walk_begun input (Volume head files) accepted = record {
+  before = [];
+  done = [];
+  waits = record { depth = 0; nesting = 0; number = 0; node = VolumeNode (Volume head files) } ∷ [];
+  most = 0;
+  all = refl;
+  nodes = tt;
+  long = refl;
+  left_are = ap (λ (l : List Row). record { depth = 0; nesting = 0; number = 0; node = VolumeNode (Volume head files) } ∷ l)
+      (sym (append-nil (rows_inside 1 0 (VolumeNode (Volume head files)))));
+  falls = (omega arith, tt);
+  lie = ((refl, root_found input (Volume head files) accepted []), tt);
 }
+
+root_is : (m : Meaning) (first : Row) (left : List Row) → rows_of m ≡ first ∷ left
+    → first ≡ record { depth = 0; nesting = 0; number = 0; node = VolumeNode m }
+root_is (Volume head files) first left are = cc
+
+-- the first row has been added, and the files of the volume wait
+pub walk_first : (input : List ℕ) (m : Meaning) (first : Row) (left : List Row) (stored : List LocatedFile) (news : List FvNode)
+    (more : List PartPlace) → Accepted input m → rows_of m ≡ first ∷ left → BeginWithFiles input (map file_form stored)
+    → news ≡ reported_node 0 0 (record { parent = no_parent; depth = first.depth; number = first.number; node = first.node }) ∷ []
+    → more ≡ map (file_place (record { parent = 0; offset = 0; header_len = 0 })) (map file_form stored) → Walked input m news more left
+walk_first input m first left stored news more accepted are begin made is =
+    let top : first ≡ record { depth = 0; nesting = 0; number = 0; node = VolumeNode m } = root_is m first left are in
+    let w : Walked input m [] (record { parent = no_parent; offset = 0; header_len = 0 } ∷ [])
+    (record { depth = 0; nesting = 0; number = 0; node = VolumeNode m } ∷ left) =
+    subst (Walked input m [] (record { parent = no_parent; offset = 0; header_len = 0 } ∷ []))
+    (are ∙ ap (λ (r : Row). r ∷ left) top) (walk_begun input m accepted) in
+    let lies = next_lies w in
+    let same : reported_node 0 0 (next_row w.before (record { depth = 0; nesting = 0; number = 0; node = VolumeNode m })) ≡ root_node m =
+    ap (λ (p : ℕ). reported_node 0 0 (record { parent = p; depth = 0; number = 0; node = VolumeNode m })) (sym lies.0) in
+    walk_more w (map (file_place (record { parent = 0; offset = 0; header_len = 0 })) (map file_form stored))
+    (subst (λ (n : FvNode). IsFound input [] n (next_row w.before (record { depth = 0; nesting = 0; number = 0; node = VolumeNode m }))) same lies.1)
+    (made ∙ ap (λ (r : Row). reported_node 0 0 (record { parent = no_parent; depth = r.depth; number = r.number; node = r.node }) ∷ []) top)
+    (files_are (root_found input m accepted []) 0 refl stored
+    (subst (λ (b : List ℕ). BeginWithFiles b (map file_form stored)) (sym (all_bytes input m accepted)) begin))
+    (is ∙ sym (append-nil (map (file_place (record { parent = 0; offset = 0; header_len = 0 })) (map file_form stored))))

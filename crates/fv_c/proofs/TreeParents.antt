@@ -133,7 +133,7 @@ parents_joined before (r ∷ a) b =
     (parents_joined (r.depth ∷ before) a b)
 
 -- the rows are at this depth or deeper
-abbrev pub AreDeep : ℕ → List Row → Type 0
+abbrev AreDeep : ℕ → List Row → Type 0
 AreDeep depth rows = AllByRecursion (λ (r : Row). depth ≤ r.depth) rows
 
 deep_joined : (depth : ℕ) (a b : List Row) → AreDeep (depth + 1) a → AreDeep depth b → AreDeep depth (a ++ b)
@@ -141,7 +141,7 @@ deep_joined depth [] b x y = y
 deep_joined depth (r ∷ a) b x y = (omega (arith, x.0), deep_joined depth a b x.1 y)
 
 -- deeper rows do not change the parent of a later row
-same_above : (depth d : ℕ) (before : List ℕ) → depth ≤ d → parent_of depth (d ∷ before) ≡ parent_of depth before
+pub same_above : (depth d : ℕ) (before : List ℕ) → depth ≤ d → parent_of depth (d ∷ before) ≡ parent_of depth before
 same_above depth d before l =
     ap (λ (t : Bool). cond (depth == 0) no_parent (cond t (length before) (last_above depth before))) (ne_eqb (d + 1) depth (λ e. omega arith))
 
@@ -152,7 +152,7 @@ same_parent depth (r ∷ rows) before deep =
     same_parent depth rows (r.depth ∷ before) deep.1 ∙ same_above depth r.depth before (omega (arith, deep.0))
 
 -- the parent of a row right after a row that is one less deep
-next_parent : (depth : ℕ) (before : List ℕ) → parent_of (depth + 1) (depth ∷ before) ≡ length before
+pub next_parent : (depth : ℕ) (before : List ℕ) → parent_of (depth + 1) (depth ∷ before) ≡ length before
 next_parent depth before =
     ap (λ (t : Bool). cond t no_parent (last_above (depth + 1) (depth ∷ before))) (ne_eqb (depth + 1) 0 (λ e. omega arith))
     ∙ ap (λ (t : Bool). cond t (length before) (last_above (depth + 1) before)) (eq-eqb (depth + 1) (depth + 1) refl)
@@ -170,11 +170,11 @@ later_parent : (before : List ℕ) (parent depth : ℕ) (inside : List Row) → 
 later_parent before parent depth inside is deep =
     same_parent depth inside (depth ∷ before) deep ∙ same_above depth depth before (omega arith) ∙ is
 
-under_more : (before : List ℕ) (parent depth nesting number : ℕ) (node : NodeMeaning) (nodes : List NodeMeaning) (inside rest : List Row)
+under_more : {before : List ℕ} {parent depth nesting number : ℕ} {node : NodeMeaning} {nodes : List NodeMeaning} {inside rest : List Row}
     → parent_of depth before ≡ parent → Under (depth ∷ before) (length before) (depth + 1) 0 (parts_in node) inside
     → Under (depths_after inside (depth ∷ before)) parent depth (number + 1) nodes rest
     → Under before parent depth number (node ∷ nodes) (record { depth = depth; nesting = nesting; number = number; node = node } ∷ inside ++ rest)
-under_more before parent depth nesting number node nodes inside rest is first more =
+under_more {before} {parent} {depth} {nesting} {number} {node} {nodes} {inside} {rest} is first more =
     let n : ℕ = length before in
     let here : ℕ → TreeRow = λ p. record { parent = p; depth = depth; number = number; node = node } in
     let rows : List TreeRow = with_parents (depth ∷ before) inside in
@@ -203,8 +203,7 @@ mutual
       let first = under_files (depth + 1) nesting 0 (depth ∷ before) (length before) files (next_parent depth before) in
       subst (λ (l : List Row). Under before parent depth 0 (VolumeNode (Volume h files) ∷ [])
       (record { depth = depth; nesting = nesting; number = 0; node = VolumeNode (Volume h files) } ∷ l)) (append-nil inside)
-      (under_more before parent depth nesting 0 (VolumeNode (Volume h files)) [] inside [] is first
-      (under_none (depths_after inside (depth ∷ before)) parent depth 1))
+      (under_more is first (under_none (depths_after inside (depth ∷ before)) parent depth 1))
 
   under_files : (depth nesting number : ℕ) (before : List ℕ) (parent : ℕ) (files : FileMeanings) → parent_of depth before ≡ parent
       → Under before parent depth number (map FileNode (files_list files)) (rows_of_files depth nesting number files)
@@ -212,8 +211,7 @@ mutual
   under_files depth nesting number before parent (MoreFiles (File name kind attributes content) fs) is =
       let inside : List Row = rows_in_content (depth + 1) nesting content in
       let first = under_content (depth + 1) nesting (depth ∷ before) (length before) content (next_parent depth before) in
-      under_more before parent depth nesting number (FileNode (File name kind attributes content)) (map FileNode (files_list fs)) inside
-      (rows_of_files depth nesting (number + 1) fs) is first
+      under_more is first
       (under_files depth nesting (number + 1) (depths_after inside (depth ∷ before)) parent fs
       (later_parent before parent depth inside is first.deep))
 
@@ -228,8 +226,7 @@ mutual
   under_sections depth nesting number before parent (MoreSections (Section kind extended body) ss) is =
       let inside : List Row = rows_in_body (depth + 1) (nesting + 1) body in
       let first = under_body (depth + 1) (nesting + 1) (depth ∷ before) (length before) body (next_parent depth before) in
-      under_more before parent depth nesting number (SectionNode (Section kind extended body)) (map SectionNode (sections_list ss)) inside
-      (rows_of_sections depth nesting (number + 1) ss) is first
+      under_more is first
       (under_sections depth nesting (number + 1) (depths_after inside (depth ∷ before)) parent ss
       (later_parent before parent depth inside is first.deep))
 
@@ -253,7 +250,3 @@ held_are m n =
     let same : n ≡ 0 + n = omega arith in
     (under_tree m).good.inner n (inl refl)
     ∙ ap (λ (k : ℕ). rows_held n (row_at 0 rows k)) same ∙ ap (rows_held n) (row_is_at 0 rows n)
-
--- all rows in a volume are deeper than the volume
-pub inside_deep : (files : FileMeanings) → AreDeep 1 (rows_of_files 1 0 0 files)
-inside_deep files = (under_files 1 0 0 (0 ∷ []) 0 files refl).deep

@@ -1,10 +1,10 @@
--- Proves that the places which are added for the parts that a row holds are right (`files_placed`, `sections_placed`,
--- `nested_placed`), and that the first row is right (`root_found`). The steps:
--- 1. If two lists agree item by item, their items at one place agree (`each_at`).
--- 2. A file, a section or a volume lies at its place (`file_found`, `section_found`, `nested_found`).
--- 3. What a row holds follows from its number for the contents (`files_in`, `stream_in`, `volume_in`, `nothing_in`).
-use Rattle.std.proofs.Common.{◌≡◌, ◌∙◌, ℕ, zero, suc, ◌+◌, ◌<◌, ◌≤◌, List, [], ◌∷◌, ◌++◌, length, Some, refl, sym, ap, subst}
-use Rattle.std.proofs.Common.{arith}
+-- Proves that the places of the parts that a row holds are right (`files_placed`, `sections_placed`, `nested_placed`), and
+-- that the first row is right (`root_found`). The steps:
+-- 1. If two lists agree item by item, the places that are made from the first are those of the second (`each_lies`).
+-- 2. What a row holds follows from its number for the contents (`files_in`, `stream_in`, `volume_in`, `nothing_in`).
+-- 3. A file, a section or a volume lies at its place (`file_found`, `section_found`, `nested_placed`).
+use Rattle.std.proofs.Common.{◌≡◌, ◌∙◌, ℕ, zero, suc, ◌+◌, ◌≤◌, List, [], ◌∷◌, ◌++◌, length, Some, refl, sym, ap, subst}
+use Rattle.std.proofs.Common.{append_assoc, arith, length-append}
 use Rattle.std.specs.Prelude.{◌≢◌, slice_get, map, Bool, true, false}
 use Rattle.std.specs.List.{AllByRecursion}
 use Rattle.std.proofs.lemmas.List.{take_all}
@@ -20,11 +20,11 @@ use Rattle.fv_tree.specs.Words.{body_len, body_of, body_place, data_len_of, data
 use Rattle.fv_tree.specs.declared.volume_files.LocatedFile.{LocatedFile}
 use Rattle.fv_tree.proofs.Laws.{begun_data, body_long, content_long, one_files, volume_files}
 use Rattle.fv_rows.specs.Words.{NodeMeaning, VolumeNode, FileNode, SectionNode, parts_in}
-use Rattle.fv_c.specs.TreeParts.{TreeRow, no_parent}
+use Rattle.fv_c.specs.TreeParts.{TreeRow, no_parent, rows_of_parts}
 use Rattle.fv_c.specs.ReportedTree.{IsPlaced, bytes_at, kind_number, node_content, node_length, reported_node}
 use Rattle.fv_c.specs.declared.tree.FvNode.{FvNode}
 use Rattle.fv_c.specs.declared.tree.PartPlace.{PartPlace}
-use Rattle.fv_c.specs.inner.Trees.{IsFound, file_place, held_row, section_place}
+use Rattle.fv_c.specs.inner.Trees.{IsFound, LiesAt, file_place, section_place}
 use Rattle.fv_c.proofs.TreeNesting.{in_group, in_nested}
 use Rattle.fv_c.proofs.TreePlaces.{LieAt, field_bytes, file_lies, frame_lies}
 
@@ -35,26 +35,25 @@ all_at P [] i x all is = cc
 all_at P (a ∷ xs) zero x all is = let l : a ≡ x = cc in subst P l all.0
 all_at P (a ∷ xs) (suc i) x all is = all_at P xs i x all.1 is
 
--- the items at place i of two lists, the place that is made from the first, and the part that is made from the second
-pub record At {A B : Type 0} (R : A → B → Type 0) (place : A → PartPlace) (node : B → NodeMeaning) (xs : List A) (i : ℕ) (n : NodeMeaning) : Type 0 where
-  pub left : A
-  pub right : B
-  pub is : slice_get xs i ≡ Some left
-  pub placed : slice_get (map place xs) i ≡ Some (place left)
-  pub named : n ≡ node right
-  pub related : R left right
+pub get_middle : {X : Type 0} (xs : List X) (x : X) (ys : List X) → slice_get (xs ++ x ∷ ys) (length xs) ≡ Some x
+get_middle [] x ys = refl
+get_middle (y ∷ xs) x ys = get_middle xs x ys
 
-pub each_at : {A B : Type 0} (R : A → B → Type 0) (place : A → PartPlace) (node : B → NodeMeaning) (xs : List A) (ys : List B) (i : ℕ)
-    (n : NodeMeaning) → Pairwise R xs ys → slice_get (map node ys) i ≡ Some n → At R place node xs i n
-each_at R place node [] [] i n p is = cc
-each_at R place node [] (y ∷ ys) i n p is = absurd p
-each_at R place node (x ∷ xs) [] i n p is = absurd p
-each_at R place node (x ∷ xs) (y ∷ ys) zero n p is =
-    let same : node y ≡ n = cc in
-    record { left = x; right = y; is = refl; placed = refl; named = sym same; related = p.0 }
-each_at R place node (x ∷ xs) (y ∷ ys) (suc i) n p is =
-    let at = each_at R place node xs ys i n p.1 is in
-    record { left = at.left; right = at.right; is = at.is; placed = at.placed; named = at.named; related = at.related }
+-- if each item that agrees with a part leads to a place of this part, the places of all items are those of the parts
+each_lies : {A B : Type 0} (R : A → B → Type 0) (node : B → NodeMeaning) (place : A → PartPlace) (Lies : PartPlace → TreeRow → Type 0)
+    (n depth : ℕ) (all : List A)
+    → ((i : ℕ) (x : A) (y : B) → slice_get all i ≡ Some x → R x y
+    → Lies (place x) (record { parent = n; depth = depth; number = i; node = node y }))
+    → (front xs : List A) (ys : List B) → all ≡ front ++ xs → Pairwise R xs ys
+    → Pairwise Lies (map place xs) (rows_of_parts n depth (length front) (map node ys))
+each_lies R node place Lies n depth all found front [] [] is p = tt
+each_lies R node place Lies n depth all found front [] (y ∷ ys) is p = absurd p
+each_lies R node place Lies n depth all found front (x ∷ xs) [] is p = absurd p
+each_lies R node place Lies n depth all found front (x ∷ xs) (y ∷ ys) is p = (
+  found (length front) x y (ap (λ l. slice_get l (length front)) is ∙ get_middle front x xs) p.0,
+  subst (λ (k : ℕ). Pairwise Lies (map place xs) (rows_of_parts n depth k (map node ys))) (length-append front (x ∷ []))
+      (each_lies R node place Lies n depth all found (front ++ x ∷ []) xs ys (is ∙ sym (append_assoc front (x ∷ []) xs)) p.1),
+)
 
 -- ---- what a row holds
 
@@ -137,129 +136,123 @@ section_long f (Section kind extended body) means =
     let form : extended ≡ f.extended = means.1 in
     body_long depth_limit f kind body (subst (λ (x : Bool). MeansSection depth_limit f (Section kind x body)) form means)
 
--- the part is the part number i that row n holds, and lies at this place
-abbrev pub PlacedAt : (input : List ℕ) (rows : List FvNode) (n : ℕ) (h : FvNode) (i : ℕ) → NodeMeaning → PartPlace → Type 0
-PlacedAt input rows n h i node place =
-    IsFound input rows (reported_node place.offset place.header_len (held_row n (h.depth + 1) i node)) (held_row n (h.depth + 1) i node)
-
--- these places are those of the parts that row n holds
-abbrev pub ArePlaced : (input : List ℕ) (rows : List FvNode) (n : ℕ) (h : FvNode) → List NodeMeaning → List PartPlace → Type 0
-ArePlaced input rows n h nodes places =
-    (i : ℕ) (node : NodeMeaning) → slice_get nodes i ≡ Some node
-    → (place : PartPlace) × (slice_get places i ≡ Some place) × PlacedAt input rows n h i node place
-
--- row n is h
+-- row n is h, and part number i that it holds is this part
 module _ (input : List ℕ) (rows : List FvNode) (n : ℕ) (h : FvNode) (at : slice_get rows n ≡ Some h)
     (within : h.offset + h.length ≤ length input) (deep : h.depth + h.kind ≤ h.offset + 2) where
+  abbrev start : PartPlace
+  start = record { parent = n; offset = h.offset; header_len = 0 }
+
+  abbrev part_row : ℕ → NodeMeaning → TreeRow
+  part_row i node = record { parent = n; depth = h.depth + 1; number = i; node = node }
+
   file_found : (fs : List FileForm) (i : ℕ) (f : FileForm) (m : FileMeaning) → BeginWithFiles (bytes_at input h) fs
       → slice_get fs i ≡ Some f → 24 ≤ f.head.header_len → MeansFile (Stream depth_limit) f m
-      → PlacedAt input rows n h i (FileNode m) (file_place h.offset f)
+      → LiesAt input rows (file_place start f) (part_row i (FileNode m))
   file_found fs i f m found is some means =
       let lies : LieAt input (h.offset + data_place f) f.payload = file_lies input h.offset h.length f within
       (all_at (HasDataIn (bytes_at input h)) fs i f (begun_data (bytes_at input h) fs found) is) in
-      let long = file_long f m means in record {
-        node = record {
-          is = refl;
-          within = omega (arith, lies.0, long);
-          placed = (
-            h,
-            at,
-            record {
-              files = fs;
-              volume = found;
-              file = f;
-              is = is;
-              offset = refl;
-              header = refl;
-              payload = ap (λ (k : ℕ). field (h.offset + data_place f) k input) (sym long) ∙ lies.1;
-              means = means;
-            },
-          );
-        };
-        deep = omega (arith, deep, some);
-      }
+      let long = file_long f m means in (
+        refl,
+        record {
+          node = record {
+            is = refl;
+            within = omega (arith, lies.0, long);
+            placed = (
+              h,
+              at,
+              record {
+                files = fs;
+                volume = found;
+                file = f;
+                is = is;
+                offset = refl;
+                header = refl;
+                payload = ap (λ (k : ℕ). field (h.offset + data_place f) k input) (sym long) ∙ lies.1;
+                means = means;
+              },
+            );
+          };
+          deep = omega (arith, deep, some);
+        },
+      )
 
   pub files_placed : (stored : List LocatedFile) (m : Meaning) → Accepted (bytes_at input h) m
       → BeginWithFiles (bytes_at input h) (map file_form stored)
-      → ArePlaced input rows n h (map FileNode (files_of m)) (map (file_place h.offset) (map file_form stored))
-  files_placed stored m accepted found i node is =
+      → Pairwise (LiesAt input rows) (map (file_place start) (map file_form stored)) (rows_of_parts n (h.depth + 1) 0 (map FileNode (files_of m)))
+  files_placed stored m accepted found =
       let b : List ℕ = bytes_at input h in
       let forms : List FileForm = map file_form stored in
       let v : Denotes depth_limit b m = accepted.1 in
       let pairs : Pairwise (MeansFile (Stream depth_limit)) forms (files_of m) =
       subst (λ (fs : List FileForm). Pairwise (MeansFile (Stream depth_limit)) fs (files_of m))
       (one_files b forms v.files found (volume_files depth_limit b m v)) v.meanings in
-      let e = each_at (MeansFile (Stream depth_limit)) (file_place h.offset) FileNode forms (files_of m) i node pairs is in (
-        file_place h.offset e.left,
-        e.placed,
-        subst (λ (k : NodeMeaning). PlacedAt input rows n h i k (file_place h.offset e.left)) (sym e.named)
-            (file_found forms i e.left e.right found e.is (all_at (λ (f : FileForm). 24 ≤ f.head.header_len) forms i e.left (some_header stored) e.is)
-            e.related),
-      )
+      each_lies (MeansFile (Stream depth_limit)) FileNode (file_place start) (LiesAt input rows) n (h.depth + 1) forms
+      (λ i f file is means. file_found forms i f file found is
+      (all_at (λ (f : FileForm). 24 ≤ f.head.header_len) forms i f (some_header stored) is) means)
+      [] forms (files_of m) refl pairs
 
   section_found : (frames : List FrameForm) (tail i : ℕ) (f : FrameForm) (s : SectionMeaning) → Splits frames tail (bytes_at input h)
       → slice_get frames i ≡ Some f → MeansSection depth_limit f s
-      → PlacedAt input rows n h i (SectionNode s) (section_place h.offset f)
+      → LiesAt input rows (section_place start f) (part_row i (SectionNode s))
   section_found frames tail i f s split is means =
       let b : List ℕ = bytes_at input h in
       let lies : LieAt input (h.offset + body_place f) f.body = frame_lies input h.offset h.length f within
       (all_at (λ g. HasFrameAt g g.offset b) frames i f (split_stands frames tail b split) is) in
-      let long = section_long f s means in record {
-        node = record {
-          is = refl;
-          within = omega (arith, lies.0, long);
-          placed = (
-            h,
-            at,
-            record {
-              frames = frames;
-              tail = tail;
-              stream = split;
-              frame = f;
-              is = is;
-              offset = refl;
-              body = ap (λ (k : ℕ). field (h.offset + body_place f) k input) (sym long) ∙ lies.1;
-              means = means;
-            },
-          );
-        };
-        deep = omega (arith, deep, section_header f.extended);
-      }
-
-  pub sections_placed : (ss : List SectionMeaning) (frames : List FrameForm) (tail : ℕ) → Splits frames tail (bytes_at input h)
-      → Pairwise (MeansSection depth_limit) frames ss → ArePlaced input rows n h (map SectionNode ss) (map (section_place h.offset) frames)
-  sections_placed ss frames tail split pairs i node is =
-      let e = each_at (MeansSection depth_limit) (section_place h.offset) SectionNode frames ss i node pairs is in (
-        section_place h.offset e.left,
-        e.placed,
-        subst (λ (k : NodeMeaning). PlacedAt input rows n h i k (section_place h.offset e.left)) (sym e.named)
-            (section_found frames tail i e.left e.right split e.is e.related),
-      )
-
-  pub nested_placed : (m : Meaning) → IsBytes input → Denotes depth_limit (bytes_at input h) m → h.length ≡ length_of m → h.kind ≡ 3
-      → ArePlaced input rows n h (VolumeNode m ∷ []) (record { offset = h.offset; header_len = 0 } ∷ [])
-  nested_placed m bytes denotes long kind zero node is =
-      let same : VolumeNode m ≡ node = cc in
-      let place : PartPlace = record { offset = h.offset; header_len = 0 } in
-      let b : bytes_at input h ≡ field h.offset (length_of m) input = ap (λ (k : ℕ). field h.offset k input) long in (
-        place,
+      let long = section_long f s means in (
         refl,
-        subst (λ (k : NodeMeaning). PlacedAt input rows n h zero k place) same (record {
+        record {
           node = record {
             is = refl;
-            within = omega (arith, within, long);
+            within = omega (arith, lies.0, long);
             placed = (
-              (field_bytes h.offset (length_of m) input bytes, subst (λ (l : List ℕ). Denotes depth_limit l m) b denotes),
-              (λ none. absurd (one_more h.depth none), λ _. (h, at, refl)),
+              h,
+              at,
+              record {
+                frames = frames;
+                tail = tail;
+                stream = split;
+                frame = f;
+                is = is;
+                offset = refl;
+                body = ap (λ (k : ℕ). field (h.offset + body_place f) k input) (sym long) ∙ lies.1;
+                means = means;
+              },
             );
           };
-          deep = omega (arith, deep, kind);
-        }),
+          deep = omega (arith, deep, section_header f.extended);
+        },
+      )
+
+  pub sections_placed : (ss : List SectionMeaning) (frames : List FrameForm) (tail : ℕ) → Splits frames tail (bytes_at input h)
+      → Pairwise (MeansSection depth_limit) frames ss
+      → Pairwise (LiesAt input rows) (map (section_place start) frames) (rows_of_parts n (h.depth + 1) 0 (map SectionNode ss))
+  sections_placed ss frames tail split pairs =
+      each_lies (MeansSection depth_limit) SectionNode (section_place start) (LiesAt input rows) n (h.depth + 1) frames
+      (λ i f s is means. section_found frames tail i f s split is means) [] frames ss refl pairs
+
+  pub nested_placed : (m : Meaning) → IsBytes input → Denotes depth_limit (bytes_at input h) m → h.length ≡ length_of m → h.kind ≡ 3
+      → Pairwise (LiesAt input rows) (start ∷ []) (rows_of_parts n (h.depth + 1) 0 (VolumeNode m ∷ []))
+  nested_placed m bytes denotes long kind =
+      let b : bytes_at input h ≡ field h.offset (length_of m) input = ap (λ (k : ℕ). field h.offset k input) long in (
+        (
+          refl,
+          record {
+            node = record {
+              is = refl;
+              within = omega (arith, within, long);
+              placed = (
+                (field_bytes h.offset (length_of m) input bytes, subst (λ (l : List ℕ). Denotes depth_limit l m) b denotes),
+                (λ none. absurd (one_more h.depth none), λ _. (h, at, refl)),
+              );
+            };
+            deep = omega (arith, deep, kind);
+          },
+        ),
+        tt,
       )
     where
       one_more : (k : ℕ) → k + 1 ≡ 0 → ⊥
       one_more k e = omega (arith, e)
-  nested_placed m bytes denotes long kind (suc i) node is = cc
 
 -- ---- the volume that the input is
 

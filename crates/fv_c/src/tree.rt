@@ -1,14 +1,13 @@
 //! Lists the tree of a volume: all parts at every level, with their places in the input.
 
-ghost use Rattle.std.specs.Prelude.{◌≡◌, ◌≢◌, ◌<◌, ◌≤◌, ◌+◌, ◌^◌, ◌++◌, ℕ, List, Some, length, drop, map, slice_get};
+ghost use Rattle.std.specs.Prelude.{◌≡◌, ◌≢◌, ◌<◌, ◌≤◌, ◌+◌, ◌^◌, ◌++◌, ℕ, List, length, drop, map, reverse};
 ghost use Rattle.std.specs.Prelude.{IfOk, IfErr, OnOk};
-ghost use Rattle.std.specs.List.{AllByRecursion};
 ghost use Rattle.fv_base.specs.Words.{OrMemory, fault_number, out_of_memory, volume_limit};
 ghost use Rattle.fv_base.specs.declared.fault.Fault.{Fault};
 ghost use Rattle.fv_section.specs.Words.{FrameForm, Splits};
-ghost use Rattle.fv_tree.specs.Words.{Accepted, BeginWithFiles, FileForm, HasDataIn, NotRead, body_of, content_of, file_form};
+ghost use Rattle.fv_tree.specs.Words.{Accepted, BeginWithFiles, NotRead, body_of, content_of, file_form};
 ghost use Rattle.fv_c.specs.Reports.{BeginsWithHeader, reported_fault, no_fault};
-ghost use Rattle.fv_rows.specs.Words.{part_node, parts_in};
+ghost use Rattle.fv_rows.specs.Words.{part_node};
 ghost use Rattle.fv_c.specs.TreeParts.{TreeRow};
 ghost use Rattle.fv_c.specs.ReportedTree.{HasTreeRows, reported_node, bytes_at};
 ghost use Rattle.fv_c.specs.ReportedTree.{body_number, content_number};
@@ -94,23 +93,23 @@ const NO_NODE: FvNode = FvNode {
     reserved: [0; 3],
 };
 
-// Where a part lies in the input.
+// Where a part lies in the input, and which row holds it.
 #[derive(Clone, Copy)]
 struct PartPlace {
+    // The number of the row that holds the part.
+    parent: u64,
     // The offset of the part, as in `FvNode`.
     offset: u64,
     // The length of the header of a file, 0 for other parts.
     header_len: u32,
 }
 
-// The last row of a depth.
-#[derive(Clone, Copy)]
-struct Level {
-    // The number of the row.
-    number: u64,
-    // The index of the place of the first part that the row holds.
-    first: usize,
-}
+// The place of the volume that the input is.
+const WHOLE: PartPlace = PartPlace {
+    parent: NO_PARENT,
+    offset: 0,
+    header_len: 0,
+};
 
 // Returns `FvName` of a volume, or zeros if it has no extended header.
 fn volume_name(head: &VolumeHead<'_>) -> [u8; 16]
@@ -143,15 +142,15 @@ fn body_number(section: &SectionView<'_>) -> u32
     }
 }
 
-// Returns the row of a part at this place, for C. `parent` is the number of the row that holds it.
-fn node_of(row: &Row<'_, '_>, parent: u64, place: PartPlace) -> FvNode
+// Returns the row of a part at this place, for C.
+fn node_of(row: &Row<'_, '_>, place: PartPlace) -> FvNode
     requires { row.now.depth < 2 ^ 32 }
     ensures { result ≡ reported_node place.offset place.header_len
-        (record { parent = parent; depth = row.now.depth; number = row.now.number; node = part_node row.now.part }) }
+        (record { parent = place.parent; depth = row.now.depth; number = row.now.number; node = part_node row.now.part }) }
 {
     let placed = FvNode {
         offset: place.offset,
-        parent,
+        parent: place.parent,
         index: row.number,
         depth: row.depth as u32,
         ..NO_NODE
@@ -199,131 +198,124 @@ fn bytes_of_row<'a>(input: &'a [u8], node: &FvNode) -> &'a [u8]
     &input[start..start + node.length as usize]
 }
 
-// Adds the places of the files that are stored in a volume at offset `start` of the input.
-fn add_file_places(
+// Returns the places of the files that are stored in the volume at this place.
+fn file_places(
+    alloc: Global,
     stored: &[LocatedFile<'_>],
-    start: u64,
-    places: &mut Vec<PartPlace>,
-) -> Result<(), AllocError>
-    requires { start < 2 ^ 63 }
-    ensures { OnOk result
-        (places.new.items ≡ places.old.items ++ map (file_place start) (map file_form stored.now)) }
+    start: PartPlace,
+) -> Result<Vec<PartPlace>, AllocError>
+    requires { start.offset < 2 ^ 63 }
+    ensures { IfOk result (λ v. v.items ≡ map (file_place start) (map file_form stored.now)) }
 {
+    let mut places = Vec::new(alloc);
     for file in stored {
         let header_len = file.header_len();
         places.push(PartPlace {
-            offset: start + (u64::from(file.offset) + header_len),
+            offset: start.offset + (u64::from(file.offset) + header_len),
             header_len: header_len as u32,
+            ..start
         })?;
     }
-    Ok(())
+    Ok(places)
 }
 
-// Adds the places of the sections of a stream at offset `start` of the input.
-fn add_section_places(
+// Returns the places of the sections of the stream at this place.
+fn section_places(
+    alloc: Global,
     stream: &[u8],
-    start: u64,
-    places: &mut Vec<PartPlace>,
-) -> Result<(), AllocError>
-    requires { start + length stream.now < 2 ^ 63 }
-    ensures { OnOk result ((frames : List FrameForm) (tail : ℕ) → Splits frames tail stream.now
-        → places.new.items ≡ places.old.items ++ map (section_place start) frames) }
+    start: PartPlace,
+) -> Result<Vec<PartPlace>, AllocError>
+    requires { start.offset + length stream.now < 2 ^ 63 }
+    ensures { IfOk result (λ v. (frames : List FrameForm) (tail : ℕ) → Splits frames tail stream.now
+        → v.items ≡ map (section_place start) frames) }
 {
+    let mut places = Vec::new(alloc);
     let Ok(mut walk) = FrameWalk::of(stream) else {
-        return Ok(());
+        return Ok(places);
     };
     while let Some(frame) = walk.next_frame() {
         places.push(PartPlace {
-            offset: start + (frame.offset + section_header_len(frame.extended)),
+            offset: start.offset + (frame.offset + section_header_len(frame.extended)),
             header_len: 0,
+            ..start
         })?;
     }
-    Ok(())
+    Ok(places)
 }
 
-// Adds the places of the parts that the part of a row holds.
-fn add_places(
+// Returns the places of the parts that row `number` holds.
+fn places_in(
     alloc: Global,
     input: &[u8],
     node: &FvNode,
-    places: &mut Vec<PartPlace>,
-) -> Result<(), Fault>
+    number: u64,
+) -> Result<Vec<PartPlace>, Fault>
     requires row { (rows : List FvNode) × (r : TreeRow) × IsFound input.now rows node.now r }
     requires short { length input.now ≤ volume_limit }
-    ensures places { OnOk result ((rows : List FvNode) (r : TreeRow) → IsFound input.now rows node.now r
-        → HasPlaces input.now node.now (parts_in r.node) places.old.items places.new.items) }
+    ensures places { IfOk result (λ v. (rows : List FvNode) (r : TreeRow) → IsFound input.now rows node.now r
+        → HasPlaces input.now node.now number r.node v.items) }
     ensures err { IfErr result (λ f. f ≡ out_of_memory) }
 {
     let bytes = bytes_of_row(input, node);
+    let start = PartPlace {
+        parent: number,
+        offset: node.offset,
+        header_len: 0,
+    };
     match node.content {
         FILES => {
             let stored = located_files(alloc, bytes)?;
-            add_file_places(stored.as_slice(), node.offset, places)?;
+            Ok(file_places(alloc, stored.as_slice(), start)?)
         }
-        SECTIONS => add_section_places(bytes, node.offset, places)?,
-        VOLUME => places.push(PartPlace {
-            offset: node.offset,
-            header_len: 0,
-        })?,
-        _ => {}
+        SECTIONS => Ok(section_places(alloc, bytes, start)?),
+        VOLUME => {
+            let mut places = Vec::new(alloc);
+            places.push(start)?;
+            Ok(places)
+        }
+        _ => Ok(Vec::new(alloc)),
     }
-    Ok(())
 }
 
-// Sets the level of a depth. The depth before must have a level.
-fn set_level(levels: &mut Vec<Level>, depth: usize, level: Level) -> Result<(), AllocError>
-    requires { depth ≤ length levels.old.items }
-    ensures set { OnOk result (slice_get levels.new.items depth ≡ Some level) }
-    ensures others { OnOk result
-        ((d : ℕ) → d ≢ depth → slice_get levels.new.items d ≡ slice_get levels.old.items d) }
+// Moves places to the end of those that wait, the last of them first.
+fn wait_for(mut places: Vec<PartPlace>, waiting: &mut Vec<PartPlace>) -> Result<(), AllocError>
+    ensures { OnOk result (reverse waiting.new.items ≡ places.items ++ reverse waiting.old.items) }
 {
-    if depth < levels.len() {
-        levels[depth] = level;
-    } else {
-        levels.push(level)?;
+    while let Some(place) = places.pop() {
+        waiting.push(place)?;
     }
     Ok(())
 }
 
-// Returns the rows of a volume, which is the input, for C. `places` are the places of its files.
+// Returns the rows of a volume, which is the input and stores these files, for C.
 fn rows_of(
     alloc: Global,
     input: &[u8],
     volume: &VolumeView<'_>,
-    mut places: Vec<PartPlace>,
+    stored: &[LocatedFile<'_>],
 ) -> Result<Vec<FvNode>, Fault>
     requires read { Accepted input.now volume.now }
-    requires places { (stored : List LocatedFile) × BeginWithFiles input.now (map file_form stored)
-        × AllByRecursion (HasDataIn input.now) (map file_form stored)
-        × (places.items ≡ map (file_place 0) (map file_form stored)) }
+    requires files { BeginWithFiles input.now (map file_form stored.now) }
     ensures ok { IfOk result (λ v. HasTreeRows input.now v.items) }
     ensures err { IfErr result (λ f. f ≡ out_of_memory) }
 {
     let mut rows = Vec::new(alloc);
-    let mut levels = Vec::new(alloc);
+    // The places of the parts of the rows that are left. The place of the next row is the last.
+    let mut waiting = Vec::new(alloc);
     let mut walk = TreeWalk::of(volume);
     let Some(whole) = walk.next() else {
         return Ok(rows);
     };
-    let start = PartPlace {
-        offset: 0,
-        header_len: 0,
-    };
-    rows.push(node_of(&whole, NO_PARENT, start))?;
-    levels.push(Level {
-        number: 0,
-        first: 0,
-    })?;
+    rows.push(node_of(&whole, WHOLE))?;
+    let start = PartPlace { parent: 0, ..WHOLE };
+    wait_for(file_places(alloc, stored, start)?, &mut waiting)?;
     for row in walk {
-        let holder: Level = levels[row.depth - 1];
-        let place = places[holder.first + row.number as usize];
-        let node = node_of(&row, holder.number, place);
-        let level = Level {
-            number: rows.len() as u64,
-            first: places.len(),
+        let Some(place) = waiting.pop() else {
+            return Ok(rows);
         };
-        set_level(&mut levels, row.depth, level)?;
-        add_places(alloc, input, &node, &mut places)?;
+        let node = node_of(&row, place);
+        let parts = places_in(alloc, input, &node, rows.len() as u64)?;
+        wait_for(parts, &mut waiting)?;
         rows.push(node)?;
     }
     Ok(rows)
@@ -336,9 +328,7 @@ fn rows_in(alloc: Global, volume: &[u8]) -> Result<Vec<FvNode>, Fault>
     ensures memory { IfErr result (λ f. f ≡ out_of_memory → BeginsWithHeader volume.now) }
 {
     let (view, stored) = whole_volume_with_files(alloc, volume)?;
-    let mut places = Vec::new(alloc);
-    add_file_places(stored.as_slice(), 0, &mut places)?;
-    rows_of(alloc, volume, &view, places)
+    rows_of(alloc, volume, &view, stored.as_slice())
 }
 
 /// Writes the rows of the tree of a volume, which is the whole input, to the start of `rows`: the

@@ -47,7 +47,7 @@ volume_rows depth nesting (Volume h files) = ap (λ l. record { depth = depth; n
     (sym (append-nil (rows_of_files (depth + 1) nesting 0 files)))
 
 -- the rows in a part are the rows of the parts that it contains
-inside_rows : (depth nesting : ℕ) (node : NodeMeaning) → rows_inside depth nesting node ≡ rows_of_nodes depth nesting 0 (parts_in node)
+pub inside_rows : (depth nesting : ℕ) (node : NodeMeaning) → rows_inside depth nesting node ≡ rows_of_nodes depth nesting 0 (parts_in node)
 inside_rows depth nesting (VolumeNode (Volume h files)) = files_rows depth nesting 0 files
 inside_rows depth nesting (FileNode (File name kind attributes (Plain b))) = refl
 inside_rows depth nesting (FileNode (File name kind attributes (Sectioned ss tail))) = sections_rows depth nesting 0 ss

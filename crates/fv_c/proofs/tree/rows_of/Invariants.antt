@@ -1,3 +1,4 @@
+use Rattle.std.specs.Prelude.{reverse}
 use Rattle.fv_c.proofs.TreeLoop.{Walked}
 use Rattle.fv_c.proofs.tree.rows_of.Given as goal
 
@@ -6,4 +7,4 @@ abbrev pub invariant-loop-row : goal.invariant-loop-row
 invariant-loop-row l =
     goal.iterator-loop-row.can_next l.row-iterator
     × goal.iterator-loop-row.is_finite l.row-iterator
-    × Walked l.input l.volume l.rows.items l.levels.items l.places.items l.row-iterator
+    × Walked l.input l.volume l.rows.items (reverse l.waiting.items) l.row-iterator
