@@ -1,12 +1,12 @@
 -- The entries of an index are totally ordered: first by name, and then by file number.
 use Rattle.std.proofs.lemmas.Grind.{common_steps}
-use Rattle.std.proofs.Common.{◌≡◌, ◌≤◌, ◌⊎◌, ℕ, false, sym, ap, ◌∙◌, arith, inl, inr}
+use Rattle.std.proofs.Common.{◌≡◌, ◌≤◌, ◌⊎◌, ℕ, true, false, refl, sym, ap, ◌∙◌, arith, inl, inr}
 use Rattle.std.specs.Prelude.{◌==◌, ◌&&◌}
 use Rattle.std.specs.Bool.{Decides}
 use Rattle.std.specs.Cmp.{IsTotalOrder, IsStrictWeakOrder}
 use Rattle.std.specs.Ordering.{is_lt, nat_cmp, ordering_then}
 use Rattle.std.specs.declared.cmp.Ordering.{Ordering}
-use Rattle.std.specs.declared.cmp.Ordering.TheVariants.{Less, Equal}
+use Rattle.std.specs.declared.cmp.Ordering.TheVariants.{Less, Equal, Greater}
 use Rattle.std.proofs.lemmas.Cmp.{nat_cmp_total, on_total, ranked, then_total, tied_itself}
 use Rattle.std.proofs.lemmas.List.MinMax.{ranks_by}
 use Rattle.fv_names.specs.Words.{Entry, Halves, entry_cmp, halves_cmp}
@@ -49,9 +49,6 @@ tied_number x y h = ranked x y Equal (sym h)
 tied_halves : (a b : Halves) → halves_cmp a b ≡ Equal → a ≡ b
 tied_halves = tied_pair nat_cmp nat_cmp tied_number tied_number
 
-pub tied_entry : (a b : Entry) → entry_cmp a b ≡ Equal → a ≡ b
-tied_entry = tied_pair halves_cmp nat_cmp tied_halves tied_number
-
 -- the test that the code makes decides whether two names are equal
 pub halves_decide : (a b : Halves) → Decides ((a.0 == b.0) && (a.1 == b.1)) (a ≡ b)
 halves_decide a b = grind (arith, common_steps, same_pair)
@@ -77,6 +74,26 @@ one_name_between a b c low high same = go (upto a b low) (upto b c high) where
   go (inl less) (inr (named, le)) = named
   go (inl less) (inl more) = absurd (never_less a.0 c.0 same (halves_total.trans a.0 b.0 c.0 less more))
 
--- no entry with a name is less than the name with the number 0
-pub number_not_below : (a : Entry) (name : Halves) → a.0 ≡ name → entry_cmp a (name, 0) ≡ Less → ⊥
-number_not_below a name same less = grind (arith, common_steps, tied_itself, halves_total, ranked)
+-- ---- names in their order
+
+front_not_less : (x y : Ordering) → is_lt (ordering_then x y) ≡ false → is_lt x ≡ false
+front_not_less Less y h = h
+front_not_less Equal y h = refl
+front_not_less Greater y h = refl
+
+-- an entry that is not less than another has a name that does not precede the other's
+pub name_upto : (a b : Entry) → is_lt (entry_cmp b a) ≡ false → is_lt (halves_cmp b.0 a.0) ≡ false
+name_upto a b h = front_not_less (halves_cmp b.0 a.0) (nat_cmp b.1 a.1) h
+
+pub before_too : (a b key : Halves) → is_lt (halves_cmp b a) ≡ false → is_lt (halves_cmp b key) ≡ true → is_lt (halves_cmp a key) ≡ true
+before_too a b key order less = grind (arith, common_steps)
+
+pub not_before_too : (a b key : Halves) → is_lt (halves_cmp b a) ≡ false → is_lt (halves_cmp a key) ≡ false → is_lt (halves_cmp b key) ≡ false
+not_before_too a b key order least = grind (arith, common_steps)
+
+-- a name does not precede itself, and of two names one precedes the other, or they are the same
+pub not_before_itself : (a b : Halves) → a ≡ b → is_lt (halves_cmp a b) ≡ true → ⊥
+not_before_itself a b same less = grind (arith, common_steps)
+
+pub neither_before : (a b : Halves) → is_lt (halves_cmp a b) ≡ false → is_lt (halves_cmp b a) ≡ false → a ≡ b
+neither_before a b least most = grind (arith, common_steps, same_pair)

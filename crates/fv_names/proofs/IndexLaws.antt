@@ -1,30 +1,30 @@
 -- The first entry with a name in an index is the entry of the first file with this name. The steps:
 -- 1. The entries are the names with their numbers, each once (`of_name`, `place_of`, `apart`).
 -- 2. Entries with the same name are next to each other, ordered by file number (`upward`, `beyond`, `between`).
--- 3. So the first entry with a name, if there is one, is the entry of the first file with this name (`found_first`,
---    `found_there`, `found_none`).
+-- 3. So the first entry with a name, if there is one, is the entry of the first file with this name (`found_there`,
+--    `found_none`).
+-- 4. A search by halves ends at the place of that entry (`Searched`).
 use Rattle.std.proofs.lemmas.Grind.{common_steps}
 use Rattle.std.proofs.Common.{◌≡◌, ◌≤◌, ◌<◌, ◌⊎◌, ℕ, ◌+◌, List, [], length, get_or, map, Bool, true, false, refl, sym, ap, ◌∙◌}
 use Rattle.std.proofs.Common.{subst, arith, inl, inr}
 use Rattle.std.specs.Prelude.{◌==◌, Some, None}
 use Rattle.std.specs.Bool.{Decides}
-use Rattle.std.specs.List.{All, AllWithin, Contains, HoldsAt, IsDistinct, position, position_or_len, range_with_len}
-use Rattle.std.specs.List.Sorted.{IsNonDecreasingBy}
-use Rattle.std.specs.Ordering.{is_lt, ordering_index}
-use Rattle.std.specs.declared.cmp.Ordering.TheVariants.{Less, Equal, Greater}
+use Rattle.std.specs.List.{All, Contains, IsDistinct, position, position_or_len, range_with_len}
+use Rattle.std.specs.Ordering.{is_lt}
 use Rattle.std.proofs.lemmas.Bool.{cases_lt, lt-ltb, le-ltb}
 use Rattle.std.proofs.lemmas.Bool.Decides.{Decides-eqb, not_from_Decides}
 use Rattle.std.proofs.lemmas.Cmp.{nat_eq_equiv}
 use Rattle.std.proofs.lemmas.List.{get_or-map, get_or_default, length-map}
 use Rattle.std.proofs.lemmas.List.Elements.{All-get_or, All-map, All-same}
 use Rattle.std.proofs.lemmas.List.FromFn.{get_or-map-range_with_len, get_or-range_with_len, length-map-range_with_len, length-range_with_len}
-use Rattle.std.proofs.lemmas.List.Sorted.{All-permutation, Contains-permutation, IsPermutation-map, searchable_from_sorted, sorted_far}
+use Rattle.std.proofs.lemmas.List.Sorted.{All-permutation, Contains-permutation, IsPermutation-map, sorted_far}
 use Rattle.std.proofs.lemmas.List.Sums.{position_or_len_is}
 use Rattle.std.proofs.lemmas.Map.Keys.{apart_from_distinct, IsDistinct-IsPermutation, IsDistinct-from_apart}
 use Rattle.fv_base.specs.declared.guid.Guid.{Guid}
 use Rattle.fv_base.proofs.Laws.{at_index, not_equal, first_only}
-use Rattle.fv_names.specs.Words.{Entry, Halves, IsIndex, IsName, entry_cmp, halves_of, numbered, NamedFile, is_name}
-use Rattle.fv_names.proofs.EntryOrderLaws.{entry_total, less_orders, number_not_below, numbers_rise, one_name_between, tied_entry}
+use Rattle.fv_names.specs.Words.{Entry, Halves, IsIndex, IsName, entry_cmp, halves_cmp, halves_of, numbered, NamedFile, is_name, IsOrder}
+use Rattle.fv_names.proofs.EntryOrderLaws.{before_too, less_orders, name_upto, neither_before, not_before_itself, not_before_too}
+use Rattle.fv_names.proofs.EntryOrderLaws.{numbers_rise, one_name_between}
 use Rattle.fv_names.proofs.NumberedLaws.{names_decide, numbered_are, numbers_are}
 
 -- the file that is read past the end of the files; `no_entry` is read past the end of the entries
@@ -115,10 +115,6 @@ module _ (names : List Guid) (es : List Entry) (index : IsIndex names es) (g : G
 
 -- ---- a look-up
 
-pub rises : (es : List Entry) (name : Halves) → (names : List Guid) → IsIndex names es
-    → IsNonDecreasingBy (λ e. ordering_index (entry_cmp e (name, 0))) es
-rises es name names index = searchable_from_sorted entry_total (λ (e : Entry). e) es (name, 0) index.ordered
-
 module _ (es : List Entry) (name : Guid) (names : List Guid) (whole : IsName name) (index : IsIndex names es) (e : Entry) where
   abbrev g : Guid
   g = no_named.name
@@ -136,44 +132,33 @@ module _ (es : List Entry) (name : Guid) (names : List Guid) (whole : IsName nam
     go true is = absurd (not_so ((named n l).0 is))
     go false is = refl
 
-  -- the entry with this name and the least number is the entry of the first file with this name
-  found : (p : ℕ) → p < length es → (entry p).0 ≡ halves_of name
-      → ((q : ℕ) → q < length es → (entry q).0 ≡ halves_of name → (entry p).1 ≤ (entry q).1)
-      → Some (entry p).1 ≡ position (is_name name) names
-  found p l is least =
-      let n : ℕ = (entry p).1 in
-      let r = of_name names es index g e p l in
-      let within : n < length names = r.0 in
-      let first : position_or_len (is_name name) names ≡ n =
-      position_or_len_is (is_name name) names n g (omega (arith, within)) (λ k lt.
-      other k (omega (arith, lt, within)) (λ same.
-      let s = place_of names es index g e k (omega (arith, lt, within)) in
-      let number : (entry s.0).1 ≡ k = ap (λ (x : Entry). x.1) s.2 in
-      omega (arith, least s.0 s.1 (ap (λ (x : Entry). x.0) s.2 ∙ sym same), number, lt)))
-      (λ m. (named n m).1 (sym is ∙ r.1)) in
-      rw (first, lt-ltb n (length names) within)
-
-  pub found_first : (p : ℕ) → p < length es → HoldsAt (λ x. entry_cmp x (halves_of name, 0) ≡ Equal) es p
-      → Some 0 ≡ position (is_name name) names
-  found_first p l same =
-      let is : entry p ≡ (halves_of name, 0) = tied_entry (entry p) (halves_of name, 0) (same e) in
-      let number : (entry p).1 ≡ 0 = ap (λ (x : Entry). x.1) is in
-      ap Some (sym number) ∙ found p l (ap (λ (x : Entry). x.0) is) (λ q m n. omega (arith, number))
-
-  module _ (place : ℕ) (less : AllWithin (λ x. entry_cmp x (halves_of name, 0) ≡ Less) es 0 place) where
+  module _ (place : ℕ) (less : (q : ℕ) → q < place → is_lt (halves_cmp (entry q).0 (halves_of name)) ≡ true) where
     -- the entries with this name are at or after the place
     from_place : (q : ℕ) → (entry q).0 ≡ halves_of name → place ≤ q
     from_place q is = go (cases_lt q place) where
       go : (q < place) ⊎ (place ≤ q) → place ≤ q
-      go (inl l) = absurd (number_not_below (entry q) (halves_of name) is (less q e (omega arith) l))
+      go (inl l) = absurd (not_before_itself (entry q).0 (halves_of name) is (less q l))
       go (inr l) = l
 
-    pub found_there : place < length es → (get_or es place e).0 ≡ halves_of name
-        → Some (get_or es place e).1 ≡ position (is_name name) names
-    found_there l is = found place l is (λ q m named. upward names es index g e place q (from_place q named) m (is ∙ sym named))
+    -- so the entry there, if it has this name, is the entry of the first file with this name
+    pub found_there : place < length es → (entry place).0 ≡ halves_of name → Some (entry place).1 ≡ position (is_name name) names
+    found_there l is =
+        let n : ℕ = (entry place).1 in
+        let r = of_name names es index g e place l in
+        let within : n < length names = r.0 in
+        let first : position_or_len (is_name name) names ≡ n =
+        position_or_len_is (is_name name) names n g (omega (arith, within)) (λ k lt.
+        other k (omega (arith, lt, within)) (λ same.
+        let s = place_of names es index g e k (omega (arith, lt, within)) in
+        let number : (entry s.0).1 ≡ k = ap (λ (x : Entry). x.1) s.2 in
+        let key : (entry s.0).0 ≡ halves_of name = ap (λ (x : Entry). x.0) s.2 ∙ sym same in
+        omega (arith, upward names es index g e place s.0 (from_place s.0 key) s.1 (is ∙ sym key), number, lt)))
+        (λ m. (named n m).1 (sym is ∙ r.1)) in
+        rw (first, lt-ltb n (length names) within)
 
-    pub found_none : AllWithin (λ x. entry_cmp x (halves_of name, 0) ≡ Greater) es place (length es)
-        → (place < length es → (get_or es place e).0 ≡ halves_of name → ⊥) → None ≡ position (is_name name) names
+    -- and if it has another name, no file has this name
+    pub found_none : (place < length es → is_lt (halves_cmp (entry place).0 (halves_of name)) ≡ false)
+        → (place < length es → (entry place).0 ≡ halves_of name → ⊥) → None ≡ position (is_name name) names
     found_none more not_there =
         let all : position_or_len (is_name name) names ≡ length names =
         position_or_len_is (is_name name) names (length names) g (omega arith) (λ k l.
@@ -186,5 +171,69 @@ module _ (es : List Entry) (name : Guid) (names : List Guid) (whole : IsName nam
             let key : (entry q).0 ≡ halves_of name = ap (λ (x : Entry). x.0) is ∙ sym same in
             let le : place ≤ q = from_place q key in
             let inside : place < length es = omega (arith, le, within) in
-            not_there inside (one_name_between (halves_of name, 0) (entry place) (entry q)
-            (ap is_lt (more place e (omega arith) inside)) (in_order names es index g e place q le within) (sym key) ∙ key)
+            let upto : is_lt (halves_cmp (halves_of name) (entry place).0) ≡ false =
+            ap (λ (h : Halves). is_lt (halves_cmp h (entry place).0)) (sym key)
+            ∙ name_upto (entry place) (entry q) (in_order names es index g e place q le within) in
+            not_there inside (neither_before (entry place).0 (halves_of name) (more inside) upto)
+
+-- ---- a search
+
+-- the names before the place `first` precede the name, and the names from the place `end` on do not
+pub record Searched (es : List Entry) (key : Halves) (first end : ℕ) : Type 0 where
+  pub in_order : first ≤ end
+  pub inside : end ≤ length es
+  pub below : (e : Entry) (p : ℕ) → p < first → is_lt (halves_cmp (get_or es p e).0 key) ≡ true
+  pub above : (e : Entry) (p : ℕ) → end ≤ p → p < length es → is_lt (halves_cmp (get_or es p e).0 key) ≡ false
+
+module _ (names : List Guid) (es : List Entry) (index : IsIndex names es) (key : Halves) where
+  pub search_begins : (n : ℕ) → n ≡ length es → Searched es key 0 n
+  search_begins n is = record {
+    in_order = omega arith;
+    inside = omega (arith, is);
+    below = λ e p l. absurd (omega (arith, l));
+    above = λ e p ge l. absurd (omega (arith, ge, l, is));
+  }
+
+  rising : (e : Entry) (p q : ℕ) → p ≤ q → q < length es → is_lt (halves_cmp (get_or es q e).0 (get_or es p e).0) ≡ false
+  rising e p q le l = name_upto (get_or es p e) (get_or es q e) (in_order names es index no_named.name e p q le l)
+
+  module _ (first end middle : ℕ) (before : Searched es key first end) (lt : middle < end) where
+    pub search_right : ((e : Entry) → is_lt (halves_cmp (get_or es middle e).0 key) ≡ true) → Searched es key (middle + 1) end
+    search_right is = record {
+      in_order = omega (arith, lt);
+      inside = before.inside;
+      below = λ e p l. before_too (get_or es p e).0 (get_or es middle e).0 key
+          (rising e p middle (omega (arith, l)) (omega (arith, lt, before.inside))) (is e);
+      above = before.above;
+    }
+
+    pub search_left : first ≤ middle → ((e : Entry) → is_lt (halves_cmp (get_or es middle e).0 key) ≡ false) → Searched es key first middle
+    search_left le is = record {
+      in_order = le;
+      inside = omega (arith, lt, before.inside);
+      below = before.below;
+      above = λ e p ge l. not_before_too (get_or es middle e).0 (get_or es p e).0 key (rising e middle p ge l) (is e);
+    }
+
+-- ---- an order of names
+
+module _ (names : List Guid) (numbers : List ℕ) (order : IsOrder names numbers) (n p : ℕ) (l : p < length numbers) (is : n ≡ get_or numbers p n) where
+  abbrev number : Entry → ℕ
+  number e = e.1
+
+  place_inside : p < length order.entries
+  place_inside = omega (arith, l, ap length order.are_numbers, length-map order.entries number)
+
+  -- the number at a place is the number of the entry at this place
+  pub number_there : (e : Entry) → n ≡ (get_or order.entries p e).1
+  number_there e =
+      is ∙ ap (λ (ns : List ℕ). get_or ns p n) order.are_numbers ∙ get_or-map number order.entries p e n place_inside
+
+  -- so it is the number of a name, and the entry has the halves of this name
+  pub number_inside : n < length names
+  number_inside = omega (arith, (of_name names order.entries order.index no_named.name no_entry p place_inside).0, number_there no_entry)
+
+  pub halves_there : (g : Guid) (e : Entry) → halves_of (get_or names n g) ≡ (get_or order.entries p e).0
+  halves_there g e =
+      ap (λ (k : ℕ). halves_of (get_or names k g)) (number_there e)
+      ∙ sym (of_name names order.entries order.index g e p place_inside).1

@@ -1,5 +1,5 @@
--- The index of the names of some files: a sorted list.
-use Rattle.std.specs.Prelude.{◌≡◌, ◌≢◌, ◌<◌, ℕ, ◌+◌, ◌-◌, List, [], ◌∷◌, length, get_or}
+-- The index of the names of some files, which is a sorted list, and the order of the names.
+use Rattle.std.specs.Prelude.{◌≡◌, ◌≢◌, ◌<◌, ℕ, ◌+◌, ◌-◌, List, [], ◌∷◌, length, get_or, map}
 use Rattle.std.specs.Int.{from_le_bytes, w64}
 use Rattle.std.specs.List.{AllByRecursion}
 use Rattle.std.specs.List.Sorted.{IsPermutation, IsSorted}
@@ -8,6 +8,7 @@ use Rattle.std.specs.declared.cmp.Ordering.{Ordering}
 use Rattle.fv_base.specs.Words.{bytes_of, IsBytes, field}
 use Rattle.fv_base.specs.declared.guid.Guid.{Guid}
 use Rattle.fv_names.specs.declared.name_index.NameIndex.{NameIndex}
+use Rattle.fv_names.specs.declared.name_order.NameOrder.{NameOrder}
 
 -- the list consists of sixteen bytes (`IsSixteenBytes`), and the name consists of sixteen bytes (`IsName`)
 abbrev pub IsSixteenBytes : List ℕ → Type 0
@@ -56,3 +57,17 @@ entries_of index = index.sorted.items
 abbrev pub NeighboursDiffer : List Entry → Type 0
 NeighboursDiffer es =
     (e : Entry) (place : ℕ) → 0 < place → place < length es → (get_or es (place - 1) e).0 ≢ (get_or es place e).0
+
+-- the numbers of the files of these entries
+abbrev pub numbers_in : List Entry → List ℕ
+numbers_in es = map (λ (e : Entry). e.1) es
+
+-- the numbers are the numbers of the files with these names, in the order of an index of the names
+pub record IsOrder (names : List Guid) (numbers : List ℕ) : Type 0 where
+  pub entries : List Entry
+  pub index : IsIndex names entries
+  pub are_numbers : numbers ≡ numbers_in entries
+
+-- the numbers of an order
+abbrev pub numbers_of : NameOrder → List ℕ
+numbers_of order = order.numbers.items

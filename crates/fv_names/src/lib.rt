@@ -1,9 +1,12 @@
-//! An index of the names of a volume's files. It finds the file with a name, files with the same
-//! name and mark (twins), and superseded files. Only `NameIndex::of` takes memory.
+//! An index of the names of a volume's files. It finds files with the same name and mark (twins), and
+//! superseded files. The order of the names, which takes less memory, finds the file with a name.
+//! Only `NameIndex::of` and `NameOrder::of` take memory.
 #![tactic(auto)]
 
 mod name_index;
+mod name_order;
 mod named;
 
 pub use name_index::NameIndex;
-pub use named::Named;
+pub use name_order::NameOrder;
+pub use named::{Named, WithName};

@@ -2,10 +2,10 @@
 
 ghost use Rattle.std.specs.Prelude.{◌≡◌, ◌<◌, ◌≤◌, ◌^◌, List, length, map, take, get_or, true, IsSorted, IsTrue, IfOk};
 ghost use Rattle.std.specs.Prelude.{IfErr};
-ghost use Rattle.std.specs.List.{list_any, position};
+ghost use Rattle.std.specs.List.{list_any};
 ghost use Rattle.fv_base.specs.Words.{out_of_memory};
 ghost use Rattle.fv_base.specs.declared.guid.Guid.{Guid};
-ghost use Rattle.fv_names.specs.NamedFiles.{NamedFile, NoTwins, is_name, is_twin, names_in, replaced_by};
+ghost use Rattle.fv_names.specs.NamedFiles.{NamedFile, NoTwins, is_twin, names_in, replaced_by};
 ghost use Rattle.fv_names.specs.NameIndexes.{NeighboursDiffer, Entry, IsIndex, IsName, IsSixteenBytes, entries_of, entry_cmp};
 ghost use Rattle.fv_names.specs.NameIndexes.{halves_in, halves_of};
 ghost use Rattle.fv_names.specs.inner.NameOrders.{AreTwins, IsTwinAt, SharesItsName, mark_at};
@@ -18,8 +18,8 @@ use std::alloc::Global;
 type NumberedName = ((u64, u64), u32);
 
 /// The names of some files in sorted order, each with the number of its file. The files are
-/// numbered from 0 in their own order. The index shows which file has a name, and which files share
-/// a name. (PI specification, volume 3, section 3.2.3.)
+/// numbered from 0 in their own order. The index shows which files share a name. (PI specification,
+/// volume 3, section 3.2.3.)
 #[derive(Drop)]
 pub struct NameIndex {
     sorted: Vec<NumberedName>,
@@ -38,7 +38,7 @@ fn numbers_in(bytes: [u8; 16]) -> (u64, u64)
 }
 
 // Returns a name as two numbers, which compare faster than sixteen bytes.
-fn halves(name: Guid) -> (u64, u64)
+pub(crate) fn halves(name: Guid) -> (u64, u64)
     ensures is { result ≡ halves_of name }
     ensures sixteen { IsName name }
 {
@@ -181,23 +181,5 @@ impl NameIndex {
     {
         // No two files are twins, so the entry of the replacing file is next to this one.
         self.shares_its_name(place) && is_marked_at(files, self.sorted[place].1)
-    }
-
-    /// Returns the number of the first file with this name, or None if no file has it.
-    pub fn get(&self, name: &Guid) -> Option<u32>
-        ensures { (names : List Guid) → IsIndex names (entries_of self.now)
-            → result ≡ position (is_name name.now) names }
-    {
-        let key = halves(*name);
-        // The search is for the entry of this name and file 0. Entries with the same name are
-        // ordered by file number. So Ok means that file 0 has this name. Err gives the place of the
-        // first entry with the name, if any other file has the name.
-        let Err(place) = self.sorted.binary_search(&(key, 0)) else {
-            return Some(0);
-        };
-        if place < self.sorted.len() && self.sorted[place].0 == key {
-            return Some(self.sorted[place].1);
-        }
-        None
     }
 }

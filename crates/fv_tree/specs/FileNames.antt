@@ -4,8 +4,8 @@ use Rattle.std.specs.List.{find}
 use Rattle.std.specs.Str.{bytes_eq}
 use Rattle.fv_base.specs.Words.{bytes_of}
 use Rattle.fv_base.specs.declared.guid.Guid.{Guid}
-use Rattle.fv_names.specs.Words.{IsIndex, entries_of}
-use Rattle.fv_names.specs.declared.name_index.NameIndex.{NameIndex}
+use Rattle.fv_names.specs.Words.{IsOrder, numbers_of}
+use Rattle.fv_names.specs.declared.name_order.NameOrder.{NameOrder}
 use Rattle.fv_tree.specs.Meaning.{FileMeaning, file_name_of}
 
 -- whether a file has this name
@@ -16,6 +16,6 @@ is_named name f = bytes_eq (bytes_of name) (bytes_of (file_name_of f))
 abbrev pub file_named : Guid → List FileMeaning → Option FileMeaning
 file_named name fs = find (is_named name) fs
 
--- `index` is the index of the names of these files
-abbrev pub HasIndex : NameIndex → List FileMeaning → Type 0
-HasIndex index fs = IsIndex (map file_name_of fs) (entries_of index)
+-- `order` is the order of the names of these files
+abbrev pub HasOrder : NameOrder → List FileMeaning → Type 0
+HasOrder order fs = IsOrder (map file_name_of fs) (numbers_of order)

@@ -212,9 +212,9 @@ fn read_with_files(
         Err(fault) => return Err(fault_within(fault, at.place)),
     };
     let volume = &bytes[..extent.length as usize];
-    let (files, index) = files_in_body(alloc, volume, extent, at.place)?;
+    let (files, order) = files_in_body(alloc, volume, extent, at.place)?;
     let views = read_files(alloc, files.as_slice(), at)?;
-    Ok((VolumeView::new(head, views, index), extent.length, files))
+    Ok((VolumeView::new(head, views, order), extent.length, files))
 }
 
 // Reads the volume at the start of the bytes. Returns its view and its length in bytes.

@@ -4,7 +4,7 @@ ghost use Rattle.std.specs.Prelude.{◌≡◌, ◌≢◌, ◌≤◌, ◌<◌, �
 ghost use Rattle.std.specs.List.{AllByRecursion};
 ghost use Rattle.fv_base.specs.Words.{First, out_of_memory, volume_limit};
 ghost use Rattle.fv_head.specs.Words.{BeginsWithHeader};
-ghost use Rattle.fv_names.specs.Words.{names_in, IsIndex, entries_of};
+ghost use Rattle.fv_names.specs.Words.{names_in, IsOrder, numbers_of};
 ghost use Rattle.fv_tree.specs.FirstFault.{Moved, LayoutFault};
 ghost use Rattle.fv_tree.specs.LocatedFiles.{AreFilesOf, file_form, BeginWithFiles, HasDataIn, IsFirstOfFiles};
 ghost use Rattle.fv_tree.specs.VolumeFiles.{FileForm};
@@ -16,17 +16,17 @@ use crate::volume_files::{LocatedFile, current_files, files_in};
 use fv_base::{Fault, Place};
 use fv_file::cells;
 use fv_head::{Extent, verify_fv};
-use fv_names::NameIndex;
+use fv_names::NameOrder;
 use std::alloc::Global;
 
-// Returns the files of a volume of this extent, as they are stored in it, and the index of their
+// Returns the files of a volume of this extent, as they are stored in it, and the order of their
 // names.
 pub(crate) fn files_in_body<'a>(
     alloc: Global,
     volume: &'a [u8],
     extent: Extent,
     place: Place,
-) -> Result<(Vec<LocatedFile<'a>>, NameIndex), Fault>
+) -> Result<(Vec<LocatedFile<'a>>, NameOrder), Fault>
     requires place { place.offset + length volume.now < 2 ^ 63 }
     requires small { length volume.now ≤ volume_limit }
     requires multiple { length volume.now % 8 ≡ 0 }
@@ -36,7 +36,7 @@ pub(crate) fn files_in_body<'a>(
     ensures read { ReadsOrFails (λ r. AreFilesOf extent volume.now (map file_form r.0.items))
         (Moved place (LayoutFault First extent volume.now)) result }
     ensures stored { IfOk result (λ r. AllStored place.offset (map file_form r.0.items)) }
-    ensures index { IfOk result (λ r. IsIndex (names_in (map named_file r.0.items)) (entries_of r.1)) }
+    ensures order { IfOk result (λ r. IsOrder (names_in (map named_file r.0.items)) (numbers_of r.1)) }
 {
     let list = match cells(
         alloc,
@@ -50,10 +50,12 @@ pub(crate) fn files_in_body<'a>(
     };
     let files = files_in(alloc, list.as_slice())?;
     drop(list);
-    match current_files(alloc, files, extent.length) {
-        Ok(read) => Ok(read),
-        Err(fault) => Err(fault_within(fault, place)),
-    }
+    let (files, index) = match current_files(alloc, files, extent.length) {
+        Ok(read) => read,
+        Err(fault) => return Err(fault_within(fault, place)),
+    };
+    let order = NameOrder::of(alloc, &index)?;
+    Ok((files, order))
 }
 
 /// Returns the files of the volume at the start of the bytes, as they are stored in it: each with

@@ -7,7 +7,7 @@ mod volume;
 use fv_base::Guid;
 use fv_file::FileAttributes;
 use fv_head::VolumeHead;
-use fv_names::NameIndex;
+use fv_names::NameOrder;
 use std::marker::Model;
 use std::mem::size_of;
 
@@ -20,7 +20,7 @@ use std::mem::size_of;
 pub struct VolumeView<'a> {
     head: VolumeHead<'a>,
     files: Vec<FileView<'a>>,
-    index: NameIndex,
+    order: NameOrder,
 }
 
 /// The meaning of a file: its name, its type, its attributes and its content. Only reading a volume
@@ -139,10 +139,10 @@ impl<'a> Model for VolumeView<'a> {
     ghost view = { λ v. Volume v.head (files_from v.files.items) };
 
     ghost use Rattle.fv_tree.specs.Denotes.{IsMeaning};
-    ghost use Rattle.fv_tree.specs.FileNames.{HasIndex};
+    ghost use Rattle.fv_tree.specs.FileNames.{HasOrder};
 
     ghost invariant = { λ v. IsMeaning (Volume v.head (files_from v.files.items))
-        × HasIndex v.index v.files.items };
+        × HasOrder v.order v.files.items };
 
     ghost size = { volume_size };
 

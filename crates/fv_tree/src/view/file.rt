@@ -11,6 +11,7 @@ ghost use Rattle.fv_tree.specs.Views.{content_view};
 use super::{Content, FileView, SectionView};
 use fv_base::Guid;
 use fv_file::FileAttributes;
+use fv_names::WithName;
 
 impl<'a> FileView<'a> {
     // Returns the view of a file whose data have `len` bytes.
@@ -100,5 +101,14 @@ impl<'a> FileView<'a> {
         ensures { result ≡ data_len_of self.now }
     {
         u64::from(self.data_len)
+    }
+}
+
+/// Gives `NameOrder` the file's name.
+impl<'a> WithName for FileView<'a> {
+    ghost name_of = { file_name_of };
+
+    fn name(&self) -> Guid {
+        FileView::name(self)
     }
 }

@@ -5,25 +5,25 @@ ghost use Rattle.std.specs.List.{position};
 ghost use Rattle.fv_tree.specs.Denotes.{IsMeaning};
 ghost use Rattle.fv_tree.specs.Meaning.{Volume, head_of, files_of};
 ghost use Rattle.fv_tree.specs.MeaningParts.{files_from};
-ghost use Rattle.fv_tree.specs.FileNames.{HasIndex, is_named};
+ghost use Rattle.fv_tree.specs.FileNames.{HasOrder, is_named};
 
 use super::{FileView, VolumeView};
 use fv_base::Guid;
 use fv_head::VolumeHead;
-use fv_names::NameIndex;
+use fv_names::NameOrder;
 
 impl<'a> VolumeView<'a> {
-    // Returns the view of a volume with this head, these files, and this index of the files' names.
+    // Returns the view of a volume with this head, these files, and this order of the files' names.
     pub(crate) fn new(
         head: VolumeHead<'a>,
         files: Vec<FileView<'a>>,
-        index: NameIndex,
+        order: NameOrder,
     ) -> VolumeView<'a>
         requires meaning { IsMeaning (Volume head (files_from files.items)) }
-        requires index { HasIndex index files.items }
+        requires order { HasOrder order files.items }
         ensures { result ≡ Volume head.entry (files_from files.entry.items) }
     {
-        VolumeView { head, files, index }
+        VolumeView { head, files, order }
     }
 
     /// Returns the volume header, with the extended header if there is one. (PI specification,
@@ -76,6 +76,6 @@ impl<'a> VolumeView<'a> {
     pub(crate) fn number_of(&self, name: &Guid) -> Option<u32>
         ensures { result ≡ position (is_named name.now) (files_of self.now) }
     {
-        self.index.get(name)
+        self.order.get(self.files.as_slice(), name)
     }
 }

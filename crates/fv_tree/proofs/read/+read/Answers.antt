@@ -15,7 +15,7 @@ use Rattle.fv_section.specs.StreamReads as framed
 use Rattle.fv_tree.specs.inner.ReadingParts.{IsReadyFile}
 use Rattle.fv_tree.specs.Words.{Denotes, MeansFile, MeansSection, Stream, FileFault, InStream, data_at, Volume, File, SectionMeaning}
 use Rattle.fv_tree.specs.Words.{Section, Group, Nested, length_of, files_from, sections_from, file_form, content_view, FileForm}
-use Rattle.fv_names.specs.Words.{IsIndex, entries_of}
+use Rattle.fv_names.specs.Words.{IsOrder, numbers_of}
 use Rattle.fv_tree.proofs.BodyLaws.{files_first}
 use Rattle.fv_tree.proofs.LengthLaws.{body_long, content_long}
 use Rattle.fv_tree.proofs.ListPairs.{of_item, kept_pairs, first_refused, all_pairs}
@@ -207,12 +207,12 @@ read_with_files-new-requires-clause-meaning t c =
     let made = volume_made t (goal.at.read_with_files-new-requires-clause-meaning t c).In_ok-views in
     (c.args.at.left, omega arith, bytes, bytes_take c.in-Ok.read.1.length c.args.bytes.now small, made)
 
-pub read_with_files-new-requires-clause-index : goal.read_with_files-new-requires-clause-index
-read_with_files-new-requires-clause-index t c =
+pub read_with_files-new-requires-clause-order : goal.read_with_files-new-requires-clause-order
+read_with_files-new-requires-clause-order t c =
     let pairs = rw c.as_slice.ensures.value at c.in_ok-views.ensures in
-    subst (λ (ns : List Guid). IsIndex ns (entries_of c.in_ok-files.index))
+    subst (λ (ns : List Guid). IsOrder ns (numbers_of c.in_ok-files.order))
     (sym (read_names (Stream c.args.at.left) c.in_ok-files.files.items c.in_ok-views.views.items pairs))
-    c.in_ok-files.ensures.index
+    c.in_ok-files.ensures.order
 
 pub read_with_files-returns-clause-read : goal.read_with_files-returns-clause-read
 read_with_files-returns-clause-read t c = rw c.new.ensures (volume_made t (goal.at.read_with_files-returns-clause-read t c).In_ok-views)

@@ -1,6 +1,7 @@
 use Rattle.std.proofs.Common.{◌≡◌, ◌≤◌, ◌∙◌, ℕ, length, drop, arith, map, sym, ap, subst, inr, rules}
 use Rattle.std.specs.List.{AllByRecursion}
 use Rattle.fv_base.specs.Words.{IsBytes}
+use Rattle.fv_names.specs.Words.{entries_of}
 use Rattle.fv_file.specs.Words.{CellsWithin}
 use Rattle.fv_tree.specs.Words.{file_form, FileForm, files_in}
 use Rattle.fv_tree.specs.inner.ReadingParts.{IsSmallCell}
@@ -10,7 +11,7 @@ use Rattle.fv_head.specs.declared.extent.Extent.{Extent}
 use Rattle.fv_tree.proofs.FileCountLaws.{files_few}
 use Rattle.fv_tree.proofs.BodyLaws.{current_of, files_stored}
 use Rattle.fv_tree.proofs.NameLaws.{files_within}
-use Rattle.fv_base.proofs.Laws.{bytes_drop}
+use Rattle.fv_base.proofs.Laws.{bytes_drop, err_is}
 use Rattle.fv_tree.proofs.SmallCellLaws.{small_cells}
 use Rattle.fv_tree.proofs.stored_files.files_in_body.Goals as goal
 
@@ -42,8 +43,8 @@ current_files-requires c =
       );
     }
 
-pub returns-in-Ok-current_files-clause-stored : goal.returns-in-Ok-current_files-clause-stored
-returns-in-Ok-current_files-clause-stored c =
+pub returns-clause-stored : goal.returns-clause-stored
+returns-clause-stored c =
     let small : IsBytes c.args.volume.now = search rules in
     files_stored c.args.extent c.args.volume.now c.args.place.offset c.in-Ok.list (map file_form c.in-Ok-current_files.read.0.items) small
     c.requires.small c.requires.place c.in-Ok.ensures.found c.in-Ok.ensures.lies
@@ -62,3 +63,13 @@ returns-in-Err-current_files-clause-read c = λ ne.
       ),
       w.1,
     )
+
+pub returns-clause-order : goal.returns-clause-order
+returns-clause-order c = record {
+  entries = entries_of c.in-Ok-current_files.read.1;
+  index = c.in-Ok-current_files.ensures.index;
+  are_numbers = c.in_ok-order.ensures.found;
+}
+
+pub returns-in_err-order-clause-read : goal.returns-in_err-order-clause-read
+returns-in_err-order-clause-read c = rw (err_is c.from_residual-in_err-order.ensures.1) (λ ne. absurd (ne c.in_err-order.ensures.err))

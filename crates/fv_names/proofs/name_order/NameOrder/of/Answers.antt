@@ -1,0 +1,24 @@
+use Rattle.std.proofs.Common.{◌<◌, ℕ, ◌∷◌, [], ◌++◌, List, length, take, get_or, sym, ap, ◌∙◌, arith}
+use Rattle.std.proofs.lemmas.List.{get_or-map, length-map, take_all, take_more}
+use Rattle.fv_names.specs.Words.{Entry, entries_of, numbers_in}
+use Rattle.fv_names.proofs.IndexLaws.{no_entry}
+use Rattle.fv_names.proofs.name_order.NameOrder.of.Goals as goal
+
+pub loop-place-init : goal.loop-place-init
+loop-place-init c = c.in_ok-numbers.ensures.items
+
+pub loop-place-preserved : goal.loop-place-preserved
+loop-place-preserved c =
+    let number : Entry → ℕ = λ e. e.1 in
+    let es : List Entry = entries_of c.args.index.now in
+    let place : ℕ = c.loop-place.place in
+    let l : place < length es = omega arith in
+    c.in_ok-push.ensures.items ∙ ap (λ (ns : List ℕ). ns ++ c.number_at.result ∷ []) c.loop-place.invariant
+    ∙ ap (λ (n : ℕ). take place (numbers_in es) ++ n ∷ []) (c.number_at.ensures no_entry ∙ sym (get_or-map number es place no_entry 0 l))
+    ∙ sym (take_more (numbers_in es) place 0 (omega (arith, l, length-map es number)))
+
+pub returns-clause-found : goal.returns-clause-found
+returns-clause-found c =
+    let number : Entry → ℕ = λ e. e.1 in
+    let es : List Entry = entries_of c.args.index.now in
+    c.loop-place.invariant ∙ take_all c.loop-place.place (numbers_in es) (omega (arith, length-map es number))

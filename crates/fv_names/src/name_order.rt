@@ -1,0 +1,88 @@
+//! The order of the names of some files.
+
+ghost use Rattle.std.specs.Prelude.{◌≡◌, ◌<◌, length, map, get_or, IfOk, IfErr};
+ghost use Rattle.std.specs.List.{position};
+ghost use Rattle.std.specs.Ordering.{is_lt};
+ghost use Rattle.fv_base.specs.Words.{out_of_memory};
+ghost use Rattle.fv_names.specs.NamedFiles.{is_name};
+ghost use Rattle.fv_names.specs.NameIndexes.{Entry, Halves, IsIndex, IsOrder, entries_of, halves_cmp, numbers_in};
+ghost use Rattle.fv_names.specs.NameIndexes.{numbers_of};
+
+use crate::name_index::{NameIndex, halves};
+use crate::named::WithName;
+use fv_base::{Fault, Guid};
+use std::alloc::Global;
+
+/// The numbers of some files, in the order of the files' names. The files are numbered from 0 in
+/// their own order. A search for a name reads the names of the files, so an order takes 4 bytes for
+/// each file. (PI specification, volume 3, section 3.2.3.)
+#[derive(Drop)]
+pub struct NameOrder {
+    numbers: Vec<u32>,
+}
+
+// Returns whether a name precedes another. Both are given as two numbers.
+fn is_before(one: (u64, u64), other: (u64, u64)) -> bool
+    ensures { result ≡ is_lt (halves_cmp one other) }
+{
+    one.0 < other.0 || (one.0 == other.0 && one.1 < other.1)
+}
+
+impl NameOrder {
+    /// Returns the numbers of the files in the order of an index.
+    ///
+    /// # Errors
+    ///
+    /// OutOfMemory at 0.
+    pub fn of(alloc: Global, index: &NameIndex) -> Result<NameOrder, Fault>
+        // The numbers are the numbers of the index's entries, in the same order.
+        ensures found { IfOk result (λ order. numbers_of order ≡ numbers_in (entries_of index.now)) }
+
+        // The only error is OutOfMemory.
+        ensures err { IfErr result (λ f. f ≡ out_of_memory) }
+    {
+        let mut numbers = Vec::with_capacity(alloc, index.len())?;
+        for place in 0..index.len() {
+            numbers.push(index.number_at(place))?;
+        }
+        Ok(NameOrder { numbers })
+    }
+
+    // Returns the name of the file at a place, as two numbers. Places are counted from 0 in the
+    // order of the names.
+    fn halves_at<F: WithName>(&self, files: &[F], place: usize) -> (u64, u64)
+        requires order { IsOrder (map F.name_of files.now) (numbers_of self.now) }
+        requires inside { place < length (numbers_of self.now) }
+        ensures { (order : IsOrder (map F.name_of files.now) (numbers_of self.now)) (e : Entry)
+            → result ≡ (get_or order.entries place e).0 }
+    {
+        let number = self.numbers[place];
+        halves(files[number as usize].name())
+    }
+
+    /// Returns the number of the first file with this name, or None if no file has it. The order
+    /// must be the order of the names of these files. Takes no memory.
+    pub fn get<F: WithName>(&self, files: &[F], name: &Guid) -> Option<u32>
+        requires { IsOrder (map F.name_of files.now) (numbers_of self.now) }
+        ensures { result ≡ position (is_name name.now) (map F.name_of files.now) }
+    {
+        let key = halves(*name);
+        // The names before the place `first` precede the name, and those from the place `end` on do
+        // not. Files with the same name are in their own order, so the first of them has the name's
+        // first place.
+        let mut first = 0;
+        let mut end = self.numbers.len();
+        while first < end {
+            let middle = first + (end - first) / 2;
+            if is_before(self.halves_at(files, middle), key) {
+                first = middle + 1;
+            } else {
+                end = middle;
+            }
+        }
+        if first < self.numbers.len() && self.halves_at(files, first) == key {
+            return Some(self.numbers[first]);
+        }
+        None
+    }
+}
