@@ -32,8 +32,6 @@ pub use Rattle.fv_file.proofs.FileAttributeLemmas.{small_even, set_large}
 pub use Rattle.fv_file.proofs.NewHeaderLemmas.{with_large_is}
 -- Setting or clearing bit 0x01 for the form of the header does not change the other bits.
 pub use Rattle.fv_file.proofs.FileAttributeLemmas.{fixed_with, summed_with, alignment_with, with_large_small}
--- Attributes that have bit 0x01 clear are unchanged if it is cleared.
-pub use Rattle.fv_file.proofs.FileAttributeLemmas.{without_short}
 -- ---- headers that are written
 
 -- A written header is bytes, and has the length of its form.
