@@ -7,6 +7,9 @@ use Rattle.fv_names.specs.Words.{Entry}
 use Rattle.fv_names.proofs.EntryOrderLaws.{halves_decide}
 use Rattle.fv_names.proofs.name_index.NameIndex.are_distinct.Goals as goal
 
+name : Entry → ℕ × ℕ
+name x = x.0
+
 pub loop-next-init : goal.loop-next-init
 loop-next-init c = λ e p above l. absurd (omega (arith, above, l))
 
