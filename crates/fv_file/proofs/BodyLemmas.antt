@@ -159,8 +159,5 @@ all_within s p at [] b t = tt
 all_within s p at (c ∷ cs) b (x, rest, e, is, o, last, more) =
     let n : length b ≡ length x + length rest = ap length e ∙ length-append x rest in
     let behind =
-    subst (λ (k : ℕ). CellsWithin k cs) (joined at (length x) (length rest) (length b) n) (all_within s p (at + length x) cs rest more) in
+    subst (λ (k : ℕ). CellsWithin k cs) (omega (arith, n)) (all_within s p (at + length x) cs rest more) in
     (omega (arith, o, cell_span s p c x is, n), made_up s p c x is, behind)
-  where
-    joined : (a x r n : ℕ) → n ≡ x + r → a + x + r ≡ a + n
-    joined a x r n e = omega arith

@@ -43,7 +43,7 @@ filled_stands s p st at r c in_eights f used place span cell =
     let m : ℕ = cell_len c in
     let above : n ≤ m = omega (arith, span) in
     let multiple : m % 8 ≡ 0 = ap (λ (k : ℕ). k % 8) span ∙ eighth n in
-    let within : m ≤ length r = subst (λ (k : ℕ). k ≤ length r) (sym span) (fits n (length r) f.within in_eights) in
+    let within : m ≤ length r = subst (λ (k : ℕ). k ≤ length r) (sym span) (omega (arith, f.within, in_eights)) in
     let long : length (take m r) ≡ m = length-take-le m r within in
     let behind : length (take (m - n) (drop n r)) ≡ m - n = length-take-le (m - n) (drop n r) (omega (arith, length-drop n r, within)) in
     let filled : IsFilled s p (head_in st r) (payload_at r) (take m r) = record {
@@ -68,9 +68,6 @@ filled_stands s p st at r c in_eights f used place span cell =
 
     eighth : (n : ℕ) → (n + 7) / 8 * 8 % 8 ≡ 0
     eighth n = omega arith
-
-    fits : (n m : ℕ) → n ≤ m → m % 8 ≡ 0 → (n + 7) / 8 * 8 ≤ m
-    fits n m l e = omega arith
 
 stub_stands : (s : FileSystem) (p : Polarity) (at : ℕ) (r : List ℕ) → file_header_len_at r ≤ length r
     → (StateOf (slice_index r 23) p states.Construction ⊎ StateOf (slice_index r 23) p states.HeaderInvalid)

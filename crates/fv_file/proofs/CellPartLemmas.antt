@@ -17,11 +17,7 @@ pub filled_span : (s : FileSystem) (p : Polarity) (head : FileHead) (payload b :
     → up_to_8 head.size ≡ length b
 filled_span s p head payload b filled =
     let n : length b ≡ length filled.file + length filled.filler = ap length filled.text ∙ length-append filled.file filled.filler in
-    rounded head.size (length filled.filler) (length b) (n ∙ ap (λ (k : ℕ). k + length filled.filler) (sym filled.is_file.size))
-    filled.short filled.multiple
-  where
-    rounded : (n k m : ℕ) → m ≡ n + k → k < 8 → m % 8 ≡ 0 → (n + 7) / 8 * 8 ≡ m
-    rounded n k m e l z = omega arith
+    omega (arith, n ∙ ap (λ (k : ℕ). k + length filled.filler) (sym filled.is_file.size), filled.short, filled.multiple)
 
 pub cell_span : (s : FileSystem) (p : Polarity) (c : CellForm) (u : List ℕ) → IsCell s p c u → cell_len c ≡ length u
 cell_span s p (Valid at head payload) u is = filled_span s p head payload u is.0

@@ -9,7 +9,7 @@ use Rattle.std.proofs.lemmas.Nat.{and_mask, or_disjoint}
 use Rattle.std.proofs.lemmas.Nat.Bits.{and_pow, bit_at-lt}
 use Rattle.fv_base.specs.Words.{alignments, alignment_of}
 use Rattle.fv_base.proofs.Laws.{one_bit}
-use Rattle.fv_file.specs.Words.{is_large, is_fixed, is_summed, without_large, with_large}
+use Rattle.fv_file.specs.Words.{is_large, is_fixed, is_summed, with_large}
 
 -- ---- single bits
 
@@ -54,9 +54,3 @@ alignment_with true a h = ap (slice_index alignments) (same a (small_even a h)) 
 pub with_large_small : (l : Bool) (a : ℕ) → is_large a ≡ false → a < 256 → with_large l a < 256
 with_large_small true a h l = let e = small_even a h in omega (arith, e)
 with_large_small false a h l = l
-
--- ---- without bit 0x01
-
--- attributes that have bit 0x01 clear are unchanged if it is cleared
-pub without_short : (a : ℕ) → is_large a ≡ false → without_large a ≡ a
-without_short a h = grind (arith, common_steps, small_even)

@@ -12,8 +12,8 @@ pub use Rattle.fv_file.proofs.OneFaultLemmas.{cell_fails, one_cell_fault}
 pub use Rattle.fv_file.proofs.CellPartLemmas.{cell_span, made_up}
 -- There is at most one tiling. Cells that are not free, and one more cell, tile the joined bytes.
 pub use Rattle.fv_file.proofs.TilingLemmas.{OneCell, NotEmpty, one_tiling, one_more, none_more}
--- Tilings are joined. There are at most as many cells as bytes.
-pub use Rattle.fv_file.proofs.TiledCellLemmas.{joined, cells_few}
+-- There are at most as many cells as bytes.
+pub use Rattle.fv_file.proofs.TiledCellLemmas.{cells_few}
 -- The data of a cell are the part of the volume after its header.
 pub use Rattle.fv_file.proofs.TiledCellLemmas.{IsPayloadIn, tiled_payloads, body_payloads}
 -- Each valid file in a tiling of bytes meets the conditions of `FileRead`.
@@ -32,8 +32,6 @@ pub use Rattle.fv_file.proofs.FileAttributeLemmas.{small_even, set_large}
 pub use Rattle.fv_file.proofs.NewHeaderLemmas.{with_large_is}
 -- Setting or clearing bit 0x01 for the form of the header does not change the other bits.
 pub use Rattle.fv_file.proofs.FileAttributeLemmas.{fixed_with, summed_with, alignment_with, with_large_small}
--- Attributes that have bit 0x01 clear are unchanged if it is cleared.
-pub use Rattle.fv_file.proofs.FileAttributeLemmas.{without_short}
 -- ---- headers that are written
 
 -- A written header is bytes, and has the length of its form.

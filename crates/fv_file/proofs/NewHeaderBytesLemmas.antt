@@ -40,15 +40,11 @@ unfolding header_bytes
 length-header file_sum name kind attributes size large state n =
     parts large (complement (sum (header_with 0 0 name kind attributes size large 0)))
   where
-    joined : (a b d x n k : ℕ) → a ≡ b + 1 → b ≡ d + x → d ≡ n + 4 → n ≡ 16 → x ≡ k → a ≡ 21 + k
-    joined a b d x n k p q r s t = omega arith
-
     front : (c : ℕ) (x : List ℕ) (k : ℕ) → length x ≡ k
         → length (name ++ (c ∷ file_sum ∷ kind ∷ attributes ∷ []) ++ x ++ (state ∷ [])) ≡ 21 + k
     front c x k e =
         let sums : List ℕ = c ∷ file_sum ∷ kind ∷ attributes ∷ [] in
-        joined (length (name ++ sums ++ x ++ (state ∷ []))) (length (name ++ sums ++ x)) (length (name ++ sums)) (length x) (length name) k
-        (length-append (name ++ sums ++ x) (state ∷ [])) (length-append (name ++ sums) x) (length-append name sums) n e
+        omega (arith, length-append (name ++ sums ++ x) (state ∷ []), length-append (name ++ sums) x, length-append name sums, n, e)
 
     parts : (large : Bool) (c : ℕ) → length (header_with c file_sum name kind attributes size large state) ≡ file_header_len large
     parts true c = length-append (name ++ (c ∷ file_sum ∷ kind ∷ attributes ∷ []) ++ le_bytes 3 0 ++ (state ∷ [])) (le_bytes 8 size)

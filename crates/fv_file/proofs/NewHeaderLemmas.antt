@@ -308,10 +308,7 @@ pub pad_written : (polarity : Polarity) (size : ℕ) (b : List ℕ) → size ≤
     → IsNewHeader polarity (pad_fields size (slice_index b 16)) b
 pad_written polarity size b most bytes is =
     subst (λ (x : List ℕ). IsNewHeader polarity (pad_fields size (slice_index x 16)) x) (sym is)
-    (written_is polarity (pad_fields size 0) false (length-replicate {A = ℕ} 16 0xff) refl (below size most) (subst IsBytes is bytes))
-  where
-    below : (n : ℕ) → n ≤ 0xffffff → n < 2 ^ 24
-    below n most = omega arith
+    (written_is polarity (pad_fields size 0) false (length-replicate {A = ℕ} 16 0xff) refl (omega (arith, most)) (subst IsBytes is bytes))
 
 -- ---- no other bytes are the header of these fields
 

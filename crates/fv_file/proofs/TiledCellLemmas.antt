@@ -1,42 +1,21 @@
 -- The data of each cell in a tiling lie in the volume after its header, and each valid file in a tiling of bytes meets
 -- the conditions of `FileRead`. The steps:
--- 1. Cells, none of which is free, and more cells tile the joined bytes (`joined`). There are at most as many cells as
---    bytes (`cells_few`).
+-- 1. There are at most as many cells as bytes (`cells_few`).
 -- 2. The data of a cell are the part of the volume after its header (`cell_payload`), for all cells of a tiling
 --    (`tiled_payloads`).
 -- 3. In a tiling of bytes, each valid file was read (`tiles_read`).
-use Rattle.std.proofs.Common.{◌≡◌, ◌≤◌, ◌+◌, ◌-◌, ◌*◌, ◌/◌, ℕ, true, false, List, [], ◌∷◌, ◌++◌, length, take, drop}
-use Rattle.std.proofs.Common.{refl, sym, ap, ◌∙◌, subst, arith, length-append, append_assoc, drop-drop}
+use Rattle.std.proofs.Common.{◌≡◌, ◌≤◌, ◌+◌, ◌-◌, ℕ, List, [], ◌∷◌, ◌++◌, length, take, drop}
+use Rattle.std.proofs.Common.{refl, sym, ap, ◌∙◌, subst, arith, length-append, drop-drop}
 use Rattle.std.specs.List.{AllByRecursion}
 use Rattle.std.proofs.lemmas.List.{drop_at}
 use Rattle.fv_base.specs.Words.{IsBytes, up_to_8}
 use Rattle.fv_base.specs.declared.flash.FileSystem.{FileSystem}
 use Rattle.fv_base.specs.declared.flash.Polarity.{Polarity}
 use Rattle.fv_base.proofs.Laws.{bytes_back, bytes_front, field-append_front}
-use Rattle.fv_file.specs.Words.{CellForm, Valid, Pad, Dead, Stub, Free, IsCell, IsFilled, Tiles, offset_of, cell_len, NoneFree}
+use Rattle.fv_file.specs.Words.{CellForm, Valid, Pad, Dead, Stub, Free, IsCell, IsFilled, Tiles, offset_of, cell_len}
 use Rattle.fv_file.specs.declared.head.FileHead.{FileHead}
 use Rattle.fv_file.proofs.CellPartLemmas.{cell_span, made_up, not_empty}
 use Rattle.fv_file.proofs.FileReadLemmas.{FileRead, cell_read_in, payload_behind}
-
--- cells, none of which is free, and the cells after them tile the joined bytes
-pub joined : (s : FileSystem) (p : Polarity) (at : ℕ) (cs ds : List CellForm) (x y : List ℕ) → Tiles s p at cs x → NoneFree cs
-    → Tiles s p (at + length x) ds y → Tiles s p at (cs ++ ds) (x ++ y)
-joined s p at [] ds x y e none more =
-    let z : at + length x ≡ at = omega (arith, ap length e) in
-    subst (λ l. Tiles s p at ds l) (sym (ap (λ l. l ++ y) e)) (subst (λ k. Tiles s p k ds y) z more)
-joined s p at (c ∷ cs) ds x y (u, rest, e, cell, place, last, tiles) none more =
-    let z : at + length x ≡ at + length u + length rest = omega (arith, ap length e, length-append u rest) in (
-      u,
-      rest ++ y,
-      ap (λ l. l ++ y) e ∙ append_assoc u rest y,
-      cell,
-      place,
-      (λ f. absurd (differ (sym f ∙ none.0))),
-      joined s p (at + length u) cs ds rest y tiles none.1 (subst (λ k. Tiles s p k ds y) z more),
-    )
-  where
-    differ : true ≡ false → ⊥
-    differ e = cc
 
 -- there are at most as many cells as bytes
 pub cells_few : (s : FileSystem) (p : Polarity) (at : ℕ) (cs : List CellForm) (b : List ℕ) → Tiles s p at cs b → length cs ≤ length b
@@ -58,14 +37,11 @@ filled_payload : (s : FileSystem) (p : Polarity) (head : FileHead) (payload x re
     → payload ≡ take (head.size - head.header_len) (drop (place + head.header_len) volume)
 filled_payload s p head payload x rest volume at place e filled o cell_len made =
     let n : ℕ = head.size - head.header_len in
-    let inside : head.header_len + n ≤ length x = within head.header_len (length payload) head.size (length x) made cell_len in
+    let inside : head.header_len + n ≤ length x = omega (arith, made, cell_len) in
     payload_behind s p head payload x filled
     ∙ (sym (field-append_front head.header_len n x rest inside)
     ∙ ap (take n) (ap (drop head.header_len) (sym e)
     ∙ (drop-drop head.header_len at volume ∙ ap (λ k. drop (k + head.header_len) volume) (sym o))))
-  where
-    within : (h k n x : ℕ) → h + k ≡ n → (n + 7) / 8 * 8 ≡ x → h + (n - h) ≤ x
-    within h k n x e f = omega arith
 
 cell_payload : (s : FileSystem) (p : Polarity) (c : CellForm) (x rest volume : List ℕ) (at : ℕ) → drop at volume ≡ x ++ rest
     → IsCell s p c x → offset_of c ≡ at → IsPayloadIn volume c

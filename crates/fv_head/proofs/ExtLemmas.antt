@@ -345,16 +345,13 @@ pub more_entries : (items new : List (ℕ × List ℕ)) (e : ℕ × List ℕ) (b
 more_entries items new e bytes rest behind entry n pushed back front size least within kind kept sofar es tail more =
     let kind_is : e.0 ≡ le_at 2 2 rest = kind ∙ ap (le_at 2 2) front ∙ ap le (field-take 2 2 n rest (omega (arith, least))) in
     let payload : drop 4 entry ≡ field 4 (n - 4) rest =
-    ap (drop 4) front ∙ ap (λ (k : ℕ). drop 4 (take k rest)) (split n least) ∙ drop-take 4 (n - 4) rest in
+    ap (drop 4) front ∙ ap (λ (k : ℕ). drop 4 (take k rest)) (omega (arith, least)) ∙ drop-take 4 (n - 4) rest in
     let kept_is : e.1 ≡ kept_payload e.0 (field 4 (n - 4) rest) =
     kept ∙ ap (λ (k : ℕ). kept_payload k (drop 4 entry)) (sym kind) ∙ ap (kept_payload e.0) payload in
     let one = entry_before rest n e es tail size least within kind_is kept_is (subst (SplitsEntries es tail) back more) in
     let joined : items ++ (e ∷ es) ≡ new ++ es =
     sym (append_assoc items (e ∷ []) es) ∙ ap (λ (xs : List (ℕ × List ℕ)). xs ++ es) (sym pushed) in
     subst (λ (xs : List (ℕ × List ℕ)). SplitsEntries xs tail bytes) joined (sofar (e ∷ es) tail one)
-  where
-    split : (n : ℕ) → 4 ≤ n → n ≡ 4 + (n - 4)
-    split n least = omega arith
 
 -- if the rest begins with no entry, the entries so far are all entries, and the rest is the tail
 pub end_entries : (items : List (ℕ × List ℕ)) (bytes rest : List ℕ)

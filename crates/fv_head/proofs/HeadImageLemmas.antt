@@ -246,10 +246,7 @@ sum_patched b checksum offset small long =
     let word = sum_by-cons (λ (x : ℕ). x) (le (le_bytes 2 checksum)) (words_of rest) in
     let zero_word = sum_by-cons (λ (x : ℕ). x) (le (le_bytes 2 0)) (words_of rest) in
     let value = le-le_bytes 2 checksum small in
-    go (sum (words_of (take 50 b))) (sum (words_of rest)) (le (le_bytes 2 checksum)) checksum _ _ _ _ this none word zero_word value
-  where
-    go : (p r w c t n x y : ℕ) → t ≡ p + x → n ≡ p + y → x ≡ w + r → y ≡ 0 + r → w ≡ c → t ≡ n + c
-    go p r w c t n x y this none word zero_word value = omega arith
+    omega (arith, this, none, word, zero_word, value)
 
 checksum_right : (total : ℕ) → (total + (65536 - total % 65536) % 65536) % 65536 ≡ 0
 checksum_right total = omega arith
