@@ -48,7 +48,7 @@ tools_work() { # BIN MADE FOLDER [WAY..]
     "${way[@]}" "$bin/fv-unpack" "$made/firmware.fd" "$parts" > "$room/said" || true # a section of it is of an unknown kind
     "${way[@]}" grep '/[0-9]*-Beta/pe32.efi' "$parts/index.tsv" > "$room/said" || fail "fv-unpack: $(< "$room/said")"
     "${way[@]}" rm -r "$parts"
-    "${way[@]}" "$bin/fv-map" "$made/firmware.fd" > "$room/map"; grep -q Pei0 "$room/map" || fail "fv-map does not draw what is compressed"
+    "${way[@]}" "$bin/fv-map" "$made/firmware.fd" > "$room/map"; grep -q Pei0 "$room/map" || fail "fv-map does not draw the files of a compressed section"
 }
 
 # Checks that fvmap, the name of fv-map in 1.0, draws the map that tools_work has drawn.

@@ -110,7 +110,7 @@ def require(holds: object, *what: object) -> None:
 
 
 def is_shown(line: str) -> bool:
-    """Returns whether a line has no control character, and can be written."""
+    """Returns whether a line can be written and is free of control characters."""
     line.encode("utf-8")
     return not any(ord(sign) < 32 or 127 <= ord(sign) < 160 for sign in line)
 
