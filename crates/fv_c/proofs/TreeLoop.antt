@@ -163,8 +163,8 @@ same_parents depth k before (r ∷ rows) l falls =
 
 -- ---- the loop
 
--- `rows` are the first rows of the tree, `done`, whose depths are `before`. The rows `left` are those of the parts that
--- wait, whose places are `places`
+-- `rows` are the first rows of the tree, `done`, and `before` are the depths of these rows. `left` are the rows of the parts
+-- that wait, and `places` are the places of these parts
 pub record Walked (input : List ℕ) (m : Meaning) (rows : List FvNode) (places : List PartPlace) (left : List Row) : Type 0 where
   pub before : List ℕ
   pub done : List TreeRow

@@ -1,6 +1,7 @@
 -- Proves that the places of the parts that a row holds are right (`files_placed`, `sections_placed`, `nested_placed`), and
 -- that the first row is right (`root_found`). The steps:
--- 1. If two lists agree item by item, the places that are made from the first are those of the second (`each_lies`).
+-- 1. If a list of items and a list of parts agree one by one, the places that the items give are the places of the parts
+--    (`each_lies`).
 -- 2. What a row holds follows from its number for the contents (`files_in`, `stream_in`, `volume_in`, `nothing_in`).
 -- 3. A file, a section or a volume lies at its place (`file_found`, `section_found`, `nested_placed`).
 use Rattle.std.proofs.Common.{◌≡◌, ◌∙◌, ℕ, zero, suc, ◌+◌, ◌≤◌, List, [], ◌∷◌, ◌++◌, length, Some, refl, sym, ap, subst}
@@ -39,7 +40,7 @@ pub get_middle : {X : Type 0} (xs : List X) (x : X) (ys : List X) → slice_get 
 get_middle [] x ys = refl
 get_middle (y ∷ xs) x ys = get_middle xs x ys
 
--- if each item that agrees with a part leads to a place of this part, the places of all items are those of the parts
+-- if each item that agrees with a part gives the place of this part, all items give the places of all parts
 each_lies : {A B : Type 0} (R : A → B → Type 0) (node : B → NodeMeaning) (place : A → PartPlace) (Lies : PartPlace → TreeRow → Type 0)
     (n depth : ℕ) (all : List A)
     → ((i : ℕ) (x : A) (y : B) → slice_get all i ≡ Some x → R x y

@@ -16,8 +16,8 @@ pub record TreeRow : Type 0 where
   pub number : ℕ
   pub node : NodeMeaning
 
--- the number of the last row before a row whose depth is one less. `before` are the depths of the rows before it, the last
--- of them first. 0 if there is no such row
+-- the number of the last row before a row, with a depth that is one less. `before` are the depths of the rows before the
+-- row, the last of these rows first. The number is 0 if none of the rows has this depth
 abbrev pub last_above : (depth : ℕ) (before : List ℕ) → ℕ
 last_above depth [] = 0
 last_above depth (d ∷ before) = if d + 1 == depth then length before else last_above depth before

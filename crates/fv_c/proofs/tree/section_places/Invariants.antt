@@ -4,7 +4,7 @@ use Rattle.fv_section.specs.Words.{FrameForm, HasFrameAt, Splits}
 use Rattle.fv_c.specs.inner.Trees.{section_place}
 use Rattle.fv_c.proofs.tree.section_places.Given as goal
 
--- the places so far, followed by those of the frames that are left, are those of all frames
+-- the places so far, followed by the places of the frames that are left, are the places of all frames
 abbrev pub invariant-loop-frame : goal.invariant-loop-frame
 invariant-loop-frame l = record {
   stand : AllByRecursion (λ (f : FrameForm). HasFrameAt f f.offset l.stream) l.walk.0;
