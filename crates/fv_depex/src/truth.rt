@@ -46,7 +46,7 @@ fn push(stack: &mut Vec<bool>, value: bool) -> Result<bool, AllocError>
 }
 
 // Evaluates one op on the stack. Returns false if the stack does not hold the values that the op
-// takes, or if the op has no truth value.
+// takes, or if the op is BEFORE or AFTER.
 fn evaluate_op(stack: &mut Vec<bool>, op: &Op, installed: &[Guid]) -> Result<bool, AllocError>
     ensures { IfOk result (λ done. evaluate_op installed.now (reverse stack.old.items) op.now
         ≡ (if done then Some (reverse stack.new.items) else None)) }

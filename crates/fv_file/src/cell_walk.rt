@@ -157,7 +157,7 @@ fn cell_count(body: &[u8], polarity: Polarity) -> usize
     ensures cells { (system : FileSystem) (first : ℕ) (cs : List CellForm) → Tiles system polarity first cs body.now
         → result ≡ length cs }
 
-    // In any case the result is at most the number of 24-byte headers that cover the body.
+    // In any case the result is at most the length of the body divided by 24, rounded up.
     ensures most { 24 * result ≤ length body.now + 23 }
 {
     let mut rest = body;

@@ -30,7 +30,8 @@ pub struct ExtEntry<'a> {
     bytes: &'a [u8],
 }
 
-// An entry takes at least 4 bytes of a volume, so it takes at most 4 times its length of memory.
+// An entry has at least 4 bytes in the volume, and a value of this type has 16 bytes. So a list of
+// entries needs at most 4 times the length that the entries have in the volume.
 const _: () = prove!(size_of::<ExtEntry<'static>>() == 16);
 
 impl<'a> Model for ExtEntry<'a> {

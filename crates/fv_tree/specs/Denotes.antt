@@ -43,14 +43,16 @@ Pairwise R (x ∷ xs) (y ∷ ys) = R x y × Pairwise R xs ys
 -- ---- the meaning of bytes, given the meaning of the parts inside them: these definitions take relations for the parts,
 -- and MeansSection closes the recursion
 
--- three kinds of relations: between a frame and a section; between sections, the number of bytes after the last, and
--- the bytes of a stream; between the bytes of a volume and a meaning
+-- a relation of two things: a frame and a section
 abbrev pub SectionRelation : Type 1
 SectionRelation = FrameForm → SectionMeaning → Type 0
 
+-- a relation of three things: the sections of a stream, the number of bytes after the last section, and the bytes of the
+-- stream
 abbrev pub StreamRelation : Type 1
 StreamRelation = List SectionMeaning → ℕ → List ℕ → Type 0
 
+-- a relation of two things: the bytes of a volume and a meaning
 abbrev pub VolumeRelation : Type 1
 VolumeRelation = List ℕ → Meaning → Type 0
 

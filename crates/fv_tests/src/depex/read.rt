@@ -89,7 +89,8 @@ fn has_operand(op: &Op, operand: &[u8]) -> bool {
     }
 }
 
-// Returns how many of the first ops are the expected ones, in this order.
+// Returns how many of the expected ops, from the first on, are among the ops that were found, in
+// this order. Other ops may be between them.
 fn count_matching(found: &[Op], ops: &[ExpectedOp]) -> usize {
     let mut at = 0;
     for op in found {
@@ -126,7 +127,7 @@ fn is_row_read(alloc: Global, row: &ReadRow) -> bool {
 }
 
 // Returns the rows. A function that names a large constant is proved with the whole constant, so no
-// other function names this one.
+// other function names `READ`.
 fn read_rows() -> &'static [ReadRow] {
     READ
 }

@@ -70,7 +70,7 @@ fn parts_are_written_back(alloc: Global, parts: Parts, phase: Phase) -> bool {
 }
 
 // Returns the bodies. A function that names a large constant is proved with the whole constant, so
-// no other function names this one.
+// no other function names `BODIES`.
 fn bodies() -> &'static [(Phase, Parts)] {
     BODIES
 }

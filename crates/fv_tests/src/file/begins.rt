@@ -96,7 +96,7 @@ fn with_fields(name: [u8; 16], fields: u64, more: &[u8]) -> [u8; 56] {
 }
 
 // Returns the rows. A function that names a large constant is proved with the whole constant, so no
-// other function names this one.
+// other function names `FILES`.
 fn files() -> &'static [FileRow] {
     FILES
 }

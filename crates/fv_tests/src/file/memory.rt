@@ -77,7 +77,7 @@ const BODIES_OF_ZEROS: &[BodyRow] = &[
 ];
 
 // Returns the rows. A function that names a large constant is proved with the whole constant, so no
-// other function names these.
+// other function names `BODIES_OF_ONES` and `BODIES_OF_ZEROS`.
 fn bodies(polarity: Polarity) -> &'static [BodyRow] {
     match polarity {
         Polarity::Ones => BODIES_OF_ONES,

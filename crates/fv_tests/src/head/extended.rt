@@ -98,7 +98,7 @@ const READ: &[ReadRow] = &[
     // too large.
     (&[(88, &[0x14])], 96, &[], &[], 20),
     (&[(88, &[0x18])], 96, &[], &[8, 0, 3, 0], 24),
-    // An entry size of 3, and one that ends one byte after the extended header.
+    // An entry with a size of 3 bytes, and an entry that ends one byte after the extended header.
     (&[(92, &[0x03])], 104, &[], &[3, 0, 3, 0, 0, 0, 0, 0], 28),
     (&[(92, &[0x09])], 104, &[], &[9, 0, 3, 0, 0, 0, 0, 0], 28),
     // An entry without a payload, and then a tail of 4 bytes.
@@ -198,7 +198,7 @@ fn is_row_read(alloc: Global, row: &ReadRow) -> bool {
 }
 
 // Returns the rows. A function that names a large constant is proved with the whole constant, so no
-// other function names this one.
+// other function names `READ`.
 fn read_rows() -> &'static [ReadRow] {
     READ
 }
@@ -229,8 +229,8 @@ pub(super) fn is_written_until(head: &VolumeHead, is_ext: bool, whole: &[u8], ro
     outcome == expected && taken.get(..room) == whole.get(..room)
 }
 
-// Returns whether the header of the bare volume is written like this for each room up to its
-// length.
+// Returns whether the header of the bare volume is written until the room ends, with the bytes of
+// `whole`, for each room up to the length of the header.
 fn stops_where_room_ends(alloc: Global, is_ext: bool, whole: &[u8]) -> bool {
     match read_head(alloc, &BARE) {
         Ok((head, _)) => {

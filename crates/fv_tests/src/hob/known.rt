@@ -148,24 +148,24 @@ const KNOWN_WRAPS: Known = Known {
 const LISTS: &[Known] = &[KNOWN_LIST, KNOWN_TYPES, KNOWN_SHORTEST, KNOWN_WRAPS];
 
 // Returns the lists. A function that names a large constant is proved with the whole constant, so
-// no other function names this one.
+// no other function names `LISTS`.
 pub(super) fn lists() -> &'static [Known] {
     LISTS
 }
 
-// Returns whether this is the allocation of the list of all types.
-fn is_allocation(said: &MemoryAllocation) -> bool {
-    said.name == Guid::from_bytes(A)
-        && said.base == 0x2726_2524_2322_2120
-        && said.length == 0x2f2e_2d2c_2b2a_2928
-        && said.memory_type == 0x3332_3130
-        && said.reserved == [0x34, 0x35, 0x36, 0x37]
-        && said.rest.as_slice() == REST
+// Returns whether an allocation is the one in the list of all types.
+fn is_allocation(found: &MemoryAllocation) -> bool {
+    found.name == Guid::from_bytes(A)
+        && found.base == 0x2726_2524_2322_2120
+        && found.length == 0x2f2e_2d2c_2b2a_2928
+        && found.memory_type == 0x3332_3130
+        && found.reserved == [0x34, 0x35, 0x36, 0x37]
+        && found.rest.as_slice() == REST
 }
 
-// Returns whether this is the resource of the list of all types.
-fn is_resource(said: &Resource) -> bool {
-    *said
+// Returns whether a resource is the one in the list of all types.
+fn is_resource(found: &Resource) -> bool {
+    *found
         == Resource {
             owner: Guid::from_bytes(B),
             resource_type: 0x5352_5150,
@@ -178,9 +178,9 @@ fn is_resource(said: &Resource) -> bool {
 // Returns whether a block of this kind has this content.
 fn has_content(kind: &HobKind, said: &Said) -> bool {
     match (kind, said) {
-        (HobKind::Handoff(count_found), Said::Handoff(fields)) => *count_found == *fields,
-        (HobKind::MemoryAllocation(count_found), Said::Allocation) => is_allocation(count_found),
-        (HobKind::Resource(count_found), Said::Resource) => is_resource(count_found),
+        (HobKind::Handoff(found), Said::Handoff(fields)) => *found == *fields,
+        (HobKind::MemoryAllocation(found), Said::Allocation) => is_allocation(found),
+        (HobKind::Resource(found), Said::Resource) => is_resource(found),
         (HobKind::GuidExtension { name, payload }, Said::Extension(guid, data)) => {
             *name == Guid::from_bytes(*guid) && payload.as_slice() == *data
         }
@@ -241,7 +241,7 @@ fn is_block(hob: &Hob, block: &Block) -> bool {
 }
 
 // Returns how many of these blocks are found, in this order.
-fn count_found(hobs: &[Hob], blocks: &[Block]) -> usize {
+fn found(hobs: &[Hob], blocks: &[Block]) -> usize {
     let mut at = 0;
     for hob in hobs {
         if at < blocks.len() && is_block(hob, &blocks[at]) {
@@ -256,7 +256,7 @@ fn count_found(hobs: &[Hob], blocks: &[Block]) -> usize {
 pub(super) fn is_found(hobs: &[Hob], length: u64, known: &Known) -> bool {
     length == known.length
         && hobs.len() == known.blocks.len()
-        && count_found(hobs, known.blocks) == hobs.len()
+        && found(hobs, known.blocks) == hobs.len()
 }
 
 // Returns whether the volumes are those that the blocks describe, in the same order.

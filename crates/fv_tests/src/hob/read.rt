@@ -34,8 +34,9 @@ pub(super) fn is_read_as(
     }
 }
 
-// Returns whether the bytes are read as a known list, and the list is written as it was. Only the
-// body of the unused block, which is at 312, is not kept.
+// Returns whether the bytes are read as a known list, and the list is written with the same bytes,
+// except that the body of an unused block is written as zeros. Only the list of all types has an
+// unused block with a body. The block is at 312, and its body is at 320.
 fn is_written_back(alloc: Global, bytes: &[u8], known: &Known) -> bool {
     match joined(alloc, known.parts, &[]) {
         Ok(mut written) => {
