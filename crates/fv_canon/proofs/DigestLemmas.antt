@@ -1,4 +1,5 @@
--- In the walk over the rows of a volume, the starts that are left begin with the starts of the volumes that are left.
+-- In the walk over the rows of a volume, the starts that are left begin with the starts of the files of the volumes
+-- that are left.
 use Rattle.std.proofs.Common.{◌≡◌, ◌∙◌, ◌+◌, ℕ, List, [], ◌∷◌, ◌++◌, drop, sym, ap, subst}
 use Rattle.fv_canon.specs.LayoutForms.{BeginsWithStarts, StartsOfEach, AreAllStarts}
 use Rattle.fv_canon.specs.Layouts.{AreStarts}
@@ -11,7 +12,7 @@ use Rattle.fv_rows.specs.Words.{NodeMeaning, VolumeNode, FileNode, TreeRow, tree
 use Rattle.fv_rows.specs.inner.RowVolumes.{Followed, deeper_by, volumes_of}
 use Rattle.fv_rows.proofs.Laws.{files_volumes, content_volumes, rows_followed, tree_volumes}
 
--- ---- the depth of a volume does not change its starts
+-- ---- the depth of a volume does not change the starts of its files
 
 laid_raised : (n : ℕ) (vs ws : List Inside) (starts : List ℕ) → StartsOfEach AreStarts (vs ++ ws) starts → StartsOfEach AreStarts (deeper_by n vs ++ ws) starts
 laid_raised n [] ws starts h = h

@@ -1,4 +1,4 @@
--- A flash image in which each volume is replaced by its canonical image. The steps:
+-- The renewed image of a flash image, in which each volume is replaced by its canonical image. The steps:
 -- 1. `RenewsFrom` states, place by place, what the walk writes. It implies that each volume has its canonical image,
 --    and that every other byte is unchanged (`renewed_is`).
 -- 2. The bytes up to a volume, the volume's canonical image and renewed bytes after it are renewed bytes

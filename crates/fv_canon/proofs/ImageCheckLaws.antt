@@ -101,11 +101,11 @@ not_memory b f bad = go bad.first where
   go (inl first) = stands_other b f kinds.OutOfMemory refl (fault_stands b f first)
   go (inr (m, d, less, is)) = λ want. let never : kinds.Length ≡ kinds.OutOfMemory = sym (ap (λ (g : Fault). g.kind) is) ∙ want in cc
 
--- if reading fails with OutOfMemory, memory ran out
+-- if reading fails with a fault of the kind OutOfMemory, the fault is `out_of_memory`, so it is at offset 0 and depth 0
 pub ran_out_only : (b : List ℕ) (f : Fault) → (f ≡ out_of_memory) ⊎ NotRead b f → f.kind ≡ kinds.OutOfMemory → f ≡ out_of_memory
 ran_out_only b f why kind = first_only why (λ bad. not_memory b f bad kind)
 
--- if reading fails with another kind, the bytes are rejected
+-- if reading fails with a fault of another kind, the bytes are rejected
 pub is_not_read : (b : List ℕ) (f : Fault) → (f ≡ out_of_memory) ⊎ NotRead b f → f.kind ≢ kinds.OutOfMemory → NotRead b f
 is_not_read b f (inl want) other = absurd (other (ap (λ (g : Fault). g.kind) want))
 is_not_read b f (inr bad) other = bad

@@ -29,7 +29,7 @@ sections_bytes gap (MoreSections s ss) starts =
     ++ sections_bytes (up_to_4 (frame_len (frame_of 0 s starts)) - frame_len (frame_of 0 s starts)) ss
     (drop (starts_in (volumes_in_section s)) starts)
 
--- the starts that are left begin with the starts of these volumes, and `last` are the starts after them
+-- the starts that are left begin with the starts of the files of these volumes, and `last` are the starts after them
 abbrev pub ComesTo : List Inside → List ℕ → List ℕ → Type 0
 ComesTo vs starts last = record { laid : BeginsWithStarts vs starts; left : drop (starts_in vs) starts ≡ last }
 

@@ -121,8 +121,8 @@ at_file total e fs own i f l is placed =
       here = here_is total e f (drop (i + 1) fs) (get_or own i 0) (drop (i + 1) own) both;
     }
 
--- the starts that are left begin with the starts of the volumes in this file, and go on with the starts of the volumes
--- in the files after it
+-- the starts that are left begin with the starts of the files of the volumes in this file, and go on with the starts of
+-- the files of the volumes in the files after this file
 pub file_passed : (fs : List FileMeaning) (i : ℕ) (f : FileMeaning) (starts last : List ℕ) → i < length fs → f ≡ get_or fs i f
     → ComesTo (volumes_in_files (files_from (drop i fs))) starts last
     → BeginsWithStarts (volumes_in_file f) starts

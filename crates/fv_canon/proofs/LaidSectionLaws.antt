@@ -83,8 +83,8 @@ stream_whole s ss starts tail = grind (arith, common_steps, append_assoc, stream
 
 -- ---- the walk over the sections of a stream
 
--- the starts that are left begin with the starts of the volumes in this section, and go on with the starts of the
--- volumes in the sections after it
+-- the starts that are left begin with the starts of the files of the volumes in this section, and go on with the starts
+-- of the files of the volumes in the sections after this section
 pub section_passed : (ss : List SectionMeaning) (i : ℕ) (s : SectionMeaning) (starts last : List ℕ) → i < length ss → s ≡ get_or ss i s
     → ComesTo (volumes_in_sections (sections_from (drop i ss))) starts last
     → BeginsWithStarts (volumes_in_section s) starts

@@ -1,4 +1,5 @@
--- The volumes of a flash image are laid out, and then their images are put one after another. The steps:
+-- The volumes of a flash image are laid out, and then their images are put one after another. In a renewed image each
+-- volume of the flash image is replaced by its canonical image. The steps:
 -- 1. The offset of a volume's fault is the volume's place in the flash image (`told_at`). A volume that is laid out has
 --    an image (`has_image`).
 -- 2. If the first volumes are laid out and the next one is rejected, it is the first that is rejected (`lays_stop`).

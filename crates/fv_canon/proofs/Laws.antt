@@ -12,7 +12,7 @@ pub use Rattle.fv_canon.proofs.HeadlineLaws.{accepted}
 -- if all volumes of a flash image are laid out, some bytes are this image with each volume replaced by its canonical
 -- image
 pub use Rattle.fv_canon.proofs.LaidVolumeLaws.{laid_renewed}
--- the starts of some volumes begin with the starts of these volumes, and no starts follow
+-- a list that consists of the starts of the files of some volumes begins with these starts, and no starts follow
 pub use Rattle.fv_canon.proofs.PartLengthLaws.{begin_all}
 -- an input that is a volume and does not fit is rejected
 pub use Rattle.fv_canon.proofs.RejectedInputLaws.{not_placed}

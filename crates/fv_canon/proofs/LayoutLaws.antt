@@ -18,8 +18,8 @@ one_layout m a b p q = starts_same (volumes_in m) a b p q
 
 -- ---- a layout and its two parts
 
--- if the starts of the volumes in a volume are split after as many starts as the volume has files, the two parts are
--- its layout
+-- if the starts of the files of a volume and of the volumes inside it are split after the starts of the volume's own
+-- files, the two parts are its layout
 pub layout_is : (m : Meaning) (fs : List FileMeaning) (new : List ℕ) (l : LayoutParts) → m ≡ Volume (head_of m) (files_from fs)
     → AreAllStarts m new → l.own ≡ take (length fs) new → l.inner ≡ drop (length fs) new → IsLayout m l
 layout_is m fs new l e lays own inner =

@@ -1,5 +1,5 @@
--- The two loops over the rows of a part of a volume: one adds the starts of each volume among the rows, the other skips
--- the starts of these volumes.
+-- The two loops over the rows of a part of a volume: one adds the starts of the files of each volume among the rows,
+-- the other skips these starts.
 use Rattle.std.proofs.Common.{◌≡◌, ◌≢◌, ◌<◌, ◌≤◌, inl, inr, ◌+◌, ◌∙◌, ℕ, suc, List, [], ◌∷◌, ◌++◌, append_assoc, append-nil, length, drop}
 use Rattle.std.proofs.Common.{refl, sym, ap, subst, arith, true, false, true≢false, drop-drop, length-append}
 use Rattle.std.specs.List.{Any}
@@ -35,10 +35,10 @@ pub other_first : (left rest : List TreeRow) (r : Row) → left ≡ row_of r ∷
     → volumes_of left ≡ volumes_of rest
 other_first left rest r steps not = ap volumes_of steps ∙ ap (λ vs. vs ++ volumes_of rest) (other_part r.nesting r.part not)
 
--- ---- the starts of the volumes among the rows
+-- ---- the starts of the files of the volumes among the rows
 
--- once the starts of the volumes among the rows that are left are added, the starts of all volumes are there; if all
--- earlier volumes fit, the first volume that does not fit is among the rows that are left
+-- once the starts of the files of the volumes among the rows that are left are added, the starts of the files of all
+-- volumes are there; if all earlier volumes fit, the first volume that does not fit is among the rows that are left
 pub record Collects (rows left : List TreeRow) (starts : List ℕ) : Type 0 where
   pub all : (laid : List ℕ) → StartsOfEach AreStarts (volumes_of left) laid → StartsOfEach AreStarts (volumes_of rows) (starts ++ laid)
   pub unfit : (f : Fault) → FirstUnplaced (volumes_of left) 0 f → FirstUnplaced (volumes_of rows) 0 f
@@ -88,8 +88,8 @@ module _ (rows left rest : List TreeRow) (starts : List ℕ) (r : Row) (v : Mean
 
 -- ---- the starts that follow
 
--- if the starts begin with the starts of a volume, then after the starts of its own files they go on with the starts of
--- the volumes that follow
+-- if the next row is a volume, the starts begin with the starts of its own files, and go on with the starts of the
+-- files of the volumes that follow
 pub passed_next : (left rest : List TreeRow) (r : Row) (v : Meaning) (count : ℕ) (starts last : List ℕ) → left ≡ row_of r ∷ rest
     → part_node r.part ≡ VolumeNode v → length (files_of v) ≡ count → ComesTo (volumes_of left) starts last
     → (count ≤ length starts) × ComesTo (volumes_of rest) (drop count starts) last
@@ -117,12 +117,12 @@ pub some_items : {A : Type 0} (xs : List A) → (length xs ≡ 0 → false ≡ t
 some_items [] none = absurd (true≢false (sym (none refl)))
 some_items (x ∷ xs) none = omega arith
 
--- a volume without files contains no volumes, and has no starts
+-- a volume without files contains no volumes, so there are no starts of files
 pub starts_need_file : (m : Meaning) → 0 < starts_in (volumes_in m) → files_of m ≢ []
 starts_need_file (Volume h NoFiles) some none = absurd (omega (arith, some))
 starts_need_file (Volume h (MoreFiles f fs)) some none = cc
 
--- if some volumes have starts, one of these volumes has files
+-- if there are starts of the files of some volumes, one of these volumes has files
 pub starts_need_some : (vs : List Inside) → 0 < starts_in vs → Any (λ v. files_of v.volume ≢ []) vs
 starts_need_some [] some = absurd (omega (arith, some))
 starts_need_some (v ∷ vs) some = here (files_of v.volume) refl (λ less. starts_need_some vs less)

@@ -26,6 +26,7 @@ pub none_refused : (m : Meaning) (b : List ℕ) (f : Fault) → (f ≡ out_of_me
 none_refused m b f (inl want) other is = other (ap (λ (g : Fault). g.kind) want)
 none_refused m b f (inr unfit) other is = unfit_none m 0 f unfit (image_fits m b is)
 
--- if the layout fails with OutOfMemory, memory ran out
+-- if the layout fails with a fault of the kind OutOfMemory, the fault is `out_of_memory`, so it is at offset 0 and
+-- depth 0
 pub want_refused : (m : Meaning) (f : Fault) → (f ≡ out_of_memory) ⊎ Unfit m 0 f → f.kind ≡ kinds.OutOfMemory → f ≡ out_of_memory
 want_refused m f why kind = first_only why (λ unfit. not_layout f.kind (unfit_is m 0 f unfit) kind)

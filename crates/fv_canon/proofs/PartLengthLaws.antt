@@ -10,7 +10,7 @@ use Rattle.fv_canon.proofs.LaidFileLaws.{file_long}
 use Rattle.fv_canon.proofs.LaidSectionLaws.{section_known}
 use Rattle.fv_canon.proofs.VolumeListLaws.{laid_deeper}
 
--- the starts of some volumes begin with the starts of these volumes
+-- a list that consists of the starts of the files of some volumes begins with these starts
 pub begin_all : (vs : List Inside) (starts : List ℕ) → StartsOfEach AreStarts vs starts → BeginsWithStarts vs starts
 begin_all vs starts laid = (starts, [], sym (append-nil starts), laid)
 

@@ -32,7 +32,7 @@ not_read b f why = or_more why (λ bad. inl bad)
 
 -- ---- the kinds of faults
 
--- a fault of the layout is not a fault of reading or writing a stream
+-- if a layout fails, the kind of the fault is neither ReadFault nor WriteFault
 pub unfit_kind : (v : Meaning) (f : Fault) → (f ≡ out_of_memory) ⊎ Unfit v 0 f → IsOfInput f.kind
 unfit_kind v f (inl want) = subst (λ (g : Fault). IsOfInput g.kind) (sym want) (λ e. cc, λ e. cc)
 unfit_kind v f (inr unfit) = go (unfit_is v 0 f unfit) where

@@ -1,6 +1,6 @@
 -- Facts about each volume of a list, if two lists are joined or nest one level deeper. The steps:
--- 1. The starts of two lists of volumes can be split (`laid_split`), and do not change one level deeper
---    (`laid_deeper`, `laid_higher`). The same is true of their numbers (`count_joined`, `count_deeper`).
+-- 1. The starts of the files of two lists of volumes can be split (`laid_split`), and do not change one level deeper
+--    (`laid_deeper`, `laid_higher`). The same is true of the number of these starts (`count_joined`, `count_deeper`).
 -- 2. All volumes of two lists fit if the volumes of each list do (`fit_joined`).
 -- 3. A walk that takes starts goes from each item to the next (`item_passed`).
 use Rattle.std.proofs.Common.{◌≡◌, ◌≤◌, ◌<◌, ◌+◌, ℕ, List, [], ◌∷◌, ◌++◌, length, drop, get_or, refl, sym, ap, ◌∙◌, subst, arith}
@@ -16,7 +16,7 @@ use Rattle.fv_base.proofs.Laws.{item_at}
 use Rattle.fv_tree.proofs.Laws.{files_list_back}
 use Rattle.fv_placement.proofs.Laws.{follow_length}
 
--- ---- the starts of two lists
+-- ---- the starts of the files of two lists of volumes
 
 pub laid_split : (own : Meaning → List ℕ → Type 0) (vs ws : List Inside) (starts : List ℕ) → StartsOfEach own (vs ++ ws) starts
     → (here : List ℕ) × (behind : List ℕ) × (starts ≡ here ++ behind) × StartsOfEach own vs here × StartsOfEach own ws behind
@@ -38,7 +38,7 @@ pub laid_higher : (own : Meaning → List ℕ → Type 0) (vs : List Inside) (st
 laid_higher own [] starts laid = laid
 laid_higher own (v ∷ vs) starts (first, inner, text, p, r) = (first, inner, text, p, laid_higher own vs inner r)
 
--- the lists of starts have one start for each file of the volumes
+-- a list of the starts of files has one start for each of these files
 pub own_count : (m : Meaning) (own : List ℕ) → AreStarts m own → length own ≡ length (files_of m)
 own_count m own placed = follow_length _ _ (placement_items m) own placed.placement.follow ∙ length-map (files_of m) placement_item
 
@@ -57,9 +57,9 @@ pub count_deeper : (vs : List Inside) → starts_in (deeper vs) ≡ starts_in vs
 count_deeper [] = refl
 count_deeper (v ∷ vs) = ap (λ n. length (files_of v.volume) + n) (count_deeper vs)
 
--- ---- lists that begin with the starts of volumes
+-- ---- lists that begin with the starts of the files of volumes
 
--- the starts of a volume's own files are followed by the starts of the volumes in its files
+-- the starts of a volume's own files are followed by the starts of the files of the volumes inside it
 pub inside_begins : (m : Meaning) (fs : List FileMeaning) (more : List Inside) (starts : List ℕ) → m ≡ Volume (head_of m) (files_from fs)
     → BeginsWithStarts (volumes_in m ++ more) starts
     → (length fs ≤ length starts) × BeginsWithStarts (drop 1 (volumes_in m) ++ more) (drop (length fs) starts)
@@ -76,7 +76,8 @@ inside_begins m fs more starts is begins =
           (inner, after, ap (drop (length fs)) here ∙ drop_at own (inner ++ after) (length fs) count, lays),
         )
 
--- starts that begin with the starts of two lists of volumes begin with the starts of the first list
+-- starts that begin with the starts of the files of two lists of volumes begin with the starts of the files of the
+-- first list
 pub begins_first : (vs ws : List Inside) (starts : List ℕ) → BeginsWithStarts (vs ++ ws) starts → BeginsWithStarts vs starts
 begins_first vs ws starts (laid, more, whole, lays) =
     let parts = laid_split AreStarts vs ws laid lays in
@@ -109,7 +110,8 @@ fit_laid (v ∷ vs) (own, fit) = let l = fit_laid vs fit in (own.0 ++ l.0, (own.
 
 -- ---- the volumes in the items of a list
 
--- a walk that comes to the volumes of two lists passes the starts of the first list, and then comes to the second list
+-- a walk that comes to the volumes of two lists passes the starts of the files of the first list, and then comes to the
+-- volumes of the second list
 passed_on : (vs ws : List Inside) (starts last : List ℕ) → ComesTo (vs ++ ws) starts last
     → BeginsWithStarts vs starts × ComesTo ws (drop (starts_in vs) starts) last
 passed_on vs ws starts last at =

@@ -125,8 +125,8 @@ volume_seen m h fs starts e f read laid =
     let is = volume_is m h fs e f in
     volume_laid h fs starts (subst IsMeaning is read) (subst (λ (x : Meaning). BeginsWithStarts (volumes_in x) starts) is laid)
 
--- dropping the starts of a volume is dropping the starts of its own files, and then the starts of the volumes in its
--- files
+-- dropping the starts of the files of a volume and of the volumes inside it is dropping the starts of its own files,
+-- and then the starts of the files of the volumes inside it
 pub volume_rest : (m : Meaning) (fs : List FileMeaning) (starts inner rest : List ℕ) → m ≡ Volume (head_of m) (files_from fs)
     → inner ≡ drop (length fs) starts → rest ≡ drop (starts_in (volumes_in_files (files_from fs))) inner
     → rest ≡ drop (starts_in (volumes_in m)) starts

@@ -1,5 +1,6 @@
 -- The bytes that a walk writes for a volume that was read and laid out are the image of the volume. The steps:
--- 1. The starts of an item can be split from the starts after it (`behind_is`, `front_is`, `moved`).
+-- 1. The starts of the files of the volumes in an item can be split from the starts after them (`behind_is`,
+--    `front_is`, `moved`).
 -- 2. A stream is written as its image, frame by frame, if its sections are (`frames_made`, `stream_made`,
 --    `section_made`).
 -- 3. A volume is written as its image, file by file, if the streams in it are (`files_made`, `volume_made`).
@@ -41,7 +42,7 @@ abbrev pub VolumesMade : VolumeRelation → Type 0
 VolumesMade is_volume = (m : Meaning) (b starts more : List ℕ) → IsBytes b → is_volume b m → AreAllStarts m starts
     → IsImage m (image_of m (starts ++ more))
 
--- dropping the starts of the first item leaves the starts after it
+-- dropping the starts of the files of the volumes in the first item leaves the starts after them
 pub behind_is : (n : ℕ) (starts here behind more : List ℕ) → starts ≡ here ++ behind → length here ≡ n
     → drop n (starts ++ more) ≡ behind ++ more
 behind_is n starts here behind more e l = grind (arith, common_steps, append_assoc, drop_at)

@@ -1,4 +1,5 @@
--- Flash images with each volume replaced by its canonical image, rejected, or read and laid out.
+-- A flash image with each volume replaced by its canonical image; a flash image that is rejected; and the volumes of a
+-- flash image, read and laid out.
 use Rattle.std.specs.Prelude.{◌≡◌, ◌⊎◌, ◌<◌, ◌≤◌, ℕ, List, ◌∷◌, ◌++◌, length, get_or, map}
 use Rattle.std.specs.List.{AllByRecursion}
 use Rattle.fv_base.specs.Words.{outer_fault, volume_limit, field}

@@ -1,4 +1,5 @@
--- From a volume to its canonical image, and the headline, clause by clause.
+-- From a volume to its canonical image, and the clauses of the first two sentences of the headline, which
+-- `src/headline.rt` states.
 use Rattle.std.specs.Prelude.{◌≡◌, ◌↔◌, ◌+◌, ◌%◌, ◌++◌, true, ℕ, List, length, take, drop}
 use Rattle.std.specs.List.{AllByRecursion}
 use Rattle.fv_base.specs.Words.{alignment_of, sum16_of}

@@ -1,4 +1,5 @@
--- Why an input is rejected, and with which kind of fault: the third sentence of the headline.
+-- Why an input is rejected, and with which kind of fault: the third sentence of the headline, which `src/headline.rt`
+-- states.
 use Rattle.std.specs.Prelude.{◌≡◌, ◌⊎◌, ℕ, List}
 use Rattle.fv_base.specs.declared.fault.Fault.{Fault}
 use Rattle.fv_base.specs.declared.fault.FaultKind.{FaultKind}

@@ -24,7 +24,7 @@ StartsOfEach are_own (v ∷ vs) starts =
 abbrev pub AreAllStarts : Meaning → List ℕ → Type 0
 AreAllStarts m starts = StartsOfEach AreStarts (volumes_in m) starts
 
--- the list begins with the starts of these volumes; other starts may follow
+-- the list begins with the starts of the files of these volumes, volume after volume; other starts may follow
 abbrev pub BeginsWithStarts : List Inside → List ℕ → Type 0
 BeginsWithStarts vs starts = (laid : List ℕ) × (more : List ℕ) × (starts ≡ laid ++ more) × StartsOfEach AreStarts vs laid
 

@@ -54,8 +54,8 @@ pub fn write_canonical<W: Write>(
     ensures erred { OnErr result (has_erred writer.new ≡ true) }
 {
     let mut out = WriteSink::new(writer);
-    // The image of a volume that was read is as long as the volume, so a fault's offset can count
-    // its bytes.
+    // The volume was read (`known`), so its image is as long as the volume, and the number of bytes
+    // that were written fits into the offset of a fault.
     view.known();
     put_canonical(view, layout, &mut out);
     out.outcome()

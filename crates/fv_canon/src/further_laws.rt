@@ -14,8 +14,8 @@ ghost use Rattle.fv_canon.specs.LayoutForms.{AreAllStarts, AreAllLeastStarts};
 ghost use Rattle.fv_canon.specs.LayoutFaults.{Unfit};
 ghost use Rattle.fv_canon.specs.PlacedBytes.{ShowsPlaced, PlacedBytes};
 
-/// A meaning has at most one canonical image. If two meanings differ, and some bytes have each of
-/// them, the two never have the same image.
+/// A meaning has at most one canonical image. If two meanings differ, and each of them is the
+/// meaning of some bytes, they never have the same image.
 pub fn one_image()
     ensures image { OneImage }
     ensures meaning { OneMeaning }

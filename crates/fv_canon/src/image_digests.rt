@@ -14,7 +14,8 @@ use fv_rows::{Digests, Part, Row};
 use fv_sinks::DigestSink;
 use fv_tree::{FileView, SectionView, VolumeView};
 
-// Returns the digest of a volume. The starts begin with the starts of this volume.
+// Returns the digest of a volume. `starts` begins with the starts of the files of this volume and
+// of the volumes inside it.
 fn volume_digest(volume: &VolumeView<'_>, starts: &[u64]) -> [u8; 32]
     requires { BeginsWithStarts (volumes_in volume.now) starts.now }
     ensures { VolumeDigest volume.now (Some result) }
@@ -24,8 +25,8 @@ fn volume_digest(volume: &VolumeView<'_>, starts: &[u64]) -> [u8; 32]
     out.finish()
 }
 
-// Returns the digest of a file's data. The starts begin with the starts of the volumes in these
-// data.
+// Returns the digest of a file's data. `starts` begins with the starts of the files of the volumes
+// in these data.
 fn file_digest(file: &FileView<'_>, starts: &[u64]) -> [u8; 32]
     requires { BeginsWithStarts (volumes_in_content (content_of file.now)) starts.now }
     ensures { FileDigest file.now (Some result) }
@@ -50,12 +51,13 @@ fn section_digest(section: &SectionView<'_>) -> Option<[u8; 32]>
 /// sink.
 #[derive(Clone, Copy)]
 pub struct ImageDigests<'s> {
-    /// The remaining starts of a layout. The starts of the next volume come first.
+    /// The remaining starts of a layout. The starts of the files of the next volume come first.
     starts: &'s [u64],
 }
 
 impl<'s> ImageDigests<'s> {
-    /// Returns the digests of the volumes to which these starts belong.
+    /// Returns the digests for a walk. `starts` must begin with the starts of the files of the
+    /// volumes that the walk visits, volume after volume.
     pub fn new(starts: &'s [u64]) -> ImageDigests<'s>
         ensures { result.starts.now ≡ starts.entry.now }
     {

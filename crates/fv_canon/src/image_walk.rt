@@ -35,8 +35,10 @@ fn complement(sum: u8) -> u8
     0u8.wrapping_sub(sum)
 }
 
-// Puts sections, with the zero bytes between them and after the last. Returns the starts that the
-// walk has not used, as the functions below do too.
+// Puts sections, with the zero bytes between them and after the last. `starts` begins with the
+// starts of the files of the volumes in these sections. Returns the starts after them. `put_body`,
+// `put_file`, `put_files` and `put_volume` use and return `starts` in the same way; `file_sum`,
+// `put_image` and `put_body_image` use `starts` in the same way, but do not return starts.
 #[cycle(put)]
 fn put_sections<'s, S: Sink>(
     out: &mut SummingSink<'_, S>,
@@ -121,7 +123,7 @@ fn put_file<'s, S: Sink>(
         put_state(out, polarity);
         return skip_starts(TreeWalk::inside(Part::File(file)), starts);
     }
-    // For a file that was read, the walk puts data of the same length.
+    // The file was read (`known`), so the walk puts as many data bytes as were read.
     file.known();
     let sum = file_sum(out, file, starts);
     put_file_head(out, file, sum, polarity);
@@ -129,7 +131,8 @@ fn put_file<'s, S: Sink>(
 }
 
 // Puts the files of a volume from the edge `first` on, with the pads of the gaps, and erased bytes
-// up to the volume's end.
+// up to the volume's end. `own` lists the starts of these files, and `total` is the length of the
+// volume.
 #[cycle(put)]
 fn put_files<'s, S: Sink>(
     out: &mut SummingSink<'_, S>,
@@ -149,7 +152,7 @@ fn put_files<'s, S: Sink>(
     let mut edge = first;
     let mut rest = starts;
     for (i, file) in files.iter().enumerate() {
-        // For a file that was read, the walk puts data of the same length.
+        // The file was read (`known`), so the walk puts as many data bytes as were read.
         file.known();
         let start = own[i];
         put_gap(out, start - edge, polarity);

@@ -1,5 +1,5 @@
-//! The layout of a volume and of the volumes inside it, and the starts that follow the starts of a
-//! part in a layout.
+//! The layout of a volume: the starts of its files, and of the files of the volumes inside it. Also
+//! the starts that are left in a layout after the starts of some of these files.
 
 ghost use Rattle.std.specs.Prelude.{◌≡◌, ◌≢◌, ◌<◌, ◌≤◌, ◌⊎◌, ◌+◌, ◌++◌, ℕ, List, [], All, drop, length, take, get_or, IfOk, IfErr};
 ghost use Rattle.fv_base.specs.Words.{OrMemory, out_of_memory};
@@ -59,7 +59,7 @@ pub fn layout(alloc: Global, view: &VolumeView<'_>) -> Result<Layout, Fault>
     Ok(Layout::new(starts, own))
 }
 
-// Returns the starts of the volumes among some rows, volume after volume.
+// Returns the starts of the files of the volumes among some rows, volume after volume.
 pub(crate) fn starts_of(alloc: Global, rows: TreeWalk<'_, '_>) -> Result<Vec<u64>, Fault>
     ensures ok { IfOk result (λ starts. StartsOfEach AreStarts (volumes_of rows.entry) starts.items) }
     ensures err { IfErr result (OrMemory (FirstUnplaced (volumes_of rows.entry) 0)) }
@@ -75,7 +75,7 @@ pub(crate) fn starts_of(alloc: Global, rows: TreeWalk<'_, '_>) -> Result<Vec<u64
     Ok(starts)
 }
 
-// Returns the starts that follow the starts of the volumes among some rows.
+// Returns the part of `starts` that follows the starts of the files of the volumes among some rows.
 pub(crate) fn skip_starts<'s>(rows: TreeWalk<'_, '_>, starts: &'s [u64]) -> &'s [u64]
     requires laid { BeginsWithStarts (volumes_of rows) starts.now }
     ensures { result.now ≡ drop (starts_in (volumes_of rows.entry)) starts.now }

@@ -109,7 +109,8 @@ pub(crate) fn put_file_head<S: Sink>(out: &mut S, file: &FileView<'_>, sum: u8, 
 }
 
 // Puts the pad with the extended header, if there is one, and erased bytes up to the first edge.
-// The pad directly follows the volume header.
+// The pad directly follows the volume header. `used` is the value that is put into each used-size
+// entry.
 pub(crate) fn put_ext_pad<S: Sink>(out: &mut S, head: &VolumeHead<'_>, used: u32)
     ensures { S.takes out.old (ext_pad (polarity_of head.now.attributes) head.now.ext used
         ++ replicate (first_edge head.now head.now.ext - canonical_end head.now head.now.ext)

@@ -3,7 +3,7 @@
 //!
 //! A caller that puts the parts of a volume that is laid out walks the volume in preorder: each
 //! volume, then its files in order, with the volumes inside each file. The caller keeps the starts
-//! of the layout that it has not used. These begin with the starts of the next volume.
+//! of the layout that it has not used. These begin with the starts of the files of the next volume.
 
 ghost use Rattle.std.specs.Prelude.{◌≡◌, ◌≢◌, ◌⊎◌, ◌++◌, ℕ, List, [], Any, length, drop, IfOk, IfErr};
 ghost use Rattle.fv_base.specs.Words.{OrMemory, out_of_memory};
@@ -22,8 +22,8 @@ use fv_rows::{Part, TreeWalk};
 use fv_tree::{FileView, SectionView, VolumeView};
 use std::alloc::Global;
 
-/// Returns the starts of the volumes in the data of a file, which `put_laid_data` needs to put the
-/// data. (PI specification, volume 3, section 3.2.3.1.)
+/// Returns the starts of the files of the volumes in the data of a file, which `put_laid_data`
+/// needs to put the data. (PI specification, volume 3, section 3.2.3.1.)
 ///
 /// # Errors
 ///
@@ -47,13 +47,14 @@ pub fn lay_out_data(alloc: Global, file: &FileView<'_>) -> Result<Vec<u64>, Faul
     ensures memory { IfErr result (λ f. f ≡ out_of_memory
         → Any (λ v. files_of v.volume ≢ []) (volumes_in_content (content_of file.now))) }
 {
-    // For a file that was read, the walk with these starts puts data of the same length.
+    // The file was read (`known`), so the walk with these starts puts as many data bytes as were
+    // read.
     file.known();
     starts_of(alloc, TreeWalk::inside(Part::File(file)))
 }
 
-/// Returns the starts of the volumes in the body of a section, which `put_laid_body` needs to put
-/// the body. (PI specification, volume 3, section 3.2.3.1.)
+/// Returns the starts of the files of the volumes in the body of a section, which `put_laid_body`
+/// needs to put the body. (PI specification, volume 3, section 3.2.3.1.)
 ///
 /// # Errors
 ///
@@ -76,53 +77,57 @@ pub fn lay_out_body(alloc: Global, section: &SectionView<'_>) -> Result<Vec<u64>
     ensures memory { IfErr result (λ f. f ≡ out_of_memory
         → Any (λ v. files_of v.volume ≢ []) (volumes_in_body (body_of section.now))) }
 {
-    // For a section that was read, the walk with these starts puts its body.
+    // The section was read (`known`), so the walk with these starts puts a body as long as the body
+    // that was read.
     section.known();
     starts_of(alloc, TreeWalk::inside(Part::Section(section)))
 }
 
 /// Puts the canonical image of a volume into a sink, in one walk that takes no memory. `starts`
-/// must begin with the starts of the volume. (PI specification, volume 3, section 3.2.)
+/// must begin with the starts of the files of this volume and of the volumes inside it. (PI
+/// specification, volume 3, section 3.2.)
 pub fn put_laid_volume<S: Sink>(volume: &VolumeView<'_>, starts: &[u64], out: &mut S)
     requires { BeginsWithStarts (volumes_in volume.now) starts.now }
     ensures { (image : List ℕ) × IsImage volume.now image × S.takes out.old image out.new }
 {
-    // For a volume that was read, the walk puts the bytes of its image.
+    // The volume was read (`known`), so the bytes that the walk puts are its canonical image.
     volume.known();
     put_image(out, volume, starts);
 }
 
 /// Puts the data of a file into a sink, as they are in the canonical image of the file's volume, in
-/// one walk that takes no memory. `starts` must begin with the starts of the volumes in the data.
-/// (PI specification, volume 3, section 3.2.3.)
+/// one walk that takes no memory. `starts` must begin with the starts of the files of the volumes
+/// in the data. (PI specification, volume 3, section 3.2.3.)
 pub fn put_laid_data<S: Sink>(file: &FileView<'_>, starts: &[u64], out: &mut S)
     requires { BeginsWithStarts (volumes_in_content (content_of file.now)) starts.now }
     ensures { (bytes : List ℕ) × IsData (content_of file.now) bytes × S.takes out.old bytes out.new }
 {
-    // For a file that was read, the walk puts its data.
+    // The file was read (`known`), so the bytes that the walk puts are its data in the canonical
+    // image.
     file.known();
     put_body_image(out, data_body(file), starts);
 }
 
 /// Puts the body of a section into a sink, as it is in the canonical image of the section's volume,
-/// in one walk that takes no memory. `starts` must be the starts of the volumes in the body. (PI
-/// specification, volume 3, section 3.2.4.)
+/// in one walk that takes no memory. `starts` must be the starts of the files of the volumes in the
+/// body. (PI specification, volume 3, section 3.2.4.)
 pub fn put_laid_body<S: Sink>(section: &SectionView<'_>, starts: &[u64], out: &mut S)
     requires { StartsOfEach AreStarts (volumes_in_body (body_of section.now)) starts.now }
     ensures { (bytes : List ℕ) × IsBodyImage (body_of section.now) bytes × S.takes out.old bytes out.new }
 {
-    // For a section that was read, the walk puts its body.
+    // The section was read (`known`), so the bytes that the walk puts are its body in the canonical
+    // image.
     section.known();
     put_body_image(out, section.body(), starts);
 }
 
-// Returns the starts after the starts of the volume's own files. If `starts` begins with the starts
-// of the volume, the result begins with the starts of the volumes in its files. (PI specification,
-// volume 3, section 3.2.3.1.)
+// Returns the starts after the starts of the volume's own files. `starts` must begin with the
+// starts of the files of this volume and of the volumes inside it, so the result begins with the
+// starts of the files of the volumes inside it. (PI specification, volume 3, section 3.2.3.1.)
 pub(crate) fn starts_inside<'s>(volume: &VolumeView<'_>, starts: &'s [u64]) -> &'s [u64]
     requires { BeginsWithStarts (volumes_in volume.now) starts.now }
 
-    // If the starts of more volumes follow in `starts`, they follow in the result too.
+    // If the starts of the files of more volumes follow in `starts`, they follow in the result too.
     ensures { (more : List Inside) → BeginsWithStarts (volumes_in volume.now ++ more) starts.now
         → BeginsWithStarts (drop 1 (volumes_in volume.now) ++ more) result.now }
 {

@@ -42,8 +42,9 @@ RunCompares unread left unread' left' held holds same =
     (m : Meaning) × (k : Meaning) × ReadsVolume unread left m × ReadsVolume unread' left' k
     × Compares m k held holds same
 
--- the side names the input, or the output, that stopped the run. The second input is read only if the first is a
--- volume. Nothing is written before both are read; then the line is written, and the writer may stop within it
+-- the side names the input, or the output, that stopped the run, and is First if memory ran out while two volumes that
+-- differ were compared. The second input is read only if the first is a volume. Nothing is written before both are read
+-- and compared; then the line is written, and the writer may stop within it
 abbrev pub SideStopsRun : Side → (unread left unread' left' held holds : Option (List ℕ)) → Fault → Type 0
 SideStopsRun sides.First unread left unread' left' held holds fault =
     Keeps held holds

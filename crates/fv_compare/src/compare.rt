@@ -144,8 +144,9 @@ pub fn run_compare<R: Read, Q: Read, W: Write>(
         (Q.remaining (inner_of second.old)) (Q.remaining (inner_of second.new))
         (W.contents (inner_of writer.old)) (W.contents (inner_of writer.new))) }
 
-    // The side is the input, or the output, that stopped the run with the fault. The second input
-    // is read only if the first is a volume, and nothing is written unless both are.
+    // The side is the input, or the output, that stopped the run with the fault. If memory runs out
+    // during the comparison, the side is First. The second input is read only if the first is a
+    // volume, and nothing is written unless both are.
     ensures err { IfErr result (λ e. SideStopsRun e.0
         (R.remaining (inner_of first.old)) (R.remaining (inner_of first.new))
         (Q.remaining (inner_of second.old)) (Q.remaining (inner_of second.new))

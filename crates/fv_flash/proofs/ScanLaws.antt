@@ -44,7 +44,8 @@ one_length b k n m v w = v.3 ∙ ap (λ (e : Extent). e.length) (one_front (drop
 
 -- ---- the walk
 
--- if no volume begins up to a place, and none from there on or up to another place, none begins in the joined range
+-- if no volume begins in a range of offsets, and none in the range after it, none begins in the two ranges together;
+-- the second range ends at an offset (`between_joined`) or has no end (`from_joined`)
 between_joined : (b : List ℕ) (from at to : ℕ) → NoneBetween b from at → NoneBetween b at to → NoneBetween b from to
 between_joined b from at to f g = λ k n l u m v. go k n l u m v (cases_lt k at) where
   go : (k n : ℕ) → from ≤ k → k < to → k % 8 ≡ 0 → VolumeAt b k n → (k < at) ⊎ (at ≤ k) → ⊥

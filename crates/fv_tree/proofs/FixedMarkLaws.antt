@@ -122,7 +122,7 @@ pub only_unfixed : (b o x : List ℕ) → IsUnfixed b o → IsUnfixed b x → x 
 only_unfixed b o x (e, body, u, (cells, tiled)) other =
     (one_unfixed b o body e u (tiled_unfixed e.file_system e.polarity e.first body cells (body_tiled b o body e cells u tiled)) x other).1
 
--- if the header or a cell has another fault, there is no unfixed volume
+-- if the header has a fault, or a cell of the new body has a fault other than Fixed, there is no unfixed volume
 pub none_unfixed : (b : List ℕ) (f : Fault) → UnfixStops b f → (x : List ℕ) → IsUnfixed b x → ⊥
 none_unfixed b f (inl first) x other =
     not_first (head_checks b) f first (none_faulty (head_checks b) (front_holds b other.2.head other.0 other.2.begins))
@@ -153,7 +153,7 @@ module _ (b : List ℕ) (h : HeadFields) (e : Extent) (front : BeginsVolume h e 
     pub is_unfixed : (cells : List CellForm) → Tiles e.file_system e.polarity e.first cells body → IsUnfixed b (with_body body)
     is_unfixed cells tiles = (e, body, in_place, (cells, tiled_there b (with_body body) body e cells in_place tiles))
 
-    -- if the new body has another fault, clearing the fixed bits stops with this fault
+    -- if the first fault of the new body is not Fixed, clearing the fixed bits stops with this fault
     pub stops_there : (f : Fault) → IsFirstCellFault e.file_system e.polarity e.first body f → f.kind ≢ kinds.Fixed → UnfixStops b f
     stops_there f here kind = inr (e, with_body body, body, in_place, here, kind)
 

@@ -1,4 +1,4 @@
--- The files of a volume as they are stored: the data of each are in the volume at the file's offset, and there are no
+-- The files of a volume as they are stored: the data of each are in the volume at the data's offset, and there are no
 -- other files.
 use Rattle.std.proofs.lemmas.Grind.{common_steps}
 use Rattle.std.proofs.Common.{◌≡◌, ◌≤◌, ◌∙◌, ℕ, ◌+◌, ◌-◌, List, [], ◌∷◌, length, take, drop, sym, subst, arith}

@@ -73,16 +73,16 @@ ran_out b f (inr why) front = inr why
 
 -- ---- the kinds of faults
 
--- the kind is not a fault of reading or writing a stream
+-- the kind is neither ReadFault nor WriteFault
 abbrev pub IsOfInput : FaultKind → Type 0
 IsOfInput kind = (kind ≢ kinds.ReadFault) × (kind ≢ kinds.WriteFault)
 
--- to prove this of a fault, it may be assumed that the fault is not out of memory, because OutOfMemory is not a fault
--- of a stream
+-- to prove this of a fault, it may be assumed that the fault is not out of memory, because OutOfMemory is neither
+-- ReadFault nor WriteFault
 pub input_kind : (f : Fault) → (f ≢ out_of_memory → IsOfInput f.kind) → IsOfInput f.kind
 input_kind f known = grind (arith, common_steps, want_known)
 
--- so the kind of a fault whose condition holds in the bytes is not a fault of reading or writing a stream
+-- so the kind of a fault whose condition holds in the bytes is neither ReadFault nor WriteFault
 pub stood_kind : (b : List ℕ) (f : Fault) → (f ≢ out_of_memory → FaultHolds b f) → IsOfInput f.kind
 stood_kind b f stands =
     input_kind f (λ other. (stands_other b f kinds.ReadFault refl (stands other), stands_other b f kinds.WriteFault refl (stands other)))

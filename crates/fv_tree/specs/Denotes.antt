@@ -1,5 +1,6 @@
 -- Which bytes are a volume with a given meaning (PI specification, volume 3, sections 3.2.1 to 3.2.5). The definitions
--- recur on how deep groups and opened volumes nest.
+-- are recursive: they take the number of levels to which groups and opened volumes may nest, and use themselves with
+-- this number less 1.
 use Rattle.std.specs.Prelude.{◌≡◌, ◌≢◌, ℕ, zero, suc, ◌≤◌, ◌==◌, ◌&&◌, ◌||◌, Bool, true, false, nat_le, List, [], ◌∷◌}
 use Rattle.std.specs.Prelude.{length, drop}
 use Rattle.fv_base.specs.Words.{depth_limit, IsBytes, field, le_at}
@@ -73,9 +74,9 @@ MeansFile is_stream f (File name kind attributes content) =
     (name ≡ f.head.name) × (kind ≡ f.head.kind) × (attributes ≡ without_large (attribute_bits f.head.attributes))
     × MeansContent is_stream kind f.payload content
 
--- the bytes are a volume with this meaning: there are FvLength of them, they begin with its header, cells tile the rest
--- from the first file's offset on, and the files that `AreCurrent` selects from these cells have the meanings of its
--- files
+-- the bytes are a volume with this meaning: there are FvLength of them, they begin with its header, cells tile its
+-- body, which begins where the first file may begin, and the files that `AreCurrent` selects from these cells have the
+-- meanings of its files
 pub record VolumeOver (is_stream : StreamRelation) (b : List ℕ) (m : Meaning) : Type 0 where
   pub extent : Extent
   pub begins : BeginsVolume (head_of m) extent b

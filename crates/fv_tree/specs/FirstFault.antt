@@ -1,6 +1,10 @@
 -- The faults of bytes that should begin with a volume, by the same recursion as Denotes (PI specification, volume 3,
 -- sections 3.2.1 to 3.2.5). With First, a fault is the first one in the order in which a volume is read. With Any, it
--- is any fault whose condition holds at its place, whatever else is wrong.
+-- is a fault whose condition holds at its place, if the parts through which the place is found have no fault of their
+-- own. For a fault of a cell these parts are the volume header and the cells before it. For a duplicate name, a volume
+-- top file or a fault in the data of a file they are the volume header and all cells. For a fault in a stream they also
+-- include the section headers before the place and, for Depth or a fault in a section's body, all section headers of
+-- the stream. In the part that has the fault, the guards before the failing check hold (`is_guard`).
 use Rattle.std.specs.Prelude.{◌≡◌, ℕ, zero, suc, ◌+◌, ◌⊎◌, true, List, [], ◌∷◌, ◌++◌, take, drop}
 use Rattle.std.specs.List.{list_any}
 use Rattle.fv_base.specs.Words.{Which, First, Any, Fails, outer_fault, depth_limit}
@@ -146,6 +150,7 @@ outermost = record { offset = 0; depth = 0 }
 abbrev pub IsFirstOfVolume : List ℕ → Fault → Type 0
 IsFirstOfVolume b e = InVolume First depth_limit e b outermost
 
--- the condition of e holds at e's place in bytes that should begin with a volume, whatever else is wrong with them
+-- the condition of e holds at e's place in bytes that should begin with a volume, and the parts through which this
+-- place is found have no fault of their own
 abbrev pub FaultHolds : List ℕ → Fault → Type 0
 FaultHolds b e = InVolume Any depth_limit e b outermost

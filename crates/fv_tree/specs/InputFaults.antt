@@ -19,7 +19,8 @@ BytesFollowVolume input f =
 abbrev pub IsFirstOfInput : List ℕ → Fault → Type 0
 IsFirstOfInput input f = IsFirstOfVolume input f ⊎ BytesFollowVolume input f
 
--- the condition of the fault holds in the input at the fault's offset, whatever else is wrong
+-- the condition of the fault holds in the input at the fault's offset (`FaultHolds`); or bytes follow the volume at the
+-- start of the input, and the fault is Length at that volume's end
 abbrev pub FaultHoldsInInput : List ℕ → Fault → Type 0
 FaultHoldsInInput input f = FaultHolds input f ⊎ BytesFollowVolume input f
 

@@ -61,8 +61,8 @@ file_form s = record {
   payload = s.payload.now;
 }
 
--- cells tile the volume from the first file's offset on, and these are the files of the volume in these cells, as they
--- are stored
+-- cells tile the body of the volume, which begins where the first file may begin, and these are the files of the volume
+-- in these cells, as they are stored
 pub record AreFilesOf (e : Extent) (volume : List ℕ) (files : List FileForm) : Type 0 where
   pub cells : List CellForm
   pub tiles : Tiles e.file_system e.polarity e.first cells (drop e.first volume)

@@ -22,8 +22,8 @@ abbrev pub IsUnfixed : List ℕ → List ℕ → Type 0
 IsUnfixed b o =
     (e : Extent) × (body : List ℕ) × Unfixes e b o body × ((cells : List CellForm) × BeginsTiled e cells o)
 
--- the marks of b cannot be taken away because of the fault f. This is the first fault of the header; or it is not
--- Fixed, and is the first fault of the body after all marks before it were taken away
+-- the marks of b cannot be taken away because of the fault f: f is the first fault of the header; or f is not Fixed,
+-- and is the first fault of a copy of the body without the marks before f
 abbrev pub UnfixStops : List ℕ → Fault → Type 0
 UnfixStops b f =
     IsFirstFault (head_checks b) f

@@ -22,7 +22,7 @@ use fv_head::verify_fv;
 /// The first fault of the header, as for `verify_fv`; then the first fault of a cell, as for
 /// `cells`, except Fixed. Nothing was changed in these cases.
 pub fn unfix(bytes: &mut [u8]) -> Result<(), Fault>
-    // The volume has no fixed file any more, and nothing but the marks was changed.
+    // The marks of all fixed files of the volume were taken away, and nothing else was changed.
     ensures done { OnOk result (IsUnfixed bytes.old bytes.new) }
 
     // No other bytes are the given bytes without these marks.
@@ -32,8 +32,8 @@ pub fn unfix(bytes: &mut [u8]) -> Result<(), Fault>
     ensures kept { IfErr result (λ _. bytes.new ≡ bytes.old) }
     ensures none { IfErr result (λ _. (o : List ℕ) → IsUnfixed bytes.old o → ⊥) }
 
-    // The fault is the first one of the header; or it is the first one of the body without the
-    // marks before it, and it is not Fixed.
+    // The fault is the first fault of the header; or it is not Fixed, and is the first fault of a
+    // copy of the body from which all marks before the fault were taken away.
     ensures stops { IfErr result (UnfixStops bytes.old) }
 
     // If cells tiled the body of the volume before, none of its files was fixed, and nothing was

@@ -1,7 +1,8 @@
-//! The meaning of a firmware volume, read as a view of its bytes. The definitions recur on how many
-//! more levels of groups and opened volumes may nest. `scan`, `volumes`, `Offsets` and
-//! `FoundVolume` come from fv_flash. Only `read_volume`, `whole_volume`, `whole_volume_with_files`,
-//! `located_files`, `volume_cells`, `first_difference`, `scan` and `volumes` take memory.
+//! The meaning of a firmware volume, read as a view of its bytes. The definitions of a meaning are
+//! recursive: they take the number of levels to which groups and opened volumes may nest, and use
+//! themselves with this number less 1. `scan`, `volumes`, `Offsets` and `FoundVolume` come from
+//! fv_flash. Only `read_volume`, `whole_volume`, `whole_volume_with_files`, `located_files`,
+//! `volume_cells`, `first_difference`, `scan` and `volumes` take memory.
 //!
 //! `plain` and `leaf` return slices of the input, and `Content::Plain` and `Body::Leaf` hold them.
 //! These slices outlive the view. So a program that uses one after the view is gone compiles, but a

@@ -15,9 +15,11 @@ use std::marker::Model;
 /// left. (PI specification, volume 3, section 3.2.4.)
 #[derive(Drop)]
 pub struct SectionWalk<'v, 'a> {
-    // The sections that are left at each level: first the sections of the file, then the sections
-    // of each group that the walk is in. Groups nest at most eight deep. The tenth level holds the
-    // sections of the innermost sections, and is always empty.
+    // The sections that are left at each level. The first level has the sections of the file, and
+    // each other level has the sections in a section of the level before it. `next` adds a level
+    // for each section that it returns, also for a section that is not a group, whose level is
+    // empty. Groups nest at most eight deep, so the sections in an innermost group are on the ninth
+    // level at most, and the tenth level is always empty.
     levels: Stack<&'v [SectionView<'a>], 10>,
 }
 

@@ -59,8 +59,9 @@ pub struct SectionView<'a> {
     parts: Parts<'a>,
 }
 
-/// The parts of a section. Every variant holds the type and the form of the header itself, because
-/// it has room for them beside the tag. So a section takes 24 bytes.
+/// The parts of a section. Each variant has its own `kind` (the type) and `extended` (the form of
+/// the header), because there is room for them beside the variant's tag. So a section takes 24
+/// bytes.
 #[cycle(tree)]
 #[derive(Drop)]
 enum Parts<'a> {

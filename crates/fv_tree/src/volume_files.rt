@@ -176,8 +176,8 @@ pub(crate) fn files_in<'a>(alloc: Global, cells: &[Cell<'a>]) -> Result<Vec<Loca
     Ok(files)
 }
 
-// Checks that no two of the files are twins. The fault is DuplicateName at the first file that has
-// an earlier twin.
+// Checks that no two of the files are twins. Twins have the same name, and both or neither of them
+// is marked for update. The fault is DuplicateName at the first file that has an earlier twin.
 fn check_twins(files: &[LocatedFile], index: &NameIndex) -> Result<(), Fault>
     requires { IsIndex (names_in (map named_file files.now)) (entries_of index.now) }
     ensures found { OnOk result (NoTwins (map file_form files.now)) }

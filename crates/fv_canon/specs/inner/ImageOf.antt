@@ -37,7 +37,7 @@ as_body (Sectioned sections tail) = Group sections tail
 abbrev pub data_body : FileMeaning → BodyMeaning
 data_body m = as_body (content_of m)
 
--- the number of starts of these volumes: each file of each volume has one
+-- the number of starts of the files of these volumes: each file has one start
 abbrev pub starts_in : List Inside → ℕ
 starts_in [] = 0
 starts_in (v ∷ vs) = length (files_of v.volume) + starts_in vs

@@ -1,5 +1,5 @@
 -- The fields of its header that a stored file keeps, and the fields that follow from them; how the body of a section is
--- read; the result of a reader of a part of a volume, and its facts about the files.
+-- read; the result of a reader of a part of a volume, and what a reader of files requires of each file.
 use Rattle.std.specs.Prelude.{◌≡◌, ℕ, ◌+◌, ◌<◌, ◌^◌, Bool, true, false, List, length, ◌==◌, ◌&&◌, if◌then◌else◌, ◌≢◌}
 use Rattle.std.specs.Prelude.{◌≤◌, Result, MatchResult}
 use Rattle.fv_file.specs.Words.{CellForm, Valid, attribute_bits, file_sum_for}
@@ -43,6 +43,7 @@ abbrev pub IsSmallCell : CellForm → Type 0
 IsSmallCell (Valid at head payload) = (at < 2 ^ 32) × FollowsFrom head payload
 IsSmallCell _ = Unit {0}
 
+-- how the body of the section in a frame is read: as sections, as a volume, or as plain bytes
 abbrev pub shape_of : FrameForm → Shape
 shape_of f =
     if f.kind == group_kind then shapes.Group

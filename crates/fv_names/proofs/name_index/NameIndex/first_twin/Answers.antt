@@ -11,7 +11,7 @@ use Rattle.fv_names.proofs.name_index.NameIndex.first_twin.Goals.{then-number-fi
 use Rattle.fv_names.proofs.name_index.NameIndex.first_twin.Goals.{else-number-first-via-then-number-first+else-has_twin}
 use Rattle.fv_names.proofs.name_index.NameIndex.first_twin.Goals.{else-number-first-via-else-number-first}
 
--- n is at most the number of each entry before the place that has a twin near it
+-- n is at most the number of each entry that precedes the place and has a twin among the two entries before it
 abbrev IsLeast : List NamedFile → List Entry → ℕ → ℕ → Type 0
 IsLeast fs es place n =
     (d : NamedFile) (e : Entry) (r : ℕ) → 0 < r → r < place → IsTwinAt fs d es e r → n ≤ (get_or es r e).1

@@ -15,7 +15,7 @@ HasName f = IsName f.name
 entry_count : (fs : List NamedFile) → length (numbered 0 (names_in fs)) ≡ length fs
 entry_count fs = numbered_length 0 (names_in fs) ∙ length-map fs (λ (f : NamedFile). f.name)
 
--- the entries of the files up to the next index are the entries up to this index, and the entry of the file here
+-- the entries of the first i + 1 files are the entries of the first i files, and then the entry of file number i
 entry_more : (fs : List NamedFile) (i : ℕ) → i < length fs
     → take (i + 1) (numbered 0 (names_in fs)) ≡ take i (numbered 0 (names_in fs)) ++ (halves_of (get_or fs i no_named).name, i) ∷ []
 entry_more fs i l =
