@@ -49,7 +49,7 @@ op_of_code g =
     (record { code_is = refl; operand_is = refl }) (record { code_is = refl; operand_is = refl })
     (record { code_is = refl; operand_is = refl }) (record { code_is = refl; operand_is = refl })
 
--- a property of each op is a property of all ops
+-- a property that the ops with each code have is a property of every op
 pub each_op : (P : Op → Type 0) → ((g : Guid) → P (ops.Before g)) → ((g : Guid) → P (ops.After g)) → ((g : Guid) → P (ops.Push g))
     → P ops.And → P ops.Or → P ops.Not → P ops.True → P ops.False → P ops.End → P ops.Sor → (o : Op) → P o
 each_op P a b c d e f g h i j (ops.Before x) = a x

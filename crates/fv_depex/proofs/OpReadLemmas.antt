@@ -1,7 +1,7 @@
 -- The loop over the ops reads a whole expression, or finds the first fault. The steps:
--- 1. The ops that were read spell the bytes up to a place (`OpsKept`): at first none (`kept_none`), and then one more
---    (`one_more`, `kept`).
--- 2. With END, they spell a whole expression (`ended`).
+-- 1. The bytes up to a place are the bytes of the ops that were read (`OpsKept`): at first of no ops (`kept_none`), and
+--    then of one more op (`one_more`, `kept`).
+-- 2. With END, the bytes spell a whole expression (`ended`).
 -- 3. Memory runs out only if the bytes begin with an op (`stands_first`, `spells_first`). No check has OutOfMemory as
 --    its fault (`no_want`).
 -- 4. The fault of the next op is the first fault (`first_fault_at`), and bytes with a first fault do not spell an
@@ -103,7 +103,7 @@ ended phase b items new o at n stage k stands len is new_is =
       },
     )
 
--- if an op was read, or is there to be read, an op begins the bytes
+-- if an op was read, or can be read next, the bytes begin with an op that is allowed as the first op
 pub stands_first : (phase : Phase) (b : List ℕ) (items : List Op) (o : Op) (at : ℕ) (stage : Stage) → OpsKept phase b items at stage
     → BeginsOp phase stage o (drop at b) → BeginsFirstOp phase b
 stands_first phase b [] o at stage k stands = (
@@ -153,7 +153,7 @@ pub first_fault_at : (phase : Phase) (b : List ℕ) (items : List Op) (at : ℕ)
     → IsFirstOpFault phase b f
 first_fault_at phase b items at stage f k place first = grind (arith, common_steps, take-append-drop, length-take-le)
 
--- if there is a first fault, no ops spell the bytes
+-- if there is a first fault, the bytes do not spell any ops
 pub none_after : (phase : Phase) (b : List ℕ) (f : DepexFault) (xs : List Op) (s : List ℕ) → IsFirstOpFault phase b f → Spells phase xs s b
     → ⊥
 none_after phase b f xs s here spells =

@@ -1,11 +1,11 @@
--- Ops that may follow one another are the ops of whole expressions, and bytes are spelled by at most one list of ops.
+-- Ops that may follow one another are the ops of whole expressions, and bytes spell at most one list of ops.
 -- The steps:
 -- 1. Paths are joined (`path_join`), and each op of a path has its whole operand (`path_sized`).
 -- 2. The ops up to a stage are the ops of some trees, after SOR or nothing, or they are BEFORE or AFTER
 --    (`LeavesStage`). This holds at the start, and with one more op (`leaves_more`). With END, the ops are a whole
 --    expression (`leaves_whole`).
 -- 3. Conversely, the ops of a tree are a path (`tree_path`), so a whole expression is a path and END (`whole_ended`).
--- 4. Bytes have at most one path (`same_front`), so at most one list of ops spells them (`one_spelling`).
+-- 4. Bytes have at most one path (`same_front`), so they spell at most one list of ops (`one_spelling`).
 use Rattle.std.proofs.lemmas.Grind.{common_steps}
 use Rattle.std.proofs.Common.{◌≡◌, ◌≢◌, ◌≤◌, ◌<◌, ℕ, ◌+◌, ◌-◌, List, [], ◌∷◌, ◌++◌, length, drop, inl, inr, refl, sym, ap, ◌∙◌, subst}
 use Rattle.std.proofs.Common.{arith, true, false, length-append, append_assoc, append-nil}
@@ -80,7 +80,7 @@ LeavesStage phase stages.Ordered os = (phase ≡ Dxe) × (g : Guid) × ((os ≡ 
 LeavesStage phase (stages.Values n) os =
     (sor : List Op) × (ts : List Expression) × (os ≡ sor ++ trees_ops ts) × (length ts ≡ n) × IsSor phase sor
 
--- one more op makes one tree of the last trees on the stack, and takes their place
+-- if one more op makes the tree t of the last trees vs on the stack, t takes their place
 more_trees : (phase : Phase) (os sor : List Op) (us vs : List Expression) (t : Expression) (o : Op) (n : ℕ)
     → os ≡ sor ++ trees_ops (us ++ vs) → IsSor phase sor
     → trees_ops vs ++ (o ∷ []) ≡ postfix t → length us + 1 ≡ n → LeavesStage phase (stages.Values n) (os ++ o ∷ [])
@@ -374,7 +374,7 @@ same_front phase s f g (o ∷ os) (x ∷ xs) r y p q e =
 pub ended_bytes : (front : List Op) (rest : List ℕ) → ops_bytes (front ++ (ops.End ∷ [])) ++ rest ≡ ops_bytes front ++ (8 ∷ rest)
 ended_bytes front rest = ap (λ (l : List ℕ). l ++ rest) (bytes_join front (ops.End ∷ [])) ∙ append_assoc (ops_bytes front) (8 ∷ []) rest
 
--- bytes are spelled in at most one way
+-- bytes spell at most one list of ops, with one rest
 pub one_spelling : (phase : Phase) (xs ys : List Op) (r s b : List ℕ) → Spells phase xs r b → Spells phase ys s b → (ys ≡ xs) × (s ≡ r)
 one_spelling phase xs ys r s b p q =
     let x = whole_ended phase xs r b p in
@@ -391,7 +391,7 @@ one_spelling phase xs ys r s b p q =
     none_more phase f g [] r s p e = (refl, sym (ap (drop 1) e))
     none_more phase f g (o ∷ os) r s p e = absurd (p.1 (end_code o (sym (ap (λ (l : List ℕ). slice_index l 0) e))))
 
--- the bytes that are written for the ops and the rest of some bytes are spelled by them
+-- if bytes spell some ops and a rest, the bytes that are written for these ops and this rest spell them too
 pub spelled_again : (phase : Phase) (all : List Op) (rest b c : List ℕ) → Spells phase all rest b → c ≡ ops_bytes all ++ rest
     → Spells phase all rest c
 spelled_again phase all rest b c spells e = record { joined = e; is_expression = spells.is_expression; sized = spells.sized }

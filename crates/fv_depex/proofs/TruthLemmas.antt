@@ -16,7 +16,7 @@ use Rattle.fv_depex.specs.declared.op.Phase.{Phase}
 use Rattle.fv_depex.specs.Expressions.{always, never, installed, negated, both, either}
 use Rattle.fv_depex.specs.declared.op.Op.TheVariants as ops
 
--- the ops of two trees and of the op after them, followed by other ops
+-- the ops of two trees and the op after them, followed by other ops
 two_before : (t u : Expression) (o : Op) (os : List Op)
     → (postfix t ++ (postfix u ++ (o ∷ []))) ++ os ≡ postfix t ++ (postfix u ++ (o ∷ os))
 two_before t u o os = grind (arith, common_steps, append_assoc)

@@ -157,7 +157,7 @@ fn op_at(bytes: &[u8], at: usize, phase: Phase, stage: Stage) -> Result<Op, Depe
     }
 }
 
-// Returns the ops up to END, and the number of their bytes.
+// Returns the ops, of which END is the last, and the number of their bytes.
 fn read_ops(alloc: Global, bytes: &[u8], phase: Phase) -> Result<(Vec<Op>, usize), DepexFault>
     ensures found { IfOk result
         (λ p. (p.1 ≤ length bytes.now) × Spells phase p.0.items (drop p.1 bytes.now) bytes.now) }

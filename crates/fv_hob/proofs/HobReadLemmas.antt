@@ -85,7 +85,7 @@ ended b items new h c at first first_is k stands is end new_is =
       }),
     )
 
--- if a block was read, or is there to be read, the bytes begin with a hand-off information table
+-- if a block was read, or can be read next, the bytes begin with a hand-off information table
 pub table_stands : (b : List ℕ) (items : List HobForm) (c : List ℕ) (at : ℕ) (first : Bool) → first ≡ (length items == 0)
     → HobsKept b items at → BeginsBlock first c (drop at b) → BeginsTable b
 table_stands b [] c at first first_is k stands =

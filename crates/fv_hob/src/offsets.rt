@@ -57,7 +57,7 @@ pub mod allocation {
     /// AllocDescriptor.Reserved, 4 bytes.
     pub const RESERVED: usize = 44;
 
-    /// The least length of the block. The bytes from this offset on are kept.
+    /// The least length of the block, and the offset of the bytes after these fields.
     pub const LEAST: usize = 48;
 }
 

@@ -71,7 +71,7 @@ fn block_at(bytes: &[u8], at: usize, first: bool) -> Result<&[u8], HobFault>
     }
 }
 
-// Returns the blocks up to the end block, and the number of their bytes.
+// Returns the blocks, of which the end block is the last, and the number of their bytes.
 fn read_blocks(alloc: Global, bytes: &[u8]) -> Result<(Vec<Hob>, usize), HobFault>
     ensures found { IfOk result (λ p. (p.1 ≤ length bytes.now) × IsHobList p.0.items (take p.1 bytes.now)) }
     ensures first { IfErr result (λ f. f ≢ hob_out_of_memory → IsFirstHobFault bytes.now f) }

@@ -21,7 +21,8 @@ pub enum Command {
     Single {
         /// The task.
         task: Task,
-        /// The byte of the input at which the volume begins, or None if the input is the volume.
+        /// The byte of the input at which the volume begins, or None if `--at` is not given. If the
+        /// input is hexadecimal text, this counts decoded bytes.
         at: Option<u64>,
         /// The input's file, or None for standard input.
         file: Option<String>,

@@ -136,7 +136,8 @@ def stream(row: str) -> tuple[bytes, int, list[Section]]:
 
 
 def long_stream() -> tuple[bytes, int, list[Section]]:
-    """Returns a stream of 1000 sections of 8 to 5 bytes that contain their number, as `stream` returns one."""
+    """Returns a stream of 1000 sections, in the same form as `stream`. The sections have 8, 7, 6 and 5 bytes in turn.
+    A body begins with the number of its section, or is the low byte of this number if the body has one byte."""
     data = b""
     found: list[Section] = []
     for number in range(1000):

@@ -34,7 +34,7 @@ impl<'a> FakeReader<'a> {
         }
     }
 
-    /// Returns a reader that fails instead of giving the byte at `count`, or the end.
+    /// Returns a reader that gives the first `count` bytes and then fails, also if no byte is left.
     pub(crate) fn failing(bytes: &'a [u8], step: usize, count: usize) -> FakeReader<'a> {
         FakeReader {
             rest: bytes,

@@ -1,8 +1,8 @@
 //! The bytes that the rows of the tables spell.
 //!
 //! Digits, stars and spaces have the same meaning as in the tables of fv_tests. A name means the
-//! row with this name in the tables of `volumes.rt`: a command runs on whole volumes and lists, and
-//! its output is compared with others.
+//! words of the row with this name in the tables of `volumes.rt`. The rows have names because
+//! the input of a command, and often its expected output, is a whole volume or list.
 
 use crate::volumes::{parts, text_named, volumes};
 use fv_base::Port;
@@ -66,7 +66,8 @@ pub(crate) fn bytes_of(alloc: Global, text: &str) -> Option<Vec<u8>> {
     spelled_bytes(alloc, words.as_str())
 }
 
-/// Returns the bytes that words spell. If memory runs out, a second try succeeds.
+/// Returns the bytes that words spell. If the first try fails, tries once more: `.ci/memory`
+/// refuses only one allocation in a run, so memory does not run out in both tries.
 pub(crate) fn bytes_in_two_tries(alloc: Global, words: &str) -> Option<Vec<u8>> {
     match bytes_of(alloc, words) {
         None => bytes_of(alloc, words),

@@ -25,7 +25,7 @@ const ORDER: [u8; 16] = [
 /// The parts of a body.
 type Parts = &'static [&'static [u8]];
 
-// Returns TRUE, 1000 times TRUE and AND, and then NOT and END.
+// Returns TRUE; then TRUE and AND in turn, 1000 times each; then NOT and END.
 fn long_expression() -> [u8; 2003] {
     let mut bytes = [0x06; 2003];
     for i in 1..2001usize {

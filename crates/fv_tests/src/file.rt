@@ -1,6 +1,6 @@
-//! Tests of fv_file, of facts that its contracts do not state: bytes that begin with a file, the
-//! remains of files, states, attribute bits, and written headers. Other bodies of volumes, and the
-//! fault of each change to one of them, are in `bodies.rows` of fv_run_tests.
+//! Tests of fv_file, of facts that its contracts do not state: bytes that begin with a file,
+//! deleted and incomplete files, states, attribute bits, and written headers. Other bodies of
+//! volumes, and the fault of each change to one of them, are in `bodies.rows` of fv_run_tests.
 
 mod begins;
 mod memory;

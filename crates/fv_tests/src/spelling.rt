@@ -25,8 +25,8 @@ fn push_word(bytes: &mut Vec<u8>, word: &str) -> Option<()> {
     Some(())
 }
 
-/// Returns the bytes that a text spells. Two digits are a byte, a star and a number after a word
-/// repeat it, and spaces separate words.
+/// Returns the bytes that a text spells. Spaces separate words. In a word, two digits spell a byte,
+/// and a star and a number after the digits repeat these bytes.
 pub(crate) fn spelled_bytes(alloc: Global, text: &str) -> Option<Vec<u8>> {
     let mut bytes = Vec::new(alloc);
     for word in text.split_whitespace() {
@@ -35,7 +35,8 @@ pub(crate) fn spelled_bytes(alloc: Global, text: &str) -> Option<Vec<u8>> {
     Some(bytes)
 }
 
-/// Returns the bytes that a text spells. If memory runs out, a second try succeeds.
+/// Returns the bytes that a text spells. If the first try fails, tries once more: `.ci/memory`
+/// refuses only one allocation in a run, so memory does not run out in both tries.
 pub(crate) fn spelled_in_two_tries(alloc: Global, text: &str) -> Option<Vec<u8>> {
     match spelled_bytes(alloc, text) {
         None => spelled_bytes(alloc, text),

@@ -1,5 +1,5 @@
-//! Tests of fv_tree, of facts that neither a contract nor a run of the program states: look-ups,
-//! and the slices that a view lends.
+//! Tests of fv_tree: look-ups, the slices that a view lends, and volumes whose fixed files lose
+//! their marks.
 
 mod lookups;
 mod marks;

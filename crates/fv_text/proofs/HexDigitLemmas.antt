@@ -176,7 +176,7 @@ pair_value pairs k values i j d e is lt within =
     ∙ get_or-take 2 (drop (2 * i) values) j e within
     ∙ get_or-drop (2 * i) values j e
 
--- a filled room of the length of the items takes their place
+-- a room of the same length as the items, put over the items from the first on, replaces all of them
 pub whole_room : (items room : List ℕ) (len : ℕ) → len ≡ length items → length room ≡ length items
     → take len (room ++ drop (length room) items) ≡ room
 whole_room items room len len_is long = grind (arith, common_steps, drop-length, append-nil, take_all)

@@ -37,7 +37,7 @@ impl<S: Sink> GatheringSink<S> {
     }
 
     // Puts the waiting bytes into the sink below. This function is not inlined, so that the
-    // compiler copies small pieces where they are put.
+    // compiler inlines `put`: a small piece is then copied right where `put` is called.
     #[inline(never)]
     fn pass(&mut self)
         ensures takes { GatheringTakes S.takes (λ s. s.below) (λ s. take s.filled s.room) self.old [] self.new }

@@ -6,8 +6,8 @@ ghost use Rattle.fv_text.specs.inner.SinkAdapterLaws.{lent_by};
 
 use fv_base::Sink;
 
-/// A sink that passes all bytes to a borrowed sink. It lends that sink to another sink, as the sink
-/// below it.
+/// A sink that passes all bytes to a borrowed sink. A `HexSink` or a `GatheringSink` owns the sink
+/// below it. If that sink is a `LentSink`, the caller keeps the sink that takes the bytes.
 #[derive(Drop)]
 pub struct LentSink<'a, S: Sink> {
     sink: &'a mut S,

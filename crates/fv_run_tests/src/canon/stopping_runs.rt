@@ -58,7 +58,8 @@ fn is_written(alloc: Global, image: &[u8], step: usize) -> bool {
     true
 }
 
-// Returns whether only the first bytes of the image are written if the reader or the writer stops.
+// Returns whether nothing is written if the reader stops, and only the first bytes of the image are
+// written if the writer stops.
 fn stops_at_each_byte(alloc: Global, image: &[u8], step: usize) -> bool {
     for count in 0..image.len() {
         if !writes_nothing_if_reading_fails(alloc, image, step, count)
@@ -70,7 +71,8 @@ fn stops_at_each_byte(alloc: Global, image: &[u8], step: usize) -> bool {
     writes_nothing_if_reading_fails(alloc, image, step, image.len())
 }
 
-// Returns whether an image is written, and only its first bytes if the reader or the writer stops.
+// Returns whether an image is written, nothing if the reader stops, and only the first bytes of the
+// image if the writer stops.
 fn run_stops_at_each_byte(alloc: Global, name: &str, step: usize) -> bool {
     match bytes_of(alloc, name) {
         Some(image) => {

@@ -7,7 +7,7 @@ use fv_command::{Status, run_plan};
 use fv_plan::{Command, Plan, Task};
 use std::alloc::Global;
 
-/// The list of the volume without data.
+/// The list of the volume `file-without-data`, with digests.
 const LIST: &[u8; 250] = b"volume ffs2 length 128 files 1 sha256 \
     c4320b7d8ea9cb83edddabed532647edab75feecddf5ae6253dcfab9438b3f71\n\
     \x20 file 0 0a0a0a0a-0a0a-0a0a-0a0a-0a0a0a0a0a0a type 01 attributes 00 data 0 \

@@ -152,7 +152,8 @@ fn run_stops_at_each_byte(alloc: Global, run: &Run) -> bool {
     true
 }
 
-// Returns whether the run of a line, over bytes or over hexadecimal text, stops like this.
+// Returns whether the run of a line, over bytes or over hexadecimal text, ends as expected and
+// stops at each byte.
 fn row_stops_at_each_byte(alloc: Global, hex: bool, line: &str) -> bool {
     match run_of(alloc, hex, line) {
         Some(run) => run_stops_at_each_byte(alloc, &run),

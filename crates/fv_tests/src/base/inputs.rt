@@ -87,9 +87,9 @@ fn first_thousand() -> [u8; 1000] {
     bytes
 }
 
-// Returns whether a reader that fails after `good` of the bytes is reported as failing at this
-// offset or, if it gives more bytes than there are, all bytes are read. The port remembers an error
-// in both cases, because an interruption is an error too.
+// Returns whether a reader that fails after `good` bytes is reported as failing at this offset or,
+// if `good` is more than the number of bytes, all bytes are read. The port remembers an error in
+// both cases, because an interruption is an error too.
 fn is_read_until_failure(alloc: Global, bytes: &[u8], good: usize) -> bool {
     let mut reader = Port::new(FailingReader {
         bytes,

@@ -7,7 +7,7 @@ use fv_base::Guid;
 use fv_depex::{Depex, Phase, evaluate, read_depex};
 use std::alloc::Global;
 
-/// FALSE, five times TRUE, four times AND, OR and END, and two bytes after END.
+/// FALSE; TRUE, five times; AND, four times; OR; END; and two bytes after END.
 const SEVERAL: [u8; 14] = [
     0x07, 0x06, 0x06, 0x06, 0x06, 0x06, 0x03, 0x03, 0x03, 0x03, 0x04, 0x08, 0xff, 0xff,
 ];

@@ -6,8 +6,8 @@ use bitflags::Flags;
 use fv_base::{Fault, FaultKind, FileSystem, Guid, Polarity};
 use fv_file::{FileAttributes, FileHead, FileState, verify_ffs_file};
 
-/// A file or a pad: its name, the eight bytes after the name, and its data; then the size of the
-/// file, the length of its header, and its state.
+/// A file or a pad: its name, the eight bytes after the name, and the bytes after these eight; then
+/// the size of the file, the length of its header, and its state.
 type FileRow = ([u8; 16], u64, &'static [u8], u64, u64, FileState);
 
 /// Files and pads in FFS3.
@@ -57,7 +57,7 @@ const REJECTED: &[RejectedRow] = &[
         FaultKind::FileState,
         23,
         &[
-            // A State with bit 0x40, and a State with all bits.
+            // A State in which bit 0x40 was written, and a State in which all bits were written.
             0x47aa_0100_1800_00b8,
             0x47aa_0100_1800_0000,
             // A file whose data are not complete, a deleted file, and an erased State byte.

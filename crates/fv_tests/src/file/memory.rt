@@ -1,5 +1,5 @@
-//! The remains of files, and failed allocations: `.ci/memory` makes each allocation of the test
-//! fail in turn, and no wrong result may be returned.
+//! Deleted and incomplete files, and failed allocations: `.ci/memory` makes each allocation of the
+//! test fail in turn, and no wrong result may be returned.
 
 use super::written::{file_head, is_joined, pad_head};
 use super::{A, P};
@@ -46,7 +46,7 @@ const BODIES_OF_ONES: &[BodyRow] = &[
         "00*72 ff*16 08aaf000180000e8 ff*32",
         &[(Deleted, 72, 24), (Free, 96, 32)],
     ),
-    // A file, and then headers under construction, of 32 and of 24 bytes.
+    // Two bodies: a file and a header under construction, of 32 bytes and then of 24 bytes.
     (
         "00*72 0a*16 47aa0100180000f8 ff*16 fffffffffffffffe ff*8",
         &[(DataValid, 72, 24), (Construction, 96, 32)],
@@ -55,7 +55,7 @@ const BODIES_OF_ONES: &[BodyRow] = &[
         "00*72 0a*16 47aa0100180000f8 ff*16 fffffffefffffffe ff*8",
         &[(DataValid, 72, 24), (Construction, 96, 24), (Free, 120, 8)],
     ),
-    // An abandoned header, and a file.
+    // An invalid header, and a file.
     (
         "00*72 0a*16 00000104000000de 0b*16 37aa0100180000f8",
         &[(Construction, 72, 24), (DataValid, 96, 24)],

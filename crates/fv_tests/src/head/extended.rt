@@ -1,4 +1,4 @@
-//! Volumes with an extended header: one from outside, and changed copies of it.
+//! Volumes with an extended header: the bare volume, and changed copies of it.
 
 use crate::checks::assert_rows;
 use crate::parts::overwrite;
@@ -11,7 +11,8 @@ use std::alloc::Global;
 /// The name in the extended header of each of the volumes.
 const NAME: [u8; 16] = [0x0e; 16];
 
-/// A volume whose extended header follows the volume header, and contains a used size of 0.
+/// The bare volume: its extended header directly follows the volume header, so it is not in a pad
+/// file. The extended header contains a used size of 0.
 pub(super) const BARE: [u8; 192] = [
     0x00, 0x00, 0x00, 0x00, 0x00, 0x00, 0x00, 0x00, 0x00, 0x00, 0x00, 0x00, 0x00, 0x00, 0x00, 0x00,
     0x78, 0xe5, 0x8c, 0x8c, 0x3d, 0x8a, 0x1c, 0x4f, 0x99, 0x35, 0x89, 0x61, 0x85, 0xc3, 0x2d, 0xd3,
@@ -103,7 +104,8 @@ const READ: &[ReadRow] = &[
     (&[(92, &[0x09])], 104, &[], &[9, 0, 3, 0, 0, 0, 0, 0], 28),
     // An entry without a payload, and then a tail of 4 bytes.
     (&[(92, &[0x04])], 104, &[(3, &[])], &[0, 0, 0, 0], 28),
-    // A type 3 entry with 5 bytes, one with 4, and a type 2 entry with 4.
+    // An entry of type 3 with a payload of 5 bytes, an entry of type 3 with 4 bytes, and an entry
+    // of type 2 with 4 bytes.
     (
         &[(88, &[0x1d]), (92, &[0x09]), (96, &[1, 2, 3, 4, 5])],
         104,

@@ -1,5 +1,5 @@
-//! Blocks of each length that their type allows are written back. The rows in `lengths.rows` of
-//! fv_run_tests check that they are read with this length, and that other lengths are rejected.
+//! Blocks with lengths that their types allow are written back. The rows in `lengths.rows` of
+//! fv_run_tests check that such blocks are read, and that blocks with other lengths are rejected.
 
 use super::{END, HANDOFF, header_of, is_list_written_as};
 use crate::parts::overwrite;

@@ -17,7 +17,8 @@ fn overwrite_joined(bytes: &mut [u8], parts: Parts) {
 }
 
 // Returns whether a known list is read and written as it was, or memory ran out. The longest known
-// list has 448 bytes. Only the body of the unused block, which is at 312, is not kept.
+// list has 448 bytes. In this list the body of the unused block, 16 bytes at 320, is set to zeros
+// before the list is read, because the body is written as zeros.
 fn is_read_or_out_of_memory(alloc: Global, known: &Known) -> bool {
     let mut bytes = [0u8; 448];
     overwrite_joined(&mut bytes, known.parts);

@@ -25,7 +25,8 @@ fn long_list() -> [u8; 24064] {
     bytes
 }
 
-// Returns how many of the first spans have 16 bytes and are at 0, at 1 and so on.
+// Returns how many of the volumes of 16 bytes at 0, at 1 and so on are among the spans in this
+// order. Other spans are passed over.
 fn count_in_order(spans: &[Span]) -> u64 {
     let mut at = 0u64;
     for span in spans {

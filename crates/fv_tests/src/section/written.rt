@@ -7,9 +7,9 @@ const HEADS: [(u8, bool, u64, &[u8]); 8] = [
     (0x19, false, 1, &[0x05, 0x00, 0x00, 0x19]),
     (0x17, false, 0, &[0x04, 0x00, 0x00, 0x17]),
     (0x15, false, 0x1234, &[0x38, 0x12, 0x00, 0x15]),
-    // The largest size of a short header.
+    // The largest size of a section with a short header.
     (0x19, false, 0xff_fffa, &[0xfe, 0xff, 0xff, 0x19]),
-    // An extended header may have any size.
+    // A section of any size may have an extended header.
     (
         0x19,
         true,
@@ -28,7 +28,7 @@ const HEADS: [(u8, bool, u64, &[u8]); 8] = [
         0x1234_5678,
         &[0xff, 0xff, 0xff, 0x15, 0x80, 0x56, 0x34, 0x12],
     ),
-    // The largest size of all.
+    // The largest size of a section.
     (
         0x17,
         true,

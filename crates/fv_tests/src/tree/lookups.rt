@@ -5,20 +5,22 @@ use crate::spelling::spelled_bytes;
 use fv_tree::{FileView, Item, Lookup, VolumeView, file_by_type, next_file, section_by_type};
 use std::alloc::Global;
 
-// Returns the number of the next file after this one, and the first byte of its name.
+// Returns the number of the file after the file with this number, or of the first file for None,
+// and the first byte of the name of the returned file.
 fn file_after(view: &VolumeView, number: Option<u32>) -> Option<(u32, u8)> {
     let (number, file) = next_file(view, number)?;
     Some((number, file.name().to_bytes()[0]))
 }
 
 // Returns the first byte of the name of the file with this instance among the files of type 0x01.
+// Instances are counted from 1.
 fn of_type(view: &VolumeView, instance: u32) -> Option<u8> {
     let file = file_by_type(view, 0x01, instance)?;
     Some(file.name().to_bytes()[0])
 }
 
-// Returns whether the files after some others, and the files with some instances, are found in a
-// volume.
+// Returns whether a volume has exactly two files, B and then A, and the look-ups by number and by
+// instance find them.
 fn has_files(view: &VolumeView) -> bool {
     let next = [
         file_after(view, None),
@@ -37,8 +39,8 @@ fn has_files(view: &VolumeView) -> bool {
     next == wanted && found == [None, Some(0x0b), Some(0x0a), None] && is_last
 }
 
-/// A deleted file with the name C, a marked file with the name A, a file with the name B, and the
-/// file that supersedes the marked one.
+/// A deleted file with the name C, a file with the name A that is marked for update, a file with
+/// the name B, and a file with the name A that supersedes the marked file.
 const STATES: &str =
     "00*16 78e58c8c3d8a1c4f9935896185c32dd3 0001 00*6 5f465648 fffe0400 4800cef4 00000002 01000000 00010000 00*8 \
      0c*16 1faa0100200000e8 00*8 0a*16 3faa0100200000f0 01*8 0b*16 37aa0100180000f8 0a*16 3faa0100200000f8 02*8 ff*64";
@@ -56,8 +58,8 @@ const FRAMES: &str =
     "00*16 78e58c8c3d8a1c4f9935896185c32dd3 8000 00*6 5f465648 fffe0400 4800cef5 00000002 01000000 80000000 00*8 \
      0a*16 3caa0300210000f8 040000190500001958 ff*23";
 
-// Returns whether the frame with this instance among those of type 0x19 is at this offset of the
-// data, and has this body.
+// Returns whether the frame with this instance among the frames of type 0x19 is at this offset of
+// the data, and has this body.
 fn has_frame(file: &FileView, instance: u32, offset: u64, body: &[u8]) -> bool {
     match section_by_type(file, 0x19, instance) {
         Lookup::Found(Item::Frame(frame)) => frame.offset == offset && frame.body == body,
