@@ -119,7 +119,7 @@ no_input f name volume read = λ words rest r right.
 abbrev is_on_image : List ℕ → Bool
 is_on_image name = bytes_eq name (codes "normalise") || bytes_eq name (codes "check")
 
--- an offset in an input is not given if each volume of the input is meant
+-- right arguments of `normalise` and `check` give no offset together with `--all`
 pub no_place : (name : List ℕ) (rest : List (List ℕ)) (given : Option ℕ) → is_on_image name ≡ true
     → flag_in image_app (codes "all") rest ≡ true → IsAtWord (text_in image_app (codes "at") rest) given → is_some given ≡ true
     → AreRightFor name rest → ⊥

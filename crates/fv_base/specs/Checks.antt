@@ -43,7 +43,7 @@ abbrev pub GuardsHold : List (Check Fault) → Type 0
 GuardsHold cs = AllByRecursion (λ c. is_guard c.fault.kind ≡ true → c.holds ≡ true) cs
 
 -- which faults a statement is about. `First`: only the first fault, before which all checks hold. `Any`: any fault
--- whose own check does not hold at its place, whatever else is wrong
+-- whose own check does not hold, if all guards (`is_guard`) before this check hold
 pub data Which : Type 0 where
   First : Which
   Any : Which

@@ -54,8 +54,8 @@ ReadStops old new fault =
     StopsWithin volume_limit old new fault
     × (fault.kind ≡ kinds.OutOfMemory → (GaveCount old new 0 ⊎ GaveMore old new least_room))
 
--- writing stopped with a WriteFault: the writer holds a first part of the output, which is not all of it, and the
--- fault's offset is the length of that part
+-- writing stopped with a WriteFault: after the bytes that it held before, the writer holds a first part of the output,
+-- which is not all of it. The fault's offset is the length of that part
 pub record WriteStops (held holds : Option (List ℕ)) (output : List ℕ) (fault : Fault) : Type 0 where
   pub kind : fault.kind ≡ kinds.WriteFault
   pub depth : fault.place.depth ≡ 0

@@ -32,8 +32,8 @@ pub enum FaultKind {
     /// Or bytes follow the volume in a call that takes a whole volume (at `FvLength`). Or an input
     /// is longer than the limit (at the limit).
     Length,
-    /// The extended header, at `ExtHeaderOffset`, begins before `HeaderLength`, has fewer than 20
-    /// bytes before `FvLength`, or ends after `FvLength`; or `ExtHeaderSize` is less than 20 or
+    /// The extended header, at `ExtHeaderOffset`, begins before `HeaderLength`, or begins less than
+    /// 20 bytes before `FvLength`, or ends after `FvLength`; or `ExtHeaderSize` is less than 20 or
     /// more than 65,535. At 52.
     ExtHeader,
     /// Bit 0x40 or 0x80 of `State` was written, or `verify_ffs_file` was given a file that is not
@@ -43,7 +43,8 @@ pub enum FaultKind {
     /// not sum to 0. At the file.
     FileHeaderSum,
     /// `Size` or `ExtendedSize` of a file is less than the length of its header, or reaches past
-    /// the end; or `Size` of a large header is not 0; or the end cuts the header short. At the file
+    /// the end of the volume; or `Size` of a large header is not 0; or the volume ends within the
+    /// header. (For `verify_ffs_file` the end of its bytes counts as the volume's end.) At the file
     /// + 20.
     FileSize,
     /// `Attributes` of a file in FFS2 has `FFS_ATTRIB_LARGE_FILE`, bit 0x01. (In a header under
@@ -63,11 +64,12 @@ pub enum FaultKind {
     /// Two valid files that are not pads have the same `Name` and the same state. At the later
     /// file.
     DuplicateName,
-    /// A file that has the `Name` `EFI_FFS_VOLUME_TOP_FILE_GUID` and is not superseded is not the
-    /// last file, or does not end at `FvLength`. At the file.
+    /// Among the valid files that are neither pads nor superseded, a file with the `Name`
+    /// `EFI_FFS_VOLUME_TOP_FILE_GUID` is not the last file, or does not end at `FvLength`. At the
+    /// file.
     TopFile,
     /// `Size` or `ExtendedSize` of a section is less than the length of its header, or reaches past
-    /// the end; or the end cuts an extended header short. At the section header.
+    /// the end of the stream; or the stream ends within an extended header. At the section header.
     SectionSize,
     /// One to three bytes are left where a section would begin. At the first of them.
     SectionTail,

@@ -125,8 +125,8 @@ pub fn read_to_end<R: Read, C: Collector>(
 }
 
 /// Reads an input to its end: at most as many bytes as a volume may have. A read that returns
-/// `Interrupted` is repeated, and counts as a read. The vector is allocated with the port's `room`,
-/// which counts as 56 bytes if it is less, up to the limit of a volume.
+/// `Interrupted` is repeated, and counts as a read. Before the first read, the vector gets memory
+/// for the port's `room`: for at least 56 bytes, and at most for the limit of a volume.
 ///
 /// # Errors
 ///

@@ -1,4 +1,5 @@
-//! Sinks: they take bytes, part after part. One walk serves every kind of sink.
+//! Sinks: they take bytes, part after part. A walk, a function that puts bytes into a sink, is
+//! written once for all kinds of sinks.
 
 ghost use Rattle.std.specs.Prelude.{◌≡◌, ℕ, ◌⊎◌, ◌<◌, ◌≤◌, ◌^◌, List, [], length, take, replicate, true, false};
 ghost use Rattle.std.specs.Prelude.{IfOk, IfErr, OnErr, OnOk};

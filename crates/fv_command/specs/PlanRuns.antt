@@ -38,7 +38,7 @@ IsFirstSource opens is_standard None (Standard reader) = is_standard reader
 IsFirstSource opens is_standard None source = ⊥
 IsFirstSource opens is_standard (Some path) source = IsOpened opens (string_bytes path) source
 
--- the source of a command's second input: Nothing if no file is named, otherwise the file at that path
+-- the source of a command's second input: NoInput if no file is named, otherwise the file at that path
 abbrev pub IsSecondSource : {S F : Type 0} → (List ℕ → Option F → Type 0) → Option (String Global) → Source S F → Type 0
 IsSecondSource opens None source = source ≡ NoInput
 IsSecondSource opens (Some path) source = IsOpened opens (string_bytes path) source

@@ -28,8 +28,8 @@ use Rattle.fv_plan.specs.declared.plan.Task.{Task}
 use Rattle.fv_plan.specs.declared.plan.Task.TheVariants.{Normalise, NormaliseAll, List as Listing, ListSums, Extract}
 use Rattle.fv_plan.specs.declared.plan.Task.TheVariants.{Check, CheckAll, Cells, Unfix, Scan}
 
--- a volume with this meaning has these cells and this erase polarity; the cells tile it from the offset of its first
--- file on
+-- a volume with this meaning has these cells and this erase polarity; the cells tile its body, from the offset where
+-- the first file may begin
 pub record AreCells (m : Meaning) (b : List ℕ) (polarity : Polarity) (cells : List CellForm) : Type 0 where
   pub extent : Extent
   pub begins : BeginsVolume (head_of m) extent b

@@ -58,7 +58,7 @@ fn verdict(is_same: bool) -> Status
 
 // Compares the first volume with the volume that the reader gives: puts whether they have the same
 // meaning and, if not, where they first differ. A fault is returned with the side that stopped the
-// run. Nothing has been put in that case.
+// run, or with First if memory runs out in `put_comparison`. Nothing has been put in that case.
 fn compare_with<Second: Read, S: Sink>(
     alloc: Global,
     hex: bool,
@@ -86,7 +86,8 @@ fn compare_with<Second: Read, S: Sink>(
 /// # Errors
 ///
 /// The faults of reading, of `whole_volume` and of `put_comparison`, with the side that stopped the
-/// run. Nothing has been put in that case.
+/// run. If memory runs out in `put_comparison`, the side is First. Nothing has been put in that
+/// case.
 pub fn put_compared<First: Read, Second: Read, S: Sink>(
     alloc: Global,
     hex: bool,

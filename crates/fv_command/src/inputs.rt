@@ -14,9 +14,10 @@ use std::io::Read;
 ///
 /// # Errors
 ///
-/// ReadFault at the number of bytes read so far, if the reader fails. Length at the limit, if the
-/// input is longer. For text also ReadFault at 0, if it is not an even number of digits.
-/// OutOfMemory.
+/// ReadFault at the number of bytes read so far, if the reader fails or the reads run out. Length
+/// at the limit of a volume, if the input has more bytes than this limit; for text, if it spells
+/// more bytes, or has more than 1,073,741,824 bytes itself. For text also ReadFault at 0, if it is
+/// not an even number of digits. OutOfMemory.
 pub fn read_bytes<R: Read>(alloc: Global, hex: bool, reader: &mut Port<R>) -> Result<Vec<u8>, Fault>
     ensures ok { IfOk result (λ v. Gives hex (view_of R.remaining reader.old)
         (view_of R.remaining reader.new) v.items) }

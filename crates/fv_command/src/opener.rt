@@ -39,7 +39,8 @@ pub trait Opener {
         ensures { is_standard self.now result };
 
     /// Returns how many bytes a file is expected to have, or 0 if that is not known. The file may
-    /// have more or fewer bytes: nothing but speed depends on the hint.
+    /// have more or fewer bytes: only speed, and the memory that is allocated before the first
+    /// read, depend on the hint.
     fn len_hint(&self, file: &Self::File) -> usize;
 }
 
@@ -64,7 +65,7 @@ fn first_source<O: Opener>(opener: &O, plan: &Plan) -> Source<O::Standard, O::Fi
     }
 }
 
-// Returns the source of a plan's second input: the file that the plan names, or Nothing if it names
+// Returns the source of a plan's second input: the file that the plan names, or NoInput if it names
 // none.
 fn second_source<O: Opener>(opener: &O, plan: &Plan) -> Source<O::Standard, O::File>
     ensures { IsSecondSource (O.opens opener.now) (second_file plan.now.command) result }

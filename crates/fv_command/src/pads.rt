@@ -23,9 +23,9 @@ fn outer_cells(alloc: Global, input: &[u8]) -> Result<(Cells<'_>, Polarity), Fau
 }
 
 /// Returns the cells of the input, which is a volume, and its erase polarity. Returns None if
-/// `is_same` says that the volume is its own canonical image. In a canonical image, pads from the
-/// offset of the first file on contain only erased data bytes. So there is nothing to note, and the
-/// cells do not have to be read.
+/// `is_same` says that the volume is its own canonical image. In a canonical image, every pad in
+/// the body contains only erased data bytes. (The pad file that holds the extended header lies
+/// before the body.) So there is nothing to note, and the cells do not have to be read.
 ///
 /// # Errors
 ///

@@ -25,8 +25,9 @@ fn unfixed(alloc: Global, input: &[u8]) -> Result<ByteList, Fault>
 }
 
 /// Puts the input, which is a volume, with none of its files marked as fixed. In the header of each
-/// such file bit 0x04 of the attributes is cleared, and the header checksum is 4 more. Works on a
-/// copy of the input. (PI specification, volume 3, section 3.2.3.1, `FFS_ATTRIB_FIXED`.)
+/// fixed file bit 0x04 of the attributes is cleared, and 4 is added to the header checksum (modulo
+/// 256). Works on a copy of the input. (PI specification, volume 3, section 3.2.3.1,
+/// `FFS_ATTRIB_FIXED`.)
 ///
 /// # Errors
 ///

@@ -53,7 +53,7 @@ abbrev long_size : Bool → ℕ → List ℕ
 long_size true size = le_bytes 8 size
 long_size false size = []
 
--- the number that the size is below
+-- the size of a file is less than this number: 2 ^ 64 with a large header, and otherwise 2 ^ 24
 abbrev size_limit : Bool → ℕ
 size_limit true = 2 ^ 64
 size_limit false = 2 ^ 24

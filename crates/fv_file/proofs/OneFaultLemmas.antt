@@ -1,4 +1,4 @@
--- A body has one first fault of its cells, because no fault of a cell is before the end of cells that tile
+-- A body has one first fault of its cells, because a first fault is not before a place up to which cells tile the body
 -- (`cell_later`). The first fault is also a fault in the sense of `Any` (`cell_fails`).
 use Rattle.std.proofs.lemmas.Grind.{common_steps}
 use Rattle.std.proofs.Common.{◌≡◌, ◌<◌, ℕ, ◌+◌, ◌-◌, List, [], ◌∷◌, ◌++◌, length, take, drop, sym, ap, ◌∙◌, subst, arith, append_assoc}
@@ -23,7 +23,7 @@ none_free_behind [] ds h = h
 none_free_behind (c ∷ cs) ds h = none_free_behind cs ds h.1
 
 module _ (s : FileSystem) (p : Polarity) (first : ℕ) (body : List ℕ) where
-  -- the fault of a cell is not before the end of cells that tile
+  -- a first fault is not before a place up to which cells tile the body
   cell_later : (f g : Fault) → (x : IsFirstCellFault s p first body f) → (y : IsFirstCellFault s p first body g) → x.at < y.at → ⊥
   cell_later f g x y l =
       let r = cut s p (one_cell s p) (not_empty s p) first x.cells y.cells (take x.at body) part x.tiled x.none_free whole in

@@ -27,8 +27,8 @@ use Rattle.fv_file.proofs.FileLemmas.{header_least, front_byte, file_reads}
 use Rattle.fv_file.proofs.SortLemmas.{sorted}
 use Rattle.fv_file.proofs.TilingLemmas.{no_rest}
 
--- the distance from the header at the start of r to the next header; the first argument says whether it is the header
--- of a stub
+-- the distance from the header at the start of r to the next header; the first argument says whether the header at the
+-- start of r is the header of a stub
 abbrev pub stride_by : Bool → List ℕ → ℕ
 stride_by true r = file_header_len_at r
 stride_by false r = up_to_8 (file_size_at r)

@@ -3,7 +3,7 @@
 -- 1. There are at most as many cells as bytes (`cells_few`).
 -- 2. The data of a cell are the part of the volume after its header (`cell_payload`), for all cells of a tiling
 --    (`tiled_payloads`).
--- 3. In a tiling of bytes, each valid file was read (`tiles_read`).
+-- 3. In a tiling of bytes, each valid file meets the conditions of `FileRead` (`tiles_read`).
 use Rattle.std.proofs.Common.{◌≡◌, ◌≤◌, ◌+◌, ◌-◌, ℕ, List, [], ◌∷◌, ◌++◌, length, take, drop}
 use Rattle.std.proofs.Common.{refl, sym, ap, ◌∙◌, subst, arith, length-append, drop-drop}
 use Rattle.std.specs.List.{AllByRecursion}
@@ -72,9 +72,9 @@ pub body_payloads : (s : FileSystem) (p : Polarity) (first : ℕ) (cs : List Cel
     → Tiles s p first cs (drop first volume) → AllByRecursion (IsPayloadIn volume) cs
 body_payloads s p first cs volume tiles = tiled_payloads s p first cs (drop first volume) volume refl tiles
 
--- ---- each file of a tiling was read
+-- ---- the valid files of a tiling
 
--- a valid file meets the conditions of `FileRead`; other cells meet none
+-- a valid file meets the conditions of `FileRead`; nothing is required of other cells
 abbrev pub IsRead : FileSystem → ℕ → CellForm → Type 0
 IsRead system limit (Valid at head payload) = FileRead system limit head payload
 IsRead system limit _ = Unit {0}

@@ -1,9 +1,9 @@
 -- There is one way to remove the marks of all fixed files. The steps:
 -- 1. If the fault of a cell is Fixed, its attributes lie within the bytes, and have the bit.
 -- 2. Without the mark, the file is no longer fixed, and the bytes before it are the same.
--- 3. The marks are removed one after another, and the cells before each place tile.
+-- 3. The marks are removed one after another, and cells tile the body up to each place.
 -- 4. There is one way to remove all marks (`one_unmarked`).
--- 5. If all marks can be removed, a cell begins at each place then (`unmarked_cell`).
+-- 5. If all marks can be removed, a cell begins at each place after the mark there was removed (`unmarked_cell`).
 use Rattle.std.proofs.Common.{◌≡◌, ◌≤◌, ◌<◌, ℕ, ◌+◌, ◌-◌, ◌%◌, List, [], ◌∷◌, ◌++◌, length, take, drop, refl, sym, ap, ◌∙◌, subst, arith}
 use Rattle.std.proofs.Common.{Bool, true, false, length-drop, inl, inr}
 use Rattle.std.specs.Prelude.{◌≢◌, ◌⊎◌, ◌||◌, ◌&&◌, ◌==◌, not, nat_le, slice_index, slice_set, nat_lt, Option, None, Some, Ok, Err, Result}
@@ -222,7 +222,7 @@ fault_unfixed s p first b f here other g there kind =
 one_place : (first p q : ℕ) → outer_fault kinds.Fixed (first + p + 19) ≡ outer_fault kinds.Fixed (first + q + 19) → p ≡ q
 one_place first p q e = omega (arith, ap (λ (f : Fault). f.place.offset) e)
 
--- only one list of bytes is the body without all marks
+-- only one list of bytes is the body from which all marks were removed
 pub one_unmarked : (s : FileSystem) (p : Polarity) (first : ℕ) (ps qs : List ℕ) (b o x : List ℕ) → Unmarks s p first ps b o
     → NoneFixed s p first o → Unmarks s p first qs b x → NoneFixed s p first x → x ≡ o
 one_unmarked s p first [] [] b o x same end other end_x = other ∙ sym same

@@ -12,9 +12,9 @@ abbrev pub unmarked : ℕ → List ℕ → List ℕ
 unmarked p b =
     slice_set (slice_set b (p + 16) ((slice_index b (p + 16) + 4) % 256)) (p + 19) (slice_index b (p + 19) - 4)
 
--- o is the body b without the marks of the fixed files at these offsets, which are taken away one after another. Just
--- before a mark is taken away, the first fault of the body is that the file with this mark is fixed. `first` is the
--- offset of the body in its volume
+-- o is the body b without the marks of the fixed files at these offsets, which count from the body's first byte. The
+-- marks are taken away one after another. Just before a mark is taken away, the first fault of the body is that the
+-- file with this mark is fixed. `first` is the offset of the body in its volume
 abbrev pub Unmarks : FileSystem → Polarity → ℕ → List ℕ → List ℕ → List ℕ → Type 0
 Unmarks system polarity first [] b o = o ≡ b
 Unmarks system polarity first (p ∷ ps) b o =

@@ -7,7 +7,8 @@ use crate::state::FileState;
 /// specification, volume 3, sections 3.2.2 and 3.2.3.)
 #[derive(Clone, Copy)]
 pub enum Cell<'a> {
-    /// A valid file, whether it is marked for update (`EFI_FILE_MARKED_FOR_UPDATE`) or not.
+    /// A valid file that is not a pad, whether it is marked for update
+    /// (`EFI_FILE_MARKED_FOR_UPDATE`) or not.
     Valid {
         /// The offset of its header.
         offset: u64,
@@ -16,7 +17,8 @@ pub enum Cell<'a> {
         /// Its data, which follow the header.
         payload: &'a [u8],
     },
-    /// A pad file, `EFI_FV_FILETYPE_FFS_PAD`.
+    /// A pad file (`EFI_FV_FILETYPE_FFS_PAD`) whose data are valid, whether it is marked for update
+    /// or not. Any other pad file with a valid header, such as a deleted pad file, is a dead cell.
     Pad {
         /// The offset of its header.
         offset: u64,

@@ -20,10 +20,10 @@ use fv_base::field::{bytes_from, up_to_8};
 use fv_base::{Fault, FaultKind, FileSystem, Polarity, all_are, check};
 use std::alloc::Global;
 
-// Returns whether `rest`, the part of the body that is left, is a free cell: all of its bytes are
-// erased. The test reads all of them only if fewer than 24 are left or `State` is erased. If one of
-// them is then not erased, `cell_at` rejects the body. So the test reads each byte of a body at
-// most once.
+// Returns whether all bytes of `rest`, the part of the body that is left, are erased. Then `rest`
+// is a free cell, or no bytes are left. The test reads all of the bytes only if fewer than 24 are
+// left or `State` is erased. If one of them is then not erased, `cell_at` rejects the body. So the
+// test reads each byte of a body at most once.
 pub(crate) fn is_free(rest: &[u8], polarity: Polarity) -> bool
     ensures { result ≡ all_are (erased_byte polarity) rest.now }
 {

@@ -43,9 +43,9 @@ pub struct FileHead {
     /// The header checksum, `IntegrityCheck.Checksum.Header`: the byte that makes the header sum to
     /// zero modulo 256, with the file checksum and `State` taken as zero.
     pub header_sum: u8,
-    /// The file checksum, `IntegrityCheck.Checksum.File`. In a valid file with the checksum
-    /// attribute it is the byte that makes the data sum to zero modulo 256, and in any other valid
-    /// file it is 0xAA.
+    /// The file checksum, `IntegrityCheck.Checksum.File`. In a valid file that is not a pad, it is
+    /// the byte that makes the data sum to zero modulo 256 if the file has the checksum attribute,
+    /// and otherwise 0xAA. In any other file it may have any value.
     pub file_sum: u8,
     /// The state of the file, which `State` shows.
     pub state: FileState,

@@ -90,8 +90,8 @@ pub fn unmark_files(
     ensures tiled { OnOk result ((places : List ℕ) × Unmarks system polarity first places body.old body.new
         × ((cells : List CellForm) × Tiles system polarity first cells body.new)) }
 
-    // After an error, nothing was changed. The fault is the first one of the body without some of
-    // the marks, and it is not Fixed.
+    // After an error, nothing was changed. The fault is the first fault of a copy of the body from
+    // which the marks of some fixed files were taken away. It is not Fixed.
     ensures kept { IfErr result (λ _. body.new ≡ body.old) }
     ensures first { IfErr result (λ f. (places : List ℕ) × (o : List ℕ) × Unmarks system polarity first places body.old o
         × IsFirstCellFault system polarity first o f × (f.kind ≢ FaultKind.Fixed)) }

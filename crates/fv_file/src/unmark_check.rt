@@ -17,7 +17,8 @@ use crate::state::FileState;
 use fv_base::field::{bytes_from, up_to_8};
 use fv_base::{Fault, FaultKind, FileSystem, Polarity, check};
 
-// Returns the size of the file at the offset `at`, or FileSum if its file checksum is wrong.
+// Returns the size of the file at the start of `rest`, or FileSum if its file checksum is wrong.
+// `rest` is at the offset `at` of the volume.
 fn sound_size(rest: &[u8], at: u64) -> Result<u64, Fault>
     requires least { 24 ≤ length rest.now }
     requires header { file_header_len_at rest.now ≤ file_size_at rest.now }
@@ -33,8 +34,9 @@ fn sound_size(rest: &[u8], at: u64) -> Result<u64, Fault>
     Ok(head.size)
 }
 
-// Returns the length in bytes of the cell at the offset `at`, including its filler, or the first
-// fault there. No free cell begins there. A fixed file is read as if its mark had been taken away.
+// Returns the length in bytes of the cell at the start of `rest`, including its filler, or the
+// first fault there. `rest` is at the offset `at` of the volume, and does not begin with a free
+// cell. A fixed file is read as if its mark had been taken away.
 fn span_unmarked(rest: &[u8], at: u64, system: FileSystem, polarity: Polarity) -> Result<u64, Fault>
     requires place { at + length rest.now < 2 ^ 63 }
     requires multiple { length rest.now % 8 ≡ 0 }
@@ -71,11 +73,12 @@ pub fn verify_unmarked(
     requires multiple { length body.now % 8 ≡ 0 }
     requires place { first + length body.now < 2 ^ 63 }
 
-    // Cells tile the body after the marks were taken away from some fixed files.
+    // Cells tile a copy of the body from which the marks of some fixed files were taken away.
     ensures tiled { OnOk result ((places : List ℕ) × (o : List ℕ) × Unmarks system polarity first places body.now o
         × ((cells : List CellForm) × Tiles system polarity first cells o)) }
 
-    // The fault is the first one of the body after some marks were taken away, and it is not Fixed.
+    // The fault is the first fault of a copy of the body from which the marks of some fixed files
+    // were taken away. It is not Fixed.
     ensures first { IfErr result (λ f. (places : List ℕ) × (o : List ℕ) × Unmarks system polarity first places body.now o
         × IsFirstCellFault system polarity first o f × (f.kind ≢ FaultKind.Fixed)) }
 {

@@ -25,7 +25,8 @@ use fv_base::field::up_to_8;
 use fv_base::{ByteList, Fault, ListSink, Sink, sum16};
 use std::alloc::Global;
 
-/// A sink that sums the 16-bit words of the bytes that are put, modulo 65536.
+/// A sink that sums the 16-bit words of the bytes that are put, modulo 65536. `high` says whether
+/// the next byte is the high byte of a word.
 #[derive(Drop)]
 struct WordSink {
     total: u16,

@@ -87,8 +87,8 @@ sums_line sums =
 
 -- ---- the text
 
--- the lines of `cells`: a line for the header, which ends where the first cell begins, at `first`; a line for each
--- cell, in order; and the sums
+-- the lines of `cells`: a line for the header, which here is all bytes before the body, up to the offset `first`, so
+-- also an extended header; a line for each cell, in order; and the sums
 abbrev pub cell_lines : ℕ → List CellForm → List ℕ
 cell_lines first cells =
     span_line (codes "header") 0 first ++ (flat_map cell_line cells ++ sums_line (sums_of cells))

@@ -176,8 +176,9 @@ fn put_sums<S: Sink>(out: &mut S, sums: LengthSums)
     out.put(b"\n");
 }
 
-// Puts a line for the header of a volume, which ends at the offset `first`, a line for each cell,
-// and a line with the sums of their lengths. The cells must fit into a volume.
+// Puts a line for the header of a volume, a line for each cell, and a line with the sums of the
+// cells' lengths. The line for the header covers all bytes before the body, up to the offset
+// `first`, so also an extended header. The cells must fit into a volume.
 fn put_cell_lines<S: Sink>(out: &mut S, first: u64, list: &[Cell<'_>])
     requires { FitTogether (map cell_form list.now) }
     ensures { S.takes out.old (cell_lines first (map cell_form list.now)) out.new }

@@ -104,7 +104,9 @@ starts_one total first fs ss ts p q =
 
 -- ---- 4. file by file
 
--- the files that were placed at `done` up to the edge e go on with the files in `left`
+-- the files before `left` begin at the starts `done`, and e is the edge after these files. Starts of the files in
+-- `left` that follow this edge complete the starts of all files, and if `Firsts` is true of the added starts, it is
+-- true of all starts
 pub record Placed (total first : ℕ) (fs : List PlacementItem) (e : ℕ) (left : List PlacementItem) (done : List ℕ) : Type 0 where
   pub follow : (rest : List ℕ) → StartsFollow total e left rest → StartsFollow total first fs (done ++ rest)
   pub firsts : (rest : List ℕ) → Firsts total e left rest → Firsts total first fs (done ++ rest)

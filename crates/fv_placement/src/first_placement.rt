@@ -15,8 +15,9 @@
 //!
 //! So if the least starts are not a placement, a search goes backwards and then forwards. Going
 //! backwards, it finds for each file the edges after which the later files can be placed: their
-//! reach. Going forwards, it places each file at the least lawful start with which the file ends at
-//! such an edge. The least starts are found by the same forward pass, as if no file followed.
+//! reach. Going forwards, it places each file at the least lawful start whose next edge (the end of
+//! the file, rounded up to 8) is such an edge. The least starts are found by the same forward pass,
+//! as if no file followed.
 
 ghost use Rattle.std.specs.Prelude.{◌≡◌, ℕ, ◌+◌, ◌%◌, ◌^◌, ◌<◌, ◌≤◌, IfOk, IfErr, IfSome, IfNone, List};
 ghost use Rattle.std.specs.Prelude.{IsTrue, ◌↔◌, All, length, get_or, false};

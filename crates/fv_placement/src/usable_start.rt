@@ -1,9 +1,9 @@
 //! The first and the greatest usable start of a file, given the reach of the files after it.
 //!
-//! A start is usable if the file may begin there and ends at a usable edge. The volume top file has
-//! one possible start, with which it ends at the volume's end. For any other file the search goes
-//! from one aligned start to the next. The step is the alignment of the file's data, but at least
-//! 8.
+//! A start is usable if it is a multiple of 8 at which the file's data are aligned, and the edge
+//! after the file (the end of the file, rounded up to 8) is usable. The volume top file has one
+//! possible start, with which it ends at the volume's end. For any other file the search goes from
+//! one aligned start to the next. The step is the alignment of the file's data, but at least 8.
 
 ghost use Rattle.std.specs.Prelude.{◌≡◌, ℕ, ◌+◌, ◌%◌, ◌^◌, ◌<◌, ◌≤◌, IfSome, IfNone};
 ghost use Rattle.fv_base.specs.Words.{IsAlignment, volume_limit};

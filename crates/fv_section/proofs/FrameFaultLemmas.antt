@@ -1,8 +1,8 @@
 -- A stream has at most one first fault, which is within its bytes or at their end. The steps:
 -- 1. The first fault is within the bytes, or at their end (`frame_within`), and is a fault in the sense of `Any`
 --    (`frame_fails`).
--- 2. No fault is before the end of frames that join (`frame_later`), so a stream has one first fault
---    (`one_frame_fault`).
+-- 2. A first fault is not before an offset up to which the stream splits into frames (`frame_later`), so a stream has
+--    one first fault (`one_frame_fault`).
 use Rattle.std.proofs.lemmas.Grind.{common_steps}
 use Rattle.std.proofs.Common.{◌≡◌, ◌≤◌, ◌<◌, ℕ, ◌+◌, ◌-◌, List, [], ◌∷◌, ◌++◌, length, take, drop, ap, subst, arith}
 use Rattle.std.proofs.lemmas.List.{take-append-drop, length-take-le}
@@ -26,7 +26,7 @@ frame_fails b f first = grind (arith, common_steps, any_fails)
 
 -- ---- one first fault
 
--- the fault of a section header is not before the end of frames that join
+-- a first fault is not before an offset up to which the stream splits into frames
 frame_later : (b : List ℕ) (f g : Fault) → (x : IsFirstFrameFault b f) → (y : IsFirstFrameFault b g) → x.at < y.at → ⊥
 frame_later b f g x y l =
     let r = cut 0 x.frames y.frames x.tail y.tail (take x.at b) part x.split (omega (arith, place, x.multiple)) whole (some_between b x.at y.at l y.inside) in

@@ -166,7 +166,7 @@ walk_meets at (f ∷ fs) t b split =
     let more = walk_meets (up_to_4 (at + frame_len f)) fs rest.0 b rest.1 in
     rw (next, is) (ap (λ l. f ∷ l) more.0, (stands, more.1))
 
--- at its start, a walk has all frames of the stream before it
+-- when a walk begins, all frames of the stream remain to be read
 pub walk_begins : (b : List ℕ) (n t : ℕ) → (fs : List FrameForm) × Splits fs t b × (length fs ≡ n)
     → Splits (frames_from n 0 b) t b × HasFrames n 0 b
 walk_begins b n t (fs, split, count) =

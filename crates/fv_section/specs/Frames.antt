@@ -4,7 +4,8 @@ use Rattle.std.specs.Prelude.{◌≡◌, ◌≢◌, ℕ, ◌+◌, ◌*◌, ◌/�
 use Rattle.std.specs.Prelude.{slice_index}
 use Rattle.fv_base.specs.Words.{le_at}
 
--- a frame is a section in its stream: the offset of its header, its type, whether its header is extended, and its body
+-- a frame is a section in its stream: the offset of its header, in bytes from the stream's start; its type; whether its
+-- header is extended; and its body
 pub record FrameForm : Type 0 where
   pub offset : ℕ
   pub kind : ℕ

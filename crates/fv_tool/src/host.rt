@@ -16,7 +16,8 @@ use std::io::{IsTerminal, Stderr, Stdin, Write};
 use std::rt::{Env, Files};
 use std::{env, fs, io, str};
 
-/// The directory that is opened only to occupy file descriptors, so that no message is about it.
+/// The root directory, which is opened only to occupy file descriptors. No message is written about
+/// this path. The path is not `/`, so a FILE that is `/` still has its message.
 pub const DESCRIPTOR_FILLER: &str = "/.";
 
 /// A process: its arguments and its standard output.
@@ -56,8 +57,9 @@ pub trait Process {
     /// Returns whether standard output was asked to write any bytes. Only messages depend on it.
     fn has_written(&self) -> bool;
 
-    /// Returns the number of the first argument that is not UTF-8, if it has at most 1024 bytes.
-    /// The program's name, which is not looked at, has the number 0. Only messages depend on it.
+    /// Returns the number of the first argument of at most 1024 bytes that is not UTF-8, if there
+    /// is such an argument. The program's name, which is not looked at, has the number 0. Only
+    /// messages depend on it.
     fn not_text(&self) -> Option<usize>;
 }
 

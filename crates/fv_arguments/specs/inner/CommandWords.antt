@@ -36,8 +36,8 @@ abbrev pub ReadsOrFails : {X : Type 0} → (X → Type 0) → Result X WordFault
 ReadsOrFails P (Ok x) = P x
 ReadsOrFails {X} P (Err f) = f ≡ Words → (x : X) → P x → ⊥
 
--- the result is the command that is asked for by arguments in which the parser found m, or an error. The error is Words
--- only if the arguments are not right
+-- if the parser found m in the arguments, the result is the command that these arguments ask for, or an error. The
+-- error is Words only if the arguments are not right
 abbrev pub AsksOrFails : List ℕ → ArgMatches → Result Command WordFault → Type 0
 AsksOrFails name m (Ok command) =
     (rest : List (List ℕ)) → IsRead (app_named name) rest m → (name ≡ command_name command) × HasTexts rest command

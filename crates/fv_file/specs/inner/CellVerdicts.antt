@@ -48,7 +48,7 @@ sort_checks _ system alive p r = file_checks system alive p r
 unfoldable pub file_verdict : FileSystem → FileState → ℕ → List ℕ → Result FileHead Fault
 file_verdict system state p r = verdict_by (first_fault (file_checks system (is_alive state) p r)) (head_in state r)
 
--- the cell at the offset p of a header and data, according to the sort of its state
+-- the cell that a header and its data make at the offset p, according to the sort of its state
 abbrev pub cell_of : StateSort → ℕ → FileHead → List ℕ → CellForm
 cell_of Unfinished p head payload = cells.Stub p head.header_len
 cell_of Dead p head payload = cells.Dead p (up_to_8 head.size) head.state

@@ -4,7 +4,8 @@ use Rattle.fv_head.proofs.ExtImageLemmas.{entries_len_step}
 use Rattle.fv_head.proofs.ext_image.len_of_entries.Goals.{After-payload}
 use Rattle.fv_head.proofs.ext_image.len_of_entries.Goals as goal
 
--- the bytes so far, the bytes of this entry and the bytes of the entries after it are the bytes of all entries
+-- the length so far, the length of this entry and the length of the entries after it add up to the length of all
+-- entries
 one_more : (c : After-payload) → c.loop-entry.len + (4 + length c.payload.result.now)
     + entries_len (drop (c.loop-entry.entry-index + 1) c.args.entries.now) ≡ entries_len c.args.entries.now
 one_more c =

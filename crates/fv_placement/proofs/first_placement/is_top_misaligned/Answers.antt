@@ -7,7 +7,7 @@ use Rattle.fv_placement.proofs.first_placement.is_top_misaligned.Goals as goal
 use Rattle.fv_placement.proofs.first_placement.is_top_misaligned.Goals.{else-item-via-then-item+else-is_misaligned, else-item-via-else-item}
 use Rattle.fv_placement.proofs.UsableStartLaws.{not_true}
 
--- an item that is off is found, and an item that is not off is passed over
+-- a volume top file that is misaligned is found, and any other file is passed over
 found : (total : ℕ) (fs : List PlacementItem) (i : ℕ) (d : PlacementItem) → i < length fs → (TopMisaligned total (drop i fs) → TopMisaligned total fs)
     → IsTrue (get_or fs i d).top → IsMisaligned total (get_or fs i d) → TopMisaligned total fs
 found total fs i d l back top off = back (subst (TopMisaligned total) (sym (drop_more fs i d l)) (inl (top, off)))
