@@ -1,4 +1,4 @@
--- Dependency expressions (PI specification, volume 1, section 3.4, and volume 2, section 10.7).
+-- Dependency expressions (PI specification, volume 1, section 5.7, and volume 2, section 10.7).
 use Rattle.std.specs.Prelude.{◌≡◌, ℕ, ◌⊎◌, ◌&&◌, ◌||◌, not, nat_le, Bool, true, false, List, [], ◌∷◌, ◌++◌, length}
 use Rattle.std.specs.List.{AllByRecursion, list_any}
 use Rattle.std.specs.Str.{bytes_eq}

@@ -8,7 +8,7 @@ use fv_base::ByteList;
 use std::marker::Model;
 
 /// A dependency expression: its ops, which end with END, and the bytes after END. Only `read_depex`
-/// makes a value of this type. (PI specification, volume 1, section 3.4, and volume 2, section
+/// makes a value of this type. (PI specification, volume 1, section 5.7, and volume 2, section
 /// 10.7.)
 #[derive(Drop)]
 pub struct Depex {

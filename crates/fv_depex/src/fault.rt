@@ -8,7 +8,7 @@ use thiserror::Error;
 
 /// The reason why an expression was rejected. The comment of each variant gives the condition and
 /// then the offset of the fault, in bytes from the first byte that was passed to the call. (PI
-/// specification, volume 1, section 3.4, and volume 2, section 10.7.)
+/// specification, volume 1, section 5.7, and volume 2, section 10.7.)
 #[derive(Clone, Copy, Debug, PartialEq, Eq, Error)]
 pub enum DepexFaultKind {
     /// Fewer than 16 bytes are left for the GUID of BEFORE, AFTER or PUSH. The offset points to the

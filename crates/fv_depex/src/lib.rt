@@ -1,5 +1,5 @@
 //! Dependency expressions, which are the bodies of depex sections: reading, writing and evaluating
-//! them. (PI specification, volume 1, section 3.4, and volume 2, section 10.7.)
+//! them. (PI specification, volume 1, section 5.7, and volume 2, section 10.7.)
 #![tactic(auto)]
 
 mod depex;

@@ -3,7 +3,7 @@
 use fv_base::Guid;
 
 /// The phase that evaluates an expression. Expressions of the MM phase are read as DXE expressions.
-/// (PI specification, volume 1, section 3.4, and volume 2, section 10.7.)
+/// (PI specification, volume 1, section 5.7, and volume 2, section 10.7.)
 #[derive(Clone, Copy, Debug, PartialEq, Eq)]
 pub enum Phase {
     /// PEI (volume 1): op codes 0x02 to 0x08, without BEFORE, AFTER and SOR.
@@ -13,7 +13,7 @@ pub enum Phase {
 }
 
 /// An op of a dependency expression, which is one step of its evaluation on a stack of truth
-/// values. (PI specification, volume 1, section 3.4, and volume 2, section 10.7.)
+/// values. (PI specification, volume 1, section 5.7, and volume 2, section 10.7.)
 #[derive(Clone, Copy, Debug, PartialEq, Eq)]
 pub enum Op {
     /// EFI_DEP_BEFORE, 0x00: the driver is dispatched right before the driver whose file has this

@@ -180,7 +180,7 @@ fn read_ops(alloc: Global, bytes: &[u8], phase: Phase) -> Result<(Vec<Op>, usize
 
 /// Reads the body of a dependency section (EFI_SECTION_PEI_DEPEX, EFI_SECTION_DXE_DEPEX or
 /// EFI_SECTION_MM_DEPEX) by the rules of the phase: the ops up to END, which must be a complete
-/// expression, and the bytes after END. (PI specification, volume 1, section 3.4, and volume 2,
+/// expression, and the bytes after END. (PI specification, volume 1, section 5.7, and volume 2,
 /// section 10.7.)
 ///
 /// # Errors
@@ -214,7 +214,7 @@ pub fn read_depex(alloc: Global, bytes: &[u8], phase: Phase) -> Result<Depex, De
 
 /// Returns the fault with which `read_depex` rejects the body of a dependency section, or None if
 /// the bytes begin with a complete expression. Allocates no memory. (PI specification, volume 1,
-/// section 3.4, and volume 2, section 10.7.)
+/// section 5.7, and volume 2, section 10.7.)
 pub fn depex_fault(bytes: &[u8], phase: Phase) -> Option<DepexFault>
     // If None is returned, the bytes spell some ops and a rest.
     ensures none { result ≡ None → (ops : List Op) × (rest : List ℕ) × Spells phase ops rest bytes.now }

@@ -90,7 +90,7 @@ fn evaluate_ops(alloc: Global, ops: &[Op], installed: &[Guid]) -> Result<Option<
 /// Returns the truth value of an expression when exactly the protocols (in PEI, the PPIs) with
 /// these GUIDs are installed, or None for BEFORE and AFTER, which have no truth value. SOR does not
 /// change the value. Each PUSH searches the installed GUIDs, so the time grows with the number of
-/// ops times the number of GUIDs. (PI specification, volume 1, section 3.4, and volume 2, section
+/// ops times the number of GUIDs. (PI specification, volume 1, section 5.7, and volume 2, section
 /// 10.7.)
 ///
 /// # Errors

@@ -35,7 +35,7 @@ fn spelled(alloc: Global, ops: &[Op], rest: &[u8]) -> Result<Vec<u8>, AllocError
 
 /// Returns the bytes of an expression: each op's code, with the GUID of an op that carries one, and
 /// then the bytes after END. These are the bytes from which the expression was read. (PI
-/// specification, volume 1, section 3.4, and volume 2, section 10.7.)
+/// specification, volume 1, section 5.7, and volume 2, section 10.7.)
 ///
 /// # Errors
 ///

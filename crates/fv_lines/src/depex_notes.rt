@@ -98,7 +98,7 @@ fn put_file<S: Sink>(out: &mut S, file: &FileView<'_>)
 
 /// Puts a line for each rejected dependency expression in the files of a volume. The sections of a
 /// file are taken in preorder: groups are searched, nested volumes are not. Allocates no memory.
-/// (PI specification, volume 1, section 3.4, and volume 2, section 10.7.)
+/// (PI specification, volume 1, section 5.7, and volume 2, section 10.7.)
 pub fn put_depex_notes<S: Sink>(out: &mut S, volume: &VolumeView<'_>)
     ensures { (notes : List DepexNote) × AreNotes (depexes_in (files_of volume.now)) notes
         × S.takes out.old (depex_lines notes) out.new }
