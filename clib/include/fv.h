@@ -51,8 +51,8 @@
  *   1 to 24, 0x201 ..,   The first fault of the input. docs/FAULTS.md lists the faults and their order. 24 is out of
  *   0x301 ..             memory, in every call. It may replace any later result as soon as memory runs out; but a call
  *                        that reads its input as a volume returns it only if that input begins with the header of a
- *                        volume. Faults 22 and 23 of fv_volume_extract are about the requested part. Only `fault` was
- *                        written.
+ *                        volume. Faults 22 and 23 of fv_volume_extract are about the requested part: `depth` counts
+ *                        only groups and opened volumes inside this part. Only `fault` was written.
  *   FV_NOT_FOUND         The tree of the volume has no row with the number that was passed. Returned only if the input
  *                        is a volume. Only `fault` was written: its fields are 0.
  *   FV_BUFFER_TOO_SMALL  The buffer is too small. Returned only if the input has no fault and the part exists. Only the
@@ -254,15 +254,17 @@ FV_ASSERT_(sizeof(fv_comparison) == 16 && offsetof(fv_comparison, text_length) =
                offsetof(fv_comparison, same) == 8 && offsetof(fv_comparison, reserved) == 12,
            "the layout of fv_comparison");
 
-/* A cell of a volume's body. A field that the cell does not have is 0. */
+/* A cell of a volume's body. The length of a valid file (FV_CELL_FILE) or a pad does not include the filler after it,
+ * but the length of a deleted or unfinished file does. The fields from header_length on are 0 in any cell that is
+ * neither a valid file nor a pad. */
 typedef struct fv_cell {
     uint64_t offset;        /* from the first byte of the volume */
-    uint64_t length;        /* the number of its bytes; for a file or a pad, without the filler after it */
+    uint64_t length;        /* the number of its bytes */
     uint32_t kind;          /* FV_CELL_* */
-    uint32_t header_length; /* of a file or a pad, 24 or 32: its data begin at offset + header_length */
-    uint32_t efi_type;      /* Type of a file or a pad */
-    uint32_t attributes;    /* Attributes of a file or a pad, as stored: with 0x01 if its header is large */
-    fv_guid name;           /* Name of a file or a pad */
+    uint32_t header_length; /* of a valid file or a pad, 24 or 32: its data begin at offset + header_length */
+    uint32_t efi_type;      /* Type of a valid file or a pad */
+    uint32_t attributes;    /* Attributes of a valid file or a pad, as stored: with 0x01 if its header is large */
+    fv_guid name;           /* Name of a valid file or a pad */
     uint64_t reserved;      /* 0 */
 } fv_cell;
 FV_ASSERT_(sizeof(fv_cell) == 56 && offsetof(fv_cell, offset) == 0 && offsetof(fv_cell, length) == 8 &&
@@ -281,8 +283,8 @@ typedef struct fv_node {
     uint32_t kind;          /* FV_NODE_* */
     uint32_t content;       /* FV_CONTENT_* */
     uint32_t efi_type;      /* Type of a file or a section */
-    uint32_t attributes;    /* Attributes of a volume; of a file, without bit 0x01, which header_length 32 shows */
-    uint32_t header_length; /* HeaderLength of a volume; 24 or 32 for a file, 4 or 8 for a section, before offset */
+    uint32_t attributes;    /* Attributes of a volume; of a file, without bit 0x01 (it is set if header_length is 32) */
+    uint32_t header_length; /* HeaderLength of a volume; file: 24 or 32, section: 4 or 8; their header ends at offset */
     fv_guid guid;           /* FvName of a volume, or zeros if it has none; Name of a file */
     uint32_t file_system;   /* for a volume 2: FFS2, 3: FFS3 */
     uint32_t reserved[3];   /* 0 */
@@ -425,8 +427,8 @@ FV_CHECKED_ fv_result fv_volume_tree_digests(const void *volume, size_t size, fv
 FV_CHECKED_ fv_result fv_volume_extract(const void *volume, size_t size, size_t row, void *buffer, size_t buffer_size,
                                         size_t *length, fv_fault *fault);
 
-/* Evaluates the dependency expression with which the bytes begin, if the GUIDs of `installed` are installed and no
- * others, and sets *value to FV_DEPEX_*. Bytes after the END op are not read.
+/* Evaluates the dependency expression with which the bytes begin, as if exactly the GUIDs of `installed` were
+ * installed, and sets *value to FV_DEPEX_*. `phase` is FV_PHASE_*. Bytes after the END op are not read.
  * Returns FV_OK. Otherwise returns the first fault, 0x201 to 0x205 or 24, and leaves *value unchanged. Memory can run
  * out only if the bytes begin with an op that may be the first. */
 FV_CHECKED_ fv_result fv_depex_evaluate(const void *expression, size_t size, uint32_t phase, const fv_guid *installed,

@@ -82,7 +82,7 @@ INLINE bool are_bad(struct span a, struct span b, struct span c, struct span d, 
     if (!LIKELY(!are_bad(RESULT(fault), a, b, c, d))) return FV_BAD_ARGUMENT
 
 /* If the caller does not ask for the fault, makes the call again with a variable `unwanted`. No other path of the call
- * has a variable on the stack, so the proved call can take the place of this one. */
+ * has a variable on the stack, so the compiler can jump to the proved call (a tail call). */
 #define NEEDS_FAULT(...)                  \
     if (!LIKELY(fault != NULL)) {         \
         fv_fault unwanted;                \

@@ -467,7 +467,8 @@ static int parts(struct bytes in)
     return 0;
 }
 
-/* Ends the run unless a call has returned this result with this fault. */
+/* Ends the run unless a call has returned the wanted result, and its fault agrees with the result: all its fields are 0
+ * if the call rejects nothing, and otherwise it has this result. */
 static void expect(fv_result result, const fv_fault *fault, fv_result wanted)
 {
     if (result != wanted || fault->input || fault->reserved) abort();
@@ -475,8 +476,8 @@ static void expect(fv_result result, const fv_fault *fault, fv_result wanted)
         abort();
 }
 
-/* Checks the tree of an input, its digests and its first parts, which depend on the results of normalise and
- * is_canonical. */
+/* Checks the tree of an input, its digests and its first parts. `image` is the canonical image, `made` the result of
+ * normalise, `read` the result of is_canonical, and `sum` the digest of the image. */
 static void vary_tree(struct bytes in, const uint8_t *image, fv_result made, fv_result read, const fv_sha256 *sum)
 {
     enum { ROWS = 2048, PARTS = 8 };

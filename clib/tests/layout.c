@@ -143,7 +143,7 @@ static void rows_of_an_image(void)
 
 static void cells(void)
 {
-    /* bit 0x10 was written; the highest written bit is 0x02 */
+    /* The highest bit that was written is 0x10 in the first state, and 0x02 in the others. (Erased bits are 1.) */
     static const struct {
         uint8_t state;
         uint32_t kind;

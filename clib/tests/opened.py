@@ -93,7 +93,7 @@ def test_fixed() -> None:
 
 
 def test_places() -> None:
-    """Finds volumes that are not at a multiple of 8, if no other volume is in the image."""
+    """Finds volumes that are not at a multiple of 8, if no volume of the image is at a multiple of 8."""
     found = images.read(bytes(28) + made.volume([made.A]) + made.SMALL).volumes
     assert [it.offset for it in found] == [28, 28 + 0x8000]
     assert [it.offset for it in images.read(made.volume([made.A]) + bytes(4) + made.SMALL).volumes] == [0]

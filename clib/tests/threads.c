@@ -11,7 +11,7 @@ static size_t size;
 static int turns;
 static struct outcome usual[CALLS];
 
-/* Returns whether a call has the same outcome as before. */
+/* Returns whether two outcomes of a call differ. */
 static int differs(const struct outcome *a, const struct outcome *b, const struct call *call)
 {
     if (a->result != b->result || memcmp(&a->fault, &b->fault, sizeof a->fault) || a->needed != b->needed) return 1;

@@ -116,8 +116,8 @@ def check_headers(table: list[str]) -> int:
 
 
 def file_text(cell: fv.Cell, header: bytes) -> str:
-    """Returns the text of `cells` after the length of a file. The fields of a file or a pad are the fields of its
-    header."""
+    """Checks that a valid file or a pad has the fields of its header. Returns the text of `cells` after the length of a
+    file, and an empty text for a pad."""
     assert cell.name is not None and cell.attributes is not None and cell.header_length is not None
     assert (cell.name.bytes_le, cell.efi_type, cell.attributes) == (header[:16], header[18], header[19])
     assert cell.header_length == (32 if cell.attributes & 1 else 24)
@@ -227,8 +227,9 @@ def replaced(data: bytes) -> Iterator[bytes]:
 
 
 def agree(data: bytes) -> bool:
-    """Returns whether two calls agree on some bytes: true if the bytes are their own image, false if they have another
-    image or do not fit, and otherwise the same fault."""
+    """Returns whether two calls agree on some bytes. If the bytes are a volume, volume_is_canonical returns whether
+    volume_normalise returns the same bytes, and false if the volume does not fit. Otherwise both calls have the same
+    fault."""
     judged, image = outcome(fv.volume_is_canonical, data), outcome(fv.volume_normalise, data)
     if isinstance(judged, bool):
         return judged == (image == data) and (isinstance(image, bytes) or image[0] in (NO_ROOM, TOP_ALIGNMENT))
@@ -244,7 +245,7 @@ def keeps(data: bytes) -> bool:
 
 
 def check_replaced(names: list[str], holds: Callable[[bytes], bool]) -> int:
-    """Checks these two conditions for each replaced byte of these volumes."""
+    """Checks that the condition holds for these volumes with each byte replaced. Returns the number of inputs."""
     count = 0
     for name in names:
         for data in replaced(rows.spelled(name)):

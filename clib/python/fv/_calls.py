@@ -179,7 +179,8 @@ def _part(address: Any, size: int, number: int) -> bytes:
 def volume_extract(volume: Buffer, row: SupportsIndex, *, copy: bool = True) -> bytes:
     """Returns the bytes of a part as the canonical image has them. `row` is the number of the part's row in
     volume_tree(volume). A volume's row gives its canonical image, a file's row its data, and a section's row its body.
-    Raises IndexError if there is no row with this number."""
+    Raises IndexError if there is no row with this number. If a volume in the part does not fit (NO_ROOM,
+    TOP_ALIGNMENT), the depth of the fault counts only groups and opened volumes inside the part."""
     number = operator.index(row)
     if not 0 <= number < 2**64:  # ctypes would cut it to 64 bits
         raise IndexError(result_text(native.NOT_FOUND))

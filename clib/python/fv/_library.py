@@ -65,8 +65,9 @@ def _load() -> c.CDLL:
 
 lib: Any = _Library()
 
-# These functions of Python are fetched by [], so that their types are not shared with other users of ctypes. Makes a
-# bytes object with undefined contents, so that an image is neither zeroed first nor copied afterwards.
+# These functions of Python are fetched by [], so that their types are not shared with other users of ctypes.
+# `_bytes_of` makes a bytes object with undefined contents, so that an image is neither zeroed first nor copied
+# afterwards.
 _bytes_of = c.pythonapi["PyBytes_FromStringAndSize"]
 _bytes_of.restype, _bytes_of.argtypes = c.py_object, [c.c_void_p, c.c_ssize_t]
 # Up to about this size, bytes(size) takes less time than _bytes_of, although it writes zeros.

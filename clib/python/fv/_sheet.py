@@ -95,7 +95,7 @@ class Drawing:
 
 
 def drawing_of(path: str, image: Content, most_volumes: int) -> Drawing:
-    """Returns the sheet of an image that was read with its sections opened."""
+    """Returns the drawing of an image that was read with its sections opened."""
     maker = _Maker(most_volumes)
     sheets = maker.sheets(image.volumes)
     rest = image.volumes[len(sheets) :]

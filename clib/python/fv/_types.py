@@ -50,8 +50,9 @@ class VolumeCheck:
 
 @dataclass(frozen=True, slots=True)
 class Cell:
-    """A cell of a volume's body: its offset and length in bytes, and its kind. A file or a pad also has the length of
-    its header, its Type, its Attributes and its Name, as stored. These are None for any other cell."""
+    """A cell of a volume's body: its offset and length in bytes, and its kind. A valid file or a pad also has the
+    length of its header, its Type, its Attributes and its Name, as stored. These are None for any other cell. The
+    length includes the filler after a deleted or unfinished file, but not the filler after a valid file or a pad."""
 
     offset: int
     length: int

@@ -35,7 +35,7 @@ def draw(image: Drawing, against: Drawing | None, names: Names) -> str:
 
 
 def drawing(path: str) -> Drawing:
-    """Returns the sheet of the image in a file."""
+    """Returns the drawing of the image in a file."""
     try:
         image = images.read(cli.read_for(NAME, path))
     except Full as what:

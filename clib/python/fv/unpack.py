@@ -47,16 +47,16 @@ from .names import DEPEX, PE32, TE, Names
 from .shown import file_name, printable
 
 NAME = "fv-unpack"
-IMAGE = "image"  # the start of the offsets of parts that are not in an opened section
+IMAGE = "image"  # `within` of a part that is not in an opened section: its offset counts from the image's start
 INDEX = "index.tsv"
 ROOM = ".fv-unpack"  # the folder that a run writes to until everything is written
 
 
 @dataclass(frozen=True)
 class Entry:
-    """A part of an image: its path (the path of a folder ends with a slash), the start of its offset, its kind, its
-    type, its GUID and its name, and a note. `line` is a line of text about it, and `status` the least status of a run
-    that unpacks it."""
+    """A part of an image: its path (the path of a folder ends with a slash), from where its offset counts (`within`:
+    the image, or the folder of an opened section), its kind, its type, its GUID and its name, and a note. `line` is a
+    line of text about it, and `status` the least status of a run that unpacks it."""
 
     path: str
     part: Part
@@ -82,7 +82,7 @@ class Entry:
 
 @dataclass(frozen=True)
 class Place:
-    """The place of parts: the start of their offsets, and the name of the file around them."""
+    """The place of parts: from where their offsets count, and the name of the file around them."""
 
     within: str = IMAGE
     holder: str = ""

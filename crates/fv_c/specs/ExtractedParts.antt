@@ -34,8 +34,8 @@ ExtractsTo row input bytes =
 abbrev pub HasNoRow : ℕ → List ℕ → Type 0
 HasNoRow row input = (m : Meaning) × Accepted input m × (length (tree_rows m) ≤ row)
 
--- the input is a volume whose tree has this row, and f is the fault of the first volume inside the row's part that does
--- not fit
+-- the input is a volume whose tree has this row, and f is the fault of the first volume in the row's part that does not
+-- fit. If the part is a volume, it is the first. The depth of f counts only groups and opened volumes inside the part
 abbrev pub HasUnfitRow : ℕ → List ℕ → Fault → Type 0
 HasUnfitRow row input f =
     (m : Meaning) × (node : NodeMeaning) × Accepted input m × (part_at row m ≡ Some node)

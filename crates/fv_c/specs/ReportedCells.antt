@@ -7,8 +7,8 @@ use Rattle.fv_file.specs.declared.state.FileState.{FileState}
 use Rattle.fv_file.specs.declared.state.FileState.TheVariants as states
 use Rattle.fv_c.specs.declared.cells.FvCell.{FvCell}
 
--- the report of a file or a pad: its offset, the number of its kind, and the fields of its header, which has 32 bytes
--- in a large file and 24 bytes in any other
+-- the report of a valid file or a pad: its offset, the number of its kind, and the fields of its header, which has 32
+-- bytes in a large file and 24 bytes in any other
 abbrev pub of_file : ℕ → ℕ → FileHead → FvCell
 of_file at kind head = record {
   offset = at;

@@ -46,7 +46,7 @@ node_type (VolumeNode m) = 0
 node_type (FileNode f) = file_kind_of f
 node_type (SectionNode s) = section_kind_of s
 
--- Attributes of a volume, or of a file, without FFS_ATTRIB_LARGE_FILE; 0 for a section
+-- Attributes of a volume, with all bits; Attributes of a file, without FFS_ATTRIB_LARGE_FILE; 0 for a section
 abbrev pub node_attributes : NodeMeaning → ℕ
 node_attributes (VolumeNode m) = (head_of m).attributes
 node_attributes (FileNode f) = attributes_of f

@@ -16,8 +16,8 @@ pub record TreeRow : Type 0 where
   pub number : ℕ
   pub node : NodeMeaning
 
--- the number of the last row before a row, with a depth that is one less. `before` are the depths of the rows before the
--- row, the last of these rows first. The number is 0 if none of the rows has this depth
+-- the number of the last of the preceding rows whose depth is one less than `depth`, or 0 if there is no such row.
+-- `before` contains the depths of the preceding rows, in reverse order
 abbrev pub last_above : (depth : ℕ) (before : List ℕ) → ℕ
 last_above depth [] = 0
 last_above depth (d ∷ before) = if d + 1 == depth then length before else last_above depth before
@@ -26,7 +26,7 @@ last_above depth (d ∷ before) = if d + 1 == depth then length before else last
 abbrev pub parent_of : (depth : ℕ) (before : List ℕ) → ℕ
 parent_of depth before = if depth == 0 then no_parent else last_above depth before
 
--- the rows with their parents. `before` are the depths of the rows before them, the last of them first
+-- the rows with their parents. `before` contains the depths of the rows that precede them, in reverse order
 abbrev pub with_parents : (before : List ℕ) → List Row → List TreeRow
 with_parents before [] = []
 with_parents before (r ∷ rows) =

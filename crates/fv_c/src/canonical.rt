@@ -63,7 +63,8 @@ pub struct FvSha256 {
     pub bytes: [u8; 32],
 }
 
-// Returns the SHA-256 digest of the input's canonical image. The input is a volume.
+// Returns the SHA-256 digest of the input's canonical image, or the fault for which `normalise`
+// rejects the input.
 fn digest_of(alloc: Global, volume: &[u8]) -> Result<FvSha256, Fault>
     ensures ok { IfOk result (λ d. (image : List ℕ) × NormalisesTo volume.now image × (d.bytes ≡ sha256 image)) }
     ensures err { IfErr result (OrMemory (Rejects volume.now)) }
@@ -193,8 +194,9 @@ pub extern "C" fn fvp_image_normalise(
         × (length buffer.old < length bytes) × (fault.new ≡ no_fault) }
     ensures room { length buffer.old < length image.now → result ≢ 0 }
 
-    // Any other result is the fault of the first volume that has no image, or out of memory. Memory
-    // can run out only if the image is within the limit and a volume begins in it.
+    // Any other result is Length, if the image has more than `VOLUME_LIMIT` bytes (256 MiB), or the
+    // fault of the first volume that has no image, or out of memory. Memory can run out only if the
+    // image is within this limit and a volume begins in it.
     ensures err { result ≢ 0 → result ≢ 256 → (f : Fault) × OrMemory (RejectsAll image.now) f
         × (f ≡ out_of_memory → (length image.now ≤ volume_limit) × ((place : ℕ) × IsPlace image.now place))
         × (result ≡ fault_number f.kind) × (fault.new ≡ reported_fault f) }

@@ -18,25 +18,26 @@ use fv_file::{Cell, Cells, FileAttributes, FileHead, FileState};
 use fv_tree::volume_cells;
 use std::alloc::Global;
 
-/// A cell of a volume's body. A field that the cell does not have is 0. (PI specification, volume
-/// 3, sections 3.2.2 and 3.2.3.)
+/// A cell of a volume's body. The fields from `header_length` on are 0 in any cell that is neither
+/// a valid file nor a pad. (PI specification, volume 3, sections 3.2.2 and 3.2.3.)
 #[repr(C)]
 #[derive(Clone, Copy)]
 pub struct FvCell {
     /// The cell's offset in bytes from the volume's start.
     pub offset: u64,
-    /// The cell's length in bytes. The filler after a file or a pad is not included.
+    /// The cell's length in bytes. It includes the filler after a deleted or unfinished file, but
+    /// not the filler after a valid file or a pad.
     pub length: u64,
     /// 1: a valid file; 2: a pad; 3: a file that was deleted; 4: a file whose data or header were
     /// never finished; 5: free bytes.
     pub kind: u32,
-    /// The number of bytes of the header of a file or a pad, 24 or 32. Its data follow the header.
+    /// The number of bytes of the header of a valid file or a pad, 24 or 32. The data follow it.
     pub header_length: u32,
-    /// `Type` of a file or a pad.
+    /// `Type` of a valid file or a pad.
     pub efi_type: u32,
-    /// `Attributes` of a file or a pad.
+    /// `Attributes` of a valid file or a pad.
     pub attributes: u32,
-    /// `Name` of a file or a pad, as its 16 bytes in the volume.
+    /// `Name` of a valid file or a pad, as its 16 bytes in the volume.
     pub name: [u8; 16],
     /// Always 0.
     pub reserved: u64,
@@ -53,7 +54,7 @@ fn header_length(attributes: FileAttributes) -> u32
     }
 }
 
-// Returns the report for C of a file or a pad.
+// Returns the report for C of a valid file or a pad.
 fn of_file(offset: u64, kind: u32, head: FileHead) -> FvCell
     ensures { result ≡ of_file offset kind head }
 {

@@ -103,9 +103,10 @@ fn report(
 ///
 /// The number of the first fault of an input, which is in `fault` with the number of the input, 0
 /// or 1: a fault of `whole_volume`; 24 if memory runs out, with the input 0 if the two are being
-/// compared. The second input is read only if the first is a volume. `found` is unchanged then. If
-/// there is no fault, 256 if the buffer is shorter than the text with its byte 0, which is at most
-/// `DIFFERENCE_SIZE`; `found` is written then. The buffer is unchanged in all cases.
+/// compared. `found` is unchanged after a fault. The second input is read only if the first is a
+/// volume. If there is no fault, 256 if the buffer is shorter than the text and its byte 0, which
+/// have at most `DIFFERENCE_SIZE` bytes; `found` is written then. The buffer is unchanged in all
+/// cases.
 #[unsafe(no_mangle)]
 pub extern "C" fn fvp_volume_compare(
     alloc: Global,

@@ -101,8 +101,8 @@ pub extern "C" fn fvp_depex_evaluate(
     value: &mut u32,
     fault: &mut FvFault,
 ) -> u32
-    // The bytes spell these ops and this rest. The value is the truth value of the tree that has
-    // these ops.
+    // The bytes spell these ops, and this rest after END. The value is the truth value of the tree
+    // that has these ops, or 2 if the expression is a BEFORE or an AFTER.
     ensures ok { result ≡ 0 → (ops : List Op) × (rest : List ℕ) × Spells (phase_by_number phase) ops rest expression.now
         × ((t : Expression) → IsTree (phase_by_number phase) ops t
         → value.new ≡ reported_truth (Some (truth (map passed_guid installed.now) t)))

@@ -155,19 +155,20 @@ fn put_extracted(
     put_row(alloc, &view, row, buffer, len)
 }
 
-/// Writes the part of a row of `fvp_volume_tree` to the start of the buffer, as the canonical image
-/// of the volume, which is the whole input, holds the part. A volume's part is its canonical image,
-/// a file's part its data, and a section's part its body. Row 0 is the volume itself. `len` is the
+/// Writes a part of a volume, which is the whole input, to the start of the buffer, with the bytes
+/// that the part has in the volume's canonical image. `row` is the number of the part's row in
+/// `fvp_volume_tree`. The part of a volume's row is its canonical image, the part of a file's row
+/// its data, and the part of a section's row its body. Row 0 is the volume itself. `len` is the
 /// length of the part in bytes. Returns 0. (PI specification, volume 3, sections 3.2.1, 3.2.3 and
 /// 3.2.4.)
 ///
 /// # Errors
 ///
 /// The number of the first fault, which is in `fault`: a fault of `whole_volume`; then the fault of
-/// the first volume in the part that does not fit; 24 if memory runs out. `len` is unchanged then.
-/// 257 if the volume has no row with this number: `row` is at least the `count` of
-/// `fvp_volume_tree`. `len` is unchanged then. 256 if the buffer is shorter than `len`. The buffer
-/// is unchanged in all cases.
+/// the first volume in the part that does not fit, whose depth counts only groups and opened
+/// volumes inside the part; 24 if memory runs out. `len` is unchanged then. 257 if the volume has
+/// no row with this number: `row` is at least the `count` of `fvp_volume_tree`. `len` is unchanged
+/// then. 256 if the buffer is shorter than `len`. The buffer is unchanged in all cases.
 #[unsafe(no_mangle)]
 pub extern "C" fn fvp_volume_extract(
     alloc: Global,
@@ -189,8 +190,8 @@ pub extern "C" fn fvp_volume_extract(
     ensures absent { result ≡ 257 → HasNoRow row volume.now × (len.new ≡ len.old) × (fault.new ≡ no_fault) }
 
     // Any other result is the first fault of the input, the fault of the first volume in the part
-    // that does not fit, or out of memory. Memory can run out only if the input begins with the
-    // header of a volume.
+    // that does not fit (its depth counts from the part), or out of memory. Memory can run out only
+    // if the input begins with the header of a volume.
     ensures err { result ≢ 0 → result ≢ 256 → result ≢ 257 → (f : Fault)
         × ((f ≡ out_of_memory) ⊎ (NotRead volume.now f ⊎ HasUnfitRow row volume.now f))
         × (f ≡ out_of_memory → BeginsWithHeader volume.now)

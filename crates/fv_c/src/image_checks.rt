@@ -77,8 +77,8 @@ impl Translate for VolumeCheck {
 /// # Errors
 ///
 /// 256 if the buffer has fewer elements than `count`. The number of a fault, which is in `fault`: 8
-/// if the image is above the limit; 24 if memory runs out. `count` is unchanged then. The buffer is
-/// unchanged in both cases.
+/// (Length) if the image has more than `VOLUME_LIMIT` bytes (256 MiB); 24 if memory runs out.
+/// `count` is unchanged then. The buffer is unchanged in both cases.
 #[unsafe(no_mangle)]
 pub extern "C" fn fvp_image_check(
     alloc: Global,
@@ -96,8 +96,8 @@ pub extern "C" fn fvp_image_check(
     ensures small { result ≡ 256 → (checks : List VolumeCheck) × ChecksImage image.now checks
         × (count.new ≡ length checks) × (length rows.old < length checks) × (fault.new ≡ no_fault) }
 
-    // Any other result is Length, if the image is longer than the limit, or out of memory. Memory
-    // can run out only if the image is within the limit and a volume begins in it.
+    // Any other result is Length, if the image has more than `VOLUME_LIMIT` bytes, or out of
+    // memory. Memory can run out only if the image is within this limit and a volume begins in it.
     ensures err { result ≢ 0 → result ≢ 256 → (f : Fault) × OrMemory (IsAboveLimit image.now) f
         × (f ≡ out_of_memory → (length image.now ≤ volume_limit) × ((place : ℕ) × IsPlace image.now place))
         × (result ≡ fault_number f.kind) × (fault.new ≡ reported_fault f) × (count.new ≡ count.old) }

@@ -28,7 +28,7 @@ pub const HOB_FAULTS: u32 = 0x300;
 #[repr(C)]
 #[derive(Clone, Copy)]
 pub struct FvFault {
-    /// The offset in bytes from the first byte that was passed to the call.
+    /// The offset in bytes from the first byte of the input that has the fault.
     pub offset: u64,
     /// The result of the call: the number of the `FaultKind`, or a number that begins with
     /// `DEPEX_FAULTS` or `HOB_FAULTS`.

@@ -18,7 +18,8 @@ use fv_rows::{Digests, TreeWalk};
 use fv_tree::VolumeView;
 use std::alloc::{AllocError, Global};
 
-// Returns the digests of the rows of a volume. `starts` are the starts of its layout.
+// Returns the digests of the rows of a volume. `starts` are the starts of the volume's files, and
+// of the files of the volumes inside it, in its layout.
 fn row_digests(
     alloc: Global,
     volume: &VolumeView<'_>,

@@ -186,23 +186,25 @@ pub struct fv_comparison {
     pub reserved: u32,
 }
 
-/// A cell of a volume's body. A field that the cell does not have is 0.
+/// A cell of a volume's body. The length of a valid file (`FV_CELL_FILE`) or a pad does not include
+/// the filler after it, but the length of a deleted or unfinished file does. The fields from
+/// header_length on are 0 in any cell that is neither a valid file nor a pad.
 #[repr(C)]
 #[derive(Clone, Copy, Debug, Default, PartialEq, Eq, Hash)]
 pub struct fv_cell {
     /// From the first byte of the volume.
     pub offset: u64,
-    /// The number of its bytes; for a file or a pad, without the filler after it.
+    /// The number of its bytes.
     pub length: u64,
     /// `FV_CELL_*`.
     pub kind: u32,
-    /// Of a file or a pad, 24 or 32: its data begin at offset + header_length.
+    /// Of a valid file or a pad, 24 or 32: its data begin at offset + header_length.
     pub header_length: u32,
-    /// Type of a file or a pad.
+    /// Type of a valid file or a pad.
     pub efi_type: u32,
-    /// Attributes of a file or a pad, as stored: with 0x01 if its header is large.
+    /// Attributes of a valid file or a pad, as stored: with 0x01 if its header is large.
     pub attributes: u32,
-    /// Name of a file or a pad.
+    /// Name of a valid file or a pad.
     pub name: fv_guid,
     /// 0.
     pub reserved: u64,
@@ -228,9 +230,9 @@ pub struct fv_node {
     pub content: u32,
     /// Type of a file or a section.
     pub efi_type: u32,
-    /// Attributes of a volume; of a file, without bit 0x01, which header_length 32 shows.
+    /// Attributes of a volume; of a file, without bit 0x01 (it is set if header_length is 32).
     pub attributes: u32,
-    /// HeaderLength of a volume; 24 or 32 for a file, 4 or 8 for a section, before offset.
+    /// HeaderLength of a volume; file: 24 or 32, section: 4 or 8; their header ends at offset.
     pub header_length: u32,
     /// FvName of a volume, or zeros if it has none; Name of a file.
     pub guid: fv_guid,
@@ -503,11 +505,11 @@ extern "C" {
         fault: *mut fv_fault,
     ) -> fv_result;
 
-    /// Evaluates the dependency expression with which the bytes begin, if the GUIDs of `installed`
-    /// are installed and no others, and sets `*value` to `FV_DEPEX_*`. Bytes after the END op are
-    /// not read. Returns `FV_OK`. Otherwise returns the first fault, 0x201 to 0x205 or 24, and
-    /// leaves `*value` unchanged. Memory can run out only if the bytes begin with an op that may be
-    /// the first.
+    /// Evaluates the dependency expression with which the bytes begin, as if exactly the GUIDs of
+    /// `installed` were installed, and sets `*value` to `FV_DEPEX_*`. `phase` is `FV_PHASE_*`.
+    /// Bytes after the END op are not read. Returns `FV_OK`. Otherwise returns the first fault,
+    /// 0x201 to 0x205 or 24, and leaves `*value` unchanged. Memory can run out only if the bytes
+    /// begin with an op that may be the first.
     pub fn fv_depex_evaluate(
         expression: *const c_void,
         size: usize,

@@ -27,7 +27,7 @@ pub enum Truth {
     Order,
 }
 
-/// Evaluates the dependency expression with which the bytes begin, if exactly these GUIDs are
+/// Evaluates the dependency expression with which the bytes begin, as if exactly these GUIDs were
 /// installed. Bytes after its END op are not read.
 ///
 /// ```

@@ -43,7 +43,8 @@ impl Cell {
         self.0.offset as usize
     }
 
-    /// Returns the number of bytes, for a file or a pad without the filler after it.
+    /// Returns the number of bytes. It includes the filler after a deleted or unfinished file, but
+    /// not the filler after a valid file or a pad.
     pub fn length(&self) -> usize {
         self.0.length as usize
     }
@@ -65,23 +66,23 @@ impl Cell {
         }
     }
 
-    /// Returns the number of bytes of the header of a file or a pad, whose data follow the header.
-    /// Returns `None` for other cells.
+    /// Returns the number of bytes of the header of a valid file or a pad, whose data follow the
+    /// header. Returns `None` for other cells.
     pub fn header_length(&self) -> Option<usize> {
         self.has_header().then_some(self.0.header_length as usize)
     }
 
-    /// Returns `Type` of a file or a pad, and `None` for other cells.
+    /// Returns `Type` of a valid file or a pad, and `None` for other cells.
     pub fn efi_type(&self) -> Option<u8> {
         self.has_header().then(|| narrow(self.0.efi_type, "Type"))
     }
 
-    /// Returns `Attributes` of a file or a pad, and `None` for other cells.
+    /// Returns `Attributes` of a valid file or a pad, and `None` for other cells.
     pub fn attributes(&self) -> Option<u32> {
         self.has_header().then_some(self.0.attributes)
     }
 
-    /// Returns `Name` of a file or a pad, and `None` for other cells.
+    /// Returns `Name` of a valid file or a pad, and `None` for other cells.
     pub fn name(&self) -> Option<Guid> {
         let name = self.0.name.bytes;
         self.has_header().then_some(Guid::from_bytes_le(name))
@@ -512,7 +513,8 @@ pub fn tree_digests(volume: &[u8]) -> Result<Vec<NodeDigest>, Error> {
 ///
 /// [`Error::NoSuchRow`] if the tree has no row with this number. [`Error::Rejected`] if the bytes
 /// are not a volume, or if a volume in the part does not fit in the canonical form
-/// ([`NoRoom`](crate::FaultKind::NoRoom), [`TopAlignment`](crate::FaultKind::TopAlignment)).
+/// ([`NoRoom`](crate::FaultKind::NoRoom), [`TopAlignment`](crate::FaultKind::TopAlignment)). The
+/// depth of such a fault counts only groups and opened volumes inside the part.
 /// [`Error::OutOfMemory`] if memory runs out.
 pub fn extract(volume: &[u8], row: usize) -> Result<Vec<u8>, Error> {
     // No part is longer than the volume. Memory that is never written to costs little.

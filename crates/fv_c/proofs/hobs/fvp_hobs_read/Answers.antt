@@ -17,7 +17,8 @@ returns-in-Err-clause-err c = λ _ _. (
   refl,
 )
 
--- what was written and counted of the blocks of a list, once they are known to be the blocks that were found
+-- if the buffer and the count are right for a list of blocks, they are right for the blocks that were found, because
+-- the two lists are equal
 of_found : (hobs : List HobForm) {all : List HobForm} {old new : List FvHob} {result count : ℕ} → all ≡ hobs
     → IsWritten (map reported_hob all) old new result → count ≡ length all
     → IsWritten (map reported_hob hobs) old new result × (count ≡ length hobs)

@@ -5,8 +5,8 @@ use Rattle.fv_c.proofs.WalkRows.{AreRowDigests}
 use Rattle.fv_c.specs.declared.canonical.FvSha256.{FvSha256}
 use Rattle.fv_c.proofs.tree_digests.row_digests.Given as goal
 
--- the starts cover the rows that are left; the digests that were added, followed by the digests of these rows, are the
--- digests of all rows
+-- the starts that are left begin with the starts of the files of the volumes among the rows that are left; the digests
+-- that were added, followed by the digests of these rows, are the digests of all rows
 abbrev pub invariant-loop-row : goal.invariant-loop-row
 invariant-loop-row l =
     goal.iterator-loop-row.can_next l.row-iterator
