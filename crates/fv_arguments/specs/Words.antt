@@ -1,4 +1,5 @@
--- The door of this crate: all definitions of its `specs/` that other crates may import.
+-- The door of this crate: other crates import the definitions of its `specs/` from this file. Only definitions of
+-- `specs/inner/` are imported directly.
 pub use Rattle.fv_arguments.specs.Options.{flag_rule, option_rule, at_rule, other_at_rule, flag_app, one_input_app}
 pub use Rattle.fv_arguments.specs.Options.{volume_app, image_app, list_app, hobs_app, extract_app, compare_app}
 pub use Rattle.fv_arguments.specs.Options.{rows_in, faults_in, text_in, flag_in}

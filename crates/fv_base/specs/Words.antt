@@ -1,4 +1,5 @@
--- The door of this crate: all definitions of its `specs/` that other crates may import.
+-- The door of this crate: other crates import the definitions of its `specs/` from this file. Only definitions of
+-- `specs/inner/` are imported directly.
 pub use Rattle.fv_base.specs.Limits.{volume_limit, header_limit, ext_limit, depth_limit}
 pub use Rattle.fv_base.specs.Value.{IsBytes, le, le_bytes, field, le_at, up_to_8}
 pub use Rattle.fv_base.specs.Sums.{words_of, sum16_of}

@@ -30,8 +30,9 @@ pub const HOB_FAULTS: u32 = 0x300;
 pub struct FvFault {
     /// The offset in bytes from the first byte of the input that has the fault.
     pub offset: u64,
-    /// The result of the call: the number of the `FaultKind`, or a number that begins with
-    /// `DEPEX_FAULTS` or `HOB_FAULTS`.
+    /// The result of the call: the number of the `FaultKind`; or, for a fault of an expression or
+    /// of a hand-off list, `DEPEX_FAULTS` or `HOB_FAULTS` plus the number of its kind. If memory
+    /// runs out, it is always 24.
     pub result: u32,
     /// The number of groups and opened volumes around the fault; 0 in expressions and hand-off
     /// lists.

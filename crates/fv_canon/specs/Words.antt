@@ -1,4 +1,5 @@
--- The door of this crate: all definitions of its `specs/` that other crates may import.
+-- The door of this crate: other crates import the definitions of its `specs/` from this file. Only definitions of
+-- `specs/inner/` are imported directly.
 pub use Rattle.fv_canon.specs.PlacedBytes.{PlacedBytes, ContainsSpan, IsIn, ShowsPlaced}
 pub use Rattle.fv_canon.specs.StoredFiles.{StoredFile, head_len_for, size_for, stored_len, long_pad, pads, used_size}
 pub use Rattle.fv_canon.specs.StoredFiles.{placed_files, placed_in_volume}

@@ -82,10 +82,10 @@ fn check_at(alloc: Global, image: &[u8], volume: FoundVolume) -> Result<VolumeCh
 /// Length at the limit of 268,435,456 bytes, if the image is longer. OutOfMemory at 0, only if a
 /// volume begins in the image.
 pub fn check_image(alloc: Global, image: &[u8]) -> Result<Vec<VolumeCheck>, Fault>
-    // There is one check for each volume of the image, and its outcome describes the volume.
-    // Canonical: the volume is its own canonical image. NotCanonical: it is a volume, but is not
-    // its own canonical image, and may have none. Rejected: it is not a volume, and the fault is
-    // its first, at its offset in the image.
+    // There is one check for each volume that `volumes` finds in the image. Canonical: the volume
+    // is accepted, and is its own canonical image. NotCanonical: the volume is accepted, but is not
+    // its own canonical image, and may have none. Rejected: the volume is rejected, and the fault
+    // is its first fault. The offset of the fault counts from the first byte of the image.
     ensures found { IfOk result (λ checks. ChecksImage image.now checks.items) }
 
     // The result is unique.

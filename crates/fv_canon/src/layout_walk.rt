@@ -1,5 +1,5 @@
-//! The layout of a volume: the starts of its files, and of the files of the volumes inside it. Also
-//! the starts that are left in a layout after the starts of some of these files.
+//! Lays out a volume: finds the starts of its files, and of the files of the volumes inside it.
+//! Also skips, in a list of such starts, the starts of the files of some volumes.
 
 ghost use Rattle.std.specs.Prelude.{◌≡◌, ◌≢◌, ◌<◌, ◌≤◌, ◌⊎◌, ◌+◌, ◌++◌, ℕ, List, [], All, drop, length, take, get_or, IfOk, IfErr};
 ghost use Rattle.fv_base.specs.Words.{OrMemory, out_of_memory};

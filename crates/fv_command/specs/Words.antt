@@ -1,4 +1,5 @@
--- The door of this crate: all definitions of its `specs/` that other crates may import.
+-- The door of this crate: other crates import the definitions of its `specs/` from this file. Only definitions of
+-- `specs/inner/` are imported directly.
 pub use Rattle.fv_command.specs.Extractions.{IsSectionPart, IsFramePart, IsSectionOf, IsFilePart, IsPart, StopsFilePart}
 pub use Rattle.fv_command.specs.Extractions.{StopsPart}
 pub use Rattle.fv_command.specs.Endings.{exit_code, FlushFails, Ends, numbered_line, fault_line, hob_fault_line}

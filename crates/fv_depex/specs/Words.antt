@@ -1,4 +1,5 @@
--- The door of this crate: all definitions of its `specs/` that other crates may import.
+-- The door of this crate: other crates import the definitions of its `specs/` from this file. Only definitions of
+-- `specs/inner/` are imported directly.
 pub use Rattle.fv_depex.specs.Expressions.{Expression, postfix, IsTree, IsOrder, op_code, op_operand, ops_bytes}
 pub use Rattle.fv_depex.specs.Expressions.{carries, operand_len, IsSized, Spells, is_among, truth, DepexForm}
 pub use Rattle.fv_depex.specs.Expressions.{IsReadDepex}

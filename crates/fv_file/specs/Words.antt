@@ -1,4 +1,5 @@
--- The door of this crate: all definitions of its `specs/` that other crates may import.
+-- The door of this crate: other crates import the definitions of its `specs/` from this file. Only definitions of
+-- `specs/inner/` are imported directly.
 pub use Rattle.fv_file.specs.FileAttributes.{attribute_bits, attributes_by, is_large, is_fixed, is_summed}
 pub use Rattle.fv_file.specs.FileAttributes.{without_large}
 pub use Rattle.fv_file.specs.States.{bits_of, state_in, StateOf, is_alive}

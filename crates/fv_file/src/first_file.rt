@@ -27,9 +27,9 @@ fn verdict(bytes: &[u8], system: FileSystem, polarity: Polarity) -> Result<FileH
     }
 }
 
-/// Checks the file that the bytes begin with, which is a valid file or a pad, and returns its
-/// header. The bytes after the file are not looked at. Takes no memory. (PI specification, volume
-/// 3, section 3.2.3.1.)
+/// Checks whether the bytes begin with a valid file or a pad, and returns its header. The bytes
+/// after the file are not looked at. Takes no memory. (PI specification, volume 3, section
+/// 3.2.3.1.)
 ///
 /// # Errors
 ///

@@ -223,8 +223,8 @@ pub fn file_head_bytes(
     ensures only { (header_sum : ℕ) (h : List ℕ)
         → IsNewHeader polarity (file_fields name kind attributes data_len file_sum header_sum) h → h ≡ result }
 
-    // If `file_sum` is right for the data, the result, the data and the filler are the cell of a
-    // valid file.
+    // If `file_sum` is right for the data, the cell of a valid file consists of the result, the
+    // data and the filler.
     ensures cell { IsHeadOfFile polarity
         (file_fields name kind attributes data_len file_sum (header_sum_at result)) result }
 

@@ -1,4 +1,5 @@
--- The door of this crate: all definitions of its `specs/` that other crates may import.
+-- The door of this crate: other crates import the definitions of its `specs/` from this file. Only definitions of
+-- `specs/inner/` are imported directly.
 pub use Rattle.fv_head.specs.VolumeAttributes.{polarity_of}
 pub use Rattle.fv_head.specs.Pairs.{pairs_of, pairs_bytes, bytes_in}
 pub use Rattle.fv_head.specs.Ext.{Extension, zero_used_size, is_used_size, kept_payload, BeginNoEntry, SplitsEntries}

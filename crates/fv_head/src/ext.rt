@@ -25,8 +25,8 @@ const ZERO_USED_SIZE: [u8; 4] = [0; 4];
 /// specification, volume 3, section 3.2.1.2, `EFI_FIRMWARE_VOLUME_EXT_ENTRY`.)
 #[derive(Drop)]
 pub struct ExtEntry<'a> {
-    // The entry's header of 4 bytes, and then its payload. To save memory, the type is not kept in
-    // a field of its own: an entry may have only these 4 bytes.
+    // The entry's header of 4 bytes, and then its payload. A field for the type would take more
+    // memory, and an entry in a volume can be as short as its header.
     bytes: &'a [u8],
 }
 

@@ -60,7 +60,8 @@ pub(crate) const FV_NAME_OFFSET: usize = 0;
 /// `ExtHeaderSize` of an extended header, 4 bytes.
 pub(crate) const EXT_HEADER_SIZE_OFFSET: usize = 16;
 
-/// The length of an extended header without entries. Its entries follow these bytes.
+/// The length of `FvName` and `ExtHeaderSize`, with which an extended header begins. The entries and
+/// the tail follow.
 pub(crate) const EXT_HEADER_LEN: usize = 20;
 
 /// `ExtEntrySize` of an entry of an extended header, 2 bytes. (`EFI_FIRMWARE_VOLUME_EXT_ENTRY`.)

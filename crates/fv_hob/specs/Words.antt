@@ -1,4 +1,5 @@
--- The door of this crate: all definitions of its `specs/` that other crates may import.
+-- The door of this crate: other crates import the definitions of its `specs/` from this file. Only definitions of
+-- `specs/inner/` are imported directly.
 pub use Rattle.fv_hob.specs.Hobs.{HobForm, hob_type, hob_len, has_shape, guid_in, handoff_in, allocation_in}
 pub use Rattle.fv_hob.specs.Hobs.{resource_in, kind_by, hob_type_at, hob_len_at, hob_in, IsBlock, IsHob, IsReadHob}
 pub use Rattle.fv_hob.specs.Hobs.{hob_fields, hob_spelled, list_spelled}

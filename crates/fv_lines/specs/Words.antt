@@ -1,4 +1,5 @@
--- The door of this crate: all definitions of its `specs/` that other crates may import.
+-- The door of this crate: other crates import the definitions of its `specs/` from this file. Only definitions of
+-- `specs/inner/` are imported directly.
 pub use Rattle.fv_lines.specs.ScanLines.{volume_place, volume_line}
 pub use Rattle.fv_lines.specs.HobLines.{IsMapped, bytes_in_span, IsWholeVolume, IsSpanContent, MappedForm, held_image}
 pub use Rattle.fv_lines.specs.HobLines.{image_form, hob_line, consumed_line, span_content_word, IsSpanWord, IsWord}

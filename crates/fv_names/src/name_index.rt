@@ -119,10 +119,10 @@ impl NameIndex {
         true
     }
 
-    // Returns whether the entry at a place has a twin among the two entries preceding it. This is
-    // enough for `first_twin`: if the entry has only twins further back, the two entries preceding
-    // it have the same name and the other mark. So these two are twins of each other, and the later
-    // of them has a lower number than this entry.
+    // Returns whether one of the two entries preceding the entry at a place is its twin. This is
+    // enough for `first_twin`: if all twins of the entry are further back, the two preceding
+    // entries have the name of this entry, but not its mark. So these two are twins of each other,
+    // and the later of them has a lower number than this entry.
     pub(crate) fn has_twin<F: Named>(&self, files: &[F], place: usize) -> bool
         requires index { IsIndex (names_in (map F.named files.now)) (entries_of self.now) }
         requires first { 0 < place }

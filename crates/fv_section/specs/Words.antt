@@ -1,4 +1,5 @@
--- The door of this crate: all definitions of its `specs/` that other crates may import.
+-- The door of this crate: other crates import the definitions of its `specs/` from this file. Only definitions of
+-- `specs/inner/` are imported directly.
 pub use Rattle.fv_section.specs.Frames.{FrameForm, section_header_len, frame_len, StatesSize, IsSectionHeader}
 pub use Rattle.fv_section.specs.Frames.{BeginsFrame, up_to_4, SplitsFrom, Splits}
 pub use Rattle.fv_section.specs.SectionImage.{section_head_of, stream_of}

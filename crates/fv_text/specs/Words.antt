@@ -1,4 +1,5 @@
--- The door of this crate: all definitions of its `specs/` that other crates may import.
+-- The door of this crate: other crates import the definitions of its `specs/` from this file. Only definitions of
+-- `specs/inner/` are imported directly.
 pub use Rattle.fv_text.specs.HexText.{line_feed, two_digits, four_digits, line_text, lines_text, last_text, IsWholeLine}
 pub use Rattle.fv_text.specs.HexText.{IsHexText, ShowsBytes}
 pub use Rattle.fv_text.specs.PortViews.{PortView, port_view, view_of, Change, change, Ports, Writes, StopsIn}

@@ -1,4 +1,5 @@
--- The door of this crate: all definitions of its `specs/` that other crates may import.
+-- The door of this crate: other crates import the definitions of its `specs/` from this file. Only definitions of
+-- `specs/inner/` are imported directly.
 pub use Rattle.fv_tree.specs.Meaning.{Meaning, Volume, FileMeanings, NoFiles, MoreFiles, FileMeaning, File}
 pub use Rattle.fv_tree.specs.Meaning.{ContentMeaning, Plain, Sectioned, SectionMeanings, NoSections, MoreSections}
 pub use Rattle.fv_tree.specs.Meaning.{SectionMeaning, Section, BodyMeaning, Leaf, Group, Nested, files_list}

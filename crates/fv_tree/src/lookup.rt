@@ -30,7 +30,8 @@ pub enum Item<'v, 'a> {
 pub enum Lookup<'v, 'a> {
     /// The section or frame that was found.
     Found(Item<'v, 'a>),
-    /// The file holds sections, but none with this type and instance.
+    /// The file's data are sections (in a security core, frames), but none of them has this type
+    /// and instance.
     Absent,
     /// The file's data are not sections.
     NotSectioned,

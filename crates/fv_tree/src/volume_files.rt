@@ -82,9 +82,8 @@ impl Mark {
 }
 
 /// A valid file as it is stored in its volume. A volume may hold as many files as it has room for
-/// headers. To save memory, three fields of the header that follow from the others are not kept:
-/// the length of the header, the size and the file checksum. (PI specification, volume 3, section
-/// 3.2.3.)
+/// headers. To save memory, the length of the header, the size and the file checksum are not kept:
+/// they follow from the attributes and the data. (PI specification, volume 3, section 3.2.3.)
 #[derive(Clone, Copy)]
 pub struct LocatedFile<'a> {
     /// The data of the file, which follow the header.

@@ -56,7 +56,8 @@ fn files_are_alive_in_two_states(rt: HostRuntime) {
     }
 }
 
-// Returns whether the bits are read as these attributes, with and without bit 0x01.
+// Returns whether attributes made from these bits keep all of them, are large, fixed and summed as
+// stated, and have the bits `without` after `without_large` has cleared bit 0x01.
 fn has_attributes(bits: u8, is_large: bool, is_fixed: bool, is_summed: bool, without: u8) -> bool {
     let attributes = FileAttributes::from_bits_retain(bits);
     attributes.bits() == bits

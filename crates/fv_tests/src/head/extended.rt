@@ -157,8 +157,8 @@ pub(super) fn has_ext(head: &VolumeHead, entries: &[(u16, &[u8])], tail: &[u8]) 
     ext.tail() == tail && is_same && ext.name().to_bytes() == NAME
 }
 
-// Returns whether a header has an extended header of this length. The first file of its canonical
-// image may then begin at the next multiple of 8 after 72 + 24 bytes and the extended header.
+// Returns whether a header has an extended header of this length, and whether `first_edge` is the
+// sum of 72, 24 and this length, rounded up to a multiple of 8.
 fn has_length(head: &VolumeHead, length: u32) -> bool {
     let edge = (72 + 24 + u64::from(length) + 7) / 8 * 8;
     match head.ext() {
