@@ -428,7 +428,7 @@ FV_CHECKED_ fv_result fv_volume_extract(const void *volume, size_t size, size_t 
                                         size_t *length, fv_fault *fault);
 
 /* Evaluates the dependency expression with which the bytes begin, as if exactly the GUIDs of `installed` were
- * installed, and sets *value to FV_DEPEX_*. `phase` is FV_PHASE_*. Bytes after the END op are not read.
+ * installed, and sets *value to FV_DEPEX_*. `phase` is FV_PHASE_*. The value does not depend on bytes after the END op.
  * Returns FV_OK. Otherwise returns the first fault, 0x201 to 0x205 or 24, and leaves *value unchanged. Memory can run
  * out only if the bytes begin with an op that may be the first. */
 FV_CHECKED_ fv_result fv_depex_evaluate(const void *expression, size_t size, uint32_t phase, const fv_guid *installed,

@@ -85,8 +85,9 @@ fn evaluated(
 
 /// Evaluates a dependency expression of a phase: 0 is PEI, and any other number is DXE and MM.
 /// `value` is 1 or 0, the truth value of the expression when exactly these GUIDs are installed.
-/// `value` is 2 for BEFORE and AFTER, which have no truth value. Bytes after the END op are not
-/// read. Returns 0. (PI specification, volume 2, section 10.7.)
+/// `value` is 2 for BEFORE and AFTER, which have no truth value. Bytes after the END op do not
+/// change the value. Returns 0. (PI specification, volume 1, section 5.7, and volume 2, section
+/// 10.7.)
 ///
 /// # Errors
 ///

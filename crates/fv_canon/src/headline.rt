@@ -36,11 +36,12 @@ pub fn data_are_aligned()
     ensures { DataAreAligned }
 {}
 
-/// The canonical image of a volume begins with its header, whose 16-bit words sum to zero. The rest
-/// is tiled by files and pads with right checksums: the header of each sums to zero, a file's file
-/// checksum is right, and a pad's file checksum is 0xAA. If there is an extended header, the pad
-/// that holds it is one of these pads. Each volume inside is its own canonical image, so this is
-/// true at every level. (PI specification, volume 3, sections 3.2.1.1 and 3.2.3.1.)
+/// The canonical image of a volume begins with its header, whose 16-bit words sum to zero. Cells
+/// tile the rest, and the checksums of the files and pads among them are right: the header of each
+/// sums to zero, a file's file checksum is right, and a pad's file checksum is 0xAA. If there is an
+/// extended header, the pad that holds it is one of these pads. Each volume inside is its own
+/// canonical image, so this is true at every level. (PI specification, volume 3, sections 3.2.1.1
+/// and 3.2.3.1.)
 pub fn sums_are_right()
     ensures { SumsAreRight }
 {}

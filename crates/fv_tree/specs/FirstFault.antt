@@ -21,7 +21,8 @@ use Rattle.fv_tree.specs.VolumeFiles.{FileForm, files_in, is_twin, NoTwins, curr
 
 -- ---- places
 
--- the fault f of bytes that begin at this offset and at this depth, as a fault of the bytes around them
+-- the fault f of bytes that begin at the offset `base` of other bytes, as a fault of these other bytes. Its depth is
+-- `depth`, whatever depth f has
 abbrev pub moved_fault : ℕ → ℕ → Fault → Fault
 moved_fault base depth f = record { kind = f.kind; place = record { offset = base + f.place.offset; depth = depth } }
 

@@ -6,9 +6,10 @@ ghost use Rattle.fv_tree.specs.FirstFault.{moved_fault};
 
 use fv_base::{Fault, FaultKind, Place};
 
-/// Returns the fault of bytes that begin at this place as a fault of the bytes around them. Its
-/// offset, in bytes, then counts from the start of the bytes around them, and its depth is the
-/// depth of the place. The two offsets must sum to less than 2 ^ 64. OutOfMemory stays at 0.
+/// Returns a fault of some bytes as a fault of the bytes around them. The inner bytes begin at
+/// `place.offset`, and the offset of the result, in bytes, counts from the start of the bytes
+/// around them. The depth of the result is `place.depth`, whatever depth `fault` has. The two
+/// offsets must sum to less than 2 ^ 64. OutOfMemory stays at offset 0 and depth 0.
 pub fn fault_within(fault: Fault, place: Place) -> Fault
     requires { place.offset + fault.place.offset < 2 ^ 64 }
     ensures moved { result ≢ out_of_memory

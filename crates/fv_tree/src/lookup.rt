@@ -135,11 +135,11 @@ fn frame_lookup<'v, 'a>(bytes: &'a [u8], kind: u8, instance: u32) -> Lookup<'v, 
 }
 
 /// Returns section number `instance` of this type, counted from 1 in preorder: a group is followed
-/// by the sections in it, and the sections of a nested volume are not counted. Instance 0 gives
-/// Absent. In a security core, the frames of its data are counted instead. The result is
-/// NotSectioned if the data of a security core are not a stream, and for every other file whose
-/// data are kept as bytes. Takes no memory. (PI specification, volume 3, section 3.2.4,
-/// EFI_SECTION_TYPE.)
+/// by the sections in it, and the sections of a nested volume are not counted. In a security core,
+/// the frames of its data are counted instead. The result is Absent if the file has fewer sections
+/// or frames of this type, and for instance 0. The result is NotSectioned, whatever `instance` is,
+/// if the data of a security core are not a stream, and for every other file whose data are kept as
+/// bytes. Takes no memory. (PI specification, volume 3, section 3.2.4, EFI_SECTION_TYPE.)
 pub fn section_by_type<'v, 'a>(file: &'v FileView<'a>, kind: u8, instance: u32) -> Lookup<'v, 'a>
     ensures sections { (ss : SectionMeanings) (t : ℕ) → content_of file.now ≡ Sectioned ss t
         → FindsSection result (section_of_type kind instance ss) }

@@ -506,10 +506,10 @@ extern "C" {
     ) -> fv_result;
 
     /// Evaluates the dependency expression with which the bytes begin, as if exactly the GUIDs of
-    /// `installed` were installed, and sets `*value` to `FV_DEPEX_*`. `phase` is `FV_PHASE_*`.
-    /// Bytes after the END op are not read. Returns `FV_OK`. Otherwise returns the first fault,
-    /// 0x201 to 0x205 or 24, and leaves `*value` unchanged. Memory can run out only if the bytes
-    /// begin with an op that may be the first.
+    /// `installed` were installed, and sets `*value` to `FV_DEPEX_*`. `phase` is `FV_PHASE_*`. The
+    /// value does not depend on bytes after the END op. Returns `FV_OK`. Otherwise returns the
+    /// first fault, 0x201 to 0x205 or 24, and leaves `*value` unchanged. Memory can run out only if
+    /// the bytes begin with an op that may be the first.
     pub fn fv_depex_evaluate(
         expression: *const c_void,
         size: usize,
