@@ -21,9 +21,9 @@ use fv_base::{Fault, FaultKind, FileSystem, Polarity, all_are, check};
 use std::alloc::Global;
 
 // Returns whether all bytes of `rest`, the part of the body that is left, are erased. Then `rest`
-// is a free cell, or no bytes are left. The test reads all of the bytes only if fewer than 24 are
-// left or `State` is erased. If one of them is then not erased, `cell_at` rejects the body. So the
-// test reads each byte of a body at most once.
+// is a free cell, or no bytes are left. `all_are` is called only if fewer than 24 bytes are left or
+// `State` is erased. If one of these bytes is then not erased, `cell_at` rejects the body. So
+// `all_are` is called at most once in a walk over a body.
 pub(crate) fn is_free(rest: &[u8], polarity: Polarity) -> bool
     ensures { result ≡ all_are (erased_byte polarity) rest.now }
 {

@@ -4,8 +4,8 @@ use bitflags::Flags;
 use fv_base::Polarity;
 use fv_file::{FileAttributes, FileState, file_state};
 
-/// The states by the highest bit that is written. Each row begins with the least value that has
-/// this bit.
+/// The written bits of `State`: the least value of these bits with each state, and the least value
+/// without a state.
 const STATES: [(u8, Option<FileState>); 8] = [
     (0x00, Some(FileState::Free)),
     (0x01, Some(FileState::Construction)),

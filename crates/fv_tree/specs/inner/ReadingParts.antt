@@ -1,5 +1,6 @@
--- The fields of its header that a stored file keeps, and the fields that follow from them; how the body of a section is
--- read; the result of a reader of a part of a volume, and what a reader of files requires of each file.
+-- The mark of a stored file; the fields of a header that a stored file does not keep, which follow from the fields that
+-- it keeps; how the body of a section is read; the result of a reader of a part of a volume; and what a reader of files
+-- requires of each file.
 use Rattle.std.specs.Prelude.{◌≡◌, ℕ, ◌+◌, ◌<◌, ◌^◌, Bool, true, false, List, length, ◌==◌, ◌&&◌, if◌then◌else◌, ◌≢◌}
 use Rattle.std.specs.Prelude.{◌≤◌, Result, MatchResult}
 use Rattle.fv_file.specs.Words.{CellForm, Valid, attribute_bits, file_sum_for}
