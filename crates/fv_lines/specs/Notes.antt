@@ -43,18 +43,19 @@ pad_notes polarity cells = flat_map (pad_note polarity) cells
 
 -- ---- dependency expressions
 
--- a dependency expression in a file: the name of the file, the phase that reads the expression, and its bytes
+-- a dependency expression in a file: the name of the file, the phase whose rules apply to the expression, and its bytes
 pub record HeldDepex : Type 0 where
   pub name : Guid
   pub phase : Phase
   pub bytes : List ℕ
 
--- the phase that reads a section of this type, or None if the section is not a dependency expression (PI specification,
--- volume 3, section 3.2.5, EFI_SECTION_PEI_DEPEX, EFI_SECTION_DXE_DEPEX and EFI_SECTION_MM_DEPEX)
+-- the phase whose rules apply to a section of this type, or None if the section is not a dependency expression. The
+-- rules of DXE apply to an expression of the MM phase (PI specification, volume 3, section 3.2.5,
+-- EFI_SECTION_PEI_DEPEX, EFI_SECTION_DXE_DEPEX and EFI_SECTION_MM_DEPEX)
 abbrev pub phase_of : ℕ → Option Phase
 phase_of kind = if kind == 0x1b then Some Pei else (if (kind == 0x13) || (kind == 0x1c) then Some Dxe else None)
 
--- the bytes as an expression that this phase reads; nothing, if there is no phase
+-- the bytes as an expression to which the rules of this phase apply; nothing, if there is no phase
 abbrev pub read_by : Guid → List ℕ → Option Phase → List HeldDepex
 read_by name b None = []
 read_by name b (Some phase) = record { name = name; phase = phase; bytes = b } ∷ []

@@ -24,8 +24,8 @@ pub struct DepexNote {
     pub offset: u64,
 }
 
-// Returns the phase that reads a section of this type, or None if the section is not a dependency
-// expression.
+// Returns the phase whose rules apply to a section of this type, or None if the section is not a
+// dependency expression. The rules of DXE apply to an expression of the MM phase.
 fn phase_of(kind: u8) -> Option<Phase>
     ensures { result ≡ phase_of kind }
 {

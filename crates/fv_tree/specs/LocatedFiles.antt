@@ -76,8 +76,8 @@ BeginWithFiles b files = (h : HeadFields) × (e : Extent) × BeginsVolume h e b 
 abbrev pub HasDataIn : List ℕ → FileForm → Type 0
 HasDataIn b f = (data_place f + length f.payload ≤ length b) × (field (data_place f) (length f.payload) b ≡ f.payload)
 
--- the first fault of bytes that should begin with a volume, if the data of its files are not read: a fault of the
--- header, or of the cells and the files
+-- the first fault of bytes that should begin with a volume, if the data of its files are not split into sections: a
+-- fault of the header, or of the cells and the files
 abbrev pub IsFirstOfFiles : List ℕ → Fault → Type 0
 IsFirstOfFiles b f =
     IsFirstFault (head_checks b) f

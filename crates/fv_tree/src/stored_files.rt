@@ -60,8 +60,8 @@ pub(crate) fn files_in_body<'a>(
 
 /// Returns the files of the volume at the start of the bytes, as they are stored in it: each with
 /// the offset of its header, its header and its data. The files are in the order of
-/// `VolumeView::files`. The data are not read. (PI specification, volume 3, sections 3.2.2 and
-/// 3.2.3.)
+/// `VolumeView::files`. The file checksums are checked, but the data are not split into sections.
+/// (PI specification, volume 3, sections 3.2.2 and 3.2.3.)
 ///
 /// # Errors
 ///
