@@ -1,4 +1,4 @@
--- The sums that the header checksums use (PI specification, volume 3, sections 3.2.1.1 and 3.2.3.1).
+-- The sum that the checksum of a volume header uses (PI specification, volume 3, section 3.2.1.1).
 use Rattle.std.specs.Prelude.{ℕ, ◌%◌, List, [], ◌∷◌, sum}
 use Rattle.fv_base.specs.Value.{le}
 

@@ -46,8 +46,9 @@ impl Depex {
         self.phase
     }
 
-    /// Returns the ops in the order of their bytes: in postfix notation, operands first, with END
-    /// last.
+    /// Returns the ops in the order of their bytes. END is the last op. The ops preceding END are an
+    /// expression in postfix notation, operands first, which may follow SOR; or a single BEFORE or
+    /// AFTER.
     pub fn ops(&self) -> &[Op]
         ensures ops { result.now ≡ self.now.ops }
 

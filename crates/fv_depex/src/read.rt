@@ -62,8 +62,8 @@ fn has_values(count: u64, code: u8) -> bool
     }
 }
 
-// Returns whether the stack holds the values that an op with this code takes. After BEFORE or
-// AFTER, END takes none.
+// Returns whether the number of values on the stack at this stage is right for an op with this code
+// (`has_values`). After BEFORE or AFTER the stack is empty, which is right for END.
 fn holds_values(stage: Stage, code: u8) -> bool
     ensures { result ≡ holds_values stage code }
 {

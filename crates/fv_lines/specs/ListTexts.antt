@@ -72,15 +72,17 @@ abbrev pub digest_text : Option (List ℕ) → List ℕ
 digest_text None = []
 digest_text (Some digest) = codes " sha256 " ++ encode_lower digest
 
--- the line of a volume, indented by k levels; it shows the volume's name if there is an extended header
+-- the beginning of a volume's line, which names the file system
 abbrev pub system_text : FileSystem → List ℕ
 system_text Ffs2 = codes "volume ffs2 length "
 system_text Ffs3 = codes "volume ffs3 length "
 
+-- the volume's name in its line, if there is an extended header
 abbrev pub name_text : Option Extension → List ℕ
 name_text None = []
 name_text (Some ext) = codes " name " ++ guid_text (bytes_of ext.name)
 
+-- the line of a volume, indented by k levels
 abbrev pub volume_text : ℕ → Meaning → Option (List ℕ) → List ℕ
 volume_text k m digest =
     spaces k ++ (system_text (head_of m).file_system ++ (decimal (head_of m).length ++ (codes " files "
@@ -94,11 +96,12 @@ file_text k i f digest =
     ++ (codes " attributes " ++ (two_digits (attributes_of f)
     ++ (codes " data " ++ (decimal (data_len_of f) ++ (digest_text digest ++ line_feed)))))))))))
 
--- the line of a section, which is number j in its stream, indented by k levels; `shown` is the text shown for its body
+-- the form of a section's header in the section's line
 abbrev pub form_text : Bool → List ℕ
 form_text true = codes " extended body "
 form_text false = codes " short body "
 
+-- the line of a section, which is number j in its stream, indented by k levels; `shown` is the text shown for its body
 abbrev pub section_text : ℕ → ℕ → SectionMeaning → List ℕ → Option (List ℕ) → List ℕ
 section_text k j s shown digest =
     spaces k ++ (codes "section " ++ (decimal j ++ (codes " type " ++ (two_digits (section_kind_of s)

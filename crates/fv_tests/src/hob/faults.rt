@@ -3,7 +3,7 @@
 use crate::checks::is_printed_as;
 use fv_hob::{HobFault, HobFaultKind};
 
-/// The kinds of faults, and the text of a fault of each kind at offset 56.
+/// Every kind of fault except OutOfMemory, and the text of a fault of this kind at offset 56.
 const TEXTS: &[(HobFaultKind, &str)] = &[
     (
         HobFaultKind::Short,
