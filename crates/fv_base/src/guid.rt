@@ -32,6 +32,7 @@ impl Guid {
 
     /// Reads a GUID from a text, in any of the four forms that `uuid` accepts. Returns None if
     /// `uuid` rejects the text.
+    #[tactic(auto, using(crate::proofs::GuidLemmas::names_none))]
     pub fn parse(text: &str) -> Option<Guid>
         ensures { result ≡ guid_read text.now }
     {

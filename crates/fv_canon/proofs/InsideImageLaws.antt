@@ -1,20 +1,16 @@
 -- The image of a volume contains the image of each volume inside, as consecutive bytes.
-use Rattle.std.proofs.Common.{◌≡◌, ◌-◌, ◌+◌, ℕ, List, [], ◌∷◌, ◌++◌, length, take, drop, replicate, refl, sym, ap, ◌∙◌, append_assoc}
-use Rattle.std.proofs.Common.{append-nil}
-use Rattle.std.specs.List.{AllByRecursion}
-use Rattle.std.specs.Prelude.{map}
-use Rattle.std.proofs.lemmas.List.{take-append-drop}
-use Rattle.fv_base.specs.Words.{up_to_8}
+use Rattle.std.proofs.Common.{◌≡◌, ◌-◌, ◌+◌, ℕ, [], ◌∷◌, ◌++◌, List, length, take, drop, replicate, refl, sym, ap, ◌∙◌, append_assoc, append-nil, map}
+use Rattle.fv_base.proofs.Laws.{take-append-drop, AllByRecursion, up_to_8}
 use Rattle.fv_base.specs.declared.flash.Polarity.{Polarity}
 use Rattle.fv_file.specs.Words.{attributes_by, file_sum_for, file_head_of}
 use Rattle.fv_head.specs.Words.{first_edge, polarity_of}
 use Rattle.fv_section.specs.Words.{FrameForm, frame_len, up_to_4, section_head_of, stream_of}
 use Rattle.fv_tree.specs.Words.{Meaning, Volume, FileMeanings, NoFiles, MoreFiles, FileMeaning, File, ContentMeaning, Plain, Sectioned}
-use Rattle.fv_tree.specs.Words.{SectionMeanings, NoSections, MoreSections, SectionMeaning, Section, BodyMeaning, Leaf, Group, Nested}
-use Rattle.fv_tree.specs.Words.{files_list, IsMeaning, Inside, volumes_in, volumes_in_files, volumes_in_file, volumes_in_content}
-use Rattle.fv_tree.specs.Words.{volumes_in_sections, volumes_in_section, volumes_in_body}
-use Rattle.fv_canon.specs.Words.{IsWithin, HasOwnImage, EachVolumeHasItsImage, IsImage, AreStored, IsStored, IsData, AreFrames, IsFrame}
-use Rattle.fv_canon.specs.Words.{IsBodyImage, placement_item, PlacedBytes, ContainsSpan, StoredFile, stored_bytes, stored_len, placed_files}
+use Rattle.fv_tree.specs.Words.{SectionMeanings, NoSections, MoreSections, SectionMeaning, Section, BodyMeaning, Leaf, Group, Nested, files_list}
+use Rattle.fv_tree.specs.Words.{IsMeaning, Inside, volumes_in, volumes_in_files, volumes_in_file, volumes_in_content, volumes_in_sections}
+use Rattle.fv_tree.specs.Words.{volumes_in_section, volumes_in_body}
+use Rattle.fv_canon.specs.Words.{IsWithin, HasOwnImage, EachVolumeHasItsImage, IsImage, AreStored, IsStored, IsData, AreFrames, IsFrame, IsBodyImage}
+use Rattle.fv_canon.specs.Words.{placement_item, PlacedBytes, ContainsSpan, StoredFile, stored_bytes, stored_len, placed_files}
 use Rattle.fv_placement.specs.Words.{StartsFollow}
 use Rattle.fv_canon.proofs.InsideMeaningLaws.{inside_meant}
 use Rattle.fv_canon.proofs.VolumeListLaws.{each_joined, each_deeper}

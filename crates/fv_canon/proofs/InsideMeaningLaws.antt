@@ -1,16 +1,14 @@
 -- The meaning of each volume inside a volume that was read is the meaning of some bytes.
-use Rattle.std.proofs.Common.{◌≤◌, ◌+◌, ℕ, zero, suc, List, [], ◌∷◌, ◌++◌, length, drop, arith}
-use Rattle.std.specs.List.{AllByRecursion}
-use Rattle.fv_base.specs.Words.{IsBytes}
+use Rattle.std.proofs.Common.{◌≤◌, ◌+◌, ℕ, [], ◌∷◌, ◌++◌, zero, suc, List, length, drop, arith}
+use Rattle.fv_base.proofs.Laws.{AllByRecursion, IsBytes, bytes_back}
 use Rattle.fv_base.specs.declared.flash.FileSystem.{FileSystem}
-use Rattle.fv_base.proofs.Laws.{bytes_back}
 use Rattle.fv_section.specs.Words.{FrameForm, frame_len, up_to_4, SplitsFrom}
 use Rattle.fv_section.proofs.Laws.{begun_bytes}
 use Rattle.fv_tree.specs.Words.{Meaning, Volume, FileMeanings, NoFiles, MoreFiles, FileMeaning, File, ContentMeaning, Plain, Sectioned}
-use Rattle.fv_tree.specs.Words.{SectionMeanings, NoSections, MoreSections, SectionMeaning, Section, Leaf, Group, Nested, files_list}
-use Rattle.fv_tree.specs.Words.{sections_list, SectionRelation, StreamRelation, VolumeRelation, Pairwise, StreamOver, SectionOver}
-use Rattle.fv_tree.specs.Words.{VolumeOver, MeansContent, MeansFile, MeansSection, Stream, IsMeaning, FileForm, Inside, volumes_in}
-use Rattle.fv_tree.specs.Words.{volumes_in_files, volumes_in_file, volumes_in_content, volumes_in_sections, volumes_in_section}
+use Rattle.fv_tree.specs.Words.{SectionMeanings, NoSections, MoreSections, SectionMeaning, Section, Leaf, Group, Nested, files_list, sections_list}
+use Rattle.fv_tree.specs.Words.{SectionRelation, StreamRelation, VolumeRelation, Pairwise, StreamOver, SectionOver, VolumeOver, MeansContent}
+use Rattle.fv_tree.specs.Words.{MeansFile, MeansSection, Stream, IsMeaning, FileForm, Inside, volumes_in, volumes_in_files, volumes_in_file}
+use Rattle.fv_tree.specs.Words.{volumes_in_content, volumes_in_sections, volumes_in_section}
 use Rattle.fv_canon.proofs.ReadLaws.{FileIsAccepted}
 use Rattle.fv_canon.proofs.VolumeImageLaws.{files_read}
 use Rattle.fv_canon.proofs.VolumeListLaws.{each_joined, each_deeper}

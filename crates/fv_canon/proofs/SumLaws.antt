@@ -1,11 +1,8 @@
 -- The number that the bytes of a file add to a sum.
-use Rattle.std.proofs.Common.{◌≡◌, ◌+◌, ◌%◌, ℕ, Bool, true, false, List, [], ◌∷◌, ◌++◌, length, sym, ap, ◌∙◌, arith}
-use Rattle.std.specs.Prelude.{sum, if◌then◌else◌}
-use Rattle.std.proofs.lemmas.List.Sums.{sum_by-append}
-use Rattle.fv_base.specs.Words.{bytes_of, le_bytes}
+use Rattle.std.proofs.Common.{◌≡◌, ◌+◌, ◌%◌, ℕ, [], ◌∷◌, ◌++◌, if◌then◌else◌, Bool, true, false, List, length, sym, ap, ◌∙◌, arith, sum}
+use Rattle.fv_base.proofs.Laws.{sum_by-append, bytes_of, le_bytes}
 use Rattle.fv_base.specs.declared.flash.Polarity.{Polarity}
-use Rattle.fv_file.specs.Words.{is_summed, file_sum_for, complement, header_with, header_bytes, needs_large, with_large, state_byte}
-use Rattle.fv_file.specs.Words.{fixed_checksum}
+use Rattle.fv_file.specs.Words.{is_summed, file_sum_for, complement, header_with, header_bytes, needs_large, with_large, state_byte, fixed_checksum}
 use Rattle.fv_canon.specs.Words.{StoredFile, stored_bytes, head_len_for}
 
 -- the sum of a header is the sum of the header with checksums and State zero, plus the header checksum, the file

@@ -1,6 +1,5 @@
 -- The number that a walk over a file adds to the sum of the file's bytes.
-use Rattle.std.proofs.Common.{◌≡◌, ◌+◌, ◌%◌, ℕ, Bool, true, false, List, [], ◌∷◌, ap, ◌∙◌, arith}
-use Rattle.std.specs.Prelude.{sum, if◌then◌else◌}
+use Rattle.std.proofs.Common.{◌≡◌, ◌+◌, ◌%◌, ℕ, [], ◌∷◌, if◌then◌else◌, Bool, true, false, List, ap, ◌∙◌, arith, sum}
 use Rattle.fv_base.specs.declared.flash.Polarity.{Polarity}
 use Rattle.fv_file.specs.Words.{is_summed, state_byte, fixed_checksum}
 use Rattle.fv_tree.specs.Words.{FileMeaning, File, attributes_of}

@@ -1,11 +1,10 @@
 -- The faults that stop the extraction of a section.
-use Rattle.std.proofs.Common.{◌≡◌, ℕ, List, Some, refl, inl, inr}
-use Rattle.std.specs.Prelude.{◌⊎◌}
-use Rattle.fv_base.specs.Words.{out_of_memory}
+use Rattle.std.proofs.Common.{◌≡◌, ℕ, ◌⊎◌, List, Some, refl, inl, inr}
+use Rattle.fv_base.proofs.Laws.{out_of_memory}
 use Rattle.fv_base.specs.declared.fault.Fault.{Fault}
 use Rattle.fv_canon.specs.Words.{FirstUnplaced}
-use Rattle.fv_tree.specs.Words.{volumes_in_body, section_of_type, FileMeaning, ContentMeaning, SectionMeaning, SectionMeanings, Plain}
-use Rattle.fv_tree.specs.Words.{Sectioned, content_of, body_of}
+use Rattle.fv_tree.specs.Words.{volumes_in_body, section_of_type, FileMeaning, ContentMeaning, SectionMeaning, SectionMeanings, Plain, Sectioned}
+use Rattle.fv_tree.specs.Words.{content_of, body_of}
 use Rattle.fv_command.specs.Words.{StopsFilePart}
 
 -- if the section was found in a file, the fault of its layout stops the extraction

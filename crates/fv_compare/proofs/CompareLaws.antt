@@ -1,15 +1,12 @@
 -- The laws of a run that compares two inputs.
-use Rattle.std.proofs.lemmas.Grind.{common_steps}
-use Rattle.std.proofs.Common.{◌≡◌, ◌≢◌, ◌∙◌, ℕ, List, sym, ap, subst, inl, inr, Bool, arith}
-use Rattle.std.specs.Prelude.{Option, Result, IfOk, IfErr}
-use Rattle.std.proofs.KnownBytes.{Keeps-refl}
-use Rattle.std.proofs.lemmas.Result.{IfOk-weaker, IfErr-weaker}
-use Rattle.fv_base.specs.Words.{ReadsWhole, ReadStops}
+use Rattle.std.proofs.Common.{◌≡◌, ◌≢◌, ℕ, ◌∙◌, List, sym, ap, subst, inl, inr, Bool, arith, Option, Result, IfOk, IfErr}
+use Rattle.fv_base.proofs.Laws.{common_steps, Keeps-refl, IfOk-weaker, IfErr-weaker, ReadsWhole}
+use Rattle.fv_base.specs.Words.{ReadStops}
 use Rattle.fv_base.specs.declared.fault.Fault.{Fault}
-use Rattle.fv_base.specs.declared.fault.FaultKind.TheVariants as kinds
 use Rattle.fv_tree.specs.Words.{Accepted, Meaning}
 use Rattle.fv_compare.specs.Words.{Compares, ComparisonStops, ReadsVolume, VolumeStops, RunCompares, SideStopsRun}
 use Rattle.fv_compare.specs.declared.side.Side.{Side}
+use Rattle.fv_base.specs.declared.fault.FaultKind.TheVariants as kinds
 use Rattle.fv_compare.specs.declared.side.Side.TheVariants as sides
 
 -- ---- the faults that stop a run

@@ -1,12 +1,10 @@
-use Rattle.std.proofs.Common.{◌≡◌, ◌≤◌, ◌∙◌, ap, arith, length, rules, sym, subst}
-use Rattle.std.proofs.lemmas.Grind.{common_steps}
-use Rattle.fv_base.proofs.Laws.{at_index, err_is}
-use Rattle.fv_base.specs.Words.{volume_limit}
+use Rattle.std.proofs.Common.{◌≡◌, ◌≤◌, rules, ◌∙◌, ap, length, sym, subst}
+use Rattle.fv_base.proofs.Laws.{at_index, err_is, volume_limit}
 use Rattle.fv_base.specs.declared.fault.Fault.{Fault}
-use Rattle.fv_base.specs.declared.fault.FaultKind.TheVariants as kinds
 use Rattle.fv_flash.specs.Words.{AreFound, VolumeAt}
 use Rattle.fv_flash.proofs.Laws.{some_place}
 use Rattle.fv_canon.proofs.ImageCheckLaws.{checks_one}
+use Rattle.fv_base.specs.declared.fault.FaultKind.TheVariants as kinds
 use Rattle.fv_canon.proofs.image_check.check_image.Goals as goal
 
 pub check_at-requires : goal.check_at-requires
@@ -37,9 +35,6 @@ returns-in_err-push-clause-memory c =
       some_place c.args.image.now c.in_ok-found.found.items
           c.loop-volume.volume-index c.in_ok-found.ensures.found (rw (← c.as_slice-volume-items.ensures.value) c.loop-volume-test.true),
     ))
-
-pub returns-clause-found : goal.returns-clause-found
-returns-clause-found c = grind (arith, common_steps)
 
 pub returns-clause-only : goal.returns-clause-only
 returns-clause-only c = λ other to. checks_one c.args.image.now other c.loop-volume.checks.items to (returns-clause-found c)
