@@ -39,8 +39,8 @@ pub use Rattle.fv_base.proofs.ListLaws.{item_at, more_items, seam_items}
 -- A filter by a note of each item keeps the same items as a filter by a test with the same results. A list in the place
 -- of another of the same length.
 pub use Rattle.fv_base.proofs.ListLaws.{kept_noted, in_place}
--- Names of std, and the definitions and types of this crate, that many proofs use: a proof imports them from here in a
--- line or two. The names that std's Common passes on, operators among them, come from there.
+-- Names of std and definitions of this crate that several proofs use, so that a proof imports them in a line or two.
+-- The operators of std come from std's Common.
 pub use Rattle.std.proofs.Common.{Bool, Err, IfErr, IfOk, IsTrue, List, None, Ok, OnOk, Option, Result, Some, ap, append-nil, append_assoc, arith}
 pub use Rattle.std.proofs.Common.{codes, drop, drop-drop, drop-set-lt, drop_at, eq-eqb, eqb-true, ext_get_or, false, get_or-drop, get_or-set_other}
 pub use Rattle.std.proofs.Common.{get_or-set_same, get_or-take, inl, inr, is_some, le-leb, le-ltb, length, length-append, length-drop, length-set}

@@ -1,5 +1,5 @@
 use Rattle.std.proofs.Common.{◌≡◌, ◌≤◌, rules, ◌∙◌, ap, length, sym, subst}
-use Rattle.fv_base.proofs.Laws.{at_index, err_is, volume_limit}
+use Rattle.fv_base.proofs.Laws.{at_index, err_is, volume_limit, arith, common_steps}
 use Rattle.fv_base.specs.declared.fault.Fault.{Fault}
 use Rattle.fv_flash.specs.Words.{AreFound, VolumeAt}
 use Rattle.fv_flash.proofs.Laws.{some_place}
@@ -35,6 +35,9 @@ returns-in_err-push-clause-memory c =
       some_place c.args.image.now c.in_ok-found.found.items
           c.loop-volume.volume-index c.in_ok-found.ensures.found (rw (← c.as_slice-volume-items.ensures.value) c.loop-volume-test.true),
     ))
+
+pub returns-clause-found : goal.returns-clause-found
+returns-clause-found c = grind (arith, common_steps)
 
 pub returns-clause-only : goal.returns-clause-only
 returns-clause-only c = λ other to. checks_one c.args.image.now other c.loop-volume.checks.items to (returns-clause-found c)
