@@ -1,12 +1,9 @@
 -- The reader of command lines makes rows of the arguments of a command, and finds no fault in arguments that are right
 -- (`read`). Texts and flags are read from these rows (`text_answer`, `flag_answer`).
+use Rattle.std.proofs.Common.{◌≡◌, ◌≢◌, [], ℕ, ◌∙◌, Bool, List, ap, codes, cond, drop, false, refl, sym, true, subst, arith, Option, Some, None}
+use Rattle.fv_base.proofs.Laws.{is_some, true≢false, common_steps, bytes_eq-Decides, unwrap_or, bytes_eq}
 use Rattle.std.proofs.lemmas.Bool.Decides.{Decides-not}
-use Rattle.std.proofs.lemmas.Grind.{common_steps}
-use Rattle.std.proofs.lemmas.Slice.Eq.{bytes_eq-Decides}
-use Rattle.std.proofs.Common.{◌≡◌, ◌≢◌, ◌∙◌, Bool, List, [], ap, codes, cond, drop, false, refl, sym, true, subst, arith}
-use Rattle.std.proofs.Common.{ℕ, Option, Some, None, is_some, true≢false}
-use Rattle.std.specs.Option.{option_map_or, unwrap_or}
-use Rattle.std.specs.Str.{bytes_eq}
+use Rattle.std.specs.Option.{option_map_or}
 use Rattle.std.specs.Str.Parse.{ParsesBool}
 use Rattle.clap.proofs.SimpleLemmas.{is_false}
 use Rattle.clap.proofs.WalkLemmas.{both, first_value-rows, one_text-rows}
@@ -15,8 +12,7 @@ use Rattle.clap.specs.Simple.{built, names_of}
 use Rattle.clap.specs.Walk.{Text, first_of, one_of, rows_after}
 use Rattle.clap.specs.Words.{App, HasMatchesOf, fault_of, is_simple_and_free}
 use Rattle.clap.specs.declared.parser.matches.ArgMatches.{ArgMatches}
-use Rattle.fv_arguments.specs.Words.{compare_app, extract_app, faults_in, flag_in, hobs_app, list_app, image_app, one_input_app}
-use Rattle.fv_arguments.specs.Words.{text_in, volume_app}
+use Rattle.fv_arguments.specs.Words.{compare_app, extract_app, faults_in, flag_in, hobs_app, list_app, image_app, one_input_app, text_in, volume_app}
 use Rattle.fv_arguments.specs.inner.CommandWords.{IsRead, app_named}
 
 -- the test for equal texts is false of two texts that differ

@@ -1,7 +1,6 @@
 -- A text is read as a number exactly if it spells one.
-use Rattle.std.proofs.Common.{◌≡◌, ◌≢◌, ◌∙◌, ◌^◌, ◌<◌, ◌++◌, ℕ, List, Result, Ok, Err, ap, arith, codes, drop, inl, inr, subst, sym}
-use Rattle.std.specs.Char.{digit_value}
-use Rattle.std.specs.Str.Parse.{IsNumeral, digits_value}
+use Rattle.std.proofs.Common.{◌≡◌, ◌≢◌, ◌^◌, ◌<◌, ◌++◌, ℕ, ◌∙◌, List, Result, Ok, Err, ap, arith, codes, drop, inl, inr, subst, sym}
+use Rattle.fv_base.proofs.Laws.{digit_value, IsNumeral, digits_value}
 use Rattle.fv_arguments.specs.Words.{IsNumberWord, IsNumeralOf, IsOffsetWord}
 use Rattle.fv_arguments.specs.declared.words.WordFault.{WordFault}
 use Rattle.fv_arguments.specs.inner.CommandWords.{ReadsOrFails}

@@ -1,31 +1,27 @@
 -- Arguments that are rejected as wrong are not right arguments. Either the reader finds a fault in them (`rejected`); or
 -- a text in them cannot be read, although it can be read in right arguments (`no_input`, `right_part`, `right_image`,
 -- `right_volumes`); or an offset is given together with `--all` (`no_place`).
-use Rattle.std.proofs.Common.{◌≡◌, ◌≢◌, ◌∙◌, ◌&&◌, ◌||◌, ℕ, Bool, List, [], ◌∷◌, IfErr, Result, Ok, Err, Option, Some, None, ap, codes, inl, inr}
-use Rattle.std.proofs.Common.{drop, not, refl, subst, sym, true, false, true≢false}
-use Rattle.std.proofs.lemmas.Result.{IfErr-weaker}
-use Rattle.std.proofs.lemmas.Slice.Eq.{bytes_eq-Decides}
-use Rattle.std.specs.Global.{Global}
-use Rattle.std.specs.Prelude.{IsErrAnd, String, is_some}
-use Rattle.std.specs.Str.{bytes_eq}
+use Rattle.std.proofs.Common.{◌≡◌, ◌≢◌, ◌&&◌, ◌||◌, ℕ, [], ◌∷◌, ◌∙◌, Bool, List, IfErr, Result, Ok, Err, Option, Some, None, ap, codes, inl, inr}
+use Rattle.std.proofs.Common.{drop, not, refl, subst, sym, true, false, true≢false, Global, IsErrAnd, String, is_some}
+use Rattle.fv_base.proofs.Laws.{IfErr-weaker, bytes_eq-Decides, bytes_eq}
 use Rattle.clap.specs.Values.{kind_of}
 use Rattle.clap.specs.Words.{App, HasKind, Kinds, fault_of, is_simple_and_free}
 use Rattle.clap.specs.declared.error.Error.{Error}
-use Rattle.clap.specs.declared.error.kind.ErrorKind.TheVariants as error_kinds
 use Rattle.clap.specs.declared.parser.matches.ArgMatches.{ArgMatches}
 use Rattle.fv_plan.specs.declared.plan.Command.{Command}
 use Rattle.fv_plan.specs.declared.plan.ImageFile.{ImageFile}
 use Rattle.fv_plan.specs.declared.plan.Part.{Part}
 use Rattle.fv_plan.specs.declared.plan.VolumeFile.{VolumeFile}
 use Rattle.fv_plan.specs.declared.plan.Command.TheVariants.{Single, Hobs, Compare}
-use Rattle.fv_plan.specs.declared.plan.Task.TheVariants.{Normalise, NormaliseAll, List as Listing, ListSums, Extract, Check}
-use Rattle.fv_plan.specs.declared.plan.Task.TheVariants.{CheckAll, Cells, Unfix, Scan}
+use Rattle.fv_plan.specs.declared.plan.Task.TheVariants.{Normalise, NormaliseAll, List as Listing, ListSums, Extract, Check, CheckAll, Cells, Unfix}
+use Rattle.fv_plan.specs.declared.plan.Task.TheVariants.{Scan}
 use Rattle.fv_arguments.proofs.ArgumentReadLemmas.{by_name, faults_read}
-use Rattle.fv_arguments.specs.Words.{compare_app, extract_app, faults_in, flag_in, hobs_app, image_app, text_in, HasInput, HasTexts}
-use Rattle.fv_arguments.specs.Words.{IsAtWord, IsImageWords, IsPartBy, IsVolumeWords, command_app, command_name}
+use Rattle.fv_arguments.specs.Words.{compare_app, extract_app, faults_in, flag_in, hobs_app, image_app, text_in, HasInput, HasTexts, IsAtWord}
+use Rattle.fv_arguments.specs.Words.{IsImageWords, IsPartBy, IsVolumeWords, command_app, command_name}
 use Rattle.fv_arguments.specs.declared.words.WordFault.{WordFault}
 use Rattle.fv_arguments.specs.inner.CommandWords.{AreRightFor, AsksOrFails, IsRead, ReadsOrFails, app_named}
 use Rattle.fv_arguments.specs.declared.words.WordFault.TheVariants.{Words, OutOfMemory}
+use Rattle.clap.specs.declared.error.kind.ErrorKind.TheVariants as error_kinds
 
 -- the options of a command are the options for its name
 named_app : (c : Command) → app_named (command_name c) ≡ command_app c

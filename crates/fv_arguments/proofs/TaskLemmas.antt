@@ -1,14 +1,9 @@
 -- The arguments of a name ask for one task, which a flag may select.
-use Rattle.std.proofs.lemmas.Grind.{common_steps}
-use Rattle.std.proofs.Common.{◌≡◌, ℕ, Bool, true, false, List, Option, Ok, subst, sym, arith}
+use Rattle.std.proofs.Common.{◌≡◌, ℕ, if◌then◌else◌, Bool, true, false, List, Option, subst, sym, arith, Global, String}
+use Rattle.fv_base.proofs.Laws.{common_steps}
 use Rattle.std.proofs.lemmas.Bool.{cond_both}
-use Rattle.std.specs.Global.{Global}
-use Rattle.std.specs.Prelude.{String, if◌then◌else◌}
-use Rattle.clap.specs.declared.parser.matches.ArgMatches.{ArgMatches}
-use Rattle.fv_plan.specs.declared.plan.Command.TheVariants.{Single}
 use Rattle.fv_plan.specs.declared.plan.Task.{Task}
 use Rattle.fv_arguments.specs.Words.{HasTaskTexts, task_name}
-use Rattle.fv_arguments.specs.inner.CommandWords.{AsksOrFails, IsRead, app_named}
 
 -- the arguments with this name ask for a task over this input
 abbrev IsAsked : List ℕ → List (List ℕ) → Option ℕ → Option (String Global) → Task → Type 0

@@ -1,8 +1,6 @@
 -- Texts of one or two hexadecimal digits have no sign and spell a byte.
-use Rattle.std.proofs.Common.{◌≡◌, ◌==◌, ◌^◌, ◌<◌, ◌≤◌, ℕ, Bool, cond, true, false, refl, subst, arith, eqb-true, List, [], ◌∷◌, drop}
-use Rattle.std.proofs.Common.{length}
-use Rattle.std.specs.Char.{digit_value}
-use Rattle.std.specs.Str.Parse.{IsNumeral, digits_value, without_leading_plus}
+use Rattle.std.proofs.Common.{◌≡◌, ◌==◌, ◌^◌, ◌<◌, ◌≤◌, ℕ, [], ◌∷◌, Bool, cond, true, false, refl, subst, arith, eqb-true, List, drop, length}
+use Rattle.fv_base.proofs.Laws.{digit_value, IsNumeral, digits_value, without_leading_plus}
 
 -- a hexadecimal numeral has no plus sign
 pub no_plus : (text : List ℕ) → IsNumeral 16 text → without_leading_plus text ≡ text

@@ -3,18 +3,14 @@
 --    bytes one by one (`one_more`, `one_less`, `looked_at`).
 -- 2. The test `all_are` decides it (`all_are-true`, `all-all_are`, `same_test`), also piece by piece (`all_pieces`,
 --    `piece_differs`).
+use Rattle.std.proofs.Common.{◌≡◌, ℕ, ◌+◌, ◌%◌, ◌<◌, [], ◌∷◌, ◌++◌, ◌↔◌, ◌==◌, zero, suc, List, length, take, drop, get_or, bit_or, refl, sym, ap}
+use Rattle.std.proofs.Common.{◌∙◌, subst, arith, take-append-drop, Bool, true, false, replicate, eqb-true, eq-eqb}
 use Rattle.std.proofs.lemmas.Grind.{common_steps}
-use Rattle.std.proofs.Common.{◌≡◌, ℕ, zero, suc, ◌+◌, ◌%◌, ◌<◌, List, [], ◌∷◌, ◌++◌, length, take, drop, get_or, bit_or, refl, sym, ap, ◌∙◌}
-use Rattle.std.proofs.Common.{subst, arith}
-use Rattle.std.proofs.lemmas.List.{take-append-drop}
-use Rattle.std.specs.Prelude.{◌↔◌}
 use Rattle.std.specs.Int.RustNames.{bit_xor}
 use Rattle.std.proofs.lemmas.Nat.{le_or_l, le_or_r}
 use Rattle.std.proofs.lemmas.Nat.Bits.{same_from_bits, bit_at_xor, bit_at-zero, bit_at-lt}
 use Rattle.std.specs.Int.{bit_at}
-use Rattle.std.specs.Prelude.{Bool, true, false, ◌==◌, replicate}
 use Rattle.std.specs.List.{list_all}
-use Rattle.std.proofs.lemmas.Bool.{eqb-true, eq-eqb}
 use Rattle.fv_base.specs.Words.{AllAre, all_are}
 use Rattle.fv_base.proofs.CheckLemmas.{and_split, and_join}
 

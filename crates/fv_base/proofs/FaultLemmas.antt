@@ -4,10 +4,9 @@
 -- 2. The second of two alternatives can be replaced by one that follows from it (`or_more`). If the second is
 --    impossible, the first holds (`first_only`). The first alternative is mostly out of memory.
 -- 3. A fault is out of memory, or it is not (`want_known`).
+use Rattle.std.proofs.Common.{◌≡◌, ◌≢◌, ◌⊎◌, ℕ, rules, Bool, true, false, refl, inl, inr, ap, arith, Result, Ok, Err, IsErrAnd}
 use Rattle.std.proofs.lemmas.Grind.{common_steps}
-use Rattle.std.proofs.Common.{◌≡◌, ◌≢◌, ◌⊎◌, Bool, true, false, ℕ, refl, inl, inr, ap, arith, rules}
 use Rattle.std.proofs.lemmas.Bool.{cases_eq}
-use Rattle.std.specs.Prelude.{Result, Ok, Err, IsErrAnd}
 use denote.Enum.Bare.{sameb, same_false, same_true}
 use Rattle.fv_base.specs.Words.{out_of_memory}
 use Rattle.fv_base.specs.declared.fault.Fault.{Fault}

@@ -4,14 +4,13 @@
 -- 3. A field of a part is a field of the whole (`field-take`, `field-append_front`, `drop-append_behind`).
 -- 4. The bytes up to a place are the bytes up to an earlier place, and at least one more (`take_past`, `some_between`).
 --    Two places are equal if neither of them is less (`same_place`).
+use Rattle.std.proofs.Common.{◌≡◌, ◌≤◌, ◌<◌, ◌+◌, ◌-◌, ◌*◌, ◌/◌, ◌%◌, ◌^◌, ℕ, [], ◌∷◌, ◌++◌, ◌⊎◌, zero, suc, List, length, take, drop, refl, sym, ap}
+use Rattle.std.proofs.Common.{◌∙◌, subst, arith, inl, inr, length-drop, slice_index, length-take-le}
 use Rattle.std.proofs.lemmas.Grind.{common_steps}
-use Rattle.std.proofs.Common.{◌≡◌, ◌≤◌, ◌<◌, ◌+◌, ◌-◌, ◌*◌, ◌/◌, ◌%◌, ◌^◌, ℕ, zero, suc, List, [], ◌∷◌, ◌++◌, length, take, drop, refl, sym}
-use Rattle.std.proofs.Common.{◌⊎◌, ap, ◌∙◌, subst, arith, inl, inr, length-drop}
-use Rattle.std.specs.Prelude.{slice_index}
 use Rattle.std.proofs.Math.Nat.{pow-suc}
 use Rattle.std.proofs.Math.Seq.{drop-append-add, take-add}
 use Rattle.std.proofs.lemmas.Bool.{cases_lt}
-use Rattle.std.proofs.lemmas.List.{drop-take, length-take-le, take-append-le, drop-append-le}
+use Rattle.std.proofs.lemmas.List.{drop-take, take-append-le, drop-append-le}
 use Rattle.fv_base.specs.Words.{IsBytes, le, le_bytes, field}
 
 pub take-take_le : (n m : ℕ) (xs : List ℕ) → n ≤ m → take n (take m xs) ≡ take n xs

@@ -1,6 +1,5 @@
 -- The text of a GUID is the text of its UUID, and is read as this GUID again.
-use Rattle.std.proofs.Common.{◌≡◌, ◌∙◌, ℕ, List, length, refl, sym, ap, Option, Some, None}
-use Rattle.std.specs.Prelude.{option_map}
+use Rattle.std.proofs.Common.{◌≡◌, ℕ, ◌∙◌, List, length, refl, sym, ap, Option, Some, None, option_map}
 use Rattle.uuid.specs.Parts.{swap_fields}
 use Rattle.uuid.specs.Text.{hyphenated_text, lower, by_index, parsed}
 use Rattle.uuid.proofs.RoundTrips.{swap_twice}

@@ -39,3 +39,46 @@ pub use Rattle.fv_base.proofs.ListLaws.{item_at, more_items, seam_items}
 -- A filter by a note of each item keeps the same items as a filter by a test with the same results. A list in the place
 -- of another of the same length.
 pub use Rattle.fv_base.proofs.ListLaws.{kept_noted, in_place}
+-- Names of std and definitions of this crate that several proofs use, so that a proof imports them in a line or two.
+-- The operators of std come from std's Common.
+pub use Rattle.std.proofs.Common.{Bool, Err, IfErr, IfOk, IsTrue, List, None, Ok, OnOk, Option, Result, Some, ap, append-nil, append_assoc, arith}
+pub use Rattle.std.proofs.Common.{codes, drop, drop-drop, drop-set-lt, drop_at, eq-eqb, eqb-true, ext_get_or, false, get_or-drop, get_or-set_other}
+pub use Rattle.std.proofs.Common.{get_or-set_same, get_or-take, inl, inr, is_some, le-leb, le-ltb, length, length-append, length-drop, length-set}
+pub use Rattle.std.proofs.Common.{length-take-le, lt-ltb, ltb-false, ltb-true, map, nat_le, nat_lt, ne_eqb, not, option_copied, option_map, refl}
+pub use Rattle.std.proofs.Common.{replicate, slice_get, slice_index, slice_set, subst, suc, sym, take, take-append-drop, take_all, take_at, true}
+pub use Rattle.std.proofs.Common.{true≢false, zero, ◌∙◌}
+pub use Rattle.std.proofs.KnownBytes.{Keeps-refl}
+pub use Rattle.std.proofs.Math.ListN.{drop_of_length-le, get_or, get_or-append, set}
+pub use Rattle.std.proofs.Math.Seq.{drop-append_seam, take-add, take-append-add, take-append_seam}
+pub use Rattle.std.proofs.lemmas.Bool.{cases_lt, eqb-false, not-true}
+pub use Rattle.std.proofs.lemmas.Bool.Decides.{Decides-eqb, nat_tests, not_from_Decides}
+pub use Rattle.std.proofs.lemmas.Grind.{common_steps, flat_map-append}
+pub use Rattle.std.proofs.lemmas.Iterator.Consumers.{YieldsList-from_filter, YieldsList-from_first, nth_from_yields_List}
+pub use Rattle.std.proofs.lemmas.List.{drop-take, drop_all, drop_more, get_or-map, get_or_default, length-map, length-replicate, map-append, map_more}
+pub use Rattle.std.proofs.lemmas.List.{map_push, take-append-le, take-set-le, take_more, take_more_set}
+pub use Rattle.std.proofs.lemmas.List.Elements.{All-contains, All-from_recursion, All-get_or, All-head, All-map, All-tail, All-weaker}
+pub use Rattle.std.proofs.lemmas.List.Elements.{recursion_from_All}
+pub use Rattle.std.proofs.lemmas.List.Folds.{Any-from_list_any, list_any_at}
+pub use Rattle.std.proofs.lemmas.List.Sums.{sum_by-append, sum_by-cons, sum_by_push}
+pub use Rattle.std.proofs.lemmas.Nat.Bits.{and_pow, bit_at-lt}
+pub use Rattle.std.proofs.lemmas.Option.{slice_get_past}
+pub use Rattle.std.proofs.lemmas.Result.{IfErr-weaker, IfOk-weaker, on_ok_weaker}
+pub use Rattle.std.proofs.lemmas.Simd.{map-map}
+pub use Rattle.std.proofs.lemmas.Slice.Eq.{bytes_eq-Decides}
+pub use Rattle.std.specs.Bool.{Decides, beq}
+pub use Rattle.std.specs.Char.{digit_value}
+pub use Rattle.std.specs.Cmp.{booleans_Decides}
+pub use Rattle.std.specs.Int.{bit_at}
+pub use Rattle.std.specs.Io.KnownBytes.{Appends}
+pub use Rattle.std.specs.Iterator.{SkipsThenYields}
+pub use Rattle.std.specs.List.{All, AllByRecursion, AllWithin, Contains, concat, cons_option, filter, flat_map, list_any, position, position_or_len}
+pub use Rattle.std.specs.List.{range_with_len}
+pub use Rattle.std.specs.Option.{option_and_then, option_or, unwrap_or}
+pub use Rattle.std.specs.Ordering.{is_lt}
+pub use Rattle.std.specs.Str.{bytes_eq}
+pub use Rattle.std.specs.Str.Parse.{IsNumeral, digits_value, without_leading_plus}
+pub use Rattle.fv_base.specs.Words.{AllAre, AllHold, Any, Check, Fails, First, IsBytes, IsFirstFault, ReadsWhole, WalkLaws, Which, WriteStops}
+pub use Rattle.fv_base.specs.Words.{alignment_of, alignments, bytes_of, check, data_limit, depth_limit, erased_byte, ext_limit, fault_number, field}
+pub use Rattle.fv_base.specs.Words.{has_erred, header_limit, inner_of, le, le_at, le_bytes, out_of_memory, outer_fault, up_to_8, volume_limit}
+pub use Rattle.fv_base.specs.Words.{words_of}
+unfoldable pub use Rattle.fv_base.specs.Words.{all_are, guid_text}

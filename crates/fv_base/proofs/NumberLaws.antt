@@ -1,8 +1,7 @@
 -- The numbers that bytes spell have bounds, and the parts of joined bytes are bytes, as is a byte that is repeated.
-use Rattle.std.proofs.Common.{◌≡◌, ◌<◌, ◌+◌, ◌*◌, ◌^◌, ℕ, zero, suc, List, [], ◌∷◌, ◌++◌, length, drop, refl, subst, arith}
-use Rattle.std.specs.Prelude.{replicate}
+use Rattle.std.proofs.Common.{◌≡◌, ◌<◌, ◌+◌, ◌*◌, ◌^◌, ℕ, [], ◌∷◌, ◌++◌, zero, suc, List, length, drop, refl, subst, arith, replicate, take_at}
+use Rattle.std.proofs.Common.{drop_at}
 use Rattle.std.proofs.Math.Nat.{pow-suc}
-use Rattle.std.proofs.lemmas.List.{take_at, drop_at}
 use Rattle.fv_base.specs.Words.{IsBytes, le, field}
 use Rattle.fv_base.proofs.FieldLemmas.{bytes_behind, bytes_take, bytes_drop, bytes_cons, none_at}
 

@@ -1,10 +1,9 @@
 -- After one walk or several, a sink holds the bytes of all of them.
-use Rattle.std.proofs.Common.{◌≡◌, ℕ, ◌+◌, ◌<◌, List, [], ◌++◌, take, drop, length, replicate, refl, sym, ◌∙◌, ap, subst, arith}
-use Rattle.std.proofs.Common.{◌||◌, ◌&&◌, ◌==◌, not, eqb-true, Bool, true, false}
+use Rattle.std.proofs.Common.{◌≡◌, ℕ, ◌+◌, ◌<◌, [], ◌++◌, ◌||◌, ◌&&◌, ◌==◌, List, take, drop, length, replicate, refl, sym, ◌∙◌, ap, subst, arith}
+use Rattle.std.proofs.Common.{not, eqb-true, Bool, true, false, Option, Result, Ok, Err, IfOk}
 use Rattle.std.proofs.lemmas.List.{replicate-append-replicate}
 use Rattle.std.proofs.Math.Seq.{take-add}
 use Rattle.std.proofs.KnownBytes.{Appends-trans}
-use Rattle.std.specs.Prelude.{Option, Result, Ok, Err, IfOk}
 use Rattle.std.specs.Io.KnownBytes.{Appends}
 use Rattle.fv_base.specs.Words.{KeptLatched, WalkLaws}
 use Rattle.fv_base.specs.declared.fault.Fault.{Fault}

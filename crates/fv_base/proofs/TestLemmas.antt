@@ -1,8 +1,7 @@
 -- Consequences of tests of numbers and of bits that hold, or that do not hold.
+use Rattle.std.proofs.Common.{◌≡◌, ◌≤◌, ◌<◌, ◌*◌, ℕ, ◌==◌, ◌≢◌, ◌||◌, if◌then◌else◌, zero, suc, refl, arith, Bool, true, false, nat_le, nat_lt}
+use Rattle.std.proofs.Common.{eq-eqb, eqb-true, leb-true, ltb-true}
 use Rattle.std.proofs.lemmas.Grind.{common_steps}
-use Rattle.std.proofs.Common.{◌≡◌, ◌≤◌, ◌<◌, ◌*◌, ℕ, zero, suc, refl, arith, Bool, true, false}
-use Rattle.std.specs.Prelude.{◌==◌, ◌≢◌, ◌||◌, nat_le, nat_lt, if◌then◌else◌}
-use Rattle.std.proofs.lemmas.Bool.{eq-eqb, eqb-true, leb-true, ltb-true}
 
 pub if_true : {A : Type 0} → (b : Bool) (x y : A) → b ≡ true → (if b then x else y) ≡ x
 if_true true x y h = refl

@@ -8,6 +8,7 @@ ghost use Rattle.fv_base.specs.Measures.{all_are};
 const PIECE: usize = 4096;
 
 // Returns whether every byte of the piece has this value. Reads all of the bytes.
+#[tactic(auto, using(crate::proofs::ErasedLemmas::looked_at))]
 fn is_filled(piece: &[u8], byte: u8) -> bool
     ensures { IsTrue result ↔ AllAre byte piece.now }
 {

@@ -1,10 +1,7 @@
 -- Proves that the bytes at the offsets of Attributes (`attributes_are`) and of the extended header's FvName (`no_name`,
 -- `some_name`) are these fields of the header that was read (PI specification, volume 3, sections 3.2.1.1 and 3.2.1.2).
-use Rattle.std.proofs.Common.{◌≡◌, ◌≢◌, ◌≤◌, ◌∙◌, ◌+◌, ℕ, List, ◌++◌, ap, append_assoc, arith, drop, length, length-append, refl, sym, take}
-use Rattle.std.specs.Prelude.{Option, None, Some, replicate}
-use Rattle.std.proofs.lemmas.List.{drop_at, take_at}
-use Rattle.fv_base.specs.Words.{bytes_of, field, le, le_at}
-use Rattle.fv_base.proofs.Laws.{field-take}
+use Rattle.std.proofs.Common.{◌≡◌, ◌≢◌, ◌≤◌, ◌+◌, ℕ, ◌++◌, ◌∙◌, List, ap, append_assoc, arith, drop, length, length-append, refl, sym, take, Option}
+use Rattle.fv_base.proofs.Laws.{None, Some, replicate, drop_at, take_at, bytes_of, field, le, le_at, field-take}
 use Rattle.fv_head.specs.Words.{BeginsVolume, Extension, HasExt, HeadFields}
 use Rattle.fv_head.specs.declared.extent.Extent.{Extent}
 use Rattle.fv_head.proofs.Laws.{front_lies}

@@ -1,10 +1,8 @@
 -- Proves the conditions of the clauses on memory: memory can run out only if the bytes begin with a volume header
 -- (`header_of`), with a hand-off information table (`begins_table`) or with a valid first op (`begins_first`), or if a
 -- volume begins in the image (`checked_place`).
-use Rattle.std.proofs.Common.{◌≡◌, ◌≢◌, ◌≤◌, ◌∙◌, ◌++◌, [], ◌∷◌, ℕ, List, ap, drop, length, map, refl, sym, take, append_assoc}
-use Rattle.std.specs.List.{AllByRecursion}
-use Rattle.std.proofs.lemmas.List.{take-append-drop}
-use Rattle.fv_base.specs.Words.{volume_limit}
+use Rattle.std.proofs.Common.{◌≡◌, ◌≢◌, ◌≤◌, ◌++◌, [], ◌∷◌, ℕ, ◌∙◌, List, ap, drop, length, map, refl, sym, take, append_assoc, take-append-drop}
+use Rattle.fv_base.proofs.Laws.{AllByRecursion, volume_limit}
 use Rattle.fv_canon.specs.Words.{ChecksImage}
 use Rattle.fv_canon.specs.declared.image_check.VolumeCheck.{VolumeCheck}
 use Rattle.fv_depex.proofs.Laws.{whole_ended}
@@ -12,13 +10,13 @@ use Rattle.fv_depex.specs.Words.{Spells, op_code, op_operand, ops_bytes, BeginsF
 use Rattle.fv_depex.specs.declared.op.Op.{Op}
 use Rattle.fv_depex.specs.declared.op.Phase.{Phase}
 use Rattle.fv_depex.specs.declared.op_stage.Stage.{Stage}
-use Rattle.fv_depex.specs.declared.op.Op.TheVariants as ops
-use Rattle.fv_depex.specs.declared.op_stage.Stage.TheVariants as stages
 use Rattle.fv_flash.specs.Words.{IsPlace}
 use Rattle.fv_hob.proofs.Laws.{code_is}
 use Rattle.fv_hob.specs.Words.{BeginsTable, HobForm, BeginWithTable, IsHobList, JoinsHobs}
 use Rattle.fv_tree.specs.Words.{Accepted, Meaning, head_of}
 use Rattle.fv_c.specs.Reports.{BeginsWithHeader}
+use Rattle.fv_depex.specs.declared.op.Op.TheVariants as ops
+use Rattle.fv_depex.specs.declared.op_stage.Stage.TheVariants as stages
 
 -- a volume begins with its header
 pub header_of : (b : List ℕ) (m : Meaning) → Accepted b m → BeginsWithHeader b

@@ -3,11 +3,8 @@
 -- 1. A part is in the buffer, or the buffer is too short and unchanged (`part_put`, `part_kept`).
 -- 2. `PutsPart` and `StopsPart` hold for the row's part (`puts_none`, `puts_part`, `stops_part`).
 -- 3. The clauses follow for the input whose meaning is the tree's.
-use Rattle.std.proofs.Common.{◌≡◌, ◌∙◌, ◌⊎◌, ◌<◌, ◌≤◌, ◌++◌, ℕ, zero, suc, List, [], ◌∷◌, length, drop, Some, None}
-use Rattle.std.proofs.Common.{refl, sym, subst, inl, inr, arith}
-use Rattle.std.specs.Prelude.{Option, option_map, slice_get}
-use Rattle.fv_base.proofs.Laws.{or_more}
-use Rattle.fv_base.specs.Words.{out_of_memory}
+use Rattle.std.proofs.Common.{◌≡◌, ◌⊎◌, ◌<◌, ◌≤◌, ◌++◌, ℕ, [], ◌∷◌, ◌∙◌, zero, suc, List, length, drop, Some, None, refl, sym, subst, inl, inr, arith}
+use Rattle.fv_base.proofs.Laws.{Option, option_map, slice_get, or_more, out_of_memory}
 use Rattle.fv_base.specs.declared.fault.Fault.{Fault}
 use Rattle.fv_canon.specs.Words.{AllFit, AreStarts, FirstUnplaced, IsImage, IsLayout, StartsOfEach, LayoutParts, WhatFitsHasAnImage}
 use Rattle.fv_tree.specs.Words.{NotRead, Accepted, Inside, IsMeaning, Meaning, Volume, head_of, volumes_in}

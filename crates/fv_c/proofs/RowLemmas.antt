@@ -1,8 +1,7 @@
 -- Proves that a loop which pushes f of each item in turn makes the list `map f xs` (`row_more`), and that a loop which
 -- writes f of each item in turn into a buffer writes this list (`row_put`, `rows_put`).
-use Rattle.std.proofs.Common.{◌≡◌, ◌∙◌, ◌<◌, ◌≤◌, ◌+◌, ℕ, List, [], ◌∷◌, ◌++◌, length, take, drop, get_or, map, sym, ap, ap₂, arith, drop-drop}
-use Rattle.std.proofs.Math.ListN.{set}
-use Rattle.std.proofs.lemmas.List.{drop-set-lt, length-set, map-append, take-append-drop, take_all, take_more, take_more_set}
+use Rattle.std.proofs.Common.{◌≡◌, ◌<◌, ◌≤◌, ◌+◌, ℕ, [], ◌∷◌, ◌++◌, ◌∙◌, List, length, take, drop, get_or, map, sym, ap, ap₂, arith, drop-drop}
+use Rattle.fv_base.proofs.Laws.{drop-set-lt, length-set, take-append-drop, take_all, set, map-append, take_more, take_more_set}
 
 -- if the rows are made from the first i items, then after one more push they are made from the first i + 1
 pub row_more : {A B : Type 0} (f : A → B) (xs : List A) (i : ℕ) (d : A) (rows more : List B) (row : B) → i < length xs

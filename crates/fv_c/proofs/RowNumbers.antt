@@ -1,8 +1,6 @@
 -- Proves how a row is looked up by its number in rows that are numbered from n on.
-use Rattle.std.proofs.Common.{◌≡◌, ◌∙◌, ℕ, ◌+◌, ◌<◌, List, [], ◌∷◌, ◌++◌, length, Some, None, true, false, cond, refl, sym, ap}
-use Rattle.std.proofs.Common.{append-nil, arith, suc, zero}
-use Rattle.std.proofs.lemmas.Bool.{eq-eqb, eqb-true, ne_eqb}
-use Rattle.std.specs.Prelude.{◌==◌, Bool, Option, slice_get}
+use Rattle.std.proofs.Common.{◌≡◌, ℕ, ◌+◌, ◌<◌, [], ◌∷◌, ◌++◌, ◌==◌, ◌∙◌, List, length, Some, None, true, false, cond, refl, sym, ap, append-nil}
+use Rattle.std.proofs.Common.{arith, suc, zero, eq-eqb, eqb-true, ne_eqb, Bool, Option, slice_get}
 
 -- the row of number k among rows that are numbered from n on
 abbrev pub row_at : {A : Type 0} → ℕ → List A → ℕ → Option A

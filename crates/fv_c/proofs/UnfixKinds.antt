@@ -2,23 +2,19 @@
 -- and is not Fixed (`kept_number`). The steps:
 -- 1. The fault of each check of a header or a cell has one of these numbers, or is Fixed (`head_kinds`, `cell_kinds`).
 -- 2. The first fault is not Fixed, so it has one of these numbers (`kept`).
-use Rattle.std.proofs.Common.{◌≡◌, ◌≤◌, ◌⊎◌, ◌+◌, ℕ, List, Bool, true, false, arith, drop, inl, inr, refl, subst, sym}
-use Rattle.std.specs.Prelude.{◌≢◌, ◌&&◌, ◌==◌, nat_le, not, slice_index, None, Option, Some}
-use Rattle.std.specs.List.{AllByRecursion}
-use Rattle.std.proofs.lemmas.Bool.{leb-true}
-use Rattle.std.proofs.lemmas.Bool.Decides.{nat_tests}
-use Rattle.fv_base.specs.Words.{Check, First, fault_number}
+use Rattle.std.proofs.Common.{◌≡◌, ◌≤◌, ◌⊎◌, ◌+◌, ℕ, ◌≢◌, ◌&&◌, ◌==◌, List, Bool, true, false, arith, drop, inl, inr, refl, subst, sym, nat_le, not}
+use Rattle.std.proofs.Common.{slice_index, None, Option, Some, leb-true}
+use Rattle.fv_base.proofs.Laws.{AllByRecursion, nat_tests, Check, First, fault_number, and_split, fails_among}
 use Rattle.fv_base.specs.declared.fault.Fault.{Fault}
 use Rattle.fv_base.specs.declared.fault.FaultKind.{FaultKind}
-use Rattle.fv_base.specs.declared.fault.FaultKind.TheVariants as kinds
 use Rattle.fv_base.specs.declared.flash.FileSystem.{FileSystem}
 use Rattle.fv_base.specs.declared.flash.Polarity.{Polarity}
-use Rattle.fv_base.proofs.Laws.{and_split, fails_among}
 use Rattle.fv_file.specs.Words.{cell_checks, file_checks, state_checks, state_of}
 use Rattle.fv_file.specs.declared.state.FileState.{FileState}
-use Rattle.fv_file.specs.declared.state.FileState.TheVariants as states
 use Rattle.fv_head.specs.Words.{head_checks}
 use Rattle.fv_tree.specs.Words.{IsFirstOfMarked}
+use Rattle.fv_base.specs.declared.fault.FaultKind.TheVariants as kinds
+use Rattle.fv_file.specs.declared.state.FileState.TheVariants as states
 
 -- the number of the kind is at most 16, and is not 15, the number of Fixed
 is_kept : FaultKind → Bool

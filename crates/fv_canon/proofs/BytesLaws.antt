@@ -1,15 +1,12 @@
 -- Everything that is written for a volume is a list of bytes.
-use Rattle.std.proofs.Common.{◌≡◌, ◌-◌, ◌+◌, ℕ, zero, suc, Bool, true, false, List, [], ◌∷◌, ◌++◌, length, replicate, sym, subst}
-use Rattle.std.specs.Prelude.{if◌then◌else◌, ◌==◌, nat_le, Option, None, Some}
-use Rattle.std.specs.List.{AllByRecursion}
-use Rattle.fv_base.specs.Words.{erased_byte, bytes_of, IsBytes, le_bytes, up_to_8}
+use Rattle.std.proofs.Common.{◌≡◌, ◌-◌, ◌+◌, ℕ, [], ◌∷◌, ◌++◌, if◌then◌else◌, ◌==◌, zero, suc, Bool, true, false, List, length, replicate, sym, subst}
+use Rattle.fv_base.proofs.Laws.{nat_le, Option, None, Some, AllByRecursion, erased_byte, bytes_of, IsBytes, le_bytes, up_to_8, bytes_append}
+use Rattle.fv_base.proofs.Laws.{bytes_back, bytes_front, bytes_le_bytes, none_at}
 use Rattle.fv_base.specs.declared.flash.FileSystem.{FileSystem}
 use Rattle.fv_base.specs.declared.flash.Polarity.{Polarity}
-use Rattle.fv_base.proofs.Laws.{bytes_append, bytes_back, bytes_front, bytes_le_bytes, none_at}
 use Rattle.fv_file.specs.Words.{pad_head_of}
-use Rattle.fv_head.specs.Words.{Extension, SplitsEntries, kept_payload, is_used_size, zero_used_size, IsReadExt, IfRead, HeadFields}
-use Rattle.fv_head.specs.Words.{canonical_head, canonical_end, first_edge, payload_with, entry_bytes, entries_bytes, ext_len, ext_spelled}
-use Rattle.fv_head.specs.Words.{polarity_of}
+use Rattle.fv_head.specs.Words.{Extension, SplitsEntries, kept_payload, is_used_size, zero_used_size, IsReadExt, IfRead, HeadFields, canonical_head}
+use Rattle.fv_head.specs.Words.{canonical_end, first_edge, payload_with, entry_bytes, entries_bytes, ext_len, ext_spelled, polarity_of}
 use Rattle.fv_head.proofs.Laws.{canonical_is}
 use Rattle.fv_canon.specs.Words.{StoredFile, stored_len, stored_bytes, pad_bytes, pads, long_pad, gap_bytes, ext_pad, used_size}
 use Rattle.fv_canon.specs.inner.ImageOf.{files_bytes, volume_bytes}

@@ -2,24 +2,18 @@
 -- 1. A storable file has a header that is read again, and the right file checksum (`sum_is_right`). So with its filler
 --    it is a cell (`file_cell`), of a known length (`length-stored`).
 -- 2. A pad is a cell too (`pad_cell`, `length-pad`).
-use Rattle.std.proofs.lemmas.Grind.{common_steps}
-use Rattle.std.proofs.Common.{◌≡◌, ◌≢◌, ◌≤◌, ◌<◌, ◌+◌, ◌-◌, ◌%◌, ℕ, Bool, true, false, List, [], ◌++◌, length}
-use Rattle.std.proofs.Common.{replicate, refl, sym, ap, ◌∙◌, subst, arith, length-append, append_assoc, append-nil}
-use Rattle.std.specs.Prelude.{slice_index, sum, ◌==◌, if◌then◌else◌}
-use Rattle.std.proofs.lemmas.Bool.{eq-eqb}
-use Rattle.std.proofs.lemmas.List.{length-replicate}
-use Rattle.fv_base.specs.Words.{erased_byte, bytes_of, data_limit, IsBytes}
+use Rattle.std.proofs.Common.{◌≡◌, ◌≢◌, ◌≤◌, ◌<◌, ◌+◌, ◌-◌, ◌%◌, ℕ, [], ◌++◌, ◌==◌, if◌then◌else◌, Bool, true, false, List, length, replicate, refl}
+use Rattle.std.proofs.Common.{sym, ap, ◌∙◌, subst, arith, length-append, append_assoc, append-nil, slice_index, sum, eq-eqb}
+use Rattle.fv_base.proofs.Laws.{common_steps, length-replicate, erased_byte, bytes_of, data_limit, IsBytes, bytes_append, bytes_replicate}
 use Rattle.fv_base.specs.declared.flash.FileSystem.{FileSystem}
 use Rattle.fv_base.specs.declared.flash.Polarity.{Polarity}
 use Rattle.fv_base.specs.declared.flash.FileSystem.TheVariants.{Ffs3}
 use Rattle.fv_base.specs.declared.flash.Polarity.TheVariants.{Ones, Zeros}
-use Rattle.fv_base.proofs.Laws.{bytes_append, bytes_replicate}
 use Rattle.fv_file.specs.Words.{Valid, Pad, IsCell, is_large, is_fixed, is_summed, pad_kind, file_sum_right, fixed_checksum, file_sum_for}
-use Rattle.fv_file.specs.Words.{needs_large, with_large, complement, pad_name, state_byte, file_fields, pad_fields, file_head_of}
-use Rattle.fv_file.specs.Words.{pad_head_of}
+use Rattle.fv_file.specs.Words.{needs_large, with_large, complement, pad_name, state_byte, file_fields, pad_fields, file_head_of, pad_head_of}
 use Rattle.fv_file.specs.declared.head.FileHead.{FileHead}
-use Rattle.fv_file.proofs.Laws.{bytes_header, complement_small, file_written, fixed_with, head_of_file, head_of_pad, length-header}
-use Rattle.fv_file.proofs.Laws.{pad_written, set_large, state_small, summed_with, with_large_small}
+use Rattle.fv_file.proofs.Laws.{bytes_header, complement_small, file_written, fixed_with, head_of_file, head_of_pad, length-header, pad_written}
+use Rattle.fv_file.proofs.Laws.{set_large, state_small, summed_with, with_large_small}
 use Rattle.fv_canon.specs.Words.{StoredFile, stored_len, head_len_for, stored_bytes, pad_bytes}
 
 -- ---- a file

@@ -1,18 +1,12 @@
 -- No two current files of a body have the same name, and all files of a written body are current.
-use Rattle.std.proofs.lemmas.Grind.{common_steps}
-use Rattle.std.proofs.Common.{◌≡◌, ◌⊎◌, inl, inr, ◌+◌, ℕ, Bool, true, false, List, [], ◌∷◌, refl, sym, ap, ◌∙◌, subst, arith}
-use Rattle.std.specs.Prelude.{map, not, ◌&&◌}
-use Rattle.std.specs.Bool.{beq}
-use Rattle.std.specs.List.{filter, list_any}
-use Rattle.std.specs.Str.{bytes_eq}
-use Rattle.fv_base.specs.Words.{bytes_of, up_to_8}
+use Rattle.std.proofs.Common.{◌≡◌, ◌⊎◌, ◌+◌, ℕ, [], ◌∷◌, ◌&&◌, inl, inr, Bool, true, false, List, refl, sym, ap, ◌∙◌, subst, arith, map, not}
+use Rattle.fv_base.proofs.Laws.{common_steps, beq, filter, list_any, bytes_eq, bytes_of, up_to_8, or_parts}
 use Rattle.fv_base.specs.declared.flash.Polarity.{Polarity}
 use Rattle.fv_placement.specs.Words.{StartsFollow}
 use Rattle.fv_tree.specs.Words.{FileForm, is_marked, same_name, is_twin, NoTwins, replaced_by, current_in, top_name, TopAtEnd}
 use Rattle.fv_canon.specs.Words.{StoredFile, stored_len}
 use Rattle.fv_canon.proofs.ImageParts.{stored_item}
 use Rattle.fv_canon.proofs.StoredTilingLaws.{forms_of}
-use Rattle.fv_base.proofs.Laws.{or_parts}
 use Rattle.fv_tree.proofs.Laws.{same_name_back}
 
 -- ---- tests over lists

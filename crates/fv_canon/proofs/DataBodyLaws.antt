@@ -1,8 +1,7 @@
 -- The data of a file can be seen as the body of a section: this body has the same volumes, the same bytes, the same
 -- number of values and the same depth.
 use Rattle.std.proofs.Common.{◌≡◌, ◌+◌, ℕ, List, refl}
-use Rattle.fv_tree.specs.Words.{FileMeaning, File, Plain, Sectioned, content_of}
-use Rattle.fv_tree.specs.Words.{volumes_in_body, volumes_in_content, volumes_in_file}
+use Rattle.fv_tree.specs.Words.{FileMeaning, File, Plain, Sectioned, content_of, volumes_in_body, volumes_in_content, volumes_in_file}
 use Rattle.fv_tree.specs.inner.Sizes.{body_size, file_size}
 use Rattle.fv_canon.specs.inner.ImageOf.{data_body, body_image, data_of}
 

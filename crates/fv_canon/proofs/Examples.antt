@@ -1,7 +1,6 @@
 -- The images of small volumes, byte by byte.
-use Rattle.std.proofs.lemmas.Grind.{common_steps}
-use Rattle.std.proofs.Common.{◌≡◌, ℕ, false, List, [], ◌∷◌, ◌++◌, replicate, refl, arith}
-use Rattle.std.specs.Prelude.{None, Some}
+use Rattle.std.proofs.Common.{◌≡◌, ℕ, [], ◌∷◌, ◌++◌, false, List, replicate, refl, arith, None, Some}
+use Rattle.fv_base.proofs.Laws.{common_steps}
 use Rattle.fv_base.specs.declared.flash.FileSystem.TheVariants.{Ffs2}
 use Rattle.fv_base.specs.declared.flash.Polarity.{Polarity}
 use Rattle.fv_base.specs.declared.guid.Guid.{Guid}

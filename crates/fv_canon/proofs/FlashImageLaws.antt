@@ -6,21 +6,15 @@
 -- 3. Each byte either is in a volume or is not (`covered_known`), so the renewed image is unique (`normalised_one`).
 -- 4. A volume that has a canonical image is not rejected. So if all volumes have one, the only error is OutOfMemory
 --    (`only_want`).
-use Rattle.std.proofs.lemmas.Grind.{common_steps}
-use Rattle.std.proofs.Common.{◌≡◌, ◌⊎◌, ◌≤◌, ◌<◌, ◌+◌, ◌-◌, ◌^◌, ℕ, List, [], ◌∷◌, ◌++◌, length, drop, get_or, refl}
-use Rattle.std.proofs.Common.{sym, ap, ◌∙◌, subst, arith, inl, inr, append_assoc}
-use Rattle.std.specs.List.{AllByRecursion, Contains}
-use Rattle.std.proofs.lemmas.Bool.{cases_lt}
-use Rattle.std.proofs.lemmas.List.{ext_get_or, get_or-drop, get_or-take}
-use Rattle.std.proofs.lemmas.List.Elements.{All-contains, All-from_recursion}
-use Rattle.std.proofs.Math.Seq.{drop-append_seam, take-append_seam}
-use Rattle.fv_base.specs.Words.{out_of_memory, field, depth_limit}
+use Rattle.std.proofs.Common.{◌≡◌, ◌⊎◌, ◌≤◌, ◌<◌, ◌+◌, ◌-◌, ◌^◌, ℕ, [], ◌∷◌, ◌++◌, List, length, drop, get_or, refl, sym, ap, ◌∙◌, subst, arith, inl}
+use Rattle.std.proofs.Common.{inr, append_assoc, ext_get_or, get_or-drop, get_or-take}
+use Rattle.fv_base.proofs.Laws.{common_steps, AllByRecursion, Contains, cases_lt, All-contains, All-from_recursion, drop-append_seam}
+use Rattle.fv_base.proofs.Laws.{take-append_seam, out_of_memory, field, depth_limit, first_or_behind, in_middle, one_behind, first_only}
 use Rattle.fv_base.specs.declared.fault.Fault.{Fault}
 use Rattle.fv_flash.specs.Words.{Found, IsCovered, VolumeAt}
 use Rattle.fv_tree.specs.Words.{Meaning}
 use Rattle.fv_flash.proofs.Laws.{at_within, one_found, one_length}
 use Rattle.fv_tree.proofs.Laws.{one_meaning}
-use Rattle.fv_base.proofs.Laws.{first_or_behind, in_middle, one_behind, first_only}
 use Rattle.fv_canon.specs.Words.{IsImage, NormalisesTo, Rejects, FirstRejected, IsNormalisedAt, NormalisesAll, NormalisesEach}
 use Rattle.fv_canon.proofs.FaultPlaces.{refused_within}
 use Rattle.fv_canon.proofs.FitLaws.{unfit_none}

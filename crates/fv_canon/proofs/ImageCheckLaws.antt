@@ -3,25 +3,21 @@
 --    image has at most one list of checks (`checks_one`).
 -- 2. If a volume is not read, either it is rejected or memory ran out (`ran_out_only`, `is_rejected`).
 -- 3. All volumes are canonical exactly if `normalise --all` does not change the image (`canonical_images_stay`).
-use Rattle.std.proofs.Common.{◌≡◌, ◌≢◌, ◌⊎◌, ℕ, List, [], ◌∷◌, map, refl, sym, ap}
-use Rattle.std.proofs.Common.{◌∙◌, subst, arith, inl, inr}
-use Rattle.std.specs.List.{AllByRecursion}
-use Rattle.fv_base.specs.Words.{out_of_memory, outer_fault, depth_limit, field}
+use Rattle.std.proofs.Common.{◌≡◌, ◌≢◌, ◌⊎◌, ℕ, [], ◌∷◌, List, map, refl, sym, ap, ◌∙◌, subst, arith, inl, inr}
+use Rattle.fv_base.proofs.Laws.{AllByRecursion, out_of_memory, outer_fault, depth_limit, field, first_only, First}
 use Rattle.fv_base.specs.declared.fault.Fault.{Fault}
-use Rattle.fv_base.specs.declared.fault.FaultKind.TheVariants as kinds
-use Rattle.fv_base.proofs.Laws.{first_only}
 use Rattle.fv_flash.specs.Words.{VolumeAt}
 use Rattle.fv_flash.proofs.Laws.{one_found, one_length}
 use Rattle.fv_head.proofs.Laws.{one_front}
 use Rattle.fv_head.specs.declared.extent.Extent.{Extent}
 use Rattle.fv_tree.specs.Words.{moved_fault, BytesFollowVolume, IsFirstOfInput, IsFirstOfVolume, Meaning, NotRead, head_of, length_of, outermost}
 use Rattle.fv_tree.proofs.Laws.{fault_refuses, fault_stands, first_once, front_of, one_meaning, stands_other}
-use Rattle.fv_base.specs.Words.{First}
 use Rattle.fv_canon.specs.ImageChecks.{AreCanonical, CanonicalImagesStay, ChecksImage, HasOutcome, IsChecked}
 use Rattle.fv_canon.specs.Words.{IsImage, IsNormalisedAt, NormalisesTo}
 use Rattle.fv_canon.specs.declared.image_check.VolumeCheck.{VolumeCheck}
 use Rattle.fv_canon.specs.declared.image_check.VolumeOutcome.{VolumeOutcome}
 use Rattle.fv_canon.specs.declared.image_check.VolumeOutcome.TheVariants.{Canonical, NotCanonical, Rejected}
+use Rattle.fv_base.specs.declared.fault.FaultKind.TheVariants as kinds
 
 -- ---- 1. one outcome
 

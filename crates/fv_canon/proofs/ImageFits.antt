@@ -1,10 +1,9 @@
 -- A volume that has an image fits.
-use Rattle.std.proofs.Common.{ℕ, ◌+◌, List, [], ◌∷◌}
+use Rattle.std.proofs.Common.{ℕ, ◌+◌, [], ◌∷◌, List}
 use Rattle.fv_section.specs.Words.{FrameForm, frame_len, up_to_4}
 use Rattle.fv_tree.specs.Words.{Meaning, Volume, FileMeanings, NoFiles, MoreFiles, FileMeaning, File, ContentMeaning, Plain, Sectioned}
 use Rattle.fv_tree.specs.Words.{SectionMeanings, NoSections, MoreSections, SectionMeaning, Section, BodyMeaning, Leaf, Group, Nested}
-use Rattle.fv_tree.specs.Words.{volumes_in_files, volumes_in_file, volumes_in_content, volumes_in_sections, volumes_in_section}
-use Rattle.fv_tree.specs.Words.{volumes_in_body}
+use Rattle.fv_tree.specs.Words.{volumes_in_files, volumes_in_file, volumes_in_content, volumes_in_sections, volumes_in_section, volumes_in_body}
 use Rattle.fv_canon.specs.Words.{IsImage, AreStored, IsStored, IsData, AreFrames, IsFrame, IsBodyImage, AllFit, Fits, StoredFile}
 use Rattle.fv_canon.proofs.VolumeListLaws.{fit_joined, fit_deeper}
 

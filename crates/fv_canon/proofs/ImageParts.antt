@@ -1,7 +1,6 @@
 -- The parts of an image, and how far a walk over an image has come. The invariants of the walk use these definitions.
-use Rattle.std.proofs.Common.{◌≡◌, ℕ, ◌-◌, List, [], ◌++◌, length, drop, replicate}
-use Rattle.std.specs.Str.{bytes_eq}
-use Rattle.fv_base.specs.Words.{alignment_of, bytes_of}
+use Rattle.std.proofs.Common.{◌≡◌, ℕ, ◌-◌, [], ◌++◌, List, length, drop, replicate}
+use Rattle.fv_base.proofs.Laws.{bytes_eq, alignment_of, bytes_of}
 use Rattle.fv_section.specs.Words.{FrameForm, frame_len, up_to_4, section_head_of}
 use Rattle.fv_tree.specs.Words.{SectionMeanings, NoSections, MoreSections, top_name, Inside, volumes_in_section}
 use Rattle.fv_placement.specs.declared.first_placement.PlacementItem.{PlacementItem}

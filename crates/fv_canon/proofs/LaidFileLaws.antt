@@ -3,21 +3,18 @@
 -- 2. The start of the file determines where it begins and ends (`here_is`, `at_file`).
 -- 3. The bytes that are left to write are the gap before the file, the file, its filler, and then the files after it
 --    (`walk_goes`). At the end only erased bytes are left (`files_end`).
-use Rattle.std.proofs.lemmas.Grind.{common_steps}
-use Rattle.std.proofs.Common.{◌≡◌, ◌≤◌, ◌<◌, ◌⊎◌, inl, inr, ◌+◌, ◌-◌, ◌%◌, ℕ, List, ◌∷◌, ◌++◌, length, drop, replicate}
-use Rattle.std.proofs.Common.{get_or, refl, ap, ◌∙◌, subst, arith, append_assoc, length-drop}
-use Rattle.std.proofs.lemmas.List.{drop_all, drop_more, length-map}
-use Rattle.fv_base.specs.Words.{erased_byte, data_limit, up_to_8, WalkLaws}
+use Rattle.std.proofs.Common.{◌≡◌, ◌≤◌, ◌<◌, ◌⊎◌, ◌+◌, ◌-◌, ◌%◌, ℕ, ◌∷◌, ◌++◌, inl, inr, List, length, drop, replicate, get_or, refl, ap, ◌∙◌, subst}
+use Rattle.std.proofs.Common.{arith, append_assoc, length-drop}
+use Rattle.fv_base.proofs.Laws.{common_steps, drop_all, drop_more, length-map, erased_byte, data_limit, up_to_8, WalkLaws, item_at}
 use Rattle.fv_base.specs.declared.flash.Polarity.{Polarity}
 use Rattle.fv_file.specs.Words.{file_sum_for, file_head_of, needs_large}
 use Rattle.fv_file.proofs.Laws.{cell_read, header_least}
 use Rattle.fv_placement.specs.Words.{IsStartInVolume}
-use Rattle.fv_tree.specs.Words.{FileMeaning, File, file_name_of, attributes_of, content_of, data_len_of, files_from, file_kind_of}
-use Rattle.fv_tree.specs.Words.{IsReadFile, MeansSection, Stream, volumes_in_files, volumes_in_file}
+use Rattle.fv_tree.specs.Words.{FileMeaning, File, file_name_of, attributes_of, content_of, data_len_of, files_from, file_kind_of, IsReadFile}
+use Rattle.fv_tree.specs.Words.{MeansSection, Stream, volumes_in_files, volumes_in_file}
 use Rattle.fv_canon.specs.inner.ImageOf.{stored_of, stored_file, data_of, starts_in, files_bytes}
-use Rattle.fv_canon.specs.Words.{BeginsWithStarts, placement_item, stored_len, size_for, head_len_for, stored_bytes, gap_bytes}
+use Rattle.fv_canon.specs.Words.{BeginsWithStarts, placement_item, stored_len, size_for, stored_bytes, gap_bytes}
 use Rattle.fv_canon.proofs.ImageParts.{ComesTo, TakesFront}
-use Rattle.fv_base.proofs.Laws.{item_at}
 use Rattle.fv_canon.proofs.VolumeListLaws.{item_passed}
 use Rattle.fv_canon.proofs.WrittenImageLaws.{data_made, stream_made, sections_made}
 use Rattle.fv_placement.proofs.Laws.{follow_length}

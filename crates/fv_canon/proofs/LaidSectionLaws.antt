@@ -4,12 +4,9 @@
 -- 2. A stream is its first section followed by the other sections (`stream_goes`, `stream_whole`).
 -- 3. A walk puts the filler, the header and the body of each section (`goes_on`, `front_more`), and at the end the tail
 --    (`front_end`).
-use Rattle.std.proofs.lemmas.Grind.{common_steps}
-use Rattle.std.proofs.Common.{◌≡◌, ◌≤◌, ◌<◌, ◌+◌, ◌-◌, ◌^◌, ℕ, zero, suc, Bool, List, [], ◌∷◌, ◌++◌, length, drop, replicate, get_or, refl}
-use Rattle.std.proofs.Common.{sym, ap, ◌∙◌, subst, arith, append_assoc, append-nil, length-drop}
-use Rattle.std.proofs.lemmas.List.{drop_all}
-use Rattle.fv_base.specs.Words.{IsBytes, volume_limit, WalkLaws}
-use Rattle.fv_base.proofs.Laws.{bytes_drop, item_at}
+use Rattle.std.proofs.Common.{◌≡◌, ◌≤◌, ◌<◌, ◌+◌, ◌-◌, ◌^◌, ℕ, [], ◌∷◌, ◌++◌, zero, suc, Bool, List, length, drop, replicate, get_or, refl, sym, ap}
+use Rattle.std.proofs.Common.{◌∙◌, subst, arith, append_assoc, append-nil, length-drop}
+use Rattle.fv_base.proofs.Laws.{common_steps, drop_all, IsBytes, WalkLaws, bytes_drop, item_at}
 use Rattle.fv_section.specs.Words.{FrameForm, section_header_len, frame_len, up_to_4, FitsForm, section_head_of, stream_of}
 use Rattle.fv_section.proofs.Laws.{begun_bytes, fits, length_begun}
 use Rattle.fv_tree.specs.Words.{SectionMeanings, NoSections, MoreSections, SectionMeaning, Section, body_len, sections_from, body_of}

@@ -7,21 +7,17 @@
 --    image. It holds at first (`laid_none`) and after each volume (`laid_more`), and at the end all bytes are put
 --    (`laid_all`).
 -- 4. So a flash image whose volumes are laid out has a renewed image (`laid_renewed`).
-use Rattle.std.proofs.lemmas.Grind.{common_steps}
-use Rattle.std.proofs.Common.{◌≡◌, ◌≢◌, ◌⊎◌, ◌≤◌, ◌<◌, ◌+◌, ◌-◌, ℕ, List, [], ◌∷◌, ◌++◌, length, take, drop, get_or}
-use Rattle.std.proofs.Common.{refl, sym, ap, ◌∙◌, subst, arith, inl, inr, append_assoc, length-append}
-use Rattle.std.specs.List.{AllByRecursion}
-use Rattle.std.proofs.lemmas.List.{drop_more, length-drop, length-take-le, map-append, take-append-drop}
-use Rattle.fv_base.specs.Words.{out_of_memory, volume_limit, WalkLaws, field}
+use Rattle.std.proofs.Common.{◌≡◌, ◌≢◌, ◌⊎◌, ◌≤◌, ◌<◌, ◌+◌, ◌-◌, ℕ, [], ◌∷◌, ◌++◌, List, length, take, drop, get_or, refl, sym, ap, ◌∙◌, subst, arith}
+use Rattle.fv_base.proofs.Laws.{inl, inr, append_assoc, length-append, length-drop, length-take-le, take-append-drop, common_steps, AllByRecursion}
+use Rattle.fv_base.proofs.Laws.{drop_more, map-append, out_of_memory, volume_limit, WalkLaws, field, at_index, or_more, want_known}
 use Rattle.fv_base.specs.declared.fault.Fault.{Fault}
-use Rattle.fv_base.proofs.Laws.{at_index, or_more, want_known}
 use Rattle.fv_flash.proofs.Laws.{at_within, found_walk, one_length}
 use Rattle.fv_flash.specs.inner.FoundWalks.{FoundFrom}
 use Rattle.fv_tree.specs.Words.{Accepted, moved_fault, Meaning, head_of}
 use Rattle.fv_flash.specs.Words.{Found, VolumeAt, offsets_of}
 use Rattle.fv_flash.specs.declared.scanner.FoundVolume.{FoundVolume}
-use Rattle.fv_canon.specs.Words.{IsImage, NormalisesTo, Rejects, FirstRejected, HasImageAt, NormalisesAll, RejectedAt, AreLaid, IsLaid}
-use Rattle.fv_canon.specs.Words.{IsLaidOut, starts_of}
+use Rattle.fv_canon.specs.Words.{IsImage, NormalisesTo, Rejects, FirstRejected, HasImageAt, NormalisesAll, RejectedAt, AreLaid, IsLaid, IsLaidOut}
+use Rattle.fv_canon.specs.Words.{starts_of}
 use Rattle.fv_canon.specs.declared.flash_image.LocatedVolume.{LocatedVolume}
 use Rattle.fv_canon.proofs.FlashImageLaws.{RenewsFrom, drop_joined, renewed_is, renews_more}
 use Rattle.fv_canon.proofs.ImageLaws.{image_stays_long}

@@ -1,14 +1,12 @@
 -- The two loops over the rows of a part of a volume: one adds the starts of the files of each volume among the rows,
 -- the other skips these starts.
-use Rattle.std.proofs.Common.{◌≡◌, ◌≢◌, ◌<◌, ◌≤◌, inl, inr, ◌+◌, ◌∙◌, ℕ, suc, List, [], ◌∷◌, ◌++◌, append_assoc, append-nil, length, drop}
-use Rattle.std.proofs.Common.{refl, sym, ap, subst, arith, true, false, true≢false, drop-drop, length-append}
+use Rattle.std.proofs.Common.{◌≡◌, ◌≢◌, ◌<◌, ◌≤◌, ◌+◌, ℕ, [], ◌∷◌, ◌++◌, inl, inr, ◌∙◌, suc, List, append_assoc, append-nil, length, drop, refl, sym}
+use Rattle.std.proofs.Common.{ap, subst, arith, true, false, true≢false, drop-drop, length-append, drop_at}
 use Rattle.std.specs.List.{Any}
-use Rattle.std.proofs.lemmas.List.{drop_at}
 use Rattle.fv_base.specs.declared.fault.Fault.{Fault}
 use Rattle.fv_rows.proofs.Laws.{file_inside}
 use Rattle.fv_rows.specs.Words.{VolumeNode, FileNode, TreeRow, part_node, row_of, rows_inside}
 use Rattle.fv_rows.specs.declared.tree_walk.Part.{Part}
-use Rattle.fv_rows.specs.declared.tree_walk.Part.TheVariants as kinds
 use Rattle.fv_rows.specs.declared.tree_walk.Row.{Row}
 use Rattle.fv_rows.specs.inner.RowVolumes.{volume_at, volumes_of}
 use Rattle.fv_tree.specs.Words.{Meaning, Volume, NoFiles, MoreFiles, files_of, FileMeaning, Inside, volumes_in, volumes_in_file}
@@ -17,6 +15,7 @@ use Rattle.fv_canon.specs.Words.{AreStarts, StartsOfEach, FirstUnplaced, UnfitHe
 use Rattle.fv_canon.proofs.DataBodyLaws.{data_held, data_volumes}
 use Rattle.fv_canon.proofs.ImageParts.{ComesTo}
 use Rattle.fv_canon.proofs.VolumeListLaws.{own_count}
+use Rattle.fv_rows.specs.declared.tree_walk.Part.TheVariants as kinds
 
 -- ---- the next row
 

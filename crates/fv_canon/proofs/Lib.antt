@@ -33,7 +33,6 @@ pub mod RejectedInputLaws
 pub mod StoredTilingLaws
 pub mod StreamImageLaws
 pub mod SumRightLaws
-pub mod SumLaws
 pub mod SumWalks
 pub mod UnfitKinds
 pub mod VolumeImageLaws
@@ -42,5 +41,4 @@ pub mod WrittenImageLaws
 pub mod VolumeListLaws
 pub mod PadLaws
 pub mod InsideImageLaws
-pub mod InsideMeaningLaws
 pub mod EveryInputLaws

@@ -1,9 +1,6 @@
 -- Bytes are compared with the bytes that a walk writes: one step, and the result at the end.
-use Rattle.std.proofs.lemmas.Grind.{common_steps}
-use Rattle.std.proofs.Common.{◌≡◌, ℕ, List, [], ◌++◌, length, take, drop, refl, ap, sym, ◌∙◌, append-nil, take-append-drop, arith}
-use Rattle.std.proofs.Common.{Bool, true, false}
-use Rattle.std.specs.Prelude.{IsTrue}
-use Rattle.std.proofs.lemmas.List.{take_at}
+use Rattle.std.proofs.Common.{◌≡◌, ℕ, [], ◌++◌, List, length, take, drop, refl, ap, sym, ◌∙◌, append-nil, take-append-drop, arith, Bool, true, false}
+use Rattle.fv_base.proofs.Laws.{IsTrue, take_at, common_steps}
 use Rattle.fv_canon.specs.inner.Matching.{IsNotPrefix, MatchLatched}
 
 -- ---- one step

@@ -1,14 +1,10 @@
 -- The laws of a run that normalises an input: the bytes that it wrote, or the fault that stopped it.
-use Rattle.std.proofs.lemmas.Grind.{common_steps}
-use Rattle.std.proofs.Common.{◌≢◌, ℕ, List, inr, arith}
-use Rattle.std.specs.Prelude.{Option, Result, Ok, Err, IfErr, OnErr, OnOk}
-use Rattle.std.specs.Io.KnownBytes.{Appends}
-use Rattle.std.proofs.lemmas.Result.{on_ok_weaker, IfErr-weaker}
-use Rattle.fv_base.specs.Words.{ReadsWhole, WriteStops}
+use Rattle.std.proofs.Common.{◌≢◌, ℕ, List, inr, arith, Option, Result, Ok, Err, IfErr, OnErr, OnOk}
+use Rattle.fv_base.proofs.Laws.{common_steps, Appends, on_ok_weaker, IfErr-weaker, ReadsWhole, WriteStops}
 use Rattle.fv_base.specs.declared.fault.Fault.{Fault}
-use Rattle.fv_base.specs.declared.fault.FaultKind.TheVariants as kinds
 use Rattle.fv_tree.specs.Words.{Accepted, Meaning}
 use Rattle.fv_canon.specs.Words.{IsImage, RunStops, RunWrites}
+use Rattle.fv_base.specs.declared.fault.FaultKind.TheVariants as kinds
 
 module _ {unread left : Option (List ℕ)} (input : List ℕ) (m : Meaning) (held holds : Option (List ℕ)) (r : Result (Unit {0}) Fault)
     (reads : ReadsWhole unread left input) (d : Accepted input m) where

@@ -2,13 +2,8 @@
 -- 1. Two lists of bytes that show the same spans are equal (`shows_one`).
 -- 2. Files have at most one first placement (`starts_one`).
 -- 3. So by induction on the meaning there is at most one image (`image_one`).
-use Rattle.std.proofs.lemmas.Grind.{common_steps}
-use Rattle.std.proofs.Common.{◌≡◌, ◌≤◌, ◌<◌, inl, inr, ◌+◌, ◌-◌, ℕ, Bool, List, [], ◌∷◌, length, drop, get_or, refl}
-use Rattle.std.proofs.Common.{sym, ap, ◌∙◌, subst, arith}
-use Rattle.std.specs.List.{AllByRecursion}
-use Rattle.std.proofs.lemmas.Bool.{cases_lt}
-use Rattle.std.proofs.lemmas.List.{ext_get_or, get_or-take, get_or-drop}
-use Rattle.fv_base.specs.Words.{erased_byte}
+use Rattle.std.proofs.Common.{◌≡◌, ◌≤◌, ◌<◌, ◌+◌, ◌-◌, ℕ, [], ◌∷◌, inl, inr, Bool, List, length, drop, get_or, refl, sym, ap, ◌∙◌, subst, arith}
+use Rattle.fv_base.proofs.Laws.{ext_get_or, get_or-take, get_or-drop, common_steps, AllByRecursion, cases_lt, erased_byte}
 use Rattle.fv_base.specs.declared.guid.Guid.{Guid}
 use Rattle.fv_head.specs.Words.{first_edge, HeadFields, polarity_of}
 use Rattle.fv_placement.proofs.Laws.{starts_one}

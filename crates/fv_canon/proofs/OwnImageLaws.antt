@@ -1,11 +1,8 @@
 -- Whether bytes are the image of a volume: they are if a walk over its layout writes these bytes, and they are not if
 -- its layout is rejected.
-use Rattle.std.proofs.Common.{◌≡◌, ◌≢◌, ◌⊎◌, inl, inr, ℕ, List, sym, ap, subst, Bool, true}
-use Rattle.std.specs.Prelude.{IsTrue}
-use Rattle.fv_base.proofs.Laws.{first_only}
-use Rattle.fv_base.specs.Words.{out_of_memory}
+use Rattle.std.proofs.Common.{◌≡◌, ◌≢◌, ◌⊎◌, ℕ, inl, inr, List, sym, ap, subst, Bool, true, IsTrue}
+use Rattle.fv_base.proofs.Laws.{first_only, out_of_memory}
 use Rattle.fv_base.specs.declared.fault.Fault.{Fault}
-use Rattle.fv_base.specs.declared.fault.FaultKind.TheVariants as kinds
 use Rattle.fv_tree.specs.Words.{IsMeaning, Meaning}
 use Rattle.fv_canon.specs.Words.{IsImage, AreAllStarts, Unfit}
 use Rattle.fv_canon.specs.inner.ImageOf.{image_of}
@@ -13,6 +10,7 @@ use Rattle.fv_canon.proofs.FitLaws.{unfit_none}
 use Rattle.fv_canon.proofs.ImageFits.{image_fits}
 use Rattle.fv_canon.proofs.ImageLaws.{image_is, image_only}
 use Rattle.fv_canon.proofs.UnfitKinds.{not_layout, unfit_is}
+use Rattle.fv_base.specs.declared.fault.FaultKind.TheVariants as kinds
 
 -- bytes are the image of a volume that is laid out exactly if they are the bytes that the walk writes
 pub image_told : (m : Meaning) (b starts : List ℕ) (t : Bool) → IsMeaning m → AreAllStarts m starts

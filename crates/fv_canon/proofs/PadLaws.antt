@@ -1,9 +1,7 @@
 -- How a gap is split into pads.
-use Rattle.std.proofs.Common.{◌≡◌, ◌≤◌, ◌<◌, inl, inr, ◌-◌, ◌%◌, ℕ, zero, suc, Bool, List, [], ◌++◌, refl, sym, ap, ◌∙◌, subst, arith}
-use Rattle.std.specs.Prelude.{nat_le, if◌then◌else◌}
-use Rattle.std.proofs.lemmas.Bool.{cases_lt, le-leb, ne_eqb}
+use Rattle.std.proofs.Common.{◌≡◌, ◌≤◌, ◌<◌, ◌-◌, ◌%◌, ℕ, [], ◌++◌, if◌then◌else◌, inl, inr, zero, suc, Bool, List, refl, sym, ap, ◌∙◌, subst, arith}
+use Rattle.fv_base.proofs.Laws.{nat_le, le-leb, ne_eqb, cases_lt, if_true, if_false, not_at_most}
 use Rattle.fv_base.specs.declared.flash.Polarity.{Polarity}
-use Rattle.fv_base.proofs.Laws.{if_true, if_false, not_at_most}
 use Rattle.fv_canon.specs.Words.{pad_bytes, pads, long_pad, gap_bytes, PadsRule}
 
 pub gap_none : (p : Polarity) (gap : ℕ) → gap ≡ 0 → gap_bytes p gap ≡ []

@@ -1,16 +1,14 @@
 -- The facts that the layout uses about the files of a volume that was read.
-use Rattle.std.proofs.Common.{◌≡◌, ◌≤◌, ◌<◌, ◌+◌, ◌-◌, ◌*◌, ◌/◌, ◌%◌, ℕ, zero, suc, Bool, true, false, List, [], ◌∷◌, length}
-use Rattle.std.proofs.Common.{drop, refl, ◌∙◌, arith, length-drop}
-use Rattle.std.specs.Prelude.{All, map, slice_index}
-use Rattle.std.specs.List.{AllByRecursion}
-use Rattle.fv_base.specs.Words.{alignments, alignment_of, IsAlignment, volume_limit}
+use Rattle.std.proofs.Common.{◌≡◌, ◌≤◌, ◌<◌, ◌+◌, ◌-◌, ◌*◌, ◌/◌, ◌%◌, ℕ, [], ◌∷◌, zero, suc, Bool, true, false, List, length, drop, refl, ◌∙◌, arith}
+use Rattle.fv_base.proofs.Laws.{length-drop, All, map, slice_index, AllByRecursion, alignments, alignment_of, volume_limit}
+use Rattle.fv_base.specs.Words.{IsAlignment}
 use Rattle.fv_base.specs.declared.flash.FileSystem.{FileSystem}
 use Rattle.fv_file.specs.Words.{file_header_len, needs_large}
 use Rattle.fv_head.proofs.Laws.{front_lies}
 use Rattle.fv_placement.specs.Words.{IsLawfulItem}
 use Rattle.fv_tree.proofs.Laws.{content_long}
-use Rattle.fv_tree.specs.Words.{MeansFile, IsMeaning, Pairwise, Stream, IsReadFile, FileForm, Meaning, Volume, FileMeaning, File}
-use Rattle.fv_tree.specs.Words.{attributes_of, data_len_of, files_list, files_of, head_of}
+use Rattle.fv_tree.specs.Words.{MeansFile, IsMeaning, Pairwise, Stream, IsReadFile, FileForm, Meaning, Volume, FileMeaning, File, attributes_of}
+use Rattle.fv_tree.specs.Words.{data_len_of, files_list, files_of, head_of}
 use Rattle.fv_canon.specs.Words.{placement_item}
 use Rattle.fv_file.proofs.Laws.{cell_read}
 use Rattle.fv_canon.proofs.ReadLaws.{FileIsAccepted}

@@ -4,21 +4,18 @@
 -- 2. So the files are in order, and the walk writes them (`files_placed`).
 -- 3. With the header and the extended header the same is true of the volume (`volume_in_order`, `volume_painted`).
 -- 4. So the bytes that show the volume are the bytes that the walk writes (`volume_shows`, `volume_written`).
-use Rattle.std.proofs.Common.{◌≡◌, ◌≤◌, ◌+◌, ◌-◌, ◌*◌, ◌%◌, ℕ, List, [], ◌∷◌, ◌++◌, length, replicate, refl, sym, ap, ◌∙◌, subst, arith}
-use Rattle.std.proofs.Common.{length-append, append_assoc}
-use Rattle.std.specs.Prelude.{map, Option, None, Some}
-use Rattle.std.specs.List.{AllByRecursion}
+use Rattle.std.proofs.Common.{◌≡◌, ◌≤◌, ◌+◌, ◌-◌, ◌*◌, ◌%◌, ℕ, [], ◌∷◌, ◌++◌, List, length, replicate, refl, sym, ap, ◌∙◌, subst, arith}
+use Rattle.fv_base.proofs.Laws.{length-append, append_assoc, map, Option, None, Some, AllByRecursion, erased_byte, up_to_8}
 use Rattle.std.proofs.lemmas.List.{replicate-append-replicate}
-use Rattle.fv_base.specs.Words.{erased_byte, up_to_8}
 use Rattle.fv_base.specs.declared.flash.FileSystem.{FileSystem}
 use Rattle.fv_base.specs.declared.flash.Polarity.{Polarity}
 use Rattle.fv_file.specs.Words.{pad_head_of}
-use Rattle.fv_head.specs.Words.{Extension, HeadFields, header_len_of, IsReadHead, IfRead, canonical_head, canonical_end, first_edge}
-use Rattle.fv_head.specs.Words.{ext_len, ext_spelled, polarity_of}
+use Rattle.fv_head.specs.Words.{Extension, HeadFields, header_len_of, IsReadHead, IfRead, canonical_head, canonical_end, first_edge, ext_len}
+use Rattle.fv_head.specs.Words.{ext_spelled, polarity_of}
 use Rattle.fv_head.proofs.Laws.{ext_again, length-canonical}
 use Rattle.fv_placement.specs.Words.{StartsFollow}
-use Rattle.fv_canon.specs.Words.{PlacedBytes, ShowsPlaced, painted, InOrder, StoredFile, stored_len, stored_bytes, gap_bytes, placed_files}
-use Rattle.fv_canon.specs.Words.{ext_pad, placed_in_volume, used_size}
+use Rattle.fv_canon.specs.Words.{PlacedBytes, ShowsPlaced, painted, InOrder, StoredFile, stored_len, stored_bytes, gap_bytes, placed_files, ext_pad}
+use Rattle.fv_canon.specs.Words.{placed_in_volume, used_size}
 use Rattle.fv_canon.specs.inner.ImageOf.{files_bytes, volume_bytes}
 use Rattle.fv_canon.proofs.ImageParts.{stored_item}
 use Rattle.fv_canon.proofs.CellLaws.{Storable, length-stored, length-pad_head}

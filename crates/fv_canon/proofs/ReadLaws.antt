@@ -1,14 +1,11 @@
 -- Facts about the files of a volume that was read.
-use Rattle.std.proofs.Common.{◌≤◌, ℕ, List, [], ◌∷◌, length}
-use Rattle.std.specs.Prelude.{not}
-use Rattle.std.specs.List.{AllByRecursion, list_any}
-use Rattle.fv_base.specs.Words.{IsBytes}
+use Rattle.std.proofs.Common.{◌≤◌, ℕ, [], ◌∷◌, List, length, not}
+use Rattle.fv_base.proofs.Laws.{AllByRecursion, list_any, IsBytes, all_filter}
 use Rattle.fv_base.specs.declared.flash.FileSystem.{FileSystem}
 use Rattle.fv_base.specs.declared.flash.Polarity.{Polarity}
 use Rattle.fv_file.specs.Words.{CellForm, Valid, Pad, Dead, Stub, Free, Tiles}
 use Rattle.fv_file.proofs.Laws.{FileRead as HeadRead, IsRead, tiles_read}
 use Rattle.fv_tree.specs.Words.{FileForm, files_in, replaced_by, current_in}
-use Rattle.fv_base.proofs.Laws.{all_filter}
 
 abbrev pub FileIsAccepted : FileSystem → ℕ → FileForm → Type 0
 FileIsAccepted system limit f = HeadRead system limit f.head f.payload

@@ -1,16 +1,14 @@
 -- The laws of inputs that are rejected.
-use Rattle.std.proofs.Common.{◌≡◌, ◌≢◌, ℕ, List, refl, sym, ap, subst, inl, inr, ◌⊎◌}
-use Rattle.fv_base.proofs.Laws.{or_more, first_only}
-use Rattle.fv_base.specs.Words.{out_of_memory}
+use Rattle.std.proofs.Common.{◌≡◌, ◌≢◌, ℕ, ◌⊎◌, List, refl, sym, ap, subst, inl, inr}
+use Rattle.fv_base.proofs.Laws.{or_more, first_only, out_of_memory}
 use Rattle.fv_base.specs.declared.fault.Fault.{Fault}
-use Rattle.fv_base.specs.declared.fault.FaultKind.TheVariants as kinds
 use Rattle.fv_tree.specs.Words.{Accepted, IsFirstOfInput, NotRead, Meaning}
 use Rattle.fv_tree.proofs.Laws.{IsOfInput, fault_stands, stands_other}
-use Rattle.fv_canon.specs.Words.{NormalisesTo, IsNotVolume, IsOfLayout, IsUnfit, NotPlaced, Rejects, OnlyWhatDoesNotFitIsRejected, Fits}
-use Rattle.fv_canon.specs.Words.{Unfit}
+use Rattle.fv_canon.specs.Words.{NormalisesTo, IsNotVolume, IsOfLayout, IsUnfit, NotPlaced, Rejects, OnlyWhatDoesNotFitIsRejected, Fits, Unfit}
 use Rattle.fv_canon.proofs.FitLaws.{unfit_none}
 use Rattle.fv_canon.proofs.ImageFits.{image_fits as has_image_fits}
 use Rattle.fv_canon.proofs.UnfitKinds.{not_layout, unfit_is}
+use Rattle.fv_base.specs.declared.fault.FaultKind.TheVariants as kinds
 
 -- ---- a volume that fits
 

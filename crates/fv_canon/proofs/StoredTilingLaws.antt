@@ -1,16 +1,11 @@
 -- Files and pads that are written as in the canonical image tile the body. The steps:
 -- 1. Pads tile a gap (`pad_tiles`, `gap_tiles`), and a free cell tiles the erased bytes at the end (`free_tiles`).
 -- 2. A file with its filler is a cell. So the body is tiled, gap by gap and file by file (`body_tiles`).
-use Rattle.std.proofs.lemmas.Grind.{common_steps}
-use Rattle.std.proofs.Common.{◌≡◌, ◌≤◌, ◌<◌, ◌⊎◌, inl, inr, ◌+◌, ◌-◌, ◌%◌, ℕ, zero, suc, true, false, List, [], ◌∷◌, ◌++◌}
-use Rattle.std.proofs.Common.{length, replicate, refl, sym, ap, ◌∙◌, subst, arith, length-append, append_assoc, append-nil}
-use Rattle.std.specs.Prelude.{map, slice_index}
-use Rattle.std.specs.List.{AllByRecursion}
-use Rattle.std.proofs.lemmas.List.{length-replicate}
-use Rattle.fv_base.specs.Words.{alignment_of, AllAre, erased_byte, up_to_8}
+use Rattle.std.proofs.Common.{◌≡◌, ◌≤◌, ◌<◌, ◌⊎◌, ◌+◌, ◌-◌, ◌%◌, ℕ, [], ◌∷◌, ◌++◌, inl, inr, zero, suc, true, false, List, length, replicate, refl}
+use Rattle.std.proofs.Common.{sym, ap, ◌∙◌, subst, arith, length-append, append_assoc, append-nil, map, slice_index}
+use Rattle.fv_base.proofs.Laws.{common_steps, AllByRecursion, length-replicate, alignment_of, AllAre, erased_byte, up_to_8, all-of_replicate}
 use Rattle.fv_base.specs.declared.flash.FileSystem.{FileSystem}
 use Rattle.fv_base.specs.declared.flash.Polarity.{Polarity}
-use Rattle.fv_base.proofs.Laws.{all-of_replicate}
 use Rattle.fv_file.specs.Words.{CellForm, Valid, Pad, Free, Tiles, attribute_bits, is_large, fixed_checksum, pad_fields, pad_head_of}
 use Rattle.fv_file.proofs.Laws.{alignment_with}
 use Rattle.fv_placement.specs.Words.{StartsFollow}

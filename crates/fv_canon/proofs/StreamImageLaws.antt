@@ -6,17 +6,15 @@
 --    `last_again`, `more_again`, `frames_again`).
 -- 4. So a stream is read again if its sections are (`stream_again`), and a section is read again if the parts inside
 --    are (`section_again`).
-use Rattle.std.proofs.Common.{◌≡◌, ◌≤◌, ◌<◌, ◌+◌, ◌-◌, ◌%◌, ℕ, Bool, true, false, List, [], ◌∷◌, ◌++◌, length, replicate, refl}
-use Rattle.std.proofs.Common.{sym, ap, ◌∙◌, subst, arith, length-append}
-use Rattle.std.proofs.lemmas.List.{length-replicate}
-use Rattle.fv_base.specs.Words.{IsBytes, le_bytes}
-use Rattle.fv_base.proofs.Laws.{bytes_append, bytes_back, bytes_cons, bytes_front, bytes_le_bytes, bytes_replicate, none_at}
+use Rattle.std.proofs.Common.{◌≡◌, ◌≤◌, ◌<◌, ◌+◌, ◌-◌, ◌%◌, ℕ, [], ◌∷◌, ◌++◌, Bool, true, false, List, length, replicate, refl, sym, ap, ◌∙◌, subst}
+use Rattle.fv_base.proofs.Laws.{arith, length-append, length-replicate, IsBytes, le_bytes, bytes_append, bytes_back, bytes_cons, bytes_front}
+use Rattle.fv_base.proofs.Laws.{bytes_le_bytes, bytes_replicate, none_at}
 use Rattle.fv_section.specs.Words.{FrameForm, section_header_len, frame_len, BeginsFrame, SplitsFrom, Splits, up_to_4, FitsForm, InPlace}
 use Rattle.fv_section.specs.Words.{section_head_of, stream_of}
 use Rattle.fv_section.proofs.Laws.{begun_bytes, fits, length_begun, streams_are_read}
-use Rattle.fv_tree.specs.Words.{Meaning, SectionMeanings, NoSections, MoreSections, SectionMeaning, Section, Leaf, Group, Nested}
-use Rattle.fv_tree.specs.Words.{sections_list, sections_end, section_len, length_of, SectionRelation, StreamRelation, VolumeRelation}
-use Rattle.fv_tree.specs.Words.{Pairwise, StreamOver, SectionOver, Opens}
+use Rattle.fv_tree.specs.Words.{Meaning, SectionMeanings, NoSections, MoreSections, SectionMeaning, Section, Leaf, Group, Nested, sections_list}
+use Rattle.fv_tree.specs.Words.{sections_end, section_len, length_of, SectionRelation, StreamRelation, VolumeRelation, Pairwise, StreamOver}
+use Rattle.fv_tree.specs.Words.{SectionOver, Opens}
 use Rattle.fv_canon.specs.Words.{IsImage, AreFrames, IsFrame}
 
 -- the type of a section that was read is a byte

@@ -5,17 +5,12 @@
 -- 2. The pad that contains the extended header is such a cell (`ext_cell`), so such cells tile the bytes after the
 --    header (`rest_summed`).
 -- 3. So all checksums of an image are right (`sums_are_right`).
-use Rattle.std.proofs.lemmas.Grind.{common_steps}
-use Rattle.std.proofs.Common.{◌≡◌, ◌≤◌, ◌<◌, ◌+◌, ◌-◌, ◌%◌, ℕ, true, false, List, [], ◌∷◌, ◌++◌, length, take, drop, replicate, refl, sym, ap}
-use Rattle.std.proofs.Common.{◌∙◌, subst, arith, length-append, append_assoc}
-use Rattle.std.specs.Prelude.{slice_index, Option, None, Some}
-use Rattle.std.specs.List.{AllByRecursion}
-use Rattle.std.proofs.lemmas.List.{drop-drop, drop_at, take_at, length-replicate}
-use Rattle.fv_base.specs.Words.{erased_byte, up_to_8}
+use Rattle.std.proofs.Common.{◌≡◌, ◌≤◌, ◌<◌, ◌+◌, ◌-◌, ◌%◌, ℕ, [], ◌∷◌, ◌++◌, true, false, List, length, take, drop, replicate, refl, sym, ap, ◌∙◌}
+use Rattle.std.proofs.Common.{subst, arith, length-append, append_assoc, slice_index, Option, None, Some, drop-drop, drop_at, take_at}
+use Rattle.fv_base.proofs.Laws.{common_steps, AllByRecursion, length-replicate, erased_byte, up_to_8}
 use Rattle.fv_base.specs.declared.flash.FileSystem.{FileSystem}
 use Rattle.fv_base.specs.declared.flash.Polarity.{Polarity}
-use Rattle.fv_file.specs.Words.{CellForm, Valid, Pad, Dead, Stub, Free, IsCell, IsFilled, Tiles, offset_of, header_sum_of, pad_fields}
-use Rattle.fv_file.specs.Words.{pad_head_of}
+use Rattle.fv_file.specs.Words.{CellForm, Valid, Pad, Dead, Stub, Free, IsCell, IsFilled, Tiles, offset_of, header_sum_of, pad_fields, pad_head_of}
 use Rattle.fv_file.specs.declared.head.FileHead.{FileHead}
 use Rattle.fv_file.proofs.Laws.{head_of_pad, pad_written}
 use Rattle.fv_head.specs.Words.{Extension, IfRead, extent_of, canonical_end, first_edge, ext_len, ext_spelled, HeadFields, BeginsVolume}

@@ -6,38 +6,30 @@
 -- 4. So the image of a volume is read as its meaning, if the same is true of the parts in its files (`volume_again`).
 -- 5. By induction on the nesting depth it is true at every level (`sections_again`), and so of each image
 --    (`image_denotes`).
-use Rattle.std.proofs.lemmas.Grind.{common_steps}
-use Rattle.std.proofs.Common.{◌≡◌, ◌≢◌, ◌≤◌, ◌<◌, ◌+◌, ◌-◌, ◌*◌, ◌/◌, ◌%◌, ℕ, zero, suc, Bool, true, false, List, [], ◌∷◌, ◌++◌, length}
-use Rattle.std.proofs.Common.{take, drop, replicate, refl, sym, ap, ◌∙◌, subst, arith, append_assoc, length-append, length-drop}
-use Rattle.std.specs.Prelude.{map, nat_lt, Option, None, Some}
-use Rattle.std.specs.List.{AllByRecursion}
-use Rattle.std.specs.Str.{bytes_eq}
-use Rattle.std.proofs.lemmas.Bool.{ne_eqb}
-use Rattle.std.proofs.lemmas.Bool.Decides.{nat_tests}
-use Rattle.std.proofs.lemmas.List.{drop_at, length-replicate}
-use Rattle.fv_base.specs.Words.{alignment_of, erased_byte, bytes_of, data_limit, volume_limit, IsBytes, le}
+use Rattle.std.proofs.Common.{◌≡◌, ◌≢◌, ◌≤◌, ◌<◌, ◌+◌, ◌-◌, ◌*◌, ◌/◌, ◌%◌, ℕ, [], ◌∷◌, ◌++◌, zero, suc, Bool, true, false, List, length, take, drop}
+use Rattle.std.proofs.Common.{replicate, refl, sym, ap, ◌∙◌, subst, arith, append_assoc, length-append, length-drop, map, nat_lt, Option, None, Some}
+use Rattle.fv_base.proofs.Laws.{ne_eqb, drop_at, common_steps, AllByRecursion, bytes_eq, nat_tests, length-replicate, alignment_of, erased_byte}
+use Rattle.fv_base.proofs.Laws.{bytes_of, data_limit, IsBytes, le, bytes_back, bytes_drop, bytes_front, field-take}
 use Rattle.fv_base.specs.declared.flash.FileSystem.{FileSystem}
 use Rattle.fv_base.specs.declared.flash.Polarity.{Polarity}
 use Rattle.fv_base.specs.declared.guid.Guid.{Guid}
 use Rattle.fv_base.specs.declared.flash.FileSystem.TheVariants.{Ffs3}
-use Rattle.fv_base.proofs.Laws.{bytes_back, bytes_drop, bytes_front, field-take}
 use Rattle.fv_file.specs.Words.{attribute_bits, is_large, is_fixed, without_large, pad_kind, needs_large, with_large, pad_head_of}
-use Rattle.fv_head.specs.Words.{Extension, HeadFields, HasExt, BeginsVolume, header_len_of, extent_of, IsReadHead, CanonicalRest, IfRead}
+use Rattle.fv_head.specs.Words.{Extension, HeadFields, HasExt, BeginsVolume, extent_of, IsReadHead, CanonicalRest, IfRead}
 use Rattle.fv_head.specs.Words.{canonical_head, canonical_end, first_edge, ext_len, ext_spelled, polarity_of}
 use Rattle.fv_head.specs.declared.extent.Extent.{Extent}
 use Rattle.fv_head.proofs.Laws.{canonical_front, front_lies, length-canonical}
 use Rattle.fv_placement.specs.Words.{StartsFollow, IsFirstPlacement}
 use Rattle.fv_placement.specs.declared.first_placement.PlacementItem.{PlacementItem}
-use Rattle.fv_tree.specs.Words.{Meaning, Volume, FileMeanings, NoFiles, MoreFiles, FileMeaning, File, ContentMeaning, Plain, Sectioned}
-use Rattle.fv_tree.specs.Words.{AreFilesOf, files_list, files_of, head_of, content_len, StreamRelation, Pairwise, MeansContent, MeansFile}
-use Rattle.fv_tree.specs.Words.{StreamOver, VolumeOver, Opens, MeansSection, Stream, Denotes, FileForm, files_in, NoTwins, current_in}
-use Rattle.fv_tree.specs.Words.{top_name}
-use Rattle.fv_canon.specs.Words.{IsImage, AreStored, IsStored, IsData, AreStarts, placement_item, ShowsPlaced, StoredFile, size_for}
-use Rattle.fv_canon.specs.Words.{head_len_for, ext_pad, placed_in_volume, used_size}
+use Rattle.fv_tree.specs.Words.{Meaning, Volume, FileMeanings, NoFiles, MoreFiles, FileMeaning, File, ContentMeaning, Plain, Sectioned, AreFilesOf}
+use Rattle.fv_tree.specs.Words.{files_list, files_of, head_of, content_len, StreamRelation, Pairwise, MeansContent, MeansFile, StreamOver, VolumeOver}
+use Rattle.fv_tree.specs.Words.{Opens, MeansSection, Stream, Denotes, FileForm, files_in, NoTwins, current_in, top_name}
+use Rattle.fv_canon.specs.Words.{IsImage, AreStored, IsStored, IsData, AreStarts, placement_item, ShowsPlaced, StoredFile, size_for, head_len_for}
+use Rattle.fv_canon.specs.Words.{ext_pad, placed_in_volume, used_size}
 use Rattle.fv_canon.specs.inner.ImageOf.{files_bytes, volume_bytes}
 use Rattle.fv_canon.proofs.ImageParts.{stored_item}
-use Rattle.fv_canon.proofs.CurrentFileLaws.{names_in, names_of, NamesApart, current_apart, all_current, forms_unmarked, no_twins, TopLast}
-use Rattle.fv_canon.proofs.CurrentFileLaws.{top_last, forms_top, form_names}
+use Rattle.fv_canon.proofs.CurrentFileLaws.{names_in, names_of, NamesApart, current_apart, all_current, forms_unmarked, no_twins, TopLast, top_last}
+use Rattle.fv_canon.proofs.CurrentFileLaws.{forms_top, form_names}
 use Rattle.fv_canon.proofs.CellLaws.{Storable, stored_head, length-pad_head}
 use Rattle.fv_canon.proofs.ReadLaws.{FileIsAccepted, body_read, current_read}
 use Rattle.fv_canon.proofs.PlacedBytesLaws.{Writable, first_is, volume_shows, length-ext_pad}

@@ -3,16 +3,13 @@
 --    (`laid_deeper`, `laid_higher`). The same is true of the number of these starts (`count_joined`, `count_deeper`).
 -- 2. All volumes of two lists fit if the volumes of each list do (`fit_joined`).
 -- 3. A walk that takes starts goes from each item to the next (`item_passed`).
-use Rattle.std.proofs.Common.{◌≡◌, ◌≤◌, ◌<◌, ◌+◌, ℕ, List, [], ◌∷◌, ◌++◌, length, drop, get_or, refl, sym, ap, ◌∙◌, subst, arith}
-use Rattle.std.proofs.Common.{append_assoc, length-append, drop-drop}
-use Rattle.std.specs.List.{AllByRecursion}
-use Rattle.std.proofs.lemmas.List.{length-map, drop_at}
+use Rattle.std.proofs.Common.{◌≡◌, ◌≤◌, ◌<◌, ◌+◌, ℕ, [], ◌∷◌, ◌++◌, List, length, drop, get_or, refl, sym, ap, ◌∙◌, subst, arith, append_assoc}
+use Rattle.fv_base.proofs.Laws.{length-append, drop-drop, drop_at, AllByRecursion, length-map, item_at}
 use Rattle.fv_head.specs.Words.{HeadFields}
 use Rattle.fv_tree.specs.Words.{Meaning, Volume, FileMeaning, files_of, head_of, files_from, Inside, deeper, volumes_in, volumes_in_files}
 use Rattle.fv_canon.specs.inner.ImageOf.{starts_in}
 use Rattle.fv_canon.proofs.ImageParts.{ComesTo}
 use Rattle.fv_canon.specs.Words.{BeginsWithStarts, StartsOfEach, AreStarts, IsPlaced, placement_item, placement_items, AllFit}
-use Rattle.fv_base.proofs.Laws.{item_at}
 use Rattle.fv_tree.proofs.Laws.{files_list_back}
 use Rattle.fv_placement.proofs.Laws.{follow_length}
 

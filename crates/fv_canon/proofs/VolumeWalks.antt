@@ -1,19 +1,15 @@
 -- Facts about a volume that was read and laid out, and the bytes that the walk over it writes.
-use Rattle.std.proofs.lemmas.Grind.{common_steps}
-use Rattle.std.proofs.Common.{◌≡◌, ◌≤◌, ◌<◌, ◌+◌, ◌-◌, ℕ, zero, suc, List, [], ◌∷◌, ◌++◌, length, take, drop, replicate, get_or, refl, sym}
-use Rattle.std.proofs.Common.{ap, ◌∙◌, subst, arith, append_assoc, drop-drop, length-append}
-use Rattle.std.specs.Prelude.{map, Option, None, Some}
-use Rattle.std.proofs.lemmas.List.{length-map}
-use Rattle.fv_base.specs.Words.{erased_byte, up_to_8}
+use Rattle.std.proofs.Common.{◌≡◌, ◌≤◌, ◌<◌, ◌+◌, ◌-◌, ℕ, [], ◌∷◌, ◌++◌, zero, suc, List, length, take, drop, replicate, get_or, refl, sym, ap, ◌∙◌}
+use Rattle.std.proofs.Common.{subst, arith, append_assoc, drop-drop, length-append, map, Option, None, Some}
+use Rattle.fv_base.proofs.Laws.{common_steps, length-map, erased_byte, up_to_8}
 use Rattle.fv_head.specs.Words.{Extension, HeadFields, canonical_head, canonical_end, first_edge, polarity_of}
 use Rattle.fv_placement.specs.Words.{StartsFollow}
 use Rattle.fv_placement.specs.declared.first_placement.PlacementItem.{PlacementItem}
-use Rattle.fv_tree.specs.Words.{Meaning, Volume, FileMeanings, FileMeaning, head_of, data_len_of, files_from, IsMeaning, MeansSection}
-use Rattle.fv_tree.specs.Words.{Stream, volumes_in, volumes_in_files}
+use Rattle.fv_tree.specs.Words.{Meaning, Volume, FileMeanings, FileMeaning, head_of, data_len_of, files_from, IsMeaning, MeansSection, Stream}
+use Rattle.fv_tree.specs.Words.{volumes_in, volumes_in_files}
 use Rattle.fv_canon.specs.inner.ImageOf.{image_of, stored_of, starts_in, files_bytes}
 use Rattle.fv_canon.proofs.ImageParts.{stored_item}
-use Rattle.fv_canon.specs.Words.{BeginsWithStarts, AreStored, placement_items, placement_item, StoredFile, size_for, stored_len, used_size}
-use Rattle.fv_canon.specs.Words.{ext_pad}
+use Rattle.fv_canon.specs.Words.{BeginsWithStarts, AreStored, placement_items, placement_item, StoredFile, size_for, stored_len, used_size, ext_pad}
 use Rattle.fv_canon.proofs.WrittenImageLaws.{files_made, stream_made, sections_made, front_is, behind_is}
 use Rattle.fv_placement.proofs.Laws.{follow_length}
 use Rattle.fv_canon.proofs.PlacedBytesLaws.{first_is}

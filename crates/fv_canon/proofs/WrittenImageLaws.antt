@@ -6,26 +6,21 @@
 -- 3. A volume is written as its image, file by file, if the streams in it are (`files_made`, `volume_made`).
 -- 4. By induction on the nesting depth each section is written as its image (`sections_made`), and so is each volume
 --    (`image_made`).
-use Rattle.std.proofs.lemmas.Grind.{common_steps}
-use Rattle.std.proofs.Common.{◌≡◌, ◌+◌, ℕ, zero, suc, List, [], ◌∷◌, ◌++◌, length, take, drop, refl, sym, ap, ◌∙◌, subst, append_assoc, arith}
-use Rattle.std.specs.List.{AllByRecursion}
-use Rattle.std.proofs.lemmas.List.{take_at, drop_at}
-use Rattle.fv_base.specs.Words.{IsBytes}
+use Rattle.std.proofs.Common.{◌≡◌, ◌+◌, ℕ, [], ◌∷◌, ◌++◌, zero, suc, List, length, take, drop, refl, sym, ap, ◌∙◌, subst, append_assoc, arith}
+use Rattle.fv_base.proofs.Laws.{take_at, drop_at, common_steps, AllByRecursion, IsBytes, bytes_back}
 use Rattle.fv_base.specs.declared.flash.FileSystem.{FileSystem}
 use Rattle.fv_section.specs.Words.{FrameForm, frame_len, up_to_4, SplitsFrom}
 use Rattle.fv_tree.specs.Words.{Meaning, Volume, FileMeanings, NoFiles, MoreFiles, FileMeaning, File, ContentMeaning, Plain, Sectioned}
-use Rattle.fv_tree.specs.Words.{SectionMeanings, NoSections, MoreSections, SectionMeaning, Section, Leaf, Group, Nested, files_list}
-use Rattle.fv_tree.specs.Words.{sections_list, SectionRelation, StreamRelation, VolumeRelation, Pairwise, StreamOver, SectionOver}
-use Rattle.fv_tree.specs.Words.{VolumeOver, MeansContent, MeansFile, MeansSection, Stream, Denotes, FileForm, volumes_in, volumes_in_files}
-use Rattle.fv_tree.specs.Words.{volumes_in_file, volumes_in_content, volumes_in_sections, volumes_in_section}
+use Rattle.fv_tree.specs.Words.{SectionMeanings, NoSections, MoreSections, SectionMeaning, Section, Leaf, Group, Nested, files_list, sections_list}
+use Rattle.fv_tree.specs.Words.{SectionRelation, StreamRelation, VolumeRelation, Pairwise, StreamOver, SectionOver, VolumeOver, MeansContent}
+use Rattle.fv_tree.specs.Words.{MeansFile, MeansSection, Stream, Denotes, FileForm, volumes_in, volumes_in_files, volumes_in_file, volumes_in_content}
+use Rattle.fv_tree.specs.Words.{volumes_in_sections, volumes_in_section}
 use Rattle.fv_canon.specs.Words.{IsImage, AreStored, IsStored, IsData, AreFrames, IsFrame, AreStarts, BeginsWithStarts, StartsOfEach, AreAllStarts}
-use Rattle.fv_canon.specs.inner.ImageOf.{starts_in, image_of, stored_of, stored_file, data_of, frames_of, frame_of}
-use Rattle.fv_canon.specs.inner.ImageOf.{volume_bytes}
+use Rattle.fv_canon.specs.inner.ImageOf.{starts_in, image_of, stored_of, stored_file, data_of, frames_of, frame_of, volume_bytes}
 use Rattle.fv_canon.proofs.VolumeListLaws.{laid_split, laid_higher, laid_count, own_count}
 use Rattle.fv_canon.proofs.PlacedBytesLaws.{volume_written}
 use Rattle.fv_canon.proofs.StreamImageLaws.{StreamsAgain, stream_again}
 use Rattle.fv_section.proofs.Laws.{begun_bytes}
-use Rattle.fv_base.proofs.Laws.{bytes_back}
 use Rattle.fv_canon.proofs.VolumeImageLaws.{known, files_read, sections_again}
 use Rattle.fv_canon.proofs.ReadLaws.{FileIsAccepted}
 

@@ -1,11 +1,6 @@
 -- Pads whose data are erased, and the text of a check.
-use Rattle.std.proofs.Common.{◌≡◌, ◌∙◌, ◌+◌, ℕ, List, [], ◌∷◌, ◌++◌}
-use Rattle.std.proofs.Common.{refl, sym, ap, subst, cond, arith, Bool, true}
-use Rattle.std.specs.Prelude.{◌↔◌, ◌==◌, not, Option, Some, None}
-use Rattle.std.specs.List.{AllByRecursion}
-use Rattle.std.proofs.lemmas.Bool.Decides.{Decides-eqb}
-use Rattle.std.proofs.lemmas.List.Sums.{sum_by-cons}
-use Rattle.fv_base.specs.Words.{AllAre, erased_byte, depth_limit}
+use Rattle.std.proofs.Common.{◌≡◌, ◌+◌, ℕ, [], ◌∷◌, ◌++◌, ◌↔◌, ◌==◌, ◌∙◌, List, refl, sym, ap, subst, cond, arith, Bool, true, not, Option, Some}
+use Rattle.fv_base.proofs.Laws.{None, AllByRecursion, Decides-eqb, sum_by-cons, AllAre, erased_byte, depth_limit}
 use Rattle.fv_base.specs.declared.flash.Polarity.{Polarity}
 use Rattle.fv_canon.specs.Words.{IsImage}
 use Rattle.fv_canon.proofs.Laws.{PadErased, pads_erased}

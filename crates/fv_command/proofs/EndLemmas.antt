@@ -1,13 +1,10 @@
 -- The end of a run: the text that was written, and the exit status.
-use Rattle.std.proofs.Common.{◌≡◌, ℕ, Bool, true, false, List, inl, inr, refl, subst}
+use Rattle.std.proofs.Common.{◌≡◌, ℕ, Bool, true, false, List, subst}
 use Rattle.std.specs.Prelude.{Option}
 use Rattle.fv_base.specs.Words.{has_erred, inner_of, LatchedWrites, PortState, is_writing, port_of, written_count}
 use Rattle.fv_base.specs.declared.port.Port.{Port}
 use Rattle.fv_base.specs.declared.sink.WriteSink.{WriteSink}
-use Rattle.fv_command.specs.Words.{Ends}
-use Rattle.fv_command.specs.declared.status.Status.{Status}
 use Rattle.fv_command.specs.inner.RunSteps.{Written}
-use Rattle.fv_command.specs.declared.status.Status.TheVariants.{Refused}
 use Rattle.fv_text.specs.Words.{PortView, port_view, view_of}
 
 written : (old new : PortState) (was on : Bool) (text : List ℕ) → was ≡ true → LatchedWrites old was text new on
@@ -29,10 +26,3 @@ sink_wrote known_bytes s t old new text whole begun on takes is left =
     subst (λ (p : Port _). Written whole text (view_of known_bytes p) new) begun
     (subst (λ (v : PortView). Written whole text (view_of known_bytes (port_of s)) v) left
     (rw is (written (shows known_bytes s) (shows known_bytes t) (is_writing s) (is_writing t) text on takes)))
-
--- if not all of a text was written, the run ends with the status Refused
-pub rejected : (whole : Bool) (text : List ℕ) (before old new : PortView) (ran : Status) → new ≡ old → whole ≡ false
-    → Written whole text before old → Ends ran text (record { old = before; new = new }) Refused
-rejected false text before old new ran same e stops =
-    inr (refl, inl (subst (λ (s : PortView). Written false text before s) (rw same refl) stops))
-rejected true text before old new ran same e wrote = let bad : true ≡ false = e in cc

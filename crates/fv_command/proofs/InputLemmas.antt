@@ -1,8 +1,7 @@
 -- Which bytes of an input are used: the volume that begins at a given offset.
-use Rattle.std.proofs.lemmas.Grind.{common_steps}
-use Rattle.std.proofs.Common.{◌≡◌, ◌∙◌, ◌-◌, ◌≤◌, ℕ, List, take, drop, length, ap, arith, inr, length-drop, min, sym, subst}
-use Rattle.std.specs.Prelude.{Result, Ok, Err}
-use Rattle.std.proofs.lemmas.List.{drop_min, take_all}
+use Rattle.std.proofs.Common.{◌≡◌, ◌-◌, ◌≤◌, ℕ, ◌∙◌, List, take, drop, length, ap, arith, inr, length-drop, min, sym, subst, Result, Ok, Err}
+use Rattle.fv_base.proofs.Laws.{take_all, common_steps}
+use Rattle.std.proofs.lemmas.List.{drop_min}
 use Rattle.fv_base.specs.declared.fault.Fault.{Fault}
 use Rattle.fv_head.specs.Words.{HeadFields, BeginsVolume}
 use Rattle.fv_head.specs.declared.extent.Extent.{Extent}

@@ -3,5 +3,4 @@ pub mod EndLemmas
 pub mod InputLemmas
 pub mod OpenerLemmas
 pub mod PadLemmas
-pub mod PartLemmas
 pub mod RunLemmas

@@ -1,8 +1,6 @@
 -- A run over ports that contain the sources of a plan's inputs is a run over these sources.
-use Rattle.std.proofs.lemmas.Grind.{common_steps}
-use Rattle.std.proofs.Common.{◌≡◌, ◌∙◌, ℕ, List, ap, false, arith}
-use Rattle.std.specs.Prelude.{Option}
-use Rattle.fv_base.specs.Words.{has_erred, inner_of}
+use Rattle.std.proofs.Common.{◌≡◌, ℕ, ◌∙◌, List, ap, false, arith, Option}
+use Rattle.fv_base.proofs.Laws.{common_steps, has_erred, inner_of}
 use Rattle.fv_base.specs.declared.port.Port.{Port}
 use Rattle.fv_text.specs.Words.{Change, Ports, PortView, change, port_view, view_of}
 use Rattle.fv_command.specs.Words.{Runs, RunsOver, IsFirstSource, IsSecondSource, unread}

@@ -1,15 +1,11 @@
 -- The cells of an input, and the notes that are put for its pads.
-use Rattle.std.proofs.lemmas.Grind.{common_steps}
-use Rattle.std.proofs.Common.{◌≡◌, ℕ, List, length, refl, sym, subst, arith}
-use Rattle.std.specs.Prelude.{drop, take}
-use Rattle.std.proofs.lemmas.List.{take_all}
-use Rattle.fv_base.specs.Words.{out_of_memory}
+use Rattle.std.proofs.Common.{◌≡◌, ℕ, List, length, refl, sym, subst, arith, drop, take, take_all}
+use Rattle.fv_base.proofs.Laws.{common_steps, out_of_memory, want_known}
 use Rattle.fv_base.specs.declared.fault.Fault.{Fault}
 use Rattle.fv_file.specs.Words.{CellForm, Tiles}
 use Rattle.fv_head.proofs.Laws.{one_front}
 use Rattle.fv_head.specs.Words.{BeginsVolume}
 use Rattle.fv_head.specs.declared.extent.Extent.{Extent}
-use Rattle.fv_base.proofs.Laws.{want_known}
 use Rattle.fv_tree.specs.Words.{Accepted, Meaning, head_of, BeginsTiled}
 use Rattle.fv_command.specs.Words.{AreCells}
 

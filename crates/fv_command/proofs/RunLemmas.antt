@@ -1,22 +1,19 @@
 -- The definitions of a run follow from the contracts of the calls that the run makes.
-use Rattle.std.proofs.Common.{◌≡◌, ◌≢◌, ◌≤◌, ◌⊎◌, ℕ, Bool, true, false, List, length, take, arith, rules, refl, sym, subst, inl, inr}
-use Rattle.std.proofs.lemmas.Grind.{common_steps}
-use Rattle.std.specs.Prelude.{◌↔◌, Option}
-use Rattle.fv_base.proofs.Laws.{or_more, want_known}
-use Rattle.fv_base.specs.Words.{out_of_memory, depth_limit}
+use Rattle.std.proofs.Common.{◌≡◌, ◌≢◌, ◌≤◌, ◌⊎◌, ℕ, rules, ◌↔◌, Bool, true, false, List, length, take, arith, refl, sym, subst, inl, inr, Option}
+use Rattle.fv_base.proofs.Laws.{common_steps, or_more, want_known, out_of_memory, depth_limit}
 use Rattle.fv_base.specs.declared.fault.Fault.{Fault}
 use Rattle.fv_canon.specs.Words.{Unfit}
 use Rattle.fv_compare.specs.declared.side.Side.{Side}
-use Rattle.fv_compare.specs.declared.side.Side.TheVariants as sides
 use Rattle.fv_tree.specs.Words.{Accepted, Denotes, IsFirstOfVolume, Meaning, files_of, file_named}
 use Rattle.fv_hob.specs.Words.{IsFirstHobFault, hob_out_of_memory}
 use Rattle.fv_hob.specs.declared.fault.HobFault.{HobFault}
-use Rattle.fv_command.specs.Words.{StopsPart, GivesVolume, IsVerdict, SideStops, VolumeInputStops, Gives, GivesAt, TakenAt, BeginsNone}
-use Rattle.fv_command.specs.Words.{BeginsWith, TaskRefusal}
+use Rattle.fv_command.specs.Words.{StopsPart, GivesVolume, IsVerdict, SideStops, VolumeInputStops, Gives, GivesAt, TakenAt, BeginsNone, BeginsWith}
+use Rattle.fv_command.specs.Words.{TaskRefusal}
 use Rattle.fv_command.specs.inner.RunSteps.{verdict_of}
 use Rattle.fv_plan.specs.declared.plan.Part.{Part}
 use Rattle.fv_plan.specs.declared.plan.Task.TheVariants.{Extract, ListSums}
 use Rattle.fv_text.specs.Words.{Change, PortView}
+use Rattle.fv_compare.specs.declared.side.Side.TheVariants as sides
 
 -- ---- an input that does not begin with a volume
 

@@ -1,9 +1,6 @@
 -- The line of a comparison: its path, step by step, and a bound on its length.
-use Rattle.std.proofs.lemmas.Grind.{common_steps}
-use Rattle.std.proofs.Common.{◌≡◌, ◌∙◌, ◌≤◌, ◌<◌, ◌+◌, ◌*◌, ℕ, List, [], ◌∷◌, ◌++◌, length, take, get_or, ap, sym, subst, arith}
-use Rattle.std.proofs.Common.{length-append, append_assoc, append-nil}
-use Rattle.std.specs.Prelude.{codes}
-use Rattle.std.proofs.lemmas.List.{take_more, take_all}
+use Rattle.std.proofs.Common.{◌≡◌, ◌≤◌, ◌<◌, ◌+◌, ◌*◌, ℕ, [], ◌∷◌, ◌++◌, ◌∙◌, List, length, take, get_or, ap, sym, subst, arith, length-append}
+use Rattle.fv_base.proofs.Laws.{append_assoc, append-nil, codes, take_all, common_steps, take_more}
 use Rattle.fv_compare.specs.Words.{path_text, step_text}
 use Rattle.fv_tree.specs.declared.difference.Step.{Step}
 use Rattle.fv_text.specs.Words.{line_feed}

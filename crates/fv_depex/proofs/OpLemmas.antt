@@ -2,24 +2,19 @@
 -- 1. An op is determined by its code and its GUID (`op_of_code`, `op_back`).
 -- 2. If the checks hold, an op is there (`op_stands`), and if an op is there, they hold (`checks_hold`).
 -- 3. Bytes begin with at most one op (`same_op`).
-use Rattle.std.proofs.lemmas.Grind.{common_steps}
-use Rattle.std.proofs.Common.{◌≡◌, ◌≤◌, ℕ, zero, suc, List, [], ◌∷◌, ◌++◌, length, drop, refl, sym, ap, ◌∙◌, arith, Bool, true, false}
-use Rattle.std.proofs.Common.{length-append, length-drop}
-use Rattle.std.specs.Prelude.{◌||◌, not, nat_le, slice_index, None, if◌then◌else◌}
-use Rattle.std.proofs.lemmas.Bool.{leb-true, le-leb}
-use Rattle.std.proofs.lemmas.List.{take-append-drop, length-take-le}
-use Rattle.fv_base.specs.Words.{AllHold, bytes_of, field}
+use Rattle.std.proofs.Common.{◌≡◌, ◌≤◌, ℕ, [], ◌∷◌, ◌++◌, ◌||◌, if◌then◌else◌, zero, suc, List, length, drop, refl, sym, ap, ◌∙◌, arith, Bool, true}
+use Rattle.std.proofs.Common.{false, length-append, length-drop, not, nat_le, slice_index, None, leb-true, le-leb, take-append-drop, length-take-le}
+use Rattle.fv_base.proofs.Laws.{common_steps, AllHold, bytes_of, field, all_hold, and_split, same_cut}
 use Rattle.fv_base.specs.declared.guid.Guid.{Guid}
 use Rattle.fv_base.specs.inner.Verdicts.{first_fault}
-use Rattle.fv_base.proofs.Laws.{all_hold, and_split, same_cut}
 use Rattle.fv_depex.specs.Words.{OpFits, BeginsOp, has_operand, holds_values, has_position, has_code, op_checks, carries, op_code, operand_len}
 use Rattle.fv_depex.specs.Words.{op_operand, IsSized}
 use Rattle.fv_depex.specs.declared.op.Op.{Op}
 use Rattle.fv_depex.specs.declared.op.Phase.{Phase}
 use Rattle.fv_depex.specs.declared.op_stage.Stage.{Stage}
 use Rattle.fv_depex.specs.inner.Ops.{op_by, op_in}
-use Rattle.fv_depex.specs.declared.op.Op.TheVariants as ops
 use Rattle.fv_depex.specs.declared.op.Phase.TheVariants.{Pei, Dxe}
+use Rattle.fv_depex.specs.declared.op.Op.TheVariants as ops
 
 -- ---- an op by its code
 

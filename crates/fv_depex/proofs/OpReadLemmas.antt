@@ -6,28 +6,22 @@
 --    its fault (`no_want`).
 -- 4. The fault of the next op is the first fault (`first_fault_at`), and bytes with a first fault do not spell an
 --    expression (`none_after`).
-use Rattle.std.proofs.lemmas.Grind.{common_steps}
-use Rattle.std.proofs.Common.{◌≡◌, ◌≢◌, ◌≤◌, ℕ, suc, ◌+◌, List, [], ◌∷◌, ◌++◌, length, take, drop, refl, sym, ap, ◌∙◌, subst, arith}
-use Rattle.std.proofs.Common.{length-append, length-drop, append_assoc, append-nil}
-use Rattle.std.specs.Prelude.{◌⊎◌}
-use Rattle.std.specs.List.{AllByRecursion}
-use Rattle.std.proofs.lemmas.List.{length-take-le, take-append-drop, take_at}
-use Rattle.std.proofs.Math.Seq.{take-add}
-use Rattle.fv_base.specs.Words.{IsFirstFault}
-use Rattle.fv_base.proofs.Laws.{first_among, none_faulty, not_first}
-use Rattle.fv_depex.specs.Words.{BeginsFirstOp, OpFits, IsFirstOpFault, BeginsOp, OpPath, op_checks, stage_after, values_of, Expression}
-use Rattle.fv_depex.specs.Words.{IsTree, IsOrder, IsSized, Spells, carries, op_code, operand_len, op_operand, ops_bytes}
+use Rattle.std.proofs.Common.{◌≡◌, ◌≢◌, ◌≤◌, ℕ, ◌+◌, [], ◌∷◌, ◌++◌, ◌⊎◌, suc, List, length, take, drop, refl, sym, ap, ◌∙◌, subst, arith}
+use Rattle.std.proofs.Common.{length-append, length-drop, append_assoc, append-nil, length-take-le, take-append-drop, take_at}
+use Rattle.fv_base.proofs.Laws.{common_steps, AllByRecursion, take-add, IsFirstFault, first_among, none_faulty, not_first}
+use Rattle.fv_depex.specs.Words.{BeginsFirstOp, OpFits, IsFirstOpFault, BeginsOp, OpPath, op_checks, stage_after, values_of, Expression, IsTree}
+use Rattle.fv_depex.specs.Words.{IsOrder, IsSized, Spells, carries, op_code, operand_len, op_operand, ops_bytes}
 use Rattle.fv_depex.specs.declared.fault.DepexFault.{DepexFault}
 use Rattle.fv_depex.specs.declared.fault.DepexFaultKind.{DepexFaultKind}
 use Rattle.fv_depex.specs.declared.op.Op.{Op}
 use Rattle.fv_depex.specs.declared.op.Phase.{Phase}
 use Rattle.fv_depex.specs.declared.op_stage.Stage.{Stage}
+use Rattle.fv_depex.proofs.OpLemmas.{checks_hold, each_op, end_code}
+use Rattle.fv_depex.proofs.PathLemmas.{LeavesStage, all_join, bytes_join, ended_bytes, leaves_more, leaves_whole, path_more, path_sized, same_front}
+use Rattle.fv_depex.proofs.PathLemmas.{whole_ended}
 use Rattle.fv_depex.specs.declared.fault.DepexFaultKind.TheVariants as kinds
 use Rattle.fv_depex.specs.declared.op.Op.TheVariants as ops
 use Rattle.fv_depex.specs.declared.op_stage.Stage.TheVariants as stages
-use Rattle.fv_depex.proofs.OpLemmas.{checks_hold, each_op, end_code}
-use Rattle.fv_depex.proofs.PathLemmas.{LeavesStage, all_join, bytes_join, ended_bytes, leaves_more, leaves_whole, path_more, path_sized}
-use Rattle.fv_depex.proofs.PathLemmas.{same_front, whole_ended}
 
 -- the ops that were read make up the bytes up to a place
 pub record OpsKept (phase : Phase) (b : List ℕ) (items : List Op) (at : ℕ) (stage : Stage) : Type 0 where

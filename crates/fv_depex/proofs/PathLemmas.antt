@@ -6,24 +6,20 @@
 --    expression (`leaves_whole`).
 -- 3. Conversely, the ops of a tree are a path (`tree_path`), so a whole expression is a path and END (`whole_ended`).
 -- 4. Bytes have at most one path (`same_front`), so they spell at most one list of ops (`one_spelling`).
-use Rattle.std.proofs.lemmas.Grind.{common_steps}
-use Rattle.std.proofs.Common.{◌≡◌, ◌≢◌, ◌≤◌, ◌<◌, ℕ, ◌+◌, ◌-◌, List, [], ◌∷◌, ◌++◌, length, drop, inl, inr, refl, sym, ap, ◌∙◌, subst}
-use Rattle.std.proofs.Common.{arith, true, false, length-append, append_assoc, append-nil}
-use Rattle.std.specs.Prelude.{◌⊎◌, ◌&&◌, nat_le, slice_index}
-use Rattle.std.specs.List.{AllByRecursion}
-use Rattle.std.proofs.lemmas.Bool.{leb-true, le-leb, eqb-true}
+use Rattle.std.proofs.Common.{◌≡◌, ◌≢◌, ◌≤◌, ◌<◌, ℕ, ◌+◌, ◌-◌, [], ◌∷◌, ◌++◌, ◌⊎◌, ◌&&◌, List, length, drop, inl, inr, refl, sym, ap, ◌∙◌, subst}
+use Rattle.std.proofs.Common.{arith, true, false, length-append, append_assoc, append-nil, nat_le, slice_index, leb-true, le-leb, eqb-true}
+use Rattle.fv_base.proofs.Laws.{common_steps, AllByRecursion, and_split}
 use Rattle.fv_base.specs.declared.guid.Guid.{Guid}
-use Rattle.fv_base.proofs.Laws.{and_split}
-use Rattle.fv_depex.specs.Words.{OpFits, OpPath, has_values, has_code, stage_after, values_after, values_of, Expression, IsTree, IsOrder}
-use Rattle.fv_depex.specs.Words.{Spells, op_code, op_operand, ops_bytes, postfix, IsSized}
+use Rattle.fv_depex.specs.Words.{OpFits, OpPath, has_values, has_code, stage_after, values_after, values_of, Expression, IsTree, IsOrder, Spells}
+use Rattle.fv_depex.specs.Words.{op_code, op_operand, ops_bytes, postfix, IsSized}
 use Rattle.fv_depex.specs.declared.op.Op.{Op}
 use Rattle.fv_depex.specs.declared.op.Phase.{Phase}
 use Rattle.fv_depex.specs.declared.op_stage.Stage.{Stage}
 use Rattle.fv_depex.specs.Expressions.{always, never, installed, negated, both, either}
-use Rattle.fv_depex.specs.declared.op.Op.TheVariants as ops
 use Rattle.fv_depex.specs.declared.op.Phase.TheVariants.{Pei, Dxe}
-use Rattle.fv_depex.specs.declared.op_stage.Stage.TheVariants as stages
 use Rattle.fv_depex.proofs.OpLemmas.{each_op, end_code, same_op}
+use Rattle.fv_depex.specs.declared.op.Op.TheVariants as ops
+use Rattle.fv_depex.specs.declared.op_stage.Stage.TheVariants as stages
 
 -- ---- paths, joined
 

@@ -3,10 +3,8 @@
 --    (`truth_of_tree`), and BEFORE and AFTER have none (`none_of_order`).
 -- 2. A loop runs the ops one by one (`run_step`, `run_none`, `run_end`).
 -- 3. Ops build their tree again (`build_tree`), so they are the ops of at most one tree (`one_tree`).
-use Rattle.std.proofs.lemmas.Grind.{common_steps}
-use Rattle.std.proofs.Common.{◌≡◌, ◌≤◌, ◌+◌, ℕ, length, drop, List, [], ◌∷◌, ◌++◌, refl, sym, ap, ◌∙◌, Bool, append_assoc, arith}
-use Rattle.std.specs.Prelude.{Option, None, Some, Result, Ok, Err, IfOk}
-use Rattle.std.proofs.lemmas.List.{drop_all}
+use Rattle.std.proofs.Common.{◌≡◌, ◌≤◌, ◌+◌, ℕ, [], ◌∷◌, ◌++◌, length, drop, List, refl, sym, ap, ◌∙◌, Bool, append_assoc, arith, Option, None, Some}
+use Rattle.fv_base.proofs.Laws.{Result, Ok, Err, IfOk, common_steps, drop_all}
 use Rattle.fv_base.specs.declared.guid.Guid.{Guid}
 use Rattle.fv_depex.specs.inner.Ops.{evaluate_ops, evaluate_op, top}
 use Rattle.fv_depex.specs.Words.{Expression, IsTree, IsOrder, postfix, truth}

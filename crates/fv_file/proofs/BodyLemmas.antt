@@ -5,22 +5,15 @@
 --    (`first_here`).
 -- 3. A body is tiled in one way (`only_one`). Every tiling goes on from each place that the cells reach (`goes_on`), so
 --    there is no tiling if a check fails there (`none_after`).
-use Rattle.std.proofs.lemmas.Grind.{common_steps}
-use Rattle.std.proofs.Common.{◌≡◌, ◌≤◌, ◌<◌, ℕ, ◌+◌, ◌-◌, ◌%◌, List, [], ◌∷◌, ◌++◌, length, take, drop, map, refl, sym, ap, ◌∙◌, subst, arith, inl, inr}
-use Rattle.std.proofs.Common.{true, false, length-drop, length-append}
-use Rattle.std.specs.Prelude.{◌⊎◌, Ok, Err}
-use Rattle.std.proofs.lemmas.Bool.{cases_lt}
-use Rattle.std.proofs.lemmas.List.{take-append-drop, length-take-le, map_push, take_all}
-use Rattle.std.proofs.Math.Seq.{take-add}
-use Rattle.fv_base.specs.Words.{Which, AllAre, erased_byte, all_are}
+use Rattle.std.proofs.Common.{◌≡◌, ◌≤◌, ◌<◌, ℕ, ◌+◌, ◌-◌, ◌%◌, [], ◌∷◌, ◌++◌, ◌⊎◌, List, length, take, drop, map, refl, sym, ap, ◌∙◌, subst, arith}
+use Rattle.std.proofs.Common.{inl, inr, true, false, length-drop, length-append, Ok, Err, take-append-drop, length-take-le, take_all}
+use Rattle.fv_base.proofs.Laws.{common_steps, cases_lt, map_push, take-add, Which, AllAre, erased_byte, all_are, all_are-true}
 use Rattle.fv_base.specs.declared.fault.Fault.{Fault}
 use Rattle.fv_base.specs.declared.flash.FileSystem.{FileSystem}
 use Rattle.fv_base.specs.declared.flash.Polarity.{Polarity}
-use Rattle.fv_file.specs.Words.{CellForm, Free, offset_of, IsCell, Tiles, cell_len, CellsWithin, cell_form, NoneFree, CellFault}
-use Rattle.fv_file.specs.Words.{IsFirstCellFault}
+use Rattle.fv_file.specs.Words.{CellForm, Free, offset_of, IsCell, Tiles, cell_len, CellsWithin, cell_form, NoneFree, CellFault, IsFirstCellFault}
 use Rattle.fv_file.specs.declared.cell.Cell.{Cell}
 use Rattle.fv_file.specs.inner.CellVerdicts.{cell_verdict}
-use Rattle.fv_base.proofs.Laws.{all_are-true}
 use Rattle.fv_file.proofs.CellFoundLemmas.{CellStandsAt}
 use Rattle.fv_file.proofs.CellPartLemmas.{cell_span, made_up, not_empty}
 use Rattle.fv_file.proofs.CellVerdictLemmas.{verdict_stands, verdict_first, one_cell, no_cell}

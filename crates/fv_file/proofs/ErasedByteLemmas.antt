@@ -1,7 +1,6 @@
 -- One byte that differs shows that bytes are not all the same.
-use Rattle.std.proofs.Common.{◌≡◌, ℕ, zero, suc, ◌<◌, List, [], ◌∷◌, length, get_or, refl, sym, arith, Bool, true, false}
-use Rattle.fv_base.specs.Words.{AllAre, all_are}
-use Rattle.fv_base.proofs.Laws.{all-all_are, all_are-true}
+use Rattle.std.proofs.Common.{◌≡◌, ℕ, ◌<◌, [], ◌∷◌, zero, suc, List, length, get_or, refl, sym, arith, Bool, true, false}
+use Rattle.fv_base.proofs.Laws.{AllAre, all_are, all-all_are, all_are-true}
 
 pub all_at : (e : ℕ) (x : List ℕ) (i : ℕ) → AllAre e x → i < length x → get_or x i 0 ≡ e
 all_at e [] i h l = absurd (omega arith)

@@ -1,14 +1,8 @@
 -- The attribute bits of a file: tests of single bits, and attributes with and without bit 0x01, which says that the
 -- header is large.
-use Rattle.std.proofs.lemmas.Grind.{common_steps}
-use Rattle.std.proofs.Common.{◌≡◌, ℕ, ◌+◌, ◌/◌, ◌%◌, bit_and, bit_or, ap, ◌∙◌, arith, true, false, ◌<◌, ◌*◌, Bool, refl}
-use Rattle.std.specs.Prelude.{◌==◌, slice_index}
-use Rattle.std.specs.Int.{bit_at}
-use Rattle.std.proofs.lemmas.Bool.Decides.{nat_tests}
+use Rattle.std.proofs.Common.{◌≡◌, ℕ, ◌+◌, ◌/◌, ◌%◌, ◌<◌, ◌*◌, ◌==◌, bit_and, bit_or, ap, ◌∙◌, arith, true, false, Bool, refl, slice_index}
+use Rattle.fv_base.proofs.Laws.{common_steps, bit_at, nat_tests, and_pow, bit_at-lt, alignments, alignment_of, one_bit}
 use Rattle.std.proofs.lemmas.Nat.{and_mask, or_disjoint}
-use Rattle.std.proofs.lemmas.Nat.Bits.{and_pow, bit_at-lt}
-use Rattle.fv_base.specs.Words.{alignments, alignment_of}
-use Rattle.fv_base.proofs.Laws.{one_bit}
 use Rattle.fv_file.specs.Words.{is_large, is_fixed, is_summed, with_large}
 
 -- ---- single bits

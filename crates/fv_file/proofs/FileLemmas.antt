@@ -1,21 +1,17 @@
 -- The checks of a file hold exactly if the bytes begin with a file. Only the bytes of the header decide its fields. If
 -- the checks hold, the header and the data are cut from the bytes by their sizes. If a file begins the bytes, its
 -- header is read again, and each of its checks holds.
-use Rattle.std.proofs.Common.{◌≡◌, ◌≤◌, ◌<◌, ℕ, ◌+◌, ◌-◌, List, ◌++◌, length, take, drop, inl, inr, refl, sym, ap, ◌∙◌, subst, arith, Bool}
-use Rattle.std.proofs.Common.{true, false, length-append, append_assoc}
-use Rattle.std.specs.Prelude.{◌==◌, ◌⊎◌, ◌||◌, not, slice_index}
-use Rattle.std.proofs.lemmas.Bool.{leb-true, le-leb, eqb-true, eqb-false, eq-eqb, not-true, not-false, not_from_false}
-use Rattle.std.proofs.lemmas.List.{take-append-drop, take_at, drop_at, take-append-le, length-take-le, get_or-take}
-use Rattle.std.proofs.Math.ListN.{get_or-append}
-use Rattle.std.proofs.Math.Seq.{take-add}
-use Rattle.fv_base.specs.Words.{AllHold, le, le_at}
+use Rattle.std.proofs.Common.{◌≡◌, ◌≤◌, ◌<◌, ℕ, ◌+◌, ◌-◌, ◌++◌, ◌==◌, ◌⊎◌, ◌||◌, List, length, take, drop, inl, inr, refl, sym, ap, ◌∙◌, subst, arith}
+use Rattle.std.proofs.Common.{Bool, true, false, length-append, append_assoc, not, slice_index, leb-true, le-leb, eqb-true, eq-eqb, take-append-drop}
+use Rattle.fv_base.proofs.Laws.{take_at, drop_at, length-take-le, get_or-take, eqb-false, not-true, take-append-le, get_or-append, take-add, AllHold}
+use Rattle.fv_base.proofs.Laws.{le, le_at, and_join, and_split, field-append_front, field-take, or_parts}
+use Rattle.std.proofs.lemmas.Bool.{not-false, not_from_false}
 use Rattle.fv_base.specs.declared.flash.FileSystem.{FileSystem}
 use Rattle.fv_base.specs.declared.flash.Polarity.{Polarity}
 use Rattle.fv_base.specs.declared.flash.FileSystem.TheVariants.{Ffs2, Ffs3}
-use Rattle.fv_base.proofs.Laws.{and_join, and_split, field-append_front, field-take, or_parts}
-use Rattle.fv_file.specs.Words.{attribute_bits, is_large, is_fixed, allows_large, file_checks, file_header_len_at, file_size_at}
-use Rattle.fv_file.specs.Words.{has_file_size, has_file_sum, payload_at, skips_data, attributes_at, file_header_len, file_size_in}
-use Rattle.fv_file.specs.Words.{file_sum_right, head_in, header_sum_of, pad_kind, IsFile, IsSound, StateOf, is_alive}
+use Rattle.fv_file.specs.Words.{attribute_bits, is_large, is_fixed, allows_large, file_checks, file_header_len_at, file_size_at, has_file_size}
+use Rattle.fv_file.specs.Words.{has_file_sum, payload_at, skips_data, attributes_at, file_header_len, file_size_in, file_sum_right, head_in}
+use Rattle.fv_file.specs.Words.{header_sum_of, pad_kind, IsFile, IsSound, StateOf, is_alive}
 use Rattle.fv_file.specs.declared.head.FileHead.{FileHead}
 use Rattle.fv_file.specs.declared.state.FileState.{FileState}
 

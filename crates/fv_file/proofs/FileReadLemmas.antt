@@ -1,14 +1,10 @@
 -- The data of a file that was read lie after its header, and the file meets the conditions of a valid file.
-use Rattle.std.proofs.lemmas.Grind.{common_steps}
-use Rattle.std.proofs.Common.{◌≡◌, ◌≢◌, ◌≤◌, ◌<◌, ◌+◌, ◌-◌, ℕ, Bool, true, false, List, ◌++◌, length, take, drop, sym, ap, ◌∙◌, subst}
-use Rattle.std.proofs.Common.{arith, length-append, length-drop, append_assoc}
-use Rattle.std.specs.Prelude.{slice_index}
-use Rattle.std.proofs.lemmas.List.{length-take-le, take_at, drop_at}
-use Rattle.fv_base.specs.Words.{bytes_of, IsBytes}
+use Rattle.std.proofs.Common.{◌≡◌, ◌≢◌, ◌≤◌, ◌<◌, ◌+◌, ◌-◌, ℕ, ◌++◌, Bool, true, false, List, length, take, drop, sym, ap, ◌∙◌, subst, arith}
+use Rattle.std.proofs.Common.{length-append, length-drop, append_assoc, slice_index, length-take-le, take_at, drop_at}
+use Rattle.fv_base.proofs.Laws.{common_steps, bytes_of, IsBytes, bytes_back, bytes_front, bytes_take, field_below}
 use Rattle.fv_base.specs.declared.flash.FileSystem.{FileSystem}
 use Rattle.fv_base.specs.declared.flash.Polarity.{Polarity}
 use Rattle.fv_base.specs.declared.flash.FileSystem.TheVariants.{Ffs3}
-use Rattle.fv_base.proofs.Laws.{bytes_back, bytes_front, bytes_take, field_below}
 use Rattle.fv_file.specs.Words.{IsCell, IsFilled, Valid, attribute_bits, is_large, is_fixed, file_header_len, file_size_in, pad_kind}
 use Rattle.fv_file.specs.declared.head.FileHead.{FileHead}
 use Rattle.fv_file.proofs.FileLemmas.{header_least}

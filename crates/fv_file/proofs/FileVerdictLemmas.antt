@@ -1,16 +1,12 @@
 -- The verdict on a file is the fault of the first of its checks that does not hold.
-use Rattle.std.proofs.lemmas.Grind.{common_steps}
-use Rattle.std.proofs.Common.{◌≡◌, ◌≤◌, ℕ, ◌+◌, Bool, List, length, true, false, not, refl, arith}
-use Rattle.std.specs.Prelude.{◌&&◌, ◌||◌, nat_le, Ok, Err}
-use Rattle.std.proofs.lemmas.Bool.{leb-true}
-use Rattle.fv_base.proofs.Laws.{and_split}
-use Rattle.fv_base.specs.Words.{outer_fault}
+use Rattle.std.proofs.Common.{◌≡◌, ◌≤◌, ℕ, ◌+◌, ◌&&◌, ◌||◌, Bool, List, length, true, false, not, refl, arith, nat_le, Ok, Err, leb-true}
+use Rattle.fv_base.proofs.Laws.{common_steps, and_split, outer_fault}
 use Rattle.fv_base.specs.declared.flash.FileSystem.{FileSystem}
-use Rattle.fv_base.specs.declared.fault.FaultKind.TheVariants as kinds
-use Rattle.fv_file.specs.Words.{file_header_len_at, has_file_size, has_file_sum, has_header_sum, may_be_large, skips_data, is_fixed}
-use Rattle.fv_file.specs.Words.{attributes_at, head_in, is_alive}
+use Rattle.fv_file.specs.Words.{file_header_len_at, has_file_size, has_file_sum, has_header_sum, may_be_large, skips_data, is_fixed, attributes_at}
+use Rattle.fv_file.specs.Words.{head_in, is_alive}
 use Rattle.fv_file.specs.declared.state.FileState.{FileState}
 use Rattle.fv_file.specs.inner.CellVerdicts.{file_verdict}
+use Rattle.fv_base.specs.declared.fault.FaultKind.TheVariants as kinds
 
 -- the data are skipped if they are not checked
 pub is_skipped : (alive pad : Bool) → (alive && not pad) ≡ false → (not alive || pad) ≡ true

@@ -1,23 +1,21 @@
 -- The bytes begin with a file exactly if one is read. The verdict on the bytes is the verdict of their checks. If all
 -- of them hold, the header at the start is the header of a file, and if a file begins the bytes, all of them hold.
-use Rattle.std.proofs.Common.{◌≡◌, ℕ, List, ◌∷◌, ◌++◌, length, take, drop, inl, inr, refl, sym, ap, ◌∙◌, subst, Bool, true, false}
-use Rattle.std.specs.Prelude.{◌==◌, ◌⊎◌, nat_le, nat_lt, slice_index, Option, None, Some, Result, Ok, Err, IfOk, IfErr, if◌then◌else◌}
-use Rattle.std.proofs.lemmas.Bool.{leb-true, le-leb, ltb-true, ltb-false, eqb-true}
-use Rattle.std.proofs.lemmas.List.{take-append-drop}
+use Rattle.std.proofs.Common.{◌≡◌, ℕ, ◌∷◌, ◌++◌, ◌==◌, ◌⊎◌, if◌then◌else◌, List, length, take, drop, inl, inr, refl, sym, ap, ◌∙◌, subst, Bool, true}
+use Rattle.std.proofs.Common.{false, nat_le, nat_lt, slice_index, Option, None, Some, Result, Ok, Err, IfOk, IfErr, leb-true, le-leb, ltb-true}
+use Rattle.fv_base.proofs.Laws.{ltb-false, eqb-true, take-append-drop, AllHold, IsFirstFault, check, outer_fault, all_hold, first_is, none_faulty}
+use Rattle.fv_base.proofs.Laws.{not_at_most, not_less, verdict_err, verdict_none, verdict_ok}
 use Rattle.fv_base.specs.inner.Verdicts.{first_fault, verdict_by}
-use Rattle.fv_base.specs.Words.{AllHold, IsFirstFault, check, outer_fault}
 use Rattle.fv_base.specs.declared.fault.Fault.{Fault}
 use Rattle.fv_base.specs.declared.flash.FileSystem.{FileSystem}
 use Rattle.fv_base.specs.declared.flash.Polarity.{Polarity}
-use Rattle.fv_base.specs.declared.fault.FaultKind.TheVariants as kinds
 use Rattle.fv_file.specs.Words.{file_size_at, payload_at, file_checks, is_valid_state, verify_checks, pad_kind, head_in, IsSound, BeginsFile}
 use Rattle.fv_file.specs.Words.{state_of, is_alive}
 use Rattle.fv_file.specs.declared.head.FileHead.{FileHead}
 use Rattle.fv_file.specs.declared.state.FileState.{FileState}
 use Rattle.fv_file.specs.inner.CellVerdicts.{file_verdict, valid_state_verdict, verify_verdict}
-use Rattle.fv_file.specs.declared.state.FileState.TheVariants as states
-use Rattle.fv_base.proofs.Laws.{all_hold, first_is, none_faulty, not_at_most, not_less, verdict_err, verdict_none, verdict_ok}
 use Rattle.fv_file.proofs.FileLemmas.{FileAt, file_at, file_reads}
+use Rattle.fv_base.specs.declared.fault.FaultKind.TheVariants as kinds
+use Rattle.fv_file.specs.declared.state.FileState.TheVariants as states
 
 -- ---- the verdict on the bytes
 

@@ -3,31 +3,30 @@
 -- 2. So the header is right as before, and the data are checked as before.
 -- 3. The header of a file whose fault is Fixed is right.
 -- 4. So the file without its mark is a cell, or its fault is FileSum.
-use Rattle.std.proofs.Common.{◌≡◌, ◌≤◌, ◌<◌, ℕ, ◌+◌, ◌-◌, ◌%◌, List, [], ◌∷◌, ◌++◌, length, take, drop, refl, sym, ap, ◌∙◌, subst, arith}
-use Rattle.std.proofs.Common.{Bool, true, false}
-use Rattle.std.specs.Prelude.{◌≢◌, ◌||◌, ◌==◌, if◌then◌else◌, not, nat_le, nat_lt, slice_index, slice_set, sum, Option, None, Some, Ok, Err, Result}
-use Rattle.std.proofs.lemmas.Bool.{ltb-true}
-use Rattle.std.proofs.lemmas.Bool.Decides.{nat_tests}
-use Rattle.std.proofs.lemmas.List.{get_or-drop, get_or-set_same, get_or-set_other, drop-set-add, drop-set-lt, take-set-le, take_more, take_more_set, length-set, length-drop, drop-take}
-use Rattle.std.proofs.lemmas.List.Sums.{sum_by-cons, sum_by_push}
-use Rattle.fv_base.specs.Words.{check, erased_byte, field, le, outer_fault, up_to_8}
+use Rattle.std.proofs.Common.{◌≡◌, ◌≤◌, ◌<◌, ℕ, ◌+◌, ◌-◌, ◌%◌, [], ◌∷◌, ◌++◌, ◌≢◌, ◌||◌, ◌==◌, if◌then◌else◌, List, length, take, drop, refl, sym, ap}
+use Rattle.std.proofs.Common.{◌∙◌, subst, arith, Bool, true, false, not, nat_le, nat_lt, slice_index, slice_set, sum, Option, None, Some, Ok, Err}
+use Rattle.std.proofs.Common.{Result, ltb-true, get_or-drop, get_or-set_same, get_or-set_other, drop-set-lt, length-set, length-drop}
+use Rattle.fv_base.proofs.Laws.{nat_tests, take-set-le, take_more, take_more_set, drop-take, sum_by-cons, sum_by_push, check, erased_byte, field, le}
+use Rattle.fv_base.proofs.Laws.{outer_fault, up_to_8, field-take, take-take_le}
+use Rattle.std.proofs.lemmas.List.{drop-set-add}
 use Rattle.fv_base.specs.inner.Verdicts.{first_fault, verdict_by}
 use Rattle.fv_base.specs.declared.fault.Fault.{Fault}
 use Rattle.fv_base.specs.declared.fault.FaultKind.{FaultKind}
 use Rattle.fv_base.specs.declared.flash.FileSystem.{FileSystem}
 use Rattle.fv_base.specs.declared.flash.Polarity.{Polarity}
-use Rattle.fv_base.specs.declared.fault.FaultKind.TheVariants as kinds
-use Rattle.fv_base.proofs.Laws.{field-take, take-take_le}
-use Rattle.fv_file.specs.Words.{CellForm, cell_len, attributes_at, state_at, file_sum_at, is_fixed, is_large, is_summed, is_alive}
-use Rattle.fv_file.specs.Words.{file_header_len, file_size_in, file_header_len_at, file_size_at, payload_at, header_sum_of, allows_large, leading_count, state_of}
-use Rattle.fv_file.specs.Words.{may_be_large, has_header_sum, has_file_size, has_file_sum, skips_data, head_in, unmarked, file_sum_right, pad_kind, fixed_checksum}
+use Rattle.fv_file.specs.Words.{CellForm, cell_len, attributes_at, state_at, file_sum_at, is_fixed, is_large, is_summed, is_alive, file_header_len}
+use Rattle.fv_file.specs.Words.{file_size_in, file_header_len_at, file_size_at, payload_at, header_sum_of, allows_large, leading_count, state_of}
+use Rattle.fv_file.specs.Words.{may_be_large, has_header_sum, has_file_size, has_file_sum, skips_data, head_in, unmarked, file_sum_right, pad_kind}
+use Rattle.fv_file.specs.Words.{fixed_checksum}
 use Rattle.fv_file.specs.declared.head.FileHead.{FileHead}
 use Rattle.fv_file.specs.declared.state.FileState.{FileState}
-use Rattle.fv_file.specs.declared.state.FileState.TheVariants as states
 use Rattle.fv_file.specs.inner.CellVerdicts.{file_verdict, cell_verdict, cell_with, cell_of, sort_of, stray, state_verdict, StateSort}
-use Rattle.fv_file.specs.inner.CellVerdicts as sorts
-use Rattle.fv_file.proofs.FileVerdictLemmas.{IsHeaderRight, data_right, data_skipped, data_wrong, form_wrong, header_cut, size_wrong, sizes, sum_wrong}
+use Rattle.fv_file.proofs.FileVerdictLemmas.{IsHeaderRight, data_right, data_skipped, data_wrong, form_wrong, header_cut, size_wrong, sizes}
+use Rattle.fv_file.proofs.FileVerdictLemmas.{sum_wrong}
 use Rattle.fv_file.proofs.UnmarkLemmas.{length-unmarked, fixed_least}
+use Rattle.fv_base.specs.declared.fault.FaultKind.TheVariants as kinds
+use Rattle.fv_file.specs.declared.state.FileState.TheVariants as states
+use Rattle.fv_file.specs.inner.CellVerdicts as sorts
 
 -- ---- 1. the bytes
 

@@ -8,35 +8,28 @@
 --    `pad_written`).
 -- 5. Conversely, bytes that are the header of some fields are the bytes that are written for them (`form_of`,
 --    `only_written`), for a file and for a pad (`only_file`, `only_pad`).
-use Rattle.std.proofs.lemmas.Grind.{common_steps}
-use Rattle.std.proofs.Common.{◌≡◌, ◌≤◌, ◌<◌, ◌+◌, ◌/◌, ◌%◌, ◌^◌, ℕ, Bool, true, false, List, [], ◌∷◌, ◌++◌, length, take, drop, refl, sym}
-use Rattle.std.proofs.Common.{ap, ◌∙◌, subst, arith, append_assoc, length-append, length-drop, drop-drop}
-use Rattle.std.specs.Prelude.{slice_index, sum}
+use Rattle.std.proofs.Common.{◌≡◌, ◌≤◌, ◌<◌, ◌+◌, ◌/◌, ◌%◌, ◌^◌, ℕ, [], ◌∷◌, ◌++◌, Bool, true, false, List, length, take, drop, refl, sym, ap, ◌∙◌}
+use Rattle.std.proofs.Common.{subst, arith, append_assoc, length-append, length-drop, drop-drop, slice_index, sum, take-append-drop, take_at}
+use Rattle.std.proofs.Common.{take_all, get_or-append-add, length-take-le, shr-shr}
+use Rattle.fv_base.proofs.Laws.{common_steps, take-append-add, drop_more, drop_all, length-replicate, sum_by-append, nat_tests, bytes_of, data_limit}
+use Rattle.fv_base.proofs.Laws.{IsBytes, le, le_bytes, field, le_at, field_is, le-le_bytes}
 use Rattle.std.specs.Int.{bytes_low_first}
-use Rattle.std.proofs.Math.Seq.{take-append-add, drop-append-add}
-use Rattle.std.proofs.lemmas.List.{take-append-drop, take_at, take_all, drop_more, drop_all, get_or-append-add, length-take-le}
-use Rattle.std.proofs.lemmas.List.{length-replicate}
-use Rattle.std.proofs.lemmas.List.Sums.{sum_by-append}
-use Rattle.std.proofs.lemmas.Bool.Decides.{nat_tests}
-use Rattle.std.proofs.lemmas.Nat.{shr-shr}
-use Rattle.fv_base.specs.Words.{bytes_of, data_limit, IsBytes, le, le_bytes, field, le_at}
+use Rattle.std.proofs.Math.Seq.{drop-append-add}
 use Rattle.fv_base.specs.declared.flash.FileSystem.{FileSystem}
 use Rattle.fv_base.specs.declared.flash.Polarity.{Polarity}
 use Rattle.fv_base.specs.declared.guid.Guid.{Guid}
 use Rattle.fv_base.specs.declared.flash.FileSystem.TheVariants.{Ffs3}
 use Rattle.fv_base.specs.declared.flash.Polarity.TheVariants.{Ones, Zeros}
-use Rattle.fv_base.proofs.Laws.{field_is, le-le_bytes}
-use Rattle.fv_file.specs.Words.{IsFilled, attribute_bits, is_large, file_header_len, head_in, header_sum_of, pad_kind, file_size_in}
-use Rattle.fv_file.specs.Words.{IsFileHeader, StateOf, is_alive, state_of, IsNewHeader, IsHeadOfFile, IsHeadOfPad, fields_of, file_fields}
-use Rattle.fv_file.specs.Words.{pad_fields, complement, file_head_of, header_bytes, header_with, needs_large, pad_head_of, state_byte}
-use Rattle.fv_file.specs.Words.{with_large}
+use Rattle.fv_file.specs.Words.{IsFilled, attribute_bits, is_large, file_header_len, head_in, header_sum_of, pad_kind, file_size_in, IsFileHeader}
+use Rattle.fv_file.specs.Words.{StateOf, is_alive, state_of, IsNewHeader, IsHeadOfFile, IsHeadOfPad, fields_of, file_fields, pad_fields, complement}
+use Rattle.fv_file.specs.Words.{file_head_of, header_bytes, header_with, needs_large, pad_head_of, state_byte, with_large}
 use Rattle.fv_file.specs.declared.head.FileHead.{FileHead}
 use Rattle.fv_file.specs.declared.attributes.FileAttributes.{FileAttributes}
 use Rattle.fv_file.specs.declared.new_header.NewHeader.{NewHeader}
 use Rattle.fv_file.specs.inner.NewHeaderParts.{file_header, new_header_bytes}
-use Rattle.fv_file.specs.declared.state.FileState.TheVariants as states
 use Rattle.fv_file.proofs.FileAttributeLemmas.{set_large}
 use Rattle.fv_file.proofs.FileLemmas.{header_least}
+use Rattle.fv_file.specs.declared.state.FileState.TheVariants as states
 
 -- the eight bytes of a number, in the order in which they are written
 pub le_bytes_8-low_first : (n : ℕ) → le_bytes 8 n ≡ bytes_low_first 0 8 n

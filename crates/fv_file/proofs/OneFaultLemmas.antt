@@ -1,13 +1,11 @@
 -- A body has one first fault of its cells, because a first fault is not before a place up to which cells tile the body
 -- (`cell_later`). The first fault is also a fault in the sense of `Any` (`cell_fails`).
-use Rattle.std.proofs.lemmas.Grind.{common_steps}
-use Rattle.std.proofs.Common.{◌≡◌, ◌<◌, ℕ, ◌+◌, ◌-◌, List, [], ◌∷◌, ◌++◌, length, take, drop, sym, ap, ◌∙◌, subst, arith, append_assoc}
-use Rattle.std.proofs.lemmas.List.{take-append-drop, length-take-le}
-use Rattle.fv_base.specs.Words.{Any, First, IsFirstFault}
+use Rattle.std.proofs.Common.{◌≡◌, ◌<◌, ℕ, ◌+◌, ◌-◌, [], ◌∷◌, ◌++◌, List, length, take, drop, sym, ap, ◌∙◌, subst, arith, append_assoc}
+use Rattle.std.proofs.Common.{take-append-drop, length-take-le}
+use Rattle.fv_base.proofs.Laws.{common_steps, Any, First, IsFirstFault, any_fails, one_fault, same_place, some_between, take_past, up_is_not_down}
 use Rattle.fv_base.specs.declared.fault.Fault.{Fault}
 use Rattle.fv_base.specs.declared.flash.FileSystem.{FileSystem}
 use Rattle.fv_base.specs.declared.flash.Polarity.{Polarity}
-use Rattle.fv_base.proofs.Laws.{any_fails, one_fault, same_place, some_between, take_past, up_is_not_down}
 use Rattle.fv_file.specs.Words.{CellForm, Tiles, is_free, CellFault, IsFirstCellFault, NoneFree, cell_checks}
 use Rattle.fv_file.proofs.CellPartLemmas.{not_empty}
 use Rattle.fv_file.proofs.CellVerdictLemmas.{no_cell, one_cell}

@@ -4,13 +4,9 @@
 --    (`file_stride`, `stub_stride`, `cell_stride`).
 -- 2. So one step is one cell (`one_less`), and the count goes up by one (`one_counted`).
 -- 3. At the end one free cell is left if any bytes are left (`free_left`), so all cells are counted (`all_counted`).
-use Rattle.std.proofs.Common.{◌≡◌, ◌≤◌, ◌<◌, ℕ, ◌+◌, List, [], ◌∷◌, ◌++◌, length, drop, inl, inr, refl, sym, ap, ◌∙◌, subst, arith}
-use Rattle.std.proofs.Common.{Bool, true, false, length-append, append_assoc, append-nil}
-use Rattle.std.specs.Prelude.{◌==◌, ◌≢◌, ◌⊎◌, not, nat_le, slice_index, Option, Some}
-use Rattle.std.proofs.lemmas.Bool.{leb-true, eq-eqb, eqb-true, eqb-false}
-use Rattle.std.proofs.lemmas.List.{drop_at}
-use Rattle.fv_base.proofs.Laws.{all_hold, and_split}
-use Rattle.fv_base.specs.Words.{erased_byte, up_to_8}
+use Rattle.std.proofs.Common.{◌≡◌, ◌≤◌, ◌<◌, ℕ, ◌+◌, [], ◌∷◌, ◌++◌, ◌==◌, ◌≢◌, ◌⊎◌, List, length, drop, inl, inr, refl, sym, ap, ◌∙◌, subst, arith}
+use Rattle.std.proofs.Common.{Bool, true, false, length-append, append_assoc, append-nil, not, nat_le, slice_index, Option, Some, leb-true, eq-eqb}
+use Rattle.fv_base.proofs.Laws.{eqb-true, drop_at, eqb-false, all_hold, and_split, erased_byte, up_to_8}
 use Rattle.fv_base.specs.declared.flash.FileSystem.{FileSystem}
 use Rattle.fv_base.specs.declared.flash.Polarity.{Polarity}
 use Rattle.fv_file.specs.Words.{CellForm, Valid, Pad, Dead, Stub, Free, offset_of, is_free, IsFilled, IsCell, Tiles, is_large, cell_checks}
@@ -18,7 +14,6 @@ use Rattle.fv_file.specs.Words.{file_header_len_at, file_size_at, file_header_le
 use Rattle.fv_file.specs.declared.head.FileHead.{FileHead}
 use Rattle.fv_file.specs.declared.state.FileState.{FileState}
 use Rattle.fv_file.specs.inner.CellVerdicts.{is_unfinished}
-use Rattle.fv_file.specs.declared.state.FileState.TheVariants as states
 use Rattle.fv_file.proofs.CellPartLemmas.{file_made_up, filled_span, made_up, not_empty, free_all}
 use Rattle.fv_file.proofs.CellReadLemmas.{cell_reads}
 use Rattle.fv_file.proofs.CellVerdictLemmas.{no_bits}
@@ -26,6 +21,7 @@ use Rattle.fv_file.proofs.ErasedByteLemmas.{all_at}
 use Rattle.fv_file.proofs.FileLemmas.{header_least, front_byte, file_reads}
 use Rattle.fv_file.proofs.SortLemmas.{sorted}
 use Rattle.fv_file.proofs.TilingLemmas.{no_rest}
+use Rattle.fv_file.specs.declared.state.FileState.TheVariants as states
 
 -- the distance from the header at the start of r to the next header; the first argument says whether the header at the
 -- start of r is the header of a stub

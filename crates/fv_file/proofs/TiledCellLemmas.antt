@@ -4,14 +4,10 @@
 -- 2. The data of a cell are the part of the volume after its header (`cell_payload`), for all cells of a tiling
 --    (`tiled_payloads`).
 -- 3. In a tiling of bytes, each valid file meets the conditions of `FileRead` (`tiles_read`).
-use Rattle.std.proofs.Common.{◌≡◌, ◌≤◌, ◌+◌, ◌-◌, ℕ, List, [], ◌∷◌, ◌++◌, length, take, drop}
-use Rattle.std.proofs.Common.{refl, sym, ap, ◌∙◌, subst, arith, length-append, drop-drop}
-use Rattle.std.specs.List.{AllByRecursion}
-use Rattle.std.proofs.lemmas.List.{drop_at}
-use Rattle.fv_base.specs.Words.{IsBytes, up_to_8}
+use Rattle.std.proofs.Common.{◌≡◌, ◌≤◌, ◌+◌, ◌-◌, ℕ, [], ◌∷◌, ◌++◌, List, length, take, drop, refl, sym, ap, ◌∙◌, subst, arith, length-append}
+use Rattle.fv_base.proofs.Laws.{drop-drop, drop_at, AllByRecursion, IsBytes, up_to_8, bytes_back, bytes_front, field-append_front}
 use Rattle.fv_base.specs.declared.flash.FileSystem.{FileSystem}
 use Rattle.fv_base.specs.declared.flash.Polarity.{Polarity}
-use Rattle.fv_base.proofs.Laws.{bytes_back, bytes_front, field-append_front}
 use Rattle.fv_file.specs.Words.{CellForm, Valid, Pad, Dead, Stub, Free, IsCell, IsFilled, Tiles, offset_of, cell_len}
 use Rattle.fv_file.specs.declared.head.FileHead.{FileHead}
 use Rattle.fv_file.proofs.CellPartLemmas.{cell_span, made_up, not_empty}

@@ -1,9 +1,8 @@
 -- A body is tiled by cells in at most one way.
-use Rattle.std.proofs.Common.{◌≡◌, ◌<◌, ℕ, ◌+◌, List, [], ◌∷◌, ◌++◌, length, refl, sym, ap, ◌∙◌, subst, arith, Bool, true, false}
-use Rattle.std.proofs.Common.{length-append, append_assoc, append-nil}
+use Rattle.std.proofs.Common.{◌≡◌, ◌<◌, ℕ, ◌+◌, [], ◌∷◌, ◌++◌, List, length, refl, sym, ap, ◌∙◌, subst, arith, Bool, true, false, length-append}
+use Rattle.fv_base.proofs.Laws.{append_assoc, append-nil, same_cut}
 use Rattle.fv_base.specs.declared.flash.Polarity.{Polarity}
 use Rattle.fv_base.specs.declared.flash.FileSystem.{FileSystem}
-use Rattle.fv_base.proofs.Laws.{same_cut}
 use Rattle.fv_file.specs.Words.{CellForm, offset_of, is_free, IsCell, Tiles, NoneFree}
 
 -- at one place at most one cell begins, and a free cell only if it is all the rest

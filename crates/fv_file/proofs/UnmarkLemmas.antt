@@ -4,29 +4,25 @@
 -- 3. The marks are removed one after another, and cells tile the body up to each place.
 -- 4. There is one way to remove all marks (`one_unmarked`).
 -- 5. If all marks can be removed, a cell begins at each place after the mark there was removed (`unmarked_cell`).
-use Rattle.std.proofs.Common.{◌≡◌, ◌≤◌, ◌<◌, ℕ, ◌+◌, ◌-◌, ◌%◌, List, [], ◌∷◌, ◌++◌, length, take, drop, refl, sym, ap, ◌∙◌, subst, arith}
-use Rattle.std.proofs.Common.{Bool, true, false, length-drop, inl, inr}
-use Rattle.std.specs.Prelude.{◌≢◌, ◌⊎◌, ◌||◌, ◌&&◌, ◌==◌, not, nat_le, slice_index, slice_set, nat_lt, Option, None, Some, Ok, Err, Result}
-use Rattle.std.specs.List.{AllByRecursion}
-use Rattle.std.proofs.lemmas.Bool.{leb-true, ltb-false, eq-eqb}
-use Rattle.std.proofs.lemmas.Bool.Decides.{nat_tests}
-use Rattle.std.proofs.lemmas.List.{get_or-drop, get_or-set_same, get_or-set_other, length-set, take-set-le, length-take-le, take-append-drop}
-use Rattle.fv_base.specs.Words.{First, Check, check, AllHold, outer_fault, AllAre, erased_byte}
+use Rattle.std.proofs.Common.{◌≡◌, ◌≤◌, ◌<◌, ℕ, ◌+◌, ◌-◌, ◌%◌, [], ◌∷◌, ◌++◌, ◌≢◌, ◌⊎◌, ◌||◌, ◌&&◌, ◌==◌, List, length, take, drop, refl, sym, ap}
+use Rattle.std.proofs.Common.{◌∙◌, subst, arith, Bool, true, false, length-drop, inl, inr, not, nat_le, slice_index, slice_set, nat_lt, Option, None}
+use Rattle.std.proofs.Common.{Some, Ok, Err, Result, leb-true, ltb-false, eq-eqb, get_or-drop, get_or-set_same, get_or-set_other, length-set}
+use Rattle.fv_base.proofs.Laws.{length-take-le, take-append-drop, AllByRecursion, nat_tests, take-set-le, First, Check, check, AllHold, outer_fault}
+use Rattle.fv_base.proofs.Laws.{AllAre, erased_byte, and_split, in_middle, up_is_not_down}
 use Rattle.fv_base.specs.declared.fault.Fault.{Fault}
 use Rattle.fv_base.specs.declared.flash.FileSystem.{FileSystem}
 use Rattle.fv_base.specs.declared.flash.Polarity.{Polarity}
-use Rattle.fv_base.specs.declared.fault.FaultKind.TheVariants as kinds
-use Rattle.fv_base.proofs.Laws.{and_split, in_middle, up_is_not_down}
-use Rattle.fv_file.specs.Words.{CellForm, is_free, IsCell, Tiles, cell_len, IsFirstCellFault, cell_checks, file_checks}
-use Rattle.fv_file.specs.Words.{state_checks, leading_count, attributes_at, is_fixed, bits_of, state_of, state_at, unmarked, Unmarks}
+use Rattle.fv_file.specs.Words.{CellForm, is_free, IsCell, Tiles, cell_len, IsFirstCellFault, cell_checks, file_checks, state_checks, leading_count}
+use Rattle.fv_file.specs.Words.{attributes_at, is_fixed, bits_of, state_of, state_at, unmarked, Unmarks}
 use Rattle.fv_file.specs.declared.state.FileState.{FileState}
-use Rattle.fv_file.specs.declared.state.FileState.TheVariants as states
 use Rattle.fv_file.specs.inner.CellVerdicts.{cell_verdict, stray}
 use Rattle.fv_file.proofs.CellVerdictLemmas.{verdict_first, no_bits}
 use Rattle.fv_file.proofs.ErasedByteLemmas.{all_at}
 use Rattle.fv_file.proofs.BodyLemmas.{Upto, upto_begins, stands_here, one_on, first_here, none_after}
 use Rattle.fv_file.proofs.CellFoundLemmas.{CellStandsAt}
 use Rattle.fv_file.proofs.OneFaultLemmas.{one_cell_fault}
+use Rattle.fv_base.specs.declared.fault.FaultKind.TheVariants as kinds
+use Rattle.fv_file.specs.declared.state.FileState.TheVariants as states
 
 -- ---- 1. the fault Fixed
 

@@ -65,6 +65,7 @@ impl FileAttributes {
     }
 
     /// Returns whether the file may not be moved: bit 0x04, `FFS_ATTRIB_FIXED`, is set.
+    #[tactic(auto, using(crate::proofs::FileAttributeLemmas::bit_2))]
     pub fn is_fixed(self) -> bool
         ensures { result ≡ is_fixed self.0 }
     {
@@ -72,6 +73,7 @@ impl FileAttributes {
     }
 
     /// Returns whether the file checksum covers the data: bit 0x40, `FFS_ATTRIB_CHECKSUM`, is set.
+    #[tactic(auto, using(crate::proofs::FileAttributeLemmas::bit_6))]
     pub fn is_summed(self) -> bool
         ensures { result ≡ is_summed self.0 }
     {

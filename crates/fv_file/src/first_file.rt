@@ -13,6 +13,7 @@ use crate::state::file_state;
 use fv_base::{Fault, FaultKind, FileSystem, Polarity, check};
 
 // Returns the header of the file that the bytes begin with, or the first fault.
+#[tactic(auto, using(crate::proofs::FirstFileLemmas::alive_read))]
 fn verdict(bytes: &[u8], system: FileSystem, polarity: Polarity) -> Result<FileHead, Fault>
     ensures { result ≡ verify_verdict system polarity bytes.now }
 {

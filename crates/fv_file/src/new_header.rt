@@ -150,6 +150,7 @@ fn new_header_bytes(header: &NewHeader, polarity: Polarity) -> HeadBytes
 }
 
 // Returns the attribute bits, with bit 0x01 set for the large form.
+#[tactic(auto, using(crate::proofs::FileAttributeLemmas::large_set))]
 fn with_form(attributes: FileAttributes, large: bool) -> FileAttributes
     requires { is_large (attribute_bits attributes) ≡ false }
     ensures { attribute_bits result ≡ with_large large (attribute_bits attributes) }

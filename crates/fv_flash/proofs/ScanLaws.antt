@@ -6,16 +6,9 @@
 --    are found are the list of a walk (`found_walk`).
 -- 4. So the volumes of some bytes begin at one list of places (`one_found`), and have one list of places with lengths
 --    (`one_are`).
-use Rattle.std.proofs.lemmas.Grind.{common_steps}
-use Rattle.std.proofs.Common.{◌≡◌, ℕ, ◌+◌, ◌%◌, ◌<◌, ◌≤◌, List, [], ◌∷◌, length, drop, take, refl, sym, ap, ◌∙◌}
-use Rattle.std.proofs.Common.{subst, drop-drop, arith, true, false, inl, inr}
-use Rattle.std.specs.Prelude.{◌⊎◌}
-use Rattle.std.specs.List.{AllByRecursion, Contains}
-use Rattle.std.specs.Str.{bytes_eq}
-use Rattle.std.proofs.lemmas.Bool.{cases_lt}
-use Rattle.std.proofs.lemmas.List.{length-drop}
-use Rattle.std.proofs.lemmas.List.Elements.{All-contains, All-from_recursion, All-weaker, recursion_from_All}
-use Rattle.fv_base.proofs.Laws.{first_or_behind, one_behind}
+use Rattle.std.proofs.Common.{◌≡◌, ℕ, ◌+◌, ◌%◌, ◌<◌, ◌≤◌, [], ◌∷◌, ◌⊎◌, List, length, drop, take, refl, sym, ap, ◌∙◌, subst, drop-drop, arith, true}
+use Rattle.fv_base.proofs.Laws.{false, inl, inr, length-drop, common_steps, AllByRecursion, Contains, bytes_eq, cases_lt, All-contains}
+use Rattle.fv_base.proofs.Laws.{All-from_recursion, All-weaker, recursion_from_All, first_or_behind, one_behind}
 use Rattle.fv_head.specs.Words.{HeadFields, BeginsVolume, signature_bytes, has_signature}
 use Rattle.fv_head.specs.declared.extent.Extent.{Extent}
 use Rattle.fv_head.proofs.Laws.{front_holds, one_front}

@@ -3,16 +3,10 @@
 -- 2. So the block map of a header is its blocks and then one more pair (`block_map_is`). If this pair is taken off, the
 --    blocks are left (`last-injective`).
 -- 3. A test decides whether a pair is the pair of zeros (`zero_pair_is`, `zero_pair_not`, `none_zero`, `all_not_zero`).
-use Rattle.std.proofs.lemmas.Grind.{common_steps}
-use Rattle.std.proofs.Common.{◌≡◌, ◌≢◌, ◌≤◌, ℕ, ◌+◌, ◌-◌, ◌%◌, List, [], ◌∷◌, ◌++◌, length, take, drop, refl, sym, ap, ◌∙◌, subst, arith}
-use Rattle.std.proofs.Common.{true, false, length-take, length-drop, drop-drop}
-use Rattle.std.specs.Prelude.{not}
-use Rattle.std.specs.List.{AllByRecursion, list_all}
-use Rattle.std.proofs.lemmas.List.{drop-take, length-take-le}
-use Rattle.std.proofs.lemmas.Bool.{eqb-true}
-use Rattle.std.proofs.Math.Seq.{take-add}
-use Rattle.fv_base.specs.Words.{le, le_at}
-use Rattle.fv_base.proofs.Laws.{and_split, take-take_le}
+use Rattle.std.proofs.Common.{◌≡◌, ◌≢◌, ◌≤◌, ℕ, ◌+◌, ◌-◌, ◌%◌, [], ◌∷◌, ◌++◌, List, length, take, drop, refl, sym, ap, ◌∙◌, subst, arith, true, false}
+use Rattle.std.proofs.Common.{length-take, length-drop, drop-drop, not, length-take-le, eqb-true}
+use Rattle.fv_base.proofs.Laws.{common_steps, AllByRecursion, drop-take, take-add, le, le_at, and_split, take-take_le}
+use Rattle.std.specs.List.{list_all}
 use Rattle.fv_head.specs.Words.{is_zero_pair, blocks_at, pairs_of}
 
 -- the first eight bytes are the first pair

@@ -7,16 +7,12 @@
 --    decide this (`ext_same`).
 -- 4. A reader takes the entries one by one (`more_entries`, `end_entries`), and the extended header that it has read is
 --    the volume's (`read_there`).
-use Rattle.std.proofs.lemmas.Grind.{common_steps}
-use Rattle.std.proofs.Common.{◌≡◌, ◌≤◌, ◌<◌, ℕ, zero, suc, ◌+◌, ◌-◌, List, [], ◌∷◌, ◌++◌, length, take, drop, refl, sym, ap, ◌∙◌, subst}
-use Rattle.std.proofs.Common.{arith, inl, inr, Bool, true, false, length-append, length-drop, append_assoc, append-nil, drop-drop, rules}
-use Rattle.std.specs.Prelude.{◌==◌, ◌&&◌, ◌||◌, nat_le, if◌then◌else◌, Option, Some, None}
-use Rattle.std.proofs.lemmas.List.{drop-take, take_at, drop_at, take-append-drop, length-take-le, take_all}
-use Rattle.std.proofs.lemmas.Bool.{leb-true, le-leb, eqb-true}
-use Rattle.std.proofs.lemmas.Bool.Decides.{nat_tests}
-use Rattle.fv_base.specs.Words.{bytes_of, ext_limit, le, field, le_at, up_to_8}
+use Rattle.std.proofs.Common.{◌≡◌, ◌≤◌, ◌<◌, ℕ, ◌+◌, ◌-◌, [], ◌∷◌, ◌++◌, rules, ◌==◌, ◌&&◌, ◌||◌, if◌then◌else◌, zero, suc, List, length, take, drop}
+use Rattle.std.proofs.Common.{refl, sym, ap, ◌∙◌, subst, arith, inl, inr, Bool, true, false, length-append, length-drop, append_assoc, append-nil}
+use Rattle.std.proofs.Common.{drop-drop, nat_le, Option, Some, None, take_at, drop_at, take-append-drop, length-take-le, take_all, leb-true, le-leb}
+use Rattle.fv_base.proofs.Laws.{eqb-true, common_steps, drop-take, nat_tests, bytes_of, ext_limit, le, field, le_at, up_to_8, and_join, and_split}
+use Rattle.fv_base.proofs.Laws.{field-append_front, field-take}
 use Rattle.fv_base.specs.declared.guid.Guid.{Guid}
-use Rattle.fv_base.proofs.Laws.{and_join, and_split, field-append_front, field-take}
 use Rattle.fv_head.specs.Words.{Extension, kept_payload, BeginNoEntry, SplitsEntries, IsExt, HasExt, ext_offset_at, ext_size_at, has_ext}
 use Rattle.fv_head.specs.declared.extent.Extent.{Extent}
 

@@ -5,29 +5,23 @@
 -- 2. If the checks hold, the bytes begin with a volume that has the fields that are read (`front_found`).
 -- 3. If bytes begin with a volume, the checks hold, and the verdict is its extent (`front_only`).
 -- 4. The header of this volume has no other fields (`front_fields`).
-use Rattle.std.proofs.lemmas.Grind.{common_steps}
-use Rattle.std.proofs.Common.{◌≡◌, ◌≤◌, ℕ, ◌+◌, ◌-◌, ◌%◌, List, [], ◌∷◌, ◌++◌, length, take, refl, sym, ap, ◌∙◌, subst, arith, rules}
-use Rattle.std.proofs.Common.{true, false}
-use Rattle.std.specs.Prelude.{◌==◌, nat_le, is_some, Option, None, Some, Ok, Err, slice_index, if◌then◌else◌}
-use Rattle.std.proofs.lemmas.List.{length-take-le, get_or-take}
-use Rattle.std.proofs.lemmas.Bool.{leb-true, le-leb, eqb-true, eq-eqb}
-use Rattle.std.proofs.lemmas.Slice.Eq.{bytes_eq-Decides}
-use Rattle.std.specs.Str.{bytes_eq}
-use Rattle.fv_base.specs.Words.{AllHold, outer_fault, header_limit, IsBytes, le, field, le_at, up_to_8}
+use Rattle.std.proofs.Common.{◌≡◌, ◌≤◌, ℕ, ◌+◌, ◌-◌, ◌%◌, [], ◌∷◌, ◌++◌, rules, ◌==◌, if◌then◌else◌, List, length, take, refl, sym, ap, ◌∙◌, subst}
+use Rattle.std.proofs.Common.{arith, true, false, nat_le, is_some, Option, None, Some, Ok, Err, slice_index, length-take-le, get_or-take, leb-true}
+use Rattle.fv_base.proofs.Laws.{le-leb, eqb-true, eq-eqb, common_steps, bytes_eq-Decides, bytes_eq, AllHold, outer_fault, header_limit, IsBytes, le}
+use Rattle.fv_base.proofs.Laws.{field, le_at, up_to_8, all_hold, and_join, and_split, bytes_take, field-take, none_faulty}
 use Rattle.fv_base.specs.declared.fault.Fault.{Fault}
 use Rattle.fv_base.specs.declared.flash.FileSystem.{FileSystem}
 use Rattle.fv_base.specs.declared.flash.Polarity.{Polarity}
 use Rattle.fv_base.specs.inner.Verdicts.{first_fault}
-use Rattle.fv_base.specs.declared.fault.FaultKind.TheVariants as kinds
 use Rattle.fv_base.specs.declared.flash.FileSystem.TheVariants.{Ffs2, Ffs3}
-use Rattle.fv_base.proofs.Laws.{all_hold, and_join, and_split, bytes_take, field-take, none_faulty}
-use Rattle.fv_head.specs.Words.{Extension, HeadFields, IsHead, BeginsVolume, system_guid, has_signature, is_header_len, has_sum}
-use Rattle.fv_head.specs.Words.{has_block_map, is_volume_len, head_checks, is_zero_pair, blocks_at, makes_up, file_system_at, header_len_at}
-use Rattle.fv_head.specs.Words.{volume_len_at, ext_offset_at, ext_size_at, has_ext, polarity_of}
+use Rattle.fv_head.specs.Words.{Extension, HeadFields, IsHead, BeginsVolume, system_guid, has_signature, is_header_len, has_sum, has_block_map}
+use Rattle.fv_head.specs.Words.{is_volume_len, head_checks, is_zero_pair, blocks_at, makes_up, file_system_at, header_len_at, volume_len_at}
+use Rattle.fv_head.specs.Words.{ext_offset_at, ext_size_at, has_ext, polarity_of}
 use Rattle.fv_head.specs.declared.extent.Extent.{Extent}
 use Rattle.fv_head.specs.inner.HeadVerdicts.{head_verdict, extent_verdict, extent_or, extent_at}
 use Rattle.fv_head.proofs.ExtLemmas.{some_has_ext, has_ext_holds, has_ext_first}
 use Rattle.fv_head.proofs.BlockMapLemmas.{all_not_zero, block_map_is, last-injective, none_zero, zero_pair_is}
+use Rattle.fv_base.specs.declared.fault.FaultKind.TheVariants as kinds
 
 -- the fields that are read from a header of a known file system
 abbrev pub fields_of : FileSystem → Option Extension → List ℕ → HeadFields

@@ -3,21 +3,17 @@
 -- 2. The first fault is at an offset within the bytes, or at their end (`fault_within`), and is not OutOfMemory
 --    (`fault_known`).
 -- 3. So a result that is the verdict meets each clause (`ok_found`, `err_first`, `err_within`).
-use Rattle.std.proofs.Common.{◌≡◌, ◌≢◌, ◌≤◌, ℕ, List, [], ◌∷◌, length, refl, sym, ap, ◌∙◌, arith}
-use Rattle.std.proofs.Common.{true}
-use Rattle.std.specs.Prelude.{nat_le, is_some, Option, None, Some, Result, Ok, Err, IfOk, IfErr}
-use Rattle.std.specs.List.{AllByRecursion}
-use Rattle.std.proofs.lemmas.Bool.{leb-true}
-use Rattle.fv_base.specs.Words.{Check, check, IsFirstFault, outer_fault, IsBytes}
+use Rattle.std.proofs.Common.{◌≡◌, ◌≢◌, ◌≤◌, ℕ, [], ◌∷◌, List, length, refl, sym, ap, ◌∙◌, arith, true, nat_le, is_some, Option, None, Some, Result}
+use Rattle.std.proofs.Common.{Ok, Err, IfOk, IfErr, leb-true}
+use Rattle.fv_base.proofs.Laws.{AllByRecursion, Check, check, IsFirstFault, outer_fault, IsBytes, all_hold, first_among, first_is}
 use Rattle.fv_base.specs.declared.fault.Fault.{Fault}
 use Rattle.fv_base.specs.declared.flash.FileSystem.{FileSystem}
 use Rattle.fv_base.specs.inner.Verdicts.{first_fault}
-use Rattle.fv_base.specs.declared.fault.FaultKind.TheVariants as kinds
-use Rattle.fv_base.proofs.Laws.{all_hold, first_among, first_is}
 use Rattle.fv_head.specs.Words.{HeadFields, BeginsVolume, head_checks, file_system_at}
 use Rattle.fv_head.specs.declared.extent.Extent.{Extent}
 use Rattle.fv_head.specs.inner.HeadVerdicts.{head_verdict, extent_verdict, extent_or}
 use Rattle.fv_head.proofs.HeadCheckLemmas.{checked, fields_of, front_found}
+use Rattle.fv_base.specs.declared.fault.FaultKind.TheVariants as kinds
 
 pub fault_first : (b : List ℕ) (f : Fault) → head_verdict b ≡ Err f → IsFirstFault (head_checks b) f
 fault_first b f h = go (first_fault (head_checks b)) refl h where

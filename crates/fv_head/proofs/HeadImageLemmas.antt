@@ -8,19 +8,16 @@
 -- 4. So the canonical head is a canonical header (`canonical_is`), and the only one (`canonical_only`). With its
 --    extended header in a pad file after it, it begins a volume with its fields (`canonical_front`).
 -- 5. The checksum is computed from a sum of words (`weight-words`, `words_added`, `checksum_from`).
-use Rattle.std.proofs.lemmas.Grind.{common_steps}
-use Rattle.std.proofs.Common.{◌≡◌, ◌≤◌, ◌<◌, ℕ, ◌+◌, ◌-◌, ◌*◌, ◌%◌, List, [], ◌∷◌, ◌++◌, length, take, drop, refl, sym, ap, ◌∙◌, subst}
-use Rattle.std.proofs.Common.{arith, false, length-append, length-drop, append_assoc, drop-drop, rules}
-use Rattle.std.specs.Prelude.{slice_index, sum, Bool, Option, None, Some}
-use Rattle.std.proofs.Math.Seq.{take-add}
-use Rattle.std.proofs.lemmas.List.{take-append-drop, take_at, drop_at, drop_more, get_or-drop, length-take-le}
-use Rattle.fv_base.specs.Words.{words_of, sum16_of, header_limit, IsBytes, le, le_bytes, field, le_at, up_to_8}
-use Rattle.fv_base.proofs.Laws.{bytes_append, bytes_drop, bytes_le_bytes, bytes_take, drop-append_behind, field-append_front, field-take}
-use Rattle.fv_base.proofs.Laws.{field_is, le-le_bytes, le_bytes-le, length-le_bytes, sum-words_of-append, two_bytes}
-use Rattle.std.proofs.lemmas.List.Sums.{sum_by-cons}
-use Rattle.fv_head.specs.Words.{Extension, HasExt, HeadFields, IsHead, BeginsVolume, canonical_offset, IsReadHead, IsCanonicalHead}
-use Rattle.fv_head.specs.Words.{extent_of, IfRead, CanonicalRest, header_len_of, signature_bytes, system_guid, pairs_of, pairs_bytes}
-use Rattle.fv_head.specs.Words.{ext_spelled, canonical_end, first_edge, head_spelled, checksum_of, canonical_head}
+use Rattle.std.proofs.Common.{◌≡◌, ◌≤◌, ◌<◌, ℕ, ◌+◌, ◌-◌, ◌*◌, ◌%◌, [], ◌∷◌, ◌++◌, rules, List, length, take, drop, refl, sym, ap, ◌∙◌, subst, arith}
+use Rattle.std.proofs.Common.{false, length-append, length-drop, append_assoc, drop-drop, slice_index, sum, Bool, Option, None, Some}
+use Rattle.std.proofs.Common.{take-append-drop, take_at, drop_at, get_or-drop, length-take-le}
+use Rattle.fv_base.proofs.Laws.{common_steps, take-add, drop_more, words_of, header_limit, IsBytes, le, le_bytes, field, le_at, up_to_8, bytes_append}
+use Rattle.fv_base.proofs.Laws.{bytes_drop, bytes_le_bytes, bytes_take, drop-append_behind, field-append_front, field-take, field_is, le-le_bytes}
+use Rattle.fv_base.proofs.Laws.{le_bytes-le, length-le_bytes, sum-words_of-append, two_bytes, sum_by-cons}
+use Rattle.fv_base.specs.Words.{sum16_of}
+use Rattle.fv_head.specs.Words.{Extension, HasExt, HeadFields, IsHead, BeginsVolume, canonical_offset, IsReadHead, IsCanonicalHead, extent_of, IfRead}
+use Rattle.fv_head.specs.Words.{CanonicalRest, header_len_of, signature_bytes, system_guid, pairs_of, pairs_bytes, ext_spelled, canonical_end}
+use Rattle.fv_head.specs.Words.{first_edge, head_spelled, checksum_of, canonical_head}
 use Rattle.fv_head.specs.inner.WordSums.{is_high_after, word_weight}
 use Rattle.fv_head.proofs.BlockMapLemmas.{by_eights}
 use Rattle.fv_head.proofs.ExtImageLemmas.{ext_again}

@@ -2,15 +2,13 @@
 -- 1. The length of the header and its fields are read at their offsets (`front_within`, `kept_fields`, `ext_there`).
 -- 2. So bytes begin with at most one volume (`one_front`), and only the volume's own bytes decide which (`front_same`).
 -- 3. The header and the start of the first file lie within the volume (`front_lies`, `first_lies`).
-use Rattle.std.proofs.Common.{◌≡◌, ◌≤◌, ℕ, zero, suc, ◌+◌, ◌-◌, ◌%◌, List, length, take, refl, sym, ap, ◌∙◌, subst, arith, rules, inl, inr}
-use Rattle.std.specs.Prelude.{Option, Some, slice_index}
-use Rattle.std.proofs.lemmas.List.{length-take-le}
-use Rattle.fv_base.specs.Words.{AllHold, volume_limit, header_limit, ext_limit, le, field, le_at}
+use Rattle.std.proofs.Common.{◌≡◌, ◌≤◌, ℕ, ◌+◌, ◌-◌, ◌%◌, rules, zero, suc, List, length, take, refl, sym, ap, ◌∙◌, subst, arith, inl, inr, Option}
+use Rattle.std.proofs.Common.{Some, slice_index, length-take-le}
+use Rattle.fv_base.proofs.Laws.{AllHold, volume_limit, header_limit, ext_limit, le, field, le_at, all_hold, field-take, take-take_le}
 use Rattle.fv_base.specs.declared.flash.FileSystem.{FileSystem}
 use Rattle.fv_base.specs.inner.Verdicts.{first_fault}
-use Rattle.fv_base.proofs.Laws.{all_hold, field-take, take-take_le}
-use Rattle.fv_head.specs.Words.{Extension, IsExt, HasExt, HeadFields, IsHead, BeginsVolume, head_checks, blocks_at, file_system_at}
-use Rattle.fv_head.specs.Words.{header_len_at, volume_len_at, ext_offset_at, ext_size_at, pairs_of}
+use Rattle.fv_head.specs.Words.{Extension, IsExt, HasExt, HeadFields, IsHead, BeginsVolume, head_checks, blocks_at, file_system_at, header_len_at}
+use Rattle.fv_head.specs.Words.{volume_len_at, ext_offset_at, ext_size_at, pairs_of}
 use Rattle.fv_head.specs.declared.extent.Extent.{Extent}
 use Rattle.fv_head.specs.inner.HeadVerdicts.{ExtHeaderWithin, extent_at}
 use Rattle.fv_head.proofs.ExtLemmas.{stands, read_there, one_has_ext, ext_same}

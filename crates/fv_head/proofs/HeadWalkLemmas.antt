@@ -1,10 +1,6 @@
 -- Steps of the walks over a header: the bytes that a sink has taken after one more byte, pair or field.
-use Rattle.std.proofs.lemmas.Grind.{common_steps}
-use Rattle.std.proofs.Common.{◌≡◌, ◌<◌, ◌≤◌, ℕ, ◌+◌, ◌%◌, List, [], ◌∷◌, ◌++◌, length, take, drop, get_or, refl, sym, ap, ◌∙◌, subst, arith}
-use Rattle.std.proofs.Common.{append_assoc, append-nil, Bool}
-use Rattle.std.specs.Prelude.{not}
-use Rattle.std.proofs.lemmas.List.{take_more, drop_more, drop_all}
-use Rattle.fv_base.specs.Words.{le_bytes}
+use Rattle.std.proofs.Common.{◌≡◌, ◌<◌, ◌≤◌, ℕ, ◌+◌, ◌%◌, [], ◌∷◌, ◌++◌, List, length, take, drop, get_or, refl, sym, ap, ◌∙◌, subst, arith}
+use Rattle.fv_base.proofs.Laws.{append_assoc, append-nil, Bool, not, common_steps, take_more, drop_more, drop_all, le_bytes}
 use Rattle.fv_head.specs.Words.{pairs_bytes}
 use Rattle.fv_head.specs.inner.WordSums.{adds_joined, word_weight, is_high_after}
 

@@ -80,6 +80,7 @@ impl Flags for FvAttributes {
 impl FvAttributes {
     /// Returns the erase polarity: ones if bit 0x800, `EFI_FVB2_ERASE_POLARITY`, is set, and
     /// otherwise zeros.
+    #[tactic(auto, using(crate::proofs::VolumeAttributeLemmas::bit_11))]
     pub fn polarity(self) -> Polarity
         ensures { result ≡ polarity_of self.0 }
     {

@@ -175,6 +175,7 @@ fn complement(sum: u16) -> u16
 
 // Returns `Checksum` of the canonical header: the number that makes the header's 16-bit words sum
 // to 0.
+#[tactic(auto, using(crate::proofs::HeadImageLemmas::checksum_from))]
 fn checksum_of(head: &VolumeHead<'_>) -> u16
     ensures { result ≡ checksum_of head.now (canonical_offset head.now head.now.ext) }
 {

@@ -1,13 +1,7 @@
 -- The type, the length and the body of a block of any type are the type, the length and the body in its bytes.
-use Rattle.std.proofs.lemmas.Grind.{common_steps}
-use Rattle.std.proofs.Common.{◌≡◌, ◌≤◌, ℕ, ◌+◌, ◌-◌, List, [], ◌∷◌, ◌++◌, length, drop, refl, sym, ap, ◌∙◌, arith, true, false}
-use Rattle.std.proofs.Common.{length-drop, drop-drop, append-nil}
-use Rattle.std.specs.Prelude.{◌==◌, slice_index}
-use Rattle.std.specs.List.{concat}
-use Rattle.std.proofs.lemmas.Bool.{eqb-true, leb-true}
-use Rattle.std.proofs.lemmas.List.{take-append-drop, drop_all, drop_more}
-use Rattle.fv_base.specs.Words.{IsBytes, field, le_at, le_bytes}
-use Rattle.fv_base.proofs.Laws.{field_is}
+use Rattle.std.proofs.Common.{◌≡◌, ◌≤◌, ℕ, ◌+◌, ◌-◌, [], ◌∷◌, ◌++◌, ◌==◌, List, length, drop, refl, sym, ap, ◌∙◌, arith, true, false, length-drop}
+use Rattle.std.proofs.Common.{drop-drop, append-nil, slice_index, eqb-true, leb-true, take-append-drop}
+use Rattle.fv_base.proofs.Laws.{common_steps, concat, drop_all, drop_more, IsBytes, field, le_at, le_bytes, field_is}
 use Rattle.fv_hob.specs.Words.{hob_type, has_shape, kind_by, hob_len, hob_fields}
 
 -- a type that `kind_by` does not name

@@ -2,15 +2,11 @@
 -- 1. A block has the type and the length that its bytes give (`code_is`, `len_is`).
 -- 2. If the checks hold, a block is there (`stands`), and if a block is there, they hold (`checks_hold`).
 -- 3. Bytes begin with at most one block (`one_block`).
-use Rattle.std.proofs.lemmas.Grind.{common_steps}
-use Rattle.std.proofs.Common.{◌≡◌, ◌≤◌, ◌<◌, ℕ, ◌+◌, List, ◌++◌, length, take, drop, refl, sym, ap, ◌∙◌, subst, arith, Bool, true, false}
-use Rattle.std.proofs.Common.{length-append}
-use Rattle.std.specs.Prelude.{◌==◌, ◌%◌, ◌||◌, not, nat_le, None}
-use Rattle.std.proofs.lemmas.Bool.{eqb-true, eq-eqb, leb-true, le-leb}
-use Rattle.std.proofs.lemmas.List.{take-append-drop, length-take-le}
-use Rattle.fv_base.specs.Words.{AllHold, IsBytes, le, le_at}
+use Rattle.std.proofs.Common.{◌≡◌, ◌≤◌, ◌<◌, ℕ, ◌+◌, ◌++◌, ◌==◌, ◌%◌, ◌||◌, List, length, take, drop, refl, sym, ap, ◌∙◌, subst, arith, Bool, true}
+use Rattle.std.proofs.Common.{false, length-append, not, nat_le, None, eqb-true, eq-eqb, leb-true, le-leb, take-append-drop, length-take-le}
+use Rattle.fv_base.proofs.Laws.{common_steps, AllHold, IsBytes, le, le_at, all_hold, and_join, and_split, bytes_take, field-append_front, field-take}
+use Rattle.fv_base.proofs.Laws.{same_cut, two_bytes}
 use Rattle.fv_base.specs.inner.Verdicts.{first_fault}
-use Rattle.fv_base.proofs.Laws.{all_hold, and_join, and_split, bytes_take, field-append_front, field-take, same_cut, two_bytes}
 use Rattle.fv_hob.specs.Words.{BeginsBlock, hob_checks, is_hob_len, HobForm, IsHob, hob_type, has_shape, hob_in, hob_len}
 use Rattle.fv_hob.proofs.BlockKindLemmas.{code_by, len_by}
 

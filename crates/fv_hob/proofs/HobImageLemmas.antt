@@ -3,21 +3,15 @@
 --    body, it is the same block (`zeroed`, `written_again`).
 -- 2. So the written blocks of a list are these blocks (`list_again`), and if no block is unused, the bytes are the same
 --    (`list_kept`).
-use Rattle.std.proofs.lemmas.Grind.{common_steps}
-use Rattle.std.proofs.Common.{◌≡◌, ◌≤◌, ℕ, zero, suc, ◌+◌, ◌-◌, List, [], ◌∷◌, ◌++◌, length, take, drop, refl, sym, ap, ◌∙◌, subst, arith}
-use Rattle.std.proofs.Common.{Bool, true, false, length-append, append-nil, append_assoc}
-use Rattle.std.specs.Prelude.{◌==◌, ◌%◌, replicate}
-use Rattle.std.specs.List.{AllByRecursion, concat}
-use Rattle.std.proofs.lemmas.Bool.{eqb-true}
-use Rattle.std.proofs.lemmas.List.{take-append-drop, length-take-le, length-replicate}
-use Rattle.std.proofs.Math.Seq.{take-add}
-use Rattle.fv_base.specs.Words.{IsBytes, field, le, le_at, le_bytes}
-use Rattle.fv_base.proofs.Laws.{bytes_append, bytes_take, field-append_front, field-take, field_is, not_equal}
-use Rattle.fv_hob.specs.Words.{HobForm, IsHob, hob_type, has_shape, kind_by, hob_len, hob_fields, hob_spelled, list_spelled, IsHobList}
-use Rattle.fv_hob.specs.Words.{IsUsedHob, JoinsHobs}
-use Rattle.fv_hob.specs.declared.hob.HobKind.TheVariants as kinds
+use Rattle.std.proofs.Common.{◌≡◌, ◌≤◌, ℕ, ◌+◌, ◌-◌, [], ◌∷◌, ◌++◌, ◌==◌, ◌%◌, zero, suc, List, length, take, drop, refl, sym, ap, ◌∙◌, subst, arith}
+use Rattle.std.proofs.Common.{Bool, true, false, length-append, append-nil, append_assoc, replicate, eqb-true, take-append-drop, length-take-le}
+use Rattle.fv_base.proofs.Laws.{common_steps, AllByRecursion, concat, length-replicate, take-add, IsBytes, field, le, le_at, le_bytes, bytes_append}
+use Rattle.fv_base.proofs.Laws.{bytes_take, field-append_front, field-take, field_is, not_equal}
+use Rattle.fv_hob.specs.Words.{HobForm, IsHob, hob_type, has_shape, kind_by, hob_len, hob_fields, hob_spelled, list_spelled, IsHobList, IsUsedHob}
+use Rattle.fv_hob.specs.Words.{JoinsHobs}
 use Rattle.fv_hob.proofs.HobCheckLemmas.{code_is, len_is}
 use Rattle.fv_hob.proofs.BlockKindLemmas.{body_by}
+use Rattle.fv_hob.specs.declared.hob.HobKind.TheVariants as kinds
 
 -- the header of a block is written as it was read
 header : (h : HobForm) (b x : List ℕ) → IsHob h b

@@ -1,8 +1,6 @@
 -- Bytes begin with at most one list of blocks.
-use Rattle.std.proofs.lemmas.Grind.{common_steps}
-use Rattle.std.proofs.Common.{◌≡◌, ℕ, List, [], ◌∷◌, ◌++◌, refl, sym, ap, ◌∙◌, arith, append_assoc}
-use Rattle.std.proofs.Common.{append-nil}
-use Rattle.std.specs.List.{AllByRecursion}
+use Rattle.std.proofs.Common.{◌≡◌, ℕ, [], ◌∷◌, ◌++◌, List, refl, sym, ap, ◌∙◌, arith, append_assoc, append-nil}
+use Rattle.fv_base.proofs.Laws.{common_steps, AllByRecursion}
 use Rattle.fv_hob.specs.Words.{HobForm, IsHob, hob_type, IsEndHob, IsHobList, IsNotEndHob, JoinsHobs}
 use Rattle.fv_hob.proofs.HobCheckLemmas.{one_block}
 

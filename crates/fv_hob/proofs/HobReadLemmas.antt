@@ -6,22 +6,16 @@
 --    OutOfMemory as its fault (`no_want`).
 -- 4. The fault of the next block is the first fault (`first_here`), and bytes with a first fault do not begin with a
 --    list (`none_after`).
-use Rattle.std.proofs.Common.{◌≡◌, ◌≤◌, ℕ, ◌+◌, List, [], ◌∷◌, ◌++◌, length, take, drop, refl, sym, ap, ◌∙◌, subst, arith, true}
-use Rattle.std.proofs.Common.{length-append, length-drop, append_assoc}
-use Rattle.std.specs.Prelude.{◌==◌, ◌≢◌, Bool}
-use Rattle.std.specs.List.{AllByRecursion}
-use Rattle.std.proofs.lemmas.Bool.{eqb-true}
-use Rattle.std.proofs.lemmas.List.{length-take-le, take-append-drop, take_at}
-use Rattle.std.proofs.Math.Seq.{take-add}
-use Rattle.fv_base.specs.Words.{IsFirstFault}
-use Rattle.fv_base.proofs.Laws.{first_among, none_faulty, not_first}
-use Rattle.fv_hob.specs.Words.{BeginsBlock, IsFirstHobFault, BeginsTable, hob_checks, HobForm, IsHob, hob_type, BeginWithTable, IsEndHob}
-use Rattle.fv_hob.specs.Words.{IsHobList, IsNotEndHob, JoinsHobs}
+use Rattle.std.proofs.Common.{◌≡◌, ◌≤◌, ℕ, ◌+◌, [], ◌∷◌, ◌++◌, ◌==◌, ◌≢◌, List, length, take, drop, refl, sym, ap, ◌∙◌, subst, arith, true}
+use Rattle.std.proofs.Common.{length-append, length-drop, append_assoc, Bool, eqb-true, length-take-le, take-append-drop, take_at}
+use Rattle.fv_base.proofs.Laws.{AllByRecursion, take-add, IsFirstFault, first_among, none_faulty, not_first}
+use Rattle.fv_hob.specs.Words.{BeginsBlock, IsFirstHobFault, BeginsTable, hob_checks, HobForm, IsHob, hob_type, BeginWithTable, IsEndHob, IsHobList}
+use Rattle.fv_hob.specs.Words.{IsNotEndHob, JoinsHobs}
 use Rattle.fv_hob.specs.declared.fault.HobFault.{HobFault}
 use Rattle.fv_hob.specs.declared.fault.HobFaultKind.{HobFaultKind}
-use Rattle.fv_hob.specs.declared.fault.HobFaultKind.TheVariants as kinds
 use Rattle.fv_hob.proofs.HobCheckLemmas.{checks_hold, code_is}
 use Rattle.fv_hob.proofs.HobListLemmas.{joins_more, others_more, same_front}
+use Rattle.fv_hob.specs.declared.fault.HobFaultKind.TheVariants as kinds
 
 -- the blocks that were read make up the bytes up to a place
 pub record HobsKept (b : List ℕ) (items : List HobForm) (at : ℕ) : Type 0 where

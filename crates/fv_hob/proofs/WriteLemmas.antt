@@ -1,9 +1,6 @@
 -- After one more field, block or span, the written bytes are the fields so far and the new ones.
-use Rattle.std.proofs.lemmas.Grind.{common_steps}
-use Rattle.std.proofs.Common.{◌≡◌, ◌<◌, ℕ, ◌+◌, List, [], ◌∷◌, ◌++◌, length, take, get_or, refl, sym, ap, ◌∙◌, append_assoc, append-nil, arith}
-use Rattle.std.specs.Prelude.{Option, None, Some}
-use Rattle.std.specs.List.{concat, cons_option}
-use Rattle.std.proofs.lemmas.List.{map-append, take_more}
+use Rattle.std.proofs.Common.{◌≡◌, ◌<◌, ℕ, ◌+◌, [], ◌∷◌, ◌++◌, List, length, take, get_or, refl, sym, ap, ◌∙◌, append_assoc, append-nil, arith}
+use Rattle.fv_base.proofs.Laws.{Option, None, Some, common_steps, concat, cons_option, map-append, take_more}
 use Rattle.std.proofs.lemmas.List.Folds.{concat-append}
 use Rattle.fv_hob.specs.Words.{HobForm, hob_spelled, list_spelled, span_of, spans_of}
 use Rattle.fv_hob.specs.declared.span.Span.{Span}

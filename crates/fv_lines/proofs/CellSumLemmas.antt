@@ -1,12 +1,8 @@
 -- The cells of a volume fit into it, each of their bytes is counted once, and an input that is rejected has no cells.
-use Rattle.std.proofs.Common.{◌≡◌, ◌∙◌, ◌≤◌, ◌<◌, ◌+◌, ◌^◌, ℕ, zero, suc, List, [], ◌∷◌, ◌++◌, length, take, drop, get_or}
-use Rattle.std.proofs.Common.{refl, sym, ap, subst, arith, length-append, length-drop}
-use Rattle.std.specs.Prelude.{◌⊎◌, ◌≢◌, map}
-use Rattle.std.specs.List.{AllByRecursion, sum_by}
-use Rattle.std.proofs.lemmas.List.{length-take-le, map-append, map_more, take-append-drop}
-use Rattle.std.proofs.lemmas.List.Sums.{sum_by-append, sum_by-cons, sum_by_push}
-use Rattle.fv_base.proofs.Laws.{or_more, want_known}
-use Rattle.fv_base.specs.Words.{out_of_memory, volume_limit}
+use Rattle.std.proofs.Common.{◌≡◌, ◌≤◌, ◌<◌, ◌+◌, ◌^◌, ℕ, [], ◌∷◌, ◌++◌, ◌⊎◌, ◌≢◌, ◌∙◌, zero, suc, List, length, take, drop, get_or, refl, sym, ap}
+use Rattle.fv_base.proofs.Laws.{subst, arith, length-append, length-drop, map, length-take-le, take-append-drop, AllByRecursion, map-append, map_more}
+use Rattle.fv_base.proofs.Laws.{sum_by-append, sum_by-cons, sum_by_push, or_more, want_known, out_of_memory, volume_limit}
+use Rattle.std.specs.List.{sum_by}
 use Rattle.fv_base.specs.declared.fault.Fault.{Fault}
 use Rattle.fv_base.specs.declared.flash.FileSystem.{FileSystem}
 use Rattle.fv_base.specs.declared.flash.Polarity.{Polarity}

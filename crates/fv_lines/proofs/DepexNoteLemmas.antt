@@ -1,12 +1,9 @@
 -- The notes about the dependency expressions of a volume.
-use Rattle.std.proofs.Common.{◌≡◌, ◌∙◌, ◌<◌, ◌+◌, inl, inr, ℕ, List, [], ◌∷◌, ◌++◌, length, take, get_or, arith}
-use Rattle.std.proofs.Common.{Some, refl, sym, ap, subst, append-nil}
-use Rattle.std.specs.List.{flat_map}
-use Rattle.std.proofs.lemmas.Grind.{common_steps, flat_map-append}
-use Rattle.fv_base.specs.Words.{WalkLaws}
+use Rattle.std.proofs.Common.{◌≡◌, ◌<◌, ◌+◌, ℕ, [], ◌∷◌, ◌++◌, ◌∙◌, inl, inr, List, length, take, get_or, arith, Some, refl, sym, ap, subst}
+use Rattle.fv_base.proofs.Laws.{append-nil, flat_map, common_steps, flat_map-append, WalkLaws}
 use Rattle.fv_base.specs.declared.guid.Guid.{Guid}
-use Rattle.fv_tree.specs.Words.{preorder, FileMeaning, File, Plain, Sectioned, SectionMeaning, Section, Leaf, Group, Nested, content_of}
-use Rattle.fv_tree.specs.Words.{file_name_of, body_of, leaf_of, section_kind_of, sections_in_data}
+use Rattle.fv_tree.specs.Words.{preorder, FileMeaning, File, Plain, Sectioned, SectionMeaning, Section, Leaf, Group, Nested, content_of, file_name_of}
+use Rattle.fv_tree.specs.Words.{body_of, leaf_of, section_kind_of, sections_in_data}
 use Rattle.fv_lines.specs.Words.{phase_of, read_by, section_depex, sections_depexes, file_depexes, HeldDepex, IsSpelled, IsNoted, AreNotes}
 use Rattle.fv_lines.specs.Words.{depex_line}
 use Rattle.fv_lines.specs.declared.depex_notes.DepexNote.{DepexNote}

@@ -1,8 +1,6 @@
 -- The text of a hand-off list: its lines are put in order, one for each block, and then the last line.
-use Rattle.std.proofs.Common.{◌≡◌, ℕ, ◌+◌, ◌<◌, ◌≤◌, List, ◌∷◌, ◌++◌, length, get_or, drop}
-use Rattle.std.proofs.Common.{refl, ◌∙◌, ap, subst}
-use Rattle.std.specs.Prelude.{Option}
-use Rattle.fv_base.specs.Words.{WalkLaws}
+use Rattle.std.proofs.Common.{◌≡◌, ℕ, ◌+◌, ◌<◌, ◌≤◌, ◌∷◌, ◌++◌, List, length, get_or, drop, refl, ◌∙◌, ap, subst, Option}
+use Rattle.fv_base.proofs.Laws.{WalkLaws}
 use Rattle.fv_hob.specs.Words.{HobForm, hob_type, hob_len}
 use Rattle.fv_lines.specs.Words.{MappedForm, HobLines, HobsText, IsWord, consumed_line, hob_line}
 use Rattle.fv_text.proofs.Laws.{Tells, tells_more, tells_all}

@@ -1,8 +1,6 @@
 -- The text of `list`: the pieces that the code puts are the parts of the text.
-use Rattle.std.proofs.Common.{◌≡◌, ℕ, ◌≤◌, List, [], ◌∷◌, ◌++◌, length, drop, refl, subst, arith}
-use Rattle.std.specs.Prelude.{Option, None, Some}
-use Rattle.std.specs.List.{flat_map}
-use Rattle.fv_base.specs.Words.{WalkLaws, words_of, le_at}
+use Rattle.std.proofs.Common.{◌≡◌, ℕ, ◌≤◌, [], ◌∷◌, ◌++◌, List, length, drop, refl, subst, arith, Option, None, Some}
+use Rattle.fv_base.proofs.Laws.{flat_map, WalkLaws, words_of, le_at}
 use Rattle.fv_rows.specs.Words.{TreeRow}
 use Rattle.fv_tree.specs.Words.{BodyMeaning, Leaf, Group, Nested, leaf_of}
 use Rattle.fv_lines.specs.Words.{unit_text, LeafText, BodyShown, DigestOf, NodeText}

@@ -1,11 +1,7 @@
 -- The number of a pad's bytes that are not erased.
-use Rattle.std.proofs.lemmas.Grind.{common_steps}
-use Rattle.std.proofs.Common.{◌≡◌, ◌<◌, ◌+◌, ℕ, List, length, take, get_or, true, refl, arith}
-use Rattle.std.specs.Prelude.{◌==◌}
-use Rattle.std.proofs.lemmas.Bool.Decides.{Decides-eqb}
+use Rattle.std.proofs.Common.{◌≡◌, ◌<◌, ◌+◌, ℕ, ◌==◌, List, length, take, get_or, true, refl, arith}
+use Rattle.fv_base.proofs.Laws.{common_steps, Decides-eqb, not_equal, erased_byte}
 use Rattle.std.proofs.lemmas.List.Sums.{count_by_more_no, count_by_more_yes}
-use Rattle.fv_base.proofs.Laws.{not_equal}
-use Rattle.fv_base.specs.Words.{erased_byte}
 use Rattle.fv_base.specs.declared.flash.Polarity.{Polarity}
 use Rattle.fv_lines.specs.Words.{written_in, pad_line, pad_text}
 

@@ -4,27 +4,21 @@
 -- 3. So the first entry with a name, if there is one, is the entry of the first file with this name (`found_there`,
 --    `found_none`).
 -- 4. A search by halves ends at the place of that entry (`Searched`).
-use Rattle.std.proofs.lemmas.Grind.{common_steps}
-use Rattle.std.proofs.Common.{◌≡◌, ◌≤◌, ◌<◌, ◌⊎◌, ℕ, ◌+◌, List, [], length, get_or, map, Bool, true, false, refl, sym, ap, ◌∙◌}
-use Rattle.std.proofs.Common.{subst, arith, inl, inr}
-use Rattle.std.specs.Prelude.{◌==◌, Some, None}
-use Rattle.std.specs.Bool.{Decides}
-use Rattle.std.specs.List.{All, Contains, IsDistinct, position, position_or_len, range_with_len}
-use Rattle.std.specs.Ordering.{is_lt}
-use Rattle.std.proofs.lemmas.Bool.{cases_lt, lt-ltb, le-ltb}
-use Rattle.std.proofs.lemmas.Bool.Decides.{Decides-eqb, not_from_Decides}
+use Rattle.std.proofs.Common.{◌≡◌, ◌≤◌, ◌<◌, ◌⊎◌, ℕ, ◌+◌, [], ◌==◌, List, length, get_or, map, Bool, true, false, refl, sym, ap, ◌∙◌, subst, arith}
+use Rattle.std.proofs.Common.{inl, inr, Some, None, lt-ltb, le-ltb}
+use Rattle.fv_base.proofs.Laws.{common_steps, Decides, All, Contains, position, position_or_len, range_with_len, is_lt, cases_lt, Decides-eqb}
+use Rattle.fv_base.proofs.Laws.{not_from_Decides, get_or-map, get_or_default, length-map, All-get_or, All-map, at_index, not_equal, first_only}
+use Rattle.std.specs.List.{IsDistinct}
 use Rattle.std.proofs.lemmas.Cmp.{nat_eq_equiv}
-use Rattle.std.proofs.lemmas.List.{get_or-map, get_or_default, length-map}
-use Rattle.std.proofs.lemmas.List.Elements.{All-get_or, All-map, All-same}
+use Rattle.std.proofs.lemmas.List.Elements.{All-same}
 use Rattle.std.proofs.lemmas.List.FromFn.{get_or-map-range_with_len, get_or-range_with_len, length-map-range_with_len, length-range_with_len}
 use Rattle.std.proofs.lemmas.List.Sorted.{All-permutation, Contains-permutation, IsPermutation-map, sorted_far}
 use Rattle.std.proofs.lemmas.List.Sums.{position_or_len_is}
 use Rattle.std.proofs.lemmas.Map.Keys.{apart_from_distinct, IsDistinct-IsPermutation, IsDistinct-from_apart}
 use Rattle.fv_base.specs.declared.guid.Guid.{Guid}
-use Rattle.fv_base.proofs.Laws.{at_index, not_equal, first_only}
 use Rattle.fv_names.specs.Words.{Entry, Halves, IsIndex, IsName, entry_cmp, halves_cmp, halves_of, numbered, NamedFile, is_name, IsOrder}
-use Rattle.fv_names.proofs.EntryOrderLaws.{before_too, less_orders, name_upto, neither_before, not_before_itself, not_before_too}
-use Rattle.fv_names.proofs.EntryOrderLaws.{numbers_rise, one_name_between}
+use Rattle.fv_names.proofs.EntryOrderLaws.{before_too, less_orders, name_upto, neither_before, not_before_itself, not_before_too, numbers_rise}
+use Rattle.fv_names.proofs.EntryOrderLaws.{one_name_between}
 use Rattle.fv_names.proofs.NumberedLaws.{names_decide, numbered_are, numbers_are}
 
 -- the file that is read past the end of the files; `no_entry` is read past the end of the entries

@@ -7,20 +7,14 @@
 -- 3. If there are no twins, a marked file is replaced exactly if its entry shares its name with a neighbour (`beside`,
 --    `replaced_back`).
 -- 4. If no entry shares its name, there are no twins, and no file is replaced (`apart_twins`, `none_replaced`).
-use Rattle.std.proofs.lemmas.Grind.{common_steps}
-use Rattle.std.proofs.Common.{◌≡◌, ◌≤◌, ◌<◌, ◌⊎◌, ℕ, zero, suc, ◌+◌, ◌-◌, List, [], ◌∷◌, length, take, get_or, map, Bool, true}
-use Rattle.std.proofs.Common.{false, refl, sym, ap, ◌∙◌, subst, arith, inl, inr}
-use Rattle.std.specs.Prelude.{◌&&◌, not}
-use Rattle.std.specs.Bool.{Decides, beq}
-use Rattle.std.specs.Cmp.{booleans_Decides}
-use Rattle.std.specs.List.{AllByRecursion, list_any}
-use Rattle.std.proofs.lemmas.Bool.{cases_lt}
-use Rattle.std.proofs.lemmas.Bool.Decides.{Decides-and, not_from_Decides}
-use Rattle.std.proofs.lemmas.List.{get_or_default, get_or-map, get_or-take, length-map, length-take-le, take_all}
-use Rattle.std.proofs.lemmas.List.Elements.{All-from_get_or, recursion_from_All}
-use Rattle.std.proofs.lemmas.List.Folds.{Any-from_list_any, list_any_at, list_any_none}
+use Rattle.std.proofs.Common.{◌≡◌, ◌≤◌, ◌<◌, ◌⊎◌, ℕ, ◌+◌, ◌-◌, [], ◌∷◌, ◌&&◌, zero, suc, List, length, take, get_or, map, Bool, true, false, refl}
+use Rattle.std.proofs.Common.{sym, ap, ◌∙◌, subst, arith, inl, inr, not, get_or-take, length-take-le, take_all}
+use Rattle.fv_base.proofs.Laws.{common_steps, Decides, beq, booleans_Decides, AllByRecursion, list_any, cases_lt, not_from_Decides, get_or_default}
+use Rattle.fv_base.proofs.Laws.{get_or-map, length-map, recursion_from_All, Any-from_list_any, list_any_at, at_index}
+use Rattle.std.proofs.lemmas.Bool.Decides.{Decides-and}
+use Rattle.std.proofs.lemmas.List.Elements.{All-from_get_or}
+use Rattle.std.proofs.lemmas.List.Folds.{list_any_none}
 use Rattle.fv_base.specs.declared.guid.Guid.{Guid}
-use Rattle.fv_base.proofs.Laws.{at_index}
 use Rattle.fv_names.specs.Words.{NamedFile, NoTwins, is_twin, names_in, replaced_by, same_name, NeighboursDiffer, Entry, IsIndex, IsName, halves_of}
 use Rattle.fv_names.specs.inner.NameOrders.{AreTwins, IsTwinAt, SharesItsName, mark_at}
 use Rattle.fv_names.proofs.IndexLaws.{between, beyond, no_named, of_name, place_of, upward}

@@ -4,10 +4,8 @@
 --    can begin at a start (`stands_dec`).
 -- 2. Among the numbers below a limit, there is a least one for which a decided statement is true, or none (`least_of`).
 -- 3. So files have first starts after an edge, or none (`follows`), and a first placement, or none (`placed_or_none`).
-use Rattle.std.proofs.Common.{◌≡◌, ◌≤◌, ◌<◌, ◌+◌, ◌-◌, ◌%◌, ◌⊎◌, ℕ, zero, suc, List, [], ◌∷◌, take, Bool, true, false, refl, ap, subst, inl, inr, arith}
-use Rattle.std.specs.Prelude.{get_or, IsTrue}
-use Rattle.std.proofs.lemmas.Bool.{cases_lt}
-use Rattle.fv_base.specs.Words.{up_to_8}
+use Rattle.std.proofs.Common.{◌≡◌, ◌≤◌, ◌<◌, ◌+◌, ◌-◌, ◌%◌, ◌⊎◌, ℕ, [], ◌∷◌, zero, suc, List, take, Bool, true, false, refl, ap, subst, inl, inr}
+use Rattle.fv_base.proofs.Laws.{arith, get_or, IsTrue, cases_lt, up_to_8}
 use Rattle.fv_placement.specs.Words.{HasNoRoom, IsMisaligned, TopMisaligned, IsFirstPlacement, Lawful, Placement, IsStartInVolume, StartsFollow}
 use Rattle.fv_placement.specs.declared.first_placement.PlacementItem.{PlacementItem}
 

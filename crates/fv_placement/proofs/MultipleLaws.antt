@@ -4,12 +4,10 @@
 -- 2. The multiples of the widened alignment are the common multiples of 8 and of the alignment.
 -- 3. Sums and differences of multiples of 8 are multiples of 8.
 -- 4. An edge is the next multiple of 8.
-use Rattle.std.proofs.lemmas.Grind.{common_steps}
-use Rattle.fv_base.specs.Words.{up_to_8}
-use Rattle.std.proofs.Common.{◌≡◌, ℕ, ◌+◌, ◌-◌, ◌*◌, ◌/◌, ◌%◌, ◌^◌, ◌<◌, ◌≤◌, inl, inr, sym, ◌∙◌, ap, subst, arith, suc}
+use Rattle.std.proofs.Common.{◌≡◌, ℕ, ◌+◌, ◌-◌, ◌*◌, ◌/◌, ◌%◌, ◌^◌, ◌<◌, ◌≤◌, inl, inr, sym, ◌∙◌, ap, subst, arith}
+use Rattle.fv_base.proofs.Laws.{common_steps, up_to_8, cases_lt}
 use Rattle.fv_placement.specs.inner.Reaches.{Widens}
 use Rattle.std.proofs.lemmas.Nat.{pow_below, div_below, mod-pow-add}
-use Rattle.std.proofs.lemmas.Bool.{cases_lt}
 use Rattle.std.proofs.Math.Nat.{mul-le-mul_left, mul-mod_right, mul-mod_left, mul_comm, div-add-mod, add-zero, add_right_cancel}
 
 -- ---- 1. apart

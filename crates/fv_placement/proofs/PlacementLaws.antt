@@ -5,11 +5,9 @@
 -- 3. Two first placements are equal.
 -- 4. Placing each file in turn at its first start gives such starts.
 -- 5. If a volume top file cannot begin at its only possible start, there is no placement.
-use Rattle.fv_base.specs.Words.{up_to_8}
-use Rattle.std.proofs.Common.{◌≡◌, ℕ, ◌+◌, ◌-◌, ◌%◌, ◌<◌, ◌≤◌, inl, inr, refl, sym, ◌∙◌, ap, subst, arith, List, [], ◌∷◌, ◌++◌, Bool}
-use Rattle.std.proofs.Common.{true, false, append_assoc, append-nil, length, get_or, take, drop, zero, suc, add-one}
-use Rattle.std.specs.Prelude.{IsTrue, MatchBool}
-use Rattle.std.proofs.lemmas.List.{drop_more, drop_all, take_more, take_all}
+use Rattle.std.proofs.Common.{◌≡◌, ℕ, ◌+◌, ◌-◌, ◌%◌, ◌<◌, ◌≤◌, [], ◌∷◌, ◌++◌, inl, inr, refl, sym, ◌∙◌, ap, subst, arith, List, Bool, true, false}
+use Rattle.std.proofs.Common.{append_assoc, append-nil, length, get_or, take, drop, zero, suc, add-one, IsTrue, MatchBool, take_all}
+use Rattle.fv_base.proofs.Laws.{up_to_8, drop_more, drop_all, take_more}
 use Rattle.fv_placement.specs.Words.{Lawful, StartsFollow, Placement, IsFirstPlacement, IsLeast, IsMisaligned, TopMisaligned}
 use Rattle.fv_placement.specs.declared.first_placement.PlacementItem.{PlacementItem}
 use Rattle.fv_placement.specs.declared.reach.Reach.{Reach}

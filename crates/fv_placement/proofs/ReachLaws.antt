@@ -7,13 +7,8 @@
 --    and the files after it.
 -- 4. Backwards: if a file has no usable start, the files cannot be placed.
 -- 5. Forwards: if the files can be placed, there is a usable start.
-use Rattle.std.proofs.lemmas.Grind.{common_steps}
-use Rattle.fv_base.specs.Words.{up_to_8}
-use Rattle.std.proofs.Common.{◌≡◌, ℕ, ◌+◌, ◌-◌, ◌%◌, ◌<◌, ◌≤◌, ◌⊎◌, inl, inr, refl, sym, ◌∙◌, ap, subst, arith, List, [], ◌∷◌, length}
-use Rattle.std.proofs.Common.{get_or, drop, zero, suc}
-use Rattle.std.proofs.lemmas.Bool.{cases_lt}
-use Rattle.std.specs.Prelude.{slice_set}
-use Rattle.std.proofs.lemmas.List.{drop_more, get_or-set_same, get_or-set_other}
+use Rattle.std.proofs.Common.{◌≡◌, ℕ, ◌+◌, ◌-◌, ◌%◌, ◌<◌, ◌≤◌, ◌⊎◌, [], ◌∷◌, inl, inr, refl, sym, ◌∙◌, ap, subst, arith, List, length, get_or, drop}
+use Rattle.fv_base.proofs.Laws.{zero, suc, slice_set, get_or-set_same, get_or-set_other, common_steps, up_to_8, cases_lt, drop_more}
 use Rattle.fv_placement.specs.Words.{Lawful, IsStartInVolume, StartsFollow}
 use Rattle.fv_placement.specs.declared.first_placement.PlacementItem.{PlacementItem}
 use Rattle.fv_placement.specs.declared.reach.Reach.{Reach}

@@ -4,11 +4,8 @@
 -- 2. Upwards: the least start that leaves room for a pad is lawful, and if it is not usable, a usable one is at least a
 --    step after it.
 -- 3. Downwards: if the greatest lawful start is not usable, the next lower one is.
-use Rattle.std.proofs.lemmas.Grind.{common_steps}
-use Rattle.fv_base.specs.Words.{up_to_8}
-use Rattle.std.proofs.Common.{◌≡◌, ℕ, ◌+◌, ◌-◌, ◌%◌, ◌<◌, ◌≤◌, inl, inr, sym, ◌∙◌, ap, subst, arith, Bool, true, false}
-use Rattle.std.specs.Prelude.{IsTrue}
-use Rattle.std.proofs.lemmas.Bool.{cases_lt}
+use Rattle.std.proofs.Common.{◌≡◌, ℕ, ◌+◌, ◌-◌, ◌%◌, ◌<◌, ◌≤◌, inl, inr, sym, ◌∙◌, ap, subst, arith, Bool, true, false, IsTrue}
+use Rattle.fv_base.proofs.Laws.{common_steps, up_to_8, cases_lt}
 use Rattle.std.proofs.Math.Nat.{mod_self, mod-eq-sub-mod}
 use Rattle.fv_placement.specs.Words.{Lawful}
 use Rattle.fv_placement.specs.declared.first_placement.PlacementItem.{PlacementItem}

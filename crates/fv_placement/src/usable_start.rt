@@ -16,6 +16,7 @@ use crate::reach::{Reach, is_usable_start};
 use fv_base::field::up_to_8;
 
 // Returns the greatest multiple of the alignment that is at most `x`.
+#[tactic(auto, using(crate::proofs::MultipleLaws::is_multiple, crate::proofs::MultipleLaws::none_between))]
 fn round_down(x: u64, alignment: u64) -> u64
     requires { 0 < alignment }
     ensures multiple { result % alignment ≡ 0 }
@@ -27,6 +28,7 @@ fn round_down(x: u64, alignment: u64) -> u64
 }
 
 // Returns the least multiple of the alignment that is at least `x`.
+#[tactic(auto, using(crate::proofs::MultipleLaws::none_between))]
 fn round_up(x: u64, alignment: u64) -> u64
     requires alignment { 0 < alignment }
     requires small { x + alignment < 2 ^ 62 }
@@ -39,6 +41,7 @@ fn round_up(x: u64, alignment: u64) -> u64
 }
 
 // Returns the step between lawful starts: the alignment of the data, but at least 8.
+#[tactic(auto, using(crate::proofs::MultipleLaws::widens_8, crate::proofs::MultipleLaws::widens_self))]
 fn widened(alignment: u64) -> u64
     requires { IsAlignment alignment }
     ensures { Widens result alignment }

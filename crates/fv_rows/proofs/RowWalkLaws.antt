@@ -4,19 +4,15 @@
 -- 2. The parts in a part nest only as deep as their level allows (`inside_nests`).
 -- 3. The innermost level is split from the others (`left_more`, `levels_more`, `levels_less`).
 -- 4. An empty level is dropped (`none_left`), and the walk takes the next row (`next_left`, `next_are`).
-use Rattle.std.proofs.Common.{◌≡◌, ◌∙◌, ◌≤◌, ◌<◌, ◌+◌, ◌*◌, ◌^◌, ℕ, List, [], ◌∷◌, ◌++◌, length, refl, sym, ap, subst}
-use Rattle.std.proofs.Common.{append-nil, append_assoc, arith, length-append}
-use Rattle.std.proofs.lemmas.List.{length-map}
-use Rattle.std.specs.Prelude.{map}
-use Rattle.std.specs.List.{AllByRecursion}
+use Rattle.std.proofs.Common.{◌≡◌, ◌≤◌, ◌<◌, ◌+◌, ◌*◌, ◌^◌, ℕ, [], ◌∷◌, ◌++◌, ◌∙◌, List, length, refl, sym, ap, subst, append-nil, append_assoc}
+use Rattle.fv_base.proofs.Laws.{arith, length-append, map, length-map, AllByRecursion}
 use Rattle.fv_section.specs.Words.{FrameForm}
-use Rattle.fv_tree.specs.Words.{FileForm, MeansFile, MeansSection, Stream, Meaning, Volume, FileMeanings, NoFiles, MoreFiles}
-use Rattle.fv_tree.specs.Words.{FileMeaning, File, Plain, Sectioned, SectionMeanings, NoSections, MoreSections, SectionMeaning}
-use Rattle.fv_tree.specs.Words.{Section, Leaf, Group, Nested, files_list, sections_from, sections_list}
+use Rattle.fv_tree.specs.Words.{FileForm, MeansFile, MeansSection, Stream, Meaning, Volume, FileMeanings, NoFiles, MoreFiles, FileMeaning, File}
+use Rattle.fv_tree.specs.Words.{Plain, Sectioned, SectionMeanings, NoSections, MoreSections, SectionMeaning, Section, Leaf, Group, Nested, files_list}
+use Rattle.fv_tree.specs.Words.{sections_from, sections_list}
 use Rattle.fv_tree.proofs.Laws.{nests_files, nests_content, nests_sections, nests_body, nests_group, nests_nested}
-use Rattle.fv_rows.specs.TreeRows.{NodeMeaning, VolumeNode, FileNode, SectionNode, rows_of_file}
-use Rattle.fv_rows.specs.TreeRows.{rows_of_files, rows_of_section, rows_of_sections, rows_of_volume}
-use Rattle.fv_rows.specs.TreeRows.{parts_in}
+use Rattle.fv_rows.specs.TreeRows.{NodeMeaning, VolumeNode, FileNode, SectionNode, rows_of_file, rows_of_files, rows_of_section, rows_of_sections}
+use Rattle.fv_rows.specs.TreeRows.{rows_of_volume, parts_in}
 use Rattle.fv_rows.specs.RowWalks.{nodes_of, nesting_inside, rows_inside, rows_of_nodes, left_in, NestsAt, FitsAt, AreLevels}
 use Rattle.fv_rows.specs.declared.tree_walk.Level.{Level}
 

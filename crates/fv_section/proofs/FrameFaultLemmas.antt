@@ -3,13 +3,10 @@
 --    (`frame_fails`).
 -- 2. A first fault is not before an offset up to which the stream splits into frames (`frame_later`), so a stream has
 --    one first fault (`one_frame_fault`).
-use Rattle.std.proofs.lemmas.Grind.{common_steps}
-use Rattle.std.proofs.Common.{◌≡◌, ◌≤◌, ◌<◌, ℕ, ◌+◌, ◌-◌, List, [], ◌∷◌, ◌++◌, length, take, drop, ap, subst, arith}
-use Rattle.std.proofs.lemmas.List.{take-append-drop, length-take-le}
-use Rattle.fv_base.specs.Words.{Any, First, IsFirstFault}
+use Rattle.std.proofs.Common.{◌≡◌, ◌≤◌, ◌<◌, ℕ, ◌+◌, ◌-◌, [], ◌∷◌, ◌++◌, List, length, take, drop, ap, subst, arith, take-append-drop, length-take-le}
+use Rattle.fv_base.proofs.Laws.{common_steps, Any, First, IsFirstFault, any_fails, first_among, one_fault, same_place, some_between, take_past}
 use Rattle.fv_base.specs.declared.fault.Fault.{Fault}
-use Rattle.fv_base.proofs.Laws.{any_fails, first_among, one_fault, same_place, some_between, take_past}
-use Rattle.fv_section.specs.Words.{FrameFault, IsFirstFrameFault, frame_checks, FrameForm, BeginsFrame, SplitsFrom, Splits, up_to_4}
+use Rattle.fv_section.specs.Words.{FrameFault, IsFirstFrameFault, frame_checks, FrameForm, BeginsFrame, SplitsFrom, Splits}
 use Rattle.fv_section.proofs.FrameLemmas.{begins_more, none_stands}
 use Rattle.fv_section.proofs.FrameWalkLemmas.{begins_of}
 use Rattle.fv_section.proofs.StreamLemmas.{cut}

@@ -4,20 +4,16 @@
 --    the bytes (`one_frame`).
 -- 3. The verdict is the frame (`verdict_stands`, `stands_verdict`), or the first fault of the checks (`verdict_first`).
 -- 4. If a check does not hold, no frame begins the bytes (`none_stands`).
-use Rattle.std.proofs.lemmas.Grind.{common_steps}
-use Rattle.std.proofs.Common.{◌≡◌, ◌≤◌, ◌<◌, ℕ, ◌+◌, ◌-◌, List, ◌++◌, length, take, drop, refl, sym, ap, ◌∙◌, subst, arith, Bool, true}
-use Rattle.std.proofs.Common.{false, length-append, length-drop, append_assoc, drop-drop}
-use Rattle.std.specs.Prelude.{◌==◌, slice_index, Result, Ok, Err}
-use Rattle.std.proofs.lemmas.Bool.{leb-true, le-leb, eqb-true, eqb-false, eq-eqb}
-use Rattle.std.proofs.lemmas.List.{take-append-drop, take_at, take_rest, drop_at, length-take-le, get_or-take}
-use Rattle.std.proofs.Math.ListN.{get_or-append}
-use Rattle.fv_base.specs.Words.{AllHold, IsFirstFault, Which, Fails, le, le_at}
+use Rattle.std.proofs.Common.{◌≡◌, ◌≤◌, ◌<◌, ℕ, ◌+◌, ◌-◌, ◌++◌, ◌==◌, List, length, take, drop, refl, sym, ap, ◌∙◌, subst, arith, Bool, true, false}
+use Rattle.std.proofs.Common.{length-append, length-drop, append_assoc, drop-drop, slice_index, Result, Ok, Err, leb-true, le-leb, eqb-true, eq-eqb}
+use Rattle.std.proofs.Common.{take-append-drop, take_at, drop_at, length-take-le, get_or-take}
+use Rattle.fv_base.proofs.Laws.{common_steps, eqb-false, get_or-append, AllHold, IsFirstFault, Which, Fails, le, le_at, all_hold, and_join, and_split}
+use Rattle.fv_base.proofs.Laws.{field-append_front, field-take, first_is, none_faulty, not_equal, none_fails, verdict_err, verdict_none, verdict_ok}
+use Rattle.std.proofs.lemmas.List.{take_rest}
 use Rattle.fv_base.specs.declared.fault.Fault.{Fault}
 use Rattle.fv_base.specs.inner.Verdicts.{first_fault}
-use Rattle.fv_base.proofs.Laws.{all_hold, and_join, and_split, field-append_front, field-take, first_is, none_faulty, not_equal}
-use Rattle.fv_base.proofs.Laws.{none_fails, verdict_err, verdict_none, verdict_ok}
-use Rattle.fv_section.specs.Words.{has_extended_size, section_header_len_at, section_size_in, section_size_at, frame_checks, frame_in}
-use Rattle.fv_section.specs.Words.{HasFrameAt, FrameForm, BeginsFrame, StatesSize, section_header_len, frame_len}
+use Rattle.fv_section.specs.Words.{has_extended_size, section_header_len_at, section_size_in, section_size_at, frame_checks, frame_in, HasFrameAt}
+use Rattle.fv_section.specs.Words.{FrameForm, BeginsFrame, StatesSize, section_header_len, frame_len}
 use Rattle.fv_section.specs.inner.FrameVerdicts.{frame_verdict}
 
 pub head_least : (extended : Bool) → 4 ≤ section_header_len extended

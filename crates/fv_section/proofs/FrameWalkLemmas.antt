@@ -6,16 +6,12 @@
 -- 3. If a check fails, the stream does not split (`none_after`). The frames of a split lie in the stream
 --    (`whole_within`, `split_stands`).
 -- 4. A walk reads the frames of the split one by one (`walk_meets`, `walk_begins`).
-use Rattle.std.proofs.lemmas.Grind.{common_steps}
-use Rattle.std.proofs.Common.{◌≡◌, ℕ, zero, suc, ◌+◌, ◌-◌, ◌<◌, ◌≤◌, min, List, [], ◌∷◌, ◌++◌, length, take, drop, refl, sym, ap, ◌∙◌}
-use Rattle.std.proofs.Common.{subst, arith, length-append, length-take, length-drop, append_assoc, drop-drop}
-use Rattle.std.specs.List.{AllByRecursion}
-use Rattle.std.proofs.lemmas.List.{take-append-drop, take_all, drop_at}
-use Rattle.std.proofs.Math.Seq.{take-add, take-append-add}
-use Rattle.fv_base.specs.Words.{IsFirstFault, Which}
+use Rattle.std.proofs.Common.{◌≡◌, ℕ, ◌+◌, ◌-◌, ◌<◌, ◌≤◌, [], ◌∷◌, ◌++◌, zero, suc, min, List, length, take, drop, refl, sym, ap, ◌∙◌, subst, arith}
+use Rattle.std.proofs.Common.{length-append, length-take, length-drop, append_assoc, drop-drop, take-append-drop, take_all, drop_at}
+use Rattle.fv_base.proofs.Laws.{common_steps, AllByRecursion, take-add, take-append-add, IsFirstFault, Which}
 use Rattle.fv_base.specs.declared.fault.Fault.{Fault}
-use Rattle.fv_section.specs.Words.{FrameForm, BeginsFrame, Splits, SplitsFrom, frame_len, up_to_4, HasFrameAt, FramesWithin, frame_in}
-use Rattle.fv_section.specs.Words.{frames_from, offset_after, HasFrames, frame_checks, FrameFault, IsFirstFrameFault}
+use Rattle.fv_section.specs.Words.{FrameForm, BeginsFrame, Splits, SplitsFrom, frame_len, up_to_4, HasFrameAt, FramesWithin, frame_in, frames_from}
+use Rattle.fv_section.specs.Words.{offset_after, HasFrames, frame_checks, FrameFault, IsFirstFrameFault}
 use Rattle.fv_section.proofs.FrameLemmas.{length_begun, frame_reads, none_stands}
 use Rattle.fv_section.proofs.StreamLemmas.{cut, from_least, one_more}
 

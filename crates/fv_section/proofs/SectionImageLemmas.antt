@@ -1,11 +1,7 @@
 -- Frames that are written one after another are read again as the same frames.
-use Rattle.std.proofs.lemmas.Grind.{common_steps}
-use Rattle.std.proofs.Common.{◌≡◌, ℕ, ◌+◌, ◌-◌, ◌*◌, ◌/◌, ◌%◌, List, [], ◌∷◌, ◌++◌, length, refl, arith, Bool, true, false}
-use Rattle.std.specs.Prelude.{replicate}
-use Rattle.std.proofs.lemmas.List.{length-replicate}
-use Rattle.fv_base.proofs.Laws.{le-le_bytes}
-use Rattle.fv_section.specs.Words.{FrameForm, BeginsFrame, IsSectionHeader, frame_len, up_to_4, FitsForm, StreamsAreRead, section_head_of}
-use Rattle.fv_section.specs.Words.{stream_of}
+use Rattle.std.proofs.Common.{◌≡◌, ℕ, ◌+◌, ◌-◌, ◌*◌, ◌/◌, ◌%◌, [], ◌∷◌, ◌++◌, List, length, refl, arith, Bool, true, false, replicate}
+use Rattle.fv_base.proofs.Laws.{common_steps, length-replicate, le-le_bytes}
+use Rattle.fv_section.specs.Words.{FrameForm, BeginsFrame, IsSectionHeader, frame_len, up_to_4, FitsForm, StreamsAreRead, section_head_of, stream_of}
 
 -- a header that is written has its form, its type and its size
 pub head_is : (kind : ℕ) (extended : Bool) (n : ℕ) → FitsForm extended n → IsSectionHeader extended kind n (section_head_of kind extended n)

@@ -1,13 +1,7 @@
 -- A test decides whether bytes are a text, whose last 16-bit unit is zero.
-use Rattle.std.proofs.lemmas.Grind.{common_steps}
-use Rattle.std.proofs.Common.{◌≡◌, ◌≢◌, ◌≤◌, ℕ, ◌+◌, ◌-◌, ◌%◌, List, [], ◌∷◌, ◌++◌, length, take, drop, refl, sym, ap, ◌∙◌, subst, arith}
-use Rattle.std.proofs.Common.{true, false, length-append, length-drop}
-use Rattle.std.specs.Prelude.{◌==◌, not}
-use Rattle.std.specs.List.{AllByRecursion}
-use Rattle.std.proofs.lemmas.Bool.{eqb-true, eq-eqb, leb-true, le-leb}
-use Rattle.std.proofs.lemmas.List.{take-append-drop, take_at, drop_at, length-take-le}
-use Rattle.fv_base.specs.Words.{words_of, le}
-use Rattle.fv_base.proofs.Laws.{and_join, and_split, not_equal}
+use Rattle.std.proofs.Common.{◌≡◌, ◌≢◌, ◌≤◌, ℕ, ◌+◌, ◌-◌, ◌%◌, [], ◌∷◌, ◌++◌, ◌==◌, List, length, take, drop, refl, sym, ap, ◌∙◌, subst, arith, true}
+use Rattle.std.proofs.Common.{false, length-append, length-drop, not, eqb-true, eq-eqb, leb-true, le-leb, take-append-drop, take_at, drop_at}
+use Rattle.fv_base.proofs.Laws.{length-take-le, common_steps, AllByRecursion, words_of, le, and_join, and_split, not_equal}
 use Rattle.fv_section.specs.Words.{IsText, IsVersion}
 use Rattle.fv_section.specs.inner.FrameVerdicts.{none_zero, is_text}
 

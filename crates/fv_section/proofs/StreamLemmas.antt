@@ -5,13 +5,10 @@
 -- 4. Frames up to a multiple of 4, and one more frame, are a stream (`one_more`).
 -- 5. The tail of a stream has at most 3 bytes (`tail_small`).
 -- 6. The parts of a frame in bytes are bytes (`begun_bytes`), and the body fits the form of the header (`fits`).
-use Rattle.std.proofs.Common.{◌≡◌, ℕ, ◌+◌, ◌<◌, ◌≤◌, List, [], ◌∷◌, ◌++◌, length, refl, sym, ap, ◌∙◌, subst, arith, length-append}
-use Rattle.std.proofs.Common.{append_assoc, ◌≢◌, Bool, true, false, drop, length-drop}
-use Rattle.std.proofs.lemmas.List.{length-take-le}
-use Rattle.fv_base.specs.Words.{IsBytes, field, le_at}
-use Rattle.fv_base.proofs.Laws.{same_cut, bytes_back, bytes_drop, bytes_front, bytes_take, le_below}
-use Rattle.fv_section.specs.Words.{FrameForm, BeginsFrame, SplitsFrom, frame_len, up_to_4, IsSectionHeader, StatesSize, section_header_len}
-use Rattle.fv_section.specs.Words.{FitsForm}
+use Rattle.std.proofs.Common.{◌≡◌, ℕ, ◌+◌, ◌<◌, ◌≤◌, [], ◌∷◌, ◌++◌, ◌≢◌, List, length, refl, sym, ap, ◌∙◌, subst, arith, length-append, append_assoc}
+use Rattle.std.proofs.Common.{Bool, true, false, drop, length-drop, length-take-le}
+use Rattle.fv_base.proofs.Laws.{IsBytes, field, same_cut, bytes_back, bytes_drop, bytes_front, bytes_take, le_below}
+use Rattle.fv_section.specs.Words.{FrameForm, BeginsFrame, SplitsFrom, frame_len, up_to_4, IsSectionHeader, StatesSize, section_header_len, FitsForm}
 use Rattle.fv_section.proofs.FrameLemmas.{length_begun, size_least, one_frame, begins_more}
 
 -- a stream with a frame has at least 4 bytes

@@ -1,8 +1,6 @@
 -- A buffer holds the bytes that were put into it, and is unchanged after them.
-use Rattle.std.proofs.Common.{◌≡◌, ◌∙◌, ◌⊎◌, ℕ, ◌+◌, ◌-◌, ◌<◌, ◌≤◌, List, [], ◌++◌, length, min, take, drop, ap, sym, inl, inr, arith}
-use Rattle.std.proofs.lemmas.Bool.{cases_lt}
-use Rattle.std.proofs.lemmas.List.{drop-drop, take-append-drop, take_all}
-use Rattle.std.proofs.Math.ListN.{drop_of_length-le}
+use Rattle.std.proofs.Common.{◌≡◌, ◌⊎◌, ℕ, ◌+◌, ◌-◌, ◌<◌, ◌≤◌, [], ◌++◌, ◌∙◌, List, length, min, take, drop, ap, sym, inl, inr, arith, drop-drop}
+use Rattle.fv_base.proofs.Laws.{take-append-drop, take_all, cases_lt, drop_of_length-le}
 use Rattle.fv_sinks.specs.Words.{buffer_name, taken_in, rest_in, BufferTakes}
 use Rattle.fv_sinks.specs.declared.buffer_sink.BufferSink.{BufferSink}
 

@@ -1,16 +1,11 @@
 -- Hexadecimal text is decoded in parts: each two digits spell a byte, and a text with another character spells nothing.
-use Rattle.std.proofs.lemmas.Grind.{common_steps}
-use Rattle.std.proofs.Common.{◌≡◌, ◌<◌, ◌≤◌, ◌⊎◌, ⊎_elim, ℕ, zero, suc, ◌+◌, ◌*◌, ◌%◌, List, [], ◌∷◌, ◌++◌, length, take, drop, map, Option}
-use Rattle.std.proofs.Common.{refl, sym, ap, ◌∙◌, subst, append_assoc, append-nil, arith, length-append, drop-drop}
-use Rattle.std.specs.Prelude.{max}
-use Rattle.std.specs.Prelude.{Some}
-use Rattle.std.specs.List.{All}
-use Rattle.std.specs.Option.{unwrap_or}
+use Rattle.std.proofs.Common.{◌≡◌, ◌<◌, ◌≤◌, ◌⊎◌, ℕ, ◌+◌, ◌*◌, ◌%◌, [], ◌∷◌, ◌++◌, ⊎_elim, zero, suc, List, length, take, drop, map, Option, refl}
+use Rattle.std.proofs.Common.{sym, ap, ◌∙◌, subst, append_assoc, append-nil, arith, length-append, drop-drop, max, Some, drop-set-lt, get_or-drop}
+use Rattle.std.proofs.Common.{get_or-take, length-take-le, take_all}
+use Rattle.fv_base.proofs.Laws.{common_steps, All, unwrap_or, get_or, set, take-append_seam, map-append, take_more, take_more_set, All-head, All-tail}
 use Rattle.std.specs.Simd.{first_chunks}
-use Rattle.std.proofs.Math.ListN.{get_or, set}
-use Rattle.std.proofs.Math.Seq.{drop-length, take-append_seam}
-use Rattle.std.proofs.lemmas.List.{drop-set-lt, get_or-drop, get_or-take, length-take-le, map-append, take_all, take_more, take_more_set}
-use Rattle.std.proofs.lemmas.List.Elements.{All-cons, All-head, All-nil, All-pop, All-push, All-tail}
+use Rattle.std.proofs.Math.Seq.{drop-length}
+use Rattle.std.proofs.lemmas.List.Elements.{All-cons, All-nil, All-pop, All-push}
 use Rattle.hex.specs.Hex.{hex_digit_value}
 use Rattle.fv_text.specs.inner.HexDecoding.{IsNibble, SpellsNothing, joined_pairs, value_or_16}
 use Rattle.fv_text.specs.Words.{IsPair, DigitsSpell}

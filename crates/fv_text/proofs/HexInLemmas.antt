@@ -1,12 +1,8 @@
 -- After each piece of text, a decoder holds the bytes that the text so far spells and at most one digit that waits,
 -- unless the text is wrong or spells too many bytes. At the end, this decides whether the text is accepted.
-use Rattle.std.proofs.lemmas.Grind.{common_steps}
-use Rattle.std.proofs.Common.{◌≡◌, ◌<◌, ◌≤◌, ◌⊎◌, inl, inr, List, [], ◌∷◌, ℕ, ◌+◌, ◌/◌, ◌++◌, Bool, true, false, not}
-use Rattle.std.proofs.Common.{refl, sym, ap, subst, ◌∙◌, append_assoc, append-nil, length-append, arith}
-use Rattle.std.specs.Prelude.{◌==◌, length}
-use Rattle.std.proofs.lemmas.Bool.Decides.{Decides-eqb, nat_tests}
-use Rattle.fv_base.specs.Words.{volume_limit}
-use Rattle.fv_base.proofs.Laws.{up_is_not_down}
+use Rattle.std.proofs.Common.{◌≡◌, ◌<◌, ◌≤◌, ◌⊎◌, [], ◌∷◌, ℕ, ◌+◌, ◌/◌, ◌++◌, ◌==◌, inl, inr, List, Bool, true, false, not, refl, sym, ap, subst, ◌∙◌}
+use Rattle.std.proofs.Common.{append_assoc, append-nil, length-append, arith, length}
+use Rattle.fv_base.proofs.Laws.{common_steps, Decides-eqb, nat_tests, volume_limit, up_is_not_down}
 use Rattle.fv_text.specs.Words.{IsNotDigitPairs, DigitsSpell, squeezed}
 use Rattle.fv_text.specs.declared.hex_text.Decoder.{Decoder}
 use Rattle.fv_text.specs.inner.HexDecoding.{AddsDigits, Decodes, DecodesPairs, HoldsDigits, SpellsNothing}

@@ -1,7 +1,6 @@
 -- A sink of lines has put the hexadecimal text of the bytes that it took, once its last line is put.
-use Rattle.std.proofs.Common.{◌≡◌, ◌∙◌, ◌<◌, ℕ, List, [], ◌++◌, length}
-use Rattle.std.proofs.Common.{refl, ap, sym}
-use Rattle.fv_base.specs.Words.{WalkLaws}
+use Rattle.std.proofs.Common.{◌≡◌, ◌<◌, ℕ, [], ◌++◌, ◌∙◌, List, length, refl, ap, sym}
+use Rattle.fv_base.proofs.Laws.{WalkLaws}
 use Rattle.fv_text.specs.Words.{IsHexText, last_text, lines_text, Lined}
 
 -- a sink of lines that had gathered nothing took the bytes, and then its last line was put, so their text was put

@@ -1,12 +1,6 @@
 -- The texts of some items, put one after the other, are the text of all of them.
-use Rattle.std.proofs.Common.{ℕ, ◌+◌, ◌<◌, ◌≤◌, List, [], ◌∷◌, ◌++◌, length, drop, get_or}
-use Rattle.std.proofs.Common.{◌≡◌, ◌∙◌, sym, ap, subst, take, append_assoc, append-nil}
-use Rattle.std.specs.Prelude.{map}
-use Rattle.std.specs.List.{flat_map}
-use Rattle.std.proofs.lemmas.Grind.{flat_map-append}
-use Rattle.std.proofs.lemmas.List.{map_more, take_more}
-use Rattle.std.proofs.lemmas.List.{drop_more, drop_all}
-use Rattle.fv_base.specs.Words.{WalkLaws}
+use Rattle.std.proofs.Common.{ℕ, ◌+◌, ◌<◌, ◌≤◌, [], ◌∷◌, ◌++◌, ◌≡◌, List, length, drop, get_or, ◌∙◌, sym, ap, subst, take, append_assoc, append-nil}
+use Rattle.fv_base.proofs.Laws.{map, flat_map, flat_map-append, map_more, take_more, drop_more, drop_all, WalkLaws}
 
 -- a sink took the texts of the first i items, and the text of the others completes the text of all; in `Text n xs
 -- text`, the first item has the number n

@@ -1,13 +1,8 @@
 -- Text is put into a room without its white space, character by character or in windows of 16 bytes.
-use Rattle.std.proofs.lemmas.Grind.{common_steps}
-use Rattle.std.proofs.Common.{◌≡◌, ◌<◌, ◌≤◌, ℕ, ◌+◌, ◌-◌, ◌*◌, List, [], ◌∷◌, ◌++◌, length, take, drop, Bool, true, false}
-use Rattle.std.proofs.Common.{refl, sym, ap, ◌∙◌, append_assoc, append-nil, arith}
-use Rattle.std.specs.Prelude.{if◌then◌else◌}
-use Rattle.std.specs.List.{All}
-use Rattle.std.proofs.Math.ListN.{get_or, set}
-use Rattle.std.proofs.Math.Seq.{take-add}
-use Rattle.std.proofs.lemmas.List.{take_more, take_more_set, take-append-drop, take-set}
-use Rattle.std.proofs.lemmas.List.Elements.{All-head, All-tail}
+use Rattle.std.proofs.Common.{◌≡◌, ◌<◌, ◌≤◌, ℕ, ◌+◌, ◌-◌, ◌*◌, [], ◌∷◌, ◌++◌, if◌then◌else◌, List, length, take, drop, Bool, true, false, refl, sym}
+use Rattle.std.proofs.Common.{ap, ◌∙◌, append_assoc, append-nil, arith, take-append-drop}
+use Rattle.fv_base.proofs.Laws.{common_steps, All, get_or, set, take-add, take_more, take_more_set, All-head, All-tail}
+use Rattle.std.proofs.lemmas.List.{take-set}
 use Rattle.fv_text.specs.Words.{is_space, squeezed}
 
 pub squeezed_more : (a b : List ℕ) → squeezed (a ++ b) ≡ squeezed a ++ squeezed b

@@ -60,6 +60,7 @@ impl<S: Sink> GatheringSink<S> {
 
     // Puts the waiting bytes into the sink below, and then these bytes.
     #[inline(never)]
+    #[tactic(auto, using(crate::proofs::GatheringLemmas::passed_on))]
     fn pass_on(&mut self, bytes: &[u8])
         ensures { GatheringTakes S.takes (λ s. s.below) (λ s. take s.filled s.room) self.old bytes.now self.new }
     {

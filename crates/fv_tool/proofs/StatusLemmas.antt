@@ -1,9 +1,6 @@
 -- The run of a plan does not end with the status of wrong arguments (`never_wrong`).
-use Rattle.std.proofs.Common.{◌≡◌, ◌∙◌, ℕ, List, ap, Bool, true, false, cond, inl, inr, subst, sym}
-use Rattle.std.specs.Prelude.{Option, None, Some}
-use Rattle.fv_base.specs.Words.{has_erred, inner_of}
-use Rattle.fv_base.specs.declared.port.Port.{Port}
-use Rattle.fv_text.specs.Words.{Change, Ports, port_view, view_of}
+use Rattle.std.proofs.Common.{◌≡◌, ℕ, ◌∙◌, List, Bool, true, false, cond, inl, inr, subst, sym, Option, None, Some}
+use Rattle.fv_text.specs.Words.{Change, Ports}
 use Rattle.fv_command.specs.Words.{HasText, Runs, RunsOver, CommandRunText, fresh, PartText, TaskText}
 use Rattle.fv_command.specs.declared.ending.Ending.{Ending}
 use Rattle.fv_command.specs.declared.ending.Refusal.{Refusal}
@@ -15,8 +12,8 @@ use Rattle.fv_plan.specs.declared.plan.Command.{Command}
 use Rattle.fv_plan.specs.declared.plan.Plan.{Plan}
 use Rattle.fv_plan.specs.declared.plan.Task.{Task}
 use Rattle.fv_plan.specs.declared.plan.Command.TheVariants.{Single, Hobs, Compare}
-use Rattle.fv_plan.specs.declared.plan.Task.TheVariants.{Normalise, NormaliseAll, List as Listing, ListSums, Extract, Check}
-use Rattle.fv_plan.specs.declared.plan.Task.TheVariants.{CheckAll, Cells, Unfix, Scan}
+use Rattle.fv_plan.specs.declared.plan.Task.TheVariants.{Normalise, NormaliseAll, List as Listing, ListSums, Extract, Check, CheckAll, Cells, Unfix}
+use Rattle.fv_plan.specs.declared.plan.Task.TheVariants.{Scan}
 
 part_not_wrong : (hex : Bool) (x : Extraction) (text : List ℕ) → PartText hex x WrongArguments text → ⊥
 part_not_wrong hex (Made bytes) text said = said
@@ -69,8 +66,3 @@ never_wrong of_input of_file opens is_standard p ended output (first, second, is
       second = record { old = fresh of_input of_file second; new = s' };
       output = output;
     }) ran is
-
--- a new port shows the bytes of its inner reader or writer, and no error
-pub shown_new : {T : Type 0} (known_bytes : T → Option (List ℕ)) (port : Port T) (inner : T) → inner_of port ≡ inner → has_erred port ≡ false
-    → view_of known_bytes port ≡ port_view (known_bytes inner) false
-shown_new known_bytes port inner is fine = ap (λ e. port_view (known_bytes (inner_of port)) e) fine ∙ ap (λ x. port_view (known_bytes x) false) is

@@ -1,22 +1,15 @@
 -- The files of a volume are the files of its cells.
-use Rattle.std.proofs.lemmas.Grind.{common_steps}
-use Rattle.std.proofs.Common.{◌≡◌, ◌≤◌, ◌<◌, ℕ, ◌+◌, ◌^◌, List, [], ◌∷◌, ◌++◌, length, drop, sym, ap}
-use Rattle.std.proofs.Common.{◌∙◌, subst, arith, length-append}
-use Rattle.std.specs.Prelude.{not}
-use Rattle.std.specs.List.{list_any}
-use Rattle.fv_base.specs.Words.{First, volume_limit, IsBytes}
+use Rattle.std.proofs.Common.{◌≡◌, ◌≤◌, ◌<◌, ℕ, ◌+◌, ◌^◌, [], ◌∷◌, ◌++◌, List, length, drop, sym, ap, ◌∙◌, subst, arith, length-append, not}
+use Rattle.fv_base.proofs.Laws.{length-drop, common_steps, list_any, First, volume_limit, IsBytes, all_filter, bytes_back, bytes_drop, bytes_front}
 use Rattle.fv_base.specs.declared.fault.Fault.{Fault}
 use Rattle.fv_base.specs.declared.flash.FileSystem.{FileSystem}
 use Rattle.fv_base.specs.declared.flash.Polarity.{Polarity}
 use Rattle.fv_base.specs.declared.fault.Place.{Place}
-use Rattle.fv_base.proofs.Laws.{all_filter, bytes_back, bytes_drop, bytes_front}
-use Rattle.std.proofs.lemmas.List.{length-drop}
 use Rattle.fv_file.specs.Words.{CellForm, Valid, Pad, Dead, Stub, Free, Tiles, IsCell, offset_of, CellsWithin, LengthsAgree, cell_len}
 use Rattle.fv_file.proofs.Laws.{cell_span}
 use Rattle.fv_head.specs.declared.extent.Extent.{Extent}
 use Rattle.fv_tree.specs.inner.ReadingParts.{IsReadyFile, AllStored}
-use Rattle.fv_tree.specs.Words.{AreFilesOf, Stream, MeansFile, FileForm, files_in, AreCurrent, replaced_by, Faulty, FileFault, BodyFault}
-use Rattle.fv_tree.specs.Words.{OneOf}
+use Rattle.fv_tree.specs.Words.{AreFilesOf, Stream, MeansFile, FileForm, files_in, AreCurrent, replaced_by, Faulty, FileFault, BodyFault, OneOf}
 
 -- ---- the files that are stored in a volume
 

@@ -1,11 +1,11 @@
--- The contents of a part that was read nest one level less deep than the part. The volumes in a section and in a file
--- are the volumes in their contents.
+-- The contents of a part that was read nest one level less deep than the part. The volumes in a section are the
+-- volumes in its body.
 use Rattle.std.proofs.Common.{◌≡◌, ℕ, zero, suc, List, [], ◌∷◌, refl}
 use Rattle.std.specs.List.{AllByRecursion}
 use Rattle.fv_section.specs.Words.{FrameForm}
 use Rattle.fv_tree.specs.Words.{MeansFile, MeansSection, Pairwise, Stream, Meaning, Volume, FileMeanings, files_list, FileMeaning, File}
 use Rattle.fv_tree.specs.Words.{content_of, Sectioned, SectionMeanings, SectionMeaning, Section, Group, Nested, sections_list, body_of}
-use Rattle.fv_tree.specs.Words.{FileForm, deeper, volumes_in_body, volumes_in_content, volumes_in_file, volumes_in_section}
+use Rattle.fv_tree.specs.Words.{FileForm, deeper, volumes_in_body, volumes_in_section}
 use Rattle.fv_head.specs.Words.{HeadFields}
 use Rattle.fv_tree.specs.inner.NestingDepths.{NestsVolume, NestsFiles, NestsContent, NestsSections, NestsBody}
 
@@ -49,6 +49,3 @@ nests_nested m (suc k) (f, kind, extended, (a, b, (c, opens, volume))) = (k, ref
 
 pub in_section : (s : SectionMeaning) → volumes_in_section s ≡ deeper (volumes_in_body (body_of s))
 in_section (Section kind extended body) = refl
-
-pub in_file : (f : FileMeaning) → volumes_in_file f ≡ volumes_in_content (content_of f)
-in_file (File name kind attributes content) = refl

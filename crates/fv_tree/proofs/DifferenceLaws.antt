@@ -7,27 +7,18 @@
 -- 3. By induction on the meaning, two volumes without a difference are equal (`one_volume`).
 -- 4. Conversely, a field does not differ from itself (`bytes_same` and the lemmas after it), and so a meaning does not
 --    differ from itself (`no_difference`).
-use Rattle.std.proofs.lemmas.Grind.{common_steps}
-use Rattle.std.proofs.Common.{◌≡◌, ℕ, ◌+◌, List, [], ◌∷◌, refl, ap, ◌∙◌, Bool, true, false, Option, Some, None, arith}
-use Rattle.std.specs.Prelude.{◌==◌, ◌&&◌}
-use Rattle.std.specs.Option.{option_or}
-use Rattle.std.specs.Bool.{beq}
-use Rattle.std.specs.Cmp.{booleans_Decides}
-use Rattle.std.specs.Str.{bytes_eq}
-use Rattle.fv_base.proofs.Laws.{and_split}
-use Rattle.std.proofs.lemmas.Bool.Decides.{Decides-eqb}
-use Rattle.std.proofs.lemmas.Slice.Eq.{bytes_eq-Decides}
-use Rattle.fv_base.specs.Words.{bytes_of}
+use Rattle.std.proofs.Common.{◌≡◌, ℕ, ◌+◌, [], ◌∷◌, ◌==◌, ◌&&◌, List, refl, ap, ◌∙◌, Bool, true, false, Option, Some, None, arith}
+use Rattle.fv_base.proofs.Laws.{common_steps, option_or, beq, booleans_Decides, bytes_eq, and_split, Decides-eqb, bytes_eq-Decides, bytes_of}
 use Rattle.fv_base.specs.declared.flash.FileSystem.{FileSystem}
 use Rattle.fv_base.specs.declared.guid.Guid.{Guid}
 use Rattle.fv_base.specs.declared.flash.FileSystem.TheVariants.{Ffs2, Ffs3}
 use Rattle.fv_head.specs.Words.{Extension, HeadFields}
-use Rattle.fv_tree.specs.Words.{is_ffs3, Differs, differ_unless, under, blocks_eq, entries_eq, ext_eq, head_differs, difference}
-use Rattle.fv_tree.specs.Words.{files_differ, file_differs, content_differs, sections_differ, section_differs, body_differs}
+use Rattle.fv_tree.specs.Words.{is_ffs3, Differs, differ_unless, under, blocks_eq, entries_eq, ext_eq, head_differs, difference, files_differ}
+use Rattle.fv_tree.specs.Words.{file_differs, content_differs, sections_differ, section_differs, body_differs, Meaning, Volume, FileMeanings, NoFiles}
+use Rattle.fv_tree.specs.Words.{MoreFiles, FileMeaning, File, ContentMeaning, Plain, Sectioned, SectionMeanings, NoSections, MoreSections}
+use Rattle.fv_tree.specs.Words.{SectionMeaning, Section, BodyMeaning, Leaf, Group, Nested}
 use Rattle.fv_tree.specs.declared.difference.Step.{Step}
 use Rattle.fv_tree.specs.declared.difference.DifferenceKind.{DifferenceKind}
-use Rattle.fv_tree.specs.Words.{Meaning, Volume, FileMeanings, NoFiles, MoreFiles, FileMeaning, File, ContentMeaning, Plain, Sectioned}
-use Rattle.fv_tree.specs.Words.{SectionMeanings, NoSections, MoreSections, SectionMeaning, Section, BodyMeaning, Leaf, Group, Nested}
 
 both_none : (a b : Differs) → option_or a b ≡ None → (a ≡ None) × (b ≡ None)
 both_none None b e = (refl, e)

@@ -1,18 +1,14 @@
 -- The result of each turn of the walk through two meanings.
-use Rattle.std.proofs.lemmas.Grind.{common_steps}
-use Rattle.std.proofs.Common.{◌≡◌, ℕ, zero, suc, ◌≤◌, List, [], ◌∷◌, length, drop, min, refl, sym, ap, ◌∙◌, arith}
-use Rattle.std.proofs.Common.{Bool, true, false, Option, Some, None}
-use Rattle.std.specs.Prelude.{◌==◌, ◌&&◌}
-use Rattle.std.specs.Option.{option_or}
-use Rattle.std.specs.Str.{bytes_eq}
+use Rattle.std.proofs.Common.{◌≡◌, ℕ, ◌≤◌, [], ◌∷◌, ◌==◌, ◌&&◌, zero, suc, List, length, drop, min, refl, sym, ap, ◌∙◌, arith, Bool, true, false}
+use Rattle.fv_base.proofs.Laws.{Option, Some, None, common_steps, option_or, bytes_eq}
 use Rattle.fv_head.specs.Words.{HeadFields}
-use Rattle.fv_tree.specs.Words.{Differs, has_steps, differ_in, entries_eq, head_differs, difference, files_differ, sections_differ}
+use Rattle.fv_tree.specs.Words.{Differs, has_steps, differ_in, entries_eq, head_differs, difference, files_differ, sections_differ, Meaning, Volume}
+use Rattle.fv_tree.specs.Words.{FileMeaning, SectionMeaning, head_of, files_from, sections_from}
 use Rattle.fv_tree.specs.declared.difference.Step.{Step}
 use Rattle.fv_tree.specs.declared.difference.DifferenceKind.{DifferenceKind}
 use Rattle.fv_tree.specs.inner.FoundDifferences.{in_kind, reversed_steps}
-use Rattle.fv_tree.specs.declared.difference.DifferenceKind.TheVariants as kinds
-use Rattle.fv_tree.specs.Words.{Meaning, Volume, FileMeaning, SectionMeaning, head_of, files_from, sections_from}
 use Rattle.fv_tree.proofs.DifferenceLaws.{no_difference}
+use Rattle.fv_tree.specs.declared.difference.DifferenceKind.TheVariants as kinds
 
 -- ---- the first of two differences
 

@@ -5,10 +5,8 @@
 --    (`layout_kind`, `stream_kind`, `volume_kind`).
 -- 3. By induction on the nesting depth each fault in a section has one of these kinds (`section_kind`), and so has each
 --    fault of bytes (`stands_reading`).
-use Rattle.std.proofs.Common.{◌≡◌, ◌≢◌, ℕ, zero, suc, ◌+◌, Bool, true, false, List, take, drop, refl, sym, ap, ◌∙◌, subst, inl, inr}
-use Rattle.std.specs.Prelude.{nat_le, slice_index, Option, Some, None}
-use Rattle.std.specs.List.{AllByRecursion}
-use Rattle.fv_base.specs.Words.{Check, Any, fault_number, depth_limit}
+use Rattle.std.proofs.Common.{◌≡◌, ◌≢◌, ℕ, ◌+◌, zero, suc, Bool, true, false, List, take, drop, refl, sym, ap, ◌∙◌, subst, inl, inr, nat_le}
+use Rattle.fv_base.proofs.Laws.{slice_index, Option, Some, None, AllByRecursion, Check, Any, fault_number, depth_limit, fails_among, up_is_not_down}
 use Rattle.fv_base.specs.declared.fault.Fault.{Fault}
 use Rattle.fv_base.specs.declared.fault.FaultKind.{FaultKind}
 use Rattle.fv_base.specs.declared.flash.FileSystem.{FileSystem}
@@ -16,12 +14,11 @@ use Rattle.fv_base.specs.declared.flash.Polarity.{Polarity}
 use Rattle.fv_base.specs.declared.fault.Place.{Place}
 use Rattle.fv_file.specs.Words.{file_checks, state_checks, cell_checks, state_of}
 use Rattle.fv_file.specs.declared.state.FileState.{FileState}
-use Rattle.fv_file.specs.declared.state.FileState.TheVariants as states
 use Rattle.fv_head.specs.Words.{head_checks}
 use Rattle.fv_head.specs.declared.extent.Extent.{Extent}
 use Rattle.fv_section.specs.Words.{frame_checks, FrameForm}
 use Rattle.fv_tree.specs.Words.{Moved, LayoutFault, InSection, InStream, InVolume, FaultHolds, outermost}
-use Rattle.fv_base.proofs.Laws.{fails_among, up_is_not_down}
+use Rattle.fv_file.specs.declared.state.FileState.TheVariants as states
 
 -- the kinds of faults that are found in bytes: the first 21 kinds, which are not about memory, input and output, or
 -- writing

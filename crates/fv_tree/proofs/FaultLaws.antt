@@ -1,15 +1,14 @@
 -- If bytes have a first fault, its condition holds at its place.
 use Rattle.std.proofs.Common.{ℕ, zero, suc, List, take, drop, inl, inr}
-use Rattle.fv_base.specs.Words.{First, Any, depth_limit}
+use Rattle.fv_base.proofs.Laws.{First, Any, depth_limit, any_fails}
 use Rattle.fv_base.specs.declared.fault.Fault.{Fault}
 use Rattle.fv_base.specs.declared.fault.Place.{Place}
-use Rattle.fv_base.proofs.Laws.{any_fails}
 use Rattle.fv_file.proofs.Laws.{cell_fails}
 use Rattle.fv_head.specs.declared.extent.Extent.{Extent}
 use Rattle.fv_section.proofs.Laws.{frame_fails}
 use Rattle.fv_section.specs.Words.{FrameForm}
-use Rattle.fv_tree.specs.Words.{Moved, OneOf, NamesFault, LayoutFault, FileFault, data_at, outermost, InSection, InStream, InVolume}
-use Rattle.fv_tree.specs.Words.{IsFirstOfVolume, FaultHolds, FileForm}
+use Rattle.fv_tree.specs.Words.{Moved, OneOf, NamesFault, LayoutFault, FileFault, data_at, outermost, InSection, InStream, InVolume, IsFirstOfVolume}
+use Rattle.fv_tree.specs.Words.{FaultHolds, FileForm}
 
 -- ---- one level of nesting
 

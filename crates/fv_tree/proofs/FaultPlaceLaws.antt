@@ -6,13 +6,9 @@
 --    lies within it (`stream_by`, `body_by`, `volume_by`).
 -- 4. By induction on the nesting depth the first fault of each section lies within the section (`section_lies`), and so
 --    the first fault of bytes lies within them (`first_within`).
-use Rattle.std.proofs.lemmas.Grind.{common_steps}
-use Rattle.std.proofs.Common.{◌≡◌, ◌≢◌, ◌≤◌, ◌⊎◌, ℕ, zero, suc, ◌+◌, List, [], ◌∷◌, length, take, drop, subst, sym}
-use Rattle.std.proofs.Common.{arith, not, inl, inr}
-use Rattle.std.specs.List.{AllByRecursion, list_any}
-use Rattle.std.proofs.lemmas.List.{length-drop, length-take-le}
-use Rattle.fv_base.proofs.Laws.{all_filter, in_middle, want_known}
-use Rattle.fv_base.specs.Words.{First, out_of_memory, depth_limit}
+use Rattle.std.proofs.Common.{◌≡◌, ◌≢◌, ◌≤◌, ◌⊎◌, ℕ, ◌+◌, [], ◌∷◌, zero, suc, List, length, take, drop, subst, sym, arith, not, inl, inr, length-drop}
+use Rattle.std.proofs.Common.{length-take-le}
+use Rattle.fv_base.proofs.Laws.{common_steps, AllByRecursion, list_any, all_filter, in_middle, want_known, First, out_of_memory, depth_limit}
 use Rattle.fv_base.specs.declared.fault.Fault.{Fault}
 use Rattle.fv_base.specs.declared.fault.Place.{Place}
 use Rattle.fv_file.specs.Words.{CellForm, Valid, Pad, Dead, Stub, Free, Tiles, CellsWithin}
@@ -21,8 +17,8 @@ use Rattle.fv_head.specs.declared.extent.Extent.{Extent}
 use Rattle.fv_head.proofs.Laws.{fault_within, first_lies}
 use Rattle.fv_section.specs.Words.{FrameForm, frame_len, FramesWithin}
 use Rattle.fv_section.proofs.Laws.{frame_within, whole_within}
-use Rattle.fv_tree.specs.Words.{Moved, NamesFault, LayoutFault, BodyFault, InSection, InStream, InVolume, IsFirstOfVolume, data_at}
-use Rattle.fv_tree.specs.Words.{data_place, outermost, FileForm, files_in, current_in, replaced_by}
+use Rattle.fv_tree.specs.Words.{Moved, NamesFault, LayoutFault, BodyFault, InSection, InStream, InVolume, IsFirstOfVolume, data_at, data_place}
+use Rattle.fv_tree.specs.Words.{outermost, FileForm, files_in, current_in, replaced_by}
 use Rattle.fv_tree.proofs.NameLaws.{files_within, top_within, twin_within}
 
 -- ---- files

@@ -3,25 +3,19 @@
 -- 2. A level of nesting adds at most two steps, one into a file and one into a section, so n levels have at most 2 * n
 --    + 2.
 -- 3. A meaning nests at most 8 levels deep.
-use Rattle.std.proofs.lemmas.Grind.{common_steps}
-use Rattle.std.proofs.Common.{◌≤◌, ◌+◌, ◌*◌, ℕ, length, arith, Bool, true, false}
-use Rattle.std.specs.Prelude.{◌==◌, Some, None, IfSome}
-use Rattle.std.specs.Option.{option_or}
-use Rattle.std.specs.Bool.{beq}
-use Rattle.std.specs.Str.{bytes_eq}
-use Rattle.fv_base.specs.Words.{bytes_of}
+use Rattle.std.proofs.Common.{◌≤◌, ◌+◌, ◌*◌, ℕ, ◌==◌, length, arith, Bool, true, false, Some, None, IfSome}
+use Rattle.fv_base.proofs.Laws.{common_steps, option_or, beq, bytes_eq, bytes_of}
 use Rattle.fv_head.specs.Words.{HeadFields}
-use Rattle.fv_tree.specs.Words.{IsMeaning, Meaning, Volume, FileMeanings, NoFiles, MoreFiles, FileMeaning, File, content_of, ContentMeaning}
-use Rattle.fv_tree.specs.Words.{Plain, Sectioned, SectionMeanings, NoSections, MoreSections, SectionMeaning, Section, body_of, BodyMeaning}
-use Rattle.fv_tree.specs.Words.{Leaf, Group, Nested}
-use Rattle.fv_tree.specs.Words.{Differs, differ_unless, under, head_differs, difference, files_differ, file_differs, content_differs}
+use Rattle.fv_tree.specs.Words.{IsMeaning, Meaning, Volume, FileMeanings, NoFiles, MoreFiles, FileMeaning, File, content_of, ContentMeaning, Plain}
+use Rattle.fv_tree.specs.Words.{Sectioned, SectionMeanings, NoSections, MoreSections, SectionMeaning, Section, body_of, BodyMeaning, Leaf, Group}
+use Rattle.fv_tree.specs.Words.{Nested, Differs, differ_unless, under, head_differs, difference, files_differ, file_differs, content_differs}
 use Rattle.fv_tree.specs.Words.{sections_differ, section_differs, body_differs}
 use Rattle.fv_tree.specs.declared.difference.Step.{Step}
 use Rattle.fv_tree.specs.declared.difference.DifferenceKind.{DifferenceKind}
-use Rattle.fv_tree.specs.declared.difference.Step.TheVariants as steps
-use Rattle.fv_tree.specs.declared.difference.DifferenceKind.TheVariants as kinds
 use Rattle.fv_tree.specs.inner.NestingDepths.{NestsVolume, NestsFiles, NestsContent, NestsSections, NestsBody}
 use Rattle.fv_tree.proofs.DepthLaws.{nests_files, nests_content, nests_sections, nests_body, nests_group, nests_nested}
+use Rattle.fv_tree.specs.declared.difference.Step.TheVariants as steps
+use Rattle.fv_tree.specs.declared.difference.DifferenceKind.TheVariants as kinds
 
 -- ---- 1. bounds on the steps
 

@@ -1,15 +1,11 @@
 -- A volume has fewer files than bytes.
-use Rattle.std.proofs.Common.{◌≡◌, ◌≤◌, ◌<◌, ℕ, ◌^◌, List, [], ◌∷◌, length, drop, Bool, refl, ap}
-use Rattle.std.proofs.Common.{arith}
-use Rattle.std.specs.Prelude.{not}
-use Rattle.std.specs.List.{filter, list_any}
-use Rattle.std.proofs.lemmas.List.{length-drop}
+use Rattle.std.proofs.Common.{◌≡◌, ◌≤◌, ◌<◌, ℕ, ◌^◌, [], ◌∷◌, List, length, drop, Bool, refl, ap, arith, not, length-drop}
+use Rattle.fv_base.proofs.Laws.{filter, list_any}
 use Rattle.std.proofs.lemmas.List.Sums.{count_by-le-length, length-filter}
 use Rattle.fv_file.specs.Words.{CellForm, Valid, Pad, Dead, Stub, Free}
 use Rattle.fv_file.proofs.Laws.{cells_few}
 use Rattle.fv_head.proofs.Laws.{front_lies}
-use Rattle.fv_tree.specs.Words.{Pairwise, Stream, Denotes, MeansFile, IsMeaning, Meaning, files_of, head_of, FileForm, files_in}
-use Rattle.fv_tree.specs.Words.{replaced_by}
+use Rattle.fv_tree.specs.Words.{Pairwise, Stream, Denotes, MeansFile, IsMeaning, Meaning, files_of, head_of, FileForm, files_in, replaced_by}
 
 pub files_few : (cs : List CellForm) → length (files_in cs) ≤ length cs
 files_few [] = omega arith

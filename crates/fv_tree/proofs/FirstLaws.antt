@@ -6,25 +6,20 @@
 -- 3. By induction on the nesting depth each section has at most one (`section_once`), and so has each volume
 --    (`first_once`).
 -- 4. So the result of a reader is determined by the bytes (`only_answer`, `one_answer`, `sound_answer`).
-use Rattle.std.proofs.Common.{◌≡◌, ◌≢◌, ◌≤◌, ℕ, zero, suc, List, length, take, drop, refl, sym, ap, ◌∙◌, subst, inl, inr}
-use Rattle.std.specs.Prelude.{Result, Ok, Err, IfOk, IfErr}
-use Rattle.fv_base.specs.Words.{First, Any, outer_fault, out_of_memory, depth_limit}
+use Rattle.std.proofs.Common.{◌≡◌, ◌≢◌, ◌≤◌, ℕ, zero, suc, List, length, take, drop, refl, sym, ap, ◌∙◌, subst, inl, inr, Result, Ok, Err, IfOk}
+use Rattle.fv_base.proofs.Laws.{IfErr, First, Any, outer_fault, out_of_memory, depth_limit, none_fails, one_fault}
 use Rattle.fv_base.specs.declared.fault.Fault.{Fault}
 use Rattle.fv_base.specs.declared.fault.Place.{Place}
-use Rattle.fv_base.proofs.Laws.{none_fails, one_fault}
-use Rattle.fv_base.specs.declared.fault.FaultKind.TheVariants as kinds
 use Rattle.fv_file.specs.Words.{CellForm}
 use Rattle.fv_file.proofs.Laws.{one_cell_fault, only_one}
-use Rattle.fv_file.proofs.Laws as cellular
 use Rattle.fv_head.specs.Words.{head_checks}
 use Rattle.fv_head.specs.declared.extent.Extent.{Extent}
 use Rattle.fv_head.proofs.Laws.{front_holds, one_front}
 use Rattle.fv_section.specs.Words.{FrameForm}
 use Rattle.fv_section.proofs.Laws.{one_frame_fault, one_split}
-use Rattle.fv_section.proofs.Laws as framed
-use Rattle.fv_tree.specs.Words.{MeansFile, MeansSection, Stream, Denotes, moved_fault, Moved, OneOf, NamesFault, LayoutFault, FileFault}
-use Rattle.fv_tree.specs.Words.{BodyFault, data_at, outermost, InSection, InStream, InVolume, IsFirstOfVolume, FaultHolds, Meaning}
-use Rattle.fv_tree.specs.Words.{length_of, FileForm, AreCurrent, NoTwins, TopAtEnd, files_in, current_in}
+use Rattle.fv_tree.specs.Words.{MeansFile, MeansSection, Stream, Denotes, moved_fault, Moved, OneOf, NamesFault, LayoutFault, FileFault, BodyFault}
+use Rattle.fv_tree.specs.Words.{data_at, outermost, InSection, InStream, InVolume, IsFirstOfVolume, FaultHolds, Meaning, length_of, FileForm}
+use Rattle.fv_tree.specs.Words.{AreCurrent, NoTwins, TopAtEnd, files_in, current_in}
 use Rattle.fv_tree.specs.inner.ReadingParts.{ReadsOrFails}
 use Rattle.fv_tree.proofs.ListPairs.{first_of_once}
 use Rattle.fv_tree.proofs.MeaningLaws.{one_beginning}
@@ -32,6 +27,9 @@ use Rattle.fv_tree.proofs.NamesFaultLaws.{twin_none}
 use Rattle.fv_tree.proofs.RefusalLaws.{StreamRefuses, layout_by, file_by, section_refuses, stream_refuses, fault_refuses}
 use Rattle.fv_tree.proofs.TwinLaws.{one_twin, one_top}
 use Rattle.fv_tree.proofs.SectionShapeLaws.{group_is_no_volume}
+use Rattle.fv_base.specs.declared.fault.FaultKind.TheVariants as kinds
+use Rattle.fv_file.proofs.Laws as cellular
+use Rattle.fv_section.proofs.Laws as framed
 
 -- ---- one level of nesting
 

@@ -1,19 +1,16 @@
 -- If the fixed bits of a volume's files are cleared and cells tile the new body, the bytes are the unfixed volume: they
 -- begin with the same header, cells tile their body, and no other bytes are an unfixed volume.
-use Rattle.std.proofs.Common.{◌≡◌, ℕ, ◌+◌, ◌-◌, ◌≤◌, List, ◌++◌, length, take, drop, sym, ap, ◌∙◌, subst, arith, append_assoc, [], ◌∷◌, zero, suc, inl, inr, refl}
-use Rattle.std.specs.Prelude.{◌≢◌, Option, None, Some}
-use Rattle.std.proofs.lemmas.List.{length-append, length-take-le, length-drop, take-append-drop, take-append-le, take_all}
-use Rattle.std.proofs.lemmas.List.{drop-drop, drop-take}
-use Rattle.fv_base.specs.Words.{First, field, le, le_at}
+use Rattle.std.proofs.Common.{◌≡◌, ℕ, ◌+◌, ◌-◌, ◌≤◌, ◌++◌, [], ◌∷◌, ◌≢◌, List, length, take, drop, sym, ap, ◌∙◌, subst, arith, append_assoc, zero}
+use Rattle.std.proofs.Common.{suc, inl, inr, refl, Option, None, Some, length-append, length-take-le, length-drop, take-append-drop, take_all}
+use Rattle.fv_base.proofs.Laws.{drop-drop, take-append-le, drop-take, First, field, le, le_at, take-take_le, field-take, none_faulty, not_first}
 use Rattle.fv_base.specs.declared.fault.Fault.{Fault}
-use Rattle.fv_base.specs.declared.fault.FaultKind.TheVariants as kinds
-use Rattle.fv_base.proofs.Laws.{take-take_le, field-take, none_faulty, not_first}
 use Rattle.fv_file.specs.Words.{CellForm, Tiles, IsFirstCellFault, Unmarks}
 use Rattle.fv_file.proofs.Laws.{length-unmarks, none_after, NoneFixed, tiled_unfixed, fault_unfixed, one_unmarked}
 use Rattle.fv_head.specs.Words.{Extension, HasExt, HeadFields, IsHead, BeginsVolume, head_checks}
 use Rattle.fv_head.specs.declared.extent.Extent.{Extent}
 use Rattle.fv_head.proofs.Laws.{first_lies, front_lies, one_front, front_holds}
 use Rattle.fv_tree.specs.Words.{Unfixes, IsUnfixed, UnfixStops, BeginsTiled}
+use Rattle.fv_base.specs.declared.fault.FaultKind.TheVariants as kinds
 
 take-append_all : (xs ys : List ℕ) (n : ℕ) → length xs ≡ n → take n (xs ++ ys) ≡ xs
 take-append_all xs ys n e = take-append-le n xs ys (omega (arith, e)) ∙ take_all n xs (omega (arith, e))

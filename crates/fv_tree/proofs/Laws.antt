@@ -10,9 +10,8 @@ pub use Rattle.fv_tree.proofs.LengthLaws.{AsLong, stream_long, section_long, bod
 pub use Rattle.fv_tree.proofs.FileCountLaws.{few_files, few_of}
 -- the contents of a part are smaller than the part
 pub use Rattle.fv_tree.proofs.SizeLaws.{section_falls, section_body_falls, file_falls, content_falls}
-pub use Rattle.fv_tree.proofs.SizeLaws.{file_content_falls}
--- the volumes in a section and in a file are the volumes in their contents
-pub use Rattle.fv_tree.proofs.DepthLaws.{in_section, in_file}
+-- the volumes in a section are the volumes in its body
+pub use Rattle.fv_tree.proofs.DepthLaws.{in_section}
 -- the contents of a part nest at most as deep as the part, and one level less deep if it is a group or an opened volume
 pub use Rattle.fv_tree.proofs.DepthLaws.{nests_files, nests_content, nests_sections, nests_body, nests_group, nests_nested}
 -- ---- a volume

@@ -1,13 +1,12 @@
 -- A stream, a section, a body and a content have the length of the bytes that they were read from.
-use Rattle.std.proofs.Common.{◌≡◌, ℕ, zero, suc, ◌+◌, List, [], ◌∷◌, ◌++◌, length, refl, sym, ap, ◌∙◌, subst}
-use Rattle.std.proofs.Common.{arith, length-append}
+use Rattle.std.proofs.Common.{◌≡◌, ℕ, ◌+◌, [], ◌∷◌, ◌++◌, zero, suc, List, length, refl, sym, ap, ◌∙◌, subst, arith, length-append}
 use Rattle.fv_base.specs.declared.guid.Guid.{Guid}
 use Rattle.fv_section.specs.Words.{FrameForm, SplitsFrom, frame_len, up_to_4}
 use Rattle.fv_section.proofs.Laws.{length_begun}
-use Rattle.fv_tree.specs.Words.{Pairwise, SectionRelation, StreamRelation, StreamOver, VolumeOver, SectionOver, MeansSection, Stream}
-use Rattle.fv_tree.specs.Words.{MeansFile, Meaning, Volume, File, ContentMeaning, Plain, Sectioned, SectionMeaning, Section}
-use Rattle.fv_tree.specs.Words.{SectionMeanings, NoSections, MoreSections, BodyMeaning, Leaf, Group, Nested, sections_list, body_len}
-use Rattle.fv_tree.specs.Words.{section_len, sections_end, content_len, length_of, FileForm}
+use Rattle.fv_tree.specs.Words.{Pairwise, SectionRelation, StreamRelation, StreamOver, VolumeOver, SectionOver, MeansSection, Stream, MeansFile}
+use Rattle.fv_tree.specs.Words.{Meaning, Volume, File, ContentMeaning, Plain, Sectioned, SectionMeaning, Section, SectionMeanings, NoSections}
+use Rattle.fv_tree.specs.Words.{MoreSections, BodyMeaning, Leaf, Group, Nested, sections_list, body_len, section_len, sections_end, content_len}
+use Rattle.fv_tree.specs.Words.{length_of, FileForm}
 
 -- a section has the length of its frame
 abbrev pub AsLong : SectionRelation → Type 0

@@ -1,10 +1,6 @@
 -- Two lists that agree item by item, and the first item that is rejected.
-use Rattle.std.proofs.Common.{◌≡◌, ℕ, ◌+◌, ◌<◌, ◌≤◌, List, [], ◌∷◌, ◌++◌, length, take, drop, get_or, map, sym, ◌∙◌}
-use Rattle.std.proofs.Common.{subst, arith, inl, inr}
-use Rattle.std.proofs.lemmas.List.{take_all, length-map, get_or-map}
-use Rattle.std.specs.List.{AllByRecursion}
-use Rattle.fv_base.specs.Words.{Which, First}
-use Rattle.fv_base.proofs.Laws.{TwoCuts, at_index, more_items, seam_items, two_cuts}
+use Rattle.std.proofs.Common.{◌≡◌, ℕ, ◌+◌, ◌<◌, ◌≤◌, [], ◌∷◌, ◌++◌, List, length, take, drop, get_or, map, sym, ◌∙◌, subst, arith, inl, inr, take_all}
+use Rattle.fv_base.proofs.Laws.{length-map, get_or-map, AllByRecursion, Which, First, TwoCuts, at_index, more_items, seam_items, two_cuts}
 use Rattle.fv_tree.specs.Words.{Pairwise, OneOf}
 
 -- two lists that agree still agree if a pair of items that agree is appended

@@ -1,12 +1,7 @@
 -- The files of a volume as they are stored: the data of each are in the volume at the data's offset, and there are no
 -- other files.
-use Rattle.std.proofs.lemmas.Grind.{common_steps}
-use Rattle.std.proofs.Common.{◌≡◌, ◌≤◌, ◌∙◌, ℕ, ◌+◌, ◌-◌, List, [], ◌∷◌, length, take, drop, sym, subst, arith}
-use Rattle.std.specs.List.{AllByRecursion, list_any}
-use Rattle.std.specs.Prelude.{not}
-use Rattle.std.proofs.lemmas.List.{length-take-le, length-drop, take_all}
-use Rattle.fv_base.proofs.Laws.{all_filter, field-take}
-use Rattle.fv_base.specs.Words.{up_to_8}
+use Rattle.std.proofs.Common.{◌≡◌, ◌≤◌, ℕ, ◌+◌, ◌-◌, [], ◌∷◌, ◌∙◌, List, length, take, drop, sym, subst, arith, not, length-take-le, length-drop}
+use Rattle.fv_base.proofs.Laws.{take_all, common_steps, AllByRecursion, list_any, all_filter, field-take, up_to_8}
 use Rattle.fv_file.specs.Words.{CellForm, Valid, Pad, Dead, Stub, Free, CellsWithin}
 use Rattle.fv_file.specs.declared.head.FileHead.{FileHead}
 use Rattle.fv_file.proofs.Laws.{IsPayloadIn, body_payloads, all_within}

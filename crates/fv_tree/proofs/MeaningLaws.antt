@@ -5,18 +5,17 @@
 --    (`content_one`, `file_one`, `volume_one`, `section_one`).
 -- 3. By induction on the nesting depth each section has at most one meaning (`sections_one`), and so has each volume
 --    (`one_meaning`, `one_beginning`).
-use Rattle.std.proofs.lemmas.Grind.{common_steps}
-use Rattle.std.proofs.Common.{◌≡◌, ◌≤◌, ℕ, zero, suc, true, false, List, [], ◌∷◌, length, take, refl, sym, ap, ◌∙◌, subst, arith}
+use Rattle.std.proofs.Common.{◌≡◌, ◌≤◌, ℕ, [], ◌∷◌, zero, suc, true, false, List, length, take, refl, sym, ap, ◌∙◌, subst, arith}
+use Rattle.fv_base.proofs.Laws.{common_steps}
 use Rattle.fv_file.proofs.Laws.{only_one}
 use Rattle.fv_head.specs.declared.extent.Extent.{Extent}
 use Rattle.fv_head.proofs.Laws.{one_front}
 use Rattle.fv_section.specs.Words.{FrameForm}
 use Rattle.fv_section.proofs.Laws.{one_split}
-use Rattle.fv_tree.specs.Words.{AreFilesOf, FileForm, Meaning, Volume, FileMeanings, NoFiles, MoreFiles, FileMeaning, File, ContentMeaning}
-use Rattle.fv_tree.specs.Words.{Plain, Sectioned, files_from, sections_from, files_list, SectionMeanings, NoSections, MoreSections}
-use Rattle.fv_tree.specs.Words.{SectionMeaning, Section, BodyMeaning, Leaf, Group, Nested, sections_list, SectionRelation, StreamRelation}
-use Rattle.fv_tree.specs.Words.{VolumeRelation, Pairwise, StreamOver, SectionOver, VolumeOver, MeansBody, MeansContent, MeansFile}
-use Rattle.fv_tree.specs.Words.{MeansSection, Stream, Denotes}
+use Rattle.fv_tree.specs.Words.{AreFilesOf, FileForm, Meaning, Volume, FileMeanings, NoFiles, MoreFiles, FileMeaning, File, ContentMeaning, Plain}
+use Rattle.fv_tree.specs.Words.{Sectioned, files_from, sections_from, files_list, SectionMeanings, NoSections, MoreSections, SectionMeaning, Section}
+use Rattle.fv_tree.specs.Words.{BodyMeaning, Leaf, Group, Nested, sections_list, SectionRelation, StreamRelation, VolumeRelation, Pairwise}
+use Rattle.fv_tree.specs.Words.{StreamOver, SectionOver, VolumeOver, MeansBody, MeansContent, MeansFile, MeansSection, Stream, Denotes}
 use Rattle.fv_tree.proofs.SectionShapeLaws.{group_is_no_volume}
 use Rattle.fv_tree.proofs.VolumePartLaws.{front_of, has_files}
 

@@ -1,15 +1,11 @@
 -- Facts for the loops over the files of a volume: the files of the first cells, the volume top file, and the offsets at
 -- which files begin.
-use Rattle.std.proofs.Common.{◌≡◌, ◌≤◌, ◌<◌, ℕ, ◌+◌, List, [], ◌∷◌, ◌++◌, length, take, get_or, map, Bool, true}
-use Rattle.std.proofs.Common.{false, refl, sym, ap, ◌∙◌, subst, arith}
-use Rattle.std.specs.Prelude.{◌&&◌, ◌||◌, not}
-use Rattle.std.specs.List.{AllByRecursion}
-use Rattle.fv_base.specs.Words.{Which, First, outer_fault}
+use Rattle.std.proofs.Common.{◌≡◌, ◌≤◌, ◌<◌, ℕ, ◌+◌, [], ◌∷◌, ◌++◌, ◌&&◌, ◌||◌, List, length, take, get_or, map, Bool, true, false, refl, sym, ap}
+use Rattle.fv_base.proofs.Laws.{◌∙◌, subst, arith, not, AllByRecursion, Which, First, outer_fault, in_middle, more_items}
 use Rattle.fv_base.specs.declared.fault.Fault.{Fault}
-use Rattle.fv_base.specs.declared.fault.FaultKind.TheVariants as kinds
 use Rattle.fv_file.specs.Words.{CellForm, Valid, Pad, Dead, Stub, Free, CellsWithin}
 use Rattle.fv_tree.specs.Words.{HasTwin, TopElsewhere, FileForm, files_in, is_top, end_of, TopAtEnd}
-use Rattle.fv_base.proofs.Laws.{in_middle, more_items}
+use Rattle.fv_base.specs.declared.fault.FaultKind.TheVariants as kinds
 
 -- ---- the files of one more cell
 

@@ -1,24 +1,19 @@
 -- Files as they are stored, and the index of their names: the names and marks in the index are the names and marks of
 -- the files.
-use Rattle.std.proofs.Common.{◌≡◌, ◌<◌, ℕ, ◌+◌, List, [], ◌∷◌, length, take, get_or, map, Bool, true, false, cond, ◌≤◌, ◌⊎◌, refl, sym}
-use Rattle.std.proofs.Common.{ap, ◌∙◌, subst, arith, inl, inr}
-use Rattle.std.specs.Prelude.{◌||◌, ◌&&◌, not}
-use Rattle.std.specs.List.{AllByRecursion, filter, find, list_any, position, position_or_len, slice_get}
-use Rattle.std.specs.Option.{option_and_then}
-use Rattle.std.proofs.lemmas.Bool.{cases_lt, lt-ltb, le-ltb}
-use Rattle.std.proofs.lemmas.List.{get_or-map, length-map, take-map}
-use Rattle.std.proofs.lemmas.List.Folds.{Any-from_list_any, find_at}
-use Rattle.std.proofs.lemmas.Option.{slice_get_past}
-use Rattle.std.proofs.lemmas.Simd.{map-map}
+use Rattle.std.proofs.Common.{◌≡◌, ◌<◌, ℕ, ◌+◌, [], ◌∷◌, ◌≤◌, ◌⊎◌, ◌||◌, ◌&&◌, List, length, take, get_or, map, Bool, true, false, cond, refl, sym}
+use Rattle.fv_base.proofs.Laws.{ap, ◌∙◌, subst, arith, inl, inr, not, lt-ltb, le-ltb, AllByRecursion, filter, list_any, position, position_or_len}
+use Rattle.fv_base.proofs.Laws.{option_and_then, cases_lt, get_or-map, length-map, Any-from_list_any, slice_get_past, map-map, and_split}
+use Rattle.std.specs.List.{find, slice_get}
+use Rattle.std.proofs.lemmas.List.{take-map}
+use Rattle.std.proofs.lemmas.List.Folds.{find_at}
 use Rattle.fv_base.specs.declared.guid.Guid.{Guid}
-use Rattle.fv_base.proofs.Laws.{and_split}
-use Rattle.fv_names.specs.NamedFiles as names
 use Rattle.fv_names.specs.Words.{NamedFile, names_in, is_name, NeighboursDiffer, Entry, IsIndex}
 use Rattle.fv_names.proofs.Laws.{apart_twins, no_entry, no_named, none_replaced, number_within}
-use Rattle.fv_tree.specs.Words.{MeansFile, Pairwise, StreamRelation, FileForm, NoTwins, current_in, is_marked, is_twin, replaced_by}
-use Rattle.fv_tree.specs.Words.{same_name, is_named, file_form, FileMeaning, File, file_name_of}
+use Rattle.fv_tree.specs.Words.{MeansFile, Pairwise, StreamRelation, FileForm, NoTwins, current_in, is_marked, is_twin, replaced_by, same_name}
+use Rattle.fv_tree.specs.Words.{is_named, file_form, FileMeaning, File, file_name_of}
 use Rattle.fv_tree.specs.declared.volume_files.LocatedFile.{LocatedFile}
 use Rattle.fv_tree.specs.inner.NameForms.{named_file, named_form}
+use Rattle.fv_names.specs.NamedFiles as names
 use Rattle.fv_tree.specs.declared.volume_files.Mark.TheVariants as marks
 
 -- the value that a loop over files reads after the last file

@@ -1,18 +1,12 @@
 -- Files with a twin, or with a volume top file that is not at the end, are not the files of a volume.
-use Rattle.std.proofs.lemmas.Grind.{common_steps}
-use Rattle.std.proofs.Common.{◌≡◌, ◌⊎◌, ℕ, List, [], ◌∷◌, ◌++◌, length-append, Bool, true, refl, subst, arith}
-use Rattle.std.proofs.Common.{inl, inr}
-use Rattle.std.specs.List.{list_any}
+use Rattle.std.proofs.Common.{◌≡◌, ◌⊎◌, ℕ, [], ◌∷◌, ◌++◌, List, length-append, Bool, true, refl, subst, arith, inl, inr}
+use Rattle.fv_base.proofs.Laws.{common_steps, list_any, list_any_at, bytes_eq-Decides, Which, and_join, and_split, up_is_not_down}
 use Rattle.std.proofs.lemmas.Bool.{or_cases}
 use Rattle.std.proofs.lemmas.List.{get_or_at}
-use Rattle.std.proofs.lemmas.List.Folds.{list_any_at}
-use Rattle.std.proofs.lemmas.Slice.Eq.{bytes_eq-Decides}
-use Rattle.fv_base.specs.Words.{Which}
 use Rattle.fv_base.specs.declared.fault.Fault.{Fault}
-use Rattle.fv_base.proofs.Laws.{and_join, and_split, up_is_not_down}
 use Rattle.fv_file.specs.Words.{CellForm}
-use Rattle.fv_tree.specs.Words.{HasTwin, TopElsewhere, NamesFault, FileForm, files_in, same_name, is_twin, NoTwins, current_in, is_top}
-use Rattle.fv_tree.specs.Words.{end_of, TopAtEnd, AreCurrent}
+use Rattle.fv_tree.specs.Words.{HasTwin, TopElsewhere, NamesFault, FileForm, files_in, same_name, is_twin, NoTwins, current_in, is_top, end_of}
+use Rattle.fv_tree.specs.Words.{TopAtEnd, AreCurrent}
 
 pub same_name_back : (f g : FileForm) → same_name f g ≡ true → same_name g f ≡ true
 same_name_back f g h = grind (arith, common_steps, bytes_eq-Decides)

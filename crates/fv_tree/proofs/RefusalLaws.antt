@@ -4,26 +4,25 @@
 -- 2. By induction on the nesting depth no section with a fault is read (`section_refuses`), so no stream and no volume
 --    with a fault is read (`stream_refuses`, `fault_refuses`).
 use Rattle.std.proofs.Common.{◌≡◌, ◌≤◌, ℕ, zero, suc, List, length, take, drop, ap, ◌∙◌, subst, inl, inr}
-use Rattle.fv_base.specs.Words.{Which}
+use Rattle.fv_base.proofs.Laws.{Which, none_fails}
 use Rattle.fv_base.specs.declared.fault.Fault.{Fault}
 use Rattle.fv_base.specs.declared.fault.Place.{Place}
-use Rattle.fv_base.proofs.Laws.{none_fails}
 use Rattle.fv_file.specs.Words.{CellForm, Tiles}
 use Rattle.fv_file.proofs.Laws.{only_one}
-use Rattle.fv_file.proofs.Laws as cellular
 use Rattle.fv_head.specs.Words.{head_checks}
 use Rattle.fv_head.specs.declared.extent.Extent.{Extent}
 use Rattle.fv_head.proofs.Laws.{front_holds}
 use Rattle.fv_section.specs.Words.{FrameForm}
 use Rattle.fv_section.proofs.Laws.{one_split}
-use Rattle.fv_section.proofs.Laws as framed
-use Rattle.fv_tree.specs.Words.{AreFilesOf, Pairwise, MeansFile, MeansSection, Stream, Denotes, FileFault, LayoutFault, Moved, BodyFault}
-use Rattle.fv_tree.specs.Words.{InSection, InStream, InVolume, data_at, Meaning, FileMeaning, SectionMeaning, files_of, head_of, FileForm}
-use Rattle.fv_tree.specs.Words.{AreCurrent, files_in, current_in}
+use Rattle.fv_tree.specs.Words.{AreFilesOf, Pairwise, MeansFile, MeansSection, Stream, Denotes, FileFault, LayoutFault, Moved, BodyFault, InSection}
+use Rattle.fv_tree.specs.Words.{InStream, InVolume, data_at, Meaning, FileMeaning, SectionMeaning, files_of, head_of, FileForm, AreCurrent, files_in}
+use Rattle.fv_tree.specs.Words.{current_in}
 use Rattle.fv_tree.proofs.ListPairs.{one_of_none}
 use Rattle.fv_tree.proofs.NamesFaultLaws.{current_none}
 use Rattle.fv_tree.proofs.SectionShapeLaws.{group_none, nested_none, stream_bad, too_deep}
 use Rattle.fv_tree.proofs.VolumePartLaws.{HasFiles, front_of, has_files}
+use Rattle.fv_file.proofs.Laws as cellular
+use Rattle.fv_section.proofs.Laws as framed
 
 module _ (which : Which) where
   -- ---- a stream and a volume, given the same of their sections

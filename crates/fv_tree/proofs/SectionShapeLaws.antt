@@ -8,29 +8,21 @@
 -- 4. If no level is left, groups and opened volumes are not read (`too_deep`, `deep_fault`).
 -- 5. The meaning of a file whose type holds sections is its stream (`stream_reads`). If its data are not a stream, the
 --    file has no meaning (`stream_bad`).
-use Rattle.std.proofs.lemmas.Grind.{common_steps}
-use Rattle.std.proofs.Common.{◌≡◌, ℕ, zero, suc, ◌+◌, ◌≤◌, List, [], ◌∷◌, length, take, Bool, true, false, refl, sym, ap, ◌∙◌, subst, inl}
-use Rattle.std.proofs.Common.{inr, arith}
-use Rattle.std.specs.Prelude.{◌≢◌, ◌==◌, ◌&&◌, ◌⊎◌, is_some, Some, None, if◌then◌else◌}
-use Rattle.std.specs.Str.{bytes_eq}
-use Rattle.std.proofs.lemmas.Bool.{eqb-true, le-leb, leb-true}
-use Rattle.std.proofs.lemmas.Bool.Decides.{Decides-eqb}
-use Rattle.std.proofs.lemmas.List.{take_all}
-use Rattle.std.proofs.lemmas.Slice.Eq.{bytes_eq-Decides}
-use Rattle.fv_base.specs.Words.{First, outer_fault, field}
+use Rattle.std.proofs.Common.{◌≡◌, ℕ, ◌+◌, ◌≤◌, [], ◌∷◌, ◌≢◌, ◌==◌, ◌&&◌, ◌⊎◌, if◌then◌else◌, zero, suc, List, length, take, Bool, true, false, refl}
+use Rattle.std.proofs.Common.{sym, ap, ◌∙◌, subst, inl, inr, arith, is_some, Some, None, eqb-true, le-leb, leb-true, take_all}
+use Rattle.fv_base.proofs.Laws.{common_steps, bytes_eq, Decides-eqb, bytes_eq-Decides, First, outer_fault, field, and_join, and_split, up_is_not_down}
 use Rattle.fv_base.specs.declared.fault.Fault.{Fault}
 use Rattle.fv_base.specs.declared.flash.FileSystem.{FileSystem}
 use Rattle.fv_base.specs.declared.fault.Place.{Place}
-use Rattle.fv_base.proofs.Laws.{and_join, and_split, up_is_not_down}
-use Rattle.fv_base.specs.declared.fault.FaultKind.TheVariants as kinds
 use Rattle.fv_base.specs.declared.flash.FileSystem.TheVariants.{Ffs2, Ffs3}
 use Rattle.fv_head.specs.Words.{system_guid, is_one_volume, file_system_at}
 use Rattle.fv_section.specs.Words.{FrameForm}
 use Rattle.fv_tree.specs.Words.{group_kind, volume_kind, Opens, StreamRelation, VolumeRelation, MeansSection, SectionOver, Stream, Denotes}
-use Rattle.fv_tree.specs.Words.{holds_sections, MeansContent, MeansFile, FileForm, moved_fault, body_place, body_at, InSection, InStream}
-use Rattle.fv_tree.specs.Words.{InVolume, Meaning, FileMeaning, File, Plain, Sectioned, SectionMeaning, Section, Leaf, Group, Nested}
-use Rattle.fv_tree.specs.Words.{sections_list, sections_from}
+use Rattle.fv_tree.specs.Words.{holds_sections, MeansContent, MeansFile, FileForm, moved_fault, body_place, body_at, InSection, InStream, InVolume}
+use Rattle.fv_tree.specs.Words.{Meaning, FileMeaning, File, Plain, Sectioned, SectionMeaning, Section, Leaf, Group, Nested, sections_list}
+use Rattle.fv_tree.specs.Words.{sections_from}
 use Rattle.fv_tree.specs.inner.ReadingParts.{shape_of}
+use Rattle.fv_base.specs.declared.fault.FaultKind.TheVariants as kinds
 use Rattle.fv_tree.specs.declared.shape.Shape.TheVariants as shapes
 
 -- `sections_list` undoes `sections_from`

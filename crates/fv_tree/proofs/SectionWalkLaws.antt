@@ -2,14 +2,12 @@
 -- 1. The sections in a file, and in a section, nest only as deep as their level allows (`file_nests`, `inside_nests`).
 -- 2. The innermost level is split from the others (`left_more`, `levels_more`, `levels_less`).
 -- 3. An empty level is dropped (`none_left`), and the walk takes the next section (`next_left`, `next_are`).
-use Rattle.std.proofs.Common.{◌≡◌, ◌∙◌, ◌≤◌, ◌+◌, ℕ, List, [], ◌∷◌, ◌++◌, Bor, length, refl, sym, ap, subst}
-use Rattle.std.proofs.Common.{append-nil, append_assoc, arith, length-append}
-use Rattle.std.specs.List.{AllByRecursion}
-use Rattle.fv_base.specs.Words.{depth_limit}
+use Rattle.std.proofs.Common.{◌≡◌, ◌≤◌, ◌+◌, ℕ, [], ◌∷◌, ◌++◌, ◌∙◌, List, Bor, length, refl, sym, ap, subst, append-nil, append_assoc, arith}
+use Rattle.fv_base.proofs.Laws.{length-append, AllByRecursion, depth_limit}
 use Rattle.fv_section.specs.Words.{FrameForm}
-use Rattle.fv_tree.specs.Words.{MeansSection, preorder, inside_section, FileMeaning, File, Plain, Sectioned, SectionMeanings}
-use Rattle.fv_tree.specs.Words.{SectionMeaning, Section, Leaf, Group, Nested, content_of, sections_list, body_of, sections_from}
-use Rattle.fv_tree.specs.Words.{sections_in, sections_in_data, IsReadFile, AreLevels, NestsAt, left_in}
+use Rattle.fv_tree.specs.Words.{MeansSection, preorder, inside_section, FileMeaning, File, Plain, Sectioned, SectionMeanings, SectionMeaning, Section}
+use Rattle.fv_tree.specs.Words.{Leaf, Group, Nested, content_of, sections_list, body_of, sections_from, sections_in, sections_in_data, IsReadFile}
+use Rattle.fv_tree.specs.Words.{AreLevels, NestsAt, left_in}
 use Rattle.fv_tree.proofs.DepthLaws.{nests_body, nests_content, nests_group, nests_sections}
 use Rattle.fv_tree.proofs.SectionShapeLaws.{list_back}
 

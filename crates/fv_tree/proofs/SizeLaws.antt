@@ -27,7 +27,3 @@ file_falls = item_falls file_size (λ fs. files_size (files_from fs)) (λ f fs. 
 
 pub content_falls : (f : FileMeaning) → file_size f ≡ content_size (content_of f) + 1
 content_falls (File n k a c) = refl
-
-pub file_content_falls : (fs : List FileMeaning) (i : ℕ) (f : FileMeaning) → i < length fs → f ≡ get_or fs i f
-    → content_size (content_of f) + 2 ≤ files_size (files_from fs)
-file_content_falls fs i f l is = omega (arith, file_falls fs i f l is, content_falls f)

@@ -1,22 +1,17 @@
 -- The header length, the size and the file checksum of a valid file in a volume follow from its other fields.
-use Rattle.std.proofs.lemmas.Grind.{common_steps}
-use Rattle.std.proofs.Common.{◌≡◌, ◌≤◌, ◌<◌, ℕ, ◌+◌, ◌^◌, List, [], ◌∷◌, ◌++◌, length, true, refl, sym, ap, ◌∙◌, subst}
-use Rattle.std.proofs.Common.{arith, length-append}
-use Rattle.std.specs.List.{AllByRecursion}
-use Rattle.fv_base.specs.Words.{IsBytes}
+use Rattle.std.proofs.Common.{◌≡◌, ◌≤◌, ◌<◌, ℕ, ◌+◌, ◌^◌, [], ◌∷◌, ◌++◌, List, length, true, refl, sym, ap, ◌∙◌, subst, arith, length-append}
+use Rattle.fv_base.proofs.Laws.{common_steps, AllByRecursion, IsBytes, bytes_back, bytes_front}
 use Rattle.fv_base.specs.declared.flash.FileSystem.{FileSystem}
 use Rattle.fv_base.specs.declared.flash.Polarity.{Polarity}
-use Rattle.fv_base.proofs.Laws.{bytes_back, bytes_front}
-use Rattle.fv_file.specs.Words.{CellForm, Valid, Pad, Dead, Stub, Free, Tiles, IsCell, IsFilled, offset_of, CellsWithin, cell_len}
-use Rattle.fv_file.specs.Words.{attribute_bits, is_large, IsFile, IsSound, attributes_at, file_header_len, file_sum_right, file_sum_for}
-use Rattle.fv_file.specs.Words.{is_alive}
+use Rattle.fv_file.specs.Words.{CellForm, Valid, Pad, Dead, Stub, Free, Tiles, IsCell, IsFilled, offset_of, CellsWithin, cell_len, attribute_bits}
+use Rattle.fv_file.specs.Words.{is_large, IsFile, IsSound, attributes_at, file_header_len, file_sum_right, file_sum_for, is_alive}
 use Rattle.fv_file.specs.declared.cell.Cell.{Cell}
 use Rattle.fv_file.specs.declared.head.FileHead.{FileHead}
 use Rattle.fv_file.specs.declared.state.FileState.{FileState}
-use Rattle.fv_file.specs.declared.cell.Cell.TheVariants as cells
-use Rattle.fv_file.specs.declared.state.FileState.TheVariants as states
 use Rattle.fv_tree.specs.Words.{header_len_by, state_by}
 use Rattle.fv_tree.specs.inner.ReadingParts.{FollowsFrom, IsSmallCell, mark_of}
+use Rattle.fv_file.specs.declared.cell.Cell.TheVariants as cells
+use Rattle.fv_file.specs.declared.state.FileState.TheVariants as states
 
 -- the cell that is read after the end of a list of cells
 abbrev pub no_cell : Cell

@@ -3,12 +3,10 @@
 -- 2. The next frame lies within the stream, and its body within the limit (`walk_ready`). Either it is read
 --    (`walk_more`), or it is the first frame that is rejected (`walk_first`).
 -- 3. At the end the sections are the sections of the stream (`walk_found`).
-use Rattle.std.proofs.Common.{◌≡◌, ℕ, ◌+◌, ◌≤◌, List, [], ◌∷◌, ◌++◌, length, refl, sym, ap, ◌∙◌, subst, inr, append_assoc, arith}
-use Rattle.std.proofs.lemmas.List.{append-nil}
-use Rattle.fv_base.specs.Words.{First, volume_limit, IsBytes}
+use Rattle.std.proofs.Common.{◌≡◌, ℕ, ◌+◌, ◌≤◌, [], ◌∷◌, ◌++◌, List, length, refl, sym, ap, ◌∙◌, subst, inr, append_assoc, arith, append-nil}
+use Rattle.fv_base.proofs.Laws.{First, volume_limit, IsBytes, in_middle}
 use Rattle.fv_base.specs.declared.fault.Fault.{Fault}
 use Rattle.fv_base.specs.declared.fault.Place.{Place}
-use Rattle.fv_base.proofs.Laws.{in_middle}
 use Rattle.fv_section.specs.Words.{FrameForm, Splits, frame_len, HasFrameAt}
 use Rattle.fv_section.proofs.Laws.{split_stands, stands_within}
 use Rattle.fv_tree.specs.Words.{Pairwise, MeansSection, Stream, IsStoredFrame, InSection, InStream, SectionMeaning}

@@ -6,19 +6,13 @@
 -- 3. Of two current files neither replaces the other, so their names differ (`names_differ`).
 -- 4. Volume top files have the same name, so two of them are not both current (`two_tops`), and at most one of them is
 --    not at the end (`one_top`).
-use Rattle.std.proofs.lemmas.Grind.{common_steps}
-use Rattle.std.proofs.Common.{◌≡◌, ℕ, Bool, true, false, List, [], ◌∷◌, ◌++◌, refl, sym, ◌∙◌, subst, inl, inr, arith}
-use Rattle.std.specs.Prelude.{◌&&◌, not}
-use Rattle.std.specs.Bool.{beq}
-use Rattle.std.specs.List.{AllByRecursion, filter, list_any}
-use Rattle.std.proofs.lemmas.Bool.{not-true}
-use Rattle.std.proofs.lemmas.List.Elements.{filter_passes, recursion_from_All}
+use Rattle.std.proofs.Common.{◌≡◌, ℕ, [], ◌∷◌, ◌++◌, ◌&&◌, Bool, true, false, List, refl, sym, ◌∙◌, subst, inl, inr, arith, not}
+use Rattle.fv_base.proofs.Laws.{common_steps, beq, AllByRecursion, filter, list_any, not-true, recursion_from_All, bytes_eq-Decides, First, Earlier}
+use Rattle.fv_base.proofs.Laws.{TwoCuts, after_middle, in_middle, or_both, or_parts, two_cuts}
+use Rattle.std.proofs.lemmas.List.Elements.{filter_passes}
 use Rattle.std.proofs.lemmas.List.Folds.{list_any-append}
-use Rattle.std.proofs.lemmas.Slice.Eq.{bytes_eq-Decides}
-use Rattle.fv_base.specs.Words.{First}
 use Rattle.fv_tree.specs.Words.{HasTwin, TopElsewhere, FileForm, same_name, is_marked, is_twin, replaced_by, NoTwins, current_in, is_top}
 use Rattle.fv_tree.proofs.NamesFaultLaws.{twin_none}
-use Rattle.fv_base.proofs.Laws.{Earlier, TwoCuts, after_middle, in_middle, or_both, or_parts, two_cuts}
 
 -- ---- the first twin
 

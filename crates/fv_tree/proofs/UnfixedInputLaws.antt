@@ -1,18 +1,14 @@
 -- Why an input has no unfixed copy: its header or a cell has a fault (`stopped`), or bytes follow its volume
 -- (`bytes_follow`).
-use Rattle.std.proofs.Common.{◌≡◌, ◌∙◌, ℕ, ◌++◌, List, length, take, drop, ap, arith, inl, inr, sym}
-use Rattle.std.specs.Prelude.{◌<◌, nat_eq, false}
-use Rattle.std.proofs.lemmas.Bool.Decides.{nat_tests}
-use Rattle.std.proofs.Math.Seq.{take-append_seam}
-use Rattle.fv_base.specs.Words.{outer_fault}
+use Rattle.std.proofs.Common.{◌≡◌, ℕ, ◌++◌, ◌<◌, ◌∙◌, List, length, take, drop, ap, arith, inl, inr, sym, nat_eq, false}
+use Rattle.fv_base.proofs.Laws.{nat_tests, take-append_seam, outer_fault}
 use Rattle.fv_base.specs.declared.fault.Fault.{Fault}
-use Rattle.fv_base.specs.declared.fault.FaultKind.TheVariants as kinds
 use Rattle.fv_head.proofs.Laws.{one_front}
 use Rattle.fv_head.specs.Words.{BeginsVolume, HeadFields}
 use Rattle.fv_head.specs.declared.extent.Extent.{Extent}
-use Rattle.fv_tree.specs.Words.{IsUnfixed, UnfixStops}
-use Rattle.fv_tree.specs.Words.{NotUnfixed}
+use Rattle.fv_tree.specs.Words.{IsUnfixed, UnfixStops, NotUnfixed}
 use Rattle.fv_tree.proofs.FixedMarkLaws.{none_unfixed}
+use Rattle.fv_base.specs.declared.fault.FaultKind.TheVariants as kinds
 
 -- if the header or a cell has a fault, the input has no unfixed copy
 pub stopped : (input : List ℕ) (f : Fault) → UnfixStops input f → NotUnfixed input f

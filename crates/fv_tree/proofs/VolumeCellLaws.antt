@@ -1,7 +1,6 @@
 -- Why no cells tile the body of a volume that bytes begin with: its header or a cell has a fault.
-use Rattle.std.proofs.Common.{◌≡◌, ◌∙◌, ℕ, List, drop, inl, inr, subst, sym, take}
-use Rattle.std.specs.Prelude.{Result, Ok, Err}
-use Rattle.fv_base.specs.Words.{IsFirstFault}
+use Rattle.std.proofs.Common.{◌≡◌, ℕ, ◌∙◌, List, drop, inl, inr, subst, sym, take, Result, Ok, Err}
+use Rattle.fv_base.proofs.Laws.{IsFirstFault}
 use Rattle.fv_base.specs.declared.fault.Fault.{Fault}
 use Rattle.fv_file.specs.Words.{CellForm, Tiles, IsFirstCellFault}
 use Rattle.fv_head.specs.Words.{HeadFields, BeginsVolume, head_checks}

@@ -2,19 +2,15 @@
 -- 1. A header and files make a volume (`made`), and a volume has a header and files (`front_of`, `has_files`).
 -- 2. The first fault of a header is the first fault of the bytes (`head_first`).
 -- 3. A body that is opened is exactly one volume (`opened_whole`).
-use Rattle.std.proofs.Common.{◌≡◌, ◌≤◌, ◌⊎◌, ℕ, List, [], ◌∷◌, length, take, refl, sym, ap, ◌∙◌, subst}
-use Rattle.std.proofs.Common.{arith, inl, inr}
-use Rattle.std.specs.Prelude.{◌≢◌}
-use Rattle.std.proofs.lemmas.List.{length-take-le, take_all}
-use Rattle.fv_base.specs.Words.{IsFirstFault, First, out_of_memory}
+use Rattle.std.proofs.Common.{◌≡◌, ◌≤◌, ◌⊎◌, ℕ, [], ◌∷◌, ◌≢◌, List, length, take, refl, sym, ap, ◌∙◌, subst, arith, inl, inr, length-take-le}
+use Rattle.fv_base.proofs.Laws.{take_all, IsFirstFault, First, out_of_memory, take-take_le}
 use Rattle.fv_base.specs.declared.fault.Fault.{Fault}
 use Rattle.fv_base.specs.declared.fault.Place.{Place}
-use Rattle.fv_base.proofs.Laws.{take-take_le}
 use Rattle.fv_head.specs.Words.{HeadFields, BeginsVolume, head_checks, volume_len_at}
 use Rattle.fv_head.specs.declared.extent.Extent.{Extent}
 use Rattle.fv_head.proofs.Laws.{front_extent, front_same, one_front}
-use Rattle.fv_tree.specs.Words.{AreFilesOf, Stream, StreamRelation, Denotes, MeansFile, Opens, Pairwise, FileForm, moved_fault, InVolume}
-use Rattle.fv_tree.specs.Words.{Meaning, Volume, FileMeaning, files_list, head_of, files_of, files_from}
+use Rattle.fv_tree.specs.Words.{AreFilesOf, Stream, StreamRelation, Denotes, MeansFile, Opens, Pairwise, FileForm, moved_fault, InVolume, Meaning}
+use Rattle.fv_tree.specs.Words.{Volume, FileMeaning, files_list, head_of, files_of, files_from}
 
 -- the volume has some files, and the list contains their meanings
 abbrev pub HasFiles : StreamRelation → Extent → List ℕ → List FileMeaning → Type 0

@@ -1,18 +1,14 @@
 -- The laws of whole inputs: which volume an input is, or why it is not a volume.
-use Rattle.std.proofs.lemmas.Grind.{common_steps}
-use Rattle.std.proofs.Common.{◌≡◌, ◌≢◌, ◌≤◌, ◌<◌, ℕ, List, length, take, refl, sym, ap, ◌∙◌, subst, arith, inl, inr, ◌⊎◌, true, false}
-use Rattle.std.specs.Prelude.{◌==◌}
-use Rattle.std.proofs.lemmas.List.{take_all}
-use Rattle.std.proofs.lemmas.Bool.{eqb-true, eq-eqb}
-use Rattle.fv_base.proofs.Laws.{or_more, want_known}
-use Rattle.fv_base.specs.Words.{First, outer_fault, out_of_memory, depth_limit}
+use Rattle.std.proofs.Common.{◌≡◌, ◌≢◌, ◌≤◌, ◌<◌, ℕ, ◌⊎◌, ◌==◌, List, length, take, refl, sym, ap, ◌∙◌, subst, arith, inl, inr, true, false, take_all}
+use Rattle.fv_base.proofs.Laws.{eqb-true, eq-eqb, common_steps, or_more, want_known, First, outer_fault, out_of_memory, depth_limit}
 use Rattle.fv_base.specs.declared.fault.Fault.{Fault}
 use Rattle.fv_base.specs.declared.fault.FaultKind.{FaultKind}
-use Rattle.fv_base.specs.declared.fault.FaultKind.TheVariants as kinds
 use Rattle.fv_head.specs.Words.{BeginsWithHeader}
-use Rattle.fv_tree.specs.Words.{Accepted, Denotes, FaultHolds, IsFirstOfVolume, BytesFollowVolume, MemoryRanOut, NotRead, Meaning, length_of, outermost}
+use Rattle.fv_tree.specs.Words.{Accepted, Denotes, FaultHolds, IsFirstOfVolume, BytesFollowVolume, MemoryRanOut, NotRead, Meaning, length_of}
+use Rattle.fv_tree.specs.Words.{outermost}
 use Rattle.fv_tree.proofs.FaultKindLaws.{stands_other}
 use Rattle.fv_tree.proofs.RefusalLaws.{fault_refuses}
+use Rattle.fv_base.specs.declared.fault.FaultKind.TheVariants as kinds
 
 -- ---- an input and the volume that it begins with
 

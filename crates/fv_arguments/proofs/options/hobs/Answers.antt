@@ -1,5 +1,4 @@
-use Rattle.std.proofs.Common.{◌∙◌, codes, refl}
-use Rattle.fv_base.proofs.Laws.{err_is}
+use Rattle.fv_base.proofs.Laws.{◌∙◌, codes, refl, err_is}
 use Rattle.fv_arguments.proofs.ArgumentReadLemmas.{text_answer}
 use Rattle.fv_arguments.proofs.RefusalLemmas.{right_image}
 use Rattle.fv_arguments.proofs.options.hobs.Goals as goal

@@ -1,5 +1,4 @@
-use Rattle.std.proofs.Common.{◌∙◌, codes, refl, sym}
-use Rattle.fv_base.proofs.Laws.{err_is}
+use Rattle.fv_base.proofs.Laws.{◌∙◌, codes, refl, sym, err_is}
 use Rattle.fv_arguments.proofs.RefusalLemmas.{no_input}
 use Rattle.fv_arguments.proofs.TaskLemmas.{by_flag}
 use Rattle.fv_arguments.specs.Words.{list_app}

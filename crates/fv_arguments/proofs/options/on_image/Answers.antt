@@ -1,12 +1,11 @@
-use Rattle.std.proofs.Common.{◌∙◌, codes, refl, sym, true≢false}
-use Rattle.fv_base.proofs.Laws.{err_is}
+use Rattle.fv_base.proofs.Laws.{◌∙◌, codes, refl, sym, true≢false, err_is}
 use Rattle.fv_arguments.proofs.ArgumentReadLemmas.{none_is}
 use Rattle.fv_arguments.proofs.RefusalLemmas.{no_place, no_input}
 use Rattle.fv_arguments.proofs.TaskLemmas.{by_tasks}
 use Rattle.fv_arguments.specs.Words.{image_app}
 use Rattle.fv_plan.specs.declared.plan.Task.TheVariants.{Normalise, NormaliseAll, Check, CheckAll}
-use Rattle.fv_arguments.proofs.options.on_image.Goals as goal
 use Rattle.fv_arguments.proofs.options.on_image.Goals.{else-all-via-then-all+else-is_some, else-all-via-else-all}
+use Rattle.fv_arguments.proofs.options.on_image.Goals as goal
 
 pub returns-in_err-at-clause-normalise : goal.returns-in_err-at-clause-normalise
 returns-in_err-at-clause-normalise c whole single =

@@ -1,5 +1,4 @@
-use Rattle.std.proofs.Common.{codes, refl}
-use Rattle.fv_base.proofs.Laws.{err_is}
+use Rattle.fv_base.proofs.Laws.{codes, refl, err_is}
 use Rattle.fv_arguments.proofs.RefusalLemmas.{no_input}
 use Rattle.fv_arguments.specs.Words.{volume_app}
 use Rattle.fv_arguments.proofs.options.unfix.Goals as goal

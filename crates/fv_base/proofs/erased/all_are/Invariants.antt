@@ -1,5 +1,4 @@
-use Rattle.std.proofs.Common.{length}
-use Rattle.std.specs.Prelude.{◌↔◌}
+use Rattle.std.proofs.Common.{◌↔◌, length}
 use Rattle.fv_base.specs.Words.{AllAre}
 use Rattle.fv_base.proofs.erased.all_are.Given as goal
 

@@ -1,5 +1,4 @@
-use Rattle.std.proofs.Common.{◌≡◌, take}
-use Rattle.std.specs.Prelude.{◌↔◌}
+use Rattle.std.proofs.Common.{◌≡◌, ◌↔◌, take}
 use Rattle.fv_base.specs.Words.{AllAre}
 use Rattle.fv_base.proofs.erased.is_filled.Given as goal
 

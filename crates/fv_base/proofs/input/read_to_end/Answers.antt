@@ -1,11 +1,10 @@
-use Rattle.std.proofs.Common.{◌≡◌, ◌<◌, ◌+◌, ◌++◌, ◌∙◌, ℕ, List, length, length-append, take, ap, refl, sym, arith, true, false}
-use Rattle.std.proofs.Common.{Result, Ok, Err, IfErr, inr}
+use Rattle.std.proofs.Common.{◌≡◌, ◌<◌, ◌+◌, ◌++◌, ℕ, ◌∙◌, List, length, length-append, take, ap, refl, sym, arith, true, false, Result, Ok, Err}
+use Rattle.fv_base.proofs.Laws.{IfErr, inr, has_erred}
 use Rattle.std.proofs.KnownBytes.{Consumes-kept, Consumes-trans}
-use Rattle.fv_base.specs.Words.{has_erred}
-use Rattle.fv_base.specs.declared.fault.FaultKind.TheVariants as kinds
 use Rattle.fv_base.proofs.TestLemmas.{or_parts}
-use Rattle.fv_base.proofs.input.read_to_end.Goals as goal
 use Rattle.fv_base.proofs.input.read_to_end.Goals.{in-Ok+else-count-from+in_ok-take-in-Ok, in-Err}
+use Rattle.fv_base.specs.declared.fault.FaultKind.TheVariants as kinds
+use Rattle.fv_base.proofs.input.read_to_end.Goals as goal
 
 -- the number of bytes grows by the n bytes of a read
 with_piece : (bytes buf : List ℕ) (n : ℕ) → n ≡ length (take n buf) → length (bytes ++ take n buf) ≡ length bytes + n

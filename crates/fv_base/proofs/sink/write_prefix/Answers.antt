@@ -1,6 +1,5 @@
-use Rattle.std.proofs.Common.{◌∙◌, length, take, arith, subst, length-drop, ◌≤◌}
-use Rattle.std.specs.Io.KnownBytes.{Appends}
-use Rattle.fv_base.specs.Words.{inner_of, has_erred}
+use Rattle.std.proofs.Common.{◌≤◌, ◌∙◌, length, take, arith, subst, length-drop}
+use Rattle.fv_base.proofs.Laws.{Appends, inner_of, has_erred}
 use Rattle.fv_base.proofs.SinkLemmas.{more_written, some_taken}
 use Rattle.fv_base.proofs.sink.write_prefix.Goals as goal
 

@@ -1,5 +1,4 @@
-use Rattle.std.proofs.Common.{◌≡◌, ◌%◌, take}
-use Rattle.std.specs.Prelude.{sum}
+use Rattle.std.proofs.Common.{◌≡◌, ◌%◌, take, sum}
 use Rattle.fv_base.proofs.sums.sum8.Given as goal
 
 -- the total is the sum of the bytes so far, modulo 256

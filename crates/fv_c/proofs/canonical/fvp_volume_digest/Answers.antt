@@ -1,5 +1,4 @@
-use Rattle.std.proofs.Common.{◌∙◌, ap}
-use Rattle.fv_base.specs.Words.{fault_number}
+use Rattle.fv_base.proofs.Laws.{◌∙◌, ap, fault_number}
 use Rattle.fv_base.specs.declared.fault.Fault.{Fault}
 use Rattle.fv_c.proofs.canonical.fvp_volume_digest.Goals as goal
 

@@ -1,6 +1,4 @@
-use Rattle.std.proofs.Common.{◌∙◌, List, ap, length, map, subst, sym}
-use Rattle.std.proofs.lemmas.List.{length-map}
-use Rattle.std.proofs.lemmas.Simd.{map-map}
+use Rattle.fv_base.proofs.Laws.{◌∙◌, List, ap, length, map, subst, sym, length-map, map-map}
 use Rattle.fv_file.specs.Words.{CellForm, cell_form}
 use Rattle.fv_c.specs.ReportedCells.{reported_cell}
 use Rattle.fv_c.specs.declared.cells.FvCell.{FvCell}

@@ -1,5 +1,4 @@
-use Rattle.std.proofs.Common.{ap, arith, inl, refl}
-use Rattle.fv_base.specs.Words.{out_of_memory}
+use Rattle.fv_base.proofs.Laws.{ap, arith, inl, refl, out_of_memory}
 use Rattle.fv_c.specs.declared.reports.FvFault.{FvFault}
 use Rattle.fv_c.proofs.MemoryLaws.{header_of}
 use Rattle.fv_c.proofs.compare.fvp_volume_compare.Goals as goal

@@ -1,14 +1,6 @@
-use Rattle.std.proofs.Common.{rules}
-use Rattle.std.proofs.lemmas.Result.{IfErr-weaker}
-use Rattle.fv_base.proofs.Laws.{err_is}
+use Rattle.fv_base.proofs.Laws.{IfErr-weaker, err_is}
 use Rattle.fv_c.proofs.MemoryLaws.{begins_first}
 use Rattle.fv_c.proofs.depex.evaluated.Goals as goal
-
-pub returns-clause-ok : goal.returns-clause-ok
-returns-clause-ok c = search rules fits 300 steps 1000000
-
-pub returns-in_err-depex-clause-err : goal.returns-in_err-depex-clause-err
-returns-in_err-depex-clause-err c = search rules fits 300 steps 1000000
 
 pub returns-in_err-guids-clause-memory : goal.returns-in_err-guids-clause-memory
 returns-in_err-guids-clause-memory c =

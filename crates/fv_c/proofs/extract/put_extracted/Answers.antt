@@ -1,6 +1,5 @@
 use Rattle.std.proofs.Common.{◌≡◌}
-use Rattle.std.proofs.lemmas.Result.{IfErr-weaker}
-use Rattle.fv_base.specs.Words.{out_of_memory}
+use Rattle.fv_base.proofs.Laws.{IfErr-weaker, out_of_memory}
 use Rattle.fv_base.specs.declared.fault.Fault.{Fault}
 use Rattle.fv_c.specs.Reports.{BeginsWithHeader}
 use Rattle.fv_c.proofs.MemoryLaws.{header_of}

@@ -1,7 +1,5 @@
-use Rattle.std.proofs.Common.{◌≡◌, ◌∙◌, Option, Some, None, sym, ap}
-use Rattle.std.specs.Prelude.{option_map}
-use Rattle.std.proofs.lemmas.Iterator.Consumers.{YieldsList-from_first, nth_from_yields_List}
-use Rattle.std.proofs.lemmas.Result.{IfErr-weaker, IfOk-weaker}
+use Rattle.std.proofs.Common.{◌≡◌, ◌∙◌, Option, Some, None, sym, ap, option_map}
+use Rattle.fv_base.proofs.Laws.{YieldsList-from_first, nth_from_yields_List, IfErr-weaker, IfOk-weaker}
 use Rattle.fv_rows.specs.Words.{part_node, row_of, tree_rows}
 use Rattle.fv_rows.specs.declared.tree_walk.Row.{Row}
 use Rattle.fv_c.specs.ExtractedParts.{part_at}

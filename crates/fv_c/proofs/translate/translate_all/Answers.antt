@@ -1,5 +1,4 @@
-use Rattle.std.proofs.Common.{◌∙◌, ap, map}
-use Rattle.std.proofs.lemmas.List.{take_all}
+use Rattle.std.proofs.Common.{◌∙◌, ap, map, take_all}
 use Rattle.fv_c.proofs.RowLemmas.{row_more}
 use Rattle.fv_c.proofs.translate.translate_all.Goals as goal
 

@@ -1,5 +1,4 @@
-use Rattle.std.proofs.Common.{◌≤◌, ℕ, subst, sym}
-use Rattle.std.specs.Prelude.{◌≢◌}
+use Rattle.std.proofs.Common.{◌≤◌, ℕ, ◌≢◌, subst, sym}
 use Rattle.fv_c.proofs.UnfixKinds.{kept_number}
 use Rattle.fv_c.proofs.unfix.fvp_volume_unfix.Goals as goal
 

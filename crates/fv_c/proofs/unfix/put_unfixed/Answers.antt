@@ -1,6 +1,4 @@
-use Rattle.std.proofs.Common.{◌≡◌, ◌∙◌, ◌++◌, List, ℕ, ap, drop, length, subst, sym}
-use Rattle.std.specs.Prelude.{Err, IfErr, Ok, OnOk, Result}
-use Rattle.std.proofs.lemmas.List.{drop_at}
+use Rattle.std.proofs.Common.{◌≡◌, ◌++◌, ℕ, ◌∙◌, List, ap, drop, length, subst, sym, Err, IfErr, Ok, OnOk, Result, drop_at}
 use Rattle.fv_base.specs.declared.fault.Fault.{Fault}
 use Rattle.fv_tree.specs.Words.{IsUnfixed}
 use Rattle.fv_c.proofs.unfix.put_unfixed.Goals as goal

@@ -1,5 +1,4 @@
-use Rattle.std.proofs.Common.{refl}
-use Rattle.fv_base.proofs.Laws.{err_is}
+use Rattle.fv_base.proofs.Laws.{refl, err_is}
 use Rattle.fv_canon.proofs.Laws.{not_placed}
 use Rattle.fv_caller.proofs.archive.archive_volume.Goals as goal
 

@@ -1,5 +1,4 @@
-use Rattle.std.proofs.Common.{ap, inl, inr}
-use Rattle.fv_base.proofs.Laws.{err_is}
+use Rattle.fv_base.proofs.Laws.{ap, inl, inr, err_is}
 use Rattle.fv_caller.proofs.boot.check_boot.Goals as goal
 use Rattle.fv_caller.specs.declared.fault.CallerFault.TheVariants as faults
 

@@ -1,6 +1,5 @@
 use Rattle.std.proofs.Common.{ℕ, List, subst, sym}
-use Rattle.std.proofs.lemmas.Result.{IfOk-weaker}
-use Rattle.fv_base.proofs.Laws.{kept_whole}
+use Rattle.fv_base.proofs.Laws.{IfOk-weaker, kept_whole}
 use Rattle.fv_canon.specs.Words.{IsImage}
 use Rattle.fv_canon.proofs.ImageLaws.{image_accepted}
 use Rattle.fv_canon.proofs.HeadlineLaws.{one_meaning_of}

@@ -1,7 +1,5 @@
-use Rattle.std.proofs.Common.{rules, length, ◌<◌, ◌^◌, arith}
-use Rattle.std.specs.Io.KnownBytes.{Appends}
-use Rattle.std.proofs.lemmas.Result.{on_ok_weaker, IfErr-weaker}
-use Rattle.fv_base.specs.Words.{WriteStops}
+use Rattle.std.proofs.Common.{rules, ◌<◌, ◌^◌, length, arith}
+use Rattle.fv_base.proofs.Laws.{Appends, on_ok_weaker, IfErr-weaker, WriteStops}
 use Rattle.fv_canon.proofs.ImageLaws.{image_length, length_limit}
 use Rattle.fv_canon.proofs.canonical_image.write_canonical.Goals as goal
 
@@ -17,6 +15,3 @@ returns-clause-err g c =
     let put = c.put_canonical.ensures in
     let short : length put.0 < 2 ^ 64 = omega (arith, image_length m put.0 k put.1, length_limit m k) in
     IfErr-weaker c.outcome.result (WriteStops _ _ put.0) _ (λ f stops. (put.0, put.1, stops)) (search rules)
-
-pub returns-clause-fine : goal.returns-clause-fine
-returns-clause-fine g c = search rules

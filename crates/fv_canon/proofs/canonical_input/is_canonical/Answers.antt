@@ -1,7 +1,5 @@
 use Rattle.std.proofs.Common.{◌≡◌, inl}
-use Rattle.std.proofs.lemmas.Result.{IfOk-weaker, IfErr-weaker}
-use Rattle.fv_base.proofs.Laws.{err_is}
-use Rattle.fv_base.specs.Words.{out_of_memory}
+use Rattle.fv_base.proofs.Laws.{IfOk-weaker, IfErr-weaker, err_is, out_of_memory}
 use Rattle.fv_base.specs.declared.fault.Fault.{Fault}
 use Rattle.fv_head.specs.Words.{HeadFields, BeginsVolume}
 use Rattle.fv_head.specs.declared.extent.Extent.{Extent}

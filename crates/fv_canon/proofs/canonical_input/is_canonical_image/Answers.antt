@@ -1,5 +1,4 @@
-use Rattle.std.proofs.Common.{◌≡◌, ℕ, List, ◌++◌, sym, subst, rules}
-use Rattle.std.specs.Prelude.{IsTrue}
+use Rattle.std.proofs.Common.{◌≡◌, ℕ, ◌++◌, rules, List, sym, subst, IsTrue}
 use denote.Enum.Bare.{same_true, same_false}
 use Rattle.fv_base.specs.contracts.fault.FaultKind.{the_type}
 use Rattle.fv_canon.specs.inner.ImageOf.{image_of}

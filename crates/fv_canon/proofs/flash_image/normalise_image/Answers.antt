@@ -1,6 +1,5 @@
-use Rattle.std.proofs.Common.{◌≡◌, ◌∙◌, ℕ, List, subst, sym}
-use Rattle.std.proofs.lemmas.Result.{IfOk-weaker}
-use Rattle.fv_base.proofs.Laws.{kept_whole, err_is}
+use Rattle.std.proofs.Common.{◌≡◌, ℕ, ◌∙◌, List, subst, sym}
+use Rattle.fv_base.proofs.Laws.{IfOk-weaker, kept_whole, err_is}
 use Rattle.fv_canon.specs.Words.{NormalisesAll}
 use Rattle.fv_canon.proofs.FlashImageLaws.{normalised_one}
 use Rattle.fv_canon.proofs.flash_image.normalise_image.Goals as goal

@@ -1,6 +1,4 @@
-use Rattle.std.proofs.Common.{ap, arith}
-use Rattle.std.proofs.Math.ListN.{drop_of_length-le}
-use Rattle.fv_base.proofs.Laws.{item_at}
+use Rattle.fv_base.proofs.Laws.{ap, arith, drop_of_length-le, item_at}
 use Rattle.fv_head.specs.Words.{HeadFields}
 use Rattle.fv_tree.specs.Words.{Meaning, head_of}
 use Rattle.fv_canon.proofs.LaidVolumeLaws.{laid_all, laid_ends, laid_more, laid_next, laid_none}

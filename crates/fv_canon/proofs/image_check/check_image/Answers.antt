@@ -1,12 +1,10 @@
-use Rattle.std.proofs.Common.{◌≡◌, ◌≤◌, ◌∙◌, ap, arith, length, rules, sym, subst}
-use Rattle.std.proofs.lemmas.Grind.{common_steps}
-use Rattle.fv_base.proofs.Laws.{at_index, err_is}
-use Rattle.fv_base.specs.Words.{volume_limit}
+use Rattle.std.proofs.Common.{◌≡◌, ◌≤◌, rules, ◌∙◌, ap, length, sym, subst}
+use Rattle.fv_base.proofs.Laws.{at_index, err_is, volume_limit, arith, common_steps}
 use Rattle.fv_base.specs.declared.fault.Fault.{Fault}
-use Rattle.fv_base.specs.declared.fault.FaultKind.TheVariants as kinds
 use Rattle.fv_flash.specs.Words.{AreFound, VolumeAt}
 use Rattle.fv_flash.proofs.Laws.{some_place}
 use Rattle.fv_canon.proofs.ImageCheckLaws.{checks_one}
+use Rattle.fv_base.specs.declared.fault.FaultKind.TheVariants as kinds
 use Rattle.fv_canon.proofs.image_check.check_image.Goals as goal
 
 pub check_at-requires : goal.check_at-requires

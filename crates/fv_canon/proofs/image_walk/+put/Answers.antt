@@ -1,5 +1,5 @@
 use Rattle.std.proofs.Common.{◌≡◌, ◌<◌, ◌+◌, ◌-◌, ℕ, true, List, false, length, drop, replicate, get_or, sym, ap, ◌∙◌, subst, arith}
-use Rattle.std.proofs.lemmas.Grind.{common_steps}
+use Rattle.fv_base.proofs.Laws.{common_steps}
 use Rattle.fv_file.specs.Words.{is_summed}
 use Rattle.fv_head.specs.Words.{HeadFields, polarity_of}
 use Rattle.fv_tree.specs.Words.{Meaning, SectionMeaning, BodyMeaning, FileMeaning, attributes_of, body_of, files_from, body_view, Inside}
@@ -13,8 +13,7 @@ use Rattle.fv_canon.proofs.DataBodyLaws.{data_image, data_size, data_volumes}
 use Rattle.fv_rows.specs.inner.RowVolumes.{volumes_of}
 use Rattle.fv_canon.proofs.LayoutWalkLaws.{file_volumes}
 use Rattle.fv_canon.proofs.LaidFileLaws.{file_long, stored_is, size_is, at_file, file_passed, files_end, walk_goes, placed_on}
-use Rattle.fv_canon.proofs.LaidSectionLaws.{section_known, section_passed, in_body, body_laid, goes_on, front_more, front_end, front_none}
-use Rattle.fv_canon.proofs.LaidSectionLaws.{walk_ended}
+use Rattle.fv_canon.proofs.LaidSectionLaws.{section_known, section_passed, in_body, body_laid, goes_on, front_more, front_end, front_none, walk_ended}
 use Rattle.fv_canon.proofs.SumWalks.{state_adds}
 use Rattle.fv_canon.proofs.VolumeWalks.{volume_is, volume_seen, volume_text, volume_rest}
 use Rattle.fv_canon.proofs.image_walk.+put.Goals.{put_file-else-is_summing-via-else-is_summing}

@@ -1,6 +1,5 @@
 use Rattle.std.proofs.Common.{◌++◌, arith}
-use Rattle.fv_base.proofs.Laws.{err_is}
-use Rattle.fv_base.specs.Words.{depth_limit}
+use Rattle.fv_base.proofs.Laws.{err_is, depth_limit}
 use Rattle.fv_canon.specs.inner.ImageOf.{image_of}
 use Rattle.fv_canon.proofs.ImageLaws.{image_is}
 use Rattle.fv_canon.proofs.RejectedInputLaws.{image_fits, not_placed, not_read, not_read_never, unfit_kind}

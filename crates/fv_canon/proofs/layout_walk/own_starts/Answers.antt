@@ -1,5 +1,4 @@
-use Rattle.std.proofs.Common.{ℕ, List, sym, ap, ◌∙◌, subst, rules}
-use Rattle.std.specs.Prelude.{All}
+use Rattle.std.proofs.Common.{ℕ, List, sym, ap, ◌∙◌, subst, All}
 use Rattle.fv_head.specs.Words.{HeadFields}
 use Rattle.fv_placement.specs.Words.{IsLawfulItem}
 use Rattle.fv_placement.specs.declared.first_placement.PlacementItem.{PlacementItem}
@@ -16,6 +15,3 @@ first_starts-requires-clause-items c =
     let total = c.length-total.ensures ∙ ap (λ (h : HeadFields). h.length) c.head-head.ensures.head in
     subst (λ (ps : List PlacementItem). All (IsLawfulItem c.length-total.result) ps) (sym c.as_slice-2.ensures.value)
     (subst (λ (n : ℕ). All (IsLawfulItem n) c.in_ok-items.items.items) (sym total) c.in_ok-items.ensures.ok.1)
-
-pub returns-in-None-clause-err : goal.returns-in-None-clause-err
-returns-in-None-clause-err c = search rules fits 300 steps 1000000

@@ -1,7 +1,5 @@
-use Rattle.std.proofs.Common.{◌≡◌, ◌<◌, ◌+◌, ℕ, List, [], ◌∷◌, ◌++◌, length, take, get_or, map, sym, ap, ◌∙◌, subst, arith}
-use Rattle.std.specs.Prelude.{All}
-use Rattle.std.proofs.lemmas.List.{map-append, take_all, take_more}
-use Rattle.fv_base.proofs.Laws.{err_is}
+use Rattle.std.proofs.Common.{◌≡◌, ◌<◌, ◌+◌, ℕ, [], ◌∷◌, ◌++◌, List, length, take, get_or, map, sym, ap, ◌∙◌, subst, arith, All, take_all}
+use Rattle.fv_base.proofs.Laws.{map-append, take_more, err_is}
 use Rattle.fv_canon.specs.Words.{placement_item}
 use Rattle.fv_placement.specs.Words.{IsLawfulItem}
 use Rattle.fv_placement.specs.declared.first_placement.PlacementItem.{PlacementItem}

@@ -1,7 +1,5 @@
-use Rattle.std.proofs.Common.{◌≡◌, ◌⊎◌, List, ℕ, length, subst, sym}
-use Rattle.std.proofs.lemmas.Result.{IfOk-weaker, IfErr-weaker}
-use Rattle.fv_base.proofs.Laws.{err_is}
-use Rattle.fv_base.specs.Words.{out_of_memory}
+use Rattle.std.proofs.Common.{◌≡◌, ◌⊎◌, ℕ, List, length, subst, sym}
+use Rattle.fv_base.proofs.Laws.{IfOk-weaker, IfErr-weaker, err_is, out_of_memory}
 use Rattle.fv_base.specs.declared.fault.Fault.{Fault}
 use Rattle.fv_head.specs.Words.{HeadFields, BeginsVolume}
 use Rattle.fv_head.specs.declared.extent.Extent.{Extent}
@@ -9,8 +7,7 @@ use Rattle.fv_tree.specs.Words.{head_of}
 use Rattle.fv_canon.specs.Words.{MeanSame, NormalisesTo, IsOfLayout, IsUnfit, Fits}
 use Rattle.fv_canon.proofs.ImageLaws.{image_again, image_stays_long}
 use Rattle.fv_canon.proofs.ImageFits.{image_fits as has_image_fits}
-use Rattle.fv_canon.proofs.RejectedInputLaws.{image_fits, not_placed, not_read, not_read_never, refused_unplaced, unread_refused}
-use Rattle.fv_canon.proofs.RejectedInputLaws.{unfit_kind_of}
+use Rattle.fv_canon.proofs.RejectedInputLaws.{image_fits, not_placed, not_read, not_read_never, refused_unplaced, unread_refused, unfit_kind_of}
 use Rattle.fv_canon.proofs.normalising.normalise.Goals as goal
 
 pub returns-in_err-view-clause-err : goal.returns-in_err-view-clause-err

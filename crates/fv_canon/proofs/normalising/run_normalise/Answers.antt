@@ -1,12 +1,9 @@
-use Rattle.std.proofs.Common.{◌≡◌, inl, inr, rules, sym, true}
-use Rattle.std.proofs.KnownBytes.{Keeps-refl}
-use Rattle.std.proofs.lemmas.Result.{IfErr-weaker}
-use Rattle.fv_base.proofs.Laws.{err_is}
-use Rattle.fv_base.specs.Words.{has_erred}
+use Rattle.std.proofs.Common.{◌≡◌, rules, inl, inr, sym, true}
+use Rattle.fv_base.proofs.Laws.{Keeps-refl, IfErr-weaker, err_is, has_erred}
 use Rattle.fv_base.specs.declared.fault.Fault.{Fault}
-use Rattle.fv_base.specs.declared.fault.FaultKind.TheVariants as kinds
 use Rattle.fv_tree.proofs.Laws.{ran_out}
 use Rattle.fv_canon.proofs.NormaliseRunLaws.{of_some_kind, run_writes, write_not_read, writer_stops}
+use Rattle.fv_base.specs.declared.fault.FaultKind.TheVariants as kinds
 use Rattle.fv_canon.proofs.normalising.run_normalise.Goals as goal
 
 pub returns-in_err-input-clause-err : goal.returns-in_err-input-clause-err

@@ -1,6 +1,5 @@
-use Rattle.std.proofs.Common.{◌≡◌, ◌+◌, ◌-◌, ℕ, List, [], ◌++◌, replicate, sym, ap, ◌∙◌, subst, arith, append_assoc}
-use Rattle.std.specs.Prelude.{Option, None, Some, option_copied}
-use Rattle.fv_base.specs.Words.{erased_byte, up_to_8}
+use Rattle.std.proofs.Common.{◌≡◌, ◌+◌, ◌-◌, ℕ, [], ◌++◌, List, replicate, sym, ap, ◌∙◌, subst, arith, append_assoc, Option, None, Some}
+use Rattle.fv_base.proofs.Laws.{option_copied, erased_byte, up_to_8}
 use Rattle.fv_base.specs.declared.flash.Polarity.{Polarity}
 use Rattle.fv_file.specs.Words.{pad_head_of}
 use Rattle.fv_head.specs.Words.{Extension, HeadFields, header_len_of, canonical_end, first_edge, ext_len, ext_spelled, polarity_of}

@@ -1,8 +1,5 @@
-use Rattle.std.proofs.Common.{◌≡◌, ◌≤◌, ◌<◌, ◌+◌, ◌-◌, ℕ, length, get_or, sym, ap, ◌∙◌, arith}
-use Rattle.std.specs.Prelude.{map}
-use Rattle.std.proofs.lemmas.Grind.{common_steps}
-use Rattle.std.proofs.lemmas.List.{length-map}
-use Rattle.fv_base.specs.Words.{volume_limit}
+use Rattle.std.proofs.Common.{◌≡◌, ◌≤◌, ◌<◌, ◌+◌, ◌-◌, ℕ, length, get_or, sym, ap, ◌∙◌, arith, map}
+use Rattle.fv_base.proofs.Laws.{common_steps, length-map, volume_limit}
 use Rattle.fv_canon.specs.inner.FileWalks.{used_by}
 use Rattle.fv_canon.specs.Words.{placement_item, size_for}
 use Rattle.fv_placement.proofs.Laws.{follow_length}

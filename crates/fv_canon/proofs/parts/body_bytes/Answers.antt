@@ -1,6 +1,4 @@
-use Rattle.std.proofs.Common.{subst, sym}
-use Rattle.std.proofs.lemmas.Result.{IfOk-weaker}
-use Rattle.fv_base.proofs.Laws.{err_is, first_only, kept_whole}
+use Rattle.fv_base.proofs.Laws.{subst, sym, IfOk-weaker, err_is, first_only, kept_whole}
 use Rattle.fv_tree.specs.Words.{body_of}
 use Rattle.fv_canon.specs.Words.{IsBodyImage}
 use Rattle.fv_canon.proofs.FitLaws.{first_none}

@@ -1,5 +1,4 @@
-use Rattle.std.proofs.Common.{inl, inr, refl}
-use Rattle.fv_base.proofs.Laws.{err_is}
+use Rattle.fv_base.proofs.Laws.{inl, inr, refl, err_is}
 use Rattle.fv_command.proofs.RunLemmas.{given, given_at, second_stopped, verdict_is}
 use Rattle.fv_command.proofs.comparison_run.compare_with.Goals as goal
 

@@ -1,5 +1,4 @@
-use Rattle.std.proofs.Common.{take}
-use Rattle.std.specs.List.{flat_map}
+use Rattle.fv_base.proofs.Laws.{take, flat_map}
 use Rattle.fv_command.specs.Words.{checked_line}
 use Rattle.fv_command.proofs.image_check_run.put_checks.Given as goal
 

@@ -1,5 +1,4 @@
-use Rattle.std.proofs.Common.{ℕ, subst}
-use Rattle.std.specs.Prelude.{Option}
+use Rattle.std.proofs.Common.{ℕ, subst, Option}
 use Rattle.fv_text.specs.Words.{Change, change}
 use Rattle.fv_command.specs.Words.{HobsRunText, StopsHobs}
 use Rattle.fv_command.specs.inner.RunSteps.{Puts}

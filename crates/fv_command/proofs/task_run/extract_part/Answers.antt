@@ -1,5 +1,4 @@
-use Rattle.std.proofs.Common.{refl}
-use Rattle.fv_base.proofs.Laws.{err_is}
+use Rattle.fv_base.proofs.Laws.{refl, err_is}
 use Rattle.fv_command.proofs.task_run.extract_part.Goals as goal
 
 pub returns-in_err-extraction : goal.returns-in_err-extraction

@@ -1,5 +1,4 @@
-use Rattle.std.proofs.Common.{refl, subst, sym}
-use Rattle.fv_base.proofs.Laws.{err_is}
+use Rattle.fv_base.proofs.Laws.{refl, subst, sym, err_is}
 use Rattle.fv_canon.specs.Words.{AreAllStarts}
 use Rattle.fv_canon.proofs.Laws.{layout_covers}
 use Rattle.fv_command.proofs.RunLemmas.{sums_denied}

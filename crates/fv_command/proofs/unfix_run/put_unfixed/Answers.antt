@@ -1,7 +1,6 @@
-use Rattle.std.proofs.Common.{refl, subst}
-use Rattle.fv_base.proofs.Laws.{err_is}
-use Rattle.fv_command.proofs.unfix_run.put_unfixed.Goals as goal
+use Rattle.fv_base.proofs.Laws.{refl, subst, err_is}
 use Rattle.fv_text.specs.Words.{ShowsBytes}
+use Rattle.fv_command.proofs.unfix_run.put_unfixed.Goals as goal
 
 pub returns-in_err-volume : goal.returns-in_err-volume
 returns-in_err-volume g c = rw (err_is c.from_residual.ensures.1) (c.in_err-volume.ensures.err, refl)

@@ -1,5 +1,4 @@
-use Rattle.std.proofs.Common.{◌≤◌, ◌∙◌, length, subst, sym}
-use Rattle.std.specs.Prelude.{IfSome}
+use Rattle.std.proofs.Common.{◌≤◌, ◌∙◌, length, subst, sym, IfSome}
 use Rattle.fv_tree.specs.Words.{Differs}
 use Rattle.fv_tree.proofs.Laws.{few_steps}
 use Rattle.fv_compare.proofs.compare.put_comparison.Goals as goal

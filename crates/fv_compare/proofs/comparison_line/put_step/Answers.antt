@@ -1,5 +1,4 @@
-use Rattle.std.proofs.Common.{arith, decimal}
-use Rattle.std.specs.Prelude.{codes}
+use Rattle.std.proofs.Common.{arith, decimal, codes}
 use Rattle.fv_compare.proofs.ComparisonLineLaws.{short_step}
 use Rattle.fv_compare.proofs.comparison_line.put_step.Goals as goal
 

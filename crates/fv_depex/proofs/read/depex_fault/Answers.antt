@@ -1,4 +1,4 @@
-use Rattle.std.proofs.Common.{List, [], ◌∷◌, ◌++◌, refl, sym, ◌∙◌, arith, rules}
+use Rattle.std.proofs.Common.{List, [], ◌∷◌, ◌++◌, refl, sym, ◌∙◌, arith}
 use Rattle.fv_depex.specs.declared.op.Op.{Op}
 use Rattle.fv_depex.proofs.OpReadLemmas.{kept_none, kept, ended, first_fault_at, one_more}
 use Rattle.fv_depex.proofs.read.depex_fault.Goals as goal
@@ -35,6 +35,3 @@ pub returns-in-Err-clause-first : goal.returns-in-Err-clause-first
 returns-in-Err-clause-first c =
     let e = c.in-Err.ensures in
     first_fault_at c.args.phase c.args.bytes.now _ _ _ _ c.loop-op.invariant.1 e.place e.first
-
-pub returns-then-code-eq-END-clause-first : goal.returns-then-code-eq-END-clause-first
-returns-then-code-eq-END-clause-first c = search rules fits 100 steps 300000

@@ -1,5 +1,4 @@
-use Rattle.std.proofs.Common.{drop}
-use Rattle.fv_base.proofs.Laws.{first_is}
+use Rattle.fv_base.proofs.Laws.{drop, first_is}
 use Rattle.fv_depex.specs.Words.{op_checks}
 use Rattle.fv_depex.proofs.OpLemmas.{op_stands}
 use Rattle.fv_depex.proofs.read.op_at.Goals as goal

@@ -1,5 +1,4 @@
-use Rattle.std.proofs.Common.{◌∙◌, refl, sym, subst}
-use Rattle.fv_base.proofs.Laws.{err_is}
+use Rattle.fv_base.proofs.Laws.{◌∙◌, refl, sym, subst, err_is}
 use Rattle.fv_depex.specs.Words.{Spells}
 use Rattle.fv_depex.proofs.OpReadLemmas.{none_after, spells_first}
 use Rattle.fv_depex.proofs.PathLemmas.{one_spelling}

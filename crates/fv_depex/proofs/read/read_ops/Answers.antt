@@ -1,5 +1,4 @@
-use Rattle.std.proofs.Common.{◌∙◌, refl, sym, ap, arith}
-use Rattle.fv_base.proofs.Laws.{err_is}
+use Rattle.fv_base.proofs.Laws.{◌∙◌, refl, sym, ap, arith, err_is}
 use Rattle.fv_depex.specs.declared.fault.DepexFault.{DepexFault}
 use Rattle.fv_depex.proofs.OpReadLemmas.{kept_none, kept, ended, first_fault_at, no_want, one_more, stands_first}
 use Rattle.fv_depex.proofs.read.read_ops.Goals as goal

@@ -1,10 +1,8 @@
-use Rattle.std.proofs.Common.{ap, arith, refl, ◌∙◌, sym, [], get_or}
-use Rattle.std.specs.Prelude.{reverse, Some, None, if◌then◌else◌}
-use Rattle.std.proofs.lemmas.List.{drop_more}
-use Rattle.fv_base.proofs.Laws.{err_is}
+use Rattle.std.proofs.Common.{[], if◌then◌else◌, ap, arith, refl, ◌∙◌, sym, get_or, reverse, Some, None}
+use Rattle.fv_base.proofs.Laws.{drop_more, err_is}
 use Rattle.fv_depex.specs.declared.op.Op.{Op}
-use Rattle.fv_depex.specs.declared.op.Op.TheVariants as ops
 use Rattle.fv_depex.proofs.TruthLemmas.{run_step, run_none, run_end}
+use Rattle.fv_depex.specs.declared.op.Op.TheVariants as ops
 use Rattle.fv_depex.proofs.truth.evaluate_ops.Goals as goal
 
 pub loop-op-preserved : goal.loop-op-preserved

@@ -1,5 +1,4 @@
-use Rattle.std.proofs.Common.{◌≡◌, [], drop}
-use Rattle.std.specs.Prelude.{reverse}
+use Rattle.std.proofs.Common.{◌≡◌, [], drop, reverse}
 use Rattle.fv_depex.specs.inner.Ops.{evaluate_ops}
 use Rattle.fv_depex.proofs.truth.evaluate_ops.Given as goal
 

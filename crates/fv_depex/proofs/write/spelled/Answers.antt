@@ -1,10 +1,9 @@
-use Rattle.std.proofs.lemmas.Grind.{common_steps}
-use Rattle.std.proofs.Common.{◌++◌, ◌∷◌, [], get_or, take, sym, ap, ◌∙◌, append-nil, arith}
-use Rattle.std.proofs.lemmas.List.{take_more}
+use Rattle.std.proofs.Common.{◌++◌, ◌∷◌, [], get_or, take, sym, ap, ◌∙◌, append-nil}
+use Rattle.fv_base.proofs.Laws.{take_more}
 use Rattle.fv_depex.specs.Words.{op_code, op_operand, ops_bytes}
 use Rattle.fv_depex.specs.declared.op.Op.{Op}
-use Rattle.fv_depex.specs.declared.op.Op.TheVariants as ops
 use Rattle.fv_depex.proofs.PathLemmas.{bytes_join}
+use Rattle.fv_depex.specs.declared.op.Op.TheVariants as ops
 use Rattle.fv_depex.proofs.write.spelled.Goals as goal
 
 pub loop-op-preserved : goal.loop-op-preserved
@@ -15,6 +14,3 @@ loop-op-preserved c =
     ∙ sym (ap ops_bytes (take_more c.args.ops.now c.loop-op.op-index d c.loop-op-test.true)
     ∙ bytes_join (take c.loop-op.op-index c.args.ops.now) (o ∷ [])
     ∙ ap (λ l. ops_bytes (take c.loop-op.op-index c.args.ops.now) ++ (op_code o ∷ l)) (append-nil (op_operand o)))
-
-pub returns : goal.returns
-returns c = grind (arith, common_steps) steps 300000

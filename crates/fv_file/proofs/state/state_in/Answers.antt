@@ -1,5 +1,4 @@
-use Rattle.std.proofs.Common.{arith, ap, sym}
-use Rattle.std.proofs.lemmas.Bool.Decides.{nat_tests}
+use Rattle.fv_base.proofs.Laws.{arith, ap, sym, nat_tests}
 use Rattle.fv_file.specs.Words.{state_in}
 use Rattle.fv_file.proofs.state.state_in.Goals as goal
 

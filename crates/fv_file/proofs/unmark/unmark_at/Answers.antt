@@ -1,6 +1,4 @@
-use Rattle.std.proofs.Common.{◌≡◌, ◌+◌, ◌<◌, drop, sym, ap, ◌∙◌, inr, arith, rules, length, length-drop}
-use Rattle.std.specs.Prelude.{Err}
-use Rattle.std.proofs.lemmas.List.{get_or-drop}
+use Rattle.std.proofs.Common.{◌≡◌, ◌+◌, ◌<◌, rules, drop, sym, ap, ◌∙◌, inr, arith, length, length-drop, Err, get_or-drop}
 use denote.Enum.Bare.{same_true}
 use Rattle.fv_base.specs.contracts.fault.FaultKind.{the_type}
 use Rattle.fv_file.specs.Words.{is_fixed}

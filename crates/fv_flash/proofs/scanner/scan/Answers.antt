@@ -1,7 +1,4 @@
-use Rattle.std.proofs.Common.{arith}
-use Rattle.std.proofs.lemmas.Grind.{common_steps}
-use Rattle.std.proofs.lemmas.List.{map-append, take_all, take_more}
-use Rattle.fv_base.proofs.Laws.{err_is}
+use Rattle.fv_base.proofs.Laws.{arith, take_all, common_steps, map-append, take_more, err_is}
 use Rattle.fv_flash.proofs.ScanLaws.{one_found, some_place}
 use Rattle.fv_flash.proofs.scanner.scan.Goals as goal
 

@@ -1,6 +1,4 @@
-use Rattle.std.proofs.Common.{sym, subst}
-use Rattle.std.proofs.lemmas.Result.{IfOk-weaker}
-use Rattle.fv_base.proofs.Laws.{kept_whole}
+use Rattle.fv_base.proofs.Laws.{sym, subst, IfOk-weaker, kept_whole}
 use Rattle.fv_head.specs.Words.{IsExt, ext_spelled}
 use Rattle.fv_head.proofs.ExtImageLemmas.{ext_again}
 use Rattle.fv_head.proofs.ext_image.ext_bytes.Goals as goal

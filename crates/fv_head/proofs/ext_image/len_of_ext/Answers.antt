@@ -1,4 +1,4 @@
-use Rattle.std.proofs.Common.{ap, arith, length, rules}
+use Rattle.std.proofs.Common.{ap, arith, length}
 use Rattle.fv_head.specs.Words.{entries_len}
 use Rattle.fv_head.proofs.ExtImageLemmas.{ext_len_most}
 use Rattle.fv_head.proofs.ext_image.len_of_ext.Goals as goal
@@ -26,6 +26,3 @@ overflow_add-result-2 c =
 pub returns-clause-most : goal.returns-clause-most
 returns-clause-most c =
     ext_len_most c.args.ext.now c.name-name.ensures.read
-
-pub returns-clause-len : goal.returns-clause-len
-returns-clause-len c = search rules fits 100 steps 300000

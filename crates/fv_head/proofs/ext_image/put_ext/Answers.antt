@@ -1,5 +1,4 @@
-use Rattle.std.proofs.Common.{◌∙◌, ap}
-use Rattle.fv_base.specs.Words.{bytes_of, le_bytes}
+use Rattle.fv_base.proofs.Laws.{◌∙◌, ap, bytes_of, le_bytes}
 use Rattle.fv_head.specs.Words.{entries_bytes, ext_spelled}
 use Rattle.fv_head.proofs.ExtImageLemmas.{ext_again}
 use Rattle.fv_head.proofs.HeadWalkLemmas.{renamed}

@@ -1,5 +1,4 @@
-use Rattle.std.proofs.Common.{◌∙◌, ap, arith, subst, sym}
-use Rattle.fv_base.specs.Words.{le_at}
+use Rattle.fv_base.proofs.Laws.{◌∙◌, ap, arith, subst, sym, le_at}
 use Rattle.fv_head.specs.Words.{IsExt}
 use Rattle.fv_head.proofs.HeadPlaceLemmas.{ext_there}
 use Rattle.fv_head.proofs.head.ext_at.Goals as goal

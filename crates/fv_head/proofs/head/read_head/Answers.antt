@@ -1,5 +1,4 @@
-use Rattle.std.proofs.Common.{ap, inl, refl}
-use Rattle.fv_base.proofs.Laws.{err_is}
+use Rattle.fv_base.proofs.Laws.{ap, inl, refl, err_is}
 use Rattle.fv_base.specs.declared.fault.Fault.{Fault}
 use Rattle.fv_head.proofs.HeadPlaceLemmas.{one_front}
 use Rattle.fv_head.proofs.HeadFaultLemmas.{fault_known}

@@ -1,6 +1,5 @@
-use Rattle.std.proofs.Common.{[], ◌∷◌}
-use Rattle.std.proofs.lemmas.Nat.{shr-shr}
-use Rattle.fv_base.specs.Words.{le_bytes}
+use Rattle.std.proofs.Common.{[], ◌∷◌, shr-shr}
+use Rattle.fv_base.proofs.Laws.{le_bytes}
 use Rattle.fv_head.specs.Words.{canonical_offset, header_len_of, signature_bytes, system_guid}
 use Rattle.fv_head.proofs.HeadWalkLemmas.{nine_joined}
 use Rattle.fv_head.proofs.head_image.front_bytes.Goals as goal

@@ -1,4 +1,4 @@
-use Rattle.std.proofs.Common.{◌≡◌, ◌∙◌, drop, refl, sym, rules}
+use Rattle.std.proofs.Common.{◌≡◌, ◌∙◌, drop, refl, sym}
 use Rattle.fv_base.proofs.Laws.{err_is}
 use Rattle.fv_base.specs.inner.Verdicts.{first_fault}
 use Rattle.fv_head.specs.Words.{later_checks}
@@ -47,15 +47,3 @@ returns-in_err-check-5-clause-err c =
       rw (c.header_len_at-header_len.ensures, c.volume_len_at-length.ensures) at (sym c.is_volume_len.ensures ∙ c.in_ok-check-4.ensures.ok),
       rw c.volume_len_at-length.ensures at c.in_err-check-5.ensures.err.0,
     ) refl)
-
-pub has_ext-requires-clause-within : goal.has_ext-requires-clause-within
-has_ext-requires-clause-within c = search rules fits 300 steps 1000000
-
-pub returns-clause-ok : goal.returns-clause-ok
-returns-clause-ok c = search rules fits 300 steps 1000000
-
-pub returns-clause-ext : goal.returns-clause-ext
-returns-clause-ext c = search rules
-
-pub returns-clause-err : goal.returns-clause-err
-returns-clause-err c = search rules fits 300 steps 1000000

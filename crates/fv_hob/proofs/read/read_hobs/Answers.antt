@@ -1,6 +1,4 @@
-use Rattle.std.proofs.Common.{◌∙◌, sym, ap, take, drop, length}
-use Rattle.std.proofs.lemmas.List.{take-append-drop, length-take-le}
-use Rattle.fv_base.proofs.Laws.{err_is}
+use Rattle.fv_base.proofs.Laws.{◌∙◌, sym, ap, take, drop, length, take-append-drop, length-take-le, err_is}
 use Rattle.fv_hob.proofs.HobListLemmas.{only_list}
 use Rattle.fv_hob.proofs.HobReadLemmas.{none_after}
 use Rattle.fv_hob.proofs.read.read_hobs.Goals as goal

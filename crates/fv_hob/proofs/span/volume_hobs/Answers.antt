@@ -1,7 +1,5 @@
-use Rattle.std.proofs.Common.{◌≡◌, ◌++◌, ap, subst, ◌∙◌, List, length, get_or, ◌<◌, ◌≤◌, Vec, Global, arith}
-use Rattle.std.specs.Prelude.{[]}
-use Rattle.std.specs.List.{cons_option}
-use Rattle.std.proofs.lemmas.List.{take_all}
+use Rattle.std.proofs.Common.{◌≡◌, ◌++◌, ◌<◌, ◌≤◌, [], ap, subst, ◌∙◌, List, length, get_or, Vec, Global, arith, take_all}
+use Rattle.fv_base.proofs.Laws.{cons_option}
 use Rattle.fv_hob.specs.Words.{HobForm, spans_of}
 use Rattle.fv_hob.specs.declared.span.Span.{Span}
 use Rattle.fv_hob.proofs.WriteLemmas.{spans_more, span_none, span_some}

@@ -1,5 +1,4 @@
-use Rattle.std.proofs.Common.{◌∙◌, ap, arith}
-use Rattle.std.proofs.lemmas.List.{take_all}
+use Rattle.std.proofs.Common.{◌∙◌, ap, arith, take_all}
 use Rattle.fv_hob.specs.Words.{list_spelled}
 use Rattle.fv_hob.proofs.WriteLemmas.{spelled_more}
 use Rattle.fv_hob.proofs.write.list_spelled.Goals as goal

@@ -1,6 +1,5 @@
 use Rattle.std.proofs.Common.{◌∷◌, []}
-use Rattle.std.proofs.lemmas.Result.{on_ok_weaker}
-use Rattle.fv_base.specs.Words.{bytes_of, le_bytes}
+use Rattle.fv_base.proofs.Laws.{on_ok_weaker, bytes_of, le_bytes}
 use Rattle.fv_hob.proofs.WriteLemmas.{more_fields, no_field, one_field}
 use Rattle.fv_hob.proofs.write.push_resource.Goals as goal
 

@@ -1,5 +1,4 @@
-use Rattle.std.proofs.lemmas.Result.{on_ok_weaker}
-use Rattle.fv_base.specs.Words.{le_bytes}
+use Rattle.fv_base.proofs.Laws.{on_ok_weaker, le_bytes}
 use Rattle.fv_hob.proofs.WriteLemmas.{no_field, one_field}
 use Rattle.fv_hob.proofs.write.push_span.Goals as goal
 

@@ -1,5 +1,4 @@
-use Rattle.std.proofs.Common.{subst, sym}
-use Rattle.fv_base.proofs.Laws.{err_is}
+use Rattle.fv_base.proofs.Laws.{subst, sym, err_is}
 use Rattle.fv_lines.specs.inner.LineRuns.{FitTogether}
 use Rattle.fv_lines.proofs.CellSumLemmas.{cells_told, fit_together, none_tiled}
 use Rattle.fv_lines.proofs.cell_text.put_cells.Goals as goal

@@ -1,6 +1,5 @@
-use Rattle.std.proofs.Common.{ℕ, List, map, subst, sym}
-use Rattle.std.specs.List.{flat_map}
-use Rattle.std.proofs.lemmas.List.{take_all}
+use Rattle.std.proofs.Common.{ℕ, List, map, subst, sym, take_all}
+use Rattle.fv_base.proofs.Laws.{flat_map}
 use Rattle.fv_file.specs.Words.{cell_form}
 use Rattle.fv_file.specs.declared.cell.Cell.{Cell}
 use Rattle.fv_lines.specs.Words.{cell_line}

@@ -1,5 +1,4 @@
-use Rattle.std.proofs.Common.{map, take}
-use Rattle.std.specs.List.{flat_map}
+use Rattle.fv_base.proofs.Laws.{map, take, flat_map}
 use Rattle.fv_file.specs.Words.{cell_form}
 use Rattle.fv_lines.specs.Words.{cell_line}
 use Rattle.fv_lines.proofs.cell_text.put_list.Given as goal

@@ -1,5 +1,4 @@
-use Rattle.std.proofs.Common.{◌∙◌, List, ap, map, sym}
-use Rattle.std.proofs.lemmas.List.{take_all}
+use Rattle.std.proofs.Common.{◌∙◌, List, ap, map, sym, take_all}
 use Rattle.fv_file.specs.Words.{cell_form}
 use Rattle.fv_file.specs.declared.cell.Cell.{Cell}
 use Rattle.fv_lines.specs.Words.{sums_of}

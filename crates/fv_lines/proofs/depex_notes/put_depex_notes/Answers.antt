@@ -1,5 +1,4 @@
-use Rattle.std.proofs.Common.{◌≡◌, ◌∙◌, ℕ, List, take, sym, ap, subst}
-use Rattle.std.proofs.lemmas.List.{take_all}
+use Rattle.std.proofs.Common.{◌≡◌, ℕ, ◌∙◌, List, take, sym, ap, subst, take_all}
 use Rattle.fv_tree.specs.Words.{FileMeaning, files_of}
 use Rattle.fv_tree.proofs.Laws.{files_list_back}
 use Rattle.fv_lines.specs.Words.{HeldDepex, depexes_in, file_depexes}

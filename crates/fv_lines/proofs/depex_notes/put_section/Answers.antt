@@ -1,5 +1,4 @@
-use Rattle.std.proofs.Common.{◌≡◌, ◌∙◌, ℕ, List, Some, sym, ap, subst}
-use Rattle.std.specs.Prelude.{option_copied}
+use Rattle.std.proofs.Common.{◌≡◌, ℕ, ◌∙◌, List, Some, sym, ap, subst, option_copied}
 use Rattle.fv_tree.specs.Words.{SectionMeaning, body_of, leaf_of}
 use Rattle.fv_lines.specs.inner.LineRuns.{PutsNotes}
 use Rattle.fv_lines.specs.Words.{HeldDepex, phase_of, read_by}

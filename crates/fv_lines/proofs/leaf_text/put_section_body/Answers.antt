@@ -1,5 +1,4 @@
-use Rattle.std.proofs.Common.{◌∙◌, ℕ, [], ap, sym, subst}
-use Rattle.std.specs.Prelude.{option_map}
+use Rattle.std.proofs.Common.{ℕ, [], ◌∙◌, ap, sym, subst, option_map}
 use Rattle.fv_tree.specs.Words.{body_of}
 use Rattle.fv_lines.specs.Words.{BodyShown}
 use Rattle.fv_lines.proofs.ListTextLemmas.{shown_leaf, shown_none}

@@ -1,5 +1,4 @@
-use Rattle.std.proofs.Common.{◌∷◌, ◌++◌, [], Bool, codes, sym, subst, ◌∙◌}
-use Rattle.std.specs.Prelude.{if◌then◌else◌}
+use Rattle.std.proofs.Common.{◌∷◌, ◌++◌, [], if◌then◌else◌, Bool, codes, sym, subst, ◌∙◌}
 use Rattle.fv_text.specs.Words.{four_digits}
 use Rattle.fv_lines.proofs.leaf_text.put_unit.Goals as goal
 

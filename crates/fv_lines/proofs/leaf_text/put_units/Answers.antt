@@ -1,8 +1,5 @@
-use Rattle.std.proofs.Common.{◌≡◌, ◌++◌, ◌∙◌, ◌-◌, ℕ, List, length, take, drop, ap, arith}
-use Rattle.std.proofs.Common.{append_assoc, length-drop}
-use Rattle.std.proofs.lemmas.List.{take_all}
-use Rattle.std.specs.List.{flat_map}
-use Rattle.fv_base.specs.Words.{words_of, le_at}
+use Rattle.std.proofs.Common.{◌≡◌, ◌++◌, ◌-◌, ℕ, ◌∙◌, List, length, take, drop, ap, arith, append_assoc, length-drop, take_all}
+use Rattle.fv_base.proofs.Laws.{flat_map, words_of, le_at}
 use Rattle.fv_lines.specs.Words.{unit_text}
 use Rattle.fv_lines.proofs.ListTextLemmas.{units_next}
 use Rattle.fv_lines.proofs.leaf_text.put_units.Goals as goal

@@ -1,6 +1,5 @@
 use Rattle.std.proofs.Common.{◌≡◌, ◌++◌, ℕ, List, length}
-use Rattle.std.specs.List.{flat_map}
-use Rattle.fv_base.specs.Words.{words_of}
+use Rattle.fv_base.proofs.Laws.{flat_map, words_of}
 use Rattle.fv_lines.specs.Words.{unit_text}
 use Rattle.fv_lines.proofs.leaf_text.put_units.Given as goal
 

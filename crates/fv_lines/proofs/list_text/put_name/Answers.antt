@@ -1,6 +1,5 @@
-use Rattle.std.proofs.Common.{◌≡◌, ◌++◌, ◌∙◌, List, ℕ, codes, ap, sym, subst}
-use Rattle.std.specs.Prelude.{option_copied}
-use Rattle.fv_base.specs.Words.{bytes_of, guid_text}
+use Rattle.std.proofs.Common.{◌≡◌, ◌++◌, ℕ, ◌∙◌, List, codes, ap, sym, subst, option_copied}
+use Rattle.fv_base.proofs.Laws.{bytes_of, guid_text}
 use Rattle.fv_base.specs.declared.guid.Guid.{Guid}
 use Rattle.fv_lines.specs.Words.{name_text}
 use Rattle.fv_lines.proofs.list_text.put_name.Goals as goal

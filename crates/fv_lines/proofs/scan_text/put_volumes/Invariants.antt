@@ -1,5 +1,4 @@
-use Rattle.std.proofs.Common.{take}
-use Rattle.std.specs.List.{flat_map}
+use Rattle.fv_base.proofs.Laws.{take, flat_map}
 use Rattle.fv_lines.specs.Words.{volume_line}
 use Rattle.fv_lines.proofs.scan_text.put_volumes.Given as goal
 

@@ -1,5 +1,4 @@
-use Rattle.std.proofs.Common.{◌∙◌, ◌-◌, arith}
-use Rattle.std.proofs.lemmas.List.{length-set}
+use Rattle.std.proofs.Common.{◌-◌, ◌∙◌, arith, length-set}
 use Rattle.fv_placement.proofs.ReachLaws.{none_back, reach_back, kept_set}
 use Rattle.fv_placement.proofs.first_placement.find_reaches.Goals as goal
 

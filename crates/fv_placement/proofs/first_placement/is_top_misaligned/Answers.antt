@@ -1,11 +1,10 @@
-use Rattle.std.proofs.Common.{◌+◌, ◌<◌, ◌≤◌, ℕ, List, length, drop, get_or, subst, sym, inl, inr, false, refl}
-use Rattle.std.specs.Prelude.{IsTrue}
-use Rattle.std.proofs.lemmas.List.{drop_more, drop_all}
+use Rattle.std.proofs.Common.{◌+◌, ◌<◌, ◌≤◌, ℕ, List, length, drop, get_or, subst, sym, inl, inr, false, refl, IsTrue}
+use Rattle.fv_base.proofs.Laws.{drop_more, drop_all}
 use Rattle.fv_placement.specs.Words.{TopMisaligned, IsMisaligned}
 use Rattle.fv_placement.specs.declared.first_placement.PlacementItem.{PlacementItem}
-use Rattle.fv_placement.proofs.first_placement.is_top_misaligned.Goals as goal
 use Rattle.fv_placement.proofs.first_placement.is_top_misaligned.Goals.{else-item-via-then-item+else-is_misaligned, else-item-via-else-item}
 use Rattle.fv_placement.proofs.UsableStartLaws.{not_true}
+use Rattle.fv_placement.proofs.first_placement.is_top_misaligned.Goals as goal
 
 -- a volume top file that is misaligned is found, and any other file is passed over
 found : (total : ℕ) (fs : List PlacementItem) (i : ℕ) (d : PlacementItem) → i < length fs → (TopMisaligned total (drop i fs) → TopMisaligned total fs)

@@ -1,5 +1,4 @@
-use Rattle.std.proofs.Common.{◌∙◌, ◌<◌, ◌^◌, length, sym, ap, rules}
-use Rattle.std.specs.Prelude.{map}
+use Rattle.std.proofs.Common.{◌<◌, ◌^◌, rules, ◌∙◌, length, sym, ap, map}
 use Rattle.fv_tree.specs.Words.{body_view, files_of, sections_list}
 use Rattle.fv_tree.proofs.Laws.{files_list_back}
 use Rattle.fv_rows.specs.TreeRows.{FileNode, SectionNode, parts_in, parts_in_body}

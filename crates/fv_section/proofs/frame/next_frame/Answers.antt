@@ -1,7 +1,4 @@
-use Rattle.std.proofs.Common.{◌∙◌, sym, arith}
-use Rattle.std.proofs.lemmas.Result.{IfErr-weaker}
-use Rattle.fv_base.proofs.Laws.{err_is}
-use Rattle.fv_base.specs.Words.{First}
+use Rattle.fv_base.proofs.Laws.{◌∙◌, sym, arith, IfErr-weaker, err_is, First}
 use Rattle.fv_section.specs.Words.{frame_form}
 use Rattle.fv_section.proofs.FrameLemmas.{verdict_rest, verdict_stands, stands_verdict, verdict_first, none_stands, other_verdict}
 use Rattle.fv_section.proofs.frame.next_frame.Goals as goal

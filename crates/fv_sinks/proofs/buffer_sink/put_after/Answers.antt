@@ -1,5 +1,4 @@
-use Rattle.std.proofs.Common.{◌∙◌, length, drop, ◌+◌, ◌-◌, arith}
-use Rattle.std.proofs.lemmas.List.{length-drop, length-take}
+use Rattle.std.proofs.Common.{◌+◌, ◌-◌, ◌∙◌, length, drop, arith, length-drop, length-take}
 use Rattle.std.proofs.lemmas.Slice.{drop-put_mid}
 use Rattle.fv_sinks.proofs.BufferLemmas.{room_left}
 use Rattle.fv_sinks.proofs.buffer_sink.put_after.Goals as goal

@@ -1,7 +1,5 @@
-use Rattle.std.proofs.Common.{rules, arith, sym, ap, ap₂, ◌∙◌, ◌+◌, ◌*◌, ◌++◌, ◌∷◌, ◌≡◌, ◌<◌, [], ℕ, List, length, take, get_or, append_assoc}
-use Rattle.std.proofs.Math.ListN.{set}
-use Rattle.std.proofs.lemmas.List.{take_more_set}
-use Rattle.std.proofs.lemmas.List.Elements.{All-get_or}
+use Rattle.std.proofs.Common.{rules, ◌+◌, ◌*◌, ◌++◌, ◌∷◌, ◌≡◌, ◌<◌, [], ℕ, arith, sym, ap, ap₂, ◌∙◌, List, length, take, get_or, append_assoc}
+use Rattle.fv_base.proofs.Laws.{set, take_more_set, All-get_or}
 use Rattle.fv_text.specs.inner.HexDecoding.{IsNibble, joined_pairs}
 use Rattle.fv_text.proofs.HexDigitLemmas.{joined_next, pair_value}
 use Rattle.fv_text.proofs.hex_digits.join_pairs.Goals as goal

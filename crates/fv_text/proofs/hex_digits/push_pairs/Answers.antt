@@ -1,4 +1,4 @@
-use Rattle.std.proofs.Common.{arith, refl, ap, ap₂, ◌∙◌, ◌+◌, ◌/◌, ◌++◌, List, ℕ, length, subst, map, rules}
+use Rattle.std.proofs.Common.{arith, refl, ap, ap₂, ◌∙◌, ◌+◌, ◌/◌, ◌++◌, List, ℕ, length, subst, map}
 use Rattle.std.specs.List.{All}
 use Rattle.fv_text.specs.inner.HexDecoding.{IsNibble, joined_pairs, value_or_16}
 use Rattle.fv_text.proofs.HexDigitLemmas.{joined_spell, kept_front, whole_room}
@@ -18,6 +18,3 @@ returns-clause-read c = λ _.
           (omega (arith, c.len-start.ensures, c.args.bytes.now.ok.0)) (omega arith) (c.deref_mut.ensures.value ∙ c.in_ok-resize.ensures.items))
           (ap joined_pairs values),
     )
-
-pub returns-then-not-take_values-clause-read : goal.returns-then-not-take_values-clause-read
-returns-then-not-take_values-clause-read c = search rules fits 100 steps 300000

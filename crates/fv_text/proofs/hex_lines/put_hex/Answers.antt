@@ -1,5 +1,4 @@
-use Rattle.std.proofs.Common.{ℕ, List, take, length, ◌<◌, arith, ap, subst}
-use Rattle.std.proofs.lemmas.List.{length-take}
+use Rattle.std.proofs.Common.{ℕ, ◌<◌, List, take, length, arith, ap, subst, length-take}
 use Rattle.fv_text.proofs.HexTextLemmas.{text_put}
 use Rattle.fv_text.proofs.hex_lines.put_hex.Goals as goal
 

@@ -1,7 +1,6 @@
-use Rattle.std.proofs.Common.{rules, arith, ◌≤◌, subst, take}
-use Rattle.std.specs.List.{All}
-use Rattle.std.proofs.lemmas.List.{take_all}
-use Rattle.std.proofs.lemmas.List.Elements.{All-more, All-weaker}
+use Rattle.std.proofs.Common.{rules, ◌≤◌, arith, subst, take, take_all}
+use Rattle.fv_base.proofs.Laws.{All, All-weaker}
+use Rattle.std.proofs.lemmas.List.Elements.{All-more}
 use Rattle.fv_text.proofs.WhiteSpaceLemmas.{dense}
 use Rattle.fv_text.proofs.white_space.is_dense.Goals as goal
 

@@ -1,7 +1,6 @@
 -- The table is compared with the definition at each of the 256 bytes, by computation.
-use Rattle.std.proofs.Common.{◌≡◌, ℕ, ◌<◌, Bool, true, nat_eq, get_or, List, refl, ap, ◌∙◌, arith}
-use Rattle.std.specs.Prelude.{if◌then◌else◌}
-use Rattle.std.proofs.lemmas.Bool.{agree_below, agree_below_at, eqb-true}
+use Rattle.std.proofs.Common.{◌≡◌, ℕ, ◌<◌, if◌then◌else◌, Bool, true, nat_eq, get_or, List, refl, ap, ◌∙◌, arith, eqb-true}
+use Rattle.std.proofs.lemmas.Bool.{agree_below, agree_below_at}
 use Rattle.fv_text.specs.Words.{is_space}
 use Rattle.fv_text.specs.declared.white_space.TheConstants.{KEPT}
 use Rattle.fv_text.proofs.white_space.kept.Goals as goal

@@ -1,10 +1,9 @@
 use Rattle.std.proofs.Common.{◌≡◌, ◌+◌, ◌==◌, sym, ap, ◌∙◌, arith}
-use Rattle.fv_tree.specs.Words.{differ_unless}
-use Rattle.fv_tree.specs.declared.difference.DifferenceKind.TheVariants as kinds
-use Rattle.fv_tree.specs.Words.{files_from, sections_from, content_view, body_view}
+use Rattle.fv_tree.specs.Words.{differ_unless, files_from, sections_from, content_view, body_view}
 use Rattle.fv_tree.specs.inner.Sizes.{volume_size, files_size, content_size, sections_size, body_size}
 use Rattle.fv_tree.proofs.DifferenceWalkLaws.{files_uneven, sections_uneven, volume_word}
 use Rattle.fv_tree.proofs.SizeLaws.{section_falls, body_falls, file_falls, content_falls}
+use Rattle.fv_tree.specs.declared.difference.DifferenceKind.TheVariants as kinds
 use Rattle.fv_tree.proofs.difference.+differ.Goals as goal
 
 -- ---- the parts that are compared are smaller

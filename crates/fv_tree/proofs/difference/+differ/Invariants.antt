@@ -1,6 +1,5 @@
 use Rattle.std.proofs.Common.{◌≡◌, ◌+◌, ◌*◌, drop}
-use Rattle.fv_tree.specs.Words.{files_differ, sections_differ}
-use Rattle.fv_tree.specs.Words.{files_from, sections_from, content_view, body_view}
+use Rattle.fv_tree.specs.Words.{files_differ, sections_differ, files_from, sections_from, content_view, body_view}
 use Rattle.fv_tree.specs.inner.Sizes.{volume_size, files_size, file_size, content_size, section_size, sections_size, body_size}
 use Rattle.fv_tree.proofs.difference.+differ.Given as goal
 

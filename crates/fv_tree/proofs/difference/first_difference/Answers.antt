@@ -1,6 +1,4 @@
-use Rattle.std.proofs.lemmas.Grind.{common_steps}
-use Rattle.std.proofs.Common.{sym, ap, ◌∙◌, arith}
-use Rattle.fv_base.proofs.Laws.{err_is}
+use Rattle.fv_base.proofs.Laws.{sym, ap, ◌∙◌, err_is}
 use Rattle.fv_tree.specs.inner.FoundDifferences.{reversed_steps}
 use Rattle.fv_tree.proofs.DifferenceLaws.{one_volume}
 use Rattle.fv_tree.proofs.DifferenceWalkLaws.{steps_differ, differ_told}
@@ -15,6 +13,3 @@ returns-in_default-clause-same c = one_volume c.args.a.now c.args.b.now (sym c.i
 
 pub returns-clause-differ : goal.returns-clause-differ
 returns-clause-differ c = differ_told c.args.a.now c.args.b.now c.in_ok-found.field-0 c.in-Some.found c.in_ok-found.ensures c.in-Some.is
-
-pub returns-clause-first : goal.returns-clause-first
-returns-clause-first c = grind (arith, common_steps) steps 300000

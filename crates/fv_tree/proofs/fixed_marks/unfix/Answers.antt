@@ -1,7 +1,4 @@
-use Rattle.std.proofs.Common.{◌∙◌, ap, inl, sym}
-use Rattle.std.specs.Prelude.{Err, IfErr, Ok, OnOk, Result}
-use Rattle.std.proofs.lemmas.Result.{IfErr-weaker, on_ok_weaker}
-use Rattle.fv_base.proofs.Laws.{err_is}
+use Rattle.fv_base.proofs.Laws.{◌∙◌, ap, inl, sym, Err, IfErr, Ok, OnOk, Result, IfErr-weaker, on_ok_weaker, err_is}
 use Rattle.fv_base.specs.declared.fault.Fault.{Fault}
 use Rattle.fv_tree.proofs.FixedMarkLaws.{is_unfixed, none_unfixed, only_unfixed, same_body, stops_there, unchanged, with_body}
 use Rattle.fv_tree.proofs.fixed_marks.unfix.Goals as goal

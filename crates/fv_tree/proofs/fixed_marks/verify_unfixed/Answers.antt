@@ -1,6 +1,5 @@
-use Rattle.std.proofs.Common.{List, ℕ, arith, inl}
-use Rattle.std.proofs.lemmas.Bool.Decides.{nat_tests}
-use Rattle.fv_base.proofs.Laws.{err_is}
+use Rattle.std.proofs.Common.{ℕ, List, arith, inl}
+use Rattle.fv_base.proofs.Laws.{nat_tests, err_is}
 use Rattle.fv_tree.specs.Words.{IsUnfixed}
 use Rattle.fv_tree.proofs.FixedMarkLaws.{is_unfixed, stops_there}
 use Rattle.fv_tree.proofs.UnfixedInputLaws.{bytes_follow, stopped}

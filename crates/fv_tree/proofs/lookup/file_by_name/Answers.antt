@@ -1,6 +1,4 @@
-use Rattle.std.proofs.Common.{sym, ap, ◌∙◌}
-use Rattle.std.specs.Prelude.{slice_get}
-use Rattle.std.specs.Option.{option_and_then}
+use Rattle.fv_base.proofs.Laws.{sym, ap, ◌∙◌, slice_get, option_and_then}
 use Rattle.fv_tree.specs.Words.{is_named, files_of}
 use Rattle.fv_tree.proofs.NamedLaws.{file_there}
 use Rattle.fv_tree.proofs.lookup.file_by_name.Goals as goal

@@ -1,7 +1,6 @@
-use Rattle.std.proofs.Common.{◌∙◌, List, sym, ap, Bool, rules, tests}
-use Rattle.std.specs.Prelude.{◌==◌}
+use Rattle.std.proofs.Common.{rules, ◌==◌, ◌∙◌, List, sym, ap, Bool, tests}
+use Rattle.fv_base.proofs.Laws.{YieldsList-from_filter}
 use Rattle.std.proofs.lemmas.Iterator.{YieldsList-from_slice}
-use Rattle.std.proofs.lemmas.Iterator.Consumers.{YieldsList-from_filter}
 use Rattle.fv_tree.specs.Words.{file_of_type, FileMeaning, files_of, file_kind_of}
 use Rattle.fv_tree.proofs.LookupLaws.{numbered_is}
 use Rattle.fv_tree.proofs.VolumePartLaws.{files_list_back}

@@ -1,7 +1,5 @@
-use Rattle.std.proofs.Common.{◌∙◌, List, Bool, sym, ap, rules, tests}
-use Rattle.std.specs.Prelude.{◌==◌}
-use Rattle.std.proofs.lemmas.Iterator.Consumers.{YieldsList-from_filter, YieldsList-from_first}
-use Rattle.fv_base.proofs.Laws.{err_is}
+use Rattle.std.proofs.Common.{rules, ◌==◌, ◌∙◌, List, Bool, sym, ap, tests}
+use Rattle.fv_base.proofs.Laws.{YieldsList-from_filter, YieldsList-from_first, err_is}
 use Rattle.fv_section.specs.Words.{FrameForm, frame_form}
 use Rattle.fv_tree.specs.Words.{frame_of_type}
 use Rattle.fv_tree.proofs.LookupLaws.{numbered_is}

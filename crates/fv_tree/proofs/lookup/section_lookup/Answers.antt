@@ -1,6 +1,5 @@
-use Rattle.std.proofs.Common.{◌≡◌, ◌∙◌, Bool, sym, ap, rules, tests}
-use Rattle.std.specs.Prelude.{◌==◌, option_copied}
-use Rattle.std.proofs.lemmas.Iterator.Consumers.{YieldsList-from_filter, YieldsList-from_first}
+use Rattle.std.proofs.Common.{◌≡◌, rules, ◌==◌, ◌∙◌, Bool, sym, ap, tests, option_copied}
+use Rattle.fv_base.proofs.Laws.{YieldsList-from_filter, YieldsList-from_first}
 use Rattle.fv_tree.specs.Words.{preorder, section_of_type, SectionMeaning, content_of, section_kind_of, sections_in_data}
 use Rattle.fv_tree.proofs.LookupLaws.{numbered_is}
 use Rattle.fv_tree.proofs.lookup.section_lookup.Goals.{After-numbered}

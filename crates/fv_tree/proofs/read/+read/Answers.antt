@@ -1,31 +1,28 @@
-use Rattle.std.proofs.Common.{◌≡◌, ℕ, List, map, [], ◌∷◌, ◌++◌, length, take, sym, ap, ◌∙◌, subst, arith, rules, inl, inr, refl}
-use Rattle.std.specs.Prelude.{◌⊎◌}
-use Rattle.std.proofs.lemmas.List.{length-take-le}
-use Rattle.std.proofs.lemmas.Result.{IfOk-weaker, IfErr-weaker, MatchResult-from_both}
-use Rattle.fv_base.specs.Words.{out_of_memory, IsFirstFault, First, IsBytes}
+use Rattle.std.proofs.Common.{◌≡◌, ℕ, [], ◌∷◌, ◌++◌, rules, ◌⊎◌, List, map, length, take, sym, ap, ◌∙◌, subst, arith, inl, inr, refl, length-take-le}
+use Rattle.fv_base.proofs.Laws.{IfOk-weaker, IfErr-weaker, out_of_memory, IsFirstFault, First, IsBytes, bytes_take, err_is}
+use Rattle.std.proofs.lemmas.Result.{MatchResult-from_both}
 use Rattle.fv_base.specs.declared.fault.Fault.{Fault}
 use Rattle.fv_base.specs.declared.fault.Place.{Place}
 use Rattle.fv_base.specs.declared.guid.Guid.{Guid}
-use Rattle.fv_base.proofs.Laws.{bytes_take, err_is}
 use Rattle.fv_head.proofs.Laws.{fault_known, front_lies, first_lies}
 use Rattle.fv_head.specs.Words.{HeadFields, BeginsVolume, head_checks}
 use Rattle.fv_head.specs.declared.extent.Extent.{Extent}
 use Rattle.fv_section.specs.Words.{FrameForm}
-use Rattle.fv_section.specs.StreamReads as framed
 use Rattle.fv_tree.specs.inner.ReadingParts.{IsReadyFile}
-use Rattle.fv_tree.specs.Words.{Denotes, MeansFile, MeansSection, Stream, FileFault, InStream, data_at, Volume, File, SectionMeaning}
-use Rattle.fv_tree.specs.Words.{Section, Group, Nested, length_of, files_from, sections_from, file_form, content_view, FileForm}
+use Rattle.fv_tree.specs.Words.{Denotes, MeansFile, MeansSection, Stream, FileFault, InStream, data_at, Volume, File, SectionMeaning, Section, Group}
+use Rattle.fv_tree.specs.Words.{Nested, length_of, files_from, sections_from, file_form, content_view, FileForm}
 use Rattle.fv_names.specs.Words.{IsOrder, numbers_of}
 use Rattle.fv_tree.proofs.BodyLaws.{files_first}
 use Rattle.fv_tree.proofs.LengthLaws.{body_long, content_long}
 use Rattle.fv_tree.proofs.ListPairs.{of_item, kept_pairs, first_refused, all_pairs}
 use Rattle.fv_tree.proofs.NamedLaws.{no_file, read_names}
-use Rattle.fv_tree.proofs.SectionShapeLaws.{leaf_shape, group_shape, volume_shape, leaf_is, group_found, group_first}
-use Rattle.fv_tree.proofs.SectionShapeLaws.{one_place, nested_found, nested_first, deep_fault, stream_reads}
+use Rattle.fv_tree.proofs.SectionShapeLaws.{leaf_shape, group_shape, volume_shape, leaf_is, group_found, group_first, one_place, nested_found}
+use Rattle.fv_tree.proofs.SectionShapeLaws.{nested_first, deep_fault, stream_reads}
 use Rattle.fv_tree.proofs.StreamWalkLaws.{frame_small, walk_ready, walk_begun, walk_more, walk_first, walk_found}
 use Rattle.fv_tree.proofs.VolumePartLaws.{made, head_first, opened_whole}
 use Rattle.fv_tree.proofs.read.+read.Goals.{read_file-After-without_large-attributes, read_section-In_ok-sections-in-Group}
 use Rattle.fv_tree.proofs.read.+read.Goals.{read_section-In_ok-nested-in-Volume, read_with_files-In_ok-views}
+use Rattle.fv_section.specs.StreamReads as framed
 use Rattle.fv_tree.proofs.read.+read.Goals as goal
 
 -- ---- files

@@ -1,6 +1,4 @@
-use Rattle.std.proofs.Common.{arith, ap}
-use Rattle.std.proofs.lemmas.List.{length-take-le}
-use Rattle.fv_base.proofs.Laws.{err_is}
+use Rattle.fv_base.proofs.Laws.{arith, ap, length-take-le, err_is}
 use Rattle.fv_base.specs.declared.fault.Fault.{Fault}
 use Rattle.fv_head.proofs.Laws.{fault_known, first_lies}
 use Rattle.fv_tree.proofs.VolumeCellLaws.{bad_cell, bad_header}

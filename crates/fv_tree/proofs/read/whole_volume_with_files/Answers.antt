@@ -1,7 +1,5 @@
-use Rattle.std.proofs.Common.{◌≢◌, map, inl, inr, subst, sym, rules}
-use Rattle.std.specs.Prelude.{IfErr, Ok}
-use Rattle.fv_base.proofs.Laws.{err_is, bytes_take}
-use Rattle.fv_base.specs.Words.{IsBytes, out_of_memory, depth_limit}
+use Rattle.std.proofs.Common.{◌≢◌, rules, map, inl, inr, subst, sym, IfErr, Ok}
+use Rattle.fv_base.proofs.Laws.{err_is, bytes_take, IsBytes, out_of_memory, depth_limit}
 use Rattle.fv_tree.specs.Words.{head_of, FaultHoldsInInput, file_form}
 use Rattle.fv_tree.proofs.FaultLaws.{fault_stands}
 use Rattle.fv_tree.proofs.FirstLaws.{only_answer}

@@ -1,17 +1,14 @@
-use Rattle.std.proofs.Common.{◌≡◌, ◌≤◌, ◌∙◌, ℕ, length, drop, arith, map, sym, ap, subst, inr, rules}
-use Rattle.std.specs.List.{AllByRecursion}
-use Rattle.fv_base.specs.Words.{IsBytes}
+use Rattle.std.proofs.Common.{◌≡◌, ◌≤◌, ℕ, rules, ◌∙◌, length, drop, arith, map, sym, ap, subst, inr, length-drop}
+use Rattle.fv_base.proofs.Laws.{AllByRecursion, IsBytes, length-map, bytes_drop, err_is}
 use Rattle.fv_names.specs.Words.{entries_of}
 use Rattle.fv_file.specs.Words.{CellsWithin}
 use Rattle.fv_tree.specs.Words.{file_form, FileForm, files_in}
 use Rattle.fv_tree.specs.inner.ReadingParts.{IsSmallCell}
-use Rattle.std.proofs.lemmas.List.{length-drop, length-map}
 use Rattle.fv_file.proofs.Laws.{cells_few}
 use Rattle.fv_head.specs.declared.extent.Extent.{Extent}
 use Rattle.fv_tree.proofs.FileCountLaws.{files_few}
 use Rattle.fv_tree.proofs.BodyLaws.{current_of, files_stored}
 use Rattle.fv_tree.proofs.NameLaws.{files_within}
-use Rattle.fv_base.proofs.Laws.{bytes_drop, err_is}
 use Rattle.fv_tree.proofs.SmallCellLaws.{small_cells}
 use Rattle.fv_tree.proofs.stored_files.files_in_body.Goals as goal
 

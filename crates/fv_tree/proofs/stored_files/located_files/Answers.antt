@@ -1,6 +1,4 @@
-use Rattle.std.proofs.Common.{map, ap}
-use Rattle.fv_base.proofs.Laws.{err_is}
-use Rattle.fv_base.specs.Words.{First}
+use Rattle.fv_base.proofs.Laws.{map, ap, err_is, First}
 use Rattle.fv_base.specs.declared.fault.Fault.{Fault}
 use Rattle.fv_head.proofs.Laws.{fault_known}
 use Rattle.fv_tree.specs.Words.{file_form}

@@ -1,13 +1,9 @@
-use Rattle.std.proofs.Common.{◌≡◌, ◌∙◌, ℕ, ◌+◌, ◌-◌, sym, ap, arith, [], length, take, drop, get_or, map, List, true}
-use Rattle.std.specs.Prelude.{◌==◌, ◌&&◌, ◌||◌, not}
-use Rattle.std.proofs.lemmas.Bool.Decides.{Decides-eqb}
-use Rattle.std.proofs.lemmas.List.{length-drop, length-map, take_all}
-use Rattle.fv_base.proofs.Laws.{err_is, more_items, seam_items}
-use Rattle.fv_base.specs.Words.{outer_fault}
-use Rattle.fv_base.specs.declared.fault.FaultKind.TheVariants as kinds
+use Rattle.std.proofs.Common.{◌≡◌, ℕ, ◌+◌, ◌-◌, [], ◌==◌, ◌&&◌, ◌||◌, ◌∙◌, sym, ap, arith, length, take, drop, get_or, map, List, true, not}
+use Rattle.fv_base.proofs.Laws.{length-drop, take_all, Decides-eqb, length-map, err_is, more_items, seam_items, outer_fault}
 use Rattle.fv_tree.specs.Words.{file_form, FileForm, is_top, end_of}
 use Rattle.fv_tree.proofs.NamedLaws.{no_file}
 use Rattle.fv_tree.proofs.NameLaws.{none_push, top_last, placed, misplaced, not_top_yet}
+use Rattle.fv_base.specs.declared.fault.FaultKind.TheVariants as kinds
 use Rattle.fv_tree.proofs.volume_files.check_top.Goals as goal
 
 pub returns-in_err-check-clause-first : goal.returns-in_err-check-clause-first

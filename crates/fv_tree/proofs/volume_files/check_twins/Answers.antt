@@ -1,13 +1,11 @@
-use Rattle.std.proofs.Common.{◌∙◌, ap, ◌+◌, ◌<◌, ℕ, get_or, length, List, map, take, drop, subst, arith}
-use Rattle.std.proofs.lemmas.List.{length-map, take_all}
-use Rattle.fv_base.specs.Words.{outer_fault}
-use Rattle.fv_base.specs.declared.fault.FaultKind.TheVariants as kinds
-use Rattle.fv_base.proofs.Laws.{seam_items}
+use Rattle.std.proofs.Common.{◌+◌, ◌<◌, ℕ, ◌∙◌, ap, get_or, length, List, map, take, drop, subst, arith, take_all}
+use Rattle.fv_base.proofs.Laws.{length-map, outer_fault, seam_items}
 use Rattle.fv_names.specs.Words.{NoTwins}
 use Rattle.fv_names.proofs.Laws.{no_named}
 use Rattle.fv_tree.specs.Words.{file_form, FileForm}
 use Rattle.fv_tree.specs.inner.NameForms.{named_file}
 use Rattle.fv_tree.proofs.NamedLaws.{front_twins, no_file, twin_after, twins_from}
+use Rattle.fv_base.specs.declared.fault.FaultKind.TheVariants as kinds
 use Rattle.fv_tree.proofs.volume_files.check_twins.Goals as goal
 
 pub returns-then-first-files-clause-first : goal.returns-then-first-files-clause-first

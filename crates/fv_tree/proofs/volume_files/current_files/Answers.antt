@@ -1,14 +1,12 @@
 use Rattle.std.proofs.Common.{◌≡◌, ◌≤◌, ◌∙◌, List, IsTrue, refl, sym, ap, subst, map, inr}
-use Rattle.std.specs.List.{AllByRecursion}
-use Rattle.fv_base.proofs.Laws.{err_is}
-use Rattle.fv_base.specs.Words.{outer_fault}
-use Rattle.fv_base.specs.declared.fault.FaultKind.TheVariants as kinds
+use Rattle.fv_base.proofs.Laws.{AllByRecursion, err_is, outer_fault}
 use Rattle.fv_tree.specs.Words.{TopElsewhere, FileForm, TopAtEnd, file_form}
 use Rattle.fv_tree.specs.declared.volume_files.LocatedFile.{LocatedFile}
 use Rattle.fv_names.specs.Words.{names_in, Entry, IsIndex, entries_of}
 use Rattle.fv_tree.specs.inner.NameForms.{named_file}
 use Rattle.fv_tree.proofs.NamedLaws.{all_current, without_twins}
 use Rattle.fv_tree.proofs.NameLaws.{top_bound}
+use Rattle.fv_base.specs.declared.fault.FaultKind.TheVariants as kinds
 use Rattle.fv_tree.proofs.volume_files.current_files.Goals as goal
 
 pub returns-in_err-check_top-clause-first : goal.returns-in_err-check_top-clause-first

@@ -1,12 +1,11 @@
-use Rattle.std.proofs.Common.{◌≡◌, ◌∙◌, sym, ap, [], ◌∷◌, ◌++◌, take, map, append-nil, rules, ℕ, List, subst, arith}
-use Rattle.std.proofs.lemmas.List.{get_or-map, length-map, map_push}
-use Rattle.fv_base.proofs.Laws.{at_index}
-use Rattle.fv_file.specs.CellForms as cellular
+use Rattle.std.proofs.Common.{◌≡◌, [], ◌∷◌, ◌++◌, rules, ℕ, ◌∙◌, sym, ap, take, map, append-nil, List, subst, arith}
+use Rattle.fv_base.proofs.Laws.{get_or-map, length-map, map_push, at_index}
 use Rattle.fv_file.specs.declared.cell.Cell.{Cell}
 use Rattle.fv_tree.specs.Words.{file_form, files_in}
 use Rattle.fv_tree.specs.inner.ReadingParts.{IsSmallCell}
 use Rattle.fv_tree.proofs.NameLaws.{files_in_items}
 use Rattle.fv_tree.proofs.SmallCellLaws.{no_cell}
+use Rattle.fv_file.specs.CellForms as cellular
 use Rattle.fv_tree.proofs.volume_files.files_in.Goals as goal
 
 pub file_of-requires : goal.file_of-requires

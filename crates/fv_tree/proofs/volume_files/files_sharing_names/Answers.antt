@@ -1,10 +1,7 @@
-use Rattle.std.proofs.Common.{◌≡◌, ◌≤◌, ◌∙◌, sym, ap, subst, map, length, arith}
-use Rattle.std.specs.List.{AllByRecursion, list_any}
-use Rattle.std.specs.Prelude.{not}
+use Rattle.std.proofs.Common.{◌≡◌, ◌≤◌, ◌∙◌, sym, ap, subst, map, length, arith, not}
+use Rattle.fv_base.proofs.Laws.{AllByRecursion, list_any, length-map, all_filter, err_is}
 use Rattle.fv_tree.specs.Words.{file_form, FileForm, current_in, replaced_by}
-use Rattle.std.proofs.lemmas.List.{length-map}
 use Rattle.fv_tree.proofs.FileCountLaws.{filter_few}
-use Rattle.fv_base.proofs.Laws.{all_filter, err_is}
 use Rattle.fv_tree.proofs.NameLaws.{top_bound, twins_bound}
 use Rattle.fv_tree.proofs.volume_files.files_sharing_names.Goals as goal
 

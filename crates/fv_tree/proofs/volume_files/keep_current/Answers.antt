@@ -1,9 +1,6 @@
-use Rattle.std.proofs.Common.{◌∙◌, ◌≡◌, ap, sym, map, List, length, rules, subst}
-use Rattle.std.specs.Prelude.{not, Bool}
-use Rattle.std.specs.List.{All, list_any, filter}
+use Rattle.std.proofs.Common.{◌≡◌, rules, ◌∙◌, ap, sym, map, List, length, subst, not, Bool}
+use Rattle.fv_base.proofs.Laws.{All, list_any, filter, length-map, in_place, kept_noted}
 use Rattle.std.proofs.lemmas.Fn.{filter_same}
-use Rattle.std.proofs.lemmas.List.{length-map}
-use Rattle.fv_base.proofs.Laws.{in_place, kept_noted}
 use Rattle.fv_tree.specs.Words.{file_form, FileForm, replaced_by}
 use Rattle.fv_tree.specs.declared.volume_files.LocatedFile.{LocatedFile}
 use Rattle.fv_tree.specs.inner.ReadingParts.{is_replaced}

@@ -1,9 +1,7 @@
-use Rattle.std.proofs.Common.{◌≡◌, ◌<◌, ◌≤◌, ◌⊎◌, ◌+◌, ℕ, Bool, List, length, map, get_or, refl, sym, ap, ◌∙◌, subst, arith, inl, inr, rules, true}
-use Rattle.std.specs.Prelude.{◌≢◌, slice_set}
-use Rattle.std.specs.List.{list_any}
-use Rattle.std.proofs.lemmas.Bool.{cases_eq, cases_lt}
-use Rattle.std.proofs.lemmas.List.{get_or-map, get_or-set_same, get_or-set_other, length-map, map-set, set-get_or}
-use Rattle.fv_names.specs.NamedFiles as names
+use Rattle.std.proofs.Common.{◌≡◌, ◌<◌, ◌≤◌, ◌⊎◌, ◌+◌, ℕ, rules, ◌≢◌, Bool, List, length, map, get_or, refl, sym, ap, ◌∙◌, subst, arith, inl, inr}
+use Rattle.fv_base.proofs.Laws.{true, slice_set, get_or-set_same, get_or-set_other, list_any, cases_lt, get_or-map, length-map}
+use Rattle.std.proofs.lemmas.Bool.{cases_eq}
+use Rattle.std.proofs.lemmas.List.{map-set, set-get_or}
 use Rattle.fv_names.specs.Words.{NamedFile, names_in, Entry, IsIndex, entries_of}
 use Rattle.fv_names.proofs.Laws.{entry_of, no_entry, no_named}
 use Rattle.fv_tree.specs.Words.{file_form, state_by, FileForm, NoTwins, is_marked, replaced_by}
@@ -12,6 +10,7 @@ use Rattle.fv_tree.specs.declared.volume_files.Mark.{Mark}
 use Rattle.fv_tree.specs.inner.NameForms.{named_file}
 use Rattle.fv_tree.specs.inner.ReadingParts.{is_replaced}
 use Rattle.fv_tree.proofs.NamedLaws.{file_within, no_file, replaced_at, replaced_marked, same_named, twins_to}
+use Rattle.fv_names.specs.NamedFiles as names
 use Rattle.fv_tree.proofs.volume_files.set_replaced.Goals as goal
 
 -- one of the files replaces file number n

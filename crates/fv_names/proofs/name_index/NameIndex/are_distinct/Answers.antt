@@ -1,8 +1,5 @@
-use Rattle.std.proofs.Common.{◌≡◌, ◌<◌, ◌≤◌, ◌⊎◌, ◌-◌, ℕ, List, get_or, sym, ap, ◌∙◌, arith, inl, inr}
-use Rattle.std.specs.Prelude.{◌==◌, ◌&&◌}
-use Rattle.std.proofs.lemmas.Bool.{cases_lt}
-use Rattle.std.proofs.lemmas.Bool.Decides.{not_from_Decides}
-use Rattle.std.proofs.lemmas.List.{get_or_default}
+use Rattle.std.proofs.Common.{◌≡◌, ◌<◌, ◌≤◌, ◌⊎◌, ◌-◌, ℕ, ◌==◌, ◌&&◌, List, get_or, sym, ap, ◌∙◌, arith, inl, inr}
+use Rattle.fv_base.proofs.Laws.{cases_lt, not_from_Decides, get_or_default}
 use Rattle.fv_names.specs.Words.{Entry}
 use Rattle.fv_names.proofs.EntryOrderLaws.{halves_decide}
 use Rattle.fv_names.proofs.name_index.NameIndex.are_distinct.Goals as goal

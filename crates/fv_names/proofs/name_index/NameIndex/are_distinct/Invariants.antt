@@ -1,5 +1,4 @@
-use Rattle.std.proofs.Common.{◌<◌, ◌-◌, ℕ, get_or}
-use Rattle.std.specs.Prelude.{◌≢◌}
+use Rattle.std.proofs.Common.{◌<◌, ◌-◌, ℕ, ◌≢◌, get_or}
 use Rattle.fv_names.specs.Words.{Entry}
 use Rattle.fv_names.proofs.name_index.NameIndex.are_distinct.Given as goal
 

@@ -1,15 +1,13 @@
-use Rattle.std.proofs.Common.{◌≡◌, ◌<◌, ◌≤◌, ◌⊎◌, ◌+◌, ℕ, List, length, map, take, get_or, sym, ap, ◌∙◌, subst, arith, true, inl, inr, rules}
-use Rattle.std.specs.List.{list_any}
-use Rattle.std.proofs.lemmas.Bool.{cases_lt}
-use Rattle.std.proofs.lemmas.List.{get_or_default, length-map}
+use Rattle.std.proofs.Common.{◌≡◌, ◌<◌, ◌≤◌, ◌⊎◌, ◌+◌, ℕ, rules, List, length, map, take, get_or, sym, ap, ◌∙◌, subst, arith, true, inl, inr}
+use Rattle.fv_base.proofs.Laws.{list_any, cases_lt, get_or_default, length-map}
 use Rattle.fv_names.specs.Words.{NamedFile, is_twin, Entry}
 use Rattle.fv_names.specs.inner.NameOrders.{IsTwinAt}
 use Rattle.fv_names.proofs.IndexLaws.{no_entry, no_named}
 use Rattle.fv_names.proofs.NeighbourLaws.{first_none, twin_before}
-use Rattle.fv_names.proofs.name_index.NameIndex.first_twin.Goals as goal
 use Rattle.fv_names.proofs.name_index.NameIndex.first_twin.Goals.{then-number-first+then-has_twin, else-number-first}
 use Rattle.fv_names.proofs.name_index.NameIndex.first_twin.Goals.{else-number-first-via-then-number-first+else-has_twin}
 use Rattle.fv_names.proofs.name_index.NameIndex.first_twin.Goals.{else-number-first-via-else-number-first}
+use Rattle.fv_names.proofs.name_index.NameIndex.first_twin.Goals as goal
 
 -- n is at most the number of each entry that precedes the place and has a twin among the two entries before it
 abbrev IsLeast : List NamedFile → List Entry → ℕ → ℕ → Type 0

@@ -1,8 +1,7 @@
-use Rattle.std.proofs.Common.{◌≡◌, ◌<◌, ℕ, ◌+◌, [], ◌∷◌, ◌++◌, get_or, length, List, map, take, sym, ap, ◌∙◌, subst, arith}
-use Rattle.std.specs.List.{All, AllWithin}
+use Rattle.std.proofs.Common.{◌≡◌, ◌<◌, ℕ, ◌+◌, [], ◌∷◌, ◌++◌, get_or, length, List, map, take, sym, ap, ◌∙◌, subst, arith, length-take-le, take_all}
+use Rattle.fv_base.proofs.Laws.{All, AllWithin, get_or-map, length-map, take_more, All-map, recursion_from_All}
 use Rattle.std.specs.List.Sorted.{IsPermutation}
-use Rattle.std.proofs.lemmas.List.{get_or-map, length-map, length-take-le, take_all, take_more}
-use Rattle.std.proofs.lemmas.List.Elements.{All-from_all_within, All-map, AllWithin-more, AllWithin-none, recursion_from_All}
+use Rattle.std.proofs.lemmas.List.Elements.{All-from_all_within, AllWithin-more, AllWithin-none}
 use Rattle.fv_base.specs.declared.guid.Guid.{Guid}
 use Rattle.fv_names.specs.Words.{NamedFile, names_in, Entry, Halves, IsName, halves_of, numbered}
 use Rattle.fv_names.proofs.IndexLaws.{no_entry, no_named}

@@ -1,14 +1,11 @@
-use Rattle.std.proofs.Common.{◌≡◌, ◌<◌, ◌+◌, ◌-◌, ◌/◌, ℕ, List, length, map, get_or, true, false, sym, ap, ◌∙◌, subst, arith}
-use Rattle.std.specs.Prelude.{◌==◌, ◌&&◌, Some}
-use Rattle.std.specs.Ordering.{is_lt}
-use Rattle.std.proofs.lemmas.Bool.Decides.{not_from_Decides}
-use Rattle.std.proofs.lemmas.List.{length-map}
+use Rattle.std.proofs.Common.{◌≡◌, ◌<◌, ◌+◌, ◌-◌, ◌/◌, ℕ, ◌==◌, ◌&&◌, List, length, map, get_or, true, false, sym, ap, ◌∙◌, subst, arith, Some}
+use Rattle.fv_base.proofs.Laws.{is_lt, not_from_Decides, length-map}
 use Rattle.fv_base.specs.declared.guid.Guid.{Guid}
 use Rattle.fv_names.specs.Words.{Entry, Halves, halves_cmp, halves_of}
 use Rattle.fv_names.proofs.EntryOrderLaws.{halves_decide}
 use Rattle.fv_names.proofs.IndexLaws.{Searched, found_none, found_there, no_entry, number_there, search_left, search_right}
-use Rattle.fv_names.proofs.name_order.NameOrder.get.Goals as goal
 use Rattle.fv_names.proofs.name_order.NameOrder.get.Goals.{else-first-len-via-then-first-len+else-eq, else-first-len-via-else-first-len}
+use Rattle.fv_names.proofs.name_order.NameOrder.get.Goals as goal
 
 pub loop-first-preserved-then-is_before : goal.loop-first-preserved-then-is_before
 loop-first-preserved-then-is_before g c = λ order.

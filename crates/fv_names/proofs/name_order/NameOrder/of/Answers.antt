@@ -1,4 +1,4 @@
-use Rattle.std.proofs.Common.{◌<◌, ℕ, ◌∷◌, [], ◌++◌, List, length, take, get_or, sym, ap, ◌∙◌, arith}
+use Rattle.std.proofs.Common.{◌<◌, ℕ, ◌∷◌, [], ◌++◌, List, length, take, sym, ap, ◌∙◌, arith}
 use Rattle.std.proofs.lemmas.List.{get_or-map, length-map, take_all, take_more}
 use Rattle.fv_names.specs.Words.{Entry, entries_of, numbers_in}
 use Rattle.fv_names.proofs.IndexLaws.{no_entry}

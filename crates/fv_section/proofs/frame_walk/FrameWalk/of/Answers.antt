@@ -1,5 +1,4 @@
-use Rattle.fv_base.proofs.Laws.{err_is}
-use Rattle.fv_base.specs.Words.{First}
+use Rattle.fv_base.proofs.Laws.{err_is, First}
 use Rattle.fv_section.proofs.FrameWalkLemmas.{none_after, walk_begins}
 use Rattle.fv_section.proofs.StreamLemmas.{one_split}
 use Rattle.fv_section.proofs.frame_walk.FrameWalk.of.Goals as goal

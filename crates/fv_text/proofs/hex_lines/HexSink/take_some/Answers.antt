@@ -1,5 +1,4 @@
-use Rattle.std.proofs.Common.{◌≡◌, ◌≤◌, ◌++◌, ◌+◌, ℕ, List, length, take, [], ◌∷◌, arith, subst, sym, ◌∙◌, append-nil}
-use Rattle.std.proofs.lemmas.List.{length-take-le, take_all}
+use Rattle.std.proofs.Common.{◌≡◌, ◌≤◌, ◌++◌, ◌+◌, ℕ, [], ◌∷◌, List, length, take, arith, subst, sym, ◌∙◌, append-nil, length-take-le, take_all}
 use Rattle.fv_text.specs.Words.{line_text}
 use Rattle.fv_text.proofs.hex_lines.HexSink.take_some.Goals as goal
 

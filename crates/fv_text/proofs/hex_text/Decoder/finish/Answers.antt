@@ -1,8 +1,7 @@
-use Rattle.std.proofs.Common.{◌∙◌, inl, inr}
-use Rattle.fv_base.proofs.Laws.{up_is_not_down}
+use Rattle.fv_base.proofs.Laws.{◌∙◌, inl, inr, up_is_not_down}
 use Rattle.fv_text.proofs.HexInLemmas.{none_waits, odd_is_no_text, one_waits, spoilt_is_no_text, whole_reads}
-use Rattle.fv_text.proofs.hex_text.Decoder.finish.Goals as goal
 use Rattle.fv_text.proofs.hex_text.Decoder.finish.Goals.{then-is_wrong, else-is_wrong}
+use Rattle.fv_text.proofs.hex_text.Decoder.finish.Goals as goal
 
 pub returns-then-not-is_empty-clause-err : goal.returns-then-not-is_empty-clause-err
 returns-then-not-is_empty-clause-err c = λ text so_far.

@@ -1,5 +1,4 @@
-use Rattle.std.proofs.Common.{◌∙◌, List, ap, map}
-use Rattle.std.specs.List.{position}
+use Rattle.fv_base.proofs.Laws.{◌∙◌, List, ap, map, position}
 use Rattle.fv_names.specs.Words.{is_name}
 use Rattle.fv_tree.specs.Words.{FileMeaning, file_name_of}
 use Rattle.fv_tree.proofs.NamedLaws.{looked_up}

@@ -1,6 +1,0 @@
-use Rattle.std.proofs.Common.{arith}
-use Rattle.std.proofs.lemmas.Grind.{common_steps}
-use Rattle.fv_base.proofs.sink.WriteSinkSink.put.Goals as goal
-
-pub returns-then-self : goal.returns-then-self
-returns-then-self g c = grind (arith, common_steps) steps 300000

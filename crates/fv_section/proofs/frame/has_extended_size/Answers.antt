@@ -1,5 +1,0 @@
-use Rattle.std.proofs.Common.{rules}
-use Rattle.fv_section.proofs.frame.has_extended_size.Goals as goal
-
-pub returns : goal.returns
-returns c = search rules fits 100 steps 300000

@@ -1,5 +1,0 @@
-use Rattle.std.proofs.Common.{rules}
-use Rattle.fv_text.proofs.numbers.put_four_digits.Goals as goal
-
-pub returns : goal.returns
-returns g c = search rules fits 100 steps 300000

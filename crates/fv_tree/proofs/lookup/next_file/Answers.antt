@@ -1,5 +1,0 @@
-use Rattle.std.proofs.Common.{rules}
-use Rattle.fv_tree.proofs.lookup.next_file.Goals as goal
-
-pub returns : goal.returns
-returns c = search rules fits 300 steps 1000000
