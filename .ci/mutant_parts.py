@@ -275,8 +275,8 @@ def with_copy(
 
 def stubbed(texts: dict[str, str], units: set[str]) -> dict[str, str]:
     """Returns texts in which the bodies of some functions do nothing. These functions keep their contracts, and their
-    theorems are given. `const` functions stay as they are, because a constant may need their results. Functions of a
-    cycle stay too, because the checker recognises a cycle by its calls."""
+    theorems are given. They are in no cycle, because they call nothing. `const` functions stay as they are, because a
+    constant may need their results."""
     found = dict(texts)
     for file in [it for it in texts if it.startswith("src/")]:
         lines, text = texts[file].split("\n"), list[str]()
@@ -286,9 +286,13 @@ def stubbed(texts: dict[str, str], units: set[str]) -> dict[str, str]:
             ends = (f"{indent}{{", f"{indent})")
             heads = [it.first, *(n for n in range(it.first, it.last) if lines[n].startswith(ends))]
             begin = next((n for n in heads if lines[n].endswith("{")), it.last)
-            is_plain = it.unit == it.path and " const fn " not in f" {lines[it.first]}"
+            is_plain = " const fn " not in f" {lines[it.first]}"
             if it.unit in units and is_plain and begin < it.last:
-                text += [*lines[at : begin + 1], f"{indent}    loop {{}}"]
+                first = it.first
+                while first > at and lines[first - 1].strip().startswith("#["):
+                    first -= 1
+                text += [*lines[at:first], *(line for line in lines[first : it.first] if not CYCLE.match(line))]
+                text += [*lines[it.first : begin + 1], f"{indent}    loop {{}}"]
                 at = it.last
         found[file] = "\n".join([*text, *lines[at:]])
     return found
@@ -316,10 +320,31 @@ def without(text: str, name: str) -> str | None:
     return "\n".join(lines[: place[0]] + lines[place[1] :])
 
 
+def answered(text: str) -> set[str]:
+    """Returns the goals that a proof file answers."""
+    lines = text.split("\n")
+    return {it for it, (at, _) in answers(text).items() if lines[at].removeprefix("pub ") == f"{it} : goal.{it}"}
+
+
+def without_lemmas(text: str, crate: str) -> str:
+    """Returns a proof file without the imports of lemmas of its own crate whose names do not occur in it."""
+    lines = text.split("\n")
+    rest = "\n".join(it for it in lines if not it.startswith("use "))
+
+    def is_used(line: str) -> bool:
+        """Returns whether a line is another line than an import of lemmas, or one of the imported names occurs."""
+        imports = re.fullmatch(rf"use Rattle\.{crate}\.proofs\.[^{{]*\{{(.*)\}}", line)
+        names = [it.rpartition(" as ")[2].strip() for it in imports[1].split(",")] if imports else []
+        return not imports or any(all(part in rest for part in it.split("◌")) for it in names)
+
+    return "\n".join(it for it in lines if is_used(it))
+
+
 def assumed(text: str, names: tuple[str, ...], module: str) -> str:
     """Returns the proof file of a function of this module, in which some goals are given and not proved."""
     for name in names:
         text = without(text, name) or text
+    text = without_lemmas(text, module.split(".")[1])
     text = text.rstrip("\n") or f"use {module}.Goals as goal"
     return "\n\n".join([text, *(f"axiom pub {name} : goal.{name}" for name in names)]) + "\n"
 
