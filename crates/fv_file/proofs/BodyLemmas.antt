@@ -95,13 +95,6 @@ module _ (s : FileSystem) (p : Polarity) (first : ℕ) (body : List ℕ) where
       fails = verdict_first s p (first + at) (drop at body) f is;
     }
 
--- the cell that the loop reads begins at its place
-pub stands_in : {s : FileSystem} {p : Polarity} {first : ℕ} {body rest : List ℕ} {cs : List CellForm} {at : ℕ} {c : CellForm}
-    → Upto s p first body cs at → length body % 8 ≡ 0 → rest ≡ drop at body → cell_verdict s p (first + at) rest ≡ Ok c
-    → CellStandsAt s p (first + at) c (drop at body)
-stands_in {s} {p} {first} {body} {rest} {cs} {at} {c} k in_eights behind is =
-    stands_here s p first body cs at k c in_eights (ap (cell_verdict s p (first + at)) (sym behind) ∙ is)
-
 -- the forms of the cells so far, and then the form of the cell that is read, are the forms of the new list
 pub more_read : (items new : List Cell) (cell : Cell) (c : CellForm) → cell_form cell ≡ c → new ≡ items ++ cell ∷ []
     → map cell_form items ++ c ∷ [] ≡ map cell_form new

@@ -6,6 +6,8 @@
 pub use Rattle.fv_file.proofs.BodyLemmas.{only_one, none_after, all_within}
 -- The first fault of a body lies within it, or at its end.
 pub use Rattle.fv_file.proofs.CellFaultLemmas.{body_within}
+-- A walk passes one cell after another. At the end they tile the body. The fault of the next cell is the first fault.
+pub use Rattle.fv_file.proofs.CellWalkLemmas.{one_passed, walk_begins, walked_on, walk_ends, walk_fails}
 -- A body has one first fault, which is also a fault in the sense of `Any`.
 pub use Rattle.fv_file.proofs.OneFaultLemmas.{cell_fails, one_cell_fault}
 -- A cell has the length that follows from its fields. The header and the data of a file make up its size.

@@ -4,6 +4,7 @@ pub mod CellFoundLemmas
 pub mod CellPartLemmas
 pub mod CellReadLemmas
 pub mod CellVerdictLemmas
+pub mod CellWalkLemmas
 pub mod DecidedLemmas
 pub mod ErasedByteLemmas
 pub mod FileAttributeLemmas

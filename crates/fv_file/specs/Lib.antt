@@ -7,6 +7,7 @@ pub mod NewHeaders
 pub mod HeaderReads
 pub mod FileChecks
 pub mod CellForms
+pub mod CellWalks
 pub mod Unmarking
 pub mod Words
 pub mod inner

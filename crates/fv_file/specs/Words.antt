@@ -18,4 +18,5 @@ pub use Rattle.fv_file.specs.FileChecks.{may_be_large, has_header_sum, has_file_
 pub use Rattle.fv_file.specs.FileChecks.{file_checks, stub_checks, state_checks, cell_checks, is_valid_state}
 pub use Rattle.fv_file.specs.FileChecks.{verify_checks, NoneFree, CellFault, IsFirstCellFault}
 pub use Rattle.fv_file.specs.CellForms.{cell_form, cell_len, LengthsAgree, CellsWithin}
+pub use Rattle.fv_file.specs.CellWalks.{CellsLeft, left_at, TileLeft, Walked, IsNextFault}
 pub use Rattle.fv_file.specs.Unmarking.{unmarked, Unmarks}

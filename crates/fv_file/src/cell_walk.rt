@@ -1,9 +1,11 @@
 //! Splits the body of a volume into cells.
 
-ghost use Rattle.std.specs.Prelude.{◌≡◌, ◌≢◌, ℕ, ◌+◌, ◌*◌, ◌<◌, ◌≤◌, ◌%◌, ◌^◌, if◌then◌else◌, false, List, ◌++◌, length, drop, Ok, Err, IfOk, IfErr};
+ghost use Rattle.std.specs.Prelude.{◌≡◌, ◌≢◌, ℕ, ◌+◌, ◌*◌, ◌<◌, ◌≤◌, ◌%◌, ◌^◌, if◌then◌else◌, false, List, [], ◌∷◌, ◌++◌, length, drop};
+ghost use Rattle.std.specs.Prelude.{Ok, Err, IfOk, IfErr, IfSome, IfNone};
 ghost use Rattle.fv_base.specs.Words.{all_are, outer_fault, out_of_memory, erased_byte};
 ghost use Rattle.fv_file.specs.Cells.{CellForm, IsCell, Tiles, is_free};
 ghost use Rattle.fv_file.specs.CellForms.{CellsWithin, cell_len, cell_form};
+ghost use Rattle.fv_file.specs.CellWalks.{IsNextFault, TileLeft, Walked, left_at};
 ghost use Rattle.fv_file.specs.FileChecks.{IsFirstCellFault, leading_count};
 ghost use Rattle.fv_file.specs.States.{is_alive};
 ghost use Rattle.fv_file.specs.inner.CellVerdicts.{cell_of, cell_verdict, is_unfinished};
@@ -19,6 +21,7 @@ use crate::state::{FileState, file_state};
 use fv_base::field::{bytes_from, up_to_8};
 use fv_base::{Fault, FaultKind, FileSystem, Polarity, all_are, check};
 use std::alloc::Global;
+use std::marker::Model;
 
 // Returns whether all bytes of `rest`, the part of the body that is left, are erased. Then `rest`
 // is a free cell, or no bytes are left. `all_are` is called only if fewer than 24 bytes are left or
@@ -169,35 +172,125 @@ fn cell_count(body: &[u8], polarity: Polarity) -> usize
     count + usize::from(!rest.is_empty())
 }
 
-// Returns the cells of a body that begins at the offset `first` of its volume.
-fn cells_in(
-    alloc: Global,
-    body: &[u8],
-    first: u64,
+// Returns the cell at the start of `rest`, or its first fault. `rest` is at the offset `at` of the
+// volume, and is not empty.
+fn first_cell<'a>(
+    rest: &'a [u8],
+    at: u64,
     system: FileSystem,
     polarity: Polarity,
-) -> Result<Cells<'_>, Fault>
-    requires multiple { length body.now % 8 ≡ 0 }
-    requires place { first + length body.now < 2 ^ 63 }
-    ensures found { IfOk result (λ cs. Tiles system polarity first cs body.now) }
-    ensures first { IfErr result (λ f. f ≢ out_of_memory → IsFirstCellFault system polarity first body.now f) }
-    ensures bound { IfErr result (λ f. f.place.offset ≤ first + length body.now) }
-    ensures some { IfErr result (λ _. 0 < length body.now) }
+) -> Result<Cell<'a>, Fault>
+    requires place { at + length rest.now < 2 ^ 63 }
+    requires multiple { length rest.now % 8 ≡ 0 }
+    requires some { 0 < length rest.now }
+    ensures found { IfOk result (λ c. Walked (left_at system polarity at rest.now) (cell_form c ∷ [])
+        (left_at system polarity (at + cell_len (cell_form c)) (drop (cell_len (cell_form c)) rest.now))) }
+    ensures multiple { IfOk result (λ c. cell_len (cell_form c) % 8 ≡ 0) }
+    ensures first { IfErr result (IsNextFault (left_at system polarity at rest.now)) }
 {
-    let mut list = Vec::with_capacity(alloc, cell_count(body, polarity))?;
-    let mut at = 0;
-    while !is_free(bytes_from(body, at), polarity) {
-        let rest = bytes_from(body, at);
-        let cell = cell_at(rest, first + at as u64, system, polarity)?;
-        let len = span_of(&cell);
-        list.push(cell)?;
-        at += len as usize;
+    if is_free(rest, polarity) {
+        return Ok(Cell::Free {
+            offset: at,
+            len: rest.len() as u64,
+        });
     }
-    if at < body.len() {
-        list.push(Cell::Free {
-            offset: first + at as u64,
-            len: (body.len() - at) as u64,
-        })?;
+    cell_at(rest, at, system, polarity)
+}
+
+/// A walk over the cells of a volume's body, which reads one cell after another. Contracts see it as
+/// the part of the body that it has not passed. (PI specification, volume 3, sections 3.2.2 and
+/// 3.2.3.)
+#[derive(Drop)]
+pub struct CellWalk<'a> {
+    rest: &'a [u8],
+    at: u64,
+    system: FileSystem,
+    polarity: Polarity,
+}
+
+impl<'a> Model for CellWalk<'a> {
+    ghost use Rattle.std.specs.Prelude.{◌≡◌, ◌+◌, ◌%◌, ◌<◌, ◌^◌, length};
+    ghost use Rattle.fv_file.specs.CellWalks.{CellsLeft, left_at};
+
+    ghost Value = { CellsLeft };
+
+    ghost view = { λ w. left_at w.system w.polarity w.at w.rest.now };
+
+    ghost invariant = { λ w. (length w.rest.now % 8 ≡ 0) × (w.at + length w.rest.now < 2 ^ 63) };
+}
+
+impl<'a> CellWalk<'a> {
+    /// Starts a walk over the cells of the body of a volume. `volume` is exactly the bytes of the
+    /// volume. The body begins at the offset `first`, which is at most the volume's length. Both
+    /// `first` and that length are multiples of 8. Takes no memory. (PI specification, volume 3,
+    /// sections 3.2.2 and 3.2.3.)
+    pub fn of(volume: &'a [u8], first: u64, system: FileSystem, polarity: Polarity) -> CellWalk<'a>
+        requires multiple { length volume.now % 8 ≡ 0 }
+        requires first_multiple { first % 8 ≡ 0 }
+        requires within { first ≤ length volume.now }
+        ensures { result ≡ left_at system polarity first (drop first volume.now) }
+    {
+        CellWalk {
+            rest: bytes_from(volume, first as usize),
+            at: first,
+            system,
+            polarity,
+        }
+    }
+
+    /// Returns how many cells are left, so that room for all of them is allocated at once. Checks
+    /// no cell, so the number is exact only if none of them has a fault. Takes no memory.
+    pub fn cell_count(&self) -> usize
+        // If cells tile the part that is left, the result is the number of these cells.
+        ensures cells { (cs : List CellForm) → TileLeft cs self.now → result ≡ length cs }
+
+        // In any case the result is at most the number of 24-byte headers that cover this part.
+        ensures most { 24 * result ≤ length self.now.rest + 23 }
+    {
+        cell_count(self.rest, self.polarity)
+    }
+
+    /// Returns the next cell, or None after the last one. All offsets are in bytes from the
+    /// volume's start. A file's payload is the bytes of the file after its header, in place in the
+    /// volume. Takes no memory. (PI specification, volume 3, sections 3.2.2 and 3.2.3.)
+    ///
+    /// # Errors
+    ///
+    /// The fault of the next cell, which is checked in the order of `cells`. The walk stays before
+    /// this cell.
+    pub fn next_cell(&mut self) -> Result<Option<Cell<'a>>, Fault>
+        // The walk passes the returned cell, and no other bytes.
+        ensures some { IfOk result (λ o. IfSome o (λ c. Walked self.old (cell_form c ∷ []) self.new)) }
+
+        // None is returned only if no bytes were left.
+        ensures none { IfOk result (λ o. IfNone o ((self.old.rest ≡ []) × (self.new ≡ self.old))) }
+
+        // An error is the fault of the first check of the next cell that does not hold.
+        ensures first { IfErr result (λ f. IsNextFault self.old f × (self.new ≡ self.old)) }
+    {
+        if self.rest.is_empty() {
+            return Ok(None);
+        }
+        let cell = first_cell(self.rest, self.at, self.system, self.polarity)?;
+        let len = span_of(&cell);
+        self.rest = bytes_from(self.rest, len as usize);
+        self.at += len;
+        Ok(Some(cell))
+    }
+}
+
+// Returns the cells that a walk has not passed.
+fn cells_in<'a>(alloc: Global, walk: CellWalk<'a>) -> Result<Cells<'a>, Fault>
+    ensures found { IfOk result (λ cs. TileLeft cs walk.entry) }
+    ensures first { IfErr result (λ f. f ≢ out_of_memory
+        → IsFirstCellFault walk.entry.system walk.entry.polarity walk.entry.at walk.entry.rest f) }
+    ensures bound { IfErr result (λ f. f.place.offset ≤ walk.entry.at + length walk.entry.rest) }
+    ensures some { IfErr result (λ _. 0 < length walk.entry.rest) }
+{
+    let mut walk = walk;
+    let mut list = Vec::with_capacity(alloc, walk.cell_count())?;
+    while let Some(cell) = walk.next_cell()? {
+        list.push(cell)?;
     }
     Ok(Cells::from_vec(list))
 }
@@ -248,6 +341,5 @@ pub fn cells(
     // An empty body is never rejected, not even because memory runs out.
     ensures some { IfErr result (λ _. first < length volume.now) }
 {
-    let body = bytes_from(volume, first as usize);
-    cells_in(alloc, body, first, system, polarity)
+    cells_in(alloc, CellWalk::of(volume, first, system, polarity))
 }

@@ -1,26 +1,25 @@
 -- Facts for the loops over the files of a volume: the files of the first cells, the volume top file, and the offsets at
 -- which files begin.
-use Rattle.std.proofs.Common.{◌≡◌, ◌≤◌, ◌<◌, ℕ, ◌+◌, [], ◌∷◌, ◌++◌, ◌&&◌, ◌||◌, List, length, take, get_or, map, Bool, true, false, refl, sym, ap}
-use Rattle.fv_base.proofs.Laws.{◌∙◌, subst, arith, not, AllByRecursion, Which, First, outer_fault, in_middle, more_items}
+use Rattle.std.proofs.Common.{◌≡◌, ◌≤◌, ℕ, ◌+◌, List, [], ◌∷◌, ◌++◌, Bool, true}
+use Rattle.std.proofs.Common.{false, refl, sym, ap, subst, arith}
+use Rattle.std.specs.Prelude.{◌&&◌, ◌||◌, not}
+use Rattle.std.specs.List.{AllByRecursion}
+use Rattle.fv_base.specs.Words.{Which, First, outer_fault}
 use Rattle.fv_base.specs.declared.fault.Fault.{Fault}
+use Rattle.fv_base.specs.declared.fault.FaultKind.TheVariants as kinds
 use Rattle.fv_file.specs.Words.{CellForm, Valid, Pad, Dead, Stub, Free, CellsWithin}
 use Rattle.fv_tree.specs.Words.{HasTwin, TopElsewhere, FileForm, files_in, is_top, end_of, TopAtEnd}
-use Rattle.fv_base.specs.declared.fault.FaultKind.TheVariants as kinds
+use Rattle.fv_base.proofs.Laws.{in_middle}
 
 -- ---- the files of one more cell
 
-files_in_more : (cs : List CellForm) (c : CellForm) → files_in (cs ++ c ∷ []) ≡ files_in cs ++ files_in (c ∷ [])
+pub files_in_more : (cs : List CellForm) (c : CellForm) → files_in (cs ++ c ∷ []) ≡ files_in cs ++ files_in (c ∷ [])
 files_in_more [] c = refl
 files_in_more (Valid at head payload ∷ cs) c = ap (λ fs. record { offset = at; head = head; payload = payload } ∷ fs) (files_in_more cs c)
 files_in_more (Pad at head payload ∷ cs) c = files_in_more cs c
 files_in_more (Dead at len state ∷ cs) c = files_in_more cs c
 files_in_more (Stub at len ∷ cs) c = files_in_more cs c
 files_in_more (Free at len ∷ cs) c = files_in_more cs c
-
-pub files_in_items : {X : Type 0} (form : X → CellForm) (items : List X) (i : ℕ) (d : X) → i < length items
-    → files_in (take (i + 1) (map form items)) ≡ files_in (take i (map form items)) ++ files_in (form (get_or items i d) ∷ [])
-files_in_items form items i d l = ap files_in (more_items form items i d l)
-    ∙ files_in_more (take i (map form items)) (form (get_or items i d))
 
 -- ---- the volume top file
 

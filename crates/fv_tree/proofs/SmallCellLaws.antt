@@ -1,30 +1,20 @@
 -- The header length, the size and the file checksum of a valid file in a volume follow from its other fields.
-use Rattle.std.proofs.Common.{◌≡◌, ◌≤◌, ◌<◌, ℕ, ◌+◌, ◌^◌, [], ◌∷◌, ◌++◌, List, length, true, refl, sym, ap, ◌∙◌, subst, arith, length-append}
-use Rattle.fv_base.proofs.Laws.{common_steps, AllByRecursion, IsBytes, bytes_back, bytes_front}
+use Rattle.std.proofs.lemmas.Grind.{common_steps}
+use Rattle.std.proofs.Common.{◌≡◌, ◌<◌, ℕ, ◌+◌, ◌^◌, List, [], ◌∷◌, length, true, refl, sym, ap, ◌∙◌, subst}
+use Rattle.std.proofs.Common.{arith, length-append}
+use Rattle.fv_base.specs.Words.{IsBytes}
 use Rattle.fv_base.specs.declared.flash.FileSystem.{FileSystem}
 use Rattle.fv_base.specs.declared.flash.Polarity.{Polarity}
-use Rattle.fv_file.specs.Words.{CellForm, Valid, Pad, Dead, Stub, Free, Tiles, IsCell, IsFilled, offset_of, CellsWithin, cell_len, attribute_bits}
-use Rattle.fv_file.specs.Words.{is_large, IsFile, IsSound, attributes_at, file_header_len, file_sum_right, file_sum_for, is_alive}
-use Rattle.fv_file.specs.declared.cell.Cell.{Cell}
+use Rattle.fv_base.proofs.Laws.{bytes_back, bytes_front}
+use Rattle.fv_file.proofs.Laws.{cell_span, one_passed}
+use Rattle.fv_file.specs.Words.{CellForm, Valid, Pad, Dead, Stub, Free, CellsLeft, Walked, IsCell, IsFilled, offset_of, cell_len}
+use Rattle.fv_file.specs.Words.{attribute_bits, is_large, IsFile, IsSound, attributes_at, file_header_len, file_sum_right, file_sum_for}
+use Rattle.fv_file.specs.Words.{is_alive}
 use Rattle.fv_file.specs.declared.head.FileHead.{FileHead}
 use Rattle.fv_file.specs.declared.state.FileState.{FileState}
+use Rattle.fv_file.specs.declared.state.FileState.TheVariants as states
 use Rattle.fv_tree.specs.Words.{header_len_by, state_by}
 use Rattle.fv_tree.specs.inner.ReadingParts.{FollowsFrom, IsSmallCell, mark_of}
-use Rattle.fv_file.specs.declared.cell.Cell.TheVariants as cells
-use Rattle.fv_file.specs.declared.state.FileState.TheVariants as states
-
--- the cell that is read after the end of a list of cells
-abbrev pub no_cell : Cell
-no_cell = cells.Valid 0 (record {
-  name = record { bytes = [] };
-  kind = 0;
-  attributes = record { 0 = 0 };
-  size = 0;
-  header_len = 0;
-  header_sum = 0;
-  file_sum = 0;
-  state = states.Free;
-}) (record { ref_ptr = (0, 0); now = [] })
 
 -- a right file checksum follows from the attributes and the data
 sum_follows : (attributes file_sum : ℕ) (payload : List ℕ) → file_sum < 256 → file_sum_right attributes file_sum payload ≡ true
@@ -61,19 +51,28 @@ header_follows system polarity head payload b small filled alive sound =
       state = state_follows head.state alive;
     }
 
--- so each cell of a volume is small
-pub small_cells : (system : FileSystem) (polarity : Polarity) (at end : ℕ) (cs : List CellForm) (b : List ℕ) → Tiles system polarity at cs b
-    → CellsWithin end cs → IsBytes b → end < 2 ^ 32 → AllByRecursion IsSmallCell cs
-small_cells system polarity at end [] b tiles within small room = tt
-small_cells system polarity at end (c ∷ cs) b (x, rest, text, is, starts, last, tiles) within small room =
-    let whole : IsBytes (x ++ rest) = subst IsBytes text small in (
-      one c is within.0 (bytes_front x rest whole),
-      small_cells system polarity (at + length x) end cs rest tiles within.2 (bytes_back x rest whole) room,
-    )
+-- so each cell that a walk passes in a volume is small
+pub small_cell : (start left after : CellsLeft) (cs : List CellForm) (c : CellForm) → IsBytes start.rest
+    → start.at + length start.rest < 2 ^ 32 → Walked start cs left → Walked left (c ∷ []) after → IsSmallCell c
+small_cell start left after cs c small room w v =
+    let bytes : IsBytes v.passed =
+    bytes_front v.passed after.rest (subst IsBytes v.text (bytes_back w.passed left.rest (subst IsBytes w.text small))) in
+    let (is, o) = one_passed left after c v in
+    one c is (omega (
+      arith,
+      o,
+      cell_span left.system left.polarity c v.passed is,
+      w.place,
+      room,
+      ap length w.text,
+      length-append w.passed left.rest,
+      ap length v.text,
+      length-append v.passed after.rest,
+    )) bytes
   where
-    one : (c : CellForm) → IsCell system polarity c x → offset_of c + cell_len c ≤ end → IsBytes x → IsSmallCell c
+    one : (c : CellForm) → IsCell left.system left.polarity c v.passed → offset_of c + cell_len c < 2 ^ 32 → IsBytes v.passed → IsSmallCell c
     one (Valid o head payload) (filled, alive, sound) lies bytes =
-        (omega (arith, lies, room), header_follows system polarity head payload x bytes filled alive sound)
+        (omega (arith, lies), header_follows left.system left.polarity head payload v.passed bytes filled alive sound)
     one (Pad o head payload) is lies bytes = tt
     one (Dead o len state) is lies bytes = tt
     one (Stub o len) is lies bytes = tt

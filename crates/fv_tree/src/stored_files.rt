@@ -14,7 +14,6 @@ ghost use Rattle.fv_tree.specs.inner.ReadingParts.{ReadsOrFails, AllStored};
 use crate::fault_place::fault_within;
 use crate::volume_files::{LocatedFile, current_files, files_in};
 use fv_base::{Fault, Place};
-use fv_file::cells;
 use fv_head::{Extent, verify_fv};
 use fv_names::NameOrder;
 use std::alloc::Global;
@@ -38,18 +37,10 @@ pub(crate) fn files_in_body<'a>(
     ensures stored { IfOk result (λ r. AllStored place.offset (map file_form r.0.items)) }
     ensures order { IfOk result (λ r. IsOrder (names_in (map named_file r.0.items)) (numbers_of r.1)) }
 {
-    let list = match cells(
-        alloc,
-        volume,
-        extent.first,
-        extent.file_system,
-        extent.polarity,
-    ) {
-        Ok(list) => list,
+    let files = match files_in(alloc, volume, &extent) {
+        Ok(files) => files,
         Err(fault) => return Err(fault_within(fault, place)),
     };
-    let files = files_in(alloc, list.as_slice())?;
-    drop(list);
     let (files, index) = match current_files(alloc, files, extent.length) {
         Ok(read) => read,
         Err(fault) => return Err(fault_within(fault, place)),

@@ -1,9 +1,9 @@
 //! The files of a volume: which of the valid files in its body are part of it.
 
-ghost use Rattle.std.specs.Prelude.{◌≡◌, ◌≢◌, ◌≤◌, ◌<◌, ◌^◌, ◌==◌, ◌&&◌, ◌||◌, not, [], ◌∷◌, map, length as length_of};
+ghost use Rattle.std.specs.Prelude.{◌≡◌, ◌≢◌, ◌≤◌, ◌<◌, ◌%◌, ◌^◌, ◌==◌, ◌&&◌, ◌||◌, not, List, [], ◌∷◌, drop, map, length as length_of};
 ghost use Rattle.std.specs.Prelude.{IsTrue, IfOk, IfErr, OnOk, IfSome, IfNone, true};
 ghost use Rattle.std.specs.List.{All, AllByRecursion, list_any};
-ghost use Rattle.fv_base.specs.Words.{First, outer_fault, out_of_memory};
+ghost use Rattle.fv_base.specs.Words.{First, outer_fault, out_of_memory, volume_limit};
 ghost use Rattle.fv_tree.specs.FirstFault.{HasTwin, TopElsewhere, NamesFault};
 ghost use Rattle.fv_tree.specs.VolumeFiles.{FileForm, NoTwins, TopAtEnd, AreCurrent, files_in, current_in, is_marked};
 ghost use Rattle.fv_tree.specs.VolumeFiles.{is_top, end_of, replaced_by};
@@ -12,10 +12,12 @@ ghost use Rattle.fv_names.specs.Words.{names_in, IsIndex, entries_of};
 ghost use Rattle.fv_tree.specs.LocatedFiles.{file_form, state_by};
 ghost use Rattle.fv_tree.specs.inner.ReadingParts.{IsSmallCell, is_replaced, mark_of};
 ghost use Rattle.fv_file.specs.CellForms as cellular;
+ghost use Rattle.fv_file.specs.Words.{CellForm, Tiles, IsFirstCellFault};
 
 use fv_base::{Fault, FaultKind, Guid, check};
 use fv_file::offsets::{HEADER_LEN, LARGE_HEADER_LEN};
-use fv_file::{Cell, FileAttributes, FileState};
+use fv_file::{Cell, CellWalk, FileAttributes, FileState};
+use fv_head::Extent;
 use fv_names::{NameIndex, Named};
 use std::alloc::Global;
 
@@ -148,26 +150,27 @@ fn file_of<'a>(cell: &Cell<'a>) -> Option<LocatedFile<'a>>
     }
 }
 
-// Returns the number of files for which room is allocated at once. A volume that has free bytes has
-// them in the last of its cells, which is not a file.
-fn room_for(cells: &[Cell<'_>]) -> usize
-    ensures { result ≤ length_of cells.now }
+// Returns the valid files in the body of a volume of this extent, in order.
+pub(crate) fn files_in<'a>(
+    alloc: Global,
+    volume: &'a [u8],
+    extent: &Extent,
+) -> Result<Vec<LocatedFile<'a>>, Fault>
+    requires small { length_of volume.now ≤ volume_limit }
+    requires multiple { length_of volume.now % 8 ≡ 0 }
+    requires first_multiple { extent.now.first % 8 ≡ 0 }
+    requires within { extent.now.first ≤ length_of volume.now }
+    ensures found { IfOk result (λ fs. (cs : List CellForm)
+        × Tiles extent.now.file_system extent.now.polarity extent.now.first cs (drop extent.now.first volume.now)
+        × (map file_form fs.items ≡ files_in cs)) }
+    ensures first { IfErr result (λ f. f ≢ out_of_memory → IsFirstCellFault extent.now.file_system
+        extent.now.polarity extent.now.first (drop extent.now.first volume.now) f) }
+    ensures bound { IfErr result (λ f. f.place.offset ≤ length_of volume.now) }
 {
-    match cells.split_last() {
-        Some((Cell::Free { .. }, others)) => others.len(),
-        _ => cells.len(),
-    }
-}
-
-// Returns the files in some cells, in order.
-pub(crate) fn files_in<'a>(alloc: Global, cells: &[Cell<'a>]) -> Result<Vec<LocatedFile<'a>>, Fault>
-    requires { AllByRecursion IsSmallCell (map cellular.cell_form cells.now) }
-    ensures found { IfOk result (λ fs. map file_form fs.items ≡ files_in (map cellular.cell_form cells.now)) }
-    ensures err { IfErr result (λ f. f ≡ out_of_memory) }
-{
-    let mut files = Vec::with_capacity(alloc, room_for(cells))?;
-    for cell in cells {
-        let Some(file) = file_of(cell) else {
+    let mut walk = CellWalk::of(volume, extent.first, extent.file_system, extent.polarity);
+    let mut files = Vec::with_capacity(alloc, walk.cell_count())?;
+    while let Some(cell) = walk.next_cell()? {
+        let Some(file) = file_of(&cell) else {
             continue;
         };
         files.push(file)?;

@@ -2,7 +2,7 @@
 
 use fv_base::{FileSystem, Polarity};
 use fv_file::{
-    Cell, Cells, FileAttributes, FileHead, FileState, HeadBytes, cells, file_head_bytes,
+    Cell, CellWalk, Cells, FileAttributes, FileHead, FileState, HeadBytes, cells, file_head_bytes,
     file_state, pad_head_bytes, verify_ffs_file,
 };
 use fv_head::{
@@ -98,6 +98,7 @@ fn name_cell(cell: &Cell<'_>) {
 pub(super) fn name_file() {
     let _ = (file_state, verify_ffs_file, cells);
     let _ = (file_head_bytes, pad_head_bytes);
+    let _ = (CellWalk::of, CellWalk::cell_count, CellWalk::next_cell);
     let _ = (Cells::as_slice, HeadBytes::as_slice, FileAttributes::byte);
     name_cell(&Cell::Free { offset: 0, len: 0 });
 }

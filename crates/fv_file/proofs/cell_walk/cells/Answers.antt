@@ -1,4 +1,4 @@
-use Rattle.std.proofs.Common.{◌≡◌, ℕ, ◌+◌, length, sym, ap, subst, arith, length-drop}
+use Rattle.std.proofs.Common.{ℕ, ◌+◌, ◌≡◌, arith, drop, length, length-drop, subst}
 use Rattle.std.proofs.lemmas.Result.{IfOk-weaker, IfErr-weaker}
 use Rattle.fv_base.specs.Words.{First}
 use Rattle.fv_file.specs.Words.{CellsWithin}
@@ -6,17 +6,19 @@ use Rattle.fv_file.proofs.BodyLemmas.{only_one, none_after, all_within}
 use Rattle.fv_file.proofs.cell_walk.cells.Goals as goal
 
 pub returns-clause-only : goal.returns-clause-only
-returns-clause-only c = rw (sym c.bytes_from-body.ensures) (IfOk-weaker c.cells_in.result _ _
-    (λ cs h ds g. only_one c.args.system c.args.polarity c.args.first c.bytes_from-body.result.now cs ds h g) c.cells_in.ensures.found)
+returns-clause-only c =
+    IfOk-weaker c.cells_in.result _ _ (λ cs h ds g. only_one _ _ _ _ cs ds h g) (rw c.of.ensures at c.cells_in.ensures.found)
 
 pub returns-clause-none : goal.returns-clause-none
-returns-clause-none c = rw (sym c.bytes_from-body.ensures) (IfErr-weaker c.cells_in.result _ _
-    (λ f h ne ds g. none_after First c.args.system c.args.polarity c.args.first c.bytes_from-body.result.now f ds (h ne) g) c.cells_in.ensures.first)
+returns-clause-none c =
+    IfErr-weaker c.cells_in.result _ _ (λ f h ne ds g. none_after First _ _ _ _ f ds (h ne) g)
+    (rw c.of.ensures at c.cells_in.ensures.first)
 
 pub returns-clause-lies : goal.returns-clause-lies
 returns-clause-lies c =
-    let end : c.args.first + length c.bytes_from-body.result.now ≡ length c.args.volume.now =
-    omega (arith, ap length c.bytes_from-body.ensures, length-drop c.args.first c.args.volume.now, c.requires.within) in
+    let body = drop c.args.first c.args.volume.now in
+    let end : c.args.first + length body ≡ length c.args.volume.now =
+    omega (arith, length-drop c.args.first c.args.volume.now, c.requires.within) in
     IfOk-weaker c.cells_in.result _ _
-    (λ cs h. subst (λ (n : ℕ). CellsWithin n cs) end
-    (all_within c.args.system c.args.polarity c.args.first cs c.bytes_from-body.result.now h)) c.cells_in.ensures.found
+    (λ cs h. subst (λ (n : ℕ). CellsWithin n cs) end (all_within c.args.system c.args.polarity c.args.first cs body h))
+    (rw c.of.ensures at c.cells_in.ensures.found)

@@ -1,10 +1,10 @@
-use Rattle.std.proofs.Common.{◌-◌, length, map}
-use Rattle.fv_file.specs.Words.{cell_form}
-use Rattle.fv_file.proofs.BodyLemmas.{Upto}
+use Rattle.std.proofs.Common.{length, map}
+use Rattle.fv_file.specs.Words.{cell_form, Walked}
 use Rattle.fv_file.proofs.cell_walk.cells_in.Given as goal
 
-abbrev pub invariant-loop-system : goal.invariant-loop-system
-invariant-loop-system l = Upto l.fn.system l.fn.polarity l.fn.first l.fn.body (map cell_form l.list.items) l.at
+-- the walk passed the cells in the list
+abbrev pub invariant-loop-list : goal.invariant-loop-list
+invariant-loop-list l = Walked l.fn.walk (map cell_form l.list.items) l.walk
 
-abbrev pub decreases-loop-system : goal.decreases-loop-system
-decreases-loop-system l = length l.fn.body - l.at
+abbrev pub decreases-loop-list : goal.decreases-loop-list
+decreases-loop-list l = length l.walk.rest

@@ -1,32 +1,59 @@
-use Rattle.std.proofs.Common.{◌≡◌, [], ◌∷◌, ◌++◌, rules, ℕ, ◌∙◌, sym, ap, take, map, append-nil, List, subst, arith}
-use Rattle.fv_base.proofs.Laws.{get_or-map, length-map, map_push, at_index}
-use Rattle.fv_file.specs.declared.cell.Cell.{Cell}
+use Rattle.std.proofs.Common.{◌≡◌, ◌∙◌, sym, ap, [], ◌∷◌, ◌++◌, append-nil, arith, length-drop, map, refl, rules}
+use Rattle.std.proofs.lemmas.List.{map_push}
+use Rattle.fv_base.specs.Words.{IsBytes}
+use Rattle.fv_base.proofs.Laws.{bytes_drop, err_is}
+use Rattle.fv_file.specs.Words.{Walked, cell_form}
+use Rattle.fv_file.proofs.Laws.{body_within, walk_begins, walk_fails, walked_on}
 use Rattle.fv_tree.specs.Words.{file_form, files_in}
-use Rattle.fv_tree.specs.inner.ReadingParts.{IsSmallCell}
-use Rattle.fv_tree.proofs.NameLaws.{files_in_items}
-use Rattle.fv_tree.proofs.SmallCellLaws.{no_cell}
-use Rattle.fv_file.specs.CellForms as cellular
+use Rattle.fv_tree.proofs.NameLaws.{files_in_more}
+use Rattle.fv_tree.proofs.SmallCellLaws.{small_cell}
 use Rattle.fv_tree.proofs.volume_files.files_in.Goals as goal
+
+pub loop-files-init : goal.loop-files-init
+loop-files-init c = ([], rw c.of-walk.ensures (walk_begins _), rw c.in_ok-files.ensures.items refl)
 
 pub file_of-requires : goal.file_of-requires
 file_of-requires c =
-    let cells : List Cell = c.args.cells.now in
-    let i : ℕ = c.loop-cell.cell-index in
-    subst IsSmallCell (get_or-map cellular.cell_form cells i no_cell (cellular.cell_form no_cell) c.loop-cell-test.true)
-    (at_index IsSmallCell (map cellular.cell_form cells) i (cellular.cell_form no_cell) c.requires
-    (omega (arith, c.loop-cell-test.true, length-map cells cellular.cell_form)))
+    let (cs, walked, are) = c.loop-files.invariant in
+    let bytes : IsBytes c.args.volume.now = search rules in
+    let step : Walked c.loop-files.walk (cell_form c.in-Some.cell ∷ []) c.next_cell.new.self = search rules in
+    small_cell _ _ _ _ _ (bytes_drop c.args.extent.now.first c.args.volume.now bytes)
+    (omega (arith, length-drop c.args.extent.now.first c.args.volume.now, c.requires.small, c.requires.within)) walked step
 
-pub loop-cell-preserved-in_default : goal.loop-cell-preserved-in_default
-loop-cell-preserved-in_default c =
-    let fs = files_in (take c.loop-cell.cell-index (map cellular.cell_form c.args.cells.now)) in
-    c.loop-cell.invariant ∙ sym (files_in_items cellular.cell_form c.args.cells.now c.loop-cell.cell-index no_cell c.loop-cell-test.true ∙
-    ap (λ l. fs ++ l) c.in_default.ensures.none ∙ append-nil fs)
+pub loop-files-preserved-in_default-file_of : goal.loop-files-preserved-in_default-file_of
+loop-files-preserved-in_default-file_of c =
+    let (cs, walked, are) = c.loop-files.invariant in
+    let cell = cell_form c.in-Some.cell in
+    let step : Walked c.loop-files.walk (cell ∷ []) c.next_cell.new.self = search rules in (
+      cs ++ cell ∷ [],
+      walked_on _ _ _ _ _ walked step,
+      are ∙ sym (files_in_more cs cell ∙ ap (λ l. files_in cs ++ l) c.in_default-file_of.ensures.none ∙ append-nil (files_in cs)),
+    )
 
-pub loop-cell-preserved : goal.loop-cell-preserved
-loop-cell-preserved c =
-    let fs = files_in (take c.loop-cell.cell-index (map cellular.cell_form c.args.cells.now)) in
-    let items : c.push.new.self.items ≡ c.loop-cell.files.items ++ c.in-Some.file ∷ [] = search rules in
-    ap (map file_form) items ∙ map_push file_form c.loop-cell.files.items c.in-Some.file
-    ∙ ap (λ l. l ++ file_form c.in-Some.file ∷ []) c.loop-cell.invariant
-    ∙ sym (files_in_items cellular.cell_form c.args.cells.now c.loop-cell.cell-index no_cell c.loop-cell-test.true
-    ∙ ap (λ l. fs ++ l) c.in-Some.ensures.some)
+pub loop-files-preserved : goal.loop-files-preserved
+loop-files-preserved c =
+    let (cs, walked, are) = c.loop-files.invariant in
+    let cell = cell_form c.in-Some.cell in
+    let step : Walked c.loop-files.walk (cell ∷ []) c.next_cell.new.self = search rules in
+    let items : c.push.new.self.items ≡ c.loop-files.files.items ++ c.in-Some-file_of.file ∷ [] = search rules in (
+      cs ++ cell ∷ [],
+      walked_on _ _ _ _ _ walked step,
+      ap (map file_form) items ∙ map_push file_form c.loop-files.files.items c.in-Some-file_of.file
+          ∙ ap (λ l. l ++ file_form c.in-Some-file_of.file ∷ []) are
+          ∙ sym (files_in_more cs cell ∙ ap (λ l. files_in cs ++ l) c.in-Some-file_of.ensures.some),
+    )
+
+pub returns-in_err-cell-clause-first : goal.returns-in_err-cell-clause-first
+returns-in_err-cell-clause-first c =
+    let (cs, walked, are) = c.loop-files.invariant in
+    rw (err_is c.from_residual-in_err-cell.ensures.1) (λ memory. walk_fails _ _ _ _ walked c.in_err-cell.ensures.first.0)
+
+pub returns-in_err-cell-clause-bound : goal.returns-in_err-cell-clause-bound
+returns-in_err-cell-clause-bound c =
+    let (cs, walked, are) = c.loop-files.invariant in
+    rw (err_is c.from_residual-in_err-cell.ensures.1) (omega (
+      arith,
+      body_within _ _ _ _ _ (walk_fails _ _ _ _ walked c.in_err-cell.ensures.first.0),
+      length-drop c.args.extent.now.first c.args.volume.now,
+      c.requires.within,
+    ))

@@ -1,7 +1,13 @@
-use Rattle.std.proofs.Common.{◌≡◌, map, take}
-use Rattle.fv_file.specs.CellForms as cellular
+use Rattle.std.proofs.Common.{◌≡◌, List, drop, length, map}
+use Rattle.fv_file.specs.Words.{CellForm, Walked, left_at}
 use Rattle.fv_tree.specs.Words.{file_form, files_in}
 use Rattle.fv_tree.proofs.volume_files.files_in.Given as goal
 
-abbrev pub invariant-loop-cell : goal.invariant-loop-cell
-invariant-loop-cell l = map file_form l.files.items ≡ files_in (take l.cell-index (map cellular.cell_form l.cells))
+-- the walk passed some cells, whose files are in the list
+abbrev pub invariant-loop-files : goal.invariant-loop-files
+invariant-loop-files l = (cs : List CellForm)
+    × Walked (left_at l.extent.file_system l.extent.polarity l.extent.first (drop l.extent.first l.volume)) cs l.walk
+    × (map file_form l.files.items ≡ files_in cs)
+
+abbrev pub decreases-loop-files : goal.decreases-loop-files
+decreases-loop-files l = length l.walk.rest
