@@ -89,7 +89,7 @@
 #include <stddef.h>
 #include <stdint.h>
 
-#define FV_VERSION "2.0.0-dev"
+#define FV_VERSION "2.0.0"
 #define FV_VERSION_MAJOR 2
 #define FV_VERSION_MINOR 0
 #define FV_VERSION_PATCH 0

@@ -9,7 +9,7 @@ import ctypes as c
 import enum
 from typing import Any
 
-VERSION = "2.0.0-dev"
+VERSION = "2.0.0"
 VERSION_MAJOR = 2
 VERSION_MINOR = 0
 VERSION_PATCH = 0

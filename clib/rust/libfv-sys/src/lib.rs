@@ -14,7 +14,7 @@ use std::os::raw::{c_char, c_void};
 /// `FV_NOT_FOUND` and `FV_BAD_ARGUMENT`, or one that a later version adds.
 pub type fv_result = u32;
 
-pub const FV_VERSION: &str = "2.0.0-dev";
+pub const FV_VERSION: &str = "2.0.0";
 pub const FV_VERSION_MAJOR: u32 = 2;
 pub const FV_VERSION_MINOR: u32 = 0;
 pub const FV_VERSION_PATCH: u32 = 0;
