@@ -1,7 +1,7 @@
--- Proves that the bytes at the offsets of Attributes (`attributes_are`) and of the extended header's FvName (`no_name`,
--- `some_name`) are these fields of the header that was read (PI specification, volume 3, sections 3.2.1.1 and 3.2.1.2).
+-- Proves that the bytes at the offsets of Attributes (`attributes_are`) and of the extended header's FvName
+-- (`name_there`) are these fields of the header that was read (PI specification, volume 3, sections 3.2.1.1 and 3.2.1.2).
 use Rattle.std.proofs.Common.{◌≡◌, ◌≢◌, ◌≤◌, ◌∙◌, ◌+◌, ℕ, List, ◌++◌, ap, append_assoc, arith, drop, length, length-append, refl, sym, take}
-use Rattle.std.specs.Prelude.{Option, None, Some, replicate}
+use Rattle.std.specs.Prelude.{Option, None, Some}
 use Rattle.std.proofs.lemmas.List.{drop_at, take_at}
 use Rattle.fv_base.specs.Words.{bytes_of, field, le, le_at}
 use Rattle.fv_base.proofs.Laws.{field-take}
@@ -15,17 +15,6 @@ pub attributes_are : (h : HeadFields) (e : Extent) (b : List ℕ) → BeginsVolu
 attributes_are h e b front =
     let least = (front_lies b h e front).least in
     ap le (sym (field-take 44 4 e.header_len b (omega (arith, least)))) ∙ front.head.attributes
-
--- if ExtHeaderOffset is 0, the volume has no name
-no_name : (x : Option Extension) (e : Extent) (b : List ℕ) → 64 ≤ e.header_len → HasExt x e b → le_at 52 2 b ≡ 0
-    → replicate 16 0 ≡ volume_name x
-no_name None e b least ext none = refl
-no_name (Some x) e b least (before, part, behind, text, at, low, high, is, first) none =
-    absurd (omega (arith, least, low, at, none))
-
-pub name_none : (h : HeadFields) (e : Extent) (b : List ℕ) → BeginsVolume h e b → le_at 52 2 b ≡ 0
-    → replicate 16 0 ≡ volume_name h.ext
-name_none h e b front none = no_name h.ext e b (front_lies b h e front).least front.ext none
 
 -- if ExtHeaderOffset is not 0, the name is the first 16 bytes at this offset
 some_name : (x : Option Extension) (e : Extent) (b : List ℕ) → HasExt x e b → le_at 52 2 b ≢ 0

@@ -2,27 +2,29 @@
 -- 1. A row keeps its properties if rows are added after it (`node_later`).
 -- 2. The places of the parts of a row are right (`files_are`, `sections_are`, `nested_are`, `none_are`).
 -- 3. The rows that are left are the rows of the parts that wait, each followed by the rows in it (`flat`).
-use Rattle.std.proofs.Common.{◌≡◌, ◌∙◌, ℕ, zero, suc, ◌+◌, ◌≤◌, List, [], ◌∷◌, ◌++◌, length, Some, refl, sym, ap, ap₂, subst}
+use Rattle.std.proofs.Common.{◌≡◌, ◌∙◌, ℕ, zero, suc, ◌+◌, ◌≤◌, List, [], ◌∷◌, ◌++◌, length, Option, Some, None, refl, sym, ap, ap₂, subst}
 use Rattle.std.proofs.Common.{append-nil, append_assoc, arith, length-append}
 use Rattle.std.proofs.lemmas.List.{map-append}
+use Rattle.std.specs.Iterator.{YieldsFirstBy}
 use Rattle.std.specs.Prelude.{◌≢◌, slice_get, map}
 use Rattle.fv_base.specs.Words.{IsBytes}
 use Rattle.fv_section.specs.Words.{FrameForm, Splits}
-use Rattle.fv_tree.specs.Words.{Accepted, BeginWithFiles, Meaning, Volume, Pairwise, file_form}
+use Rattle.fv_tree.specs.Words.{Accepted, BeginWithFiles, Meaning, Volume, NoFiles, MoreFiles, Pairwise, file_form, files_of}
 use Rattle.fv_tree.specs.declared.volume_files.LocatedFile.{LocatedFile}
 use Rattle.fv_rows.specs.Words.{NodeMeaning, VolumeNode, FileNode, SectionNode, TreeRow as Row, nesting_inside, parts_in, rows_inside}
-use Rattle.fv_rows.specs.Words.{tree_rows as rows_of}
+use Rattle.fv_rows.specs.Words.{row_of, tree_rows as rows_of}
+use Rattle.fv_rows.specs.declared.tree_walk.Row.{Row as WalkRow}
 use Rattle.fv_rows.specs.RowWalks.{rows_of_nodes}
 use Rattle.fv_rows.proofs.Laws.{inside_rows}
-use Rattle.fv_c.specs.TreeParts.{TreeRow, no_parent, parent_of, rows_of_parts, tree_rows, with_parents}
-use Rattle.fv_c.specs.ReportedTree.{Held, IsNodeIn, IsPlaced, bytes_at, node_content, reported_node}
+use Rattle.fv_c.specs.TreeParts.{TreeRow, parent_of, rows_of_parts, tree_rows, with_parents}
+use Rattle.fv_c.specs.ReportedTree.{HasTreeRows, Held, IsNodeIn, IsPlaced, bytes_at, node_content}
 use Rattle.fv_c.specs.declared.tree.FvNode.{FvNode}
 use Rattle.fv_c.specs.declared.tree.PartPlace.{PartPlace}
-use Rattle.fv_c.specs.inner.Trees.{HasPlaces, IsFound, LiesAt, file_place, section_place}
+use Rattle.fv_c.specs.inner.Trees.{HasPlaces, IsFound, LiesAt, file_place, section_place, whole_node, whole_row}
 use Rattle.fv_c.proofs.TreeNesting.{pairs_map}
 use Rattle.fv_c.proofs.TreeParents.{next_parent, same_above}
-use Rattle.fv_c.proofs.TreeRows.{all_bytes, files_in, files_placed, get_middle, nested_placed, nothing_in, root_found, root_node}
-use Rattle.fv_c.proofs.TreeRows.{sections_placed, stream_in, volume_in}
+use Rattle.fv_c.proofs.TreeRows.{all_bytes, files_in, files_placed, get_middle, nested_placed, nothing_in, sections_placed}
+use Rattle.fv_c.proofs.TreeRows.{stream_in, volume_in, whole_found}
 
 -- ---- more rows
 
@@ -247,44 +249,43 @@ module _ {input : List ℕ} {m : Meaning} {rows : List FvNode} {r : Row} {left :
               (pairs_map (LiesAt input rows) (LiesAt input news) lies places (map (next_row w.before) rest) waiting.1)));
         }
 
--- the volume waits, before any row has been added
-walk_begun : (input : List ℕ) (m : Meaning) → Accepted input m
-    → Walked input m [] (record { parent = no_parent; offset = 0; header_len = 0 } ∷ []) (rows_of m)
-walk_begun input (Volume head files) accepted = record {
-  before = [];
-  done = [];
-  waits = record { depth = 0; nesting = 0; number = 0; node = VolumeNode (Volume head files) } ∷ [];
-  most = 0;
-  all = refl;
-  nodes = tt;
-  long = refl;
-  left_are = ap (λ (l : List Row). record { depth = 0; nesting = 0; number = 0; node = VolumeNode (Volume head files) } ∷ l)
-      (sym (append-nil (rows_inside 1 0 (VolumeNode (Volume head files)))));
-  falls = (omega arith, tt);
-  lie = ((refl, root_found input (Volume head files) accepted []), tt);
+-- the rows inside the volume are left after the first row of the walk
+pub left_inside : (m : Meaning) (first : Option WalkRow) (left : List Row) → YieldsFirstBy row_of (λ (rows : List Row). rows) (rows_of m) first left
+    → left ≡ rows_inside 1 0 (VolumeNode m)
+left_inside (Volume head files) None left is = cc
+left_inside (Volume head files) (Some r) left is = cc
+
+-- the row of the volume has been added, and its files wait
+pub walk_first : (input : List ℕ) (m : Meaning) (left : List Row) (stored : List LocatedFile) (places : List PartPlace) → Accepted input m
+    → left ≡ rows_inside 1 0 (VolumeNode m) → BeginWithFiles input (map file_form stored)
+    → places ≡ map (file_place (record { parent = 0; offset = 0; header_len = 0 })) (map file_form stored)
+    → Walked input m (whole_node m ∷ []) places left
+walk_first input (Volume head files) left stored places accepted inside begin are =
+    let m : Meaning = Volume head files in
+    let own : List Row = own_rows 1 0 0 (parts_in (VolumeNode m)) in
+    let found : IsFound input [] (whole_node m) (whole_row m) = whole_found input m accepted [] in
+    let begun : BeginWithFiles (bytes_at input (whole_node m)) (map file_form stored) =
+    subst (λ (b : List ℕ). BeginWithFiles b (map file_form stored)) (sym (all_bytes input m accepted)) begin in record {
+      before = 0 ∷ [];
+      done = whole_row m ∷ [];
+      waits = own ++ [];
+      most = 1;
+      all = ap (λ (l : List Row). whole_row m ∷ with_parents (0 ∷ []) l) (sym inside);
+      nodes = ((whole_found input m accepted (whole_node m ∷ [])).node, tt);
+      long = refl;
+      left_are = inside ∙ inside_rows 1 0 (VolumeNode m) ∙ sym (append-nil _) ∙ sym (flat_own 1 0 0 (parts_in (VolumeNode m)) []);
+      falls = falling_own 1 0 0 (parts_in (VolumeNode m)) [] tt;
+      lie = subst (λ (l : List PartPlace). Pairwise (LiesAt input (whole_node m ∷ [])) l (map (next_row (0 ∷ [])) (own ++ []))) (sym are)
+          (subst (Pairwise (LiesAt input (whole_node m ∷ [])) _)
+          (sym (ap (map (next_row (0 ∷ []))) (append-nil own) ∙ own_parents 0 0 0 [] (parts_in (VolumeNode m))))
+          (files_are found 0 refl stored begun (whole_node m ∷ []) refl));
+    }
+
+-- a volume without files has only its own row
+pub without_files : (input : List ℕ) (m : Meaning) → Accepted input m → length (files_of m) ≡ 0 → HasTreeRows input (whole_node m ∷ [])
+without_files input (Volume head NoFiles) accepted none = record {
+  meaning = Volume head NoFiles;
+  volume = accepted;
+  nodes = ((whole_found input (Volume head NoFiles) accepted _).node, tt);
 }
-
-root_is : (m : Meaning) (first : Row) (left : List Row) → rows_of m ≡ first ∷ left
-    → first ≡ record { depth = 0; nesting = 0; number = 0; node = VolumeNode m }
-root_is (Volume head files) first left are = cc
-
--- the first row has been added, and the files of the volume wait
-pub walk_first : (input : List ℕ) (m : Meaning) (first : Row) (left : List Row) (stored : List LocatedFile) (news : List FvNode)
-    (more : List PartPlace) → Accepted input m → rows_of m ≡ first ∷ left → BeginWithFiles input (map file_form stored)
-    → news ≡ reported_node 0 0 (record { parent = no_parent; depth = first.depth; number = first.number; node = first.node }) ∷ []
-    → more ≡ map (file_place (record { parent = 0; offset = 0; header_len = 0 })) (map file_form stored) → Walked input m news more left
-walk_first input m first left stored news more accepted are begin made is =
-    let top : first ≡ record { depth = 0; nesting = 0; number = 0; node = VolumeNode m } = root_is m first left are in
-    let w : Walked input m [] (record { parent = no_parent; offset = 0; header_len = 0 } ∷ [])
-    (record { depth = 0; nesting = 0; number = 0; node = VolumeNode m } ∷ left) =
-    subst (Walked input m [] (record { parent = no_parent; offset = 0; header_len = 0 } ∷ []))
-    (are ∙ ap (λ (r : Row). r ∷ left) top) (walk_begun input m accepted) in
-    let lies = next_lies w in
-    let same : reported_node 0 0 (next_row w.before (record { depth = 0; nesting = 0; number = 0; node = VolumeNode m })) ≡ root_node m =
-    ap (λ (p : ℕ). reported_node 0 0 (record { parent = p; depth = 0; number = 0; node = VolumeNode m })) (sym lies.0) in
-    walk_more w (map (file_place (record { parent = 0; offset = 0; header_len = 0 })) (map file_form stored))
-    (subst (λ (n : FvNode). IsFound input [] n (next_row w.before (record { depth = 0; nesting = 0; number = 0; node = VolumeNode m }))) same lies.1)
-    (made ∙ ap (λ (r : Row). reported_node 0 0 (record { parent = no_parent; depth = r.depth; number = r.number; node = r.node }) ∷ []) top)
-    (files_are (root_found input m accepted []) 0 refl stored
-    (subst (λ (b : List ℕ). BeginWithFiles b (map file_form stored)) (sym (all_bytes input m accepted)) begin))
-    (is ∙ sym (append-nil (map (file_place (record { parent = 0; offset = 0; header_len = 0 })) (map file_form stored))))
+without_files input (Volume head (MoreFiles f fs)) accepted none = cc

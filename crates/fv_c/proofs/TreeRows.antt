@@ -1,5 +1,5 @@
 -- Proves that the places of the parts that a row holds are right (`files_placed`, `sections_placed`, `nested_placed`), and
--- that the first row is right (`root_found`). The steps:
+-- that the first row is right (`whole_found`). The steps:
 -- 1. If a list of items and a list of parts agree one by one, the places that the items give are the places of the parts
 --    (`each_lies`).
 -- 2. What a row holds follows from its number for the contents (`files_in`, `stream_in`, `volume_in`, `nothing_in`).
@@ -21,11 +21,11 @@ use Rattle.fv_tree.specs.Words.{body_len, body_of, body_place, data_len_of, data
 use Rattle.fv_tree.specs.declared.volume_files.LocatedFile.{LocatedFile}
 use Rattle.fv_tree.proofs.Laws.{begun_data, body_long, content_long, one_files, volume_files}
 use Rattle.fv_rows.specs.Words.{NodeMeaning, VolumeNode, FileNode, SectionNode, parts_in}
-use Rattle.fv_c.specs.TreeParts.{TreeRow, no_parent, rows_of_parts}
-use Rattle.fv_c.specs.ReportedTree.{IsPlaced, bytes_at, kind_number, node_content, node_length, reported_node}
+use Rattle.fv_c.specs.TreeParts.{TreeRow, rows_of_parts}
+use Rattle.fv_c.specs.ReportedTree.{IsPlaced, bytes_at, kind_number, node_content, node_length}
 use Rattle.fv_c.specs.declared.tree.FvNode.{FvNode}
 use Rattle.fv_c.specs.declared.tree.PartPlace.{PartPlace}
-use Rattle.fv_c.specs.inner.Trees.{IsFound, LiesAt, file_place, section_place}
+use Rattle.fv_c.specs.inner.Trees.{IsFound, LiesAt, file_place, section_place, whole_node, whole_row}
 use Rattle.fv_c.proofs.TreeNesting.{in_group, in_nested}
 use Rattle.fv_c.proofs.TreePlaces.{LieAt, field_bytes, file_lies, frame_lies}
 
@@ -257,12 +257,6 @@ module _ (input : List ℕ) (rows : List FvNode) (n : ℕ) (h : FvNode) (at : sl
 
 -- ---- the volume that the input is
 
-abbrev pub root_row : Meaning → TreeRow
-root_row m = record { parent = no_parent; depth = 0; number = 0; node = VolumeNode m }
-
-abbrev pub root_node : Meaning → FvNode
-root_node m = reported_node 0 0 (root_row m)
-
 module _ (input : List ℕ) (m : Meaning) (accepted : Accepted input m) where
   whole : length_of m ≡ length input
   whole = go m accepted where
@@ -272,11 +266,11 @@ module _ (input : List ℕ) (m : Meaning) (accepted : Accepted input m) where
   pub within_limit : length input ≤ volume_limit
   within_limit = omega (arith, accepted.1.begins.head.volume_most, accepted.1.begins.length_is, accepted.1.length_is)
 
-  pub all_bytes : bytes_at input (root_node m) ≡ input
+  pub all_bytes : bytes_at input (whole_node m) ≡ input
   all_bytes = take_all (length_of m) input (omega (arith, whole))
 
-  pub root_found : (rows : List FvNode) → IsFound input rows (root_node m) (root_row m)
-  root_found rows = record {
+  pub whole_found : (rows : List FvNode) → IsFound input rows (whole_node m) (whole_row m)
+  whole_found rows = record {
     node = record {
       is = refl;
       within = omega (arith, whole);

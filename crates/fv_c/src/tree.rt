@@ -1,7 +1,7 @@
 //! Lists the tree of a volume: all parts at every level, with their places in the input.
 
-ghost use Rattle.std.specs.Prelude.{◌≡◌, ◌≢◌, ◌<◌, ◌≤◌, ◌+◌, ◌^◌, ◌++◌, ℕ, List, length, drop, map, reverse};
-ghost use Rattle.std.specs.Prelude.{IfOk, IfErr, OnOk};
+ghost use Rattle.std.specs.Prelude.{◌≡◌, ◌≢◌, ◌<◌, ◌≤◌, ◌+◌, ◌^◌, [], ◌∷◌, ◌++◌, ℕ, List, length, drop, map};
+ghost use Rattle.std.specs.Prelude.{reverse, IfOk, IfErr, OnOk};
 ghost use Rattle.fv_base.specs.Words.{OrMemory, fault_number, out_of_memory, volume_limit};
 ghost use Rattle.fv_base.specs.declared.fault.Fault.{Fault};
 ghost use Rattle.fv_section.specs.Words.{FrameForm, Splits};
@@ -12,7 +12,7 @@ ghost use Rattle.fv_c.specs.TreeParts.{TreeRow};
 ghost use Rattle.fv_c.specs.ReportedTree.{HasTreeRows, reported_node, bytes_at};
 ghost use Rattle.fv_c.specs.ReportedTree.{body_number, content_number};
 ghost use Rattle.fv_c.specs.ReportedHeaders.{volume_name};
-ghost use Rattle.fv_c.specs.inner.Trees.{HasPlaces, IsFound, file_place, section_place};
+ghost use Rattle.fv_c.specs.inner.Trees.{HasPlaces, IsFound, file_place, section_place, whole_node};
 
 use crate::buffer::put_result;
 use crate::reports::{FvFault, system_number};
@@ -287,6 +287,39 @@ fn wait_for(mut places: Vec<PartPlace>, waiting: &mut Vec<PartPlace>) -> Result<
     Ok(())
 }
 
+// Adds the rows of the parts inside a volume, which is the input and stores these files, after the
+// volume's own row.
+fn put_inside(
+    alloc: Global,
+    input: &[u8],
+    volume: &VolumeView<'_>,
+    stored: &[LocatedFile<'_>],
+    rows: &mut Vec<FvNode>,
+) -> Result<(), Fault>
+    requires read { Accepted input.now volume.now }
+    requires files { BeginWithFiles input.now (map file_form stored.now) }
+    requires own { rows.old.items ≡ whole_node volume.now ∷ [] }
+    ensures ok { OnOk result (HasTreeRows input.now rows.new.items) }
+    ensures err { IfErr result (λ f. f ≡ out_of_memory) }
+{
+    // The places of the parts of the rows that are left. The place of the next row is the last.
+    let mut waiting = Vec::new(alloc);
+    let start = PartPlace { parent: 0, ..WHOLE };
+    wait_for(file_places(alloc, stored, start)?, &mut waiting)?;
+    let mut walk = TreeWalk::of(volume);
+    walk.next();
+    for row in walk {
+        let Some(place) = waiting.pop() else {
+            return Ok(());
+        };
+        let node = node_of(&row, place);
+        let parts = places_in(alloc, input, &node, rows.len() as u64)?;
+        wait_for(parts, &mut waiting)?;
+        rows.push(node)?;
+    }
+    Ok(())
+}
+
 // Returns the rows of a volume, which is the input and stores these files, for C.
 fn rows_of(
     alloc: Global,
@@ -299,25 +332,18 @@ fn rows_of(
     ensures ok { IfOk result (λ v. HasTreeRows input.now v.items) }
     ensures err { IfErr result (λ f. f ≡ out_of_memory) }
 {
-    let mut rows = Vec::new(alloc);
-    // The places of the parts of the rows that are left. The place of the next row is the last.
-    let mut waiting = Vec::new(alloc);
-    let mut walk = TreeWalk::of(volume);
-    let Some(whole) = walk.next() else {
-        return Ok(rows);
+    let whole = Row {
+        depth: 0,
+        nesting: 0,
+        number: 0,
+        part: Part::Volume(volume),
     };
+    let mut rows = Vec::new(alloc);
     rows.push(node_of(&whole, WHOLE))?;
-    let start = PartPlace { parent: 0, ..WHOLE };
-    wait_for(file_places(alloc, stored, start)?, &mut waiting)?;
-    for row in walk {
-        let Some(place) = waiting.pop() else {
-            return Ok(rows);
-        };
-        let node = node_of(&row, place);
-        let parts = places_in(alloc, input, &node, rows.len() as u64)?;
-        wait_for(parts, &mut waiting)?;
-        rows.push(node)?;
+    if volume.file_count() == 0 {
+        return Ok(rows);
     }
+    put_inside(alloc, input, volume, stored, &mut rows)?;
     Ok(rows)
 }
 

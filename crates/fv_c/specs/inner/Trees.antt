@@ -1,12 +1,19 @@
--- The places of the parts that a row holds.
+-- The row of the whole input, and the places of the parts that a row holds.
 use Rattle.std.specs.Prelude.{◌≡◌, ℕ, ◌+◌, ◌≤◌, List, Some, slice_get}
 use Rattle.fv_section.specs.Words.{FrameForm}
-use Rattle.fv_tree.specs.Words.{FileForm, Pairwise, body_place, data_place}
-use Rattle.fv_rows.specs.Words.{NodeMeaning, parts_in}
-use Rattle.fv_c.specs.TreeParts.{TreeRow, rows_of_parts}
+use Rattle.fv_tree.specs.Words.{FileForm, Meaning, Pairwise, body_place, data_place}
+use Rattle.fv_rows.specs.Words.{NodeMeaning, VolumeNode, parts_in}
+use Rattle.fv_c.specs.TreeParts.{TreeRow, no_parent, rows_of_parts}
 use Rattle.fv_c.specs.ReportedTree.{IsNodeIn, reported_node}
 use Rattle.fv_c.specs.declared.tree.FvNode.{FvNode}
 use Rattle.fv_c.specs.declared.tree.PartPlace.{PartPlace}
+
+-- the first row of a tree: the volume that the whole input is
+abbrev pub whole_row : Meaning → TreeRow
+whole_row m = record { parent = no_parent; depth = 0; number = 0; node = VolumeNode m }
+
+abbrev pub whole_node : Meaning → FvNode
+whole_node m = reported_node 0 0 (whole_row m)
 
 -- the place of a file of the volume, or of a section of the stream, that begins at this place
 abbrev pub file_place : (start : PartPlace) → FileForm → PartPlace

@@ -1,6 +1,6 @@
 use Rattle.std.specs.Prelude.{reverse}
 use Rattle.fv_c.proofs.TreeLoop.{Walked}
-use Rattle.fv_c.proofs.tree.rows_of.Given as goal
+use Rattle.fv_c.proofs.tree.put_inside.Given as goal
 
 -- the rows so far, and the rows that are left
 abbrev pub invariant-loop-row : goal.invariant-loop-row
