@@ -320,8 +320,7 @@ fn put_inside(
     Ok(())
 }
 
-// Returns the rows of a volume, which is the input and stores these files, for C. If the volume has
-// no files, makes no walk.
+// Returns the rows of a volume, which is the input and stores these files, for C.
 fn rows_of(
     alloc: Global,
     input: &[u8],
@@ -341,9 +340,10 @@ fn rows_of(
     };
     let mut rows = Vec::new(alloc);
     rows.push(node_of(&whole, WHOLE))?;
-    if volume.file_count() > 0 {
-        put_inside(alloc, input, volume, stored, &mut rows)?;
+    if volume.file_count() == 0 {
+        return Ok(rows);
     }
+    put_inside(alloc, input, volume, stored, &mut rows)?;
     Ok(rows)
 }
 
