@@ -1,13 +1,18 @@
 -- Pads whose data are erased, and the text of a check.
-use Rattle.std.proofs.Common.{◌≡◌, ◌+◌, ℕ, [], ◌∷◌, ◌++◌, ◌↔◌, ◌==◌, ◌∙◌, List, refl, sym, ap, subst, cond, arith, Bool, true, not, Option, Some}
-use Rattle.fv_base.proofs.Laws.{None, AllByRecursion, Decides-eqb, sum_by-cons, AllAre, erased_byte, depth_limit}
+use Rattle.std.proofs.Common.{◌≡◌, ◌∙◌, ◌+◌, ℕ, List, [], ◌∷◌, ◌++◌}
+use Rattle.std.proofs.Common.{refl, sym, ap, cond, arith, Bool, true, false}
+use Rattle.std.specs.Prelude.{◌↔◌, ◌==◌, not}
+use Rattle.std.specs.List.{AllByRecursion}
+use Rattle.std.proofs.lemmas.Bool.Decides.{Decides-eqb}
+use Rattle.std.proofs.lemmas.List.Sums.{sum_by-cons}
+use Rattle.fv_base.specs.Words.{AllAre, erased_byte, depth_limit}
 use Rattle.fv_base.specs.declared.flash.Polarity.{Polarity}
 use Rattle.fv_canon.specs.Words.{IsImage}
 use Rattle.fv_canon.proofs.Laws.{PadErased, pads_erased}
 use Rattle.fv_file.specs.Words.{CellForm, Valid, Pad, Dead, Stub, Free}
 use Rattle.fv_head.specs.declared.extent.Extent.{Extent}
 use Rattle.fv_tree.specs.Words.{Accepted, Meaning, files_of}
-use Rattle.fv_command.specs.inner.CheckRuns.{NotedCells, NotedText, noted_lines}
+use Rattle.fv_command.specs.inner.CheckRuns.{NotedPads}
 use Rattle.fv_command.specs.Words.{CheckText}
 use Rattle.fv_lines.specs.Words.{AreNotes, depex_lines, depexes_in, pad_line, pad_notes, verdict_line, written_in}
 use Rattle.fv_lines.specs.declared.depex_notes.DepexNote.{DepexNote}
@@ -34,14 +39,13 @@ none_noted p (Free at len ∷ cells) all = none_noted p cells all.1
 
 -- ---- the text of a check
 
--- the notes and the verdict are the text of a check; without cells no pad is noted, because the input is an image
-text_of : (b : List ℕ) (same : Bool) (view : Meaning) (found : Option (List CellForm × Polarity)) (notes : List DepexNote)
-    → Accepted b view → ((same ≡ true) ↔ IsImage view b) → NotedCells b same found
-    → AreNotes (depexes_in (files_of view)) notes → CheckText b same (noted_lines found notes same)
-text_of b same view None notes (small, d) image is noted =
+-- the notes and the verdict are the text of a check; if the input is an image, no pad is noted
+pub check_text : (b : List ℕ) (same : Bool) (view : Meaning) (pads : List ℕ) (notes : List DepexNote) → Accepted b view
+    → ((same ≡ true) ↔ IsImage view b) → NotedPads b same pads → AreNotes (depexes_in (files_of view)) notes
+    → CheckText b same (pads ++ (depex_lines notes ++ verdict_line same))
+check_text b true view pads notes (small, d) image none noted =
     let e : Extent = d.extent in
-    let none = none_noted e.polarity d.cells
-    (pads_erased view b e d.cells (depth_limit, omega arith, b, small, d) (image.0 is) d.begins d.tiles) in
+    let erased = pads_erased view b e d.cells (depth_limit, omega arith, b, small, d) (image.0 refl) d.begins d.tiles in
     record {
       meaning = view;
       accepted = (small, d);
@@ -50,24 +54,20 @@ text_of b same view None notes (small, d) image is noted =
       are_cells = record { extent = e; begins = d.begins; polarity_is = refl; tiles = d.tiles };
       notes = notes;
       are_notes = noted;
-      text_is = ap (λ (t : List ℕ). t ++ (depex_lines notes ++ verdict_line same)) (sym none);
+      text_is = ap (λ (t : List ℕ). t ++ (depex_lines notes ++ verdict_line true))
+          (none ∙ sym (none_noted e.polarity d.cells erased));
       same_is = image;
     }
-text_of b same view (Some (cells, p)) notes accepted image are noted = record {
-  meaning = view;
-  accepted = accepted;
-  polarity = p;
-  cells = cells;
-  are_cells = are view accepted;
-  notes = notes;
-  are_notes = noted;
-  text_is = refl;
-  same_is = image;
-}
-
-pub check_text : (b : List ℕ) (same : Bool) (view : Meaning) (found seen : Option (List CellForm × Polarity)) (text : List ℕ)
-    → Accepted b view → ((same ≡ true) ↔ IsImage view b) → NotedCells b same found → seen ≡ found
-    → NotedText seen view same text → CheckText b same text
-check_text b same view found seen text accepted image are same_cells (notes, noted, is) =
-    subst (CheckText b same) (sym is)
-    (text_of b same view seen notes accepted image (subst (NotedCells b same) (sym same_cells) are) noted)
+check_text b false view pads notes accepted image are noted =
+    let (p, cells, are_cells, is) = are view accepted in
+    record {
+      meaning = view;
+      accepted = accepted;
+      polarity = p;
+      cells = cells;
+      are_cells = are_cells;
+      notes = notes;
+      are_notes = noted;
+      text_is = ap (λ (t : List ℕ). t ++ (depex_lines notes ++ verdict_line false)) is;
+      same_is = image;
+    }

@@ -1,37 +1,33 @@
--- The cells of an input, and the notes that are put for its pads.
-use Rattle.std.proofs.Common.{◌≡◌, ℕ, List, length, refl, sym, subst, arith, drop, take, take_all}
-use Rattle.fv_base.proofs.Laws.{common_steps, out_of_memory, want_known}
+-- The cells of an input that is a volume.
+use Rattle.std.proofs.Common.{◌≡◌, ◌∙◌, ℕ, List, drop, length, refl, subst, sym}
+use Rattle.std.specs.Prelude.{Result, Ok}
 use Rattle.fv_base.specs.declared.fault.Fault.{Fault}
 use Rattle.fv_file.specs.Words.{CellForm, Tiles}
-use Rattle.fv_head.proofs.Laws.{one_front}
-use Rattle.fv_head.specs.Words.{BeginsVolume}
+use Rattle.fv_head.specs.Words.{BeginsVolume, HeadFields}
 use Rattle.fv_head.specs.declared.extent.Extent.{Extent}
-use Rattle.fv_tree.specs.Words.{Accepted, Meaning, head_of, BeginsTiled}
+use Rattle.fv_tree.specs.Words.{Accepted, Meaning, head_of}
 use Rattle.fv_command.specs.Words.{AreCells}
 
--- if the number of bytes is the volume's length, the volume is all bytes
-all_of : (b : List ℕ) (e : Extent) → length b ≡ e.length → take e.length b ≡ b
-all_of b e whole = take_all e.length b (omega (arith, whole))
+-- the input is a volume with this meaning and this extent, and these cells tile its body
+pub record IsTiled (b : List ℕ) (m : Meaning) (e : Extent) : Type 0 where
+  pub cells : List CellForm
+  pub begins : BeginsVolume (head_of m) e b
+  pub whole : length b ≡ e.length
+  pub tiles : Tiles e.file_system e.polarity e.first cells (drop e.first b)
 
--- a volume has cells
-pub tiled : (b : List ℕ) (m : Meaning) → Accepted b m → (e : Extent) × (cs : List CellForm) × BeginsTiled e cs b
-tiled b m (bytes, d) =
-    let e : Extent = d.extent in
-    let part : List ℕ → Type 0 = λ v. Tiles e.file_system e.polarity e.first d.cells (drop e.first v) in
-    (e, d.cells, record { head = head_of m; begins = d.begins; tiles = subst part (sym (all_of b e d.length_is)) d.tiles })
+-- the header of a volume that is read has the extent of the volume
+pub tiled : (b : List ℕ) (m : Meaning) (e : Extent) (r : Result Extent Fault) → Accepted b m
+    → ((h : HeadFields) (x : Extent) → BeginsVolume h x b → r ≡ Ok x) → r ≡ Ok e → IsTiled b m e
+tiled b m e r (bytes, d) only is =
+    let same : d.extent ≡ e = one d.extent e (sym (only (head_of m) d.extent d.begins) ∙ is) in
+    subst (IsTiled b m) same (record { cells = d.cells; begins = d.begins; whole = d.length_is; tiles = d.tiles })
+  where
+    ok : Extent → Result Extent Fault
+    ok x = Ok x
 
--- the cells that are found are the cells of the volume
-pub cells_of : (b : List ℕ) (m : Meaning) (e : Extent) (cs : List CellForm) → Accepted b m → BeginsTiled e cs b → AreCells m b e.polarity cs
-cells_of b m e cs (bytes, d) found =
-    let same = (one_front b (head_of m) found.head d.extent e d.begins found.begins).1 in
-    let whole = subst (λ (x : Extent). length b ≡ x.length) same d.length_is in
-    let part : List ℕ → Type 0 = λ v. Tiles e.file_system e.polarity e.first cs (drop e.first v) in
-    record {
-      extent = e;
-      begins = subst (λ (x : Extent). BeginsVolume (head_of m) x b) same d.begins;
-      polarity_is = refl;
-      tiles = subst part (all_of b e whole) found.tiles;
-    }
+    one : (x y : Extent) → ok x ≡ ok y → x ≡ y
+    one x y e = cc
 
-pub want_only : (f : Fault) → ((f ≡ out_of_memory → ⊥) → ⊥) → f ≡ out_of_memory
-want_only f none = grind (arith, common_steps, want_known)
+-- so the cells are the cells of the volume, whatever meaning it has
+pub cells_are : (b : List ℕ) (m n : Meaning) (e : Extent) (t : IsTiled b m e) → IsTiled b n e → AreCells n b e.polarity t.cells
+cells_are b m n e t u = record { extent = e; begins = u.begins; polarity_is = refl; tiles = t.tiles }

@@ -1,38 +1,20 @@
 //! The command `check`: reports whether a volume is its own canonical image, and its parts that
 //! deserve a note.
 
-ghost use Rattle.std.specs.Prelude.{◌≡◌, ◌⊎◌, ℕ, Bool, List, option_copied, IfErr, IfOk, OnErr};
+ghost use Rattle.std.specs.Prelude.{◌≡◌, ◌⊎◌, ℕ, Bool, List, IfErr, IfOk, OnErr};
 ghost use Rattle.fv_base.specs.Words.{out_of_memory};
 ghost use Rattle.fv_command.specs.Tasks.{CheckText};
-ghost use Rattle.fv_command.specs.inner.CheckRuns.{NotedText};
 ghost use Rattle.fv_command.specs.inner.RunSteps.{Performs};
 ghost use Rattle.fv_tree.specs.Words.{Accepted};
 
-use crate::pads::{noted_cells, put_pads};
+use crate::pads::put_pads;
 use crate::status::Status;
-use fv_base::{Fault, Polarity, Sink};
+use fv_base::{Fault, Sink};
 use fv_canon::{is_canonical_image, whole_volume};
-use fv_file::Cells;
 use fv_lines::{put_depex_notes, put_verdict};
 use fv_plan::Task;
 use fv_tree::VolumeView;
 use std::alloc::Global;
-
-// Puts the lines of `check` for a volume. If `tiled` is None, there are no notes on pads: the
-// volume is its own canonical image.
-fn put_lines<S: Sink>(
-    out: &mut S,
-    tiled: Option<&(Cells<'_>, Polarity)>,
-    volume: &VolumeView<'_>,
-    is_same: bool,
-)
-    ensures { (text : List ℕ) × NotedText (option_copied tiled.entry) volume.now is_same text
-        × S.takes out.old text out.new }
-{
-    put_pads(out, tiled);
-    put_depex_notes(out, volume);
-    put_verdict(out, is_same);
-}
 
 // Puts the lines of `check` for the input, which is a volume. Returns whether it is its own
 // canonical image.
@@ -48,8 +30,9 @@ fn put_volume_check<S: Sink>(
     ensures untouched { OnErr result (out.new ≡ out.old) }
 {
     let is_same = is_canonical_image(alloc, view, input)?;
-    let tiled = noted_cells(alloc, input, is_same)?;
-    put_lines(out, tiled.as_ref(), view, is_same);
+    put_pads(out, input, is_same);
+    put_depex_notes(out, view);
+    put_verdict(out, is_same);
     Ok(is_same)
 }
 

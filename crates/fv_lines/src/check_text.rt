@@ -1,11 +1,11 @@
 //! The notes of `check` on pads whose data bytes are not all erased, and its last line.
 
-ghost use Rattle.std.specs.Prelude.{◌≡◌, map};
-ghost use Rattle.fv_file.specs.Words.{cell_form};
+ghost use Rattle.std.specs.Prelude.{◌≡◌, List};
+ghost use Rattle.fv_file.specs.Words.{CellForm, TileLeft, cell_form};
 ghost use Rattle.fv_lines.specs.Notes.{written_in, pad_line, pad_note, pad_notes, verdict_line};
 
 use fv_base::{Polarity, Sink};
-use fv_file::Cell;
+use fv_file::{Cell, CellWalk};
 use fv_text::put_decimal;
 
 // Returns how many of the bytes are not erased.
@@ -51,13 +51,15 @@ fn put_cell<S: Sink>(out: &mut S, cell: &Cell<'_>, polarity: Polarity)
     }
 }
 
-/// Puts a line, in order, for each cell that is a pad with data bytes which are not erased. The
-/// line shows the offset of the pad in the volume and how many of its data bytes are not erased.
-pub fn put_pad_notes<S: Sink>(out: &mut S, list: &[Cell<'_>], polarity: Polarity)
-    ensures { S.takes out.old (pad_notes polarity (map cell_form list.now)) out.new }
+/// Puts a line, in order, for each cell of a walk that is a pad with data bytes which are not all
+/// erased. The line shows the offset of the pad in the volume and how many of its data bytes are not
+/// erased. Takes no memory.
+pub fn put_pad_notes<S: Sink>(out: &mut S, walk: CellWalk<'_>, polarity: Polarity)
+    ensures { (cs : List CellForm) → TileLeft cs walk.entry → S.takes out.old (pad_notes polarity cs) out.new }
 {
-    for cell in list {
-        put_cell(out, cell, polarity);
+    let mut walk = walk;
+    while let Ok(Some(cell)) = walk.next_cell() {
+        put_cell(out, &cell, polarity);
     }
 }
 

@@ -1,15 +1,15 @@
-use Rattle.std.proofs.Common.{option_copied}
 use Rattle.fv_command.proofs.CheckTextLemmas.{check_text}
 use Rattle.fv_command.proofs.check_run.put_volume_check.Goals as goal
 
-pub noted_cells-requires : goal.noted_cells-requires
-noted_cells-requires g c = (c.args.view.now, c.requires)
+pub put_pads-requires : goal.put_pads-requires
+put_pads-requires g c = (c.args.view.now, c.requires)
 
 pub returns-clause-ok : goal.returns-clause-ok
 returns-clause-ok g c =
-    let put = c.put_lines.ensures in (
-      put.0,
-      check_text c.args.input.now c.in_ok-is_same.is_same c.args.view.now c.in_ok-tiled.tiled (option_copied c.as_ref.result) put.0
-          c.requires c.in_ok-is_same.ensures.ok c.in_ok-tiled.ensures.ok c.as_ref.ensures.value put.1,
-      put.2,
+    let laws = g.S.Sink.laws in
+    let (pads, are, put) = c.put_pads.ensures in
+    let (notes, noted, lines) = c.put_depex_notes.ensures in (
+      _,
+      check_text c.args.input.now c.in_ok-is_same.is_same c.args.view.now pads notes c.requires c.in_ok-is_same.ensures.ok are noted,
+      laws.joined put (laws.joined lines c.put_verdict.ensures),
     )

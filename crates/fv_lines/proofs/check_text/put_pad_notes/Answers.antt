@@ -1,21 +1,33 @@
-use Rattle.std.proofs.Common.{ℕ, List, map, subst, sym, take_all}
-use Rattle.fv_file.specs.Words.{cell_form}
-use Rattle.fv_file.specs.declared.cell.Cell.{Cell}
+use Rattle.std.proofs.Common.{◌≡◌, ℕ, List, [], ◌∷◌, ◌++◌, rules, subst, sym}
+use Rattle.fv_base.specs.Words.{First}
+use Rattle.fv_file.specs.Words.{CellForm, Walked, cell_form}
+use Rattle.fv_file.proofs.Laws.{none_after, only_one, walk_begins, walk_ends, walk_fails, walked_on}
 use Rattle.fv_lines.specs.Words.{pad_note, pad_notes}
-use Rattle.fv_text.proofs.Laws.{seen_next}
+use Rattle.fv_text.proofs.Laws.{flat_next}
 use Rattle.fv_lines.proofs.check_text.put_pad_notes.Goals as goal
 
 pub loop-cell-init : goal.loop-cell-init
-loop-cell-init g c = g.S.Sink.laws.none c.args.out.now
+loop-cell-init g c = ([], walk_begins _, g.S.Sink.laws.none c.args.out.now)
 
 pub loop-cell-preserved : goal.loop-cell-preserved
 loop-cell-preserved g c =
-    let list : List Cell = c.args.list.now in
-    subst (λ (t : List ℕ). g.S.Sink.takes c.args.out.now t c.put_cell.new.out)
-    (sym (seen_next (pad_note c.args.polarity) cell_form list c.loop-cell.cell-index _ c.loop-cell-test.true))
-    (g.S.Sink.laws.joined c.loop-cell.invariant c.put_cell.ensures)
+    let (cs, walked, put) = c.loop-cell.invariant in
+    let cell : CellForm = cell_form c.in-Ok-Some.cell in
+    let step : Walked c.loop-cell.walk (cell ∷ []) c.next_cell.new.self = search rules in (
+      cs ++ cell ∷ [],
+      walked_on _ _ _ _ _ walked step,
+      subst (λ (t : List ℕ). g.S.Sink.takes c.args.out.now t c.put_cell.new.out)
+          (sym (flat_next (pad_note c.args.polarity) cs cell)) (g.S.Sink.laws.joined put c.put_cell.ensures),
+    )
 
-pub returns : goal.returns
-returns g c =
-    subst (λ (cs : List Cell). g.S.Sink.takes c.args.out.now (pad_notes c.args.polarity (map cell_form cs)) c.loop-cell.out)
-    (take_all c.loop-cell.cell-index c.args.list.now c.loop-cell-test.false) c.loop-cell.invariant
+pub returns-in_default : goal.returns-in_default
+returns-in_default g c = λ cs tiles.
+    let (done, walked, put) = c.loop-cell.invariant in
+    let none : c.loop-cell.walk.rest ≡ [] = search rules in
+    let same : done ≡ cs = only_one _ _ _ _ cs done tiles (walk_ends _ _ _ walked none) in
+    subst (λ (ds : List CellForm). g.S.Sink.takes c.args.out.now (pad_notes c.args.polarity ds) c.loop-cell.out) same put
+
+pub returns-in_default-2 : goal.returns-in_default-2
+returns-in_default-2 g c = λ cs tiles.
+    let fault = rw c.in_default.is at c.next_cell.ensures.first in
+    absurd (none_after First _ _ _ _ _ cs (walk_fails _ _ _ _ c.loop-cell.invariant.1 fault.0) tiles)
