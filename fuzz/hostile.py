@@ -242,7 +242,7 @@ INPUTS: tuple[Make, ...] = (signatures, summed_heads, stubs, pads, levels, level
 INPUTS += (names, replaced_names, mixed_names, late_pair, twin_names, empty_sections, empty_expressions, one_expression)
 INPUTS += (small_groups, groups_of_three, nested_sections, entries, small_volumes)
 # The memory that a run may take, as a multiple of its input. For the other inputs this multiple is 2.
-RATIOS: dict[Make, int] = {names: 10, replaced_names: 8, mixed_names: 8, late_pair: 10}
+RATIOS: dict[Make, int] = {names: 6, replaced_names: 5, mixed_names: 5, late_pair: 7}
 RATIOS |= {empty_sections: 8, empty_expressions: 8}
 RATIOS |= {small_groups: 10, groups_of_three: 11, nested_sections: 9, entries: 5}
 # These inputs take less memory if they have 16 MiB.
