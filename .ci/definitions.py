@@ -111,6 +111,12 @@ def door(crate: str) -> dict[str, Key]:
     return imports(read(path)).names if os.path.exists(path) else {}
 
 
+def definition(crate: str, module: str, word: str) -> Key:
+    """Returns the definition that a name of a module means. The module Words has names of other modules."""
+    key = (crate, module, word)
+    return door(crate).get(word, key) if module == DOOR else key
+
+
 def imports(text: str) -> Imports:
     """Returns the meaning of the names that a file with this text imports."""
     found = Imports({}, {})
@@ -119,8 +125,7 @@ def imports(text: str) -> Imports:
             found.modules[alias] = (crate, module)
         for part in filter(None, map(str.strip, listed.split(","))):
             word, _, other = map(str.strip, part.partition(" as "))
-            key = (crate, module, word)
-            found.names[other or word] = door(crate).get(word, key) if module == DOOR else key
+            found.names[other or word] = definition(crate, module, word)
     return found
 
 
@@ -195,8 +200,8 @@ class Words:
             if word in known.names and known.names[word] in self.groups:
                 found.add(known.names[word])
         for alias, word in re.findall(rf"(?<![\w\-'◌.])(\w+)\.({NAME})", text):
-            if alias in known.modules and (*known.modules[alias], word) in self.groups:
-                found.add((*known.modules[alias], word))
+            if alias in known.modules and definition(*known.modules[alias], word) in self.groups:
+                found.add(definition(*known.modules[alias], word))
         return found
 
     def closure(self, first: Iterable[Key]) -> set[Key]:

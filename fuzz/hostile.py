@@ -27,7 +27,7 @@ COMMANDS = (
     *("normalise", "normalise --all", "list", "list --sums", "cells"),
     *("unfix", "check", "check --all", "scan", "compare"),
 )
-MOST_SECONDS, MOST_SUMS_SECONDS = 3, 10
+MOST_SECONDS, MOST_SUMS_SECONDS = 3, 20
 MIB = 1 << 20
 # A function that returns an input of about this size.
 Make = Callable[[int], bytes]
@@ -81,6 +81,14 @@ def named_files(count: int, state: int = DATA_VALID) -> Iterator[bytes]:
         block[14::24] = bytes([second]) * 256
         block[16::24] = sums[(first + second) & 0xFF]
         yield bytes(block[: 24 * min(256, count - 256 * high)])
+
+
+def extended_volumes(size: int, entry: bytes, count: int) -> bytes:
+    """Returns a volume of about this size with volumes in sections, each with an extended header that has this entry as
+    often as `count` says."""
+    ext = NAME + struct.pack("<I", 20 + len(entry) * count) + entry * count
+    inner = head_of(72 + len(ext) + -len(ext) % 8, ext=72) + ext + b"\xff" * (-len(ext) % 8)
+    return volume(file(section(VOLUME, inner) * ((size - 200) // (len(inner) + 4))))
 
 
 # Each of the following functions returns an input of about `size` bytes, or of the size that its comment gives.
@@ -210,10 +218,13 @@ def nested_sections(size: int) -> bytes:
 
 def entries(size: int) -> bytes:
     """Returns a volume with volumes in sections, each with an extended header of as many entries of 5 bytes as fit."""
-    count = (65535 - 20) // 5
-    ext = NAME + struct.pack("<I", 20 + 5 * count) + (struct.pack("<HH", 5, 1) + b"\0") * count
-    inner = head_of(72 + len(ext) + -len(ext) % 8, ext=72) + ext + b"\xff" * (-len(ext) % 8)
-    return volume(file(section(VOLUME, inner) * ((size - 200) // (len(inner) + 4))))
+    return extended_volumes(size, struct.pack("<HH", 5, 1) + b"\0", (65535 - 20) // 5)
+
+
+def short_entries(size: int) -> bytes:
+    """Returns a volume with volumes in sections, each with an extended header of 257 entries of 4 bytes. A list that
+    doubles when it is full has room for 512 of them, two pages of memory, and uses both pages."""
+    return extended_volumes(size, struct.pack("<HH", 4, 1), 257)
 
 
 def small_volumes(size: int) -> bytes:
@@ -240,13 +251,11 @@ def late_pair(size: int) -> bytes:
 
 INPUTS: tuple[Make, ...] = (signatures, summed_heads, stubs, pads, levels, level_groups, deep_data, maps, nested_maps)
 INPUTS += (names, replaced_names, mixed_names, late_pair, twin_names, empty_sections, empty_expressions, one_expression)
-INPUTS += (small_groups, groups_of_three, nested_sections, entries, small_volumes)
+INPUTS += (small_groups, groups_of_three, nested_sections, entries, short_entries, small_volumes)
 # The memory that a run may take, as a multiple of its input. For the other inputs this multiple is 2.
-RATIOS: dict[Make, int] = {names: 6, replaced_names: 5, mixed_names: 5, late_pair: 7}
-RATIOS |= {empty_sections: 8, empty_expressions: 8}
-RATIOS |= {small_groups: 10, groups_of_three: 11, nested_sections: 9, entries: 5}
+RATIOS: dict[Make, int] = {names: 5, replaced_names: 4, mixed_names: 4, late_pair: 5, entries: 5, short_entries: 5}
 # These inputs take less memory if they have 16 MiB.
-RATIOS |= {stubs: 5, pads: 4, levels: 8, level_groups: 8, small_volumes: 5}
+RATIOS |= {stubs: 5, pads: 4, small_volumes: 5}
 
 
 @dataclass(frozen=True)

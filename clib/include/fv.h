@@ -7,18 +7,18 @@
  *
  * Question                                                Call                      Input            Memory
  *   Do the bytes begin with a volume? How long is it?     fv_header_read            begins with one  none
- *   Where are the volumes of a flash image?               fv_image_scan             any bytes        14
- *   Which volumes of a flash image are canonical?         fv_image_check            any bytes        14
- *   What is a flash image with each volume canonical?     fv_image_normalise        any bytes        14
- *   Is a volume its own canonical image?                  fv_volume_is_canonical    a volume         14
- *   What is its canonical image?                          fv_volume_normalise       a volume         14
+ *   Where are the volumes of a flash image?               fv_image_scan             any bytes        1
+ *   Which volumes of a flash image are canonical?         fv_image_check            any bytes        5
+ *   What is a flash image with each volume canonical?     fv_image_normalise        any bytes        5
+ *   Is a volume its own canonical image?                  fv_volume_is_canonical    a volume         5
+ *   What is its canonical image?                          fv_volume_normalise       a volume         5
  *   What is a volume without the marks of fixed files?    fv_volume_unfix           a volume         none
- *   Which digest do all volumes of one meaning share?     fv_volume_digest          a volume         14
- *   Do two volumes mean the same? Where do they differ?   fv_volume_compare         two volumes      13, of both
- *   Where are files, pads, deleted files, free bytes?     fv_volume_cells           begins with one  14
- *   What is in a volume, at every level?                  fv_volume_tree            a volume         32
- *   Which digest does each of these parts have?           fv_volume_tree_digests    a volume         18
- *   What are the bytes of one of these parts?             fv_volume_extract         a volume         14
+ *   Which digest do all volumes of one meaning share?     fv_volume_digest          a volume         5
+ *   Do two volumes mean the same? Where do they differ?   fv_volume_compare         two volumes      5, of both
+ *   Where are files, pads, deleted files, free bytes?     fv_volume_cells           begins with one  3
+ *   What is in a volume, at every level?                  fv_volume_tree            a volume         30
+ *   Which digest does each of these parts have?           fv_volume_tree_digests    a volume         9
+ *   What are the bytes of one of these parts?             fv_volume_extract         a volume         5
  *   Is a dependency expression true?                      fv_depex_evaluate         an expression    18
  *   Which blocks does a hand-off list have?               fv_hobs_read              begins with one  14
  *   What does a result mean?                              fv_result_text            a number         none
@@ -28,7 +28,7 @@
  * are fault 8. If the input only "begins with one", the bytes after it are not read, and neither are the bytes after an
  * expression. Any bytes may be passed to any call: bytes that are not an input of this kind are rejected with a fault.
  * Memory: in addition to its arguments, a call takes up to this many times the size of the input. This was measured
- * for inputs that consist of tiny parts only, which cost most. No call that is listed with 14 took more.
+ * for inputs that consist of tiny parts only, which cost most.
  * Stack: at most 20.5 KiB, as measured.
  *
  * Rules for the caller
@@ -89,11 +89,11 @@
 #include <stddef.h>
 #include <stdint.h>
 
-#define FV_VERSION "2.0.0"
+#define FV_VERSION "2.1.0-dev"
 #define FV_VERSION_MAJOR 2
-#define FV_VERSION_MINOR 0
+#define FV_VERSION_MINOR 1
 #define FV_VERSION_PATCH 0
-#define FV_VERSION_NUMBER 0x020000 /* major << 16 | minor << 8 | patch */
+#define FV_VERSION_NUMBER 0x020100 /* major << 16 | minor << 8 | patch */
 
 #define FV_LENGTH_MAX 268435456u /* the most bytes of a volume, and of an image that is checked or normalised */
 #define FV_DIFFERENCE_SIZE 553   /* the most bytes of the text of fv_volume_compare, its NUL included */

@@ -103,6 +103,17 @@ def volume_of(stream: bytes, name: uuid.UUID | None = None, mark: int = 0) -> by
     return bytes(volume + file).ljust(length, b"\xff")
 
 
+def volume_of_files(count: int) -> bytes:
+    """Returns a volume of files without data. They have the same name, so the volume is rejected after they are found."""
+    volume = bytearray(volume_of(b""))
+    length = 72 + 24 * count
+    volume[32:40], volume[60:64] = length.to_bytes(8, "little"), length.to_bytes(4, "little")
+    volume[50:52] = bytes(2)
+    total = sum(int.from_bytes(volume[it : it + 2], "little") for it in range(0, 72, 2))
+    volume[50:52] = (-total % 65536).to_bytes(2, "little")
+    return bytes(volume[:72] + volume[72:96] * count)
+
+
 def hob(kind: int, length: int, fields: bytes = b"") -> bytes:
     """Returns a block of a hand-off list."""
     return (kind.to_bytes(2, "little") + length.to_bytes(2, "little") + bytes(4) + fields).ljust(length, b"\0")
@@ -477,7 +488,7 @@ def memory_may_run_out(volume: bytes) -> None:
         for call in (fv.volume_digest, fv.volume_tree):
             try: call(data)
             except MemoryError as error: print("MemoryError", *error.args)"""
-    many = volume_of(b"\x05\x00\x00\x19z000" * 400_000)
+    many = volume_of_files(400_000)
     named = {**os.environ, "PYTHONPATH": str(Path(fv.__file__).parents[1])}
     command = [sys.executable, "-B", "-c", run]
     said = subprocess.run(command, input=many, env=named, capture_output=True, check=True).stdout

@@ -75,7 +75,7 @@ from ._library import result_text
 from ._native import LENGTH_MAX, CellKind, Content, FaultCode, NodeKind, Phase
 from ._types import Cell, Header, Hob, HobList, Node, VolumeCheck
 
-__version__ = "2.0.0"
+__version__ = "2.1.0.dev0"
 __all__ = [
     "LENGTH_MAX", "Cell", "CellKind", "Content", "Error", "Fault", "FaultCode", "FaultError", "Header", "Hob",
     "HobList", "Node", "NodeKind", "Phase", "VolumeCheck", "depex_evaluate", "header_read", "hobs_read", "image_check",

@@ -99,7 +99,7 @@ none_fails Any cs f bad all = not_failing GuardsHold cs f bad all
 pub not_first : {F : Type 0} → (cs : List (Check F)) (f : F) → IsFirstFault cs f → first_fault cs ≡ None → ⊥
 not_first {F} cs f first none = not_failing AllHold cs f first (all_hold cs none)
 
--- a table has one first fault: a check whose predecessors all hold does not come after a check that fails
+-- a table has at most one first fault: a check whose predecessors all hold does not come after a check that fails
 pub one_fault : {F : Type 0} (cs : List (Check F)) (f g : F) → IsFirstFault cs f → IsFirstFault cs g → f ≡ g
 one_fault {F} cs f g (before, c, after, is, held, fails, fault) (before', d, after', is', held', fails', fault') =
     go (two_cuts before c after before' d after' (sym is ∙ is'))

@@ -1,5 +1,6 @@
 -- Fields are cut from bytes, and bytes and the number that they spell determine each other. The steps:
--- 1. Lists that are cut or joined from bytes are bytes (`bytes_take`, `bytes_drop`, `bytes_append`).
+-- 1. Both parts of a list of bytes (`IsBytes`) are lists of bytes (`bytes_take`, `bytes_drop`), and so are two joined
+--    lists of bytes (`bytes_append`).
 -- 2. Bytes and the number that they spell determine each other (`le_bytes-le`, `field_is`, `le-le_bytes`).
 -- 3. A field of a part is a field of the whole (`field-take`, `field-append_front`, `drop-append_behind`).
 -- 4. The bytes up to a place are the bytes up to an earlier place, and at least one more (`take_past`, `some_between`).
@@ -27,7 +28,7 @@ field-take i n m b h =
     subst (λ (k : ℕ). drop i (take k b) ≡ take (m - i) (drop i b)) (sym split) (drop-take i (m - i) b) in
     ap (take n) cut ∙ take-take_le n (m - i) (drop i b) (omega arith)
 
--- the bytes after the first byte are bytes
+-- a list of bytes without its first byte is a list of bytes
 pub bytes_behind : (b : ℕ) (bs : List ℕ) → IsBytes (b ∷ bs) → IsBytes bs
 bytes_behind b bs h = λ i. h (suc i)
 
@@ -52,7 +53,7 @@ length-le_bytes (suc k) n = ap suc (length-le_bytes k (n / 256))
 pub none_at : (i : ℕ) → slice_index [] i < 256
 none_at i = omega arith
 
--- the first n bytes are bytes, and so are the bytes after them
+-- the first n bytes of a list of bytes are a list of bytes, and so are the bytes after them
 pub bytes_take : (n : ℕ) (b : List ℕ) → IsBytes b → IsBytes (take n b)
 bytes_take zero b h i = none_at i
 bytes_take (suc n) [] h i = none_at i
@@ -71,12 +72,12 @@ field_is at n b h within =
     subst (λ (k : ℕ). le_bytes k (le (field at n b)) ≡ field at n b) long
     (le_bytes-le (field at n b) (bytes_take n (drop at b) (bytes_drop at b h)))
 
--- a byte followed by bytes is bytes
+-- a byte followed by a list of bytes is a list of bytes
 pub bytes_cons : (x : ℕ) (b : List ℕ) → x < 256 → IsBytes b → IsBytes (x ∷ b)
 bytes_cons x b h k zero = h
 bytes_cons x b h k (suc i) = k i
 
--- bytes followed by bytes are bytes
+-- two joined lists of bytes are a list of bytes
 pub bytes_append : (a b : List ℕ) → IsBytes a → IsBytes b → IsBytes (a ++ b)
 bytes_append [] b h k = k
 bytes_append (x ∷ a) b h k = bytes_cons x (a ++ b) (h 0) (bytes_append a b (bytes_behind x a h) k)

@@ -1,9 +1,9 @@
 -- The laws of this crate that crates above may cite. Each is passed on from the module that proves it. A lemma that is
 -- not listed here is internal.
 
--- Fields and the numbers that they spell. A field is the same within a cut or a join. Bytes that are cut, joined or
--- filled are bytes. A number and its bytes determine each other. k bytes spell a number below 256 ^ k. Equal joins are
--- cut at equal lengths into equal parts.
+-- Fields and the numbers that they spell. A field is the same within a cut or a join. Lists of bytes that are cut,
+-- joined or filled are lists of bytes. A number and its bytes determine each other. k bytes spell a number below
+-- 256 ^ k. Equal joins are cut at equal lengths into equal parts.
 pub use Rattle.fv_base.proofs.FieldLemmas.{take-take_le, field-take, field-append_front, drop-append_behind, field_is, le_bytes-le}
 pub use Rattle.fv_base.proofs.FieldLemmas.{le-le_bytes, length-le_bytes, two_bytes, same_cut, none_at, bytes_behind, bytes_cons, bytes_take}
 pub use Rattle.fv_base.proofs.FieldLemmas.{bytes_drop, bytes_append, bytes_le_bytes}

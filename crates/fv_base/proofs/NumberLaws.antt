@@ -1,4 +1,5 @@
--- The numbers that bytes spell have bounds, and the parts of joined bytes are bytes, as is a byte that is repeated.
+-- The numbers that bytes spell have bounds. Both parts of a joined list of bytes are lists of bytes, and so is a byte
+-- that is repeated.
 use Rattle.std.proofs.Common.{◌≡◌, ◌<◌, ◌+◌, ◌*◌, ◌^◌, ℕ, [], ◌∷◌, ◌++◌, zero, suc, List, length, drop, refl, subst, arith, replicate, take_at}
 use Rattle.std.proofs.Common.{drop_at}
 use Rattle.std.proofs.Math.Nat.{pow-suc}
@@ -16,14 +17,14 @@ le_below (suc n) (x ∷ b) h l =
     step : (x m p q : ℕ) → q ≡ p * 256 → x < 256 → m < p → x + 256 * m < q
     step x m p q is small below = omega arith
 
--- both parts of joined bytes are bytes
+-- both parts of a joined list of bytes are lists of bytes
 pub bytes_front : (a b : List ℕ) → IsBytes (a ++ b) → IsBytes a
 bytes_front a b h = subst IsBytes (take_at a b (length a) refl) (bytes_take (length a) (a ++ b) h)
 
 pub bytes_back : (a b : List ℕ) → IsBytes (a ++ b) → IsBytes b
 bytes_back a b h = subst IsBytes (drop_at a b (length a) refl) (bytes_drop (length a) (a ++ b) h)
 
--- a list that repeats a byte is bytes
+-- a list that repeats a byte is a list of bytes
 pub bytes_replicate : (n x : ℕ) → x < 256 → IsBytes (replicate n x)
 bytes_replicate zero x h = none_at
 bytes_replicate (suc n) x h = bytes_cons x (replicate n x) h (bytes_replicate n x h)

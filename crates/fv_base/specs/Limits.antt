@@ -2,7 +2,8 @@
 -- contract that cites one of these numbers can be proved only while the two agree.
 use Rattle.std.specs.Prelude.{ℕ}
 
--- the maximum length of a volume, and of the binary input of a run, in bytes
+-- the maximum length in bytes of a volume, of each binary input of a run, and of a flash image that is checked or laid
+-- out
 abbrev pub volume_limit : ℕ
 volume_limit = 268435456
 

@@ -12,7 +12,6 @@ mod input;
 pub mod limits;
 mod port;
 mod sink;
-mod stack;
 mod sums;
 
 pub use align::Align;
@@ -24,5 +23,4 @@ pub use guid::{Guid, guid_at};
 pub use input::{Collector, read_input, read_to_end};
 pub use port::Port;
 pub use sink::{ListSink, Sink, WriteSink, fill};
-pub use stack::Stack;
 pub use sums::{sum8, sum16};

@@ -5,7 +5,8 @@
 //! of `fv_text` for hexadecimal text. Contracts tie the two together, so a limit must be changed
 //! in both places, or the proof fails.
 
-/// The maximum length of a volume, and of the binary input of a run, in bytes.
+/// The maximum length in bytes of a volume, of each binary input of a run, and of a flash image
+/// that is checked or laid out.
 pub const VOLUME_LIMIT: u64 = 268_435_456;
 
 /// The maximum length of a volume header in bytes: 56, and 8 for each of 256 block map entries and

@@ -1,4 +1,4 @@
-//! The sums that header checksums use.
+//! The sums that the checksums of headers and of files use.
 
 ghost use Rattle.std.specs.Prelude.{◌≡◌, ◌%◌, length};
 ghost use Rattle.fv_base.specs.Measures.{sum8_of};

@@ -9,12 +9,12 @@ use Rattle.std.specs.Iterator.{YieldsFirstBy}
 use Rattle.std.specs.Prelude.{◌≢◌, slice_get, map}
 use Rattle.fv_base.specs.Words.{IsBytes}
 use Rattle.fv_section.specs.Words.{FrameForm, Splits}
-use Rattle.fv_tree.specs.Words.{Accepted, BeginWithFiles, Meaning, Volume, NoFiles, MoreFiles, Pairwise, file_form, files_of}
+use Rattle.fv_tree.specs.Words.{Accepted, BeginWithFiles, Meaning, Volume, NoFiles, MoreFiles, Pairwise, bare_form, file_form, files_of}
 use Rattle.fv_tree.specs.declared.volume_files.LocatedFile.{LocatedFile}
 use Rattle.fv_rows.specs.Words.{NodeMeaning, VolumeNode, FileNode, SectionNode, TreeRow as Row, nesting_inside, parts_in, rows_inside}
 use Rattle.fv_rows.specs.Words.{row_of, tree_rows as rows_of}
 use Rattle.fv_rows.specs.declared.tree_walk.Row.{Row as WalkRow}
-use Rattle.fv_rows.specs.RowWalks.{rows_of_nodes}
+use Rattle.fv_rows.specs.Words.{rows_of_nodes}
 use Rattle.fv_rows.proofs.Laws.{inside_rows}
 use Rattle.fv_c.specs.TreeParts.{TreeRow, parent_of, rows_of_parts, tree_rows, with_parents}
 use Rattle.fv_c.specs.ReportedTree.{HasTreeRows, Held, IsNodeIn, IsPlaced, bytes_at, node_content}
@@ -78,9 +78,9 @@ module _ {input : List ℕ} {rows : List FvNode} {h : FvNode} {r : TreeRow} (fou
     placed nodes places parts lie rs at =
         subst (λ (ns : List NodeMeaning). Pairwise (LiesAt input rs) places (rows_of_parts n (h.depth + 1) 0 ns)) (sym parts) (lie rs at)
 
-    pub files_are : h.content ≡ 0 → (stored : List LocatedFile) → BeginWithFiles (bytes_at input h) (map file_form stored)
+    pub files_are : h.content ≡ 0 → (stored : List LocatedFile) → BeginWithFiles (bytes_at input h) (map (file_form (bytes_at input h)) stored)
         → HasPlaces input h n r.node
-        (map (file_place (record { parent = n; offset = h.offset; header_len = 0 })) (map file_form stored))
+        (map (file_place (record { parent = n; offset = h.offset; header_len = 0 })) (map bare_form stored))
     files_are is stored begin =
         let (m, parts, accepted) = files_in input rows h r.node found.node.placed (content 0 is) in
         placed _ _ parts (λ rs at. files_placed input rs n h at found.node.within found.deep stored m accepted begin)
@@ -257,15 +257,15 @@ left_inside (Volume head files) (Some r) left is = cc
 
 -- the row of the volume has been added, and its files wait
 pub walk_first : (input : List ℕ) (m : Meaning) (left : List Row) (stored : List LocatedFile) (places : List PartPlace) → Accepted input m
-    → left ≡ rows_inside 1 0 (VolumeNode m) → BeginWithFiles input (map file_form stored)
-    → places ≡ map (file_place (record { parent = 0; offset = 0; header_len = 0 })) (map file_form stored)
+    → left ≡ rows_inside 1 0 (VolumeNode m) → BeginWithFiles input (map (file_form input) stored)
+    → places ≡ map (file_place (record { parent = 0; offset = 0; header_len = 0 })) (map bare_form stored)
     → Walked input m (whole_node m ∷ []) places left
 walk_first input (Volume head files) left stored places accepted inside begin are =
     let m : Meaning = Volume head files in
     let own : List Row = own_rows 1 0 0 (parts_in (VolumeNode m)) in
     let found : IsFound input [] (whole_node m) (whole_row m) = whole_found input m accepted [] in
-    let begun : BeginWithFiles (bytes_at input (whole_node m)) (map file_form stored) =
-    subst (λ (b : List ℕ). BeginWithFiles b (map file_form stored)) (sym (all_bytes input m accepted)) begin in record {
+    let begun : BeginWithFiles (bytes_at input (whole_node m)) (map (file_form (bytes_at input (whole_node m))) stored) =
+    subst (λ (b : List ℕ). BeginWithFiles b (map (file_form b) stored)) (sym (all_bytes input m accepted)) begin in record {
       before = 0 ∷ [];
       done = whole_row m ∷ [];
       waits = own ++ [];

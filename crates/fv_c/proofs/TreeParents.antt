@@ -16,7 +16,7 @@ use Rattle.fv_tree.specs.Words.{sections_in_data}
 use Rattle.fv_c.proofs.RowNumbers.{in_either, none_before, row_at, row_is_at}
 use Rattle.fv_rows.specs.Words.{NodeMeaning, VolumeNode, FileNode, SectionNode, parts_in, parts_in_body}
 use Rattle.fv_rows.specs.Words.{TreeRow as Row, tree_rows as rows_of}
-use Rattle.fv_rows.specs.TreeRows.{rows_in_body, rows_in_content, rows_of_files, rows_of_sections, rows_of_volume}
+use Rattle.fv_rows.specs.Words.{rows_in_body, rows_in_content, rows_of_files, rows_of_sections, rows_of_volume}
 use Rattle.fv_c.specs.TreeParts.{TreeRow, is_first, is_held_by, last_above, no_parent, parent_of, rows_held, rows_of_parts, tree_rows}
 use Rattle.fv_c.specs.TreeParts.{with_parents}
 

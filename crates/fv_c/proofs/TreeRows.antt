@@ -17,7 +17,7 @@ use Rattle.fv_section.specs.Words.{FrameForm, HasFrameAt, Splits, section_header
 use Rattle.fv_section.proofs.Laws.{split_stands}
 use Rattle.fv_tree.specs.Words.{Accepted, BeginWithFiles, Denotes, FileForm, FileMeaning, File, Meaning, Volume, MeansFile, MeansSection}
 use Rattle.fv_tree.specs.Words.{Pairwise, Plain, Sectioned, SectionMeaning, Section, Leaf, Group, Nested, Stream, HasDataIn}
-use Rattle.fv_tree.specs.Words.{body_len, body_of, body_place, data_len_of, data_place, file_form, files_of, length_of, sections_list}
+use Rattle.fv_tree.specs.Words.{body_len, body_of, body_place, data_len_of, data_place, bare_form, file_form, files_of, length_of, sections_list}
 use Rattle.fv_tree.specs.declared.volume_files.LocatedFile.{LocatedFile}
 use Rattle.fv_tree.proofs.Laws.{begun_data, body_long, content_long, one_files, volume_files}
 use Rattle.fv_rows.specs.Words.{NodeMeaning, VolumeNode, FileNode, SectionNode, parts_in}
@@ -121,9 +121,16 @@ file_header : (t : Bool) → 24 ≤ file_header_len t
 file_header true = omega arith
 file_header false = omega arith
 
-some_header : (stored : List LocatedFile) → AllByRecursion (λ (f : FileForm). 24 ≤ f.head.header_len) (map file_form stored)
-some_header [] = tt
-some_header (l ∷ ls) = (file_header (is_large (attribute_bits l.attributes)), some_header ls)
+some_header : (volume : List ℕ) (stored : List LocatedFile)
+    → AllByRecursion (λ (f : FileForm). 24 ≤ f.head.header_len) (map (file_form volume) stored)
+some_header volume [] = tt
+some_header volume (l ∷ ls) = (file_header (is_large (attribute_bits l.attributes)), some_header volume ls)
+
+-- the place of a file does not depend on its data
+bare_places : (start : PartPlace) (volume : List ℕ) (stored : List LocatedFile)
+    → map (file_place start) (map (file_form volume) stored) ≡ map (file_place start) (map bare_form stored)
+bare_places start volume [] = refl
+bare_places start volume (l ∷ ls) = ap (λ (ps : List PartPlace). file_place start (bare_form l) ∷ ps) (bare_places start volume ls)
 
 section_header : (t : Bool) → 4 ≤ section_header_len t
 section_header true = omega arith
@@ -178,19 +185,21 @@ module _ (input : List ℕ) (rows : List FvNode) (n : ℕ) (h : FvNode) (at : sl
       )
 
   pub files_placed : (stored : List LocatedFile) (m : Meaning) → Accepted (bytes_at input h) m
-      → BeginWithFiles (bytes_at input h) (map file_form stored)
-      → Pairwise (LiesAt input rows) (map (file_place start) (map file_form stored)) (rows_of_parts n (h.depth + 1) 0 (map FileNode (files_of m)))
+      → BeginWithFiles (bytes_at input h) (map (file_form (bytes_at input h)) stored)
+      → Pairwise (LiesAt input rows) (map (file_place start) (map bare_form stored)) (rows_of_parts n (h.depth + 1) 0 (map FileNode (files_of m)))
   files_placed stored m accepted found =
       let b : List ℕ = bytes_at input h in
-      let forms : List FileForm = map file_form stored in
+      let forms : List FileForm = map (file_form b) stored in
       let v : Denotes depth_limit b m = accepted.1 in
       let pairs : Pairwise (MeansFile (Stream depth_limit)) forms (files_of m) =
       subst (λ (fs : List FileForm). Pairwise (MeansFile (Stream depth_limit)) fs (files_of m))
       (one_files b forms v.files found (volume_files depth_limit b m v)) v.meanings in
-      each_lies (MeansFile (Stream depth_limit)) FileNode (file_place start) (LiesAt input rows) n (h.depth + 1) forms
+      subst (λ (ps : List PartPlace). Pairwise (LiesAt input rows) ps (rows_of_parts n (h.depth + 1) 0 (map FileNode (files_of m))))
+      (bare_places start b stored)
+      (each_lies (MeansFile (Stream depth_limit)) FileNode (file_place start) (LiesAt input rows) n (h.depth + 1) forms
       (λ i f file is means. file_found forms i f file found is
-      (all_at (λ (f : FileForm). 24 ≤ f.head.header_len) forms i f (some_header stored) is) means)
-      [] forms (files_of m) refl pairs
+      (all_at (λ (f : FileForm). 24 ≤ f.head.header_len) forms i f (some_header b stored) is) means)
+      [] forms (files_of m) refl pairs)
 
   section_found : (frames : List FrameForm) (tail i : ℕ) (f : FrameForm) (s : SectionMeaning) → Splits frames tail (bytes_at input h)
       → slice_get frames i ≡ Some f → MeansSection depth_limit f s

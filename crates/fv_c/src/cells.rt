@@ -1,21 +1,22 @@
 //! The cells of a volume's body: its files, pads, deleted files and free bytes, with their offsets.
 
-ghost use Rattle.std.specs.Prelude.{◌≡◌, ◌≢◌, ◌<◌, ◌++◌, List, length, drop, map};
+ghost use Rattle.std.specs.Prelude.{◌≡◌, ◌≢◌, ◌<◌, ◌≤◌, ◌%◌, ◌++◌, List, length, drop, map, IfErr, IfOk};
 ghost use Rattle.fv_base.specs.Words.{fault_number, out_of_memory};
 ghost use Rattle.fv_base.specs.declared.fault.Fault.{Fault};
 ghost use Rattle.fv_file.specs.Words.{attribute_bits, cell_form, CellForm, file_header_len, is_large};
+ghost use Rattle.fv_file.specs.Words.{IsFirstCellFault, Tiles};
 ghost use Rattle.fv_head.specs.declared.extent.Extent.{Extent};
 ghost use Rattle.fv_tree.specs.Words.{BeginsTiled, NotTiled};
 ghost use Rattle.fv_c.specs.ReportedCells.{dead_number, of_bytes, of_file, reported_cell};
 ghost use Rattle.fv_c.specs.Reports.{BeginsWithHeader, reported_fault, no_fault};
-ghost use Rattle.fv_c.specs.inner.Rows.{IsWritten};
 
-use crate::buffer::put_translated;
-use crate::reports::{FvFault, set_fault};
+use crate::buffer::put_result;
+use crate::reports::FvFault;
 use crate::translate::Translate;
+use fv_base::Fault;
 use fv_file::offsets::{HEADER_LEN, LARGE_HEADER_LEN};
-use fv_file::{Cell, Cells, FileAttributes, FileHead, FileState};
-use fv_tree::volume_cells;
+use fv_file::{Cell, CellWalk, FileAttributes, FileHead, FileState};
+use fv_head::{Extent, verify_fv};
 use std::alloc::Global;
 
 /// A cell of a volume's body. The fields from `header_length` on are 0 in any cell that is neither
@@ -112,14 +113,36 @@ impl<'a> Translate for Cell<'a> {
     }
 }
 
-// Writes the reports for C of a volume's cells at the start of the buffer, and returns 0. If the
-// buffer has fewer elements, returns 256 and leaves it unchanged.
-fn put_cells(list: &Cells<'_>, rows: &mut [FvCell], count: &mut u64, fault: &mut FvFault) -> u32
-    ensures written { IsWritten (map reported_cell list.now) rows.old rows.new result }
-    ensures count { count.new ≡ length list.now }
-    ensures fault { fault.new ≡ no_fault }
+// Returns the reports for C of the cells in the body of a volume of this extent, in order.
+fn rows_in_body(alloc: Global, volume: &[u8], extent: &Extent) -> Result<Vec<FvCell>, Fault>
+    requires multiple { length volume.now % 8 ≡ 0 }
+    requires first_multiple { extent.now.first % 8 ≡ 0 }
+    requires within { extent.now.first ≤ length volume.now }
+    ensures found { IfOk result (λ rows. (cs : List CellForm)
+        × Tiles extent.now.file_system extent.now.polarity extent.now.first cs (drop extent.now.first volume.now)
+        × (rows.items ≡ map reported_cell cs)) }
+    ensures first { IfErr result (λ f. f ≢ out_of_memory → IsFirstCellFault extent.now.file_system
+        extent.now.polarity extent.now.first (drop extent.now.first volume.now) f) }
 {
-    put_translated(list.as_slice(), rows, count, fault)
+    let mut walk = CellWalk::of(volume, extent.first, extent.file_system, extent.polarity);
+    let mut rows = Vec::with_capacity(alloc, walk.cell_count())?;
+    while let Some(cell) = walk.next_cell()? {
+        rows.push(cell.translate())?;
+    }
+    Ok(rows)
+}
+
+// Returns the reports for C of the cells of the volume with which the bytes begin.
+fn cell_rows(alloc: Global, bytes: &[u8]) -> Result<Vec<FvCell>, Fault>
+    ensures ok { IfOk result (λ rows. (e : Extent) × (cs : List CellForm) × BeginsTiled e cs bytes.now
+        × (rows.items ≡ map reported_cell cs)) }
+    ensures err { IfErr result (λ f. f ≢ out_of_memory → NotTiled bytes.now f) }
+    ensures memory { IfErr result (λ f. f ≡ out_of_memory → BeginsWithHeader bytes.now) }
+{
+    let extent = verify_fv(bytes)?;
+    let volume = &bytes[..extent.length as usize];
+    let rows = rows_in_body(alloc, volume, &extent)?;
+    Ok(rows)
 }
 
 /// Writes the cells of the volume with which the bytes begin, in order, at the start of the buffer
@@ -154,8 +177,5 @@ pub extern "C" fn fvp_volume_cells(
         × (f ≡ out_of_memory → BeginsWithHeader volume.now)
         × (result ≡ fault_number f.kind) × (fault.new ≡ reported_fault f) × (count.new ≡ count.old) }
 {
-    match volume_cells(alloc, volume) {
-        Ok((_, list)) => put_cells(&list, rows, count, fault),
-        Err(f) => set_fault(f, fault),
-    }
+    put_result(cell_rows(alloc, volume), rows, count, fault)
 }

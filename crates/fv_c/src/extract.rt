@@ -77,7 +77,7 @@ fn put_data(
 // returns 256 and leaves it unchanged. `len` is the length of the body.
 fn put_body(
     alloc: Global,
-    section: &SectionView<'_>,
+    section: &SectionView<'_, '_>,
     buffer: &mut [u8],
     len: &mut u64,
 ) -> Result<u32, Fault>
@@ -113,7 +113,7 @@ fn put_part(
     match part {
         Part::Volume(volume) => put_volume(alloc, volume, buffer, len),
         Part::File(file) => put_data(alloc, file, buffer, len),
-        Part::Section(section) => put_body(alloc, section, buffer, len),
+        Part::Section(section) => put_body(alloc, &section, buffer, len),
     }
 }
 

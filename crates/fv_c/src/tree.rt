@@ -5,7 +5,7 @@ ghost use Rattle.std.specs.Prelude.{reverse, IfOk, IfErr, OnOk};
 ghost use Rattle.fv_base.specs.Words.{OrMemory, fault_number, out_of_memory, volume_limit};
 ghost use Rattle.fv_base.specs.declared.fault.Fault.{Fault};
 ghost use Rattle.fv_section.specs.Words.{FrameForm, Splits};
-ghost use Rattle.fv_tree.specs.Words.{Accepted, BeginWithFiles, NotRead, body_of, content_of, file_form};
+ghost use Rattle.fv_tree.specs.Words.{Accepted, BeginWithFiles, NotRead, bare_form, body_of, content_of, file_form};
 ghost use Rattle.fv_c.specs.Reports.{BeginsWithHeader, reported_fault, no_fault};
 ghost use Rattle.fv_rows.specs.Words.{part_node};
 ghost use Rattle.fv_c.specs.TreeParts.{TreeRow};
@@ -127,22 +127,23 @@ fn content_number(file: &FileView<'_>) -> u32
 {
     match file.content() {
         Content::Plain(_) => BYTES,
-        Content::Stream { .. } => SECTIONS,
+        Content::Stream(_) => SECTIONS,
     }
 }
 
 // Returns the number for the body of a section: 1 for bytes, 2 for sections, 3 for a volume.
-fn body_number(section: &SectionView<'_>) -> u32
+fn body_number(section: &SectionView<'_, '_>) -> u32
     ensures { result ≡ body_number (body_of section.now) }
 {
     match section.body() {
         Body::Leaf(_) => BYTES,
-        Body::Group { .. } => SECTIONS,
+        Body::Group(_) => SECTIONS,
         Body::Nested(_) => VOLUME,
     }
 }
 
 // Returns the row of a part at this place, for C.
+#[inline(always)]
 fn node_of(row: &Row<'_, '_>, place: PartPlace) -> FvNode
     requires { row.now.depth < 2 ^ 32 }
     ensures { result ≡ reported_node place.offset place.header_len
@@ -155,7 +156,7 @@ fn node_of(row: &Row<'_, '_>, place: PartPlace) -> FvNode
         depth: row.depth as u32,
         ..NO_NODE
     };
-    match row.part {
+    match &row.part {
         Part::Volume(volume) => {
             let head = volume.head();
             FvNode {
@@ -201,13 +202,13 @@ fn bytes_of_row<'a>(input: &'a [u8], node: &FvNode) -> &'a [u8]
 // Returns the places of the files that are stored in the volume at this place.
 fn file_places(
     alloc: Global,
-    stored: &[LocatedFile<'_>],
+    stored: &[LocatedFile],
     start: PartPlace,
 ) -> Result<Vec<PartPlace>, AllocError>
     requires { start.offset < 2 ^ 63 }
-    ensures { IfOk result (λ v. v.items ≡ map (file_place start) (map file_form stored.now)) }
+    ensures { IfOk result (λ v. v.items ≡ map (file_place start) (map bare_form stored.now)) }
 {
-    let mut places = Vec::new(alloc);
+    let mut places = Vec::with_capacity(alloc, stored.len())?;
     for file in stored {
         let header_len = file.header_len();
         places.push(PartPlace {
@@ -229,10 +230,10 @@ fn section_places(
     ensures { IfOk result (λ v. (frames : List FrameForm) (tail : ℕ) → Splits frames tail stream.now
         → v.items ≡ map (section_place start) frames) }
 {
-    let mut places = Vec::new(alloc);
     let Ok(mut walk) = FrameWalk::of(stream) else {
-        return Ok(places);
+        return Ok(Vec::new(alloc));
     };
+    let mut places = Vec::with_capacity(alloc, walk.frames_left())?;
     while let Some(frame) = walk.next_frame() {
         places.push(PartPlace {
             offset: start.offset + (frame.offset + section_header_len(frame.extended)),
@@ -277,13 +278,22 @@ fn places_in(
     }
 }
 
-// Moves places to the end of those that wait, the last of them first.
-fn wait_for(mut places: Vec<PartPlace>, waiting: &mut Vec<PartPlace>) -> Result<(), AllocError>
-    ensures { OnOk result (reverse waiting.new.items ≡ places.items ++ reverse waiting.old.items) }
+// Moves places to the end of those that wait, the last of them first, and makes room for their
+// rows.
+fn wait_for(
+    mut places: Vec<PartPlace>,
+    waiting: &mut Vec<PartPlace>,
+    rows: &mut Vec<FvNode>,
+) -> Result<(), AllocError>
+    ensures waiting { OnOk result (reverse waiting.new.items ≡ places.items ++ reverse waiting.old.items) }
+    ensures rows { rows.new.items ≡ rows.old.items }
 {
-    while let Some(place) = places.pop() {
-        waiting.push(place)?;
+    if places.is_empty() {
+        return Ok(());
     }
+    rows.reserve(places.len())?;
+    places.reverse();
+    waiting.append(&mut places)?;
     Ok(())
 }
 
@@ -293,19 +303,20 @@ fn put_inside(
     alloc: Global,
     input: &[u8],
     volume: &VolumeView<'_>,
-    stored: &[LocatedFile<'_>],
+    stored: &[LocatedFile],
     rows: &mut Vec<FvNode>,
 ) -> Result<(), Fault>
     requires read { Accepted input.now volume.now }
-    requires files { BeginWithFiles input.now (map file_form stored.now) }
+    requires files { BeginWithFiles input.now (map (file_form input.now) stored.now) }
     requires own { rows.old.items ≡ whole_node volume.now ∷ [] }
     ensures ok { OnOk result (HasTreeRows input.now rows.new.items) }
     ensures err { IfErr result (λ f. f ≡ out_of_memory) }
 {
-    // The places of the parts of the rows that are left. The place of the next row is the last.
-    let mut waiting = Vec::new(alloc);
     let start = PartPlace { parent: 0, ..WHOLE };
-    wait_for(file_places(alloc, stored, start)?, &mut waiting)?;
+
+    // The places of the parts of the rows that are left. The place of the next row is the last.
+    let mut waiting = file_places(alloc, stored, start)?;
+    waiting.reverse();
     let mut walk = TreeWalk::of(volume);
     walk.next();
     for row in walk {
@@ -314,8 +325,8 @@ fn put_inside(
         };
         let node = node_of(&row, place);
         let parts = places_in(alloc, input, &node, rows.len() as u64)?;
-        wait_for(parts, &mut waiting)?;
         rows.push(node)?;
+        wait_for(parts, &mut waiting, rows)?;
     }
     Ok(())
 }
@@ -325,10 +336,10 @@ fn rows_of(
     alloc: Global,
     input: &[u8],
     volume: &VolumeView<'_>,
-    stored: &[LocatedFile<'_>],
+    stored: &[LocatedFile],
 ) -> Result<Vec<FvNode>, Fault>
     requires read { Accepted input.now volume.now }
-    requires files { BeginWithFiles input.now (map file_form stored.now) }
+    requires files { BeginWithFiles input.now (map (file_form input.now) stored.now) }
     ensures ok { IfOk result (λ v. HasTreeRows input.now v.items) }
     ensures err { IfErr result (λ f. f ≡ out_of_memory) }
 {
@@ -338,7 +349,7 @@ fn rows_of(
         number: 0,
         part: Part::Volume(volume),
     };
-    let mut rows = Vec::new(alloc);
+    let mut rows = Vec::with_capacity(alloc, stored.len() + 1)?;
     rows.push(node_of(&whole, WHOLE))?;
     if volume.file_count() == 0 {
         return Ok(rows);

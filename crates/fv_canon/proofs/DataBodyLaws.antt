@@ -1,5 +1,6 @@
--- The data of a file can be seen as the body of a section: this body has the same volumes, the same bytes, the same
--- number of values and the same depth.
+-- The data of a file can be seen as the body of a section (`data_body`). This body contains the same volumes as the
+-- data (`data_volumes`, `data_held`) and has the same image (`data_image`). The file is larger than the body
+-- (`data_size`).
 use Rattle.std.proofs.Common.{◌≡◌, ◌+◌, ℕ, List, refl}
 use Rattle.fv_tree.specs.Words.{FileMeaning, File, Plain, Sectioned, content_of, volumes_in_body, volumes_in_content, volumes_in_file}
 use Rattle.fv_tree.specs.inner.Sizes.{body_size, file_size}

@@ -1,8 +1,7 @@
 -- In the walk over the rows of a volume, the starts that are left begin with the starts of the files of the volumes
 -- that are left.
 use Rattle.std.proofs.Common.{◌≡◌, ◌∙◌, ◌+◌, ℕ, List, [], ◌∷◌, ◌++◌, drop, sym, ap, subst}
-use Rattle.fv_canon.specs.LayoutForms.{BeginsWithStarts, StartsOfEach, AreAllStarts}
-use Rattle.fv_canon.specs.Layouts.{AreStarts}
+use Rattle.fv_canon.specs.Words.{BeginsWithStarts, StartsOfEach, AreAllStarts, AreStarts}
 use Rattle.fv_canon.proofs.PartLengthLaws.{begin_all}
 use Rattle.fv_canon.proofs.VolumeListLaws.{begins_first}
 use Rattle.fv_tree.specs.Words.{Inside, Meaning, Volume, FileMeaning, File, content_of, volumes_in, volumes_in_content, volumes_in_files}

@@ -12,7 +12,7 @@ use Rattle.fv_head.proofs.Laws.{one_front}
 use Rattle.fv_head.specs.declared.extent.Extent.{Extent}
 use Rattle.fv_tree.specs.Words.{moved_fault, BytesFollowVolume, IsFirstOfInput, IsFirstOfVolume, Meaning, NotRead, head_of, length_of, outermost}
 use Rattle.fv_tree.proofs.Laws.{fault_refuses, fault_stands, first_once, front_of, one_meaning, stands_other}
-use Rattle.fv_canon.specs.ImageChecks.{AreCanonical, CanonicalImagesStay, ChecksImage, HasOutcome, IsChecked}
+use Rattle.fv_canon.specs.Words.{AreCanonical, CanonicalImagesStay, ChecksImage, HasOutcome, IsChecked}
 use Rattle.fv_canon.specs.Words.{IsImage, IsNormalisedAt, NormalisesTo}
 use Rattle.fv_canon.specs.declared.image_check.VolumeCheck.{VolumeCheck}
 use Rattle.fv_canon.specs.declared.image_check.VolumeOutcome.{VolumeOutcome}

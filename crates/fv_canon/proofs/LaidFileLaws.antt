@@ -1,6 +1,7 @@
 -- Facts about a file that was read and laid out, and the walk over the files of a volume. The steps:
 -- 1. The data of the file have the length that the layout assumed (`file_long`, `size_is`).
--- 2. The start of the file determines where it begins and ends (`here_is`, `at_file`).
+-- 2. The file begins at or after the edge, so that a pad fits in any gap between them, and ends within the volume
+--    (`here_is`). The same is true of the file at each place of the walk (`at_file`).
 -- 3. The bytes that are left to write are the gap before the file, the file, its filler, and then the files after it
 --    (`walk_goes`). At the end only erased bytes are left (`files_end`).
 use Rattle.std.proofs.Common.{◌≡◌, ◌≤◌, ◌<◌, ◌⊎◌, ◌+◌, ◌-◌, ◌%◌, ℕ, ◌∷◌, ◌++◌, inl, inr, List, length, drop, replicate, get_or, refl, ap, ◌∙◌, subst}

@@ -1,12 +1,14 @@
--- Facts about a section that was read and laid out, and the walk over the sections of a stream. The steps:
--- 1. The body of the section has the length that the layout assumed, and fits the form of the section's header
+-- A walk over the sections of a stream that was read and laid out puts the stream of the canonical image. The steps:
+-- 1. The body of a section has the length that the layout assumed, and fits the form of the section's header
 --    (`section_known`).
 -- 2. A stream is its first section followed by the other sections (`stream_goes`, `stream_whole`).
--- 3. A walk puts the filler, the header and the body of each section (`goes_on`, `front_more`), and at the end the tail
---    (`front_end`).
-use Rattle.std.proofs.Common.{◌≡◌, ◌≤◌, ◌<◌, ◌+◌, ◌-◌, ◌^◌, ℕ, [], ◌∷◌, ◌++◌, zero, suc, Bool, List, length, drop, replicate, get_or, refl, sym, ap}
-use Rattle.std.proofs.Common.{◌∙◌, subst, arith, append_assoc, append-nil, length-drop}
-use Rattle.fv_base.proofs.Laws.{common_steps, drop_all, IsBytes, WalkLaws, bytes_drop, item_at}
+-- 3. The walk takes the starts of each section (`section_passed`), and puts its filler, its header and its body
+--    (`goes_on`, `front_more`).
+-- 4. At the end the walk puts the tail (`front_end`), or nothing if there are no sections (`front_none`), and all
+--    starts of the stream are taken (`walk_ended`).
+use Rattle.std.proofs.Common.{◌≡◌, ◌<◌, ◌+◌, ◌-◌, ◌^◌, ℕ, [], ◌∷◌, ◌++◌, zero, suc, Bool, List, length, drop, replicate, sym, ap, ◌∙◌, subst, arith}
+use Rattle.std.proofs.Common.{append_assoc, append-nil, length-drop}
+use Rattle.fv_base.proofs.Laws.{common_steps, IsBytes, WalkLaws, bytes_drop}
 use Rattle.fv_section.specs.Words.{FrameForm, section_header_len, frame_len, up_to_4, FitsForm, section_head_of, stream_of}
 use Rattle.fv_section.proofs.Laws.{begun_bytes, fits, length_begun}
 use Rattle.fv_tree.specs.Words.{SectionMeanings, NoSections, MoreSections, SectionMeaning, Section, body_len, sections_from, body_of}
@@ -16,7 +18,7 @@ use Rattle.fv_canon.specs.inner.ImageOf.{frames_of, frame_of, body_image, starts
 use Rattle.fv_canon.proofs.ImageParts.{frame_bytes, sections_bytes, ComesTo, TakesFront}
 use Rattle.fv_canon.specs.Words.{BeginsWithStarts}
 use Rattle.fv_tree.proofs.Laws.{in_section}
-use Rattle.fv_canon.proofs.VolumeListLaws.{count_deeper, item_passed, laid_higher}
+use Rattle.fv_canon.proofs.VolumeListLaws.{count_deeper, laid_higher, passed_on}
 use Rattle.fv_canon.proofs.WrittenImageLaws.{sections_made}
 use Rattle.fv_canon.proofs.VolumeImageLaws.{sections_again}
 
@@ -82,11 +84,13 @@ stream_whole s ss starts tail = grind (arith, common_steps, append_assoc, stream
 
 -- the starts that are left begin with the starts of the files of the volumes in this section, and go on with the starts
 -- of the files of the volumes in the sections after this section
-pub section_passed : (ss : List SectionMeaning) (i : ℕ) (s : SectionMeaning) (starts last : List ℕ) → i < length ss → s ≡ get_or ss i s
-    → ComesTo (volumes_in_sections (sections_from (drop i ss))) starts last
+pub section_passed : (left rest : List SectionMeaning) (s : SectionMeaning) (starts last : List ℕ) → left ≡ s ∷ rest
+    → ComesTo (volumes_in_sections (sections_from left)) starts last
     → BeginsWithStarts (volumes_in_section s) starts
-    × ComesTo (volumes_in_sections (sections_from (drop (i + 1) ss))) (drop (starts_in (volumes_in_section s)) starts) last
-section_passed = item_passed (λ xs. volumes_in_sections (sections_from xs)) volumes_in_section (λ x xs. refl)
+    × ComesTo (volumes_in_sections (sections_from rest)) (drop (starts_in (volumes_in_section s)) starts) last
+section_passed left rest s starts last is comes =
+    passed_on (volumes_in_section s) (volumes_in_sections (sections_from rest)) starts last
+    (subst (λ ss. ComesTo (volumes_in_sections (sections_from ss)) starts last) is comes)
 
 pub in_body : (s : SectionMeaning) → starts_in (volumes_in_section s) ≡ starts_in (volumes_in_body (body_of s))
 in_body s = ap starts_in (in_section s) ∙ count_deeper (volumes_in_body (body_of s))
@@ -102,16 +106,19 @@ framed (Section kind extended body) starts k = ap (λ (n : ℕ). section_head_of
 sized : (s : SectionMeaning) (starts : List ℕ) → SectionKnown s starts → frame_len (frame_of 0 s starts) ≡ section_len s
 sized (Section kind extended body) starts k = ap (λ (n : ℕ). section_header_len extended + n) k.long
 
-pub goes_on : (ss : List SectionMeaning) (i : ℕ) (s : SectionMeaning) (starts : List ℕ) (gap : ℕ) → i < length ss → s ≡ get_or ss i s
-    → SectionKnown s starts
-    → sections_bytes gap (sections_from (drop i ss)) starts
+pub goes_on : (left rest : List SectionMeaning) (s : SectionMeaning) (starts : List ℕ) (gap : ℕ) → left ≡ s ∷ rest → SectionKnown s starts
+    → sections_bytes gap (sections_from left) starts
     ≡ (replicate gap 0
     ++ (section_head_of (section_kind_of s) (section_is_extended s) (body_len (body_of s)) ++ body_image (body_of s) starts))
-    ++ sections_bytes (up_to_4 (section_len s) - section_len s) (sections_from (drop (i + 1) ss)) (drop (starts_in (volumes_in_section
-    s)) starts)
-goes_on ss i s starts gap l is k = grind (arith, common_steps, item_at, framed, sized)
+    ++ sections_bytes (up_to_4 (section_len s) - section_len s) (sections_from rest) (drop (starts_in (volumes_in_section s)) starts)
+goes_on left rest s starts gap is k =
+    let later : ℕ → List ℕ = λ n. sections_bytes (up_to_4 n - n) (sections_from rest) (drop (starts_in (volumes_in_section s)) starts) in
+    ap (λ ss. sections_bytes gap (sections_from ss) starts) is
+    ∙ ap (λ (xs : List ℕ). (replicate gap 0 ++ xs) ++ later (frame_len (frame_of 0 s starts))) (framed s starts k)
+    ∙ ap (λ (n : ℕ). (replicate gap 0 ++ (section_head_of (section_kind_of s) (section_is_extended s) (body_len (body_of s))
+    ++ body_image (body_of s) starts)) ++ later n) (sized s starts k)
 
--- three pieces are put, and then less of the whole is left
+-- after three pieces are put, the bytes after these pieces are left
 pub front_more : {S : Type 0} (takes : S → List ℕ → S → Type 0) → WalkLaws takes → (s t u v w : S) (whole rest a b c left : List ℕ)
     → TakesFront takes s t whole rest → rest ≡ (a ++ (b ++ c)) ++ left → takes t a u → takes u b v → takes v c w
     → TakesFront takes s w whole left
@@ -123,31 +130,36 @@ front_more takes laws s t u v w whole rest a b c left f e p q r = record {
 
 -- after the last section the bytes of the tail are put
 pub front_end : {S : Type 0} (takes : S → List ℕ → S → Type 0) → WalkLaws takes
-    → (ss : List SectionMeaning) (i : ℕ) (s t u : S) (gap : ℕ) (starts rest : List ℕ) (tail : ℕ) → length ss ≤ i → 0 < length ss
-    → TakesFront takes s t (sections_bytes 0 (sections_from ss) starts) (sections_bytes gap (sections_from (drop i ss)) rest)
+    → (ss left : List SectionMeaning) (s t u : S) (gap : ℕ) (starts rest : List ℕ) (tail : ℕ) → left ≡ [] → 0 < length ss
+    → TakesFront takes s t (sections_bytes 0 (sections_from ss) starts) (sections_bytes gap (sections_from left) rest)
     → takes t (replicate tail 0) u → takes s (stream_of (frames_of 0 (sections_from ss) starts) tail) u
-front_end takes laws [] i s t u gap starts rest tail l some f p = absurd (omega (arith, some))
-front_end takes laws (x ∷ xs) i s t u gap starts rest tail l some f p =
-    let ended : sections_bytes gap (sections_from (drop i (x ∷ xs))) rest ≡ [] =
-    ap (λ (ys : List SectionMeaning). sections_bytes gap (sections_from ys) rest) (drop_all i (x ∷ xs) l) in
+front_end takes laws [] left s t u gap starts rest tail none some f p = absurd (omega (arith, some))
+front_end takes laws (x ∷ xs) left s t u gap starts rest tail none some f p =
+    let ended : sections_bytes gap (sections_from left) rest ≡ [] =
+    ap (λ (ys : List SectionMeaning). sections_bytes gap (sections_from ys) rest) none in
     let whole : f.front ≡ sections_bytes 0 (sections_from (x ∷ xs)) starts =
     sym (append-nil f.front) ∙ ap (λ (ys : List ℕ). f.front ++ ys) (sym ended) ∙ f.whole_is in
     subst (λ (ys : List ℕ). takes s ys u) (ap (λ (ys : List ℕ). ys ++ replicate tail 0) whole
     ∙ stream_whole x (sections_from xs) starts tail) (laws.joined f.taken p)
 
 -- if the stream has no sections, nothing is put
-pub front_none : {S : Type 0} (takes : S → List ℕ → S → Type 0) (ss : List SectionMeaning) (i : ℕ) (s t : S) (gap : ℕ)
-    (starts rest : List ℕ) (tail : ℕ) → length ss ≡ 0
-    → TakesFront takes s t (sections_bytes 0 (sections_from ss) starts) (sections_bytes gap (sections_from (drop i ss)) rest)
+pub front_none : {S : Type 0} (takes : S → List ℕ → S → Type 0) (ss left : List SectionMeaning) (s t : S) (gap : ℕ)
+    (starts rest : List ℕ) (tail : ℕ) → left ≡ [] → left ≡ ss
+    → TakesFront takes s t (sections_bytes 0 (sections_from ss) starts) (sections_bytes gap (sections_from left) rest)
     → takes s (stream_of (frames_of 0 (sections_from ss) starts) tail) t
-front_none takes [] i s t gap starts rest tail none f =
-    let ended : sections_bytes gap (sections_from (drop i [])) rest ≡ [] =
-    ap (λ (ys : List SectionMeaning). sections_bytes gap (sections_from ys) rest) (drop_all i [] (omega arith)) in
-    let front : f.front ≡ [] = sym (append-nil f.front) ∙ ap (λ (ys : List ℕ). f.front ++ ys) (sym ended) ∙ f.whole_is in
-    subst (λ (ys : List ℕ). takes s ys t) front f.taken
-front_none takes (x ∷ xs) i s t gap starts rest tail none f = absurd (omega (arith, none))
+front_none takes ss left s t gap starts rest tail none same f =
+    let empty : ss ≡ [] = sym same ∙ none in
+    let ended : sections_bytes gap (sections_from left) rest ≡ [] =
+    ap (λ (ys : List SectionMeaning). sections_bytes gap (sections_from ys) rest) none in
+    let whole : sections_bytes 0 (sections_from ss) starts ≡ [] =
+    ap (λ (ys : List SectionMeaning). sections_bytes 0 (sections_from ys) starts) empty in
+    let front : f.front ≡ [] = sym (append-nil f.front) ∙ ap (λ (ys : List ℕ). f.front ++ ys) (sym ended) ∙ f.whole_is ∙ whole in
+    let stream : stream_of (frames_of 0 (sections_from ss) starts) tail ≡ [] =
+    ap (λ (ys : List SectionMeaning). stream_of (frames_of 0 (sections_from ys) starts) tail) empty in
+    subst (λ (ys : List ℕ). takes s ys t) (front ∙ sym stream) f.taken
 
--- after the last section, the starts that are left are the starts after the stream
-pub walk_ended : (ss : List SectionMeaning) (i : ℕ) (rest last : List ℕ) → length ss ≤ i
-    → ComesTo (volumes_in_sections (sections_from (drop i ss))) rest last → rest ≡ last
-walk_ended ss i rest last past walk = grind (arith, common_steps, drop_all)
+-- after the last section, the starts that are left are the starts that follow the stream
+pub walk_ended : (left : List SectionMeaning) (rest last : List ℕ) → left ≡ []
+    → ComesTo (volumes_in_sections (sections_from left)) rest last → rest ≡ last
+walk_ended left rest last none walk =
+    (subst (λ ss. ComesTo (volumes_in_sections (sections_from ss)) rest last) none walk).left

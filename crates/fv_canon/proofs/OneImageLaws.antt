@@ -1,6 +1,6 @@
 -- A meaning has at most one image. The steps:
 -- 1. Two lists of bytes that show the same spans are equal (`shows_one`).
--- 2. Files have at most one first placement (`starts_one`).
+-- 2. Files have at most one first placement (`starts_one` of fv_placement).
 -- 3. So by induction on the meaning there is at most one image (`image_one`).
 use Rattle.std.proofs.Common.{◌≡◌, ◌≤◌, ◌<◌, ◌+◌, ◌-◌, ℕ, [], ◌∷◌, inl, inr, Bool, List, length, drop, get_or, refl, sym, ap, ◌∙◌, subst, arith}
 use Rattle.fv_base.proofs.Laws.{ext_get_or, get_or-take, get_or-drop, common_steps, AllByRecursion, cases_lt, erased_byte}

@@ -20,7 +20,7 @@ pads_fit p (suc n) gap l = if_true (nat_le gap 0xfffff8) _ _ (le-leb gap 0xfffff
 pads_more : (p : Polarity) (n gap : ℕ) → 0xfffff8 < gap → pads p (suc n) gap ≡ pad_bytes p long_pad ++ pads p n (gap - long_pad)
 pads_more p n gap l = if_false (nat_le gap 0xfffff8) _ _ (not_at_most gap 0xfffff8 l)
 
--- steps beyond the number of the gap's bytes change nothing
+-- `pads p n gap` is the same for every n that is at least the number of the gap's bytes
 pads_enough : (p : Polarity) (n k gap : ℕ) → gap ≤ n → gap ≤ k → pads p n gap ≡ pads p k gap
 pads_enough p zero k gap l m = sym (pads_fit p k gap (omega (arith, l)))
 pads_enough p (suc n) zero gap l m = pads_fit p (suc n) gap (omega (arith, m))
@@ -50,7 +50,8 @@ pads_rule p gap least eighth = (
         pads_more p n (suc n) past ∙ ap (λ xs. pad_bytes p long_pad ++ xs)
         (pads_enough p n (suc n - long_pad) (suc n - long_pad) (omega arith) (omega arith))
 
--- if P holds for a single pad, and for the longest pad followed by a gap for which P holds, then P holds for every gap
+-- if P holds of one pad, and of a pad of `long_pad` bytes followed by the pads of a gap of which P holds, then P holds
+-- of every gap that is a multiple of 8 and has at least 24 bytes
 module _ (p : Polarity) (P : ℕ → List ℕ → Type 0)
     (one : (gap : ℕ) → 24 ≤ gap → gap ≤ 0xfffff8 → gap % 8 ≡ 0 → P gap (pad_bytes p gap))
     (more : (gap : ℕ) (xs : List ℕ) → 0xfffff8 < gap → P (gap - long_pad) xs → P gap (pad_bytes p long_pad ++ xs)) where

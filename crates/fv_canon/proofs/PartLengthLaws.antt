@@ -1,4 +1,4 @@
--- A part of a volume that is laid out has the same length in the image.
+-- If a volume is laid out, each of its parts has the same length in the image.
 use Rattle.std.proofs.Common.{◌≡◌, ◌∙◌, ℕ, List, [], append-nil, length, subst, sym}
 use Rattle.fv_tree.specs.Words.{FileMeaning, SectionMeaning, Section, IsReadFile, IsReadSection, body_len, body_of, content_of, data_len_of}
 use Rattle.fv_tree.specs.Words.{volumes_in_body, volumes_in_content, Inside}

@@ -1,5 +1,6 @@
 -- A stream that is written as in the canonical image is read again as the same sections. The steps:
--- 1. The parts of a written frame are bytes (`begun_kind`, `bytes_begun`).
+-- 1. The type of a section that was read is a byte (`begun_kind`), and a written frame is a list of bytes
+--    (`bytes_begun`).
 -- 2. The statements about the parts inside: a frame, a stream and a volume (`FrameAgain`, `StreamAgain`,
 --    `VolumeAgain`).
 -- 3. The frames of a stream are read again: no frame, the last frame, or a frame and the frames after it (`none_again`,
@@ -28,7 +29,7 @@ bytes_section_head kind true n l =
     bytes_append (le_bytes 3 0xffffff) (kind ∷ le_bytes 4 (8 + n)) (bytes_le_bytes 3 0xffffff)
     (bytes_cons kind (le_bytes 4 (8 + n)) l (bytes_le_bytes 4 (8 + n)))
 
--- a header, a body and the bytes after them are bytes
+-- if a frame's body and the bytes after it are lists of bytes, the written frame and these bytes are a list of bytes
 bytes_begun : (g : FrameForm) (kind : ℕ) (rest : List ℕ) → g.kind ≡ kind → kind < 256 → IsBytes g.body → IsBytes rest
     → IsBytes (section_head_of g.kind g.extended (length g.body) ++ (g.body ++ rest))
 bytes_begun g kind rest same l body behind =

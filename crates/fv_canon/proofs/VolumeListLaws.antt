@@ -2,7 +2,8 @@
 -- 1. The starts of the files of two lists of volumes can be split (`laid_split`), and do not change one level deeper
 --    (`laid_deeper`, `laid_higher`). The same is true of the number of these starts (`count_joined`, `count_deeper`).
 -- 2. All volumes of two lists fit if the volumes of each list do (`fit_joined`).
--- 3. A walk that takes starts goes from each item to the next (`item_passed`).
+-- 3. A walk that takes starts goes from one list to the next (`passed_on`), and so from each item of a list to the next
+--    item (`item_passed`).
 use Rattle.std.proofs.Common.{◌≡◌, ◌≤◌, ◌<◌, ◌+◌, ℕ, [], ◌∷◌, ◌++◌, List, length, drop, get_or, refl, sym, ap, ◌∙◌, subst, arith, append_assoc}
 use Rattle.fv_base.proofs.Laws.{length-append, drop-drop, drop_at, AllByRecursion, length-map, item_at}
 use Rattle.fv_head.specs.Words.{HeadFields}
@@ -107,9 +108,9 @@ fit_laid (v ∷ vs) (own, fit) = let l = fit_laid vs fit in (own.0 ++ l.0, (own.
 
 -- ---- the volumes in the items of a list
 
--- a walk that comes to the volumes of two lists passes the starts of the files of the first list, and then comes to the
+-- a walk that is at the volumes of two lists takes the starts of the files of the first list, and is then at the
 -- volumes of the second list
-passed_on : (vs ws : List Inside) (starts last : List ℕ) → ComesTo (vs ++ ws) starts last
+pub passed_on : (vs ws : List Inside) (starts last : List ℕ) → ComesTo (vs ++ ws) starts last
     → BeginsWithStarts vs starts × ComesTo ws (drop (starts_in vs) starts) last
 passed_on vs ws starts last at =
     let (whole, rest, text, laid) = at.laid in

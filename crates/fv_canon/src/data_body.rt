@@ -11,10 +11,7 @@ pub(crate) fn data_body<'v, 'a>(file: &'v FileView<'a>) -> Body<'v, 'a>
     ensures { body_view result ≡ data_body file.now }
 {
     match file.content() {
-        Content::Plain(bytes) => Body::Leaf(*bytes),
-        Content::Stream { sections, tail } => Body::Group {
-            sections: sections.as_slice(),
-            tail: *tail,
-        },
+        Content::Plain(bytes) => Body::Leaf(bytes),
+        Content::Stream(sections) => Body::Group(sections),
     }
 }

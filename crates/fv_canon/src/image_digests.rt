@@ -37,7 +37,7 @@ fn file_digest(file: &FileView<'_>, starts: &[u64]) -> [u8; 32]
 }
 
 // Returns the digest of the body of a section, or None if the section is not a leaf.
-fn section_digest(section: &SectionView<'_>) -> Option<[u8; 32]>
+fn section_digest(section: &SectionView<'_, '_>) -> Option<[u8; 32]>
     ensures { BodyDigest (body_of section.now) result }
 {
     let bytes = section.leaf()?;
@@ -72,7 +72,7 @@ impl<'s> Digests for ImageDigests<'s> {
 
     fn next_digest(&mut self, row: &Row<'_, '_>) -> Option<[u8; 32]> {
         let starts = self.starts;
-        match row.part {
+        match &row.part {
             Part::Volume(volume) => {
                 self.starts = starts_inside(volume, starts);
                 Some(volume_digest(volume, starts))

@@ -25,7 +25,7 @@ use fv_base::{Polarity, Sink, fill};
 use fv_file::FIXED_CHECKSUM;
 use fv_head::{first_edge, put_head};
 use fv_rows::{Part, TreeWalk};
-use fv_tree::{Body, FileView, SectionView, VolumeView};
+use fv_tree::{Body, FileView, Sections, VolumeView};
 
 // Returns the byte that, added to a sum of bytes, makes it 0 modulo 256.
 fn complement(sum: u8) -> u8
@@ -35,34 +35,37 @@ fn complement(sum: u8) -> u8
     0u8.wrapping_sub(sum)
 }
 
-// Puts sections, with the zero bytes between them and after the last. `starts` begins with the
-// starts of the files of the volumes in these sections. Returns the starts after them. `put_body`,
-// `put_file`, `put_files` and `put_volume` use and return `starts` in the same way; `file_sum`,
-// `put_image` and `put_body_image` use `starts` in the same way, but do not return starts.
+// Puts the sections of a stream, with zero bytes between them and, if there are sections, in place
+// of the tail. `starts` begins with the starts of the files of the volumes in these sections.
+// Returns the starts after them. `put_body`, `put_file`, `put_files` and `put_volume` use and
+// return `starts` in the same way; `file_sum`, `put_image` and `put_body_image` use `starts` in the
+// same way, but do not return starts.
 #[cycle(put)]
 fn put_sections<'s, S: Sink>(
     out: &mut SummingSink<'_, S>,
-    sections: &[SectionView<'_>],
-    tail: u8,
+    sections: Sections<'_, '_>,
     starts: &'s [u64],
 ) -> &'s [u64]
-    requires laid { BeginsWithStarts (volumes_in_sections (sections_from sections.now)) starts.now }
+    requires laid { BeginsWithStarts (volumes_in_sections (sections_from sections.0)) starts.now }
     ensures bytes { ImageTakes S.takes out.old
-        (stream_of (frames_of 0 (sections_from sections.now) starts.now) tail) out.new }
-    ensures rest { result.now ≡ drop (starts_in (volumes_in_sections (sections_from sections.now))) starts.now }
+        (stream_of (frames_of 0 (sections_from sections.entry.0) starts.now) sections.entry.1) out.new }
+    ensures rest { result.now ≡ drop (starts_in (volumes_in_sections (sections_from sections.entry.0))) starts.now }
 {
     let mut gap = 0;
     let mut rest = starts;
-    for section in sections {
+    let mut walk = sections;
+    let mut is_empty = true;
+    while let Some(section) = walk.next_section() {
         // A section that was read is shorter than 4 GiB, and its body fits the form of its header.
         section.known();
         fill(out, 0, gap);
-        put_section_head(out, section);
+        put_section_head(out, &section);
         rest = put_body(out, section.body(), rest);
-        gap = filler_of(section);
+        gap = filler_of(&section);
+        is_empty = false;
     }
-    if !sections.is_empty() {
-        fill(out, 0, u64::from(tail));
+    if !is_empty {
+        fill(out, 0, u64::from(walk.tail()));
     }
     rest
 }
@@ -83,7 +86,7 @@ fn put_body<'s, S: Sink>(
             out.put(bytes);
             starts
         }
-        Body::Group { sections, tail } => put_sections(out, sections, tail, starts),
+        Body::Group(sections) => put_sections(out, sections, starts),
         Body::Nested(volume) => put_volume(out, volume, starts),
     }
 }
@@ -105,6 +108,17 @@ fn file_sum<S: Sink>(out: &mut SummingSink<'_, S>, file: &FileView<'_>, starts: 
     complement(out.end_sum())
 }
 
+// Returns the part of `starts` that follows the starts of the files of the volumes in a file. The
+// walk has a function of its own, because a function clears the room for its walks when it is
+// called, and few calls of `put_file` need a walk.
+#[inline(never)]
+fn skip_file<'s>(file: &FileView<'_>, starts: &'s [u64]) -> &'s [u64]
+    requires { BeginsWithStarts (volumes_in_file file.now) starts.now }
+    ensures { result.now ≡ drop (starts_in (volumes_in_file file.now)) starts.now }
+{
+    skip_starts(TreeWalk::inside(&Part::File(file)), starts)
+}
+
 // Puts a file. While the data of another file are being summed, a file with the checksum attribute
 // adds only its State byte (`summing_sink` explains why).
 #[cycle(put)]
@@ -121,7 +135,7 @@ fn put_file<'s, S: Sink>(
 {
     if out.is_summing() && file.attributes().is_summed() {
         put_state(out, polarity);
-        return skip_starts(TreeWalk::inside(Part::File(file)), starts);
+        return skip_file(file, starts);
     }
     // The file was read (`known`), so the walk puts as many data bytes as were read.
     file.known();

@@ -137,7 +137,7 @@ fn placement_item(file: &FileView<'_>) -> PlacementItem
     PlacementItem {
         header,
         size: header + data_len,
-        alignment: Align::from_attributes(file.attributes().byte()).bytes(),
+        alignment: Align::from_attributes(file.attributes().byte()).bytes() as u32,
         top: name.to_bytes()[..] == VOLUME_TOP_FILE[..],
     }
 }

@@ -19,7 +19,7 @@ use fv_section::{section_head_bytes, section_header_len};
 use fv_tree::{FileView, SectionView};
 
 // Returns the number of zero bytes between a section and the next section.
-pub(crate) fn filler_of(section: &SectionView<'_>) -> u64
+pub(crate) fn filler_of(section: &SectionView<'_, '_>) -> u64
     requires { section_len section.now < 2 ^ 32 }
     ensures { result ≡ up_to_4 (section_len section.now) - section_len section.now }
 {
@@ -28,7 +28,7 @@ pub(crate) fn filler_of(section: &SectionView<'_>) -> u64
 }
 
 // Puts the header of a section.
-pub(crate) fn put_section_head<S: Sink>(out: &mut S, section: &SectionView<'_>)
+pub(crate) fn put_section_head<S: Sink>(out: &mut S, section: &SectionView<'_, '_>)
     requires { FitsForm (section_is_extended section.now) (body_len (body_of section.now)) }
     ensures { S.takes out.old (section_head_of (section_kind_of section.now) (section_is_extended section.now)
         (body_len (body_of section.now))) out.new }

@@ -50,7 +50,7 @@ pub fn lay_out_data(alloc: Global, file: &FileView<'_>) -> Result<Vec<u64>, Faul
     // The file was read (`known`), so the walk with these starts puts as many data bytes as were
     // read.
     file.known();
-    starts_of(alloc, TreeWalk::inside(Part::File(file)))
+    starts_of(alloc, TreeWalk::inside(&Part::File(file)))
 }
 
 /// Returns the starts of the files of the volumes in the body of a section, which `put_laid_body`
@@ -61,7 +61,7 @@ pub fn lay_out_data(alloc: Global, file: &FileView<'_>) -> Result<Vec<u64>, Faul
 /// The fault of the first volume in the body whose own files cannot be placed, at offset 0 and with
 /// the depth of that volume, which is 0 if the volume is the body itself. OutOfMemory, only if a
 /// volume in the body has a file.
-pub fn lay_out_body(alloc: Global, section: &SectionView<'_>) -> Result<Vec<u64>, Fault>
+pub fn lay_out_body(alloc: Global, section: &SectionView<'_, '_>) -> Result<Vec<u64>, Fault>
     ensures ok { IfOk result
         (λ starts. StartsOfEach AreStarts (volumes_in_body (body_of section.now)) starts.items) }
 
@@ -80,7 +80,7 @@ pub fn lay_out_body(alloc: Global, section: &SectionView<'_>) -> Result<Vec<u64>
     // The section was read (`known`), so the walk with these starts puts a body as long as the body
     // that was read.
     section.known();
-    starts_of(alloc, TreeWalk::inside(Part::Section(section)))
+    starts_of(alloc, TreeWalk::inside(&Part::Section(section.copied())))
 }
 
 /// Puts the canonical image of a volume into a sink, in one walk that takes no memory. `starts`
@@ -111,7 +111,7 @@ pub fn put_laid_data<S: Sink>(file: &FileView<'_>, starts: &[u64], out: &mut S)
 /// Puts the body of a section into a sink, as it is in the canonical image of the section's volume,
 /// in one walk that takes no memory. `starts` must be the starts of the files of the volumes in the
 /// body. (PI specification, volume 3, section 3.2.4.)
-pub fn put_laid_body<S: Sink>(section: &SectionView<'_>, starts: &[u64], out: &mut S)
+pub fn put_laid_body<S: Sink>(section: &SectionView<'_, '_>, starts: &[u64], out: &mut S)
     requires { StartsOfEach AreStarts (volumes_in_body (body_of section.now)) starts.now }
     ensures { (bytes : List ℕ) × IsBodyImage (body_of section.now) bytes × S.takes out.old bytes out.new }
 {
@@ -169,7 +169,7 @@ pub fn file_bytes(alloc: Global, file: &FileView<'_>) -> Result<ByteList, Fault>
 ///
 /// The fault of the first volume in the body whose own files cannot be placed, at offset 0 and with
 /// the depth of that volume, which is 0 if the volume is the body itself. OutOfMemory.
-pub fn body_bytes(alloc: Global, section: &SectionView<'_>) -> Result<ByteList, Fault>
+pub fn body_bytes(alloc: Global, section: &SectionView<'_, '_>) -> Result<ByteList, Fault>
     ensures body { IfOk result (λ o. IsBodyImage (body_of section.now) o) }
 
     // The result is unique.

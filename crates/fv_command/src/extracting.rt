@@ -34,7 +34,7 @@ fn file_part<'a>(alloc: Global, file: &FileView<'a>, part: &Part) -> Result<Extr
         return Ok(Extraction::Made(file_bytes(alloc, file)?));
     };
     match section_by_type(file, kind, part.instance) {
-        Lookup::Found(Item::Section(section)) => Ok(Extraction::Made(body_bytes(alloc, section)?)),
+        Lookup::Found(Item::Section(section)) => Ok(Extraction::Made(body_bytes(alloc, &section)?)),
         Lookup::Found(Item::Frame(frame)) => Ok(Extraction::Stored(frame.body)),
         Lookup::Absent => Ok(Extraction::NotFound),
         Lookup::NotSectioned => Ok(Extraction::NotSectioned),

@@ -1,5 +1,5 @@
--- Ops that may follow one another are the ops of whole expressions, and bytes spell at most one list of ops.
--- The steps:
+-- Ops are a whole expression exactly if they may follow one another, END comes last, and END finds what it needs. Bytes
+-- spell at most one list of ops. The steps:
 -- 1. Paths are joined (`path_join`), and each op of a path has its whole operand (`path_sized`).
 -- 2. The ops up to a stage are the ops of some trees, after SOR or nothing, or they are BEFORE or AFTER
 --    (`LeavesStage`). This holds at the start, and with one more op (`leaves_more`). With END, the ops are a whole
@@ -11,11 +11,10 @@ use Rattle.std.proofs.Common.{arith, true, false, length-append, append_assoc, a
 use Rattle.fv_base.proofs.Laws.{common_steps, AllByRecursion, and_split}
 use Rattle.fv_base.specs.declared.guid.Guid.{Guid}
 use Rattle.fv_depex.specs.Words.{OpFits, OpPath, has_values, has_code, stage_after, values_after, values_of, Expression, IsTree, IsOrder, Spells}
-use Rattle.fv_depex.specs.Words.{op_code, op_operand, ops_bytes, postfix, IsSized}
+use Rattle.fv_depex.specs.Words.{op_code, op_operand, ops_bytes, postfix, IsSized, always, never, installed, negated, both, either}
 use Rattle.fv_depex.specs.declared.op.Op.{Op}
 use Rattle.fv_depex.specs.declared.op.Phase.{Phase}
 use Rattle.fv_depex.specs.declared.op_stage.Stage.{Stage}
-use Rattle.fv_depex.specs.Expressions.{always, never, installed, negated, both, either}
 use Rattle.fv_depex.specs.declared.op.Phase.TheVariants.{Pei, Dxe}
 use Rattle.fv_depex.proofs.OpLemmas.{each_op, end_code, same_op}
 use Rattle.fv_depex.specs.declared.op.Op.TheVariants as ops

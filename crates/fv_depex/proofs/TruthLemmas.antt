@@ -7,11 +7,10 @@ use Rattle.std.proofs.Common.{◌≡◌, ◌≤◌, ◌+◌, ℕ, [], ◌∷◌,
 use Rattle.fv_base.proofs.Laws.{Result, Ok, Err, IfOk, common_steps, drop_all}
 use Rattle.fv_base.specs.declared.guid.Guid.{Guid}
 use Rattle.fv_depex.specs.inner.Ops.{evaluate_ops, evaluate_op, top}
-use Rattle.fv_depex.specs.Words.{Expression, IsTree, IsOrder, postfix, truth}
+use Rattle.fv_depex.specs.Words.{Expression, always, never, installed, negated, both, either, IsTree, IsOrder, postfix, truth}
 use Rattle.fv_depex.specs.declared.fault.DepexFault.{DepexFault}
 use Rattle.fv_depex.specs.declared.op.Op.{Op}
 use Rattle.fv_depex.specs.declared.op.Phase.{Phase}
-use Rattle.fv_depex.specs.Expressions.{always, never, installed, negated, both, either}
 use Rattle.fv_depex.specs.declared.op.Op.TheVariants as ops
 
 -- the ops of two trees and the op after them, followed by other ops

@@ -3,8 +3,9 @@
 --    up to the next place (`stands_here`, `one_on`).
 -- 2. The loop ends at the end of the body (`whole_kept`), where the rest is free (`free_kept`), or at the first fault
 --    (`first_here`).
--- 3. A body is tiled in one way (`only_one`). Every tiling goes on from each place that the cells reach (`goes_on`), so
---    there is no tiling if a check fails there (`none_after`).
+-- 3. A body is tiled in one way (`only_one`). If cells that are not free tile the body up to a place, every tiling of
+--    the body has cells that tile the bytes from this place on (`goes_on`). So if a check fails there, the body has no
+--    tiling (`none_after`).
 use Rattle.std.proofs.Common.{◌≡◌, ◌≤◌, ◌<◌, ℕ, ◌+◌, ◌-◌, ◌%◌, [], ◌∷◌, ◌++◌, ◌⊎◌, List, length, take, drop, map, refl, sym, ap, ◌∙◌, subst, arith}
 use Rattle.std.proofs.Common.{inl, inr, true, false, length-drop, length-append, Ok, Err, take-append-drop, length-take-le, take_all}
 use Rattle.fv_base.proofs.Laws.{common_steps, cases_lt, map_push, take-add, Which, AllAre, erased_byte, all_are, all_are-true}
@@ -43,7 +44,7 @@ module _ (s : FileSystem) (p : Polarity) (first : ℕ) (body : List ℕ) where
         eighth : (a b : ℕ) → a % 8 ≡ 0 → b ≡ a - at → b % 8 ≡ 0
         eighth a b h e = omega (arith, before.multiple, before.inside)
 
-    -- with one more cell, the cells tile the body up to its end
+    -- with the cell that begins at the place, the cells tile the body up to the end of this cell
     pub one_on : (c : CellForm) (len : ℕ) → CellStandsAt s p (first + at) c (drop at body) → len ≡ cell_len c
         → Upto (cs ++ c ∷ []) (at + len)
     one_on c len stands l =
@@ -111,7 +112,8 @@ rest_used e rest body at behind is = grind (arith, common_steps, some_left, leng
 
 -- ---- all tilings
 
--- every tiling of the body goes on from the place that the cells reach
+-- if cells that are not free tile the body up to a place before its end, every tiling of the body has cells that tile
+-- the bytes from this place on
 goes_on : (s : FileSystem) (p : Polarity) (first : ℕ) (body : List ℕ) (cs ds : List CellForm) (at : ℕ) → Tiles s p first cs (take at body)
     → NoneFree cs → at < length body
     → Tiles s p first ds body → (more : List CellForm) × Tiles s p (first + at) more (drop at body)
@@ -126,7 +128,7 @@ pub only_one : (s : FileSystem) (p : Polarity) (first : ℕ) (body : List ℕ) (
     → Tiles s p first ds body → ds ≡ cs
 only_one s p first body cs ds t t' = one_tiling s p (one_cell s p) (not_empty s p) first ds cs body t' t
 
--- if a check fails at a place that the cells reach, the body has no tiling
+-- if cells that are not free tile the body up to a place, and a check fails there, the body has no tiling
 pub none_after : (which : Which) (s : FileSystem) (p : Polarity) (first : ℕ) (body : List ℕ) (f : Fault) (ds : List CellForm)
     → CellFault which s p first body f → Tiles s p first ds body → ⊥
 none_after which s p first body f ds here t =

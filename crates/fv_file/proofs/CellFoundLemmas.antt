@@ -1,6 +1,6 @@
--- If the checks of a cell hold, the bytes begin with the cell that State and the header describe. A file lies within
--- the bytes with its filler, because their number is a multiple of 8. A header under construction or an invalid header
--- lies within them by its one check.
+-- If the checks of a cell hold, the bytes begin with the cell that State and the header describe. A file and its filler
+-- lie within the bytes, because the number of bytes is a multiple of 8. A header under construction or an invalid
+-- header lies within the bytes, because the only check of such a cell says so.
 use Rattle.std.proofs.Common.{◌≡◌, ◌≤◌, ◌<◌, ℕ, ◌+◌, ◌-◌, ◌*◌, ◌/◌, ◌%◌, List, length, take, drop, inl, inr, refl, sym, ap, ◌∙◌}
 use Rattle.std.proofs.Common.{subst, arith, Bool, true, false, length-drop}
 use Rattle.std.specs.Prelude.{◌==◌, ◌⊎◌, not, nat_le, slice_index, Option, None, Some, if◌then◌else◌}
@@ -93,7 +93,8 @@ stub_stands s p at r within state =
     eighth false = refl
     eighth true = refl
 
--- if the checks hold for the sort of a state that the bytes show, the bytes begin with a cell of this sort
+-- if the State byte shows a state, and the checks for the sort of this state hold, the bytes begin with a cell of this
+-- sort
 sort_stands : (s : FileSystem) (p : Polarity) (st : FileState) (at : ℕ) (r : List ℕ) → length r % 8 ≡ 0 → 24 ≤ length r
     → StateOf (slice_index r 23) p st → not (bits_of p (slice_index r 23) == 0) ≡ true
     → (k : StateSort) → StatesOf k st → AllHold (sort_checks k s (is_alive st) at r)

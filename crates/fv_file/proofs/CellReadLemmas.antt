@@ -1,6 +1,6 @@
--- If the bytes begin with a cell that is not free, every check of a cell holds, and this cell is read. Its State shows
--- a state of its sort. The header of a file is read again from its bytes, and a header under construction or an invalid
--- header has the length of its form.
+-- If the bytes begin with a cell that is not free, every check of a cell holds, and this cell is read. The State byte
+-- shows a state whose sort determines this kind of cell. The header of a file is read again from its bytes, and a
+-- header under construction or an invalid header has the length of its form.
 use Rattle.std.proofs.Common.{◌≡◌, ◌≤◌, ℕ, List, ◌++◌, length, inl, inr, refl, sym, ap, ◌∙◌, subst, arith, Bool, true, false}
 use Rattle.std.proofs.Common.{length-append, append_assoc}
 use Rattle.std.specs.Prelude.{◌==◌, ◌⊎◌, ◌≢◌, slice_index, Option, None, Some}
@@ -29,7 +29,7 @@ pub record CellIsRead (system : FileSystem) (polarity : Polarity) (at : ℕ) (c 
   pub checked : first_fault (cell_checks system polarity at r) ≡ None
   pub read : cell_in (state_of polarity (slice_index r 23)) at r ≡ c
 
--- if the bytes show a state of this sort, and the checks for it hold, the cell is read
+-- if the State byte shows a state of this sort, and the checks for the sort hold, the cell is read
 shown : (s : FileSystem) (p : Polarity) (at : ℕ) (c : CellForm) (r : List ℕ) (st : FileState) (k : StateSort) → 24 ≤ length r
     → StateOf (slice_index r 23) p st → sort_of st ≡ k → k ≢ sorts.Erased → AllHold (sort_checks k s (is_alive st) at r)
     → cell_of k at (head_in st r) (payload_at r) ≡ c → CellIsRead s p at c r

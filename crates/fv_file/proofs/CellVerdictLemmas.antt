@@ -1,7 +1,7 @@
--- The cell that is read at a place is the cell there, and no other. The verdict on the bytes is the verdict of the
--- checks of a cell, so a cell that is read begins there, and the fault is the fault of the first check that does not
--- hold. Every cell that begins there is read. So two cells at one place are equal, and if a check does not hold, no
--- cell begins there.
+-- The cell that is read at a place is the only cell that begins there. The verdict on the bytes is the verdict of the
+-- checks of a cell. So a cell that is read begins at its place, and a fault is the fault of the first check that does
+-- not hold. Conversely, every cell that begins at a place is read. So two cells at one place are equal, and if a check
+-- does not hold, no cell begins there.
 use Rattle.std.proofs.lemmas.Grind.{common_steps}
 use Rattle.std.proofs.Common.{◌≡◌, ℕ, ◌%◌, List, [], ◌++◌, length, refl, sym, ap, ◌∙◌}
 use Rattle.std.proofs.Common.{subst, arith, Bool, true, false, length-append, append-nil}

@@ -1,4 +1,4 @@
--- One byte that differs shows that bytes are not all the same.
+-- A byte that does not have the value e shows that not all bytes have the value e.
 use Rattle.std.proofs.Common.{◌≡◌, ℕ, ◌<◌, [], ◌∷◌, zero, suc, List, length, get_or, refl, sym, arith, Bool, true, false}
 use Rattle.fv_base.proofs.Laws.{AllAre, all_are, all-all_are, all_are-true}
 
@@ -7,7 +7,7 @@ all_at e [] i h l = absurd (omega arith)
 all_at e (a ∷ x) zero h l = h.0
 all_at e (a ∷ x) (suc i) h l = all_at e x i h.1 (omega arith)
 
--- if one byte differs, the test for all bytes is false
+-- if one byte does not have the value e, the test whether all bytes have it is false
 pub not_all : (e : ℕ) (x : List ℕ) (i : ℕ) → i < length x → (get_or x i 0 ≡ e → ⊥) → false ≡ all_are e x
 not_all e x i l differs = go (all_are e x) refl where
   go : (t : Bool) → all_are e x ≡ t → false ≡ all_are e x

@@ -114,7 +114,7 @@ file_at s p st at r long state (allowed, (header_within, (header_zero, (size_fit
 
 -- ---- from the file to the checks
 
--- the data of a valid file that is not a pad are sound
+-- if the state says that the file is valid, the file is a pad, or is sound (`IsSound`)
 abbrev pub HasContent : FileHead → List ℕ → Type 0
 HasContent head payload = is_alive head.state ≡ true → (head.kind ≡ pad_kind) ⊎ IsSound head payload
 

@@ -20,7 +20,7 @@ short_size : (large : Bool) (h : List ℕ) → large ≡ false → length h ≡ 
 short_size true h short whole bytes = cc
 short_size false h short whole bytes = field_below 20 3 h bytes (length-take-le 3 (drop 20 h) (omega (arith, whole, length-drop 20 h)))
 
--- the conditions that the fields and the data of a valid file in at most `limit` bytes meet
+-- the fields and the data of a valid file meet these conditions, if its cell has at most `limit` bytes
 pub record FileRead (system : FileSystem) (limit : ℕ) (head : FileHead) (content : List ℕ) : Type 0 where
   pub name : length (bytes_of head.name) ≡ 16
   pub name_bytes : IsBytes (bytes_of head.name)

@@ -8,15 +8,17 @@ pub use Rattle.fv_file.proofs.BodyLemmas.{only_one, none_after, all_within}
 pub use Rattle.fv_file.proofs.CellFaultLemmas.{body_within}
 -- A walk passes one cell after another. At the end they tile the body. The fault of the next cell is the first fault.
 pub use Rattle.fv_file.proofs.CellWalkLemmas.{one_passed, walk_begins, walked_on, walk_ends, walk_fails}
--- A body has one first fault, which is also a fault in the sense of `Any`.
+-- A body has at most one first fault, which is also a fault in the sense of `Any`.
 pub use Rattle.fv_file.proofs.OneFaultLemmas.{cell_fails, one_cell_fault}
+-- Cells tile a body, or it has a first fault.
+pub use Rattle.fv_file.proofs.DecidedLemmas.{body_decided}
 -- A cell has the length that follows from its fields. The header and the data of a file make up its size.
 pub use Rattle.fv_file.proofs.CellPartLemmas.{cell_span, made_up}
 -- There is at most one tiling. Cells that are not free, and one more cell, tile the joined bytes.
 pub use Rattle.fv_file.proofs.TilingLemmas.{OneCell, NotEmpty, one_tiling, one_more, none_more}
 -- There are at most as many cells as bytes.
 pub use Rattle.fv_file.proofs.TiledCellLemmas.{cells_few}
--- The data of a cell are the part of the volume after its header.
+-- The data of a file or pad are the bytes of the volume from the end of the file's header to the end of the file.
 pub use Rattle.fv_file.proofs.TiledCellLemmas.{IsPayloadIn, tiled_payloads, body_payloads}
 -- Each valid file in a tiling of bytes meets the conditions of `FileRead`.
 pub use Rattle.fv_file.proofs.TiledCellLemmas.{IsRead, tiles_read}
@@ -36,14 +38,14 @@ pub use Rattle.fv_file.proofs.NewHeaderLemmas.{with_large_is}
 pub use Rattle.fv_file.proofs.FileAttributeLemmas.{fixed_with, summed_with, alignment_with, with_large_small}
 -- ---- headers that are written
 
--- A written header is bytes, and has the length of its form.
+-- A written header is a list of bytes, and has the length of its form.
 pub use Rattle.fv_file.proofs.NewHeaderBytesLemmas.{state_small, bytes_header, length-header}
 -- Written headers are read again as their fields, and with data and filler they are files and pads.
 pub use Rattle.fv_file.proofs.NewHeaderLemmas.{complement_small, file_written, pad_written, head_of_file, head_of_pad}
 -- No other bytes are the header of these fields.
 pub use Rattle.fv_file.proofs.NewHeaderLemmas.{only_written, only_file, only_pad}
--- Cells tile a body, or it has a first fault.
-pub use Rattle.fv_file.proofs.DecidedLemmas.{body_decided}
+-- ---- the marks of fixed files
+
 -- Removing marks of fixed files does not change the number of bytes.
 pub use Rattle.fv_file.proofs.UnmarkLemmas.{length-unmarks}
 -- There is one way to remove all marks.

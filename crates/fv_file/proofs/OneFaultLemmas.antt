@@ -1,5 +1,5 @@
--- A body has one first fault of its cells, because a first fault is not before a place up to which cells tile the body
--- (`cell_later`). The first fault is also a fault in the sense of `Any` (`cell_fails`).
+-- A body has at most one first fault of its cells (`one_cell_fault`), because a first fault is not before a place up to
+-- which cells tile the body (`cell_later`). The first fault is also a fault in the sense of `Any` (`cell_fails`).
 use Rattle.std.proofs.Common.{◌≡◌, ◌<◌, ℕ, ◌+◌, ◌-◌, [], ◌∷◌, ◌++◌, List, length, take, drop, sym, ap, ◌∙◌, subst, arith, append_assoc}
 use Rattle.std.proofs.Common.{take-append-drop, length-take-le}
 use Rattle.fv_base.proofs.Laws.{common_steps, Any, First, IsFirstFault, any_fails, one_fault, same_place, some_between, take_past, up_is_not_down}
@@ -47,7 +47,7 @@ module _ (s : FileSystem) (p : Polarity) (first : ℕ) (body : List ℕ) where
           (sym (take-append-drop (y.at - x.at) (drop x.at body)) ∙ ap (λ (c : List ℕ). c ++ beyond) e ∙ append_assoc u w beyond)
           (λ yes_free. absurd (up_is_not_down (is_free c) yes_free free.0))
 
-  -- a body has one first fault of its cells
+  -- a body has at most one first fault of its cells
   pub one_cell_fault : (f g : Fault) → IsFirstCellFault s p first body f → IsFirstCellFault s p first body g → f ≡ g
   one_cell_fault f g x y =
       let at : x.at ≡ y.at = same_place x.at y.at (cell_later f g x y) (cell_later g f y x) in

@@ -1,5 +1,5 @@
 -- The sort of a state decides which checks a cell has, whether a file of this state is valid, and whether its header is
--- complete. The seven states are distinguished only in this module; all others distinguish the four sorts.
+-- complete. Most other modules distinguish only the four sorts, not the seven states.
 use Rattle.std.proofs.Common.{◌≡◌, ℕ, ◌⊎◌, List, inl, inr, refl, false, true, Some}
 use Rattle.fv_base.specs.declared.flash.FileSystem.{FileSystem}
 use Rattle.fv_file.specs.Words.{state_checks, is_alive}

@@ -1,8 +1,7 @@
--- The data of each cell in a tiling lie in the volume after its header, and each valid file in a tiling of bytes meets
--- the conditions of `FileRead`. The steps:
+-- The data of each file or pad in a tiling are the bytes of the volume from the end of the file's header to the end of
+-- the file (`IsPayloadIn`). Each valid file in a tiling of bytes meets the conditions of `FileRead`. The steps:
 -- 1. There are at most as many cells as bytes (`cells_few`).
--- 2. The data of a cell are the part of the volume after its header (`cell_payload`), for all cells of a tiling
---    (`tiled_payloads`).
+-- 2. `IsPayloadIn` is true of a cell (`cell_payload`), and so of all cells of a tiling (`tiled_payloads`).
 -- 3. In a tiling of bytes, each valid file meets the conditions of `FileRead` (`tiles_read`).
 use Rattle.std.proofs.Common.{◌≡◌, ◌≤◌, ◌+◌, ◌-◌, ℕ, [], ◌∷◌, ◌++◌, List, length, take, drop, refl, sym, ap, ◌∙◌, subst, arith, length-append}
 use Rattle.fv_base.proofs.Laws.{drop-drop, drop_at, AllByRecursion, IsBytes, up_to_8, bytes_back, bytes_front, field-append_front}
@@ -19,9 +18,9 @@ cells_few s p at [] b tiles = omega arith
 cells_few s p at (c ∷ cs) b (x, rest, text, is, o, free, more) =
     omega (arith, ap length text, length-append x rest, not_empty s p c x is, cells_few s p (at + length x) cs rest more)
 
--- ---- the data of a cell are the part of the volume after its header
+-- ---- the data of a file or pad in the volume
 
--- the data of a file or a pad are the bytes of the volume from the end of the header to the end of the size
+-- the data of a file or pad are the bytes of the volume from the end of the file's header to the end of the file
 abbrev pub IsPayloadIn : List ℕ → CellForm → Type 0
 IsPayloadIn volume (Valid at head payload) = payload ≡ take (head.size - head.header_len) (drop (at + head.header_len) volume)
 IsPayloadIn volume (Pad at head payload) = payload ≡ take (head.size - head.header_len) (drop (at + head.header_len) volume)
@@ -51,7 +50,7 @@ cell_payload s p (Dead place len state) x rest volume at e is o = tt
 cell_payload s p (Stub place len) x rest volume at e is o = tt
 cell_payload s p (Free place len) x rest volume at e is o = tt
 
--- the data of cells that tile a volume from the place `at` on lie in the volume after their headers
+-- if cells tile a volume from the offset `at` on, `IsPayloadIn` is true of each of them
 pub tiled_payloads : (s : FileSystem) (p : Polarity) (at : ℕ) (cs : List CellForm) (b volume : List ℕ) → drop at volume ≡ b
     → Tiles s p at cs b → AllByRecursion (IsPayloadIn volume) cs
 tiled_payloads s p at [] b volume e tiles = tt
@@ -63,7 +62,7 @@ tiled_payloads s p at (c ∷ cs) b volume e (x, rest, text, is, o, free, more) =
     drop_twice : (m n : ℕ) (l : List ℕ) → drop n (drop m l) ≡ drop (m + n) l
     drop_twice m n l = drop-drop n m l
 
--- the data of the cells of a body that begins at `first` lie in the volume after their headers
+-- if a body begins at the offset `first`, `IsPayloadIn` is true of each of its cells
 pub body_payloads : (s : FileSystem) (p : Polarity) (first : ℕ) (cs : List CellForm) (volume : List ℕ)
     → Tiles s p first cs (drop first volume) → AllByRecursion (IsPayloadIn volume) cs
 body_payloads s p first cs volume tiles = tiled_payloads s p first cs (drop first volume) volume refl tiles

@@ -1,5 +1,5 @@
 -- There is one way to remove the marks of all fixed files. The steps:
--- 1. If the fault of a cell is Fixed, its attributes lie within the bytes, and have the bit.
+-- 1. If the fault of a cell is Fixed, the cell's attributes lie within the bytes, and their bit 0x04 is set.
 -- 2. Without the mark, the file is no longer fixed, and the bytes before it are the same.
 -- 3. The marks are removed one after another, and cells tile the body up to each place.
 -- 4. There is one way to remove all marks (`one_unmarked`).
@@ -204,12 +204,12 @@ length-unmarks s p first (q ∷ qs) b o marks = length-unmarks s p first qs (unm
 abbrev pub NoneFixed : FileSystem → Polarity → ℕ → List ℕ → Type 0
 NoneFixed s p first b = (f : Fault) → IsFirstCellFault s p first b f → f.kind ≢ kinds.Fixed
 
--- a body that cells tile has no first fault Fixed
+-- a body that cells tile has no first fault, so no first fault of it is Fixed
 pub tiled_unfixed : (s : FileSystem) (p : Polarity) (first : ℕ) (b : List ℕ) (cs : List CellForm) → Tiles s p first cs b
     → NoneFixed s p first b
 tiled_unfixed s p first b cs tiles f here kind = none_after First s p first b f cs here tiles
 
--- a body whose first fault is not Fixed has no first fault Fixed
+-- a body has only one first fault: if it is not Fixed, no first fault of the body is Fixed
 pub fault_unfixed : (s : FileSystem) (p : Polarity) (first : ℕ) (b : List ℕ) (f : Fault) → IsFirstCellFault s p first b f
     → f.kind ≢ kinds.Fixed → NoneFixed s p first b
 fault_unfixed s p first b f here other g there kind =

@@ -25,8 +25,8 @@ use std::marker::Model;
 
 // Returns whether all bytes of `rest`, the part of the body that is left, are erased. Then `rest`
 // is a free cell, or no bytes are left. `all_are` is called only if fewer than 24 bytes are left or
-// `State` is erased. If one of these bytes is then not erased, `cell_at` rejects the body. So
-// `all_are` is called at most once in a walk over a body.
+// `State` is erased. Then the walk ends here: if all bytes of `rest` are erased, `rest` is a free
+// cell, and otherwise `cell_at` rejects the body. So a walk calls `all_are` at most once.
 pub(crate) fn is_free(rest: &[u8], polarity: Polarity) -> bool
     ensures { result ≡ all_are (erased_byte polarity) rest.now }
 {
@@ -75,6 +75,7 @@ fn file_cell(offset: u64, head: FileHead, payload: &[u8]) -> Cell<'_>
 
 // Returns the cell at the start of `rest`, or its first fault. `rest` is at the offset `at` of the
 // volume, and is not a free cell.
+#[inline(always)]
 pub(crate) fn cell_at<'a>(
     rest: &'a [u8],
     at: u64,
@@ -174,6 +175,7 @@ fn cell_count(body: &[u8], polarity: Polarity) -> usize
 
 // Returns the cell at the start of `rest`, or its first fault. `rest` is at the offset `at` of the
 // volume, and is not empty.
+#[inline(always)]
 fn first_cell<'a>(
     rest: &'a [u8],
     at: u64,
@@ -244,7 +246,8 @@ impl<'a> CellWalk<'a> {
         // If cells tile the part that is left, the result is the number of these cells.
         ensures cells { (cs : List CellForm) → TileLeft cs self.now → result ≡ length cs }
 
-        // In any case the result is at most the number of 24-byte headers that cover this part.
+        // In any case the result is at most the length of the part that is left, divided by 24 and
+        // rounded up.
         ensures most { 24 * result ≤ length self.now.rest + 23 }
     {
         cell_count(self.rest, self.polarity)
@@ -258,6 +261,7 @@ impl<'a> CellWalk<'a> {
     ///
     /// The fault of the next cell, which is checked in the order of `cells`. The walk stays before
     /// this cell.
+    #[inline(always)]
     pub fn next_cell(&mut self) -> Result<Option<Cell<'a>>, Fault>
         // The walk passes the returned cell, and no other bytes.
         ensures some { IfOk result (λ o. IfSome o (λ c. Walked self.old (cell_form c ∷ []) self.new)) }

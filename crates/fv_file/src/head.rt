@@ -177,6 +177,7 @@ fn checks_data(head: &FileHead) -> bool
 
 // Checks the file at the start of `rest`, which is at the offset `at` of the volume. Returns the
 // file's header, or its first fault.
+#[inline(always)]
 pub(crate) fn file_at(
     rest: &[u8],
     at: u64,

@@ -1,12 +1,13 @@
 -- A volume has at most one extended header, and its header check decides whether it has an extended header that is
 -- right. The steps:
 -- 1. All bytes split into some entries and a tail (`some_entries`), and only in one way (`one_entries`).
--- 2. Bytes with the right size are an extended header (`some_ext`), and only one (`one_ext`).
+-- 2. Bytes with the right size are an extended header (`some_ext`), and the same bytes are an extended header with at
+--    most one meaning (`one_ext`).
 -- 3. A volume has at most one extended header (`one_has_ext`). The check holds exactly if the volume has an extended
 --    header that is right, or ExtHeaderOffset is 0 (`some_has_ext`, `has_ext_holds`). Only the volume's own bytes
 --    decide this (`ext_same`).
--- 4. A reader takes the entries one by one (`more_entries`, `end_entries`), and the extended header that it has read is
---    the volume's (`read_there`).
+-- 4. A reader counts the entries (`entry_counted`, `entries_counted`) and takes them one by one (`more_entries`,
+--    `end_entries`), and the extended header that it has read is the volume's (`read_there`).
 use Rattle.std.proofs.Common.{◌≡◌, ◌≤◌, ◌<◌, ℕ, ◌+◌, ◌-◌, [], ◌∷◌, ◌++◌, rules, ◌==◌, ◌&&◌, ◌||◌, if◌then◌else◌, zero, suc, List, length, take, drop}
 use Rattle.std.proofs.Common.{refl, sym, ap, ◌∙◌, subst, arith, inl, inr, Bool, true, false, length-append, length-drop, append_assoc, append-nil}
 use Rattle.std.proofs.Common.{drop-drop, nat_le, Option, Some, None, take_at, drop_at, take-append-drop, length-take-le, take_all, leb-true, le-leb}
@@ -52,6 +53,12 @@ no_entry : (b head payload rest : List ℕ) → Begins b head payload rest → B
 no_entry b head payload rest is (inl short) = absurd (omega (arith, short, is.long))
 no_entry b head payload rest is (inr (inl low)) = absurd (omega (arith, low, is.size))
 no_entry b head payload rest is (inr (inr high)) = absurd (omega (arith, high, is.size, is.long))
+
+-- bytes begin with an entry if they begin with a size of at least 4 and are at least that long
+entry_there : (b : List ℕ) (n : ℕ) → n ≡ le_at 0 2 b → 4 ≤ n → n ≤ length b → BeginNoEntry b → ⊥
+entry_there b n size least within (inl short) = absurd (omega (arith, short, least, within))
+entry_there b n size least within (inr (inl low)) = absurd (omega (arith, low, size, least))
+entry_there b n size least within (inr (inr high)) = absurd (omega (arith, high, size, within))
 
 pair_is : (e f : ℕ × List ℕ) → e.0 ≡ f.0 → e.1 ≡ f.1 → e ≡ f
 pair_is e f p q = ap (λ (n : ℕ). (n, e.1)) p ∙ ap (λ (xs : List ℕ). (f.0, xs)) q
@@ -149,7 +156,7 @@ rest_of x b is =
     let third : drop 20 b ≡ is.rest = sym (drop-drop 4 16 b) ∙ ap (drop 4) second ∙ drop_at is.head is.rest 4 is.head_length in
     (sym first, sym third)
 
--- bytes are at most one extended header
+-- the same bytes are an extended header with at most one meaning
 pub one_ext : (x y : Extension) (b : List ℕ) → IsExt x b → IsExt y b → x ≡ y
 one_ext x y b is other =
     let first = rest_of x b is in
@@ -331,6 +338,37 @@ ext_same x e b c least within h long same = go x h where
       (p.first ∙ ap (λ (k : ℕ). up_to_8 (k + n)) (sym offset)) (subst (IsExt x) (sym part) p.is_ext)
 
 -- ---- reading
+
+-- if all bytes are some entries and a tail, the rest is the entries after the first `count` entries, and the same tail
+abbrev pub EntriesLeft : ℕ → List ℕ → List ℕ → Type 0
+EntriesLeft count bytes rest =
+    (es : List (ℕ × List ℕ)) (tail : List ℕ) → SplitsEntries es tail bytes
+    → (fs : List (ℕ × List ℕ)) × SplitsEntries fs tail rest × (count + length fs ≡ length es)
+
+-- the bytes after an entry are the further entries and the tail
+without_entry : (n : ℕ) (fs : List (ℕ × List ℕ)) (tail rest : List ℕ) → n ≡ le_at 0 2 rest → 4 ≤ n → n ≤ length rest → SplitsEntries fs tail rest
+    → (gs : List (ℕ × List ℕ)) × SplitsEntries gs tail (drop n rest) × (length fs ≡ 1 + length gs)
+without_entry n [] tail rest size least within (is, ended) = absurd (entry_there rest n size least within ended)
+without_entry n (f ∷ fs) tail rest size least within (head, payload, behind, text, four, sized, kind, kept, more) =
+    let begin = begins rest head payload behind text four sized in
+    (fs, subst (SplitsEntries fs tail) (begin.rest_is ∙ ap (λ (k : ℕ). drop k rest) (sym size)) more, omega arith)
+
+-- one more entry is counted, and the bytes after it are left
+pub entry_counted : (count n : ℕ) (bytes rest behind : List ℕ) → behind ≡ drop n rest → n ≡ le_at 0 2 rest → 4 ≤ n → n ≤ length rest
+    → EntriesLeft count bytes rest → EntriesLeft (count + 1) bytes behind
+entry_counted count n bytes rest behind back size least within sofar es tail split =
+    let left = sofar es tail split in
+    let next = without_entry n left.0 tail rest size least within left.1 in
+    (next.0, subst (SplitsEntries next.0 tail) (sym back) next.1, omega (arith, next.2, left.2))
+
+-- if the rest begins with no entry, all entries are counted
+pub entries_counted : (count : ℕ) (bytes rest : List ℕ) → EntriesLeft count bytes rest → BeginNoEntry rest
+    → (es : List (ℕ × List ℕ)) (tail : List ℕ) → SplitsEntries es tail bytes → count ≡ length es
+entries_counted count bytes rest sofar ended es tail split = none_left (sofar es tail split) where
+  none_left : (fs : List (ℕ × List ℕ)) × SplitsEntries fs tail rest × (count + length fs ≡ length es) → count ≡ length es
+  none_left ([], more, is) = omega (arith, is)
+  none_left (f ∷ fs, (head, payload, behind, text, four, sized, kind, kept, more), is) =
+      absurd (no_entry rest head payload behind (begins rest head payload behind text four sized) ended)
 
 -- an entry is read: it is added to the entries so far, and the entries of the rest complete them
 pub more_entries : (items new : List (ℕ × List ℕ)) (e : ℕ × List ℕ) (bytes rest behind entry : List ℕ) (n : ℕ) → new ≡ items ++ (e ∷ [])

@@ -4,7 +4,7 @@
 --    `verdict_extent`).
 -- 2. If the checks hold, the bytes begin with a volume that has the fields that are read (`front_found`).
 -- 3. If bytes begin with a volume, the checks hold, and the verdict is its extent (`front_only`).
--- 4. The header of this volume has no other fields (`front_fields`).
+-- 4. The fields of the volume's header have the values that are read at their offsets (`front_fields`).
 use Rattle.std.proofs.Common.{◌≡◌, ◌≤◌, ℕ, ◌+◌, ◌-◌, ◌%◌, [], ◌∷◌, ◌++◌, rules, ◌==◌, if◌then◌else◌, List, length, take, refl, sym, ap, ◌∙◌, subst}
 use Rattle.std.proofs.Common.{arith, true, false, nat_le, is_some, Option, None, Some, Ok, Err, slice_index, length-take-le, get_or-take, leb-true}
 use Rattle.fv_base.proofs.Laws.{le-leb, eqb-true, eq-eqb, common_steps, bytes_eq-Decides, bytes_eq, AllHold, outer_fault, header_limit, IsBytes, le}
@@ -226,7 +226,7 @@ pub fields_are : (z : List ℕ) (fs : FileSystem) (l a r : ℕ) (bs : List (ℕ 
     record { zero_vector = z; file_system = fs; length = l; attributes = a; reserved = r; blocks = bs; ext = x } in made)
 fields_are z fs l a r bs x h p q s t u v w = rw (← p, ← q, ← s, ← t, ← u, ← v, ← w) refl
 
--- the header of a volume has only the fields that are read from it
+-- the fields of a volume's header have the values that are read at their offsets
 pub front_fields : (b : List ℕ) (h : HeadFields) (e : Extent) → BeginsVolume h e b → h ≡ fields_of e.file_system h.ext b
 front_fields b h e f =
     let head = f.head in

@@ -1,12 +1,13 @@
--- A header is the bytes that are written for its fields, and the canonical head is the only canonical header of its
--- fields. The steps:
+-- A header is the bytes that are written for its fields. The bytes that `canonical_head` spells satisfy
+-- `IsCanonicalHead`, and no other bytes do. The steps:
 -- 1. The bytes that are written for the pairs of some bytes are these bytes (`pairs_bytes-pairs_of`).
 -- 2. A header is the bytes that are written for its fields, its checksum and its ExtHeaderOffset (`before_is`,
 --    `behind_is`, `patched_is`, `unpatched`).
 -- 3. With another ExtHeaderOffset, and the checksum that makes its sum 0, it is a header with the same fields
 --    (`patched_head`). There is one such checksum (`sum_patched`, `checksum_right`, `checksum_only`).
--- 4. So the canonical head is a canonical header (`canonical_is`), and the only one (`canonical_only`). With its
---    extended header in a pad file after it, it begins a volume with its fields (`canonical_front`).
+-- 4. So the bytes of `canonical_head` satisfy `IsCanonicalHead` (`canonical_is`), and no other bytes do
+--    (`canonical_only`). With the extended header in a pad file after them, they begin a volume with these fields
+--    (`canonical_front`).
 -- 5. The checksum is computed from a sum of words (`weight-words`, `words_added`, `checksum_from`).
 use Rattle.std.proofs.Common.{◌≡◌, ◌≤◌, ◌<◌, ℕ, ◌+◌, ◌-◌, ◌*◌, ◌%◌, [], ◌∷◌, ◌++◌, rules, List, length, take, drop, refl, sym, ap, ◌∙◌, subst, arith}
 use Rattle.std.proofs.Common.{false, length-append, length-drop, append_assoc, drop-drop, slice_index, sum, Bool, Option, None, Some}
@@ -260,7 +261,7 @@ canonical_offset_small : (h : HeadFields) (b : List ℕ) (x : Option Extension) 
 canonical_offset_small h b None head = omega arith
 canonical_offset_small h b (Some x) head = omega (arith, header_len_is h b head, head.most)
 
--- the canonical head is a canonical header of its fields
+-- the bytes of `canonical_head` are a header with these fields, and ExtHeaderOffset is right
 pub canonical_is : (h : HeadFields) → IsReadHead h → IsCanonicalHead h (canonical_head h)
 unfolding canonical_head
 canonical_is h (b, head) =
@@ -280,7 +281,7 @@ canonical_is h (b, head) =
       offset = ap (le_at 52 2) (sym same) ∙ patched_offset b checksum offset (canonical_offset_small h b h.ext head) long;
     }
 
--- no other header is a canonical header of these fields
+-- no other bytes are such a header
 pub canonical_only : (h : HeadFields) (b : List ℕ) → IsCanonicalHead h b → b ≡ canonical_head h
 unfolding canonical_head
 canonical_only h b canonical =

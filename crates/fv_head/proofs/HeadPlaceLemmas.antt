@@ -123,7 +123,7 @@ pub first_lies : (b : List ℕ) (h : HeadFields) (e : Extent) → BeginsVolume h
     → (e.first % 8 ≡ 0) × (e.first ≤ e.length) × (e.length % 8 ≡ 0)
 first_lies b h e f = search rules
 
--- bytes that begin with the same bytes as a volume begin with this volume
+-- if b begins with a volume, and c has the same first FvLength bytes, c begins with the same volume
 pub front_same : (b c : List ℕ) (h : HeadFields) (e : Extent) → BeginsVolume h e b → e.length ≤ length c → take e.length c ≡ take e.length b
     → BeginsVolume h e c
 front_same b c h e f long same =
@@ -140,5 +140,3 @@ front_same b c h e f long same =
       file_system = f.file_system;
       polarity = f.polarity;
     }
-
--- ---- whether there is an extended header

@@ -9,12 +9,12 @@ pub use Rattle.fv_head.proofs.HeadPlaceLemmas.{one_front, front_holds, front_ext
 pub use Rattle.fv_head.proofs.HeadPlaceLemmas.{Lies, front_lies, first_lies}
 -- The first fault of a header is within the bytes, or at their end, and is not OutOfMemory.
 pub use Rattle.fv_head.proofs.HeadFaultLemmas.{fault_within, fault_known}
--- Bytes are at most one extended header. An extended header that is written is read again as the same. Its greatest
--- length.
+-- The same bytes are an extended header with at most one meaning. An extended header that is written is read again as
+-- the same. An extended header has at most 65,535 bytes.
 pub use Rattle.fv_head.proofs.ExtLemmas.{one_ext}
 pub use Rattle.fv_head.proofs.ExtImageLemmas.{ext_again, ext_len_most}
--- The canonical head is a canonical header, and the only one of its fields. Its length, and the greatest length of a
--- header.
+-- The bytes that `canonical_head` spells satisfy `IsCanonicalHead`, and no other bytes do. Their number follows from the
+-- fields, and a header has at most 2112 bytes.
 pub use Rattle.fv_head.proofs.HeadImageLemmas.{canonical_is, canonical_only, length-canonical, header_len_is, header_len_most}
 -- The canonical head, with its extended header in a pad file after it, begins a volume with its fields.
 pub use Rattle.fv_head.proofs.HeadImageLemmas.{canonical_front}

@@ -72,7 +72,7 @@ HasExt (Some x) e b =
     × (e.first ≡ up_to_8 (length before + length part))
 
 -- the bytes begin with a volume that has this header and this extent: there are at least FvLength bytes, and the
--- extended header, if there is one, is where the volume header says
+-- extended header, if there is one, is where the volume header says. The body of the volume is not checked
 pub record BeginsVolume (h : HeadFields) (e : Extent) (b : List ℕ) : Type 0 where
   pub head : IsHead h (take e.header_len b)
   pub long_enough : e.header_len ≤ length b

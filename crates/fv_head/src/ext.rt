@@ -1,6 +1,6 @@
 //! The extended header of a volume: how it is kept in memory, and how it is read.
 
-ghost use Rattle.std.specs.Prelude.{◌≡◌, ◌≤◌, ℕ, List, drop, length, IfOk, IfErr, IfSome, IfNone};
+ghost use Rattle.std.specs.Prelude.{◌≡◌, ◌*◌, ◌≤◌, ℕ, List, drop, length, IfOk, IfErr, IfSome, IfNone};
 ghost use Rattle.fv_base.specs.Words.{out_of_memory, ext_limit, le_at};
 ghost use Rattle.fv_head.specs.Ext.{BeginNoEntry, SplitsEntries, IsExt, kept_payload, is_used_size};
 ghost use Rattle.fv_head.specs.HeadReads.{IsReadExt};
@@ -9,7 +9,7 @@ use crate::offsets::{
     EXT_ENTRY_HEADER_LEN, EXT_ENTRY_SIZE_OFFSET, EXT_ENTRY_TYPE_OFFSET, EXT_HEADER_LEN,
     FV_NAME_OFFSET,
 };
-use fv_base::field::u16_at;
+use fv_base::field::{bytes_from, u16_at};
 use fv_base::{Fault, Guid, guid_at};
 use std::alloc::Global;
 use std::marker::Model;
@@ -30,8 +30,8 @@ pub struct ExtEntry<'a> {
     bytes: &'a [u8],
 }
 
-// An entry has at least 4 bytes in the volume, and a value of this type has 16 bytes. So a list of
-// entries needs at most 4 times the length that the entries have in the volume.
+// An entry has at least 4 bytes in the volume, and a value of this type has 16 bytes. So the values
+// of a list take at most 4 times the length that the entries have in the volume.
 const _: () = prove!(size_of::<ExtEntry<'static>>() == 16);
 
 impl<'a> Model for ExtEntry<'a> {
@@ -149,13 +149,30 @@ fn entry_of(bytes: &[u8]) -> ExtEntry<'_>
     ExtEntry { bytes }
 }
 
+// Returns how many entries the bytes begin with, so that room for all of them is allocated at once.
+fn entry_count(bytes: &[u8]) -> usize
+    // If the bytes are some entries and a tail, the result is the number of these entries.
+    ensures count { (es : List (ℕ × List ℕ)) (tail : List ℕ) → SplitsEntries es tail bytes.now → result ≡ length es }
+
+    // In any case the result is at most the number of the bytes, divided by 4.
+    ensures most { 4 * result ≤ length bytes.now }
+{
+    let mut rest = bytes;
+    let mut count = 0;
+    while let Some(len) = entry_len(rest) {
+        rest = bytes_from(rest, len);
+        count += 1;
+    }
+    count
+}
+
 // Reads the entries that the bytes begin with. Returns the entries, and the tail, which is the
 // bytes after the last entry.
 fn entries_of(alloc: Global, bytes: &[u8]) -> Result<(Vec<ExtEntry<'_>>, &[u8]), Fault>
     ensures ok { IfOk result (λ r. SplitsEntries r.0.items r.1.now bytes.now) }
     ensures err { IfErr result (λ f. f ≡ out_of_memory) }
 {
-    let mut entries = Vec::new(alloc);
+    let mut entries = Vec::with_capacity(alloc, entry_count(bytes))?;
     let mut rest = bytes;
     while let Some(len) = entry_len(rest) {
         let (entry, after) = rest.split_at(len);

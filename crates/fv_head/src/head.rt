@@ -173,7 +173,7 @@ fn head_of<'a>(alloc: Global, bytes: &'a [u8], extent: &Extent) -> Result<Volume
 /// # Errors
 ///
 /// The first fault of the header, as for `verify_fv`. OutOfMemory at offset 0, but only if the
-/// bytes begin with a volume.
+/// bytes begin with a volume header.
 pub fn read_head(alloc: Global, bytes: &[u8]) -> Result<(VolumeHead<'_>, Extent), Fault>
     // The bytes begin with a volume that has this header and this extent.
     ensures found { IfOk result (λ r. BeginsVolume r.0 r.1 bytes.now) }
@@ -186,7 +186,7 @@ pub fn read_head(alloc: Global, bytes: &[u8]) -> Result<(VolumeHead<'_>, Extent)
     // An error other than OutOfMemory is the fault of the first check that does not hold.
     ensures first { IfErr result (OrMemory (IsFirstFault (head_checks bytes.now))) }
 
-    // OutOfMemory is returned only if the bytes begin with a volume.
+    // OutOfMemory is returned only if the bytes begin with a volume header.
     ensures memory { IfErr result (λ f. f ≡ out_of_memory → BeginsWithHeader bytes.now) }
 
     // The offset of an error is within the bytes or at their end.

@@ -50,6 +50,10 @@ leaf_depex name (Section kind extended (Leaf c)) b is =
 leaf_depex name (Section kind extended (Group ss tail)) b is = cc
 leaf_depex name (Section kind extended (Nested v)) b is = cc
 
+-- a file whose data are plain bytes has no expressions
+pub of_plain : (f : FileMeaning) (b : List ℕ) → content_of f ≡ Plain b → [] ≡ file_depexes f
+of_plain (File name kind attributes content) b is = ap (λ x. file_depexes (File name kind attributes x)) (sym is)
+
 pub of_file : (f : FileMeaning) (name : Guid) (ss : List SectionMeaning) → name ≡ file_name_of f
     → ss ≡ preorder (sections_in_data (content_of f)) → sections_depexes name ss ≡ file_depexes f
 of_file (File own kind attributes (Plain b)) name ss e is = ap (sections_depexes name) is

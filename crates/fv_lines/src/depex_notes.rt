@@ -11,7 +11,7 @@ use fv_base::{Guid, Sink};
 use fv_depex::{Phase, depex_fault};
 use fv_section::section_type::{DXE_DEPEX, MM_DEPEX, PEI_DEPEX};
 use fv_text::put_decimal;
-use fv_tree::{FileView, SectionView, SectionWalk, VolumeView};
+use fv_tree::{Content, FileView, SectionView, SectionWalk, VolumeView};
 
 /// The note on a rejected dependency expression.
 #[derive(Clone, Copy, Debug, PartialEq, Eq)]
@@ -78,7 +78,7 @@ fn put_leaf<S: Sink>(out: &mut S, name: Guid, kind: u8, bytes: &[u8])
 }
 
 // Puts the note on a section, if it is a dependency expression that is rejected.
-fn put_section<S: Sink>(out: &mut S, name: Guid, section: &SectionView<'_>)
+fn put_section<S: Sink>(out: &mut S, name: Guid, section: &SectionView<'_, '_>)
     ensures { PutsNotes S.takes (section_depex name section.now) out.old out.new }
 {
     if let Some(bytes) = section.leaf() {
@@ -90,9 +90,12 @@ fn put_section<S: Sink>(out: &mut S, name: Guid, section: &SectionView<'_>)
 fn put_file<S: Sink>(out: &mut S, file: &FileView<'_>)
     ensures { PutsNotes S.takes (file_depexes file.now) out.old out.new }
 {
+    if let Content::Plain(_) = file.content() {
+        return;
+    }
     let name = file.name();
     for section in SectionWalk::of(file) {
-        put_section(out, name, section);
+        put_section(out, name, &section);
     }
 }
 

@@ -101,7 +101,7 @@ fn put_leaf<S: Sink>(out: &mut S, kind: u8, body: &[u8])
 
 /// Puts the text that `list` shows for the body of a section. Puts nothing if the section is not a
 /// leaf.
-pub fn put_section_body<S: Sink>(out: &mut S, section: &SectionView<'_>)
+pub fn put_section_body<S: Sink>(out: &mut S, section: &SectionView<'_, '_>)
     ensures { (text : List ℕ) × BodyShown (section_kind_of section.now) (body_of section.now) text
         × S.takes out.old text out.new }
 {

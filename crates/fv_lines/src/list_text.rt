@@ -39,7 +39,7 @@ fn form_words(is_extended: bool) -> &'static [u8]
 // Puts the line of a section. `number` is its number in its stream.
 fn put_section_line<S: Sink>(
     out: &mut S,
-    section: &SectionView<'_>,
+    section: &SectionView<'_, '_>,
     number: u64,
     depth: usize,
     digest: Option<[u8; 32]>,
@@ -132,7 +132,7 @@ fn put_row<S: Sink>(out: &mut S, row: &Row<'_, '_>, digest: Option<[u8; 32]>)
     ensures { (text : List ℕ) × NodeText row.now.depth row.now.number (part_node row.now.part) digest text
         × S.takes out.old text out.new }
 {
-    match row.part {
+    match &row.part {
         Part::Volume(volume) => put_volume_line(out, volume, row.depth, digest),
         Part::File(file) => put_file_line(out, file, row.number, row.depth, digest),
         Part::Section(section) => put_section_line(out, section, row.number, row.depth, digest),

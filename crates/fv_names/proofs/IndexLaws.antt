@@ -21,7 +21,7 @@ use Rattle.fv_names.proofs.EntryOrderLaws.{before_too, less_orders, name_upto, n
 use Rattle.fv_names.proofs.EntryOrderLaws.{one_name_between}
 use Rattle.fv_names.proofs.NumberedLaws.{names_decide, numbered_are, numbers_are}
 
--- the file that is read past the end of the files; `no_entry` is read past the end of the entries
+-- the default file, which `get_or` returns for a place past the end of the files; `no_entry` is the default entry
 abbrev pub no_named : NamedFile
 no_named = record { name = record { bytes = [] }; marked = false }
 

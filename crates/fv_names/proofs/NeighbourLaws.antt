@@ -99,7 +99,7 @@ module _ (fs : List NamedFile) (es : List Entry) (index : IsIndex (names_in fs) 
       Decides-and (same_name (file p) (file q)) (beq (file p).marked (file q).marked) (one_name p q k l)
       (booleans_Decides (file p).marked (file q).marked)
 
-  -- ---- the first twin
+  -- ---- the first file with an earlier twin
 
   twin_since : (p q : ℕ) → p < q → q < length es → AreTwins fs d (at p) (at q)
       → list_any (is_twin (file q)) (take (at q).1 fs) ≡ true

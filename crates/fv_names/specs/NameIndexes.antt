@@ -53,7 +53,8 @@ pub record IsIndex (names : List Guid) (entries : List Entry) : Type 0 where
 abbrev pub entries_of : NameIndex → List Entry
 entries_of index = index.sorted.items
 
--- no two adjacent entries have the same name; `e` is the value of a read past the last entry
+-- no two adjacent entries have the same name. `e` is the default of `get_or`; both places are in the list, so it does
+-- not matter
 abbrev pub NeighboursDiffer : List Entry → Type 0
 NeighboursDiffer es =
     (e : Entry) (place : ℕ) → 0 < place → place < length es → (get_or es (place - 1) e).0 ≢ (get_or es place e).0

@@ -1,6 +1,6 @@
 //! An index of the names of a volume's files. It finds files with the same name and mark (twins), and
 //! superseded files. The order of the names, which takes less memory, finds the file with a name.
-//! Only `NameIndex::of` and `NameOrder::of` take memory.
+//! Only `NameIndex::of`, `NameIndex::refill` and `NameOrder::of` take memory.
 #![tactic(auto)]
 
 mod name_index;

@@ -1,6 +1,6 @@
 //! The index of the names of some files.
 
-ghost use Rattle.std.specs.Prelude.{◌≡◌, ◌<◌, ◌≤◌, ◌^◌, List, length, map, take, get_or, true, IsSorted, IsTrue, IfOk};
+ghost use Rattle.std.specs.Prelude.{◌≡◌, ◌<◌, ◌≤◌, ◌^◌, List, length, map, take, get_or, true, IsSorted, IsTrue, IfOk, OnOk};
 ghost use Rattle.std.specs.Prelude.{IfErr};
 ghost use Rattle.std.specs.List.{list_any};
 ghost use Rattle.fv_base.specs.Words.{out_of_memory};
@@ -80,13 +80,37 @@ impl NameIndex {
         ensures err { IfErr result (λ f. f ≡ out_of_memory) }
         ensures some { IfErr result (λ _. 0 < length files.now) }
     {
-        let mut sorted = Vec::with_capacity(alloc, files.len())?;
+        let sorted = Vec::with_capacity(alloc, files.len())?;
+        let mut index = NameIndex { sorted };
+        index.refill(files)?;
+        Ok(index)
+    }
+
+    /// Makes this index the index of these files, in place of the files that it was built from. Takes
+    /// no new memory if there are at most as many files as before. There must be fewer than 2 ^ 32
+    /// files.
+    ///
+    /// # Errors
+    ///
+    /// OutOfMemory at 0, only if there is a file.
+    pub fn refill<F: Named>(&mut self, files: &[F]) -> Result<(), Fault>
+        requires { length files.now < 2 ^ 32 }
+
+        // The entries are the files' names, each with the number of its file, sorted by name and
+        // then by number.
+        ensures found { OnOk result (IsIndex (names_in (map F.named files.now)) (entries_of self.new)) }
+
+        // The only error is OutOfMemory, and only if there is a file.
+        ensures err { IfErr result (λ f. f ≡ out_of_memory) }
+        ensures some { IfErr result (λ _. 0 < length files.now) }
+    {
+        self.sorted.clear();
         for file in files {
-            let number = sorted.len() as u32;
-            sorted.push((halves(file.name()), number))?;
+            let number = self.sorted.len() as u32;
+            self.sorted.push((halves(file.name()), number))?;
         }
-        sorted.sort_unstable();
-        Ok(NameIndex { sorted })
+        self.sorted.sort_unstable();
+        Ok(())
     }
 
     /// Returns the number of entries, which is the number of files.
@@ -119,10 +143,11 @@ impl NameIndex {
         true
     }
 
-    // Returns whether one of the two entries preceding the entry at a place is its twin. This is
-    // enough for `first_twin`: if all twins of the entry are further back, the two preceding
-    // entries have the name of this entry, but not its mark. So these two are twins of each other,
-    // and the later of them has a lower number than this entry.
+    // Returns whether one of the two entries preceding the entry at a place is its twin. For
+    // `first_twin` this is enough. If an entry further back is a twin, and these two are not, both
+    // have the name of this entry, because the entries are sorted by name, and both have the other
+    // mark. So they are twins of each other. The later of them has a lower number than this entry,
+    // so the file of this entry is not the first that has an earlier twin.
     pub(crate) fn has_twin<F: Named>(&self, files: &[F], place: usize) -> bool
         requires index { IsIndex (names_in (map F.named files.now)) (entries_of self.now) }
         requires first { 0 < place }

@@ -1,5 +1,5 @@
--- Trying decides whether the files of a volume can be placed, so they have a first placement, or a reason why they have
--- none. The steps:
+-- Trying all possible starts decides whether the files of a volume can be placed, so they have a first placement, or a
+-- reason why they have none. The steps:
 -- 1. Statements that are made of decided statements are decided (`both`, `either`, `not_so`), and so is whether a file
 --    can begin at a start (`stands_dec`).
 -- 2. Among the numbers below a limit, there is a least one for which a decided statement is true, or none (`least_of`).

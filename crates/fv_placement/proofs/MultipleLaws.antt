@@ -1,7 +1,7 @@
 -- Laws of the multiples of an alignment, and of edges, which are multiples of 8:
 -- 1. Two different multiples of a number are at least this number apart, so there is none between a multiple and the
 --    next.
--- 2. The multiples of the widened alignment are the common multiples of 8 and of the alignment.
+-- 2. The multiples of the step (the alignment, but at least 8) are the common multiples of 8 and of the alignment.
 -- 3. Sums and differences of multiples of 8 are multiples of 8.
 -- 4. An edge is the next multiple of 8.
 use Rattle.std.proofs.Common.{◌≡◌, ℕ, ◌+◌, ◌-◌, ◌*◌, ◌/◌, ◌%◌, ◌^◌, ◌<◌, ◌≤◌, inl, inr, sym, ◌∙◌, ap, subst, arith}
@@ -30,7 +30,7 @@ multiples_apart a x y h p q l =
 pub none_between : (a d y : ℕ) → 0 < a → d % a ≡ 0 → y % a ≡ 0 → y < d + a → y ≤ d
 none_between a d y h p q near = grind (arith, common_steps, cases_lt, multiples_apart)
 
--- ---- 2. the widened alignment
+-- ---- 2. the step
 
 -- a multiple of a power of two is a multiple of each smaller power of two
 coarser : (d k x : ℕ) → x % 2 ^ (d + k) ≡ 0 → x % 2 ^ k ≡ 0

@@ -1,9 +1,9 @@
 -- Files have at most one first placement, which is found start by start. The steps:
--- 1. If each start is the least with which a placement of its file and the files after it begins, the starts are the
+-- 1. If each start is the least start that begins a placement of its file and the files after it, the starts are the
 --    first placement.
--- 2. The least starts are such starts, if they are a placement.
+-- 2. If the least starts are a placement, they meet this condition.
 -- 3. Two first placements are equal.
--- 4. Placing each file in turn at its first start gives such starts.
+-- 4. If each file in turn is placed at its first start, the starts meet this condition.
 -- 5. If a volume top file cannot begin at its only possible start, there is no placement.
 use Rattle.std.proofs.Common.{◌≡◌, ℕ, ◌+◌, ◌-◌, ◌%◌, ◌<◌, ◌≤◌, [], ◌∷◌, ◌++◌, inl, inr, refl, sym, ◌∙◌, ap, subst, arith, List, Bool, true, false}
 use Rattle.std.proofs.Common.{append_assoc, append-nil, length, get_or, take, drop, zero, suc, add-one, IsTrue, MatchBool, take_all}

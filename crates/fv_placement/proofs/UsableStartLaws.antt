@@ -1,9 +1,11 @@
--- Usable starts are searched among the lawful starts, which are a step of the widened alignment apart: up from the
--- least, and down from the greatest. The steps:
--- 1. At a lawful start the data are at a multiple of the step, so two lawful starts are at least a step apart.
+-- Usable starts are searched among the aligned starts, up from the least and down from the greatest. An aligned start
+-- is a multiple of 8 at which the file's data are aligned. Neighbouring aligned starts are one step apart: the alignment
+-- of the data, but at least 8 (`widened`). The steps:
+-- 1. At an aligned start the data are at a multiple of the step, so two aligned starts are at least a step apart.
 -- 2. Upwards: the least start that leaves room for a pad is lawful, and if it is not usable, a usable one is at least a
 --    step after it.
--- 3. Downwards: if the greatest lawful start is not usable, the next lower one is.
+-- 3. Downwards: if the greatest aligned start with which the file ends at most at the greatest usable edge is not
+--    usable, the next lower aligned start is.
 use Rattle.std.proofs.Common.{◌≡◌, ℕ, ◌+◌, ◌-◌, ◌%◌, ◌<◌, ◌≤◌, inl, inr, sym, ◌∙◌, ap, subst, arith, Bool, true, false, IsTrue}
 use Rattle.fv_base.proofs.Laws.{common_steps, up_to_8, cases_lt}
 use Rattle.std.proofs.Math.Nat.{mod_self, mod-eq-sub-mod}
@@ -97,7 +99,7 @@ below_missed total f r a d t w h m l most not v =
     let most_data : t + f.header ≤ d = data_most total f r a d t w h most v in
     before_missed total f r a (d - f.header) t w h (data_back d f.header a l m) not v (omega (arith, most_data))
 
--- s is the greatest lawful start with which the file ends at most at the greatest usable edge. If s is not usable, the
+-- s is the greatest aligned start with which the file ends at most at the greatest usable edge. If s is not usable, the
 -- file ends 8 or 16 bytes below this edge. So the step is not 8, and the file ends at least 24 bytes below the edge if
 -- it begins a step before s.
 pub second_serves : (total : ℕ) (f : PlacementItem) (r : Reach) (a s : ℕ) → Widens a f.alignment → f.header % 8 ≡ 0

@@ -34,6 +34,7 @@ use crate::usable_start::{first_start, greatest_start};
 use fv_base::Fault;
 use fv_base::field::up_to_8;
 use std::alloc::Global;
+use std::mem::size_of;
 
 /// The properties of a file on which its placement depends. (PI specification, volume 3, section
 /// 3.2.3.1.)
@@ -44,10 +45,14 @@ pub struct PlacementItem {
     /// The size of the file with its header, in bytes.
     pub size: u64,
     /// The alignment of the file's data, in bytes.
-    pub alignment: u64,
+    pub alignment: u32,
     /// Whether the file is the volume top file. (Section 3.2.1.3.)
     pub top: bool,
 }
+
+// A file takes at least 24 bytes of a volume, and a value of this type takes 24. So a list of the
+// items takes at most the length of the volume.
+const _: () = prove!(size_of::<PlacementItem>() == 24);
 
 /// Returns the first placement of the files in a volume of `total` bytes with the first edge
 /// `first`: the start of each file, in bytes from the volume's start. Returns None if the files
@@ -164,8 +169,9 @@ fn find_reaches(total: u64, items: &[PlacementItem], reaches: &mut [Reach]) -> b
     true
 }
 
-// Returns the reach of a file together with the files after it, which have the reach `after`.
-// Returns None if the file has no usable start.
+// Returns the reach of a file together with the files after it, which have the reach `after`. A
+// file may begin at the edge itself, so the greatest usable edge is the greatest usable start of
+// the file. Returns None if the file has no usable start.
 fn reach_from(total: u64, item: &PlacementItem, after: Reach) -> Option<Reach>
     requires total { (total ≤ volume_limit) × (total % 8 ≡ 0) }
     requires item { IsLawfulItem total item.now }
@@ -202,7 +208,7 @@ fn is_misaligned(total: u64, item: &PlacementItem) -> bool
     ensures { IsTrue result ↔ IsMisaligned total item.now }
 {
     let start = total - item.size;
-    (start + item.header) % item.alignment != 0 || start % 8 != 0
+    (start + item.header) % u64::from(item.alignment) != 0 || start % 8 != 0
 }
 
 /// Returns whether there is a volume top file that cannot begin at its only possible start: the

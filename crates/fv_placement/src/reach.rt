@@ -3,11 +3,10 @@
 //! A file begins at the preceding edge, or at least 24 bytes after it, because the smallest pad has
 //! 24 bytes. If `greatest` is the greatest usable edge, every edge at least 24 bytes below it is
 //! usable too, because a pad fills the gap. Edges are multiples of 8, so only the edges 8 and 16
-//! bytes below `greatest` are left. After such an edge, a start that leaves room for a pad is above
-//! `greatest`. The files cannot be placed with the first of them there, because this start would
-//! then be a usable edge above `greatest`. So each of these two edges is usable only if the first
-//! file can begin at the edge itself. So one number and two truth values determine which edges are
-//! usable.
+//! bytes below `greatest` are left. A start that leaves room for a pad after such an edge is above
+//! `greatest`. The first file cannot begin at that start: otherwise the start itself would be a
+//! usable edge above `greatest`. So each of these two edges is usable only if the first file can
+//! begin at the edge itself. So one number and two truth values determine which edges are usable.
 
 ghost use Rattle.std.specs.Prelude.{◌≡◌, ◌%◌, ◌^◌, ◌<◌, ◌≤◌, ◌↔◌, IsTrue, List, []};
 ghost use Rattle.fv_base.specs.Words.{volume_limit};
@@ -63,7 +62,7 @@ pub(crate) fn is_usable_start(total: u64, item: &PlacementItem, after: Reach, st
     ensures { IsTrue result ↔ IsUsableStart total item.now after start }
 {
     start % 8 == 0
-        && (start + item.header) % item.alignment == 0
+        && (start + item.header) % u64::from(item.alignment) == 0
         && (!item.top || start + item.size == total)
         && is_usable_edge(after, up_to_8(start + item.size))
 }

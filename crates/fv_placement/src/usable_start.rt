@@ -40,13 +40,17 @@ fn round_up(x: u64, alignment: u64) -> u64
     round_down(x + (alignment - 1), alignment)
 }
 
-// Returns the step between lawful starts: the alignment of the data, but at least 8.
+// Returns the step between aligned starts: the alignment of the data, but at least 8.
 #[tactic(auto, using(crate::proofs::MultipleLaws::widens_8, crate::proofs::MultipleLaws::widens_self))]
-fn widened(alignment: u64) -> u64
+fn widened(alignment: u32) -> u64
     requires { IsAlignment alignment }
     ensures { Widens result alignment }
 {
-    if alignment < 8 { 8 } else { alignment }
+    if alignment < 8 {
+        8
+    } else {
+        u64::from(alignment)
+    }
 }
 
 // Returns the first usable start at or after `edge`, if there is one: `edge` itself, or a start

@@ -5,9 +5,8 @@ use Rattle.fv_tree.specs.Words.{Meaning, Volume, FileMeanings, NoFiles, MoreFile
 use Rattle.fv_tree.specs.Words.{SectionMeanings, NoSections, MoreSections, SectionMeaning, Section, BodyMeaning, Leaf, Group, Nested}
 use Rattle.fv_tree.specs.Words.{Inside, deeper, volumes_in, volumes_in_files, volumes_in_file, volumes_in_content, volumes_in_sections}
 use Rattle.fv_tree.specs.Words.{volumes_in_section, volumes_in_body, body_of, content_of}
-use Rattle.fv_rows.specs.TreeRows.{FileNode, SectionNode, TreeRow, rows_of_volume, rows_of_files, rows_of_file, rows_in_content, rows_of_sections, rows_of_section}
-use Rattle.fv_rows.specs.TreeRows.{rows_in_body, tree_rows}
-use Rattle.fv_rows.specs.RowWalks.{rows_inside}
+use Rattle.fv_rows.specs.Words.{FileNode, SectionNode, TreeRow, rows_of_volume, rows_of_files, rows_of_file, rows_in_content, rows_of_sections, rows_of_section}
+use Rattle.fv_rows.specs.Words.{rows_in_body, tree_rows, rows_inside}
 use Rattle.fv_rows.specs.inner.RowVolumes.{Followed, deeper_by, volumes_of}
 
 -- ---- the rows that follow a row

@@ -1,9 +1,10 @@
--- The walk over the parts of a volume. The steps:
+-- A walk over the parts of a volume returns the rows of its meaning, and has room for its levels. The steps:
 -- 1. The rows of a list of parts are the rows of each part, one after the other (`files_rows`, `sections_rows`,
 --    `inside_rows`).
 -- 2. The parts in a part nest only as deep as their level allows (`inside_nests`).
 -- 3. The innermost level is split from the others (`left_more`, `levels_more`, `levels_less`).
--- 4. An empty level is dropped (`none_left`), and the walk takes the next row (`next_left`, `next_are`).
+-- 4. An empty level is dropped (`none_left`), and the walk takes the next row (`next_fits`, `next_left`, `next_are`). A
+--    part without contents adds no level (`leaf_left`, `leaf_are`).
 use Rattle.std.proofs.Common.{◌≡◌, ◌≤◌, ◌<◌, ◌+◌, ◌*◌, ◌^◌, ℕ, [], ◌∷◌, ◌++◌, ◌∙◌, List, length, refl, sym, ap, subst, append-nil, append_assoc}
 use Rattle.fv_base.proofs.Laws.{arith, length-append, map, length-map, AllByRecursion}
 use Rattle.fv_section.specs.Words.{FrameForm}
@@ -11,10 +12,11 @@ use Rattle.fv_tree.specs.Words.{FileForm, MeansFile, MeansSection, Stream, Meani
 use Rattle.fv_tree.specs.Words.{Plain, Sectioned, SectionMeanings, NoSections, MoreSections, SectionMeaning, Section, Leaf, Group, Nested, files_list}
 use Rattle.fv_tree.specs.Words.{sections_from, sections_list}
 use Rattle.fv_tree.proofs.Laws.{nests_files, nests_content, nests_sections, nests_body, nests_group, nests_nested}
-use Rattle.fv_rows.specs.TreeRows.{NodeMeaning, VolumeNode, FileNode, SectionNode, rows_of_file, rows_of_files, rows_of_section, rows_of_sections}
-use Rattle.fv_rows.specs.TreeRows.{rows_of_volume, parts_in}
-use Rattle.fv_rows.specs.RowWalks.{nodes_of, nesting_inside, rows_inside, rows_of_nodes, left_in, NestsAt, FitsAt, AreLevels}
+use Rattle.fv_rows.specs.Words.{NodeMeaning, VolumeNode, FileNode, SectionNode, rows_of_file, rows_of_files, rows_of_section, rows_of_sections}
+use Rattle.fv_rows.specs.Words.{rows_of_volume, parts_in, nodes_of, nesting_inside, rows_inside, rows_of_nodes, left_in, NestsAt}
+use Rattle.fv_rows.specs.Words.{FitsAt, AreLevels}
 use Rattle.fv_rows.specs.declared.tree_walk.Level.{Level}
+use Rattle.fv_rows.specs.declared.tree_walk.Parts.TheVariants as helds
 
 -- ---- the rows of a list of parts
 
@@ -169,6 +171,24 @@ module _ (levels : List Level) (l : Level) (node : NodeMeaning) (nodes : List No
           omega (arith, below, nesting_small (length levels) l.nesting node apart.3),
         )
 
+  -- a part without contents is the next row, and no level is added
+  module _ (rest : Level) (number : rest.number ≡ l.number + 1) (same : rest.nesting ≡ l.nesting) (others : nodes_of rest.parts ≡ nodes)
+      (none : parts_in node ≡ []) where
+    abbrev empty : Level
+    empty = record { number = 0; nesting = nesting_inside l.nesting node; parts = helds.Nothing }
+
+    pub leaf_left : left_in 0 (levels ++ l ∷ [])
+        ≡ record { depth = length levels; nesting = l.nesting; number = l.number; node = node } ∷ left_in 0 (levels ++ rest ∷ [])
+    leaf_left =
+        next_left rest empty number same others refl refl (sym none)
+        ∙ ap (λ rows. record { depth = length levels; nesting = l.nesting; number = l.number; node = node } ∷ rows)
+        (none_left (levels ++ rest ∷ []) empty refl)
+
+    pub leaf_are : AreLevels 0 (levels ++ rest ∷ [])
+    leaf_are =
+        (levels_less 0 (length (levels ++ rest ∷ [])) (levels ++ rest ∷ []) empty (omega arith)
+        (next_are rest empty number same others refl refl (sym none) (omega arith))).0
+
 -- ---- a walk over the contents of a part
 
 nests_less : (depth : ℕ) (node : NodeMeaning) → NestsAt (depth + 1) node → NestsAt depth node
@@ -180,18 +200,6 @@ nest_less : (depth : ℕ) (nodes : List NodeMeaning) → AllByRecursion (NestsAt
 nest_less depth [] nest = tt
 nest_less depth (node ∷ nodes) (here, more) = (nests_less depth node here, nest_less depth nodes more)
 
--- if a part nests within the limit, its contents are all that is left at first
-pub inside_begun : (node : NodeMeaning) (l : Level) → NestsAt 0 node → nodes_of l.parts ≡ parts_in node → l.number ≡ 0 → l.nesting ≡ 0
-    → length (nodes_of l.parts) < 2 ^ 63 → (left_in 0 (l ∷ []) ≡ rows_inside 0 0 node) × AreLevels 0 (l ∷ [])
-inside_begun node l nests is first none few = (
-  ap (rows_of_nodes 0 l.nesting l.number) is ∙ ap (λ k. rows_of_nodes 0 l.nesting k (parts_in node)) first
-      ∙ ap (λ k. rows_of_nodes 0 k 0 (parts_in node)) none ∙ sym (inside_rows 0 0 node),
-  (
-    (
-      subst (AllByRecursion (NestsAt 0)) (sym is) (nest_less 0 (parts_in node) (inside_nests 0 node nests)),
-      omega (arith, first, few),
-      omega (arith, none),
-    ),
-    tt,
-  ),
-)
+-- the contents of a part nest within the limit if the part does
+pub inside_nest : (node : NodeMeaning) → NestsAt 0 node → AllByRecursion (NestsAt 0) (parts_in node)
+inside_nest node nests = nest_less 0 (parts_in node) (inside_nests 0 node nests)

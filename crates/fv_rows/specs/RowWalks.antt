@@ -17,7 +17,7 @@ use Rattle.fv_rows.specs.declared.tree_walk.Row.{Row}
 abbrev pub part_node : Part → NodeMeaning
 part_node (kinds.Volume v) = VolumeNode v.now
 part_node (kinds.File f) = FileNode f.now
-part_node (kinds.Section s) = SectionNode s.now
+part_node (kinds.Section s) = SectionNode s
 
 -- the row, with the meaning of its part
 abbrev pub row_of : Row → TreeRow
@@ -28,7 +28,7 @@ abbrev pub nodes_of : Parts → List NodeMeaning
 nodes_of helds.Nothing = []
 nodes_of (helds.Volume v) = VolumeNode v.now ∷ []
 nodes_of (helds.Files fs) = map FileNode fs.now
-nodes_of (helds.Sections ss) = map SectionNode ss.now
+nodes_of (helds.Sections ss) = map SectionNode ss.0
 
 -- the number of sections around the contents of a part that has this number of sections around it
 abbrev pub nesting_inside : ℕ → NodeMeaning → ℕ

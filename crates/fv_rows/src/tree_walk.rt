@@ -3,25 +3,27 @@
 ghost use Rattle.std.specs.Prelude.{◌≡◌, ◌<◌, ◌^◌, [], ◌∷◌, length, IfSome, IfNone};
 ghost use Rattle.std.specs.Iterator.{YieldsFirstBy, item_count};
 ghost use Rattle.fv_rows.specs.TreeRows.{parts_in, tree_rows};
-ghost use Rattle.fv_rows.specs.RowWalks.{part_node, nesting_inside, nodes_of, row_of, rows_inside, NestsAt};
+ghost use Rattle.fv_rows.specs.RowWalks.{part_node, nesting_inside, nodes_of, row_of, rows_inside, rows_of_nodes, NestsAt};
+ghost use Rattle.std.specs.List.{AllByRecursion};
 
-use fv_base::Stack;
-use fv_tree::{Body, FileView, SectionView, VolumeView};
+use arrayvec::ArrayVec;
+use fv_tree::{Body, Content, FileView, SectionView, Sections, VolumeView};
 use std::marker::Model;
+use std::mem::replace;
 
 /// A part of a volume: a volume, a file or a section.
-#[derive(Clone, Copy)]
+#[derive(Drop)]
 pub enum Part<'v, 'a> {
     /// A volume.
     Volume(&'v VolumeView<'a>),
     /// A file.
     File(&'v FileView<'a>),
     /// A section.
-    Section(&'v SectionView<'a>),
+    Section(SectionView<'v, 'a>),
 }
 
 /// A part of a volume, with its place in the tree of the parts.
-#[derive(Clone, Copy)]
+#[derive(Drop)]
 pub struct Row<'v, 'a> {
     /// The number of parts around this part.
     pub depth: usize,
@@ -33,46 +35,53 @@ pub struct Row<'v, 'a> {
     pub part: Part<'v, 'a>,
 }
 
-// Some of the parts that one part contains.
-#[derive(Clone, Copy)]
+// The contents of one part that a walk has not returned yet.
+#[derive(Default, Drop)]
 enum Parts<'v, 'a> {
+    #[default]
     Nothing,
     Volume(&'v VolumeView<'a>),
     Files(&'v [FileView<'a>]),
-    Sections(&'v [SectionView<'a>]),
+    Sections(Sections<'v, 'a>),
 }
 
 // The parts that are left at one depth, the number of the first of them, and the number of sections
 // around them.
-#[derive(Clone, Copy)]
+#[derive(Default, Drop)]
 struct Level<'v, 'a> {
     number: u64,
     nesting: u8,
     parts: Parts<'v, 'a>,
 }
 
-// Returns the first part and the parts after it, or None if there is no part.
-fn split<'v, 'a>(parts: Parts<'v, 'a>) -> Option<(Part<'v, 'a>, Parts<'v, 'a>)>
-    ensures some { IfSome result (λ p. nodes_of parts.entry ≡ part_node p.0 ∷ nodes_of p.1) }
-    ensures none { IfNone result (nodes_of parts.entry ≡ []) }
+// Returns the first of some parts, and leaves the others; returns None if there is no part.
+#[inline(always)]
+fn next_part<'v, 'a>(parts: &mut Parts<'v, 'a>) -> Option<Part<'v, 'a>>
+    ensures some { IfSome result (λ p. nodes_of parts.old ≡ part_node p ∷ nodes_of parts.new) }
+    ensures none { IfNone result (nodes_of parts.old ≡ []) }
 {
     match parts {
         Parts::Nothing => None,
-        Parts::Volume(volume) => Some((Part::Volume(volume), Parts::Nothing)),
+        Parts::Volume(volume) => {
+            let first = *volume;
+            *parts = Parts::Nothing;
+            Some(Part::Volume(first))
+        }
         Parts::Files(files) => {
-            let (first, rest) = files.split_first()?;
-            Some((Part::File(first), Parts::Files(rest)))
+            let first = files.split_off_first()?;
+            Some(Part::File(first))
         }
         Parts::Sections(sections) => {
-            let (first, rest) = sections.split_first()?;
-            Some((Part::Section(first), Parts::Sections(rest)))
+            let first = sections.next_section()?;
+            Some(Part::Section(first))
         }
     }
 }
 
 // Returns the parts that a part contains.
-fn parts_in<'v, 'a>(part: Part<'v, 'a>) -> Parts<'v, 'a>
-    ensures nodes { nodes_of result ≡ parts_in (part_node part.entry) }
+#[inline(always)]
+fn parts_in<'v, 'a>(part: &Part<'v, 'a>) -> Parts<'v, 'a>
+    ensures nodes { nodes_of result ≡ parts_in (part_node part.now) }
     ensures few { length (nodes_of result) < 2 ^ 63 }
 {
     match part {
@@ -80,22 +89,28 @@ fn parts_in<'v, 'a>(part: Part<'v, 'a>) -> Parts<'v, 'a>
             let files = volume.files();
             Parts::Files(files)
         }
-        Part::File(file) => {
-            let sections = file.sections();
-            Parts::Sections(sections)
-        }
+        Part::File(file) => match file.content() {
+            Content::Plain(_) => Parts::Nothing,
+            Content::Stream(sections) => {
+                sections.known();
+                Parts::Sections(sections)
+            }
+        },
         Part::Section(section) => match section.body() {
             Body::Leaf(_) => Parts::Nothing,
-            Body::Group { sections, .. } => Parts::Sections(sections),
+            Body::Group(sections) => {
+                sections.known();
+                Parts::Sections(sections)
+            }
             Body::Nested(volume) => Parts::Volume(volume),
         },
     }
 }
 
 // Computes nothing. After the call, a proof knows that groups and volumes in this part, which was
-// read, nest only so deep that a stack of 28 levels has room for a walk.
-fn known(part: Part<'_, '_>)
-    ensures { NestsAt 0 (part_node part.entry) }
+// read, nest only so deep that `TreeWalk` has room for a walk over it.
+fn known(part: &Part<'_, '_>)
+    ensures { NestsAt 0 (part_node part.now) }
 {
     match part {
         Part::Volume(volume) => volume.known(),
@@ -106,9 +121,9 @@ fn known(part: Part<'_, '_>)
 
 // Returns the number of sections around the contents of a part that has `nesting` sections around
 // it.
-fn nesting_inside(nesting: u8, part: Part<'_, '_>) -> u8
+fn nesting_inside(nesting: u8, part: &Part<'_, '_>) -> u8
     requires { nesting < 255 }
-    ensures { result ≡ nesting_inside nesting (part_node part.entry) }
+    ensures { result ≡ nesting_inside nesting (part_node part.now) }
 {
     match part {
         Part::Section(_) => nesting + 1,
@@ -122,12 +137,14 @@ fn nesting_inside(nesting: u8, part: Part<'_, '_>) -> u8
 /// 3.2.3 and 3.2.4.)
 #[derive(Drop)]
 pub struct TreeWalk<'v, 'a> {
-    // The parts that are left at each depth. The innermost level is the last.
-    levels: Stack<Level<'v, 'a>, 28>,
+    // The parts that are left at the innermost depth.
+    level: Level<'v, 'a>,
+    // The parts that are left at each outer depth, from depth 0 inwards.
+    outer: ArrayVec<Level<'v, 'a>, 27>,
 }
 
 impl<'v, 'a> Model for TreeWalk<'v, 'a> {
-    ghost use Rattle.std.specs.Prelude.{List};
+    ghost use Rattle.std.specs.Prelude.{List, [], ◌∷◌, ◌++◌};
     ghost use Rattle.std.specs.Coded.{coded_list};
     ghost use Rattle.fv_rows.specs.TreeRows.{TreeRow};
     ghost use Rattle.fv_rows.specs.inner.RowCodes.{row_code};
@@ -138,41 +155,107 @@ impl<'v, 'a> Model for TreeWalk<'v, 'a> {
 
     ghost use Rattle.fv_rows.specs.RowWalks.{AreLevels, left_in};
 
-    ghost view = { λ w. left_in 0 w.levels };
+    ghost view = { λ w. left_in 0 (w.outer.items ++ w.level ∷ []) };
 
-    ghost invariant = { λ w. AreLevels 0 w.levels };
+    ghost invariant = { λ w. AreLevels 0 (w.outer.items ++ w.level ∷ []) };
 }
 
 impl<'v, 'a> TreeWalk<'v, 'a> {
+    // Returns a walk over some parts at depth 0, each followed by its contents.
+    fn over(parts: Parts<'v, 'a>) -> TreeWalk<'v, 'a>
+        requires nest { AllByRecursion (NestsAt 0) (nodes_of parts) }
+        requires few { length (nodes_of parts) < 2 ^ 63 }
+        ensures { result ≡ rows_of_nodes 0 0 0 (nodes_of parts.entry) }
+    {
+        TreeWalk {
+            level: Level {
+                number: 0,
+                nesting: 0,
+                parts,
+            },
+            outer: ArrayVec::new(),
+        }
+    }
+
     /// Returns a walk over all parts of a volume. Allocates no memory. (PI specification, volume 3,
     /// section 3.2.)
     pub fn of(volume: &'v VolumeView<'a>) -> TreeWalk<'v, 'a>
         ensures { result ≡ tree_rows volume.now }
     {
-        known(Part::Volume(volume));
-        TreeWalk {
-            levels: Stack::of(Level {
-                number: 0,
-                nesting: 0,
-                parts: Parts::Volume(volume),
-            }),
-        }
+        known(&Part::Volume(volume));
+        TreeWalk::over(Parts::Volume(volume))
     }
 
     /// Returns a walk over the contents of a part: the parts that it contains, each followed by its
     /// own contents. `depth` and `nesting` are counted from the part's contents, so they are 0 for
     /// the parts that it contains itself. Allocates no memory. (PI specification, volume 3, section
     /// 3.2.)
-    pub fn inside(part: Part<'v, 'a>) -> TreeWalk<'v, 'a>
-        ensures { result ≡ rows_inside 0 0 (part_node part.entry) }
+    pub fn inside(part: &Part<'v, 'a>) -> TreeWalk<'v, 'a>
+        ensures { result ≡ rows_inside 0 0 (part_node part.now) }
     {
         known(part);
-        TreeWalk {
-            levels: Stack::of(Level {
-                number: 0,
-                nesting: 0,
-                parts: parts_in(part),
-            }),
+        TreeWalk::over(parts_in(part))
+    }
+
+    // Returns the first of the rows that are left, if it is the row of a file whose data are plain
+    // bytes, and leaves the others. Leaves all rows otherwise. `next` tries this first, because a
+    // volume may have many such files, and `next_row` takes longer for each.
+    #[inline(always)]
+    fn next_plain(&mut self) -> Option<Row<'v, 'a>>
+        ensures some { IfSome result (λ row. self.old ≡ row_of row ∷ self.new) }
+        ensures none { IfNone result (self.new ≡ self.old) }
+    {
+        let Parts::Files(files) = &self.level.parts else {
+            return None;
+        };
+        let left = *files;
+        let (file, rest) = left.split_first()?;
+        let Content::Plain(_) = file.content() else {
+            return None;
+        };
+        self.level.parts = Parts::Files(rest);
+        let number = self.level.number;
+        self.level.number = number + 1;
+        Some(Row {
+            depth: self.outer.len(),
+            nesting: self.level.nesting,
+            number,
+            part: Part::File(file),
+        })
+    }
+
+    // Returns the first of the rows that are left, and leaves the others; returns None after the
+    // last row.
+    fn next_row(&mut self) -> Option<Row<'v, 'a>>
+        ensures { YieldsFirstBy row_of (λ left. left) self.old result self.new }
+    {
+        loop {
+            if let Some(part) = next_part(&mut self.level.parts) {
+                let number = self.level.number;
+                let nesting = self.level.nesting;
+                self.level.number = number + 1;
+                let depth = self.outer.len();
+                let parts = parts_in(&part);
+                let row = Row {
+                    depth,
+                    nesting,
+                    number,
+                    part,
+                };
+                if let Parts::Nothing = parts {
+                    return Some(row);
+                }
+                let inside = Level {
+                    number: 0,
+                    nesting: nesting_inside(nesting, &row.part),
+                    parts,
+                };
+                let around = replace(&mut self.level, inside);
+                self.outer.push(around);
+                return Some(row);
+            }
+            self.level.parts = Parts::Nothing;
+            self.level = self.outer.pop()?;
         }
     }
 }
@@ -186,33 +269,11 @@ impl<'v, 'a> Iterator for TreeWalk<'v, 'a> {
 
     ghost remaining = { item_count (λ left. left) };
 
+    #[inline(always)]
     fn next(&mut self) -> Option<Row<'v, 'a>> {
-        while let Some(level) = self.levels.pop() {
-            if let Some((part, rest)) = split(level.parts) {
-                let depth = self.levels.len();
-                let Level {
-                    number,
-                    nesting,
-                    ..
-                } = level;
-                self.levels.push(Level {
-                    number: number + 1,
-                    nesting,
-                    parts: rest,
-                });
-                self.levels.push(Level {
-                    number: 0,
-                    nesting: nesting_inside(nesting, part),
-                    parts: parts_in(part),
-                });
-                return Some(Row {
-                    depth,
-                    nesting,
-                    number,
-                    part,
-                });
-            }
+        if let Some(row) = self.next_plain() {
+            return Some(row);
         }
-        None
+        self.next_row()
     }
 }

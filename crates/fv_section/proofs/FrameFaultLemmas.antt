@@ -2,7 +2,7 @@
 -- 1. The first fault is within the bytes, or at their end (`frame_within`), and is a fault in the sense of `Any`
 --    (`frame_fails`).
 -- 2. A first fault is not before an offset up to which the stream splits into frames (`frame_later`), so a stream has
---    one first fault (`one_frame_fault`).
+--    at most one first fault (`one_frame_fault`).
 use Rattle.std.proofs.Common.{◌≡◌, ◌≤◌, ◌<◌, ℕ, ◌+◌, ◌-◌, [], ◌∷◌, ◌++◌, List, length, take, drop, ap, subst, arith, take-append-drop, length-take-le}
 use Rattle.fv_base.proofs.Laws.{common_steps, Any, First, IsFirstFault, any_fails, first_among, one_fault, same_place, some_between, take_past}
 use Rattle.fv_base.specs.declared.fault.Fault.{Fault}
@@ -54,7 +54,7 @@ frame_later b f g x y l =
           begins = subst (λ (c : List ℕ). BeginsFrame h c (begun.1 ++ beyond)) (take-append-drop (y.at - x.at) (drop x.at b)) there;
         })
 
--- a stream has one first fault of its frames
+-- a stream has at most one first fault of its frames
 pub one_frame_fault : (b : List ℕ) (f g : Fault) → IsFirstFrameFault b f → IsFirstFrameFault b g → f ≡ g
 one_frame_fault b f g x y =
     let at : x.at ≡ y.at = same_place x.at y.at (frame_later b f g x y) (frame_later b g f y x) in

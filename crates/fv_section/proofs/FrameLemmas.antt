@@ -164,7 +164,7 @@ stands_verdict at b g stands =
 pub verdict_first : (at : ℕ) (r : List ℕ) (e : Fault) → frame_verdict at r ≡ Err e → IsFirstFault (frame_checks at r) e
 verdict_first at r e is = first_is (frame_checks at r) e (verdict_err (first_fault (frame_checks at r)) (frame_in at r) e is)
 
--- the verdict on all bytes that are left of a stream is the verdict on the bytes from the place on
+-- the verdict on the `length b - at` bytes from the offset `at` on is the verdict on all bytes from there on
 pub verdict_rest : (at : ℕ) (b : List ℕ) → frame_verdict at (take (length b - at) (drop at b)) ≡ frame_verdict at (drop at b)
 verdict_rest at b = ap (frame_verdict at) (take_rest b at)
 

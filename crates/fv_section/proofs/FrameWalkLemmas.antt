@@ -85,7 +85,7 @@ first_stands : (at : ℕ) (f : FrameForm) (fs : List FrameForm) (t : ℕ) (b : L
     → HasFrameAt f at b
 first_stands at f fs t b split = grind (arith, common_steps, begins_of, from_least, length-drop)
 
--- if a check fails at a place that the frames reach, the stream does not split
+-- if frames split the stream up to a place, and a check fails there, the whole stream does not split
 pub none_after : (which : Which) (b : List ℕ) (e : Fault) (fs : List FrameForm) (t : ℕ) → FrameFault which b e → Splits fs t b → ⊥
 none_after which b e fs t here split =
     let lx : length (take here.at b) ≡ here.at = omega (arith, length-take here.at b, here.inside) in

@@ -1,4 +1,4 @@
--- A test decides whether bytes are a text, whose last 16-bit unit is zero.
+-- A test decides whether bytes are a text followed by its zero unit.
 use Rattle.std.proofs.Common.{◌≡◌, ◌≢◌, ◌≤◌, ℕ, ◌+◌, ◌-◌, ◌%◌, [], ◌∷◌, ◌++◌, ◌==◌, List, length, take, drop, refl, sym, ap, ◌∙◌, subst, arith, true}
 use Rattle.std.proofs.Common.{false, length-append, length-drop, not, eqb-true, eq-eqb, leb-true, le-leb, take-append-drop, take_at, drop_at}
 use Rattle.fv_base.proofs.Laws.{length-take-le, common_steps, AllByRecursion, words_of, le, and_join, and_split, not_equal}
@@ -45,7 +45,7 @@ text_found b h =
     even : (m k : ℕ) → 2 ≤ m → k ≡ m - 2 → m % 2 ≡ 0 → k % 2 ≡ 0
     even m k h e z = omega arith
 
--- if bytes are a text, the test holds
+-- if bytes are a text and its zero unit, the test holds
 pub text_holds : (b text : List ℕ) → IsText b text → is_text b ≡ true
 text_holds b text is =
     let n : length b ≡ length text + 2 = ap length is.joined ∙ length-append text (0 ∷ 0 ∷ []) in
@@ -60,7 +60,7 @@ text_holds b text is =
 pub text_none : (b text : List ℕ) → is_text b ≡ false → IsText b text → ⊥
 text_none b text h is = grind (arith, common_steps, text_holds)
 
--- if the bytes after the first two are not a text, the bytes are not a version
+-- if the bytes after the first two are not a text and its zero unit, the bytes are not the body of a version section
 pub version_none : (b : List ℕ) (build : ℕ) (text : List ℕ) → ((t : List ℕ) → IsText (drop 2 b) t → ⊥) → IsVersion b build text → ⊥
 version_none b build text none is =
     let behind : drop 2 b ≡ is.units = ap (drop 2) is.joined ∙ drop_at is.number is.units 2 is.two in

@@ -1,10 +1,12 @@
 -- Bytes are a stream in at most one way, and a stream with one more frame is a stream. The steps:
 -- 1. A stream with a frame has at least 4 bytes (`from_least`).
--- 2. Frames up to a multiple of 4 are the first frames of each stream that goes on from there (`cut`).
+-- 2. If frames split the bytes up to an offset that is a multiple of 4, every split of these bytes and more begins with
+--    these frames (`cut`).
 -- 3. Compared frame by frame, two splits of the same bytes are equal (`one_split`).
--- 4. Frames up to a multiple of 4, and one more frame, are a stream (`one_more`).
+-- 4. Frames that split the bytes up to a multiple of 4, and one more frame there, are a stream (`one_more`).
 -- 5. The tail of a stream has at most 3 bytes (`tail_small`).
--- 6. The parts of a frame in bytes are bytes (`begun_bytes`), and the body fits the form of the header (`fits`).
+-- 6. If a list of bytes (`IsBytes`) begins with a frame, the frame's body and the rest are lists of bytes
+--    (`begun_bytes`), and the body fits the form of the header (`fits`).
 use Rattle.std.proofs.Common.{◌≡◌, ℕ, ◌+◌, ◌<◌, ◌≤◌, [], ◌∷◌, ◌++◌, ◌≢◌, List, length, refl, sym, ap, ◌∙◌, subst, arith, length-append, append_assoc}
 use Rattle.std.proofs.Common.{Bool, true, false, drop, length-drop, length-take-le}
 use Rattle.fv_base.proofs.Laws.{IsBytes, field, same_cut, bytes_back, bytes_drop, bytes_front, bytes_take, le_below}
@@ -16,7 +18,8 @@ pub from_least : (at : ℕ) (f : FrameForm) (fs : List FrameForm) (t : ℕ) (b :
 from_least at f [] t b (rest, begun, o, l, fit) = omega (arith, length_begun f b rest begun, size_least f)
 from_least at f (g ∷ fs) t b (filler, rest, begun, o, fill, more) = omega (arith, length_begun f b (filler ++ rest) begun, size_least f)
 
--- frames up to a multiple of 4 are the first frames of each stream that goes on from there
+-- if frames split the bytes up to an offset that is a multiple of 4, every split of these bytes and more begins with
+-- these frames
 pub cut : (at : ℕ) (fs gs : List FrameForm) (t u : ℕ) (x y : List ℕ) → SplitsFrom at fs t x → at + length x ≡ up_to_4 (at + length x)
     → SplitsFrom at gs u (x ++ y) → 0 < length y → (more : List FrameForm) × (gs ≡ fs ++ more) × SplitsFrom (at + length x) more u y
 cut at [] gs t u x y (e, z) m hg ly =
@@ -94,7 +97,7 @@ one_split at (f ∷ f' ∷ fs) (g ∷ g' ∷ gs) t u b (filler, rest, begun, o, 
     let q : f' ∷ fs ≡ g' ∷ gs = r.0 in
     (cc, r.1)
 
--- frames up to a multiple of 4, and one more frame, are a stream
+-- frames that split the bytes up to a multiple of 4, and one more frame there, are a stream
 pub one_more : (at : ℕ) (fs : List FrameForm) (f : FrameForm) (t : ℕ) (x y r : List ℕ) → SplitsFrom at fs t x
     → at + length x ≡ up_to_4 (at + length x) → BeginsFrame f y r → f.offset ≡ at + length x
     → at + length x + frame_len f + length r ≤ up_to_4 (at + length x + frame_len f) → SplitsFrom at (fs ++ f ∷ []) (length r) (x ++ y)
@@ -129,7 +132,7 @@ tail_small at (f ∷ g ∷ fs) tail b (filler, rest, begun, o, fill, more) = tai
 
 -- ---- the bytes of a stream
 
--- if bytes begin with a frame, its body and the rest are bytes
+-- if a list of bytes begins with a frame, the frame's body and the rest are lists of bytes
 pub begun_bytes : (f : FrameForm) (b rest : List ℕ) → IsBytes b → BeginsFrame f b rest → IsBytes f.body × IsBytes rest
 begun_bytes f b rest bytes begun =
     let behind = bytes_back begun.head (f.body ++ rest) (subst IsBytes begun.text bytes) in
@@ -137,7 +140,7 @@ begun_bytes f b rest bytes begun =
 
 -- ---- the forms of headers
 
--- a size that the bytes of a header give fits its form
+-- if a header is a list of bytes, the size that it states fits its form
 pub form_fits : (extended : Bool) (n : ℕ) (h : List ℕ) → length h ≡ section_header_len extended
     → StatesSize extended (section_header_len extended + n) h
     → IsBytes h → FitsForm extended n
@@ -148,11 +151,11 @@ form_fits true n h long (full, is) bytes =
     let four : length (field 4 4 h) ≡ 4 = length-take-le 4 (drop 4 h) (omega (arith, length-drop 4 h, long)) in
     omega (arith, is, le_below 4 (field 4 4 h) (bytes_take 4 (drop 4 h) (bytes_drop 4 h bytes)) four)
 
--- the body of a header in bytes fits its form
+-- if a section header for a body of n bytes is a list of bytes, the body fits its form
 pub fits_form : (extended : Bool) (kind n : ℕ) (h : List ℕ) → IsBytes h → IsSectionHeader extended kind n h → FitsForm extended n
 fits_form extended kind n h bytes is = form_fits extended n h is.header_length is.states bytes
 
--- the body of a frame in bytes fits the form of its header
+-- if a list of bytes begins with a frame, the frame's body fits the form of its header
 pub fits : (f : FrameForm) (b rest : List ℕ) → IsBytes b → BeginsFrame f b rest → FitsForm f.extended (length f.body)
 fits f b rest bytes begun =
     fits_form f.extended f.kind (length f.body) begun.head (bytes_front begun.head (f.body ++ rest) (subst IsBytes begun.text bytes))

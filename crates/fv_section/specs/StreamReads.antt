@@ -4,7 +4,7 @@ use Rattle.fv_section.specs.Frames.{FrameForm, section_header_len, frame_len, Be
 use Rattle.fv_section.specs.declared.frame.Frame.{Frame}
 use Rattle.std.specs.List.{AllByRecursion}
 use Rattle.std.specs.Prelude.{◌≡◌, ℕ, ◌+◌, ◌<◌, ◌≤◌, Bool, true, false, List, [], ◌∷◌, ◌++◌, length, drop, ◌%◌, zero}
-use Rattle.std.specs.Prelude.{suc, ◌-◌, take, slice_index}
+use Rattle.std.specs.Prelude.{suc, ◌-◌, take, slice_index, if◌then◌else◌, nat_lt}
 use Rattle.fv_section.specs.SectionImage.{stream_of}
 use Rattle.fv_section.specs.FrameChecks.{has_extended_size, section_header_len_at, section_size_at}
 
@@ -57,6 +57,16 @@ frame_in at r = record {
   extended = has_extended_size r;
   body = take (section_size_at r - section_header_len_at r) (drop (section_header_len_at r) r);
 }
+
+-- the bytes that are left after a frame of n bytes at the start of r: the bytes from the next multiple of 4 on or, if r
+-- ends there or before it, the bytes directly after the frame
+abbrev pub after_size : ℕ → List ℕ → List ℕ
+after_size n r = if nat_lt (up_to_4 n) (length r) then drop (up_to_4 n) r else drop n r
+
+-- the bytes that are left after the frame at the start of r, whose header states its size: the bytes from the next
+-- frame on or, if no frame follows, the tail
+abbrev pub after_first : List ℕ → List ℕ
+after_first r = after_size (frame_len (frame_in 0 r)) r
 
 -- the offset at which the next frame would begin, after the frame at the offset `at`
 abbrev pub offset_after : ℕ → List ℕ → ℕ

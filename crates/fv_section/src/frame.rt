@@ -6,7 +6,7 @@ ghost use Rattle.fv_section.specs.FrameChecks.{has_extended_size, section_header
 ghost use Rattle.fv_section.specs.FrameChecks.{has_section_size, frame_checks};
 ghost use Rattle.fv_section.specs.inner.FrameVerdicts.{frame_verdict};
 ghost use Rattle.fv_section.specs.Frames.{FrameForm, section_header_len};
-ghost use Rattle.fv_section.specs.StreamReads.{HasFrameAt, frame_form, frame_in};
+ghost use Rattle.fv_section.specs.StreamReads.{HasFrameAt, after_first, after_size, frame_form, frame_in};
 
 use crate::offsets::{
     EXTENDED_HEADER_LEN, EXTENDED_SIZE_OFFSET, HEADER_LEN, SIZE_OFFSET, TYPE_OFFSET,
@@ -111,6 +111,51 @@ pub(crate) fn frame_in(rest: &[u8], at: u64) -> Frame<'_>
         extended: has_extended_size(rest),
         body: &rest[head_len(rest)..size_of(rest)],
     }
+}
+
+// Returns the bytes that are left after a frame of `size` bytes at the start of `rest`: the bytes
+// from the next multiple of 4 on or, if `rest` ends there or before it, the bytes directly after
+// the frame.
+fn after_frame(rest: &[u8], size: usize) -> &[u8]
+    requires within { size ≤ length rest.now }
+    ensures { result.now ≡ after_size size rest.now }
+{
+    let next = (size + 3) / 4 * 4;
+    if next < rest.len() {
+        &rest[next..]
+    } else {
+        &rest[size..]
+    }
+}
+
+/// Returns the frame at the start of `rest`, with the offset 0, and the bytes that are left after
+/// it. These are the bytes from the next multiple of 4 on or, if `rest` ends there or before it,
+/// the bytes directly after the frame: the tail. `rest` must begin with a frame, because the header
+/// is not checked. Allocates no memory. (PI specification, volume 3, section 3.2.4.)
+pub fn split_frame(rest: &[u8]) -> (Frame<'_>, &[u8])
+    requires least { 4 ≤ length rest.now }
+    requires frame { HasFrameAt (frame_in 0 rest.now) 0 rest.now }
+    ensures frame { frame_form result.0 ≡ frame_in 0 rest.now }
+    ensures after { result.1.now ≡ after_first rest.now }
+{
+    let short = short_size(rest);
+    let extended = short == EXTENDED;
+    let (header, size) = if extended {
+        (
+            EXTENDED_HEADER_LEN,
+            u32_at(rest, EXTENDED_SIZE_OFFSET) as usize,
+        )
+    } else {
+        (HEADER_LEN, short as usize)
+    };
+    let kind = rest[TYPE_OFFSET];
+    let frame = Frame {
+        offset: 0,
+        kind,
+        extended,
+        body: &rest[header..size],
+    };
+    (frame, after_frame(rest, size))
 }
 
 // Returns the frame at the start of `rest`, or the first fault there.

@@ -10,7 +10,7 @@ mod section_head;
 pub mod section_type;
 mod texts;
 
-pub use frame::{Frame, next_frame, section_header_len};
+pub use frame::{Frame, next_frame, section_header_len, split_frame};
 pub use frame_list::Frames;
 pub use frame_walk::{FrameWalk, frames};
 pub use section_head::{SectionHead, section_head_bytes};

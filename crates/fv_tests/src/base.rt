@@ -1,4 +1,4 @@
-//! Tests of fv_base, of facts that its contracts do not state: the values that the specifications
+//! Tests of fv_base, with results that were worked out by hand: the values that the specifications
 //! fix, the printed texts, and readers and writers that fail in mid-stream.
 
 mod inputs;

@@ -1,4 +1,4 @@
-//! Tests of fv_file, of facts that its contracts do not state: bytes that begin with a file,
+//! Tests of fv_file, with results that were worked out by hand: bytes that begin with a file,
 //! deleted and incomplete files, states, attribute bits, and written headers. Other bodies of
 //! volumes, and the fault of each change to one of them, are in `bodies.rows` of fv_run_tests.
 

@@ -1,5 +1,5 @@
-//! Tests of fv_head, of facts that its contracts do not state: extended headers that are read, and
-//! headers that are written. Other headers and their extents are in `volumes.rows` and
+//! Tests of fv_head, with results that were worked out by hand: whether bytes are one volume,
+//! extended headers that are read, and headers that are written. Other headers and their extents are in `volumes.rows` and
 //! `library.rows` of fv_run_tests, and the fault of each change to a header in its `parts.rows`.
 
 mod extended;

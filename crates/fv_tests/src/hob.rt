@@ -1,6 +1,5 @@
-//! Tests of fv_hob, of facts that its contracts do not state: lists that were worked out by hand,
-//! and the printed texts. Wrong lists, with the fault of each, are in `parts.rows` and
-//! `lengths.rows` of fv_run_tests.
+//! Tests of fv_hob, with results that were worked out by hand: lists, and the printed texts. Wrong
+//! lists, with the fault of each, are in `parts.rows` and `lengths.rows` of fv_run_tests.
 
 mod faults;
 mod known;

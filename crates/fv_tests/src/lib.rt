@@ -1,5 +1,7 @@
 //! Tests of the public calls of `fv_base`, `fv_head`, `fv_file`, `fv_section`, `fv_depex`, `fv_hob`
-//! and `fv_tree`, with one module for each crate. They test facts that the contracts do not state.
+//! and `fv_tree`, with one module for each crate. They compare calls with results that were worked
+//! out by hand, where neither a run of the program nor the library for C shows these results. So
+//! they would also find an error in a definition, which no proof finds.
 #![tactic(auto)]
 
 #[cfg(test)]

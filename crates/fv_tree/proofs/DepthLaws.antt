@@ -1,5 +1,5 @@
--- The contents of a part that was read nest one level less deep than the part. The volumes in a section are the
--- volumes in its body.
+-- The contents of a part that was read nest at most as deep as the part, and one level less deep if the part is a group
+-- or an opened volume. The volumes in a section are the volumes in its body.
 use Rattle.std.proofs.Common.{◌≡◌, ℕ, zero, suc, List, [], ◌∷◌, refl}
 use Rattle.std.specs.List.{AllByRecursion}
 use Rattle.fv_section.specs.Words.{FrameForm}

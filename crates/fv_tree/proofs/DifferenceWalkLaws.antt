@@ -1,9 +1,10 @@
--- The result of each turn of the walk through two meanings.
+-- Facts for the search for the first difference of two volumes: their headers differ, their numbers of entries or of
+-- files differ, or their meanings are equal and there is no difference.
 use Rattle.std.proofs.Common.{◌≡◌, ℕ, ◌≤◌, [], ◌∷◌, ◌==◌, ◌&&◌, zero, suc, List, length, drop, min, refl, sym, ap, ◌∙◌, arith, Bool, true, false}
 use Rattle.fv_base.proofs.Laws.{Option, Some, None, common_steps, option_or, bytes_eq}
 use Rattle.fv_head.specs.Words.{HeadFields}
-use Rattle.fv_tree.specs.Words.{Differs, has_steps, differ_in, entries_eq, head_differs, difference, files_differ, sections_differ, Meaning, Volume}
-use Rattle.fv_tree.specs.Words.{FileMeaning, SectionMeaning, head_of, files_from, sections_from}
+use Rattle.fv_tree.specs.Words.{Differs, has_steps, differ_in, entries_eq, head_differs, difference, files_differ, Meaning, Volume}
+use Rattle.fv_tree.specs.Words.{FileMeaning, head_of, files_from}
 use Rattle.fv_tree.specs.declared.difference.Step.{Step}
 use Rattle.fv_tree.specs.declared.difference.DifferenceKind.{DifferenceKind}
 use Rattle.fv_tree.specs.inner.FoundDifferences.{in_kind, reversed_steps}
@@ -43,17 +44,6 @@ uneven P first second (x ∷ xs) [] (suc i) past within ne = absurd (omega (arit
 uneven P first second (x ∷ xs) (y ∷ ys) zero past within ne = absurd (omega (arith, past))
 uneven P first second (x ∷ xs) (y ∷ ys) (suc i) past within ne =
     uneven P first second xs ys i (omega (arith, past)) (omega (arith, within)) (λ e. ne (omega (arith, e)))
-
--- if the streams have different numbers of sections, the difference is SectionCount
-pub sections_uneven : (ss rs : List SectionMeaning) (i : ℕ) (t : Differs) → min (length ss) (length rs) ≤ i
-    → i ≤ min (length ss) (length rs) → (length ss ≡ length rs → ⊥)
-    → sections_differ 0 (sections_from ss) (sections_from rs) ≡ sections_differ i (sections_from (drop i ss)) (sections_from (drop i rs))
-    → option_or (sections_differ 0 (sections_from ss) (sections_from rs)) t ≡ differ_in kinds.SectionCount
-sections_uneven ss rs i t past within ne e =
-    let Ends : List SectionMeaning → List SectionMeaning → Type 0 =
-    λ x y. sections_differ i (sections_from x) (sections_from y) ≡ differ_in kinds.SectionCount in
-    ends_first (sections_differ 0 (sections_from ss) (sections_from rs)) t kinds.SectionCount
-    (e ∙ uneven Ends (λ x xs. refl) (λ y ys. refl) ss rs i past within ne)
 
 -- if the volumes have different numbers of files, the difference is FileCount
 pub files_uneven : (fs gs : List FileMeaning) (i : ℕ) → min (length fs) (length gs) ≤ i → i ≤ min (length fs) (length gs)

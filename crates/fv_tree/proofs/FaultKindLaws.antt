@@ -2,7 +2,7 @@
 -- 1. Each check of a header, a file and a cell has a fault of one of these kinds (`head_kinds`, `file_kinds`,
 --    `cell_kinds`).
 -- 2. If each fault in a section has one of these kinds, then so has each fault in a body, a stream and a volume
---    (`layout_kind`, `stream_kind`, `volume_kind`).
+--    (`stored_kind`, `stream_kind`, `volume_kind`).
 -- 3. By induction on the nesting depth each fault in a section has one of these kinds (`section_kind`), and so has each
 --    fault of bytes (`stands_reading`).
 use Rattle.std.proofs.Common.{◌≡◌, ◌≢◌, ℕ, ◌+◌, zero, suc, Bool, true, false, List, take, drop, refl, sym, ap, ◌∙◌, subst, inl, inr, nat_le}
@@ -17,7 +17,7 @@ use Rattle.fv_file.specs.declared.state.FileState.{FileState}
 use Rattle.fv_head.specs.Words.{head_checks}
 use Rattle.fv_head.specs.declared.extent.Extent.{Extent}
 use Rattle.fv_section.specs.Words.{frame_checks, FrameForm}
-use Rattle.fv_tree.specs.Words.{Moved, LayoutFault, InSection, InStream, InVolume, FaultHolds, outermost}
+use Rattle.fv_tree.specs.Words.{Moved, StoredFault, InSection, InStream, InVolume, FaultHolds, outermost}
 use Rattle.fv_file.specs.declared.state.FileState.TheVariants as states
 
 -- the kinds of faults that are found in bytes: the first 21 kinds, which are not about memory, input and output, or
@@ -62,14 +62,14 @@ cell_kinds s p at r = (refl, state_kinds (state_of p (slice_index r 23)) s at r)
 moved_kind : (Q : Fault → Type 0) (at : Place) (e : Fault) → ((f : Fault) → Q f → IsReading f) → Moved at Q e → IsReading e
 moved_kind Q at e kind (f, bad, is) = subst IsReading (sym is) (kind f bad)
 
--- the layout of a body
-layout_kind : (x : Extent) (volume : List ℕ) (f : Fault) → LayoutFault Any x volume f → IsReading f
-layout_kind x volume f (inl bad) =
+-- a fault of a cell of a body, or of the files in the cells, has one of the first 21 kinds
+stored_kind : (x : Extent) (volume : List ℕ) (f : Fault) → StoredFault Any x volume f → IsReading f
+stored_kind x volume f (inl bad) =
     let r : List ℕ = drop bad.at (drop x.first volume) in
     fails_among Any IsReading (cell_checks x.file_system x.polarity (x.first + bad.at) r) f
     (cell_kinds x.file_system x.polarity (x.first + bad.at) r) bad.fails
-layout_kind x volume f (inr (cells, tiles, inl (g, twin, is))) = subst IsReading (sym is) refl
-layout_kind x volume f (inr (cells, tiles, inr (none, g, top, is))) = subst IsReading (sym is) refl
+stored_kind x volume f (inr (cells, tiles, inl (g, twin, is))) = subst IsReading (sym is) refl
+stored_kind x volume f (inr (cells, tiles, inr (none, g, top, is))) = subst IsReading (sym is) refl
 
 -- a section, at one level of nesting
 abbrev SectionKind : ℕ → Type 0
@@ -86,7 +86,7 @@ stream_kind n inside e b at (inr (frames, tail, split, (before, f, after, is, re
 volume_kind : (n : ℕ) → SectionKind n → (e : Fault) (b : List ℕ) (at : Place) → InVolume Any n e b at → IsReading e
 volume_kind n inside e b at (inl moved) =
     moved_kind _ at e (λ f bad. fails_among Any IsReading (head_checks b) f (head_kinds b) bad) moved
-volume_kind n inside e b at (inr (h, x, front, inl moved)) = moved_kind _ at e (layout_kind x (take x.length b)) moved
+volume_kind n inside e b at (inr (h, x, front, inl moved)) = moved_kind _ at e (stored_kind x (take x.length b)) moved
 volume_kind n inside e b at (inr (h, x, front, inr (cells, tiles, right, (before, f, after, is, read, (holds, here))))) =
     stream_kind n inside e f.payload _ here
 

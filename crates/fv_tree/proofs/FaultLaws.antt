@@ -7,7 +7,7 @@ use Rattle.fv_file.proofs.Laws.{cell_fails}
 use Rattle.fv_head.specs.declared.extent.Extent.{Extent}
 use Rattle.fv_section.proofs.Laws.{frame_fails}
 use Rattle.fv_section.specs.Words.{FrameForm}
-use Rattle.fv_tree.specs.Words.{Moved, OneOf, NamesFault, LayoutFault, FileFault, data_at, outermost, InSection, InStream, InVolume, IsFirstOfVolume}
+use Rattle.fv_tree.specs.Words.{Moved, OneOf, NamesFault, StoredFault, FileFault, data_at, outermost, InSection, InStream, InVolume, IsFirstOfVolume}
 use Rattle.fv_tree.specs.Words.{FaultHolds, FileForm}
 
 -- ---- one level of nesting
@@ -22,10 +22,10 @@ names_stand : (len : ℕ) (fs : List FileForm) (f : Fault) → NamesFault First 
 names_stand len fs f (inl (x, (before, after, is, none, has), fault)) = inl (x, (before, after, is, tt, has), fault)
 names_stand len fs f (inr (none, x, top, fault)) = inr (tt, x, top, fault)
 
--- the layout of a body
-layout_stands : (x : Extent) (volume : List ℕ) (f : Fault) → LayoutFault First x volume f → LayoutFault Any x volume f
-layout_stands x volume f (inl first) = inl (cell_fails x.file_system x.polarity x.first (drop x.first volume) f first)
-layout_stands x volume f (inr (cells, tiles, names)) = inr (cells, tiles, names_stand x.length _ f names)
+-- the condition of a first fault of a cell of a body, or of the files in the cells, holds
+stored_stands : (x : Extent) (volume : List ℕ) (f : Fault) → StoredFault First x volume f → StoredFault Any x volume f
+stored_stands x volume f (inl first) = inl (cell_fails x.file_system x.polarity x.first (drop x.first volume) f first)
+stored_stands x volume f (inr (cells, tiles, names)) = inr (cells, tiles, names_stand x.length _ f names)
 
 -- a fault that is moved
 moved_stands : (P Q : Fault → Type 0) (at : Place) (e : Fault) → ((f : Fault) → P f → Q f) → Moved at P e → Moved at Q e
@@ -45,7 +45,7 @@ stream_by n stands e b at (inr (frames, tail, split, first)) =
 volume_by : (n : ℕ) → SectionStands n → (e : Fault) (b : List ℕ) (at : Place) → InVolume First n e b at → InVolume Any n e b at
 volume_by n stands e b at (inl moved) = inl (moved_stands _ _ at e (any_fails _) moved)
 volume_by n stands e b at (inr (h, x, front, inl moved)) =
-    inr (h, x, front, inl (moved_stands _ _ at e (layout_stands x (take x.length b)) moved))
+    inr (h, x, front, inl (moved_stands _ _ at e (stored_stands x (take x.length b)) moved))
 volume_by n stands e b at (inr (h, x, front, inr (cells, tiles, right, first))) =
     inr (h, x, front, inr (cells, tiles, tt, one_of _ _ _ _ file first))
   where

@@ -1,9 +1,9 @@
 -- The first fault of bytes lies within them or at their end, and no deeper than groups and volumes may nest. The steps:
 -- 1. The data of a volume's files end within the volume (`files_end`).
--- 2. A fault of the names of files, or of the layout of a body, lies within the volume (`names_within`,
---    `layout_within`).
--- 3. If the first fault of each section lies within the section, then the first fault of a stream, a body and a volume
---    lies within it (`stream_by`, `body_by`, `volume_by`).
+-- 2. The first fault of the names of files, or of the cells of a body and the files in them, lies within the volume
+--    (`names_within`, `stored_within`).
+-- 3. If the first fault of each section lies within the section, then the same is true of the first fault of a stream,
+--    a body and a volume (`stream_by`, `body_by`, `volume_by`).
 -- 4. By induction on the nesting depth the first fault of each section lies within the section (`section_lies`), and so
 --    the first fault of bytes lies within them (`first_within`).
 use Rattle.std.proofs.Common.{◌≡◌, ◌≢◌, ◌≤◌, ◌⊎◌, ℕ, ◌+◌, [], ◌∷◌, zero, suc, List, length, take, drop, subst, sym, arith, not, inl, inr, length-drop}
@@ -17,7 +17,7 @@ use Rattle.fv_head.specs.declared.extent.Extent.{Extent}
 use Rattle.fv_head.proofs.Laws.{fault_within, first_lies}
 use Rattle.fv_section.specs.Words.{FrameForm, frame_len, FramesWithin}
 use Rattle.fv_section.proofs.Laws.{frame_within, whole_within}
-use Rattle.fv_tree.specs.Words.{Moved, NamesFault, LayoutFault, BodyFault, InSection, InStream, InVolume, IsFirstOfVolume, data_at, data_place}
+use Rattle.fv_tree.specs.Words.{Moved, NamesFault, StoredFault, BodyFault, InSection, InStream, InVolume, IsFirstOfVolume, data_at, data_place}
 use Rattle.fv_tree.specs.Words.{outermost, FileForm, files_in, current_in, replaced_by}
 use Rattle.fv_tree.proofs.NameLaws.{files_within, top_within, twin_within}
 
@@ -61,11 +61,11 @@ module _ (x : Extent) (v : List ℕ) (end : x.first + length (drop x.first v) �
   cells_lie cells tiles =
       subst (λ (n : ℕ). CellsWithin n cells) end (all_within x.file_system x.polarity x.first cells (drop x.first v) tiles)
 
-  -- a fault of the layout of a body lies within the volume
-  layout_within : (f : Fault) → LayoutFault First x v f → f.place.offset ≤ length v
-  layout_within f (inl first) =
+  -- the first fault of the cells of a body and the files in them lies within the volume
+  stored_within : (f : Fault) → StoredFault First x v f → f.place.offset ≤ length v
+  stored_within f (inl first) =
       let low = body_within x.file_system x.polarity x.first (drop x.first v) f first in omega (arith, low, end)
-  layout_within f (inr (cells, tiles, names)) =
+  stored_within f (inr (cells, tiles, names)) =
       names_within (length v) x.length (files_in cells) f (files_within (length v) cells (cells_lie cells tiles)) names
 
 -- ---- a stream and a volume, given the same of their sections
@@ -87,7 +87,7 @@ module _ (n : ℕ) (low : SectionLies n) (e : Fault) (at : Place) where
   -- the first fault of a body lies within the volume
   body_by : (x : Extent) (v : List ℕ) → x.first + length (drop x.first v) ≡ length v → BodyFault First n (InStream First n) x e v at
       → LiesIn at (length v) n e
-  body_by x v end (inl moved) = moved_lies _ at (length v) n e (layout_within x v end) moved
+  body_by x v end (inl moved) = moved_lies _ at (length v) n e (stored_within x v end) moved
   body_by x v end (inr (cells, tiles, right, (before, f, behind, is, read, (holds, first)))) =
       let ends = files_end (length v) cells (cells_lie x v end cells tiles) in
       let current = all_filter (λ f. not (list_any (replaced_by f) (files_in cells))) (EndsBy (length v)) (files_in cells) ends in

@@ -1,6 +1,6 @@
 -- Bytes have at most one first fault. The steps:
--- 1. The names of files and the layout of a body have at most one (`names_once`, `layout_once`), also if the fault is
---    moved (`moved_once`).
+-- 1. The names of files have at most one, and so have the cells of a body with the files in them (`names_once`,
+--    `stored_once`), also if the fault is moved (`moved_once`).
 -- 2. If each section has at most one, then so have a stream, a body and a volume (`stream_once`, `body_once`,
 --    `volume_once`).
 -- 3. By induction on the nesting depth each section has at most one (`section_once`), and so has each volume
@@ -17,14 +17,14 @@ use Rattle.fv_head.specs.declared.extent.Extent.{Extent}
 use Rattle.fv_head.proofs.Laws.{front_holds, one_front}
 use Rattle.fv_section.specs.Words.{FrameForm}
 use Rattle.fv_section.proofs.Laws.{one_frame_fault, one_split}
-use Rattle.fv_tree.specs.Words.{MeansFile, MeansSection, Stream, Denotes, moved_fault, Moved, OneOf, NamesFault, LayoutFault, FileFault, BodyFault}
+use Rattle.fv_tree.specs.Words.{MeansFile, MeansSection, Stream, Denotes, moved_fault, Moved, OneOf, NamesFault, StoredFault, FileFault, BodyFault}
 use Rattle.fv_tree.specs.Words.{data_at, outermost, InSection, InStream, InVolume, IsFirstOfVolume, FaultHolds, Meaning, length_of, FileForm}
 use Rattle.fv_tree.specs.Words.{AreCurrent, NoTwins, TopAtEnd, files_in, current_in}
 use Rattle.fv_tree.specs.inner.ReadingParts.{ReadsOrFails}
 use Rattle.fv_tree.proofs.ListPairs.{first_of_once}
 use Rattle.fv_tree.proofs.MeaningLaws.{one_beginning}
 use Rattle.fv_tree.proofs.NamesFaultLaws.{twin_none}
-use Rattle.fv_tree.proofs.RefusalLaws.{StreamRefuses, layout_by, file_by, section_refuses, stream_refuses, fault_refuses}
+use Rattle.fv_tree.proofs.RefusalLaws.{StreamRefuses, stored_by, file_by, section_refuses, stream_refuses, fault_refuses}
 use Rattle.fv_tree.proofs.TwinLaws.{one_twin, one_top}
 use Rattle.fv_tree.proofs.SectionShapeLaws.{group_is_no_volume}
 use Rattle.fv_base.specs.declared.fault.FaultKind.TheVariants as kinds
@@ -46,15 +46,15 @@ names_once len fs e g (inr (none, _, _, _)) (inl (f, twin, is)) = absurd (twin_n
 names_once len fs e g (inr (none, f, top, is)) (inr (_, f', top', is')) =
     is ∙ ap (λ (h : FileForm). outer_fault kinds.TopFile h.offset) (one_top len f f' fs none top top') ∙ sym is'
 
--- the layout of a body
-layout_once : (x : Extent) (volume : List ℕ) (e g : Fault) → LayoutFault First x volume e → LayoutFault First x volume g → e ≡ g
-layout_once x volume e g (inl first) (inl first') =
+-- the cells of a body and the files in them have at most one first fault
+stored_once : (x : Extent) (volume : List ℕ) (e g : Fault) → StoredFault First x volume e → StoredFault First x volume g → e ≡ g
+stored_once x volume e g (inl first) (inl first') =
     one_cell_fault x.file_system x.polarity x.first (drop x.first volume) e g first first'
-layout_once x volume e g (inl first) (inr (cells, tiles, _)) =
+stored_once x volume e g (inl first) (inr (cells, tiles, _)) =
     absurd (cellular.none_after First x.file_system x.polarity x.first (drop x.first volume) e cells first tiles)
-layout_once x volume e g (inr (cells, tiles, _)) (inl first) =
+stored_once x volume e g (inr (cells, tiles, _)) (inl first) =
     absurd (cellular.none_after First x.file_system x.polarity x.first (drop x.first volume) g cells first tiles)
-layout_once x volume e g (inr (cells, tiles, names)) (inr (others, tiles', names')) =
+stored_once x volume e g (inr (cells, tiles, names)) (inr (others, tiles', names')) =
     let same = only_one x.file_system x.polarity x.first (drop x.first volume) cells others tiles tiles' in
     let P : List CellForm → Type 0 = λ cs. NamesFault First x.length (files_in cs) g in
     names_once x.length (files_in cells) e g names (subst P same names')
@@ -90,11 +90,11 @@ module _ (n : ℕ) (rejected : StreamRefuses First n) (once : StreamOnce n) (e g
   -- a body has at most one first fault
   body_once : (x : Extent) (volume : List ℕ) → BodyFault First n (InStream First n) x e volume at
       → BodyFault First n (InStream First n) x g volume at → e ≡ g
-  body_once x volume (inl moved) (inl moved') = moved_once _ (layout_once x volume) at e g moved moved'
+  body_once x volume (inl moved) (inl moved') = moved_once _ (stored_once x volume) at e g moved moved'
   body_once x volume (inl (f, first, is)) (inr (cells, tiles, right, _)) =
-      absurd (layout_by First x volume f cells _ first tiles (current x.length cells right))
+      absurd (stored_by First x volume f cells _ first tiles (current x.length cells right))
   body_once x volume (inr (cells, tiles, right, _)) (inl (f, first, is)) =
-      absurd (layout_by First x volume f cells _ first tiles (current x.length cells right))
+      absurd (stored_by First x volume f cells _ first tiles (current x.length cells right))
   body_once x volume (inr (cells, tiles, right, first)) (inr (others, tiles', right', first')) =
       let same : others ≡ cells = only_one x.file_system x.polarity x.first (drop x.first volume) cells others tiles tiles' in
       let Q : List CellForm → Type 0 =

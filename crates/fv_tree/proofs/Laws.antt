@@ -29,6 +29,8 @@ pub use Rattle.fv_tree.proofs.NamesFaultLaws.{same_name_back}
 pub use Rattle.fv_tree.proofs.FirstLaws.{first_once}
 pub use Rattle.fv_tree.proofs.RefusalLaws.{fault_refuses}
 pub use Rattle.fv_tree.proofs.FaultLaws.{fault_stands}
+-- bytes either begin with a volume or have a first fault, and an input either is a volume or has a first fault
+pub use Rattle.fv_tree.proofs.DecidedLaws.{volume_decided, input_decided}
 -- a first fault lies within the bytes or at their end
 pub use Rattle.fv_tree.proofs.FaultPlaceLaws.{first_within}
 -- the faults of reading have one of the first 21 kinds
@@ -47,8 +49,8 @@ pub use Rattle.fv_tree.proofs.WholeInputLaws.{IsOfInput, input_kind, stood_kind}
 -- bytes that are a volume begin with its files; bytes begin with the files of at most one volume, and contain the data
 -- of each
 pub use Rattle.fv_tree.proofs.LocatedLaws.{volume_files, one_files, begun_data}
--- bytes either begin with a volume or have a first fault, and an input either is a volume or has a first fault
-pub use Rattle.fv_tree.proofs.DecidedLaws.{volume_decided, input_decided}
+-- No cells tile the body of a volume if its header or a cell has a fault.
+pub use Rattle.fv_tree.proofs.VolumeCellLaws.{bad_cell, bad_header}
 -- ---- clearing the bits of fixed files
 
 -- if all of a vector is overwritten, it has the new items

@@ -8,6 +8,7 @@ pub mod FaultLaws
 pub mod FaultPlaceLaws
 pub mod FewStepLaws
 pub mod FileCountLaws
+pub mod FilledLaws
 pub mod FirstLaws
 pub mod FixedMarkLaws
 pub mod Laws
@@ -20,13 +21,16 @@ pub mod NameLaws
 pub mod NamedLaws
 pub mod NamesFaultLaws
 pub mod RefusalLaws
+pub mod SectionReadLaws
 pub mod SectionShapeLaws
 pub mod SectionWalkLaws
 pub mod SizeLaws
 pub mod SmallCellLaws
+pub mod StreamFrameLaws
 pub mod StreamWalkLaws
 pub mod TwinLaws
 pub mod UnfixedInputLaws
 pub mod VolumeCellLaws
 pub mod VolumePartLaws
 pub mod WholeInputLaws
+pub mod WalkedSectionLaws

@@ -1,6 +1,6 @@
 -- A part with a fault is not read. This is true of a first fault and of any fault whose condition holds. The steps:
 -- 1. If no section with a fault is read, then bytes with a fault are not a stream, not a body and not a volume
---    (`stream_by`, `layout_by`, `file_by`, `body_by`, `volume_by`).
+--    (`stream_by`, `stored_by`, `file_by`, `body_by`, `volume_by`).
 -- 2. By induction on the nesting depth no section with a fault is read (`section_refuses`), so no stream and no volume
 --    with a fault is read (`stream_refuses`, `fault_refuses`).
 use Rattle.std.proofs.Common.{◌≡◌, ◌≤◌, ℕ, zero, suc, List, length, take, drop, ap, ◌∙◌, subst, inl, inr}
@@ -14,7 +14,7 @@ use Rattle.fv_head.specs.declared.extent.Extent.{Extent}
 use Rattle.fv_head.proofs.Laws.{front_holds}
 use Rattle.fv_section.specs.Words.{FrameForm}
 use Rattle.fv_section.proofs.Laws.{one_split}
-use Rattle.fv_tree.specs.Words.{AreFilesOf, Pairwise, MeansFile, MeansSection, Stream, Denotes, FileFault, LayoutFault, Moved, BodyFault, InSection}
+use Rattle.fv_tree.specs.Words.{AreFilesOf, Pairwise, MeansFile, MeansSection, Stream, Denotes, FileFault, StoredFault, Moved, BodyFault, InSection}
 use Rattle.fv_tree.specs.Words.{InStream, InVolume, data_at, Meaning, FileMeaning, SectionMeaning, files_of, head_of, FileForm, AreCurrent, files_in}
 use Rattle.fv_tree.specs.Words.{current_in}
 use Rattle.fv_tree.proofs.ListPairs.{one_of_none}
@@ -41,20 +41,20 @@ module _ (which : Which) where
       one_of_none which (MeansSection n) (λ f. InSection which n e f at) frames ss (λ f s. rejected e f at s) bad
       (subst (λ (l : List FrameForm). Pairwise (MeansSection n) l ss) (one_split 0 others frames t tail b split' split).0 pairs)
 
-  -- cells with a fault of the layout have no files
-  pub layout_by : (x : Extent) (volume : List ℕ) (f : Fault) (cells : List CellForm) (files : List FileForm) → LayoutFault which x volume f
+  -- if a body has a fault of a cell or of the files in the cells, no files are the current files of its cells
+  pub stored_by : (x : Extent) (volume : List ℕ) (f : Fault) (cells : List CellForm) (files : List FileForm) → StoredFault which x volume f
       → Tiles x.file_system x.polarity x.first cells (drop x.first volume) → AreCurrent x.length (files_in cells) files → ⊥
-  layout_by x volume f cells files (inl bad) tiles current =
+  stored_by x volume f cells files (inl bad) tiles current =
       cellular.none_after which x.file_system x.polarity x.first (drop x.first volume) f cells bad tiles
-  layout_by x volume f cells files (inr (others, tiles', names)) tiles current =
+  stored_by x volume f cells files (inr (others, tiles', names)) tiles current =
       let same = only_one x.file_system x.polarity x.first (drop x.first volume) others cells tiles' tiles in
       current_none which x.length others f files names
       (subst (λ (l : List CellForm). AreCurrent x.length (files_in l) files) same current)
 
   -- the same if the fault is moved to where the volume begins
   pub files_refused : (x : Extent) (volume : List ℕ) (at : Place) (e : Fault) (files : List FileForm)
-      → Moved at (LayoutFault which x volume) e → AreFilesOf x volume files → ⊥
-  files_refused x volume at e files (f, bad, is) stand = layout_by x volume f stand.cells files bad stand.tiles stand.current
+      → Moved at (StoredFault which x volume) e → AreFilesOf x volume files → ⊥
+  files_refused x volume at e files (f, bad, is) stand = stored_by x volume f stand.cells files bad stand.tiles stand.current
 
   module _ (n : ℕ) (rejected : StreamRefuses n) where
     -- a file with a fault is not read

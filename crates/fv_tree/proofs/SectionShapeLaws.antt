@@ -11,24 +11,30 @@
 use Rattle.std.proofs.Common.{◌≡◌, ℕ, ◌+◌, ◌≤◌, [], ◌∷◌, ◌≢◌, ◌==◌, ◌&&◌, ◌⊎◌, if◌then◌else◌, zero, suc, List, length, take, Bool, true, false, refl}
 use Rattle.std.proofs.Common.{sym, ap, ◌∙◌, subst, inl, inr, arith, is_some, Some, None, eqb-true, le-leb, leb-true, take_all}
 use Rattle.fv_base.proofs.Laws.{common_steps, bytes_eq, Decides-eqb, bytes_eq-Decides, First, outer_fault, field, and_join, and_split, up_is_not_down}
+use Rattle.fv_base.specs.Words.{volume_limit}
 use Rattle.fv_base.specs.declared.fault.Fault.{Fault}
 use Rattle.fv_base.specs.declared.flash.FileSystem.{FileSystem}
 use Rattle.fv_base.specs.declared.fault.Place.{Place}
 use Rattle.fv_base.specs.declared.flash.FileSystem.TheVariants.{Ffs2, Ffs3}
 use Rattle.fv_head.specs.Words.{system_guid, is_one_volume, file_system_at}
+use Rattle.fv_base.specs.declared.fault.FaultKind.TheVariants as kinds
 use Rattle.fv_section.specs.Words.{FrameForm}
+use Rattle.fv_section.proofs.Laws.{stands_within}
 use Rattle.fv_tree.specs.Words.{group_kind, volume_kind, Opens, StreamRelation, VolumeRelation, MeansSection, SectionOver, Stream, Denotes}
 use Rattle.fv_tree.specs.Words.{holds_sections, MeansContent, MeansFile, FileForm, moved_fault, body_place, body_at, InSection, InStream, InVolume}
 use Rattle.fv_tree.specs.Words.{Meaning, FileMeaning, File, Plain, Sectioned, SectionMeaning, Section, Leaf, Group, Nested, sections_list}
-use Rattle.fv_tree.specs.Words.{sections_from}
-use Rattle.fv_tree.specs.inner.ReadingParts.{shape_of}
-use Rattle.fv_base.specs.declared.fault.FaultKind.TheVariants as kinds
+use Rattle.fv_tree.specs.Words.{sections_from, IsStoredFrame}
+use Rattle.fv_tree.specs.Words.{shape_of}
 use Rattle.fv_tree.specs.declared.shape.Shape.TheVariants as shapes
 
 -- `sections_list` undoes `sections_from`
 pub list_back : (ss : List SectionMeaning) → sections_list (sections_from ss) ≡ ss
 list_back [] = refl
 list_back (s ∷ ss) = ap (λ l. s ∷ l) (list_back ss)
+
+-- the body of a stored frame is within the limit of a volume's length
+pub frame_small : (f : FrameForm) → IsStoredFrame f → length f.body ≤ volume_limit
+frame_small f (b, small, short, stands) = omega (arith, short, stands_within f b f.offset stands)
 
 -- ---- the test of a body
 

@@ -1,13 +1,16 @@
--- The walk over the sections of a file. The steps:
--- 1. The sections in a file, and in a section, nest only as deep as their level allows (`file_nests`, `inside_nests`).
+-- A walk over the sections of a file returns them in preorder, and has room for its levels. The steps:
+-- 1. The sections in a file, and in a group, nest only as deep as their level allows (`file_nests`, `group_nests`).
 -- 2. The innermost level is split from the others (`left_more`, `levels_more`, `levels_less`).
--- 3. An empty level is dropped (`none_left`), and the walk takes the next section (`next_left`, `next_are`).
-use Rattle.std.proofs.Common.{◌≡◌, ◌≤◌, ◌+◌, ℕ, [], ◌∷◌, ◌++◌, ◌∙◌, List, Bor, length, refl, sym, ap, subst, append-nil, append_assoc, arith}
+-- 3. An empty level is dropped (`none_left`, `outer_are`), and the walk takes the next section, which is a group
+--    (`next_group`, `group_are`, and `group_fits` for the room) or not (`next_other`, `other_are`).
+use Rattle.fv_tree.specs.declared.view.Body.TheVariants as bodies
+use Rattle.std.proofs.Common.{◌≡◌, ◌≤◌, ◌+◌, ℕ, [], ◌∷◌, ◌++◌, ◌∙◌, List, length, refl, sym, ap, subst, append-nil, append_assoc, arith, ◌<◌}
 use Rattle.fv_base.proofs.Laws.{length-append, AllByRecursion, depth_limit}
 use Rattle.fv_section.specs.Words.{FrameForm}
 use Rattle.fv_tree.specs.Words.{MeansSection, preorder, inside_section, FileMeaning, File, Plain, Sectioned, SectionMeanings, SectionMeaning, Section}
-use Rattle.fv_tree.specs.Words.{Leaf, Group, Nested, content_of, sections_list, body_of, sections_from, sections_in, sections_in_data, IsReadFile}
-use Rattle.fv_tree.specs.Words.{AreLevels, NestsAt, left_in}
+use Rattle.fv_tree.specs.Words.{Group, content_of, sections_list, body_of, sections_from, sections_in_data, IsReadFile, AreLevels, NestsAt, left_in}
+use Rattle.fv_tree.specs.Words.{inside_body, body_view}
+use Rattle.fv_tree.specs.declared.view.Body.{Body}
 use Rattle.fv_tree.proofs.DepthLaws.{nests_body, nests_content, nests_group, nests_sections}
 use Rattle.fv_tree.proofs.SectionShapeLaws.{list_back}
 
@@ -30,69 +33,87 @@ file_nests (File name kind attributes (Sectioned us tail)) ss (n, few, f, stored
     let content = nests_content (File name kind attributes (Sectioned us tail)) n f means in
     listed 0 ss us is (each_nests 0 n (sections_list us) (omega (arith, few)) (nests_sections us tail n content))
 
-inside_nests : (depth : ℕ) (s : SectionMeaning) (ss : List SectionMeaning) → NestsAt depth s → sections_from ss ≡ sections_in (body_of s)
-    → AllByRecursion (NestsAt (depth + 1)) ss
-inside_nests depth (Section kind extended (Leaf b)) ss nests is = listed (depth + 1) ss _ is tt
-inside_nests depth (Section kind extended (Nested v)) ss nests is = listed (depth + 1) ss _ is tt
-inside_nests depth (Section kind extended (Group us tail)) ss (n, fits, f, means) is =
-    let (k, less, inside) = nests_group us tail n (nests_body (Section kind extended (Group us tail)) n f means) in
-    listed (depth + 1) ss us is (each_nests (depth + 1) k (sections_list us) (omega (arith, fits, less)) inside)
+-- a group inside `depth` groups leaves room for its sections, which nest as deep as one level further inwards allows
+group_nests : (depth : ℕ) (s : SectionMeaning) (ss : List SectionMeaning) (tail : ℕ) → NestsAt depth s → Group (sections_from ss) tail ≡ body_of s
+    → (depth < depth_limit) × AllByRecursion (NestsAt (depth + 1)) ss
+group_nests depth (Section kind extended body) ss tail (n, fits, f, means) is =
+    let group = subst (λ b. MeansSection n f (Section kind extended b)) (sym is) means in
+    let (k, less, inside) =
+    nests_group (sections_from ss) tail n (nests_body (Section kind extended (Group (sections_from ss) tail)) n f group) in
+    (omega (arith, fits, less), listed (depth + 1) ss (sections_from ss) refl (each_nests (depth + 1) k _ (omega (arith, fits, less)) inside))
 
 -- ---- the innermost level
 
-left_more : (levels : List (Bor (List SectionMeaning))) (ss : Bor (List SectionMeaning))
-    → left_in (levels ++ ss ∷ []) ≡ preorder (sections_from ss.now) ++ left_in levels
-left_more [] ss = sym (append-nil (preorder (sections_from ss.now)))
+left_more : (levels : List (List SectionMeaning × ℕ)) (ss : List SectionMeaning × ℕ)
+    → left_in (levels ++ ss ∷ []) ≡ preorder (sections_from ss.0) ++ left_in levels
+left_more [] ss = sym (append-nil (preorder (sections_from ss.0)))
 left_more (outer ∷ levels) ss =
-    ap (λ l. l ++ preorder (sections_from outer.now)) (left_more levels ss)
-    ∙ append_assoc (preorder (sections_from ss.now)) (left_in levels) (preorder (sections_from outer.now))
+    ap (λ l. l ++ preorder (sections_from outer.0)) (left_more levels ss)
+    ∙ append_assoc (preorder (sections_from ss.0)) (left_in levels) (preorder (sections_from outer.0))
 
-levels_more : (depth at : ℕ) (levels : List (Bor (List SectionMeaning))) (ss : Bor (List SectionMeaning)) → at ≡ depth + length levels
-    → AreLevels depth levels → AllByRecursion (NestsAt at) ss.now → AreLevels depth (levels ++ ss ∷ [])
-levels_more depth at [] ss is are nest = (subst (λ d. AllByRecursion (NestsAt d) ss.now) (omega (arith, is)) nest, tt)
+levels_more : (depth at : ℕ) (levels : List (List SectionMeaning × ℕ)) (ss : List SectionMeaning × ℕ) → at ≡ depth + length levels
+    → AreLevels depth levels → AllByRecursion (NestsAt at) ss.0 → AreLevels depth (levels ++ ss ∷ [])
+levels_more depth at [] ss is are nest = (subst (λ d. AllByRecursion (NestsAt d) ss.0) (omega (arith, is)) nest, tt)
 levels_more depth at (outer ∷ levels) ss is (here, more) nest =
     (here, levels_more (depth + 1) at levels ss (omega (arith, is)) more nest)
 
-pub levels_less : (depth at : ℕ) (levels : List (Bor (List SectionMeaning))) (ss : Bor (List SectionMeaning)) → at ≡ depth + length levels
-    → AreLevels depth (levels ++ ss ∷ []) → AreLevels depth levels × AllByRecursion (NestsAt at) ss.now
-levels_less depth at [] ss is (here, none) = (tt, subst (λ d. AllByRecursion (NestsAt d) ss.now) (omega (arith, is)) here)
+levels_less : (depth at : ℕ) (levels : List (List SectionMeaning × ℕ)) (ss : List SectionMeaning × ℕ) → at ≡ depth + length levels
+    → AreLevels depth (levels ++ ss ∷ []) → AreLevels depth levels × AllByRecursion (NestsAt at) ss.0
+levels_less depth at [] ss is (here, none) = (tt, subst (λ d. AllByRecursion (NestsAt d) ss.0) (omega (arith, is)) here)
 levels_less depth at (outer ∷ levels) ss is (here, more) =
     let rest = levels_less (depth + 1) at levels ss (omega (arith, is)) more in ((here, rest.0), rest.1)
 
 -- ---- the next section
 
-inside_is : (s : SectionMeaning) → inside_section s ≡ preorder (sections_in (body_of s))
-inside_is (Section kind extended (Leaf b)) = refl
-inside_is (Section kind extended (Group ss tail)) = refl
-inside_is (Section kind extended (Nested v)) = refl
+inside_is : (s : SectionMeaning) → inside_section s ≡ inside_body (body_of s)
+inside_is (Section kind extended body) = refl
 
--- an innermost level without sections has none left to walk
-pub none_left : (levels : List (Bor (List SectionMeaning))) (ss : Bor (List SectionMeaning)) → ss.now ≡ []
+-- an innermost level without sections adds nothing to the sections that are left
+pub none_left : (levels : List (List SectionMeaning × ℕ)) (ss : List SectionMeaning × ℕ) → ss.0 ≡ []
     → left_in (levels ++ ss ∷ []) ≡ left_in levels
 none_left levels ss is = left_more levels ss ∙ ap (λ l. preorder (sections_from l) ++ left_in levels) is
 
--- if the innermost level has a section, there is room for one more level
-pub next_fits : (levels : List (Bor (List SectionMeaning))) (ss : Bor (List SectionMeaning)) (s : SectionMeaning) (rest : List SectionMeaning)
-    → ss.now ≡ s ∷ rest → AreLevels 0 (levels ++ ss ∷ []) → length levels ≤ depth_limit
-next_fits levels ss s rest is are =
-    let nest = subst (AllByRecursion (NestsAt (length levels))) is (levels_less 0 (length levels) levels ss (omega arith) are).1 in
-    omega (arith, nest.0.1)
+pub outer_are : (levels : List (List SectionMeaning × ℕ)) (ss : List SectionMeaning × ℕ) → AreLevels 0 (levels ++ ss ∷ []) → AreLevels 0 levels
+outer_are levels ss are = (levels_less 0 (length levels) levels ss (omega arith) are).0
 
-module _ (levels : List (Bor (List SectionMeaning))) (ss rest inside : Bor (List SectionMeaning)) (s : SectionMeaning)
-    (is : ss.now ≡ s ∷ rest.now) (within : sections_from inside.now ≡ sections_in (body_of s)) where
-  -- the first section of the innermost level is the next section of the walk
-  pub next_left : left_in (levels ++ ss ∷ []) ≡ s ∷ left_in ((levels ++ rest ∷ []) ++ inside ∷ [])
-  next_left =
-      let others : List SectionMeaning = preorder (sections_from rest.now) in
+module _ (levels : List (List SectionMeaning × ℕ)) (ss rest : List SectionMeaning × ℕ) (s : SectionMeaning) (is : ss.0 ≡ s ∷ rest.0)
+    (are : AreLevels 0 (levels ++ ss ∷ [])) where
+  nests : AllByRecursion (NestsAt (length levels)) (s ∷ rest.0)
+  nests = subst (AllByRecursion (NestsAt (length levels))) is (levels_less 0 (length levels) levels ss (omega arith) are).1
+
+  -- the first section of the innermost level is the next section of the walk, and is followed by the sections in it
+  first_left : left_in (levels ++ ss ∷ []) ≡ s ∷ (inside_section s ++ left_in (levels ++ rest ∷ []))
+  first_left =
       left_more levels ss ∙ ap (λ l. preorder (sections_from l) ++ left_in levels) is
-      ∙ ap (λ l. s ∷ l) (append_assoc (inside_section s) others (left_in levels)
-      ∙ ap (λ l. l ++ (others ++ left_in levels)) (inside_is s ∙ ap preorder (sym within))
-      ∙ ap (λ l. preorder (sections_from inside.now) ++ l) (sym (left_more levels rest))
-      ∙ sym (left_more (levels ++ rest ∷ []) inside))
+      ∙ ap (λ l. s ∷ l) (append_assoc (inside_section s) (preorder (sections_from rest.0)) (left_in levels)
+      ∙ ap (λ l. inside_section s ++ l) (sym (left_more levels rest)))
 
-  pub next_are : AreLevels 0 (levels ++ ss ∷ []) → AreLevels 0 ((levels ++ rest ∷ []) ++ inside ∷ [])
-  next_are are =
-      let apart = levels_less 0 (length levels) levels ss (omega arith) are in
-      let nest = subst (AllByRecursion (NestsAt (length levels))) is apart.1 in
-      levels_more 0 (length levels + 1) (levels ++ rest ∷ []) inside (omega (arith, length-append levels (rest ∷ [])))
-      (levels_more 0 (length levels) levels rest (omega arith) apart.0 nest.1) (inside_nests (length levels) s inside.now nest.0 within)
+  pub other_are : AreLevels 0 (levels ++ rest ∷ [])
+  other_are = levels_more 0 (length levels) levels rest (omega arith) (outer_are levels ss are) nests.1
+
+  -- b is the body of the section
+  module _ (b : Body) (view : body_view b ≡ body_of s) where
+    pub next_other : ((g : _) → b ≡ bodies.Group g → ⊥) → left_in (levels ++ ss ∷ []) ≡ s ∷ left_in (levels ++ rest ∷ [])
+    next_other not = first_left ∙ ap (λ l. s ∷ (l ++ left_in (levels ++ rest ∷ []))) (inside_is s ∙ ap inside_body (sym view) ∙ none b not) where
+      none : (c : Body) → ((g : _) → c ≡ bodies.Group g → ⊥) → inside_body (body_view c) ≡ []
+      none (bodies.Leaf x) not = refl
+      none (bodies.Group g) not = absurd (not g refl)
+      none (bodies.Nested v) not = refl
+
+    -- if the section is a group, its sections are the new innermost level
+    module _ (inside : List SectionMeaning × ℕ) (group : b ≡ bodies.Group inside) where
+      within : Group (sections_from inside.0) inside.1 ≡ body_of s
+      within = sym (ap body_view group) ∙ view
+
+      pub group_fits : length levels < depth_limit
+      group_fits = (group_nests (length levels) s inside.0 inside.1 nests.0 within).0
+
+      pub next_group : left_in (levels ++ ss ∷ []) ≡ s ∷ left_in ((levels ++ rest ∷ []) ++ inside ∷ [])
+      next_group =
+          first_left ∙ ap (λ l. s ∷ (l ++ left_in (levels ++ rest ∷ []))) (inside_is s ∙ ap inside_body (sym within))
+          ∙ ap (λ l. s ∷ l) (sym (left_more (levels ++ rest ∷ []) inside))
+
+      pub group_are : AreLevels 0 ((levels ++ rest ∷ []) ++ inside ∷ [])
+      group_are =
+          levels_more 0 (length levels + 1) (levels ++ rest ∷ []) inside (omega (arith, length-append levels (rest ∷ []))) other_are
+          (group_nests (length levels) s inside.0 inside.1 nests.0 within).1

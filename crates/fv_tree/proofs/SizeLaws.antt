@@ -1,5 +1,5 @@
 -- The contents of a part are smaller than the part, so the recursions over a meaning end.
-use Rattle.std.proofs.Common.{◌≡◌, ℕ, zero, suc, ◌+◌, ◌<◌, ◌≤◌, List, [], ◌∷◌, length, get_or, refl, ap, arith}
+use Rattle.std.proofs.Common.{◌≡◌, ℕ, zero, suc, ◌+◌, ◌<◌, ◌≤◌, List, [], ◌∷◌, length, get_or, refl, sym, ap, arith}
 use Rattle.fv_tree.specs.Words.{FileMeaning, File, SectionMeaning, Section, content_of, files_from, sections_from, body_of}
 use Rattle.fv_tree.specs.inner.Sizes.{files_size, file_size, content_size, sections_size, section_size, body_size}
 
@@ -10,16 +10,17 @@ item_falls size whole more [] i x l is = absurd (omega (arith, l))
 item_falls size whole more (y ∷ ys) zero x l is = omega (arith, ap size is, more y ys)
 item_falls size whole more (y ∷ ys) (suc i) x l is = omega (arith, item_falls size whole more ys i x (omega (arith, l)) is, more y ys)
 
-pub section_falls : (ss : List SectionMeaning) (i : ℕ) (s : SectionMeaning) → i < length ss → s ≡ get_or ss i s
-    → section_size s + 1 ≤ sections_size (sections_from ss)
-section_falls = item_falls section_size (λ ss. sections_size (sections_from ss)) (λ s ss. omega arith)
+-- the size of a list of sections is the size of its first section plus the size of the sections after it plus 1
+pub section_falls : (ss rest : List SectionMeaning) (s : SectionMeaning) → ss ≡ s ∷ rest
+    → section_size s + sections_size (sections_from rest) + 1 ≡ sections_size (sections_from ss)
+section_falls ss rest s is = sym (ap (λ us. sections_size (sections_from us)) is)
 
 pub body_falls : (s : SectionMeaning) → section_size s ≡ body_size (body_of s) + 1
 body_falls (Section k e b) = refl
 
-pub section_body_falls : (ss : List SectionMeaning) (i : ℕ) (s : SectionMeaning) → i < length ss → s ≡ get_or ss i s
-    → body_size (body_of s) + 2 ≤ sections_size (sections_from ss)
-section_body_falls ss i s l is = omega (arith, section_falls ss i s l is, body_falls s)
+pub section_body_falls : (ss rest : List SectionMeaning) (s : SectionMeaning) → ss ≡ s ∷ rest
+    → body_size (body_of s) + sections_size (sections_from rest) + 2 ≡ sections_size (sections_from ss)
+section_body_falls ss rest s is = omega (arith, section_falls ss rest s is, body_falls s)
 
 pub file_falls : (fs : List FileMeaning) (i : ℕ) (f : FileMeaning) → i < length fs → f ≡ get_or fs i f
     → file_size f + 1 ≤ files_size (files_from fs)

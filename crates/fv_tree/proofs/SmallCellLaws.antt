@@ -30,7 +30,7 @@ state_follows states.HeaderValid h = cc
 state_follows states.Deleted h = cc
 state_follows states.HeaderInvalid h = cc
 
-header_follows : (system : FileSystem) (polarity : Polarity) (head : FileHead) (payload b : List ℕ) → IsBytes b
+pub header_follows : (system : FileSystem) (polarity : Polarity) (head : FileHead) (payload b : List ℕ) → IsBytes b
     → IsFilled system polarity head payload b → is_alive head.state ≡ true → IsSound head payload → FollowsFrom head payload
 header_follows system polarity head payload b small filled alive sound =
     let file : IsFile system polarity head payload filled.file = filled.is_file in
@@ -72,7 +72,8 @@ small_cell start left after cs c small room w v =
   where
     one : (c : CellForm) → IsCell left.system left.polarity c v.passed → offset_of c + cell_len c < 2 ^ 32 → IsBytes v.passed → IsSmallCell c
     one (Valid o head payload) (filled, alive, sound) lies bytes =
-        (omega (arith, lies), header_follows left.system left.polarity head payload v.passed bytes filled alive sound)
+        let follows = header_follows left.system left.polarity head payload v.passed bytes filled alive sound in
+        (omega (arith, lies), omega (arith, lies, follows.size), follows)
     one (Pad o head payload) is lies bytes = tt
     one (Dead o len state) is lies bytes = tt
     one (Stub o len) is lies bytes = tt

@@ -1,57 +1,72 @@
--- A stream is walked frame by frame, and each frame is read as a section. The steps:
--- 1. At first all frames are left, and no section is read (`walk_begun`).
--- 2. The next frame lies within the stream, and its body within the limit (`walk_ready`). Either it is read
---    (`walk_more`), or it is the first frame that is rejected (`walk_first`).
--- 3. At the end the sections are the sections of the stream (`walk_found`).
-use Rattle.std.proofs.Common.{◌≡◌, ℕ, ◌+◌, ◌≤◌, [], ◌∷◌, ◌++◌, List, length, refl, sym, ap, ◌∙◌, subst, inr, append_assoc, arith, append-nil}
+-- The loop that reads a stream, frame by frame, reads all of its sections or finds its first fault. The steps:
+-- 1. At first all frames are left, and no volume is added (`walk_begun`).
+-- 2. The next frame lies within the stream, and some bytes contain it (`walk_ready`). Either it is read (`walk_more`),
+--    or its fault is the first fault of the stream (`walk_first`).
+-- 3. If no frame is left, the stream is read (`walk_found`).
+use Rattle.std.proofs.Common.{◌≡◌, ℕ, ◌+◌, ◌≤◌, [], ◌∷◌, ◌++◌, List, length, refl, sym, ap, ◌∙◌, subst, inr, append_assoc, append-nil}
 use Rattle.fv_base.proofs.Laws.{First, volume_limit, IsBytes, in_middle}
 use Rattle.fv_base.specs.declared.fault.Fault.{Fault}
 use Rattle.fv_base.specs.declared.fault.Place.{Place}
 use Rattle.fv_section.specs.Words.{FrameForm, Splits, frame_len, HasFrameAt}
 use Rattle.fv_section.proofs.Laws.{split_stands, stands_within}
-use Rattle.fv_tree.specs.Words.{Pairwise, MeansSection, Stream, IsStoredFrame, InSection, InStream, SectionMeaning}
+use Rattle.fv_tree.specs.Words.{Pairwise, MeansSection, IsStoredFrame, InSection, InStream, Meaning, SectionMeaning}
+use Rattle.fv_tree.specs.Words.{section_by}
+use Rattle.fv_tree.specs.inner.SectionReads.{EachYields, SectionRead, StreamRead}
 use Rattle.fv_tree.proofs.ListPairs.{pairs_push}
-
--- the body of a stored frame is within the limit of a volume's length
-pub frame_small : (f : FrameForm) → IsStoredFrame f → length f.body ≤ volume_limit
-frame_small f (b, small, short, stands) = omega (arith, short, stands_within f b f.offset stands)
+use Rattle.fv_tree.proofs.SectionReadLaws.{each_push, stream_read}
 
 module _ (n : ℕ) (b : List ℕ) (tail : ℕ) where
-  -- the frames `left` of the stream are left, and the frames before them are read as the sections `ss`
-  abbrev pub Walked : List FrameForm → List SectionMeaning → Type 0
-  Walked left ss =
-      (fs : List FrameForm) × Splits (fs ++ left) tail b × Pairwise (MeansSection n) fs ss
+  -- the frames `left` of the stream b are left: the frames before them have meanings, and the volumes in these frames
+  -- were added to the list `old`, which became `now`
+  pub record Walked (left : List FrameForm) (old now : List Meaning) : Type 0 where
+    pub frames : List FrameForm
+    pub sections : List SectionMeaning
+    pub split : Splits (frames ++ left) tail b
+    pub means : Pairwise (MeansSection n) frames sections
+    pub added : List Meaning
+    pub joined : now ≡ old ++ added
+    pub yields : EachYields (section_by n) frames added sections
 
-  pub walk_begun : (fs : List FrameForm) (ss : List SectionMeaning) → Splits fs tail b → ss ≡ [] → Walked fs ss
-  walk_begun fs ss split e = rw e ([], split, tt)
+  pub walk_begun : (fs : List FrameForm) (old : List Meaning) → Splits fs tail b → Walked fs old old
+  walk_begun fs old split = record {
+    frames = [];
+    sections = [];
+    split = split;
+    means = tt;
+    added = [];
+    joined = sym (append-nil old);
+    yields = λ later. refl;
+  }
 
   -- f is the first frame that is left
-  module _ (left more : List FrameForm) (f : FrameForm) (ss : List SectionMeaning) (w : Walked left ss) (e : left ≡ f ∷ more) where
-    whole : Splits (w.0 ++ f ∷ more) tail b
-    whole = subst (λ fs. Splits (w.0 ++ fs) tail b) e w.1
+  module _ (left more : List FrameForm) (f : FrameForm) (old now : List Meaning) (w : Walked left old now) (e : left ≡ f ∷ more) where
+    whole : Splits (w.frames ++ f ∷ more) tail b
+    whole = subst (λ fs. Splits (w.frames ++ fs) tail b) e w.split
 
-    -- f meets the conditions under which a section is read
+    -- f meets the conditions of the reader of a section
     pub walk_ready : IsBytes b → length b ≤ volume_limit → (f.offset + frame_len f ≤ length b) × IsStoredFrame f
     walk_ready small short =
-        let stands = in_middle (λ g. HasFrameAt g g.offset b) w.0 f more (split_stands (w.0 ++ f ∷ more) tail b whole) in
+        let stands = in_middle (λ g. HasFrameAt g g.offset b) w.frames f more (split_stands (w.frames ++ f ∷ more) tail b whole) in
         (stands_within f b f.offset stands, (b, small, short, stands))
 
     -- if f is read, the walk goes on with the frames after it
-    pub walk_more : (s : SectionMeaning) (new : List SectionMeaning) → MeansSection n f s → new ≡ ss ++ s ∷ [] → Walked more new
-    walk_more s new is pushed = rw pushed (
-      w.0 ++ f ∷ [],
-      subst (λ fs. Splits fs tail b) (sym (append_assoc w.0 (f ∷ []) more)) whole,
-      pairs_push (MeansSection n) w.0 ss f s w.2 is,
-    )
+    pub walk_more : (new : List Meaning) → SectionRead n f now new → Walked more old new
+    walk_more new read = record {
+      frames = w.frames ++ f ∷ [];
+      sections = w.sections ++ read.section ∷ [];
+      split = subst (λ fs. Splits fs tail b) (sym (append_assoc w.frames (f ∷ []) more)) whole;
+      means = pairs_push (MeansSection n) w.frames w.sections f read.section w.means read.means;
+      added = w.added ++ read.added;
+      joined = read.joined ∙ ap (λ l. l ++ read.added) w.joined ∙ append_assoc old w.added read.added;
+      yields = each_push (section_by n) w.frames f w.added read.added w.sections read.section w.yields read.yields;
+    }
 
-    -- if f is rejected, it is the first frame that is rejected
+    -- if f is rejected, its fault is the first fault of the stream
     pub walk_first : (x : Fault) (place : Place) → InSection First n x f place → InStream First n x b place
-    walk_first x place first = inr (w.0 ++ f ∷ more, tail, whole, (w.0, f, more, refl, (ss, w.2), first))
+    walk_first x place first = inr (w.frames ++ f ∷ more, tail, whole, (w.frames, f, more, refl, (w.sections, w.means), first))
 
-  -- if no frame is left, the sections are the sections of the stream
-  module _ (left : List FrameForm) (ss : List SectionMeaning) (w : Walked left ss) (e : left ≡ []) where
-    all : Splits w.0 tail b
-    all = subst (λ fs. Splits fs tail b) (ap (λ fs. w.0 ++ fs) e ∙ append-nil w.0) w.1
-
-    pub walk_found : Stream n ss tail b
-    walk_found = (w.0, all, w.2)
+  -- if no frame is left, the stream is read
+  pub walk_found : (left : List FrameForm) (old now : List Meaning) → IsBytes b → Walked left old now → left ≡ [] → StreamRead n b old now
+  walk_found left old now small w e =
+      let all : Splits w.frames tail b = subst (λ fs. Splits fs tail b) (ap (λ fs. w.frames ++ fs) e ∙ append-nil w.frames) w.split in
+      stream_read n b tail w.frames w.sections old now w.added small all w.means w.joined w.yields

@@ -1,6 +1,6 @@
--- At most one file is the first twin, and at most one is a volume top file that is not at the end, because two current
--- files do not have the same name. The steps:
--- 1. Files have at most one first twin (`one_twin`).
+-- At most one file is the first that has an earlier twin. Two current files do not have the same name, so at most one
+-- of them is a volume top file that is not at the end. The steps:
+-- 1. At most one file is the first that has an earlier twin (`one_twin`).
 -- 2. Files without twins still have none if some files are left out (`no_twins_kept`), and two of them at different
 --    places are not twins (`apart`).
 -- 3. Of two current files neither replaces the other, so their names differ (`names_differ`).
@@ -14,9 +14,9 @@ use Rattle.std.proofs.lemmas.List.Folds.{list_any-append}
 use Rattle.fv_tree.specs.Words.{HasTwin, TopElsewhere, FileForm, same_name, is_marked, is_twin, replaced_by, NoTwins, current_in, is_top}
 use Rattle.fv_tree.proofs.NamesFaultLaws.{twin_none}
 
--- ---- the first twin
+-- ---- the first file that has an earlier twin
 
--- files have at most one first twin
+-- at most one of the files is the first that has an earlier twin
 pub one_twin : (f g : FileForm) (fs : List FileForm) → HasTwin First f fs → HasTwin First g fs → f ≡ g
 one_twin f g fs (before, after, is, none, has) (before', after', is', none', has') =
     go (two_cuts before f after before' g after' (sym is ∙ is'))

@@ -1,4 +1,5 @@
--- Why no cells tile the body of a volume that bytes begin with: its header or a cell has a fault.
+-- If the header at the start of some bytes or a cell of the body has a fault, the bytes do not begin with a volume
+-- whose body is tiled by cells.
 use Rattle.std.proofs.Common.{◌≡◌, ℕ, ◌∙◌, List, drop, inl, inr, subst, sym, take, Result, Ok, Err}
 use Rattle.fv_base.proofs.Laws.{IsFirstFault}
 use Rattle.fv_base.specs.declared.fault.Fault.{Fault}

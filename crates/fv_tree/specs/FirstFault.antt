@@ -1,6 +1,6 @@
 -- The faults of bytes that should begin with a volume, by the same recursion as Denotes (PI specification, volume 3,
 -- sections 3.2.1 to 3.2.5). With First, a fault is the first one in the order in which a volume is read. With Any, it
--- is a fault whose condition holds at its place, if the parts through which the place is found have no fault of their
+-- is a fault whose condition holds at its place, and the parts through which the place is found have no fault of their
 -- own. For a fault of a cell these parts are the volume header and the cells before it. For a duplicate name, a volume
 -- top file or a fault in the data of a file they are the volume header and all cells. For a fault in a stream they also
 -- include the section headers before the place and, for Depth or a fault in a section's body, all section headers of
@@ -88,8 +88,8 @@ NamesFault which length fs e =
 
 -- e is a fault of a cell in a volume's body, or a fault of the files in the cells (`NamesFault`). Faults in the
 -- sections of the files are not included
-abbrev pub LayoutFault : Which → Extent → List ℕ → Fault → Type 0
-LayoutFault which x volume e =
+abbrev pub StoredFault : Which → Extent → List ℕ → Fault → Type 0
+StoredFault which x volume e =
     CellFault which x.file_system x.polarity x.first (drop x.first volume) e
     ⊎ ((cells : List CellForm) × Tiles x.file_system x.polarity x.first cells (drop x.first volume)
     × NamesFault which x.length (files_in cells) e)
@@ -105,11 +105,11 @@ StreamFault which n in_section e b at =
 abbrev pub FileFault : Faulty → Fault → FileForm → Place → Type 0
 FileFault in_stream e f at = (holds_sections f.head.kind ≡ true) × in_stream e f.payload (data_at at f)
 
--- a fault of the body of a volume: a fault of its cells or of the files in them (`LayoutFault`); or a fault in the data
+-- a fault of the body of a volume: a fault of its cells or of the files in them (`StoredFault`); or a fault in the data
 -- of a file, which is the first fault only if there is no fault of the other kind
 abbrev pub BodyFault : Which → ℕ → Faulty → Extent → Faulty
 BodyFault which n in_stream x e volume at =
-    Moved at (LayoutFault which x volume) e
+    Moved at (StoredFault which x volume) e
     ⊎ ((cells : List CellForm) × Tiles x.file_system x.polarity x.first cells (drop x.first volume)
     × IfFirst which (NoTwins (files_in cells) × TopAtEnd x.length (current_in (files_in cells)))
     × OneOf which (MeansFile (Stream n)) (λ f. FileFault in_stream e f at) (current_in (files_in cells)))

@@ -5,6 +5,8 @@ pub mod Denotes
 pub mod MeaningParts
 pub mod Volumes
 pub mod ReadParts
+pub mod WalkedSections
+pub mod KeptParts
 pub mod FirstFault
 pub mod InputFaults
 pub mod LocatedFiles

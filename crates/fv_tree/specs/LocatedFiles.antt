@@ -1,6 +1,6 @@
 -- The cells of the volume at the start of some bytes, and the volume's files as they are stored in it, each with its
 -- place (PI specification, volume 3, sections 3.2.2 and 3.2.3).
-use Rattle.std.specs.Prelude.{◌⊎◌, ℕ, List, take, drop, ◌≡◌, ◌≤◌, ◌+◌, length}
+use Rattle.std.specs.Prelude.{◌⊎◌, ℕ, List, [], take, drop, ◌≡◌, ◌≤◌, ◌+◌, ◌-◌, length}
 use Rattle.fv_base.specs.Words.{IsFirstFault, First, field}
 use Rattle.fv_base.specs.declared.fault.Fault.{Fault}
 use Rattle.fv_file.specs.Words.{CellForm, Tiles, IsFirstCellFault, attribute_bits, is_large, file_header_len}
@@ -9,7 +9,7 @@ use Rattle.fv_file.specs.declared.state.FileState.{FileState}
 use Rattle.fv_head.specs.Words.{HeadFields, BeginsVolume, head_checks}
 use Rattle.fv_head.specs.declared.extent.Extent.{Extent}
 use Rattle.fv_file.specs.declared.state.FileState.TheVariants as states
-use Rattle.fv_tree.specs.FirstFault.{Moved, LayoutFault, data_place, outermost}
+use Rattle.fv_tree.specs.FirstFault.{Moved, StoredFault, data_place, outermost}
 use Rattle.fv_tree.specs.VolumeFiles.{FileForm, AreCurrent, files_in}
 use Rattle.fv_tree.specs.declared.volume_files.LocatedFile.{LocatedFile}
 use Rattle.fv_tree.specs.declared.volume_files.Mark.{Mark}
@@ -43,23 +43,49 @@ state_by marks.Replaced = states.Marked
 abbrev pub header_len_by : ℕ → ℕ
 header_len_by attributes = file_header_len (is_large attributes)
 
--- the stored form of a file that a call has returned: its fields, the fields that follow from them, and its data as a
--- list of bytes
-abbrev pub file_form : LocatedFile → FileForm
-file_form s = record {
+-- the stored form of a file that a call has returned, without its data and without the file checksum, which follows
+-- from the data
+abbrev pub bare_form : LocatedFile → FileForm
+bare_form s = record {
   offset = s.offset;
   head = record {
     name = s.name;
     kind = s.kind;
     attributes = s.attributes;
-    size = header_len_by (attribute_bits s.attributes) + length s.payload.now;
+    size = header_len_by (attribute_bits s.attributes) + s.len;
     header_len = header_len_by (attribute_bits s.attributes);
     header_sum = s.header_sum;
-    file_sum = file_sum_for (attribute_bits s.attributes) s.payload.now;
+    file_sum = 0;
     state = state_by s.mark;
   };
-  payload = s.payload.now;
+  payload = [];
 }
+
+-- the file with these data, and with the file checksum that follows from them
+abbrev pub with_data : List ℕ → FileForm → FileForm
+with_data payload f = record {
+  offset = f.offset;
+  head = record {
+    name = f.head.name;
+    kind = f.head.kind;
+    attributes = f.head.attributes;
+    size = f.head.size;
+    header_len = f.head.header_len;
+    header_sum = f.head.header_sum;
+    file_sum = file_sum_for (attribute_bits f.head.attributes) payload;
+    state = f.head.state;
+  };
+  payload = payload;
+}
+
+-- the file with its data: the bytes of the volume at the place of the data, as many as the size leaves after the header
+abbrev pub filled : List ℕ → FileForm → FileForm
+filled volume f = with_data (field (data_place f) (f.head.size - f.head.header_len) volume) f
+
+-- the stored form of a file that a call has returned: its fields, the fields that follow from them, and its data, which
+-- are in the volume
+abbrev pub file_form : List ℕ → LocatedFile → FileForm
+file_form volume s = filled volume (bare_form s)
 
 -- cells tile the body of the volume, which begins where the first file may begin, and these are the files of the volume
 -- in these cells, as they are stored
@@ -81,4 +107,4 @@ HasDataIn b f = (data_place f + length f.payload ≤ length b) × (field (data_p
 abbrev pub IsFirstOfFiles : List ℕ → Fault → Type 0
 IsFirstOfFiles b f =
     IsFirstFault (head_checks b) f
-    ⊎ ((h : HeadFields) × (e : Extent) × BeginsVolume h e b × Moved outermost (LayoutFault First e (take e.length b)) f)
+    ⊎ ((h : HeadFields) × (e : Extent) × BeginsVolume h e b × Moved outermost (StoredFault First e (take e.length b)) f)

@@ -62,7 +62,7 @@ frame_of_type kind instance fs = instance_of instance (filter (λ f. f.kind == k
 
 -- the result is this section, or Absent if there is none
 abbrev pub FindsSection : Lookup → Option SectionMeaning → Type 0
-FindsSection (answers.Found (items.Section s)) o = o ≡ Some s.now
+FindsSection (answers.Found (items.Section s)) o = o ≡ Some s
 FindsSection (answers.Found (items.Frame f)) o = ⊥
 FindsSection answers.Absent o = o ≡ None
 FindsSection answers.NotSectioned o = ⊥

@@ -5,4 +5,5 @@ pub mod FoundDifferences
 pub mod NameForms
 pub mod NestingDepths
 pub mod ReadingParts
+pub mod SectionReads
 pub mod Sizes

@@ -12,7 +12,7 @@ ghost use Rattle.fv_tree.specs.MeaningParts.{files_from, sections_from};
 ghost use Rattle.fv_tree.specs.Views.{content_view, body_view};
 
 use crate::head_difference::head_difference_kind;
-use crate::view::{Body, Content, FileView, SectionView, VolumeView};
+use crate::view::{Body, Content, FileView, SectionView, Sections, VolumeView};
 use fv_base::Fault;
 use std::alloc::Global;
 use std::marker::Model;
@@ -136,27 +136,29 @@ macro_rules! return_unless {
 
 // Returns where two streams first differ, with the steps from the innermost out.
 #[cycle(differ)]
-fn stream_difference(
-    alloc: Global,
-    sections: &[SectionView],
-    tail: u8,
-    others: &[SectionView],
-    other_tail: u8,
-) -> Found
-    ensures { ReturnsDifference result (option_or (sections_differ 0 (sections_from sections.now)
-        (sections_from others.now)) (differ_unless (tail == other_tail) kinds.Tail)) }
+fn stream_difference(alloc: Global, sections: Sections, others: Sections) -> Found
+    ensures { ReturnsDifference result (option_or (sections_differ 0 (sections_from sections.entry.0)
+        (sections_from others.entry.0)) (differ_unless (sections.entry.1 == others.entry.1) kinds.Tail)) }
 {
-    for i in 0..sections.len().min(others.len()) {
-        if let Some(found) = section_difference(alloc, &sections[i], &others[i])? {
-            return Ok(Some(under(Step::Section(i as u64), found)?));
+    let mut left = sections;
+    left.known();
+    let mut right = others;
+    let mut number = 0;
+    while let Some(section) = left.next_section() {
+        let Some(other) = right.next_section() else {
+            return Ok(Some(differ_in(alloc, DifferenceKind::SectionCount)));
+        };
+        if let Some(found) = section_difference(alloc, &section, &other)? {
+            return Ok(Some(under(Step::Section(number), found)?));
         }
+        number += 1;
     }
     return_unless!(
         alloc,
-        sections.len() == others.len(),
+        right.next_section().is_none(),
         DifferenceKind::SectionCount
     );
-    return_unless!(alloc, tail == other_tail, DifferenceKind::Tail);
+    return_unless!(alloc, left.tail() == right.tail(), DifferenceKind::Tail);
     Ok(None)
 }
 
@@ -184,16 +186,7 @@ fn body_difference(alloc: Global, body: Body, other: Body) -> Found
             return_unless!(alloc, x == y, DifferenceKind::Body);
             Ok(None)
         }
-        (
-            Body::Group {
-                sections: x,
-                tail: t,
-            },
-            Body::Group {
-                sections: y,
-                tail: u,
-            },
-        ) => stream_difference(alloc, x, t, y, u),
+        (Body::Group(x), Body::Group(y)) => stream_difference(alloc, x, y),
         (Body::Nested(x), Body::Nested(y)) => volume_difference(alloc, x, y),
         _ => Ok(Some(differ_in(alloc, DifferenceKind::Shape))),
     }
@@ -201,21 +194,15 @@ fn body_difference(alloc: Global, body: Body, other: Body) -> Found
 
 // Returns where the contents of two files first differ, with the steps from the innermost out.
 #[cycle(differ)]
-fn content_difference(alloc: Global, content: &Content, other: &Content) -> Found
-    ensures { ReturnsDifference result (content_differs (content_view content.now) (content_view other.now)) }
+fn content_difference(alloc: Global, content: Content, other: Content) -> Found
+    ensures { ReturnsDifference result (content_differs (content_view content.entry) (content_view other.entry)) }
 {
     match (content, other) {
-        (Content::Plain(x), Content::Plain(y)) if x == y => Ok(None),
-        (
-            Content::Stream {
-                sections: x,
-                tail: t,
-            },
-            Content::Stream {
-                sections: y,
-                tail: u,
-            },
-        ) => stream_difference(alloc, x.as_slice(), *t, y.as_slice(), *u),
+        (Content::Plain(x), Content::Plain(y)) => {
+            return_unless!(alloc, x == y, DifferenceKind::Data);
+            Ok(None)
+        }
+        (Content::Stream(x), Content::Stream(y)) => stream_difference(alloc, x, y),
         _ => Ok(Some(differ_in(alloc, DifferenceKind::Data))),
     }
 }

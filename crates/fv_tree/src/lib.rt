@@ -4,6 +4,9 @@
 //! fv_flash. Only `read_volume`, `whole_volume`, `whole_volume_with_files`, `located_files`,
 //! `volume_cells`, `first_difference`, `scan` and `volumes` take memory.
 //!
+//! A view does not store sections: `Sections` and `SectionWalk` read them from the input each time
+//! they are walked. If the body of a section is a volume, the view of this volume is stored.
+//!
 //! `plain` and `leaf` return slices of the input, and `Content::Plain` and `Body::Leaf` hold them.
 //! These slices outlive the view. So a program that uses one after the view is gone compiles, but a
 //! program that uses one after the input is gone does not.
@@ -29,5 +32,5 @@ pub use lookup::{Item, Lookup, file_by_name, file_by_type, next_file, section_by
 pub use read::{read_volume, volume_cells, whole_volume, whole_volume_with_files};
 pub use section_walk::SectionWalk;
 pub use stored_files::located_files;
-pub use view::{Body, Content, FileView, SectionView, VolumeView};
+pub use view::{Body, Content, FileView, SectionView, Sections, VolumeView};
 pub use volume_files::{LocatedFile, VOLUME_TOP_FILE};

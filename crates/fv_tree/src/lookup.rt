@@ -3,7 +3,7 @@
 ghost use Rattle.std.specs.Prelude.{◌≡◌, ◌+◌, ℕ, None, IfOk, IfErr, List, option_copied, option_map};
 ghost use Rattle.std.specs.Iterator.{SkipsThenYields};
 ghost use Rattle.fv_section.specs.Words.{FrameForm, Splits};
-ghost use Rattle.fv_section.specs.StreamReads as framed;
+ghost use Rattle.fv_section.specs.Words as framed;
 ghost use Rattle.fv_tree.specs.LookupInstances.{FindsSection, FindsFrame, IsNotSectioned, file_after, file_of_type};
 ghost use Rattle.fv_tree.specs.LookupInstances.{section_of_type, frame_of_type, security_core};
 ghost use Rattle.fv_tree.specs.Meaning.{files_of, content_of, Plain, Sectioned, SectionMeanings};
@@ -17,16 +17,16 @@ use fv_file::file_type::SECURITY_CORE;
 use fv_section::{Frame, FrameWalk};
 
 /// The section or the frame that a look-up found. (PI specification, volume 3, section 3.2.4.)
-#[derive(Clone, Copy)]
+#[derive(Drop)]
 pub enum Item<'v, 'a> {
     /// A section of the view.
-    Section(&'v SectionView<'a>),
+    Section(SectionView<'v, 'a>),
     /// A frame in the data of a security core, with its offset in these data.
     Frame(Frame<'a>),
 }
 
 /// The result of looking up a section.
-#[derive(Clone, Copy)]
+#[derive(Drop)]
 pub enum Lookup<'v, 'a> {
     /// The section or frame that was found.
     Found(Item<'v, 'a>),
@@ -161,6 +161,6 @@ pub fn section_by_type<'v, 'a>(file: &'v FileView<'a>, kind: u8, instance: u32) 
             }
             frame_lookup(bytes, kind, instance)
         }
-        Content::Stream { .. } => section_lookup(file, kind, instance),
+        Content::Stream(_) => section_lookup(file, kind, instance),
     }
 }

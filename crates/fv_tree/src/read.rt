@@ -7,21 +7,21 @@ ghost use Rattle.fv_file.specs.Words.{CellsWithin};
 ghost use Rattle.fv_head.specs.Words.{BeginsWithHeader};
 ghost use Rattle.fv_section.specs.Words.{frame_len};
 ghost use Rattle.fv_tree.specs.Meaning.{Meaning, length_of};
-ghost use Rattle.fv_tree.specs.Denotes.{Pairwise, MeansContent, MeansFile, MeansSection, Stream, Denotes, Accepted};
-ghost use Rattle.fv_tree.specs.ReadParts.{IsStoredFile, IsStoredFrame};
+ghost use Rattle.fv_tree.specs.Denotes.{Pairwise, MeansFile, Stream, Denotes, Accepted};
+ghost use Rattle.fv_tree.specs.ReadParts.{IsStoredFrame};
 ghost use Rattle.fv_tree.specs.FirstFault.{moved_fault, InSection, InStream, InVolume, OneOf, FileFault};
 ghost use Rattle.fv_tree.specs.FirstFault.{IsFirstOfVolume, FaultHolds, body_place, data_place};
-ghost use Rattle.fv_tree.specs.inner.ReadingParts.{ReadsOrFails, AllStored};
-ghost use Rattle.fv_tree.specs.Views.{content_view};
-ghost use Rattle.fv_tree.specs.LocatedFiles.{BeginWithFiles, BeginsTiled, HasDataIn, NotTiled, file_form};
+ghost use Rattle.fv_tree.specs.inner.ReadingParts.{ReadsOrFails, AllStored, IsReadyFile};
+ghost use Rattle.fv_tree.specs.inner.SectionReads.{ContentRead, SectionRead, StreamRead};
+ghost use Rattle.fv_tree.specs.LocatedFiles.{BeginWithFiles, BeginsTiled, HasDataIn, NotTiled, bare_form, file_form, with_data};
 ghost use Rattle.std.specs.List.{AllByRecursion};
 ghost use Rattle.fv_tree.specs.InputFaults.{FaultHoldsInInput, NotRead};
-ghost use Rattle.fv_section.specs.StreamReads as framed;
+ghost use Rattle.fv_section.specs.Words as framed;
 
 use crate::fault_place::fault_within;
 use crate::shape::{Shape, holds_sections, shape_of};
 use crate::stored_files::files_in_body;
-use crate::view::{Content, FileView, SectionView, VolumeView};
+use crate::view::{FileView, VolumeView};
 use crate::volume_files::LocatedFile;
 use fv_base::limits::DEPTH_LIMIT;
 use fv_base::{Fault, FaultKind, Place, check};
@@ -78,64 +78,80 @@ fn deeper(frame: &Frame, at: Level) -> Result<Level, Fault>
     })
 }
 
-// Reads one section.
+// Reads one section. If the section is opened as a volume, adds this volume to `volumes`. If the
+// section is a group, adds the volumes in the group.
 #[cycle(read)]
-fn read_section<'a>(alloc: Global, frame: &Frame<'a>, at: Level) -> Result<SectionView<'a>, Fault>
+fn read_section<'a>(
+    alloc: Global,
+    frame: &Frame<'a>,
+    at: Level,
+    volumes: &mut Vec<VolumeView<'a>>,
+) -> Result<(), Fault>
     requires place { at.place.offset + frame.now.offset + frame_len (framed.frame_form frame.now) < 2 ^ 63 }
     requires depth { at.place.depth + at.left ≤ depth_limit }
     requires stored { IsStoredFrame (framed.frame_form frame.now) }
-    ensures { ReadsOrFails (MeansSection at.left (framed.frame_form frame.now))
+    ensures { ReadsOrFails (λ _. SectionRead at.left (framed.frame_form frame.now) volumes.old.items volumes.new.items)
         (λ f. InSection First at.left f (framed.frame_form frame.now) at.place) result }
 {
     match shape_of(frame) {
-        Shape::Leaf => Ok(SectionView::of_leaf(frame)),
+        Shape::Leaf => Ok(()),
         Shape::Group => {
             let inside = deeper(frame, at)?;
-            let (sections, tail) = read_stream(alloc, frame.body, inside)?;
-            let len = frame.body.len() as u32;
-            SectionView::of_group(alloc, frame, sections, tail, len)
+            read_stream(alloc, frame.body, inside, volumes)
         }
         Shape::Volume => {
             let inside = deeper(frame, at)?;
             let (volume, _) = read_at(alloc, frame.body, inside)?;
-            let nested = Box::new(alloc, volume)?;
-            Ok(SectionView::of_volume(frame, nested))
+            volumes.push(volume)?;
+            Ok(())
         }
     }
 }
 
-// Reads the sections of a stream. Returns them with the number of bytes after the last section.
+// Reads the sections of a stream. Adds the volumes in them to `volumes`: each volume that is the
+// body of one of these sections, or of a section in a group among them, in the order of the
+// sections.
 #[cycle(read)]
-fn read_stream(alloc: Global, bytes: &[u8], at: Level) -> Result<(Vec<SectionView<'_>>, u8), Fault>
+fn read_stream<'a>(
+    alloc: Global,
+    bytes: &'a [u8],
+    at: Level,
+    volumes: &mut Vec<VolumeView<'a>>,
+) -> Result<(), Fault>
     requires place { at.place.offset + length bytes.now < 2 ^ 63 }
     requires depth { at.place.depth + at.left ≤ depth_limit }
     requires small { length bytes.now ≤ volume_limit }
-    ensures { ReadsOrFails (λ s. Stream at.left s.0.items s.1 bytes.now)
+    ensures { ReadsOrFails (λ _. StreamRead at.left bytes.now volumes.old.items volumes.new.items)
         (λ f. InStream First at.left f bytes.now at.place) result }
 {
     let mut walk = match FrameWalk::of(bytes) {
         Ok(walk) => walk,
         Err(fault) => return Err(fault_within(fault, at.place)),
     };
-    let mut sections = Vec::with_capacity(alloc, walk.frames_left())?;
     while let Some(frame) = walk.next_frame() {
-        let section = read_section(alloc, &frame, at)?;
-        sections.push(section)?;
+        read_section(alloc, &frame, at, volumes)?;
     }
-    Ok((sections, walk.tail()))
+    Ok(())
 }
 
-// Reads the content of a file.
+// Reads the data of a file, if its type holds sections. Returns the volumes that are the bodies of
+// sections in the data, including sections in groups, in the order of the sections.
 #[cycle(read)]
-fn read_content<'a>(alloc: Global, file: &LocatedFile<'a>, at: Level) -> Result<Content<'a>, Fault>
-    requires place { at.place.offset + data_place (file_form file.now) + length file.now.payload.now < 2 ^ 63 }
+fn read_data<'a>(
+    alloc: Global,
+    file: &LocatedFile,
+    payload: &'a [u8],
+    at: Level,
+) -> Result<Vec<VolumeView<'a>>, Fault>
+    requires place { at.place.offset + data_place (bare_form file.now) + length payload.now < 2 ^ 63 }
     requires depth { at.place.depth + at.left ≤ depth_limit }
-    requires small { length file.now.payload.now ≤ volume_limit }
-    ensures { ReadsOrFails (λ c. MeansContent (Stream at.left) file.now.kind file.now.payload.now (content_view c))
-        (λ f. FileFault (InStream First at.left) f (file_form file.now) at.place) result }
+    requires small { length payload.now ≤ volume_limit }
+    ensures { ReadsOrFails (λ vs. ContentRead at.left file.now.kind payload.now vs.items)
+        (λ f. FileFault (InStream First at.left) f (with_data payload.now (bare_form file.now)) at.place) result }
 {
+    let mut volumes = Vec::new(alloc);
     if !holds_sections(file.kind) {
-        return Ok(Content::Plain(file.payload));
+        return Ok(volumes);
     }
     let place = Place {
         offset: at.place.offset + u64::from(file.offset) + file.header_len(),
@@ -145,47 +161,45 @@ fn read_content<'a>(alloc: Global, file: &LocatedFile<'a>, at: Level) -> Result<
         place,
         left: at.left,
     };
-    let (sections, tail) = read_stream(alloc, file.payload, inside)?;
-    Ok(Content::Stream { sections, tail })
+    read_stream(alloc, payload, inside, &mut volumes)?;
+    Ok(volumes)
 }
 
-// Reads one file.
+// Reads one file, and returns its view.
 #[cycle(read)]
-fn read_file<'a>(alloc: Global, file: &LocatedFile<'a>, at: Level) -> Result<FileView<'a>, Fault>
-    requires place { at.place.offset + data_place (file_form file.now) + length file.now.payload.now < 2 ^ 63 }
+fn read_file<'a>(
+    alloc: Global,
+    volume: &'a [u8],
+    file: &LocatedFile,
+    at: Level,
+) -> Result<FileView<'a>, Fault>
     requires depth { at.place.depth + at.left ≤ depth_limit }
-    requires stored { IsStoredFile (file_form file.now) }
-    requires small { length file.now.payload.now ≤ volume_limit }
-    ensures { ReadsOrFails (MeansFile (Stream at.left) (file_form file.now))
-        (λ f. FileFault (InStream First at.left) f (file_form file.now) at.place) result }
+    requires ready { IsReadyFile at.place.offset (file_form volume.now file.now) }
+    ensures { ReadsOrFails (MeansFile (Stream at.left) (file_form volume.now file.now))
+        (λ f. FileFault (InStream First at.left) f (file_form volume.now file.now) at.place) result }
 {
-    let content = read_content(alloc, file, at)?;
-    let attributes = file.attributes.without_large();
-    Ok(FileView::new(
-        file.name,
-        file.kind,
-        attributes,
-        content,
-        file.payload.len() as u32,
-    ))
+    let payload = file.payload(volume);
+    let volumes = read_data(alloc, file, payload, at)?;
+    FileView::new(alloc, file, payload, volumes, at.left)
 }
 
-// Reads the files, in order.
+// Reads the files in order, and returns their views.
 #[cycle(read)]
 fn read_files<'a>(
     alloc: Global,
-    files: &[LocatedFile<'a>],
+    volume: &'a [u8],
+    files: &[LocatedFile],
     at: Level,
 ) -> Result<Vec<FileView<'a>>, Fault>
     requires depth { at.place.depth + at.left ≤ depth_limit }
-    requires stored { AllStored at.place.offset (map file_form files.now) }
-    ensures { ReadsOrFails (λ ms. Pairwise (MeansFile (Stream at.left)) (map file_form files.now) ms.items)
+    requires stored { AllStored at.place.offset (map (file_form volume.now) files.now) }
+    ensures { ReadsOrFails (λ ms. Pairwise (MeansFile (Stream at.left)) (map (file_form volume.now) files.now) ms.items)
         (λ e. OneOf First (MeansFile (Stream at.left)) (λ f. FileFault (InStream First at.left) e f at.place)
-        (map file_form files.now)) result }
+        (map (file_form volume.now) files.now)) result }
 {
     let mut views = Vec::with_capacity(alloc, files.len())?;
     for file in files {
-        let view = read_file(alloc, file, at)?;
+        let view = read_file(alloc, volume, file, at)?;
         views.push(view)?;
     }
     Ok(views)
@@ -198,13 +212,13 @@ fn read_with_files(
     alloc: Global,
     bytes: &[u8],
     at: Level,
-) -> Result<(VolumeView<'_>, u64, Vec<LocatedFile<'_>>), Fault>
+) -> Result<(VolumeView<'_>, u64, Vec<LocatedFile>), Fault>
     requires place { at.place.offset + length bytes.now < 2 ^ 63 }
     requires depth { at.place.depth + at.left ≤ depth_limit }
     ensures read { ReadsOrFails (λ r. Denotes at.left (take r.1 bytes.now) r.0)
         (λ f. InVolume First at.left f bytes.now at.place) result }
     ensures length { IfOk result (λ r. (r.1 ≡ length_of r.0) × (r.1 ≤ length bytes.now)) }
-    ensures files { IfOk result (λ r. BeginWithFiles bytes.now (map file_form r.2.items)) }
+    ensures files { IfOk result (λ r. BeginWithFiles bytes.now (map (file_form bytes.now) r.2.items)) }
     ensures memory { IfErr result (λ f. f ≡ out_of_memory → BeginsWithHeader bytes.now) }
 {
     let (head, extent) = match read_head(alloc, bytes) {
@@ -213,7 +227,7 @@ fn read_with_files(
     };
     let volume = &bytes[..extent.length as usize];
     let (files, order) = files_in_body(alloc, volume, extent, at.place)?;
-    let views = read_files(alloc, files.as_slice(), at)?;
+    let views = read_files(alloc, volume, files.as_slice(), at)?;
     Ok((VolumeView::new(head, views, order), extent.length, files))
 }
 
@@ -316,8 +330,9 @@ pub fn volume_cells(alloc: Global, bytes: &[u8]) -> Result<(Extent, Cells<'_>), 
 }
 
 /// Returns the volume that is the whole input, and its files as they are stored in it: each with
-/// the offset of its header, its header and its data. The files are in the order of
-/// `VolumeView::files`. (PI specification, volume 3, sections 3.2.2 and 3.2.3.)
+/// its name, its type and its attributes, the offset of its header and the length of its data.
+/// `LocatedFile::payload` returns the data. The files are in the order of `VolumeView::files`. (PI
+/// specification, volume 3, sections 3.2.2 and 3.2.3.)
 ///
 /// # Errors
 ///
@@ -325,15 +340,15 @@ pub fn volume_cells(alloc: Global, bytes: &[u8]) -> Result<(Extent, Cells<'_>), 
 pub fn whole_volume_with_files(
     alloc: Global,
     input: &[u8],
-) -> Result<(VolumeView<'_>, Vec<LocatedFile<'_>>), Fault>
+) -> Result<(VolumeView<'_>, Vec<LocatedFile>), Fault>
     // The input is a volume with this meaning, and with no other.
     ensures found { IfOk result (λ r. Accepted input.now r.0) }
     ensures only { IfOk result (λ r. (m : Meaning) → Accepted input.now m → m ≡ r.0) }
 
     // These are the files of the volume, and the input contains each file's data, at the data's
     // offset.
-    ensures files { IfOk result (λ r. BeginWithFiles input.now (map file_form r.1.items)) }
-    ensures data { IfOk result (λ r. AllByRecursion (HasDataIn input.now) (map file_form r.1.items)) }
+    ensures files { IfOk result (λ r. BeginWithFiles input.now (map (file_form input.now) r.1.items)) }
+    ensures data { IfOk result (λ r. AllByRecursion (HasDataIn input.now) (map (file_form input.now) r.1.items)) }
 
     // An error other than OutOfMemory means that the input is not a volume, and is its first fault.
     ensures rejected { IfErr result (OrMemory (NotRead input.now)) }

@@ -1,30 +1,32 @@
 //! A walk over the sections of a file.
 
 ghost use Rattle.std.specs.Prelude.{◌≡◌};
-ghost use Rattle.std.specs.Iterator.{YieldsFirstRef, item_count};
+ghost use Rattle.std.specs.Iterator.{YieldsFirst, item_count};
 ghost use Rattle.fv_tree.specs.LookupInstances.{preorder};
 ghost use Rattle.fv_tree.specs.Meaning.{content_of};
 ghost use Rattle.fv_tree.specs.MeaningParts.{sections_in_data};
 
-use crate::view::{FileView, SectionView};
-use fv_base::Stack;
+use crate::view::{Body, FileView, SectionView, Sections};
+use arrayvec::ArrayVec;
 use std::marker::Model;
+use std::mem::replace;
 
 /// A walk over the sections of a file in preorder: a group is followed by the sections in it. The
 /// sections of a nested volume are not visited. Contracts see the list of the sections that are
 /// left. (PI specification, volume 3, section 3.2.4.)
 #[derive(Drop)]
 pub struct SectionWalk<'v, 'a> {
-    // The sections that are left at each level. The first level has the sections of the file, and
-    // each other level has the sections in a section of the level before it. `next` adds a level
-    // for each section that it returns, also for a section that is not a group, whose level is
-    // empty. Groups nest at most eight deep, so the sections in an innermost group are on the ninth
-    // level at most, and the tenth level is always empty.
-    levels: Stack<&'v [SectionView<'a>], 10>,
+    // The sections that are left in the innermost group that the walk is in, or in the file if the
+    // walk is not in a group.
+    sections: Sections<'v, 'a>,
+    // The sections that are left around this group: first the sections of the file, then the
+    // sections of each group around it, from the outermost group inwards. Groups nest at most eight
+    // deep.
+    outer: ArrayVec<Sections<'v, 'a>, 8>,
 }
 
 impl<'v, 'a> Model for SectionWalk<'v, 'a> {
-    ghost use Rattle.std.specs.Prelude.{List};
+    ghost use Rattle.std.specs.Prelude.{List, [], ◌∷◌, ◌++◌};
     ghost use Rattle.std.specs.Coded.{coded_list};
     ghost use Rattle.fv_tree.specs.inner.Codes.{section_code};
     ghost use Rattle.fv_tree.specs.Meaning.{SectionMeaning};
@@ -35,9 +37,9 @@ impl<'v, 'a> Model for SectionWalk<'v, 'a> {
 
     ghost use Rattle.fv_tree.specs.SectionWalks.{AreLevels, left_in};
 
-    ghost view = { λ w. left_in w.levels };
+    ghost view = { λ w. left_in (w.outer.items ++ w.sections ∷ []) };
 
-    ghost invariant = { λ w. AreLevels 0 w.levels };
+    ghost invariant = { λ w. AreLevels 0 (w.outer.items ++ w.sections ∷ []) };
 }
 
 impl<'v, 'a> SectionWalk<'v, 'a> {
@@ -48,7 +50,8 @@ impl<'v, 'a> SectionWalk<'v, 'a> {
     {
         file.known();
         SectionWalk {
-            levels: Stack::of(file.sections()),
+            sections: file.sections(),
+            outer: ArrayVec::new(),
         }
     }
 }
@@ -56,20 +59,23 @@ impl<'v, 'a> SectionWalk<'v, 'a> {
 /// Returns the first of the remaining sections, and keeps the others. Returns None after the last
 /// section. Takes no memory.
 impl<'v, 'a> Iterator for SectionWalk<'v, 'a> {
-    type Item = &'v SectionView<'a>;
+    type Item = SectionView<'v, 'a>;
 
-    ghost next_gives = { YieldsFirstRef (λ left. left) };
+    ghost next_gives = { YieldsFirst (λ left. left) };
 
     ghost remaining = { item_count (λ left. left) };
 
-    fn next(&mut self) -> Option<&'v SectionView<'a>> {
-        while let Some(level) = self.levels.pop() {
-            if let Some((first, rest)) = level.split_first() {
-                self.levels.push(rest);
-                self.levels.push(first.sections());
-                return Some(first);
+    fn next(&mut self) -> Option<SectionView<'v, 'a>> {
+        loop {
+            if let Some(section) = self.sections.next_section() {
+                let Body::Group(inside) = section.body() else {
+                    return Some(section);
+                };
+                let around = replace(&mut self.sections, inside);
+                self.outer.push(around);
+                return Some(section);
             }
+            self.sections = self.outer.pop()?;
         }
-        None
     }
 }

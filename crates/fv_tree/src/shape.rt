@@ -1,9 +1,9 @@
-//! How the body of a section and the data of a file are read, which depends on their types.
+//! How the body of a section and the data of a file are read.
 
 ghost use Rattle.std.specs.Prelude.{◌≡◌};
-ghost use Rattle.fv_section.specs.StreamReads as framed;
+ghost use Rattle.fv_section.specs.Words as framed;
 ghost use Rattle.fv_tree.specs.Denotes.{holds_sections};
-ghost use Rattle.fv_tree.specs.inner.ReadingParts.{shape_of};
+ghost use Rattle.fv_tree.specs.WalkedSections.{shape_of};
 
 use fv_file::file_type::{FREEFORM, MM_CORE_STANDALONE, PEI_CORE};
 use fv_head::is_one_volume;

@@ -5,9 +5,9 @@ ghost use Rattle.std.specs.List.{AllByRecursion};
 ghost use Rattle.fv_base.specs.Words.{First, out_of_memory, volume_limit};
 ghost use Rattle.fv_head.specs.Words.{BeginsWithHeader};
 ghost use Rattle.fv_names.specs.Words.{names_in, IsOrder, numbers_of};
-ghost use Rattle.fv_tree.specs.FirstFault.{Moved, LayoutFault};
-ghost use Rattle.fv_tree.specs.LocatedFiles.{AreFilesOf, file_form, BeginWithFiles, HasDataIn, IsFirstOfFiles};
-ghost use Rattle.fv_tree.specs.VolumeFiles.{FileForm};
+ghost use Rattle.fv_tree.specs.FirstFault.{Moved, StoredFault};
+ghost use Rattle.fv_tree.specs.LocatedFiles.{AreFilesOf, bare_form, file_form, BeginWithFiles, HasDataIn, IsFirstOfFiles};
+ghost use Rattle.fv_tree.specs.VolumeFiles.{FileForm, end_of};
 ghost use Rattle.fv_tree.specs.inner.NameForms.{named_file};
 ghost use Rattle.fv_tree.specs.inner.ReadingParts.{ReadsOrFails, AllStored};
 
@@ -20,21 +20,22 @@ use std::alloc::Global;
 
 // Returns the files of a volume of this extent, as they are stored in it, and the order of their
 // names.
-pub(crate) fn files_in_body<'a>(
+pub(crate) fn files_in_body(
     alloc: Global,
-    volume: &'a [u8],
+    volume: &[u8],
     extent: Extent,
     place: Place,
-) -> Result<(Vec<LocatedFile<'a>>, NameOrder), Fault>
+) -> Result<(Vec<LocatedFile>, NameOrder), Fault>
     requires place { place.offset + length volume.now < 2 ^ 63 }
     requires small { length volume.now ≤ volume_limit }
     requires multiple { length volume.now % 8 ≡ 0 }
     requires first_multiple { extent.first % 8 ≡ 0 }
     requires first_within { extent.first ≤ length volume.now }
     requires length_is { extent.length ≡ length volume.now }
-    ensures read { ReadsOrFails (λ r. AreFilesOf extent volume.now (map file_form r.0.items))
-        (Moved place (LayoutFault First extent volume.now)) result }
-    ensures stored { IfOk result (λ r. AllStored place.offset (map file_form r.0.items)) }
+    ensures read { ReadsOrFails (λ r. AreFilesOf extent volume.now (map (file_form volume.now) r.0.items))
+        (Moved place (StoredFault First extent volume.now)) result }
+    ensures stored { IfOk result (λ r. AllStored place.offset (map (file_form volume.now) r.0.items)) }
+    ensures ends { IfOk result (λ r. AllByRecursion (λ f. end_of f ≤ length volume.now) (map bare_form r.0.items)) }
     ensures order { IfOk result (λ r. IsOrder (names_in (map named_file r.0.items)) (numbers_of r.1)) }
 {
     let files = match files_in(alloc, volume, &extent) {
@@ -50,9 +51,10 @@ pub(crate) fn files_in_body<'a>(
 }
 
 /// Returns the files of the volume at the start of the bytes, as they are stored in it: each with
-/// the offset of its header, its header and its data. The files are in the order of
-/// `VolumeView::files`. The file checksums are checked, but the data are not split into sections.
-/// (PI specification, volume 3, sections 3.2.2 and 3.2.3.)
+/// its name, its type and its attributes, the offset of its header and the length of its data.
+/// `LocatedFile::payload` returns the data. The files are in the order of `VolumeView::files`. The
+/// file checksums are checked, but the data are not split into sections. (PI specification, volume
+/// 3, sections 3.2.2 and 3.2.3.)
 ///
 /// # Errors
 ///
@@ -60,16 +62,16 @@ pub(crate) fn files_in_body<'a>(
 /// for `cells`; DuplicateName at the later of two files with the same name and state; TopFile at a
 /// volume top file that is not at the end. The offset is in bytes from the start of `bytes`, and
 /// the depth is 0. OutOfMemory at 0, only if the bytes begin with a volume header.
-pub fn located_files(alloc: Global, bytes: &[u8]) -> Result<Vec<LocatedFile<'_>>, Fault>
+pub fn located_files(alloc: Global, bytes: &[u8]) -> Result<Vec<LocatedFile>, Fault>
     // The bytes begin with a volume, and these are its files.
-    ensures found { IfOk result (λ fs. BeginWithFiles bytes.now (map file_form fs.items)) }
+    ensures found { IfOk result (λ fs. BeginWithFiles bytes.now (map (file_form bytes.now) fs.items)) }
 
     // The bytes contain each file's data, at the data's offset.
-    ensures data { IfOk result (λ fs. AllByRecursion (HasDataIn bytes.now) (map file_form fs.items)) }
+    ensures data { IfOk result (λ fs. AllByRecursion (HasDataIn bytes.now) (map (file_form bytes.now) fs.items)) }
 
     // The volume has no other files.
     ensures only { IfOk result
-        (λ fs. (gs : List FileForm) → BeginWithFiles bytes.now gs → gs ≡ map file_form fs.items) }
+        (λ fs. (gs : List FileForm) → BeginWithFiles bytes.now gs → gs ≡ map (file_form bytes.now) fs.items) }
 
     // If an error other than OutOfMemory is returned, no list of files is the list of files of a
     // volume at the start of the bytes.

@@ -1,4 +1,5 @@
-//! A volume, as a view of the bytes that it was read from.
+//! The views of a volume, of its files and of their sections: meanings that refer to the bytes from
+//! which the volume was read.
 
 mod file;
 mod section;
@@ -8,6 +9,7 @@ use fv_base::Guid;
 use fv_file::FileAttributes;
 use fv_head::VolumeHead;
 use fv_names::NameOrder;
+use fv_section::Frame;
 use std::marker::Model;
 use std::mem::size_of;
 
@@ -24,108 +26,105 @@ pub struct VolumeView<'a> {
 }
 
 /// The meaning of a file: its name, its type, its attributes and its content. Only reading a volume
-/// makes a value of this type. (PI specification, volume 3, section 3.2.3.)
+/// makes a value of this type. The view does not store the sections of the file: they are read from
+/// its data each time they are walked. (PI specification, volume 3, section 3.2.3.)
 #[cycle(tree)]
 #[derive(Drop)]
 pub struct FileView<'a> {
-    content: Content<'a>,
+    parts: FileParts<'a>,
     name: Guid,
-    data_len: u32,
+}
+
+/// What a view keeps of a file besides its name. Both variants hold the traits, for which there is
+/// room beside the tag. The volumes are behind a pointer, so that the views of the many files
+/// without volumes stay small.
+#[cycle(tree)]
+#[derive(Drop)]
+pub(crate) enum FileParts<'a> {
+    /// A file without a volume in its data.
+    Single {
+        /// The traits.
+        traits: FileTraits,
+        /// The data.
+        payload: &'a [u8],
+    },
+    /// A file with volumes in its data.
+    Nesting {
+        /// The traits.
+        traits: FileTraits,
+        /// The data, and the volumes in them.
+        nested: Box<NestingData<'a>>,
+    },
+}
+
+/// The numbers that a view keeps of a file.
+#[derive(Clone, Copy)]
+pub(crate) struct FileTraits {
+    /// The type.
     file_type: u8,
+    /// The attributes.
     attributes: FileAttributes,
+    /// Groups and opened volumes in the data nest at most this deep.
+    left: u8,
+}
+
+/// The data of a file, and the volumes that are the bodies of sections in them, including sections
+/// in groups, in the order of the sections.
+#[cycle(tree)]
+#[derive(Drop)]
+pub(crate) struct NestingData<'a> {
+    payload: &'a [u8],
+    volumes: Vec<VolumeView<'a>>,
 }
 
 /// The content of a file, which depends on the file's type. (PI specification, volume 3, section
 /// 3.2.3.)
-#[cycle(tree)]
 #[derive(Drop)]
-pub enum Content<'a> {
+pub enum Content<'v, 'a> {
     /// Plain bytes, which are not interpreted.
     Plain(&'a [u8]),
-    /// Sections.
-    Stream {
-        /// The number of bytes after the last section, 0 to 3.
-        tail: u8,
-        /// The sections in order.
-        sections: Vec<SectionView<'a>>,
-    },
+    /// The sections of a stream.
+    Stream(Sections<'v, 'a>),
 }
 
 /// The meaning of a section: its type, the form of its header, and its body. Only reading a volume
 /// makes a value of this type. (PI specification, volume 3, section 3.2.4.)
-#[cycle(tree)]
 #[derive(Drop)]
-pub struct SectionView<'a> {
-    parts: Parts<'a>,
+pub struct SectionView<'v, 'a> {
+    frame: Frame<'a>,
+    // The volumes in this section, followed by the volumes in all later sections of the file.
+    volumes: &'v [VolumeView<'a>],
+    // Groups and opened volumes, including the section itself, nest at most this deep.
+    left: usize,
 }
 
-/// The parts of a section. Each variant has its own `kind` (the type) and `extended` (the form of
-/// the header), because there is room for them beside the variant's tag. So a section takes 24
-/// bytes.
-#[cycle(tree)]
+/// An iterator over the sections of a stream, which reads them from the bytes of the stream, one
+/// after another. Contracts see the list of the remaining sections, and the number of bytes after
+/// the last section. (PI specification, volume 3, section 3.2.4.)
 #[derive(Drop)]
-enum Parts<'a> {
-    /// Plain bytes, which are not interpreted.
-    Leaf {
-        kind: u8,
-        extended: bool,
-        bytes: &'a [u8],
-    },
-    /// Sections.
-    Group {
-        kind: u8,
-        extended: bool,
-        /// The number of bytes after the last section, 0 to 3.
-        tail: u8,
-        /// The number of bytes of the body.
-        len: u32,
-        sections: Sections<'a>,
-    },
-    /// A volume. The volume is behind a pointer, so that sections without a volume stay small.
-    Nested {
-        kind: u8,
-        extended: bool,
-        volume: Box<VolumeView<'a>>,
-    },
+pub struct Sections<'v, 'a> {
+    // The bytes of the stream from the next section on or, after the last section, the tail.
+    rest: &'a [u8],
+    // The volumes in the remaining sections, followed by the volumes in all later sections of the
+    // file.
+    volumes: &'v [VolumeView<'a>],
+    // Groups and opened volumes, including the sections themselves, nest at most this deep.
+    left: usize,
 }
 
-/// The sections of a group, in order. One or two sections are kept without a vector, because the
-/// vector would take more memory than they do.
-#[cycle(tree)]
+/// The body of a section. (PI specification, volume 3, section 3.2.5.)
 #[derive(Drop)]
-enum Sections<'a> {
-    /// No section.
-    Empty,
-    /// One section.
-    One(Box<SectionView<'a>>),
-    /// Two sections.
-    Two(Box<[SectionView<'a>; 2]>),
-    /// More sections.
-    Many(Box<Vec<SectionView<'a>>>),
-}
-
-/// The body of a section, borrowed from its view. (PI specification, volume 3, section 3.2.5.)
-#[derive(Clone, Copy)]
 pub enum Body<'v, 'a> {
     /// Plain bytes: a slice of the bytes that were read, which outlives the view.
     Leaf(&'a [u8]),
-    /// Sections.
-    Group {
-        /// The sections in order.
-        sections: &'v [SectionView<'a>],
-        /// The number of bytes after the last section, 0 to 3.
-        tail: u8,
-    },
-    /// A volume.
+    /// The sections of a group.
+    Group(Sections<'v, 'a>),
+    /// The view of a volume.
     Nested(&'v VolumeView<'a>),
 }
 
-// A section takes at least 4 bytes of a volume, so its view takes at most 6 times the length of the
-// section.
-const _: () = prove!(size_of::<SectionView<'static>>() == 24);
-
-// A file takes at least 24 bytes of a volume.
-const _: () = prove!(size_of::<FileView<'static>>() <= 56);
+// The size of a file view is fixed, because a file can be as short as 24 bytes.
+const _: () = prove!(size_of::<FileView<'static>>() == 40);
 
 impl<'a> Model for VolumeView<'a> {
     ghost use Rattle.fv_tree.specs.inner.Codes.{volume_code};
@@ -153,9 +152,8 @@ impl<'a> Model for VolumeView<'a> {
 }
 
 impl<'a> Model for FileView<'a> {
-    ghost use Rattle.std.specs.Prelude.{◌≡◌};
     ghost use Rattle.fv_tree.specs.inner.Codes.{file_code};
-    ghost use Rattle.fv_tree.specs.Meaning.{FileMeaning, File, content_len};
+    ghost use Rattle.fv_tree.specs.Meaning.{FileMeaning, File};
     ghost use Rattle.fv_tree.specs.inner.Sizes.{file_size};
 
     ghost Value = { FileMeaning };
@@ -163,45 +161,58 @@ impl<'a> Model for FileView<'a> {
     ghost coded = { file_code };
 
     ghost use Rattle.fv_file.specs.Words.{attribute_bits};
-    ghost use Rattle.fv_tree.specs.Views.{content_view};
+    ghost use Rattle.fv_tree.specs.Denotes.{holds_sections};
+    ghost use Rattle.fv_tree.specs.KeptParts.{data_of, nested_list, traits_of};
+    ghost use Rattle.fv_tree.specs.WalkedSections.{content_by, IsKeptFile};
 
-    ghost view = { λ f. File f.name f.file_type (attribute_bits f.attributes) (content_view f.content) };
+    ghost view = { λ f. File f.name (traits_of f.parts).file_type (attribute_bits (traits_of f.parts).attributes)
+        (content_by (holds_sections (traits_of f.parts).file_type) (traits_of f.parts).left (data_of f.parts)
+        (nested_list f.parts)).0 };
 
-    ghost use Rattle.fv_tree.specs.ReadParts.{IsReadFile};
-
-    ghost invariant = { λ f. IsReadFile (File f.name f.file_type (attribute_bits f.attributes) (content_view f.content))
-        × (f.data_len ≡ content_len (content_view f.content)) };
+    ghost invariant = { λ f. IsKeptFile (traits_of f.parts).left (data_of f.parts) (nested_list f.parts) f.name
+        (traits_of f.parts).file_type (attribute_bits (traits_of f.parts).attributes) };
 
     ghost size = { file_size };
 
     ghost use Rattle.std.proofs.Common.{arith};
-    ghost use Rattle.fv_tree.specs.inner.Falls.{content_falls};
+    ghost use Rattle.fv_tree.specs.inner.Falls.{file_falls};
 
-    ghost size_decreases = { λ f h. Prim.omega (arith, content_falls f.content) };
+    ghost size_decreases = { λ f h. Prim.omega (
+      arith,
+      file_falls f.parts (holds_sections (traits_of f.parts).file_type)
+          (traits_of f.parts).left (data_of f.parts) h.none,
+    ) };
 }
 
-impl<'a> Model for SectionView<'a> {
-    ghost use Rattle.std.specs.Prelude.{◌≡◌};
+impl<'v, 'a> Model for SectionView<'v, 'a> {
     ghost use Rattle.fv_tree.specs.inner.Codes.{section_code};
     ghost use Rattle.fv_tree.specs.Meaning.{SectionMeaning};
-    ghost use Rattle.fv_tree.specs.inner.Sizes.{section_size};
 
     ghost Value = { SectionMeaning };
 
     ghost coded = { section_code };
 
-    ghost use Rattle.fv_tree.specs.Views.{parts_view, HasLength};
+    ghost use Rattle.fv_section.specs.Words.{frame_form};
+    ghost use Rattle.fv_tree.specs.WalkedSections.{section_by, IsKept};
 
-    ghost view = { λ s. parts_view s.parts };
+    ghost view = { λ s. (section_by s.left (frame_form s.frame) s.volumes.now).0 };
 
-    ghost use Rattle.fv_tree.specs.ReadParts.{IsReadSection};
+    ghost invariant = { λ s. IsKept s.left (frame_form s.frame) s.volumes.now };
+}
 
-    ghost invariant = { λ s. IsReadSection (parts_view s.parts) × HasLength s.parts };
+impl<'v, 'a> Model for Sections<'v, 'a> {
+    ghost use Rattle.std.specs.Prelude.{ℕ, List};
+    ghost use Rattle.std.specs.Coded.{coded×, coded_ℕ, coded_list};
+    ghost use Rattle.fv_tree.specs.inner.Codes.{section_code};
+    ghost use Rattle.fv_tree.specs.Meaning.{SectionMeaning};
 
-    ghost size = { section_size };
+    ghost Value = { List SectionMeaning × ℕ };
 
-    ghost use Rattle.std.proofs.Common.{arith};
-    ghost use Rattle.fv_tree.specs.inner.Falls.{parts_fall};
+    ghost coded = { coded× (coded_list section_code) coded_ℕ };
 
-    ghost size_decreases = { λ s h. Prim.omega (arith, parts_fall s.parts) };
+    ghost use Rattle.fv_tree.specs.WalkedSections.{each_by, frames_of, section_by, tail_of, AreKept};
+
+    ghost view = { λ s. ((each_by (section_by s.left) (frames_of s.rest.now) s.volumes.now).0, tail_of s.rest.now) };
+
+    ghost invariant = { λ s. AreKept s.left s.rest.now s.volumes.now };
 }

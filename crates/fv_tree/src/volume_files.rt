@@ -9,9 +9,9 @@ ghost use Rattle.fv_tree.specs.VolumeFiles.{FileForm, NoTwins, TopAtEnd, AreCurr
 ghost use Rattle.fv_tree.specs.VolumeFiles.{is_top, end_of, replaced_by};
 ghost use Rattle.fv_tree.specs.inner.NameForms.{named_file};
 ghost use Rattle.fv_names.specs.Words.{names_in, IsIndex, entries_of};
-ghost use Rattle.fv_tree.specs.LocatedFiles.{file_form, state_by};
-ghost use Rattle.fv_tree.specs.inner.ReadingParts.{IsSmallCell, is_replaced, mark_of};
-ghost use Rattle.fv_file.specs.CellForms as cellular;
+ghost use Rattle.fv_tree.specs.LocatedFiles.{bare_form, file_form, state_by};
+ghost use Rattle.fv_tree.specs.inner.ReadingParts.{IsSmallCell, bare, is_replaced, mark_of};
+ghost use Rattle.fv_file.specs.Words as cellular;
 ghost use Rattle.fv_file.specs.Words.{CellForm, Tiles, IsFirstCellFault};
 
 use fv_base::{Fault, FaultKind, Guid, check};
@@ -20,6 +20,7 @@ use fv_file::{Cell, CellWalk, FileAttributes, FileState};
 use fv_head::Extent;
 use fv_names::{NameIndex, Named};
 use std::alloc::Global;
+use std::mem::size_of;
 
 /// The bytes of the name of the volume top file, `EFI_FFS_VOLUME_TOP_FILE_GUID`,
 /// 1ba0062e-c779-4582-8566-336ae8f78f09. (PI specification, volume 3, section 3.2.1.3.)
@@ -27,7 +28,8 @@ pub const VOLUME_TOP_FILE: [u8; 16] = [
     0x2e, 0x06, 0xa0, 0x1b, 0x79, 0xc7, 0x82, 0x45, 0x85, 0x66, 0x33, 0x6a, 0xe8, 0xf7, 0x8f, 0x09,
 ];
 
-/// Whether a file is marked for update (`EFI_FILE_MARKED_FOR_UPDATE`).
+/// Whether a file is marked for update (`EFI_FILE_MARKED_FOR_UPDATE`), and whether another file
+/// replaces it.
 #[derive(Clone, Copy)]
 pub(crate) enum Mark {
     /// The file is not marked.
@@ -83,32 +85,33 @@ impl Mark {
     }
 }
 
-/// A valid file as it is stored in its volume. A volume may hold as many files as it has room for
-/// headers. To save memory, the length of the header, the size and the file checksum are not kept:
-/// they follow from the attributes and the data. (PI specification, volume 3, section 3.2.3.)
+/// A valid file as it is stored in its volume. A volume can consist of little more than headers of
+/// files, so a value of this type is small: the data, the length of the header, the size and the
+/// file checksum are not kept. The data are in the volume, and the others follow from the
+/// attributes and the data. (PI specification, volume 3, section 3.2.3.)
 #[derive(Clone, Copy)]
-pub struct LocatedFile<'a> {
-    /// The data of the file, which follow the header.
-    pub payload: &'a [u8],
+pub struct LocatedFile {
     /// The name of the file, `Name`.
     pub name: Guid,
     /// The offset of the header, in bytes from the volume's start.
     pub offset: u32,
+    /// The number of bytes of the data, which follow the header.
+    pub len: u32,
     /// The type of the file, `Type`.
     pub kind: u8,
     /// The attribute bits of the file, `Attributes`.
     pub attributes: FileAttributes,
     /// The header checksum. No call reads it, but clauses mention it.
     pub(crate) header_sum: u8,
-    /// Whether the file is marked for update.
+    /// Whether the file is marked for update, and whether another file replaces it.
     pub(crate) mark: Mark,
 }
 
-impl<'a> LocatedFile<'a> {
+impl LocatedFile {
     /// Returns the length of the file's header in bytes, 24 or 32. (PI specification, volume 3,
     /// section 3.2.3.1.)
     pub fn header_len(&self) -> u64
-        ensures is { result ≡ (file_form self.now).head.header_len }
+        ensures is { result ≡ (bare_form self.now).head.header_len }
         ensures most { result ≤ 32 }
     {
         if self.attributes.is_large() {
@@ -117,19 +120,36 @@ impl<'a> LocatedFile<'a> {
             HEADER_LEN as u64
         }
     }
+
+    /// Returns the bytes of `volume` at the place of the file's data. They are the file's data if
+    /// `volume` begins with the volume that the file was read from. If `volume` ends too early,
+    /// fewer bytes are returned, or none.
+    pub fn payload<'a>(&self, volume: &'a [u8]) -> &'a [u8]
+        ensures { result.now ≡ (file_form volume.now self.now).payload }
+    {
+        let start = self.offset as usize + self.header_len() as usize;
+        let start = start.min(volume.len());
+        let len = (self.len as usize).min(volume.len() - start);
+        &volume[start..start + len]
+    }
 }
+
+// A file takes at least 24 bytes of a volume, and a value of this type takes 28. So a list of the
+// files takes at most 7/6 of the length of the volume.
+const _: () = prove!(size_of::<LocatedFile>() == 28);
 
 // Returns whether a file is a volume top file, by its name.
 fn is_top(file: &LocatedFile) -> bool
-    ensures { result ≡ is_top (file_form file.now) }
+    ensures { result ≡ is_top (bare_form file.now) }
 {
     file.name.to_bytes()[..] == VOLUME_TOP_FILE[..]
 }
 
-// Returns the file in a cell, if the cell contains one.
-fn file_of<'a>(cell: &Cell<'a>) -> Option<LocatedFile<'a>>
+// Returns the file of a `Valid` cell, or None for any other cell: pads and dead files are not files of
+// a volume.
+fn file_of(cell: &Cell) -> Option<LocatedFile>
     requires { IsSmallCell (cellular.cell_form cell.now) }
-    ensures some { IfSome result (λ s. files_in (cellular.cell_form cell.now ∷ []) ≡ file_form s ∷ []) }
+    ensures some { IfSome result (λ s. map bare (files_in (cellular.cell_form cell.now ∷ [])) ≡ bare_form s ∷ []) }
     ensures none { IfNone result (files_in (cellular.cell_form cell.now ∷ []) ≡ []) }
 {
     match *cell {
@@ -138,9 +158,9 @@ fn file_of<'a>(cell: &Cell<'a>) -> Option<LocatedFile<'a>>
             head,
             payload,
         } => Some(LocatedFile {
-            payload,
             name: head.name,
             offset: offset as u32,
+            len: payload.len() as u32,
             kind: head.kind,
             attributes: head.attributes,
             header_sum: head.header_sum,
@@ -151,18 +171,18 @@ fn file_of<'a>(cell: &Cell<'a>) -> Option<LocatedFile<'a>>
 }
 
 // Returns the valid files in the body of a volume of this extent, in order.
-pub(crate) fn files_in<'a>(
+pub(crate) fn files_in(
     alloc: Global,
-    volume: &'a [u8],
+    volume: &[u8],
     extent: &Extent,
-) -> Result<Vec<LocatedFile<'a>>, Fault>
+) -> Result<Vec<LocatedFile>, Fault>
     requires small { length_of volume.now ≤ volume_limit }
     requires multiple { length_of volume.now % 8 ≡ 0 }
     requires first_multiple { extent.now.first % 8 ≡ 0 }
     requires within { extent.now.first ≤ length_of volume.now }
     ensures found { IfOk result (λ fs. (cs : List CellForm)
         × Tiles extent.now.file_system extent.now.polarity extent.now.first cs (drop extent.now.first volume.now)
-        × (map file_form fs.items ≡ files_in cs)) }
+        × (map bare_form fs.items ≡ map bare (files_in cs))) }
     ensures first { IfErr result (λ f. f ≢ out_of_memory → IsFirstCellFault extent.now.file_system
         extent.now.polarity extent.now.first (drop extent.now.first volume.now) f) }
     ensures bound { IfErr result (λ f. f.place.offset ≤ length_of volume.now) }
@@ -182,8 +202,8 @@ pub(crate) fn files_in<'a>(
 // is marked for update. The fault is DuplicateName at the first file that has an earlier twin.
 fn check_twins(files: &[LocatedFile], index: &NameIndex) -> Result<(), Fault>
     requires { IsIndex (names_in (map named_file files.now)) (entries_of index.now) }
-    ensures found { OnOk result (NoTwins (map file_form files.now)) }
-    ensures first { IfErr result (λ e. (f : FileForm) × HasTwin First f (map file_form files.now)
+    ensures found { OnOk result (NoTwins (map bare_form files.now)) }
+    ensures first { IfErr result (λ e. (f : FileForm) × HasTwin First f (map bare_form files.now)
         × (e ≡ outer_fault FaultKind.DuplicateName f.offset)) }
 {
     let first = index.first_twin(files);
@@ -197,9 +217,9 @@ fn check_twins(files: &[LocatedFile], index: &NameIndex) -> Result<(), Fault>
 // Records in the mark of each file whether another file replaces this file.
 fn set_replaced(files: &mut [LocatedFile], index: &NameIndex)
     requires index { IsIndex (names_in (map named_file files.old)) (entries_of index.now) }
-    requires no_twins { NoTwins (map file_form files.old) }
-    ensures same { map file_form files.new ≡ map file_form files.old }
-    ensures replaced { All (λ s. is_replaced s.mark ≡ list_any (replaced_by (file_form s)) (map file_form files.new))
+    requires no_twins { NoTwins (map bare_form files.old) }
+    ensures same { map bare_form files.new ≡ map bare_form files.old }
+    ensures replaced { All (λ s. is_replaced s.mark ≡ list_any (replaced_by (bare_form s)) (map bare_form files.new))
         files.new }
 {
     for place in 0..index.len() {
@@ -212,8 +232,8 @@ fn set_replaced(files: &mut [LocatedFile], index: &NameIndex)
 // Keeps only the files that no other file replaces.
 fn keep_current(files: &mut Vec<LocatedFile>, index: &NameIndex)
     requires index { IsIndex (names_in (map named_file files.old.items)) (entries_of index.now) }
-    requires no_twins { NoTwins (map file_form files.old.items) }
-    ensures { map file_form files.new.items ≡ current_in (map file_form files.old.items) }
+    requires no_twins { NoTwins (map bare_form files.old.items) }
+    ensures { map bare_form files.new.items ≡ current_in (map bare_form files.old.items) }
 {
     set_replaced(files.as_mut_slice(), index);
     files.retain(|file| !file.mark.is_replaced());
@@ -221,16 +241,16 @@ fn keep_current(files: &mut Vec<LocatedFile>, index: &NameIndex)
 
 // Returns whether a file ends at this offset.
 fn ends_at(file: &LocatedFile, place: u64) -> bool
-    ensures { result ≡ (end_of (file_form file.now) == place) }
+    ensures { result ≡ (end_of (bare_form file.now) == place) }
 {
     let start = u64::from(file.offset) + file.header_len();
-    start <= place && file.payload.len() as u64 == place - start
+    start <= place && u64::from(file.len) == place - start
 }
 
 // Returns whether a file is where it may be. A volume top file must be the last file, and must end
 // where the volume ends. Any other file may be anywhere.
 fn is_placed(file: &LocatedFile, last: bool, length: u64) -> bool
-    ensures { result ≡ (not (is_top (file_form file.now)) || (last && (end_of (file_form file.now) == length))) }
+    ensures { result ≡ (not (is_top (bare_form file.now)) || (last && (end_of (bare_form file.now) == length))) }
 {
     !is_top(file) || (last && ends_at(file, length))
 }
@@ -239,8 +259,8 @@ fn is_placed(file: &LocatedFile, last: bool, length: u64) -> bool
 // Otherwise the fault is TopFile, at the first volume top file that is not the last file or ends
 // elsewhere.
 fn check_top(files: &[LocatedFile], length: u64) -> Result<(), Fault>
-    ensures found { OnOk result (TopAtEnd length (map file_form files.now)) }
-    ensures first { IfErr result (λ e. (f : FileForm) × TopElsewhere length f (map file_form files.now)
+    ensures found { OnOk result (TopAtEnd length (map bare_form files.now)) }
+    ensures first { IfErr result (λ e. (f : FileForm) × TopElsewhere length f (map bare_form files.now)
         × (e ≡ outer_fault FaultKind.TopFile f.offset)) }
 {
     let mut left = files.len();
@@ -257,48 +277,49 @@ fn check_top(files: &[LocatedFile], length: u64) -> Result<(), Fault>
 
 // Returns the same as `current_files`, if some of the files may share a name. `index` is the index
 // of the files' names.
-fn files_sharing_names<'a>(
-    alloc: Global,
-    files: Vec<LocatedFile<'a>>,
+fn files_sharing_names(
+    files: Vec<LocatedFile>,
     index: NameIndex,
     length: u64,
-) -> Result<(Vec<LocatedFile<'a>>, NameIndex), Fault>
-    requires within { AllByRecursion (λ f. f.offset ≤ length) (map file_form files.items) }
+) -> Result<(Vec<LocatedFile>, NameIndex), Fault>
+    requires within { AllByRecursion (λ f. f.offset ≤ length) (map bare_form files.items) }
     requires few { length_of files.items < 2 ^ 32 }
     requires index { IsIndex (names_in (map named_file files.items)) (entries_of index) }
-    ensures found { IfOk result (λ r. AreCurrent length (map file_form files.entry.items) (map file_form r.0.items)) }
+    ensures found { IfOk result (λ r. AreCurrent length (map bare_form files.items) (map bare_form r.0.items)) }
     ensures index { IfOk result (λ r. IsIndex (names_in (map named_file r.0.items)) (entries_of r.1)) }
     ensures first { IfErr result
-        (λ f. f ≢ out_of_memory → NamesFault First length (map file_form files.entry.items) f) }
+        (λ f. f ≢ out_of_memory → NamesFault First length (map bare_form files.items) f) }
     ensures bound { IfErr result (λ f. f.place.offset ≤ length) }
 {
     check_twins(files.as_slice(), &index)?;
     let mut current = files;
     keep_current(&mut current, &index);
-    drop(index);
     check_top(current.as_slice(), length)?;
-    let index = NameIndex::of(alloc, current.as_slice())?;
+    // Fills the same index again. A second index would be made while the first still takes memory,
+    // and the allocator may keep that memory after the first is dropped.
+    let mut index = index;
+    index.refill(current.as_slice())?;
     Ok((current, index))
 }
 
 // Returns the files that are part of a volume of this length, out of the valid files in it, with
 // the index of their names; or the first fault.
-pub(crate) fn current_files<'a>(
+pub(crate) fn current_files(
     alloc: Global,
-    files: Vec<LocatedFile<'a>>,
+    files: Vec<LocatedFile>,
     length: u64,
-) -> Result<(Vec<LocatedFile<'a>>, NameIndex), Fault>
-    requires within { AllByRecursion (λ f. f.offset ≤ length) (map file_form files.items) }
+) -> Result<(Vec<LocatedFile>, NameIndex), Fault>
+    requires within { AllByRecursion (λ f. f.offset ≤ length) (map bare_form files.items) }
     requires few { length_of files.items < 2 ^ 32 }
-    ensures found { IfOk result (λ r. AreCurrent length (map file_form files.entry.items) (map file_form r.0.items)) }
+    ensures found { IfOk result (λ r. AreCurrent length (map bare_form files.items) (map bare_form r.0.items)) }
     ensures index { IfOk result (λ r. IsIndex (names_in (map named_file r.0.items)) (entries_of r.1)) }
     ensures first { IfErr result
-        (λ f. f ≢ out_of_memory → NamesFault First length (map file_form files.entry.items) f) }
+        (λ f. f ≢ out_of_memory → NamesFault First length (map bare_form files.items) f) }
     ensures bound { IfErr result (λ f. f.place.offset ≤ length) }
 {
     let index = NameIndex::of(alloc, files.as_slice())?;
     if !index.are_distinct() {
-        return files_sharing_names(alloc, files, index, length);
+        return files_sharing_names(files, index, length);
     }
     // Twins and updates share a name with another file. So if all names differ, there are no twins,
     // no file is dropped, and the index of all files is the index of the files that are kept.
@@ -307,7 +328,7 @@ pub(crate) fn current_files<'a>(
 }
 
 /// Gives `NameIndex` the file's name, and whether the file is marked for update.
-impl<'a> Named for LocatedFile<'a> {
+impl Named for LocatedFile {
     ghost named = { named_file };
 
     fn name(&self) -> Guid {

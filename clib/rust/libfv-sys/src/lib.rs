@@ -14,12 +14,12 @@ use std::os::raw::{c_char, c_void};
 /// `FV_NOT_FOUND` and `FV_BAD_ARGUMENT`, or one that a later version adds.
 pub type fv_result = u32;
 
-pub const FV_VERSION: &str = "2.0.0";
+pub const FV_VERSION: &str = "2.1.0-dev";
 pub const FV_VERSION_MAJOR: u32 = 2;
-pub const FV_VERSION_MINOR: u32 = 0;
+pub const FV_VERSION_MINOR: u32 = 1;
 pub const FV_VERSION_PATCH: u32 = 0;
 /// Major << 16 | minor << 8 | patch.
-pub const FV_VERSION_NUMBER: u32 = 0x020000;
+pub const FV_VERSION_NUMBER: u32 = 0x020100;
 /// The most bytes of a volume, and of an image that is checked or normalised.
 pub const FV_LENGTH_MAX: u32 = 268435456;
 /// The most bytes of the text of `fv_volume_compare`, its NUL included.

@@ -135,7 +135,7 @@ fn parts_of_file_are_right(alloc: Global, file: &FileView, image: &[u8]) -> bool
         return false;
     };
     is_made_or_memory_ran_out(file_bytes(alloc, file), data)
-        && is_made_or_memory_ran_out(body_bytes(alloc, section), body)
+        && is_made_or_memory_ran_out(body_bytes(alloc, &section), body)
 }
 
 // Returns whether the data of a volume's first file and the volume in it are made, or memory ran

@@ -9,26 +9,17 @@ use fv_command::{Status, run_plan};
 use fv_plan::Plan;
 use fv_tree::{
     Body, Content, Difference, DifferenceKind, FileView, FoundVolume, Item, Lookup, Offsets,
-    SectionView, Step, VolumeView, file_by_name, file_by_type, first_difference, next_file,
-    read_volume, scan, section_by_type, volumes,
+    SectionView, Sections, Step, VolumeView, file_by_name, file_by_type, first_difference,
+    next_file, read_volume, scan, section_by_type, volumes,
 };
 
 // Names the contents of a file, and the bodies of a section.
-fn name_parts(content: &Content<'_>, body: Body<'_, '_>) {
+fn name_parts(content: Content<'_, '_>, body: Body<'_, '_>) {
     match content {
-        Content::Plain(_)
-        | Content::Stream {
-            sections: _,
-            tail: _,
-        } => {}
+        Content::Plain(_) | Content::Stream(_) => {}
     }
     match body {
-        Body::Leaf(_)
-        | Body::Group {
-            sections: _,
-            tail: _,
-        }
-        | Body::Nested(_) => {}
+        Body::Leaf(_) | Body::Group(_) | Body::Nested(_) => {}
     }
 }
 
@@ -75,9 +66,10 @@ pub(super) fn name_tree() {
     let _ = (FileView::content, FileView::plain, FileView::data_len);
     let _ = (SectionView::kind, SectionView::extended, SectionView::leaf);
     let _ = (SectionView::body_len, SectionView::body);
+    let _ = (Sections::next_section, Sections::tail);
     let _ = (Offsets::as_slice, FoundVolume::bytes);
     let _ = (Difference::steps, Difference::word);
-    name_parts(&Content::Plain(b""), Body::Leaf(b""));
+    name_parts(Content::Plain(b""), Body::Leaf(b""));
     name_lookup(Lookup::Absent);
     name_difference(Step::File(0), DifferenceKind::Name);
 }

@@ -126,8 +126,8 @@ fn is_row_read(alloc: Global, row: &ReadRow) -> bool {
     }
 }
 
-// Returns the rows. A function that names a large constant is proved with the whole constant, so no
-// other function names `READ`.
+// Returns the rows. No other function names `READ`, because the proof of each function that names a
+// large constant contains the whole constant.
 fn read_rows() -> &'static [ReadRow] {
     READ
 }

@@ -69,8 +69,8 @@ fn parts_are_written_back(alloc: Global, parts: Parts, phase: Phase) -> bool {
     }
 }
 
-// Returns the bodies. A function that names a large constant is proved with the whole constant, so
-// no other function names `BODIES`.
+// Returns the bodies. No other function names `BODIES`, because the proof of each function that
+// names a large constant contains the whole constant.
 fn bodies() -> &'static [(Phase, Parts)] {
     BODIES
 }

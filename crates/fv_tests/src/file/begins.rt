@@ -95,8 +95,8 @@ fn with_fields(name: [u8; 16], fields: u64, more: &[u8]) -> [u8; 56] {
     bytes
 }
 
-// Returns the rows. A function that names a large constant is proved with the whole constant, so no
-// other function names `FILES`.
+// Returns the rows. No other function names `FILES`, because the proof of each function that names
+// a large constant contains the whole constant.
 fn files() -> &'static [FileRow] {
     FILES
 }

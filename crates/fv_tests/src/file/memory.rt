@@ -76,8 +76,8 @@ const BODIES_OF_ZEROS: &[BodyRow] = &[
     ),
 ];
 
-// Returns the rows. A function that names a large constant is proved with the whole constant, so no
-// other function names `BODIES_OF_ONES` and `BODIES_OF_ZEROS`.
+// Returns the rows. No other function names `BODIES_OF_ONES` and `BODIES_OF_ZEROS`, because the
+// proof of each function that names a large constant contains the whole constant.
 fn bodies(polarity: Polarity) -> &'static [BodyRow] {
     match polarity {
         Polarity::Ones => BODIES_OF_ONES,

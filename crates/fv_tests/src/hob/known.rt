@@ -147,8 +147,8 @@ const KNOWN_WRAPS: Known = Known {
 /// All known lists.
 const LISTS: &[Known] = &[KNOWN_LIST, KNOWN_TYPES, KNOWN_SHORTEST, KNOWN_WRAPS];
 
-// Returns the lists. A function that names a large constant is proved with the whole constant, so
-// no other function names `LISTS`.
+// Returns the lists. No other function names `LISTS`, because the proof of each function that names
+// a large constant contains the whole constant.
 pub(super) fn lists() -> &'static [Known] {
     LISTS
 }

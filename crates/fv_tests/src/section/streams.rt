@@ -7,7 +7,8 @@ use std::alloc::Global;
 /// The offset of a frame, its type, whether its header is extended, and its body.
 pub(super) type ExpectedFrame<'a> = (u64, u8, bool, &'a [u8]);
 
-/// Two sections with filler of any value between them, and 3 bytes after the last.
+/// Two sections with filler of any value between them, and 3 bytes after the last. The tail may have
+/// only 2 bytes here: the first 14, 15 or 16 bytes are a stream, and all 17 are not.
 pub(super) const PAIR: [u8; 17] = [
     0x05, 0x00, 0x00, 0x19, 0x5a, 0xee, 0xee, 0xee, 0x06, 0x00, 0x00, 0x19, 0x01, 0x02, 0xee, 0xee,
     0xee,

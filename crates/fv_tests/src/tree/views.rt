@@ -20,7 +20,7 @@ fn part_of<'a>(view: &VolumeView<'a>) -> Option<&'a [u8]> {
     let file = view.file(0)?;
     match file.content() {
         Content::Plain(_) => file.plain(),
-        Content::Stream { sections, .. } => sections.first()?.leaf(),
+        Content::Stream(mut sections) => sections.next_section()?.leaf(),
     }
 }
 

@@ -1,6 +1,6 @@
 -- The name and the mark of a file, from which the index of names is made.
 use Rattle.fv_names.specs.Words.{NamedFile}
-use Rattle.fv_tree.specs.LocatedFiles.{file_form}
+use Rattle.fv_tree.specs.LocatedFiles.{bare_form}
 use Rattle.fv_tree.specs.VolumeFiles.{FileForm, is_marked}
 use Rattle.fv_tree.specs.declared.volume_files.LocatedFile.{LocatedFile}
 
@@ -10,4 +10,4 @@ named_form f = record { name = f.head.name; marked = is_marked f.head.state }
 
 -- the same for a file that a call has returned
 abbrev pub named_file : LocatedFile → NamedFile
-named_file s = named_form (file_form s)
+named_file s = named_form (bare_form s)

@@ -1,7 +1,7 @@
--- The mark of a stored file; the fields of a header that a stored file does not keep, which follow from the fields that
--- it keeps; how the body of a section is read; the result of a reader of a part of a volume; and what a reader of files
--- requires of each file.
-use Rattle.std.specs.Prelude.{◌≡◌, ℕ, ◌+◌, ◌<◌, ◌^◌, Bool, true, false, List, length, ◌==◌, ◌&&◌, if◌then◌else◌, ◌≢◌}
+-- Definitions for the readers of files: the mark of a stored file; a file without its data; the header fields that a
+-- stored file does not keep, because they follow from the fields that it keeps; the result of a reader of a part of a
+-- volume; and what a reader of files requires of each file.
+use Rattle.std.specs.Prelude.{◌≡◌, ℕ, ◌+◌, ◌<◌, ◌^◌, Bool, true, false, List, [], length, ◌≢◌}
 use Rattle.std.specs.Prelude.{◌≤◌, Result, MatchResult}
 use Rattle.fv_file.specs.Words.{CellForm, Valid, attribute_bits, file_sum_for}
 use Rattle.fv_file.specs.declared.head.FileHead.{FileHead}
@@ -10,11 +10,6 @@ use Rattle.fv_file.specs.declared.state.FileState.TheVariants as states
 use Rattle.fv_tree.specs.LocatedFiles.{state_by, header_len_by}
 use Rattle.fv_tree.specs.declared.volume_files.Mark.{Mark}
 use Rattle.fv_tree.specs.declared.volume_files.Mark.TheVariants as marks
-use Rattle.fv_head.specs.Words.{is_one_volume}
-use Rattle.fv_section.specs.Words.{FrameForm}
-use Rattle.fv_tree.specs.Denotes.{group_kind, volume_kind}
-use Rattle.fv_tree.specs.declared.shape.Shape.{Shape}
-use Rattle.fv_tree.specs.declared.shape.Shape.TheVariants as shapes
 use Rattle.std.specs.List.{AllByRecursion}
 use Rattle.fv_base.specs.Words.{out_of_memory, volume_limit}
 use Rattle.fv_base.specs.declared.fault.Fault.{Fault}
@@ -39,16 +34,28 @@ pub record FollowsFrom (head : FileHead) (payload : List ℕ) : Type 0 where
   pub file_sum : head.file_sum ≡ file_sum_for (attribute_bits head.attributes) payload
   pub state : head.state ≡ state_by (mark_of head.state)
 
--- if the cell is a valid file, its header follows from the fields that are kept of it, and its offset fits in 32 bits
-abbrev pub IsSmallCell : CellForm → Type 0
-IsSmallCell (Valid at head payload) = (at < 2 ^ 32) × FollowsFrom head payload
-IsSmallCell _ = Unit {0}
+-- the file without its data and its file checksum
+abbrev pub bare : FileForm → FileForm
+bare f = record {
+  offset = f.offset;
+  head = record {
+    name = f.head.name;
+    kind = f.head.kind;
+    attributes = f.head.attributes;
+    size = f.head.size;
+    header_len = f.head.header_len;
+    header_sum = f.head.header_sum;
+    file_sum = 0;
+    state = f.head.state;
+  };
+  payload = [];
+}
 
--- how the body of the section in a frame is read: as sections, as a volume, or as plain bytes
-abbrev pub shape_of : FrameForm → Shape
-shape_of f =
-    if f.kind == group_kind then shapes.Group
-    else (if (f.kind == volume_kind) && is_one_volume f.body then shapes.Volume else shapes.Leaf)
+-- if the cell is a valid file, its header follows from the fields that are kept of it, and its offset and the length of
+-- its data fit in 32 bits
+abbrev pub IsSmallCell : CellForm → Type 0
+IsSmallCell (Valid at head payload) = (at < 2 ^ 32) × (length payload < 2 ^ 32) × FollowsFrom head payload
+IsSmallCell _ = Unit {0}
 
 -- P holds of the value that was read, or F of the fault unless memory ran out
 abbrev pub ReadsOrFails : {T : Type 0} → (T → Type 0) → (Fault → Type 0) → Result T Fault → Type 0
@@ -60,6 +67,6 @@ abbrev pub IsReadyFile : ℕ → FileForm → Type 0
 IsReadyFile base f =
     IsStoredFile f × (base + data_place f + length f.payload < 2 ^ 63) × (length f.payload ≤ volume_limit)
 
--- each of the files is a valid file in some bytes, as above
+-- each of the files is a valid file in some bytes, as `IsReadyFile` states
 abbrev pub AllStored : ℕ → List FileForm → Type 0
 AllStored base fs = AllByRecursion (IsReadyFile base) fs

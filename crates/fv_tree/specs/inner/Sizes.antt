@@ -1,12 +1,12 @@
--- The number of values in a meaning, which is the measure of recursions over it. Each part of a list of files or of
--- sections is smaller than the list.
+-- The number of values in a meaning, which is the measure of recursions over it. Each file of a list is smaller than
+-- the list.
 use Rattle.std.specs.Prelude.{ℕ, ◌+◌, ◌≤◌, List, [], ◌∷◌}
 use Rattle.fv_tree.specs.Meaning.{Meaning, Volume, FileMeanings, NoFiles, MoreFiles, FileMeaning, File, ContentMeaning}
 use Rattle.fv_tree.specs.Meaning.{Plain, Sectioned, SectionMeanings, NoSections, MoreSections, SectionMeaning, Section}
 use Rattle.fv_tree.specs.Meaning.{BodyMeaning, Leaf, Group, Nested}
 use Rattle.std.proofs.Common.{arith}
 use denote.Param.Weighed.{most}
-use Rattle.fv_tree.specs.MeaningParts.{files_from, sections_from}
+use Rattle.fv_tree.specs.MeaningParts.{files_from}
 
 abbrev mutual
   pub volume_size : Meaning → ℕ
@@ -35,11 +35,7 @@ abbrev mutual
   sections_size NoSections = 0
   sections_size (MoreSections s ss) = section_size s + sections_size ss + 1
 
--- each part of a list of sections, and of a list of files, is smaller than the list
-pub sections_fall : (ss : List SectionMeaning) → most (λ s. section_size s + 1) ss ≤ sections_size (sections_from ss)
-sections_fall [] = omega arith
-sections_fall (s ∷ ss) = omega (arith, sections_fall ss)
-
+-- each file of a list is smaller than the list
 pub files_fall : (fs : List FileMeaning) → most (λ f. file_size f + 1) fs ≤ files_size (files_from fs)
 files_fall [] = omega arith
 files_fall (f ∷ fs) = omega (arith, files_fall fs)

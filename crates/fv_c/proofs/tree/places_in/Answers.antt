@@ -3,7 +3,7 @@ use Rattle.std.specs.Prelude.{◌≢◌}
 use Rattle.fv_base.proofs.Laws.{err_is}
 use Rattle.fv_base.specs.Words.{IsBytes}
 use Rattle.fv_section.specs.Words.{Splits}
-use Rattle.fv_tree.specs.Words.{Accepted, BeginWithFiles, file_form}
+use Rattle.fv_tree.specs.Words.{Accepted, BeginWithFiles, bare_form, file_form}
 use Rattle.fv_tree.specs.declared.volume_files.LocatedFile.{LocatedFile}
 use Rattle.fv_c.specs.declared.tree.PartPlace.{PartPlace}
 use Rattle.fv_c.specs.inner.Trees.{HasPlaces, file_place}
@@ -24,9 +24,9 @@ returns-in_ok-file_places-in-0-clause-places c =
     let stored = c.in_ok-stored-in-0.stored.items in
     let start : PartPlace = record { parent = c.args.number; offset = c.args.node.now.offset; header_len = 0 } in
     λ rows r found. subst (HasPlaces c.args.input.now c.args.node.now c.args.number r.node)
-    (sym (c.in_ok-file_places-in-0.ensures ∙ ap (λ (l : List LocatedFile). map (file_place start) (map file_form l)) c.as_slice.ensures.value))
+    (sym (c.in_ok-file_places-in-0.ensures ∙ ap (λ (l : List LocatedFile). map (file_place start) (map bare_form l)) c.as_slice.ensures.value))
     (files_are found c.args.number c.in-0.is stored
-    (subst (λ (b : List ℕ). BeginWithFiles b (map file_form stored)) c.bytes_of_row-bytes.ensures c.in_ok-stored-in-0.ensures.found))
+    (subst (λ (b : List ℕ). BeginWithFiles b (map (file_form b) stored)) c.bytes_of_row-bytes.ensures c.in_ok-stored-in-0.ensures.found))
 
 pub returns-in_ok-section_places-in-2-clause-places : goal.returns-in_ok-section_places-in-2-clause-places
 returns-in_ok-section_places-in-2-clause-places c =

@@ -1,6 +1,6 @@
-use Rattle.std.proofs.Common.{◌≡◌, ◌∙◌, ◌++◌, ℕ, List, [], ◌∷◌, length, append-nil, arith, rules, ap, subst, sym}
+use Rattle.std.proofs.Common.{◌≡◌, ◌∙◌, ◌++◌, ℕ, List, [], ◌∷◌, length, arith, rules, ap, subst, sym}
 use Rattle.std.specs.Prelude.{reverse}
-use Rattle.std.proofs.lemmas.List.{reverse-append}
+use Rattle.std.proofs.lemmas.List.{reverse-append, reverse-reverse}
 use Rattle.std.specs.Iterator.{YieldsFirstBy}
 use Rattle.fv_rows.specs.Words.{TreeRow as Row, part_node, row_of}
 use Rattle.fv_c.specs.ReportedTree.{reported_node}
@@ -14,16 +14,14 @@ use Rattle.fv_c.proofs.tree.put_inside.Goals as goal
 
 pub loop-row-init : goal.loop-row-init
 loop-row-init c =
-    let places = c.in_ok-wait_for.ensures
-    ∙ ap (λ (l : List PartPlace). c.in_ok-file_places.field-0.items ++ reverse l) c.new-waiting.ensures.items
-    ∙ append-nil c.in_ok-file_places.field-0.items ∙ c.in_ok-file_places.ensures in
+    let places = ap reverse c.reverse.ensures.items ∙ reverse-reverse c.in_ok-waiting.waiting.items ∙ c.in_ok-waiting.ensures in
     let left = c.into_iter-row-iterator.ensures.into_iter_gives ∙ left_inside c.args.volume.now c.next.result c.next.new.self
     (subst (λ (rows : List Row). YieldsFirstBy row_of (λ (left : List Row). left) rows c.next.result c.next.new.self) c.of-walk.ensures c.next.ensures.steps) in (
       tt,
       tt,
-      subst (λ (rows : List FvNode). Walked c.args.input.now c.args.volume.now rows (reverse c.wait_for.new.waiting.items) c.into_iter-row-iterator.result)
+      subst (λ (rows : List FvNode). Walked c.args.input.now c.args.volume.now rows (reverse c.reverse.new.self.items) c.into_iter-row-iterator.result)
           (sym c.requires.own)
-          (walk_first c.args.input.now c.args.volume.now c.into_iter-row-iterator.result c.args.stored.now (reverse c.wait_for.new.waiting.items)
+          (walk_first c.args.input.now c.args.volume.now c.into_iter-row-iterator.result c.args.stored.now (reverse c.reverse.new.self.items)
           c.requires.read left c.requires.files places),
     )
 
@@ -73,8 +71,8 @@ loop-row-preserved c =
     let number : c.len.result ≡ length c.loop-row.rows.items = search rules in (
       tt,
       tt,
-      walk_more (walked d) c.in_ok-parts.parts.items found c.in_ok-push.ensures.items
+      walk_more (walked d) c.in_ok-parts.parts.items found (c.wait_for.ensures.rows ∙ c.in_ok-push.ensures.items)
           (subst (λ (n : ℕ). HasPlaces c.args.input.now c.node_of-node.result n (part_node c.in-Some.row.part) c.in_ok-parts.parts.items) number
           (c.in_ok-parts.ensures.places _ _ found))
-          c.in_ok-wait_for-2.ensures,
+          c.in_ok-wait_for.ensures.waiting,
     )

@@ -9,6 +9,6 @@ pub loop-frame-init : goal.loop-frame-init
 loop-frame-init c = record {
   stand = split_stands c.in-Ok.walk.0 c.in-Ok.walk.1 c.args.stream.now c.in-Ok.ensures.found;
   told = λ frames tail split.
-      ap (λ (l : List PartPlace). l ++ map (section_place c.args.start) c.in-Ok.walk.0) c.new-places.ensures.items
+      ap (λ (l : List PartPlace). l ++ map (section_place c.args.start) c.in-Ok.walk.0) c.in_ok-places.ensures.items
       ∙ ap (λ (l : List FrameForm). map (section_place c.args.start) l) (sym (c.in-Ok.ensures.only frames tail split).0);
 }

@@ -1,5 +1,4 @@
-use Rattle.std.proofs.Common.{◌≡◌, ◌<◌, ◌+◌, ◌-◌, ℕ, true, List, false, length, drop, replicate, get_or, sym, ap, ◌∙◌, subst, arith}
-use Rattle.fv_base.proofs.Laws.{common_steps}
+use Rattle.std.proofs.Common.{◌≡◌, ◌+◌, ◌-◌, ℕ, true, List, false, length, drop, replicate, get_or, sym, ap, ◌∙◌, subst, arith, ◌∷◌}
 use Rattle.fv_file.specs.Words.{is_summed}
 use Rattle.fv_head.specs.Words.{HeadFields, polarity_of}
 use Rattle.fv_tree.specs.Words.{Meaning, SectionMeaning, BodyMeaning, FileMeaning, attributes_of, body_of, files_from, body_view, Inside}
@@ -10,8 +9,6 @@ use Rattle.fv_canon.specs.Words.{size_for, BeginsWithStarts}
 use Rattle.fv_canon.specs.inner.ImageOf.{image_of, starts_in}
 use Rattle.fv_canon.specs.inner.SummingSinks.{ImageTakes, image_by, sums}
 use Rattle.fv_canon.proofs.DataBodyLaws.{data_image, data_size, data_volumes}
-use Rattle.fv_rows.specs.inner.RowVolumes.{volumes_of}
-use Rattle.fv_canon.proofs.LayoutWalkLaws.{file_volumes}
 use Rattle.fv_canon.proofs.LaidFileLaws.{file_long, stored_is, size_is, at_file, file_passed, files_end, walk_goes, placed_on}
 use Rattle.fv_canon.proofs.LaidSectionLaws.{section_known, section_passed, in_body, body_laid, goes_on, front_more, front_end, front_none, walk_ended}
 use Rattle.fv_canon.proofs.SumWalks.{state_adds}
@@ -34,55 +31,64 @@ put_body-put_volume-requires g t c κs within =
 
 pub put_sections-put_section_head-requires : goal.put_sections-put_section_head-requires
 put_sections-put_section_head-requires g t c =
-    let at = section_passed _ _ _ _ _ c.loop-section-test.true c.section-item.is c.loop-section.invariant.walk in
-    (section_known c.section-item.result c.loop-section.rest.now c.known.ensures at.0).fits
+    let first = rw c.in-Some.is at c.next_section.ensures.some in
+    let at = section_passed _ _ _ _ _ first c.loop-section.invariant.comes in
+    (section_known c.in-Some.section c.loop-section.rest.now c.known.ensures at.0).fits
 
 pub put_sections-put_body-rest-requires : goal.put_sections-put_body-rest-requires
 put_sections-put_body-rest-requires g t c κs within =
-    let at = section_passed _ _ _ _ _ c.loop-section-test.true c.section-item.is c.loop-section.invariant.walk in
-    let less =
-    section_body_falls c.args.sections.now c.loop-section.section-index c.section-item.result c.loop-section-test.true c.section-item.is in
-    let same : body_size (body_view c.body.result) ≡ body_size (body_of c.section-item.result) = ap body_size c.body.ensures in (
-      omega (arith, c.decreases, less, same),
+    let first = rw c.in-Some.is at c.next_section.ensures.some in
+    let at = section_passed _ _ _ _ _ first c.loop-section.invariant.comes in
+    let less = section_body_falls c.loop-section.walk.0 c.next_section.new.self.0 c.in-Some.section first in
+    let same : body_size (body_view c.body.result) ≡ body_size (body_of c.in-Some.section) = ap body_size c.body.ensures in (
+      omega (arith, c.decreases, less, same, c.loop-section.invariant.less),
       (
         within,
         subst (λ (b : BodyMeaning). BeginsWithStarts (volumes_in_body b) c.loop-section.rest.now) (sym c.body.ensures)
-            (body_laid c.section-item.result c.loop-section.rest.now at.0),
+            (body_laid c.in-Some.section c.loop-section.rest.now at.0),
       ),
     )
 
 pub put_sections-filler_of-gap-requires : goal.put_sections-filler_of-gap-requires
 put_sections-filler_of-gap-requires g t c =
-    let at = section_passed _ _ _ _ _ c.loop-section-test.true c.section-item.is c.loop-section.invariant.walk in
-    (section_known c.section-item.result c.loop-section.rest.now c.known.ensures at.0).small
+    let at = section_passed _ _ _ _ _ (rw c.in-Some.is at c.next_section.ensures.some) c.loop-section.invariant.comes in
+    (section_known c.in-Some.section c.loop-section.rest.now c.known.ensures at.0).small
 
 pub put_sections-loop-section-preserved : goal.put_sections-loop-section-preserved
 put_sections-loop-section-preserved g t c =
-    let i : ℕ = c.loop-section.section-index in
-    let ss : List SectionMeaning = c.args.sections.now in
-    let s : SectionMeaning = c.section-item.result in
+    let left : List SectionMeaning = c.loop-section.walk.0 in
+    let after : List SectionMeaning = c.next_section.new.self.0 in
+    let s : SectionMeaning = c.in-Some.section in
     let rest : List ℕ = c.loop-section.rest.now in
-    let at = section_passed ss i s rest _ c.loop-section-test.true c.section-item.is c.loop-section.invariant.walk in
+    let first : left ≡ s ∷ after = rw c.in-Some.is at c.next_section.ensures.some in
+    let at = section_passed left after s rest _ first c.loop-section.invariant.comes in
     let k = section_known s rest c.known.ensures at.0 in
     let body = c.put_body-rest.ensures.bytes in
+    let less = section_body_falls left after s first in
     rw (c.put_body-rest.ensures.rest, c.body.ensures, ← in_body s, c.filler_of-gap.ensures) (record {
       small = omega arith;
-      walk = at.1;
+      comes = at.1;
       done = front_more (ImageTakes g.S.Sink.takes) (image_by g.S.Sink.laws) c.args.out.now c.loop-section.out c.fill.new.out
           c.put_section_head.new.out c.put_body-rest.new.out _ _ _ _ _ _ c.loop-section.invariant.done
-          (goes_on ss i s rest c.loop-section.gap c.loop-section-test.true c.section-item.is k) c.fill.ensures
+          (goes_on left after s rest c.loop-section.gap first k) c.fill.ensures
           c.put_section_head.ensures (rw c.body.ensures at body);
+      tail = c.next_section.ensures.tail ∙ c.loop-section.invariant.tail;
+      some = λ _. omega (arith, ap length first, c.loop-section.invariant.fewer);
+      none = λ e. let bad : false ≡ true = e in cc;
+      less = omega (arith, less, c.loop-section.invariant.less);
+      fewer = omega (arith, ap length first, c.loop-section.invariant.fewer);
     })
 
 pub put_sections-returns-then-not-is_empty-clause-bytes : goal.put_sections-returns-then-not-is_empty-clause-bytes
 put_sections-returns-then-not-is_empty-clause-bytes g t c =
-    let some : 0 < length c.args.sections.now = grind (arith, common_steps, c.is_empty.ensures, c.if-not-is_empty.true) in
-    front_end (ImageTakes g.S.Sink.takes) (image_by g.S.Sink.laws) c.args.sections.now c.loop-section.section-index c.args.out.now
+    let tail : c.tail.result ≡ c.args.sections.1 = c.tail.ensures ∙ c.next_section.ensures.tail ∙ c.loop-section.invariant.tail in
+    front_end (ImageTakes g.S.Sink.takes) (image_by g.S.Sink.laws) c.args.sections.0 c.loop-section.walk.0 c.args.out.now
     c.loop-section.out
-    c.fill-then-not-is_empty.new.out c.loop-section.gap c.args.starts.now c.loop-section.rest.now c.args.tail c.loop-section-test.false some
+    c.fill-then-not-is_empty.new.out c.loop-section.gap c.args.starts.now c.loop-section.rest.now c.args.sections.1
+    (rw c.in_default.is at c.next_section.ensures.none).0 (c.loop-section.invariant.some c.if-not-is_empty.true)
     c.loop-section.invariant.done (subst (λ (n : ℕ). ImageTakes g.S.Sink.takes c.loop-section.out (replicate n 0)
     c.fill-then-not-is_empty.new.out)
-    c.from.ensures c.fill-then-not-is_empty.ensures)
+    (c.from.ensures ∙ tail) c.fill-then-not-is_empty.ensures)
 
 pub put_file-returns-then-is_summed-clause-bytes : goal.put_file-returns-then-is_summed-clause-bytes
 put_file-returns-then-is_summed-clause-bytes g t c =
@@ -213,30 +219,20 @@ put_file-returns-clause-rest g t c =
     c.put_body.ensures.rest ∙ ap (λ (b : BodyMeaning). drop (starts_in (volumes_in_body b)) c.args.starts.now) c.data_body.ensures
     ∙ ap (λ (vs : List Inside). drop (starts_in vs) c.args.starts.now) (data_volumes c.args.file.now)
 
-pub put_file-skip_starts-requires : goal.put_file-skip_starts-requires
-put_file-skip_starts-requires g t c = record {
-  laid = subst (λ vs. BeginsWithStarts vs c.args.starts.now) (sym (ap volumes_of c.inside.ensures ∙ file_volumes c.args.file.now))
-      c.requires.laid;
-}
-
-pub put_file-returns-then-is_summed-clause-rest : goal.put_file-returns-then-is_summed-clause-rest
-put_file-returns-then-is_summed-clause-rest g t c =
-    c.skip_starts.ensures
-    ∙ ap (λ (vs : List Inside). drop (starts_in vs) c.args.starts.now) (ap volumes_of c.inside.ensures ∙ file_volumes c.args.file.now)
-
 pub put_sections-returns-else-not-is_empty-clause-bytes : goal.put_sections-returns-else-not-is_empty-clause-bytes
 put_sections-returns-else-not-is_empty-clause-bytes g t c =
-    let none : length c.args.sections.now ≡ 0 = grind (arith, common_steps, c.is_empty.ensures, c.if-not-is_empty.false) in
-    front_none (ImageTakes g.S.Sink.takes) c.args.sections.now c.loop-section.section-index c.args.out.now c.loop-section.out
-    c.loop-section.gap c.args.starts.now c.loop-section.rest.now c.args.tail none c.loop-section.invariant.done
+    front_none (ImageTakes g.S.Sink.takes) c.args.sections.0 c.loop-section.walk.0 c.args.out.now c.loop-section.out
+    c.loop-section.gap c.args.starts.now c.loop-section.rest.now c.args.sections.1
+    (rw c.in_default.is at c.next_section.ensures.none).0 (c.loop-section.invariant.none c.if-not-is_empty.false)
+    c.loop-section.invariant.done
 
 pub put_sections-returns-else-not-is_empty-clause-rest : goal.put_sections-returns-else-not-is_empty-clause-rest
 put_sections-returns-else-not-is_empty-clause-rest g t c =
-    walk_ended c.args.sections.now c.loop-section.section-index _ _ c.loop-section-test.false c.loop-section.invariant.walk
+    walk_ended c.loop-section.walk.0 _ _ (rw c.in_default.is at c.next_section.ensures.none).0 c.loop-section.invariant.comes
 
 pub put_sections-returns-then-not-is_empty-clause-rest : goal.put_sections-returns-then-not-is_empty-clause-rest
 put_sections-returns-then-not-is_empty-clause-rest g t c =
-    walk_ended c.args.sections.now c.loop-section.section-index _ _ c.loop-section-test.false c.loop-section.invariant.walk
+    walk_ended c.loop-section.walk.0 _ _ (rw c.in_default.is at c.next_section.ensures.none).0 c.loop-section.invariant.comes
 
 pub put_file-file_sum-sum-requires : goal.put_file-file_sum-sum-requires
 put_file-file_sum-sum-requires g t c κs within =

@@ -5,7 +5,7 @@ use Rattle.fv_canon.proofs.PartLengthLaws.{body_long}
 use Rattle.fv_canon.proofs.parts.lay_out_body.Goals as goal
 
 pub returns-clause-ok : goal.returns-clause-ok
-returns-clause-ok c = let ok = c.starts_of.ensures.ok in rw (c.inside.ensures, section_inside c.args.section.now) at ok
+returns-clause-ok c = let ok = c.starts_of.ensures.ok in rw (c.inside.ensures, c.copied.ensures, section_inside c.args.section.now) at ok
 
 pub returns-clause-long : goal.returns-clause-long
 returns-clause-long c =
@@ -13,10 +13,10 @@ returns-clause-long c =
     (returns-clause-ok c)
 
 pub returns-clause-err : goal.returns-clause-err
-returns-clause-err c = let err = c.starts_of.ensures.err in rw (c.inside.ensures, section_inside c.args.section.now) at err
+returns-clause-err c = let err = c.starts_of.ensures.err in rw (c.inside.ensures, c.copied.ensures, section_inside c.args.section.now) at err
 
 pub returns-clause-memory : goal.returns-clause-memory
 returns-clause-memory c =
     let memory = c.starts_of.ensures.memory in
     IfErr-weaker c.starts_of.result _ _ (λ f some want. starts_need_some _ (some want))
-    (rw (c.inside.ensures, section_inside c.args.section.now) at memory)
+    (rw (c.inside.ensures, c.copied.ensures, section_inside c.args.section.now) at memory)

@@ -24,7 +24,7 @@ pub returns-in_ok-body_bytes-in-Found-Section-clause-ok : goal.returns-in_ok-bod
 returns-in_ok-body_bytes-in-Found-Section-clause-ok c =
     let w = c.in-Found-Section.ensures in
     let item = c.in-Found-Section.field-0-is in
-    let s : SectionMeaning = c.in-Found-Section.section.now in
+    let s : SectionMeaning = c.in-Found-Section.section in
     let bytes = c.in_ok-body_bytes-in-Found-Section.field-0 in
     rw c.in-Some.is (record {
       sections = λ ss t e.
@@ -54,8 +54,8 @@ returns-in_err-body_bytes-in-Found-Section-clause-err c =
     let item = c.in-Found-Section.field-0-is in
     let f = c.args.file.now in
     let found : (ss : SectionMeanings) (t : ℕ) → content_of f ≡ Sectioned ss t
-    → section_of_type c.in-Some.kind c.args.part.now.instance ss ≡ Some c.in-Found-Section.section.now = λ ss t e. rw item at (w.sections ss t e) in
+    → section_of_type c.in-Some.kind c.args.part.now.instance ss ≡ Some c.in-Found-Section.section = λ ss t e. rw item at (w.sections ss t e) in
     let none : (b : List ℕ) → content_of f ≡ Plain b → ⊥ = λ b e.
     let same = w.plain b e (λ k fs t h. absurd (rw item at (w.core b fs t e k h))) in cc in
-    rw (c.in-Some.is, err_is residual.ensures.1) (stops_section f c.in-Some.kind c.args.part.now.instance c.in-Found-Section.section.now _ found none
+    rw (c.in-Some.is, err_is residual.ensures.1) (stops_section f c.in-Some.kind c.args.part.now.instance c.in-Found-Section.section _ found none
     c.in_err-body_bytes-in-Found-Section.ensures.err)

@@ -2,7 +2,7 @@ use Rattle.std.proofs.Common.{◌≡◌, ◌≤◌, rules, ◌∙◌, ap, arith,
 use Rattle.fv_base.proofs.Laws.{err_is}
 use Rattle.fv_base.specs.contracts.fault.FaultKind.{the_type}
 use denote.Enum.Bare.{same_true}
-use Rattle.fv_file.specs.FileChecks.{file_header_len_at, file_size_at}
+use Rattle.fv_file.specs.Words.{file_header_len_at, file_size_at}
 use Rattle.fv_file.proofs.CellVerdictLemmas.{verdict_stands}
 use Rattle.fv_file.proofs.MarkedFileLemmas.{cell_without, size_within, wrong_without}
 use Rattle.fv_file.proofs.UnmarkLemmas.{FixedThere, fixed_there}

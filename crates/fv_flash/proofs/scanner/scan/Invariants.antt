@@ -1,5 +1,5 @@
 use Rattle.std.proofs.Common.{◌≡◌, take}
-use Rattle.fv_flash.specs.FoundVolumes.{offsets_of}
+use Rattle.fv_flash.specs.Words.{offsets_of}
 use Rattle.fv_flash.proofs.scanner.scan.Given as goal
 
 abbrev pub invariant-loop-volume : goal.invariant-loop-volume

@@ -1,9 +1,14 @@
-use Rattle.std.proofs.Common.{◌∙◌, List, sym, subst}
-use Rattle.fv_tree.specs.Words.{SectionMeaning}
+use Rattle.std.proofs.Common.{◌∙◌, List, sym, ap, subst}
+use Rattle.fv_tree.specs.Words.{SectionMeaning, content_view}
 use Rattle.fv_lines.specs.inner.LineRuns.{PutsNotes}
 use Rattle.fv_lines.specs.Words.{HeldDepex, section_depex, sections_depexes}
-use Rattle.fv_lines.proofs.DepexNoteLemmas.{of_file, puts_none, puts_then}
+use Rattle.fv_lines.proofs.DepexNoteLemmas.{of_file, of_plain, puts_none, puts_then}
 use Rattle.fv_lines.proofs.depex_notes.put_file.Goals as goal
+
+pub returns-in-Plain : goal.returns-in-Plain
+returns-in-Plain g c =
+    subst (λ (xs : List HeldDepex). PutsNotes g.S.Sink.takes xs c.args.out.now c.args.out.now)
+    (of_plain c.args.file.now _ (sym c.content.ensures ∙ ap content_view c.in-Plain.is)) (puts_none g.S.Sink.laws c.args.out.now)
 
 pub loop-section-init : goal.loop-section-init
 loop-section-init g c = (tt, tt, λ end puts. puts)
@@ -18,7 +23,7 @@ loop-section-preserved g c = (
       c.loop-section.invariant.2 end
       (subst (λ (ss : List SectionMeaning). PutsNotes g.S.Sink.takes (sections_depexes name ss) c.loop-section.out end)
       (sym c.in-Some.ensures.steps)
-      (puts_then g.S.Sink.laws (section_depex name c.in-Some.section.now) (sections_depexes name left) _ _ _ c.put_section.ensures puts)),
+      (puts_then g.S.Sink.laws (section_depex name c.in-Some.section) (sections_depexes name left) _ _ _ c.put_section.ensures puts)),
 )
 
 pub returns : goal.returns

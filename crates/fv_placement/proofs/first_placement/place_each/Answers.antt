@@ -6,7 +6,7 @@ use Rattle.fv_placement.proofs.ReachLaws.{bound_at, reach_at, some_here, stands}
 use Rattle.fv_placement.proofs.PlacementLaws.{placed_at, placed_end}
 use Rattle.fv_placement.proofs.first_placement.place_each.Goals as goal
 
--- the reach that is read past the end of the list
+-- the default reach, which `get_or` returns for a place past the end of the list
 abbrev past : Reach
 past = record { greatest = 0; near = false; far = false }
 

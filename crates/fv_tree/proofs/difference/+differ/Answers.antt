@@ -1,9 +1,8 @@
-use Rattle.std.proofs.Common.{◌≡◌, ◌+◌, ◌==◌, sym, ap, ◌∙◌, arith}
-use Rattle.fv_tree.specs.Words.{differ_unless, files_from, sections_from, content_view, body_view}
-use Rattle.fv_tree.specs.inner.Sizes.{volume_size, files_size, content_size, sections_size, body_size}
-use Rattle.fv_tree.proofs.DifferenceWalkLaws.{files_uneven, sections_uneven, volume_word}
+use Rattle.std.proofs.Common.{◌≡◌, ◌+◌, sym, ap, ◌∙◌, arith}
+use Rattle.fv_tree.specs.Words.{files_from, content_view, body_view}
+use Rattle.fv_tree.specs.inner.Sizes.{volume_size, files_size, content_size, body_size}
+use Rattle.fv_tree.proofs.DifferenceWalkLaws.{files_uneven, volume_word}
 use Rattle.fv_tree.proofs.SizeLaws.{section_falls, body_falls, file_falls, content_falls}
-use Rattle.fv_tree.specs.declared.difference.DifferenceKind.TheVariants as kinds
 use Rattle.fv_tree.proofs.difference.+differ.Goals as goal
 
 -- ---- the parts that are compared are smaller
@@ -14,12 +13,12 @@ body_difference-stream_difference-requires t c =
 
 pub content_difference-stream_difference-requires : goal.content_difference-stream_difference-requires
 content_difference-stream_difference-requires t c =
-    let is = ap (λ b. content_size (content_view b)) c.in-Stream-Stream.is-0 in
-    let same = ap (λ l. sections_size (sections_from l)) c.as_slice.ensures.value in (omega (arith, c.decreases, is, same), tt)
+    let is = ap (λ b. content_size (content_view b)) c.in-Stream-Stream.is-0 in (omega (arith, c.decreases, is), tt)
 
 pub stream_difference-section_difference-requires : goal.stream_difference-section_difference-requires
 stream_difference-section_difference-requires t c =
-    (omega (arith, c.decreases, section_falls c.args.sections.now c.loop-i.i c.index-sections-i.result (omega arith) c.index-sections-i.is), tt)
+    let falls = section_falls c.loop-section.left.0 c.next_section.new.self.0 c.in-Some.section (rw c.in-Some.is at c.next_section.ensures.some) in
+    (omega (arith, c.decreases, falls, c.loop-section.invariant.less), tt)
 
 pub file_difference-content_difference-requires : goal.file_difference-content_difference-requires
 file_difference-content_difference-requires t c =
@@ -45,14 +44,6 @@ volume_difference-returns-in-Some t c =
     c.differ_in.ensures
     ∙ sym (volume_word c.args.volume.now c.args.other.now c.head.result.now c.head-2.result.now c.head_difference_kind.result c.in-Some.word
     c.head.ensures.head c.head-2.ensures.head c.head_difference_kind.ensures c.in-Some.is)
-
--- ---- streams
-
-pub stream_difference-returns-then-not-sections-others : goal.stream_difference-returns-then-not-sections-others
-stream_difference-returns-then-not-sections-others t c =
-    c.differ_in.ensures
-    ∙ sym (sections_uneven c.args.sections.now c.args.others.now c.loop-i.i (differ_unless (c.args.tail == c.args.other_tail) kinds.Tail)
-    (omega arith) (omega arith) c.if-not-sections-others.true c.loop-i.invariant)
 
 -- ---- files
 

@@ -1,6 +1,6 @@
 use Rattle.std.proofs.Common.{◌≡◌, ℕ, [], ◌∷◌, ◌++◌, rules, ◌⊎◌, List, map, length, take, sym, ap, ◌∙◌, subst, arith, inl, inr, refl, length-take-le}
-use Rattle.fv_base.proofs.Laws.{IfOk-weaker, IfErr-weaker, out_of_memory, IsFirstFault, First, IsBytes, bytes_take, err_is}
-use Rattle.std.proofs.lemmas.Result.{MatchResult-from_both}
+use Rattle.fv_base.proofs.Laws.{IfErr-weaker, out_of_memory, IsFirstFault, First, IsBytes, bytes_take, err_is}
+use Rattle.std.proofs.lemmas.Result.{MatchResult-from_both, MatchResult-weaker}
 use Rattle.fv_base.specs.declared.fault.Fault.{Fault}
 use Rattle.fv_base.specs.declared.fault.Place.{Place}
 use Rattle.fv_base.specs.declared.guid.Guid.{Guid}
@@ -8,22 +8,23 @@ use Rattle.fv_head.proofs.Laws.{fault_known, front_lies, first_lies}
 use Rattle.fv_head.specs.Words.{HeadFields, BeginsVolume, head_checks}
 use Rattle.fv_head.specs.declared.extent.Extent.{Extent}
 use Rattle.fv_section.specs.Words.{FrameForm}
+use Rattle.std.specs.Prelude.{IfOk}
 use Rattle.fv_tree.specs.inner.ReadingParts.{IsReadyFile}
-use Rattle.fv_tree.specs.Words.{Denotes, MeansFile, MeansSection, Stream, FileFault, InStream, data_at, Volume, File, SectionMeaning, Section, Group}
-use Rattle.fv_tree.specs.Words.{Nested, length_of, files_from, sections_from, file_form, content_view, FileForm}
+use Rattle.fv_tree.specs.Words.{IsStoredFile}
+use Rattle.fv_tree.specs.Words.{Denotes, MeansFile, Stream, FileFault, InStream, data_at, Volume, length_of, files_from, bare_form, file_form, with_data, Meaning}
+use Rattle.fv_tree.specs.inner.SectionReads.{StreamRead}
 use Rattle.fv_names.specs.Words.{IsOrder, numbers_of}
 use Rattle.fv_tree.proofs.BodyLaws.{files_first}
-use Rattle.fv_tree.proofs.LengthLaws.{body_long, content_long}
+use Rattle.fv_tree.proofs.FilledLaws.{stands}
 use Rattle.fv_tree.proofs.ListPairs.{of_item, kept_pairs, first_refused, all_pairs}
 use Rattle.fv_tree.proofs.NamedLaws.{no_file, read_names}
-use Rattle.fv_tree.proofs.SectionShapeLaws.{leaf_shape, group_shape, volume_shape, leaf_is, group_found, group_first, one_place, nested_found}
-use Rattle.fv_tree.proofs.SectionShapeLaws.{nested_first, deep_fault, stream_reads}
-use Rattle.fv_tree.proofs.StreamWalkLaws.{frame_small, walk_ready, walk_begun, walk_more, walk_first, walk_found}
+use Rattle.fv_tree.proofs.SectionShapeLaws.{frame_small, group_shape, volume_shape, group_first, one_place, nested_first, deep_fault}
+use Rattle.fv_tree.proofs.StreamWalkLaws.{walk_ready, walk_begun, walk_more, walk_first, walk_found}
 use Rattle.fv_tree.proofs.VolumePartLaws.{made, head_first, opened_whole}
-use Rattle.fv_tree.proofs.read.+read.Goals.{read_file-After-without_large-attributes, read_section-In_ok-sections-in-Group}
-use Rattle.fv_tree.proofs.read.+read.Goals.{read_section-In_ok-nested-in-Volume, read_with_files-In_ok-views}
-use Rattle.fv_section.specs.StreamReads as framed
+use Rattle.fv_tree.proofs.read.+read.Goals.{read_with_files-In_ok-views}
+use Rattle.fv_tree.proofs.SectionReadLaws.{leaf_read, group_read, volume_read, plain_read, sectioned_read}
 use Rattle.fv_tree.proofs.read.+read.Goals as goal
+use Rattle.fv_section.specs.Words as framed
 
 -- ---- files
 
@@ -38,14 +39,14 @@ read_files-bounds-files-file-index t c = c.loop-file-test.true
 
 pub read_files-read_file-requires : goal.read_files-read_file-requires
 read_files-read_file-requires t c =
-    let all = of_item (MeansFile (Stream c.args.at.left)) file_form c.args.files.now c.loop-file.file-index no_file
+    let all = of_item (MeansFile (Stream c.args.at.left)) (file_form c.args.volume.now) c.args.files.now c.loop-file.file-index no_file
     (IsReadyFile c.args.at.place.offset) c.requires.stored c.loop-file-test.true in
-    (omega arith, (all.1, (c.requires.depth, (all.0, all.2))))
+    (omega arith, (c.requires.depth, all))
 
 pub read_files-returns-in_err-view : goal.read_files-returns-in_err-view
 read_files-returns-in_err-view t c =
     rw (err_is c.from_residual-in_err-view.ensures.1) (λ ne.
-    first_refused (MeansFile (Stream c.args.at.left)) file_form c.args.files.now c.loop-file.file-index no_file
+    first_refused (MeansFile (Stream c.args.at.left)) (file_form c.args.volume.now) c.args.files.now c.loop-file.file-index no_file
     (λ f. FileFault (InStream First c.args.at.left) c.in_err-view.field-0.0 f c.args.at.place)
     c.loop-file.views.items c.loop-file-test.true c.loop-file.invariant (c.in_err-view.ensures ne))
 
@@ -55,68 +56,68 @@ read_files-returns-in_err-push t c = rw (err_is c.from_residual-in_err-push.ensu
 pub read_files-loop-file-preserved : goal.read_files-loop-file-preserved
 read_files-loop-file-preserved t c =
     let items : c.push.new.self.items ≡ c.loop-file.views.items ++ c.in_ok-view.view ∷ [] = search rules in
-    kept_pairs (MeansFile (Stream c.args.at.left)) file_form c.args.files.now c.loop-file.file-index no_file c.loop-file.views.items
+    kept_pairs (MeansFile (Stream c.args.at.left)) (file_form c.args.volume.now) c.args.files.now c.loop-file.file-index no_file c.loop-file.views.items
     c.push.new.self.items c.in_ok-view.view c.loop-file-test.true c.loop-file.invariant c.in_ok-view.ensures items
 
 pub read_files-returns : goal.read_files-returns
 read_files-returns t c =
-    all_pairs (MeansFile (Stream c.args.at.left)) file_form c.args.files.now c.loop-file.file-index no_file c.loop-file.views.items
+    all_pairs (MeansFile (Stream c.args.at.left)) (file_form c.args.volume.now) c.args.files.now c.loop-file.file-index no_file c.loop-file.views.items
     (omega arith) c.loop-file.invariant
 
 -- ---- one file
 
-pub read_content-returns-then-not-holds_sections : goal.read_content-returns-then-not-holds_sections
-read_content-returns-then-not-holds_sections t c = (sym c.holds_sections.ensures ∙ c.if-not-holds_sections.true, refl)
+pub read_data-returns-then-not-holds_sections : goal.read_data-returns-then-not-holds_sections
+read_data-returns-then-not-holds_sections t c =
+    rw c.new-volumes.ensures.items
+    (plain_read c.args.at.left c.args.file.now.kind c.args.payload.now (sym c.holds_sections.ensures ∙ c.if-not-holds_sections.true))
 
-pub read_content-overflow_add-place : goal.read_content-overflow_add-place
-read_content-overflow_add-place t c = omega (arith, c.from.ensures, c.requires.place)
+pub read_data-overflow_add-place : goal.read_data-overflow_add-place
+read_data-overflow_add-place t c = omega (arith, c.from.ensures, c.requires.place)
 
-pub read_content-overflow_add-place-2 : goal.read_content-overflow_add-place-2
-read_content-overflow_add-place-2 t c = omega (arith, c.from.ensures, c.header_len.ensures.is, c.requires.place)
+pub read_data-overflow_add-place-2 : goal.read_data-overflow_add-place-2
+read_data-overflow_add-place-2 t c = omega (arith, c.from.ensures, c.header_len.ensures.is, c.requires.place)
 
-pub read_content-read_stream-requires : goal.read_content-read_stream-requires
-read_content-read_stream-requires t c =
+pub read_data-read_stream-requires : goal.read_data-read_stream-requires
+read_data-read_stream-requires t c =
     (omega arith, (omega (arith, c.from.ensures, c.header_len.ensures.is, c.requires.place), (c.requires.depth, c.requires.small)))
 
-pub read_content-returns-in_err-sections : goal.read_content-returns-in_err-sections
-read_content-returns-in_err-sections t c =
-    let P : Place → Type 0 = λ i. InStream First c.args.at.left c.in_err-sections.field-0.0 c.args.file.now.payload.now i in
-    let same = one_place _ (data_at c.args.at.place (file_form c.args.file.now)) (omega arith) refl in
+pub read_data-returns-in_err-read_stream : goal.read_data-returns-in_err-read_stream
+read_data-returns-in_err-read_stream t c =
+    let P : Place → Type 0 = λ i. InStream First c.args.at.left c.in_err-read_stream.field-0.0 c.args.payload.now i in
+    let same = one_place _ (data_at c.args.at.place (with_data c.args.payload.now (bare_form c.args.file.now))) (omega arith) refl in
     rw (err_is c.from_residual.ensures.1)
-    (λ ne. (sym c.holds_sections.ensures ∙ c.if-not-holds_sections.false, subst P same (c.in_err-sections.ensures ne)))
+    (λ ne. (sym c.holds_sections.ensures ∙ c.if-not-holds_sections.false, subst P same (c.in_err-read_stream.ensures ne)))
 
-pub read_content-returns : goal.read_content-returns
-read_content-returns t c =
-    stream_reads c.args.at.left c.args.file.now.kind c.args.file.now.payload.now c.in_ok-sections.sections.items c.in_ok-sections.tail
-    (sym c.holds_sections.ensures ∙ c.if-not-holds_sections.false) c.in_ok-sections.ensures
+pub read_data-returns : goal.read_data-returns
+read_data-returns t c =
+    let n = c.args.at.left in
+    let kind = c.args.file.now.kind in
+    let b : List ℕ = c.args.payload.now in
+    let read : StreamRead n b [] c.read_stream.new.volumes.items =
+    subst (λ (old : List Meaning). StreamRead n b old c.read_stream.new.volumes.items) c.new-volumes.ensures.items c.in_ok-read_stream.ensures in
+    sectioned_read n kind b c.read_stream.new.volumes.items (sym c.holds_sections.ensures ∙ c.if-not-holds_sections.false) read
 
-pub read_file-read_content-requires : goal.read_file-read_content-requires
-read_file-read_content-requires t c = (omega arith, (c.requires.place, (c.requires.depth, c.requires.small)))
+pub read_file-read_data-requires : goal.read_file-read_data-requires
+read_file-read_data-requires t c =
+    let ready = c.requires.ready in
+    (omega arith, rw c.payload-payload.ensures (ready.1, (c.requires.depth, ready.2)))
 
-pub read_file-returns-in_err-content : goal.read_file-returns-in_err-content
-read_file-returns-in_err-content t c = rw (err_is c.from_residual.ensures.1) c.in_err-content.ensures
-
-pub read_file-overflow_cast-file : goal.read_file-overflow_cast-file
-read_file-overflow_cast-file t c = omega (arith, c.requires.small)
-
--- the view that is made of the file is its meaning
-file_means : (t : ℕ) (c : read_file-After-without_large-attributes t) → MeansFile (Stream c.args.at.left) (file_form c.args.file.now)
-    (File c.args.file.now.name c.args.file.now.kind c.without_large-attributes.result.0 (content_view c.in_ok-content.content))
-file_means t c = (refl, refl, c.without_large-attributes.ensures, c.in_ok-content.ensures)
-
-pub read_file-new-requires-clause-read : goal.read_file-new-requires-clause-read
-read_file-new-requires-clause-read t c =
-    let means = file_means t (goal.at.read_file-new-requires-clause-read t c).After-without_large-attributes in
-    (c.args.at.left, omega arith, file_form c.args.file.now, c.requires.stored, means)
-
-pub read_file-new-requires-clause-len : goal.read_file-new-requires-clause-len
-read_file-new-requires-clause-len t c =
-    let f : FileForm = file_form c.args.file.now in
-    content_long c.args.at.left f f.head.name f.head.kind c.without_large-attributes.result.0 (content_view c.in_ok-content.content)
-    (file_means t (goal.at.read_file-new-requires-clause-len t c).After-without_large-attributes)
+pub read_file-new-requires-clause-stored : goal.read_file-new-requires-clause-stored
+read_file-new-requires-clause-stored t c =
+    subst (λ (b : List ℕ). IsStoredFile (with_data b (bare_form c.args.file.now))) (sym c.payload-payload.ensures) c.requires.ready.0
 
 pub read_file-returns : goal.read_file-returns
-read_file-returns t c = rw c.new.ensures (file_means t (goal.at.read_file-returns t c).After-without_large-attributes)
+read_file-returns t c =
+    MatchResult-from_both c.new.result _ _
+    (subst (λ (b : List ℕ). IfOk c.new.result (MeansFile (Stream c.args.at.left) (with_data b (bare_form c.args.file.now))))
+    c.payload-payload.ensures c.new.ensures.ok)
+    (IfErr-weaker c.new.result _ _ (λ e is ne. absurd (ne is)) c.new.ensures.err)
+
+pub read_file-returns-in_err-volumes : goal.read_file-returns-in_err-volumes
+read_file-returns-in_err-volumes t c =
+    let Bad : List ℕ → Type 0 = λ b. FileFault (InStream First c.args.at.left) c.in_err-volumes.field-0.0
+    (with_data b (bare_form c.args.file.now)) c.args.at.place in
+    rw (err_is c.from_residual.ensures.1) (λ ne. subst Bad c.payload-payload.ensures (c.in_err-volumes.ensures ne))
 
 -- ---- a volume
 
@@ -179,7 +180,7 @@ read_with_files-returns-in_err-views-clause-read t c =
       read.1,
       c.in-Ok.ensures.found,
       files_first c.args.at.left (InStream First c.args.at.left) read.1
-          (take read.1.length c.args.bytes.now) c.args.at.place (map file_form c.in_ok-files.files.items) c.in_err-views.field-0.0
+          (take read.1.length c.args.bytes.now) c.args.at.place (map (file_form (take c.in-Ok.read.1.length c.args.bytes.now)) c.in_ok-files.files.items) c.in_err-views.field-0.0
           c.in_ok-files.ensures.read (first ne),
     ))
 
@@ -190,12 +191,12 @@ pub read_with_files-returns-in_err-views-clause-memory : goal.read_with_files-re
 read_with_files-returns-in_err-views-clause-memory t c =
     rw (err_is c.from_residual-in_err-views.ensures.1) (λ want. (c.in-Ok.read.0, c.in-Ok.read.1, c.in-Ok.ensures.found))
 
--- the view that is made of the volume is its meaning
+-- the header and the views of the files are the meaning of the volume
 volume_made : (t : ℕ) (c : read_with_files-In_ok-views t) → Denotes c.args.at.left (take c.in-Ok.read.1.length c.args.bytes.now)
     (Volume c.in-Ok.read.0 (files_from c.in_ok-views.views.items))
 volume_made t c =
     made c.args.at.left c.args.bytes.now c.in-Ok.read.0 c.in-Ok.read.1 c.in_ok-views.views.items c.in-Ok.ensures.found
-    (map file_form c.in_ok-files.files.items, c.in_ok-files.ensures.read, rw c.as_slice.ensures.value at c.in_ok-views.ensures)
+    (map (file_form (take c.in-Ok.read.1.length c.args.bytes.now)) c.in_ok-files.files.items, c.in_ok-files.ensures.read, rw c.as_slice.ensures.value at c.in_ok-views.ensures)
 
 pub read_with_files-new-requires-clause-meaning : goal.read_with_files-new-requires-clause-meaning
 read_with_files-new-requires-clause-meaning t c =
@@ -208,7 +209,7 @@ pub read_with_files-new-requires-clause-order : goal.read_with_files-new-require
 read_with_files-new-requires-clause-order t c =
     let pairs = rw c.as_slice.ensures.value at c.in_ok-views.ensures in
     subst (λ (ns : List Guid). IsOrder ns (numbers_of c.in_ok-files.order))
-    (sym (read_names (Stream c.args.at.left) c.in_ok-files.files.items c.in_ok-views.views.items pairs))
+    (sym (read_names (Stream c.args.at.left) (take c.in-Ok.read.1.length c.args.bytes.now) c.in_ok-files.files.items c.in_ok-views.views.items pairs))
     c.in_ok-files.ensures.order
 
 pub read_with_files-returns-clause-read : goal.read_with_files-returns-clause-read
@@ -218,32 +219,37 @@ pub read_with_files-returns-clause-length : goal.read_with_files-returns-clause-
 read_with_files-returns-clause-length t c =
     (c.in-Ok.ensures.found.length_is ∙ ap length_of (sym c.new.ensures), c.in-Ok.ensures.found.is_within)
 
+pub read_with_files-returns-clause-files : goal.read_with_files-returns-clause-files
+read_with_files-returns-clause-files t c = (
+  c.in-Ok.read.0,
+  c.in-Ok.read.1,
+  c.in-Ok.ensures.found,
+  stands c.args.bytes.now c.in-Ok.read.1 c.in_ok-files.files.items c.in-Ok.ensures.found.is_within c.in_ok-files.ensures.ends
+      c.in_ok-files.ensures.read,
+)
+
 -- ---- a stream
 
 pub read_stream-fault_within-requires : goal.read_stream-fault_within-requires
 read_stream-fault_within-requires t c = omega (arith, c.in-Err.ensures.bound, c.requires.place)
 
-pub read_stream-returns-in_err-sections : goal.read_stream-returns-in_err-sections
-read_stream-returns-in_err-sections t c = rw (err_is c.from_residual.ensures.1) (λ ne. absurd (ne refl))
-
 pub read_stream-loop-frame-init : goal.read_stream-loop-frame-init
 read_stream-loop-frame-init t c =
-    walk_begun c.args.at.left c.args.bytes.now c.in-Ok.walk.1 c.in-Ok.walk.0 _ c.in-Ok.ensures.found c.in_ok-sections.ensures.items
+    walk_begun c.args.at.left c.args.bytes.now c.in-Ok.walk.1 c.in-Ok.walk.0 c.args.volumes.now.items c.in-Ok.ensures.found
 
 pub read_stream-read_section-requires : goal.read_stream-read_section-requires
 read_stream-read_section-requires t c =
     let small : IsBytes c.args.bytes.now = search rules in
     let ready = walk_ready c.args.at.left c.args.bytes.now c.loop-frame.walk.1 c.loop-frame.walk.0 c.next_frame.new.self.0
-    (framed.frame_form c.in-Some.frame) c.loop-frame.sections.items c.loop-frame.invariant (rw c.in-Some.is at c.next_frame.ensures.some)
+    (framed.frame_form c.in-Some.frame) _ _ c.loop-frame.invariant (rw c.in-Some.is at c.next_frame.ensures.some)
     small c.requires.small in
     (omega arith, (omega (arith, ready.0, c.requires.place), (c.requires.depth, ready.1)))
 
 pub read_stream-loop-frame-preserved : goal.read_stream-loop-frame-preserved
 read_stream-loop-frame-preserved t c =
-    let items : c.push.new.self.items ≡ c.loop-frame.sections.items ++ c.in_ok-section.section ∷ [] = search rules in
     rw c.next_frame.ensures.tail (walk_more c.args.at.left c.args.bytes.now c.loop-frame.walk.1 c.loop-frame.walk.0 c.next_frame.new.self.0
-    (framed.frame_form c.in-Some.frame) c.loop-frame.sections.items c.loop-frame.invariant (rw c.in-Some.is at c.next_frame.ensures.some)
-    c.in_ok-section.section c.push.new.self.items c.in_ok-section.ensures items)
+    (framed.frame_form c.in-Some.frame) c.args.volumes.now.items c.loop-frame.volumes.items c.loop-frame.invariant
+    (rw c.in-Some.is at c.next_frame.ensures.some) c.read_section.new.volumes.items c.in_ok-read_section.ensures)
 
 pub read_stream-loop-frame-smaller : goal.read_stream-loop-frame-smaller
 read_stream-loop-frame-smaller t c = omega (arith, ap length (rw c.in-Some.is at c.next_frame.ensures.some))
@@ -251,20 +257,18 @@ read_stream-loop-frame-smaller t c = omega (arith, ap length (rw c.in-Some.is at
 pub read_stream-returns-in-Err : goal.read_stream-returns-in-Err
 read_stream-returns-in-Err t c = λ ne. inl (c.in-Err.fault, c.in-Err.ensures.first, (c.fault_within.ensures.moved ne).1)
 
-pub read_stream-returns-in_err-section : goal.read_stream-returns-in_err-section
-read_stream-returns-in_err-section t c =
-    rw (err_is c.from_residual-in_err-section.ensures.1) (λ ne.
+pub read_stream-returns-in_err-read_section : goal.read_stream-returns-in_err-read_section
+read_stream-returns-in_err-read_section t c =
+    rw (err_is c.from_residual.ensures.1) (λ ne.
     walk_first c.args.at.left c.args.bytes.now c.loop-frame.walk.1 c.loop-frame.walk.0 c.next_frame.new.self.0
-    (framed.frame_form c.in-Some.frame) c.loop-frame.sections.items c.loop-frame.invariant (rw c.in-Some.is at c.next_frame.ensures.some)
-    c.in_err-section.field-0.0 c.args.at.place (c.in_err-section.ensures ne))
-
-pub read_stream-returns-in_err-push : goal.read_stream-returns-in_err-push
-read_stream-returns-in_err-push t c = rw (err_is c.from_residual-in_err-push.ensures.1) (λ ne. absurd (ne refl))
+    (framed.frame_form c.in-Some.frame) c.args.volumes.now.items c.loop-frame.volumes.items c.loop-frame.invariant
+    (rw c.in-Some.is at c.next_frame.ensures.some) c.in_err-read_section.field-0.0 c.args.at.place (c.in_err-read_section.ensures ne))
 
 pub read_stream-returns : goal.read_stream-returns
 read_stream-returns t c =
-    rw (c.tail.ensures, c.next_frame.ensures.tail) (walk_found c.args.at.left c.args.bytes.now c.loop-frame.walk.1 c.loop-frame.walk.0
-    c.loop-frame.sections.items c.loop-frame.invariant (rw c.in_default.is at c.next_frame.ensures.none).0)
+    let small : IsBytes c.args.bytes.now = search rules in
+    walk_found c.args.at.left c.args.bytes.now c.loop-frame.walk.1 c.loop-frame.walk.0 _ _ small c.loop-frame.invariant
+    (rw c.in_default.is at c.next_frame.ensures.none).0
 
 -- ---- a section that is a group
 
@@ -294,46 +298,16 @@ read_section-read_stream-requires t c =
       ),
     )
 
-pub read_section-returns-in_err-sections-in-Group : goal.read_section-returns-in_err-sections-in-Group
-read_section-returns-in_err-sections-in-Group t c =
+pub read_section-returns-in_ok-inside-in-Group : goal.read_section-returns-in_ok-inside-in-Group
+read_section-returns-in_ok-inside-in-Group t c =
+    let f : FrameForm = framed.frame_form c.args.frame.now in
+    let n = c.args.at.left in
+    let inside = c.in_ok-inside-in-Group.inside in
     let ok = c.in_ok-inside-in-Group.ensures.ok in
-    rw (err_is c.from_residual-in_err-sections-in-Group.ensures.1) (λ ne.
-    group_first c.args.at.left c.in_ok-inside-in-Group.inside.left (framed.frame_form c.args.frame.now)
-    c.in_err-sections-in-Group.field-0.0 c.args.at.place c.in_ok-inside-in-Group.inside.place ok.0
-    (group_shape (framed.frame_form c.args.frame.now) (sym c.shape_of.ensures ∙ c.in-Group.is)) ok.1 ok.2
-    (c.in_err-sections-in-Group.ensures ne))
-
-pub read_section-overflow_cast-len : goal.read_section-overflow_cast-len
-read_section-overflow_cast-len t c = omega (arith, frame_small (framed.frame_form c.args.frame.now) c.requires.stored)
-
--- the view that is made of the group is its meaning
-group_means : (t : ℕ) (c : read_section-In_ok-sections-in-Group t) → MeansSection c.args.at.left (framed.frame_form c.args.frame.now)
-    (Section c.args.frame.now.kind c.args.frame.now.extended
-    (Group (sections_from c.in_ok-sections-in-Group.sections.items) c.in_ok-sections-in-Group.tail))
-group_means t c =
-    let f : FrameForm = framed.frame_form c.args.frame.now in
-    group_found c.args.at.left c.in_ok-inside-in-Group.inside.left f c.in_ok-sections-in-Group.sections.items c.in_ok-sections-in-Group.tail
-    c.in_ok-inside-in-Group.ensures.ok.0 (group_shape f (sym c.shape_of.ensures ∙ c.in-Group.is)) c.in_ok-sections-in-Group.ensures
-
-pub read_section-of_group-requires-clause-read : goal.read_section-of_group-requires-clause-read
-read_section-of_group-requires-clause-read t c =
-    let means = group_means t (goal.at.read_section-of_group-requires-clause-read t c).In_ok-sections-in-Group in
-    (c.args.at.left, omega arith, framed.frame_form c.args.frame.now, c.requires.stored, means)
-
-pub read_section-of_group-requires-clause-len : goal.read_section-of_group-requires-clause-len
-read_section-of_group-requires-clause-len t c =
-    body_long c.args.at.left (framed.frame_form c.args.frame.now) c.args.frame.now.kind
-    (Group (sections_from c.in_ok-sections-in-Group.sections.items) c.in_ok-sections-in-Group.tail)
-    (group_means t (goal.at.read_section-of_group-requires-clause-len t c).In_ok-sections-in-Group)
-
-pub read_section-returns-in_ok-sections-in-Group : goal.read_section-returns-in_ok-sections-in-Group
-read_section-returns-in_ok-sections-in-Group t c =
-    let f : FrameForm = framed.frame_form c.args.frame.now in
-    let means = group_means t (goal.at.read_section-returns-in_ok-sections-in-Group t c).In_ok-sections-in-Group in
-    MatchResult-from_both c.of_group.result _ _
-    (IfOk-weaker c.of_group.result _ _ (λ s is. subst (λ (x : SectionMeaning). MeansSection c.args.at.left f x) (sym is) means)
-    c.of_group.ensures.ok)
-    (IfErr-weaker c.of_group.result _ _ (λ e is ne. absurd (ne is)) c.of_group.ensures.err)
+    let is = sym c.shape_of.ensures ∙ c.in-Group.is in
+    MatchResult-weaker c.read_stream.result c.read_stream.ensures
+    (λ x read. group_read n inside.left f c.args.volumes.now.items c.read_stream.new.volumes.items ok.0 is read)
+    (λ e bad ne. group_first n inside.left f e c.args.at.place inside.place ok.0 (group_shape f is) ok.1 ok.2 (bad ne))
 
 -- ---- a section that is opened as a volume
 
@@ -364,38 +338,22 @@ read_section-returns-in_err-volume-in-Volume t c =
     c.in_ok-inside-in-Volume.inside.place ok.0 (volume_shape f (sym c.shape_of.ensures ∙ c.in-Volume.is)) ok.1 ok.2
     (c.in_err-volume-in-Volume.ensures.read ne))
 
-pub read_section-returns-in_err-nested-in-Volume : goal.read_section-returns-in_err-nested-in-Volume
-read_section-returns-in_err-nested-in-Volume t c = rw (err_is c.from_residual-in_err-nested-in-Volume.ensures.1) (λ ne. absurd (ne refl))
+pub read_section-returns-in_err-push-in-Volume : goal.read_section-returns-in_err-push-in-Volume
+read_section-returns-in_err-push-in-Volume t c = rw (err_is c.from_residual-in_err-push-in-Volume.ensures.1) (λ ne. absurd (ne refl))
 
--- the view that is made of the opened volume is its meaning
-nested_means : (t : ℕ) (c : read_section-In_ok-nested-in-Volume t) → MeansSection c.args.at.left (framed.frame_form c.args.frame.now)
-    (Section c.args.frame.now.kind c.args.frame.now.extended (Nested c.in_ok-nested-in-Volume.nested.value))
-nested_means t c =
+pub read_section-returns-in_ok-push-in-Volume : goal.read_section-returns-in_ok-push-in-Volume
+read_section-returns-in_ok-push-in-Volume t c =
     let f : FrameForm = framed.frame_form c.args.frame.now in
-    let opened = volume_shape f (sym c.shape_of.ensures ∙ c.in-Volume.is) in
+    let is = sym c.shape_of.ensures ∙ c.in-Volume.is in
+    let left = c.in_ok-inside-in-Volume.inside.left in
+    let volume = c.in_ok-volume-in-Volume.volume in
     let read = c.in_ok-volume-in-Volume.ensures in
-    rw c.in_ok-nested-in-Volume.ensures.ok (nested_found c.args.at.left c.in_ok-inside-in-Volume.inside.left f c.in_ok-volume-in-Volume.volume
-    c.in_ok-inside-in-Volume.ensures.ok.0 opened (opened_whole c.in_ok-inside-in-Volume.inside.left c.in_ok-volume-in-Volume.field-0-1 f.body
-    c.in_ok-volume-in-Volume.volume opened.opens read.length.1 read.read))
-
-pub read_section-of_volume-requires : goal.read_section-of_volume-requires
-read_section-of_volume-requires t c =
-    let means = nested_means t (goal.at.read_section-of_volume-requires t c).In_ok-nested-in-Volume in
-    (c.args.at.left, omega arith, framed.frame_form c.args.frame.now, c.requires.stored, means)
-
-pub read_section-returns-in_ok-nested-in-Volume : goal.read_section-returns-in_ok-nested-in-Volume
-read_section-returns-in_ok-nested-in-Volume t c =
-    rw c.of_volume.ensures
-    (nested_means t (goal.at.read_section-returns-in_ok-nested-in-Volume t c).In_ok-nested-in-Volume)
+    volume_read c.args.at.left left f c.args.volumes.now.items c.push.new.self.items volume c.in_ok-inside-in-Volume.ensures.ok.0 is
+    (opened_whole left c.in_ok-volume-in-Volume.field-0-1 f.body volume (volume_shape f is).opens read.length.1 read.read)
+    c.in_ok-push-in-Volume.ensures.items
 
 -- ---- a leaf
 
-pub read_section-of_leaf-requires : goal.read_section-of_leaf-requires
-read_section-of_leaf-requires t c =
-    let f : FrameForm = framed.frame_form c.args.frame.now in
-    (c.args.at.left, omega arith, f, c.requires.stored, leaf_is c.args.at.left f (leaf_shape f (sym c.shape_of.ensures ∙ c.in-Leaf.is)))
-
 pub read_section-returns-in-Leaf : goal.read_section-returns-in-Leaf
 read_section-returns-in-Leaf t c =
-    let f : FrameForm = framed.frame_form c.args.frame.now in
-    rw c.of_leaf.ensures (leaf_is c.args.at.left f (leaf_shape f (sym c.shape_of.ensures ∙ c.in-Leaf.is)))
+    leaf_read c.args.at.left (framed.frame_form c.args.frame.now) c.args.volumes.now.items (sym c.shape_of.ensures ∙ c.in-Leaf.is)

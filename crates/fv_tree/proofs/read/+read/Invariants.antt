@@ -4,14 +4,15 @@ use Rattle.fv_tree.proofs.StreamWalkLaws.{Walked}
 use Rattle.fv_tree.proofs.read.+read.Given as goal
 
 abbrev pub invariant-read_stream-loop-frame : goal.invariant-read_stream-loop-frame
-invariant-read_stream-loop-frame l = Walked l.at.left l.bytes l.walk.1 l.walk.0 l.sections.items
+invariant-read_stream-loop-frame l =
+    Walked l.at.left l.bytes l.walk.1 l.walk.0 l.initial.volumes.items l.volumes.items
 
 abbrev pub decreases-read_stream-loop-frame : goal.decreases-read_stream-loop-frame
 decreases-read_stream-loop-frame l = length l.walk.0
 
 abbrev pub invariant-read_files-loop-file : goal.invariant-read_files-loop-file
 invariant-read_files-loop-file l =
-    Pairwise (MeansFile (Stream l.at.left)) (take l.file-index (map file_form l.files)) l.views.items
+    Pairwise (MeansFile (Stream l.at.left)) (take l.file-index (map (file_form l.volume) l.files)) l.views.items
 
 abbrev pub decreases-read_section : goal.decreases-read_section
 decreases-read_section l = 7 * l.at.left
@@ -19,8 +20,8 @@ decreases-read_section l = 7 * l.at.left
 abbrev pub decreases-read_stream : goal.decreases-read_stream
 decreases-read_stream l = 7 * l.at.left + 1
 
-abbrev pub decreases-read_content : goal.decreases-read_content
-decreases-read_content l = 7 * l.at.left + 2
+abbrev pub decreases-read_data : goal.decreases-read_data
+decreases-read_data l = 7 * l.at.left + 2
 
 abbrev pub decreases-read_file : goal.decreases-read_file
 decreases-read_file l = 7 * l.at.left + 3

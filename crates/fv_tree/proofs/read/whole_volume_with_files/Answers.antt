@@ -64,4 +64,4 @@ returns-clause-only c =
     (only_answer c.args.input.now (Ok (v, c.in_ok-view.length)) c.in_ok-view.ensures.read c.in_ok-view.ensures.length)
 
 pub returns-clause-data : goal.returns-clause-data
-returns-clause-data c = begun_data c.args.input.now (map file_form c.in_ok-view.files.items) c.in_ok-view.ensures.files
+returns-clause-data c = begun_data c.args.input.now (map (file_form c.args.input.now) c.in_ok-view.files.items) c.in_ok-view.ensures.files

@@ -2,10 +2,21 @@ use Rattle.fv_base.proofs.Laws.{map, ap, err_is, First}
 use Rattle.fv_base.specs.declared.fault.Fault.{Fault}
 use Rattle.fv_head.proofs.Laws.{fault_known}
 use Rattle.fv_tree.specs.Words.{file_form}
+use Rattle.fv_tree.proofs.FilledLaws.{stands}
 use Rattle.fv_tree.proofs.LocatedLaws.{located_data, located_stand}
 use Rattle.fv_tree.proofs.MeaningLaws.{one_stand}
 use Rattle.fv_tree.proofs.RefusalLaws.{files_refused}
 use Rattle.fv_tree.proofs.stored_files.located_files.Goals as goal
+
+-- the files of a volume, with their data in all bytes
+pub returns-clause-found : goal.returns-clause-found
+returns-clause-found c =
+    let front = c.in_ok-extent.ensures.found in (
+      front.0,
+      c.in_ok-extent.extent,
+      front.1,
+      stands c.args.bytes.now c.in_ok-extent.extent c.in_ok-files.files.items (front.1).is_within c.in_ok-files.ensures.ends c.in_ok-files.ensures.read,
+    )
 
 pub returns-in_err-files-clause-none : goal.returns-in_err-files-clause-none
 returns-in_err-files-clause-none c =
@@ -17,13 +28,14 @@ returns-in_err-files-clause-none c =
 pub returns-clause-data : goal.returns-clause-data
 returns-clause-data c =
     let front = c.in_ok-extent.ensures.found in
-    located_data c.args.bytes.now front.0 c.in_ok-extent.extent (map file_form c.in_ok-files.files.items) front.1
-    c.in_ok-files.ensures.read
+    located_data c.args.bytes.now front.0 c.in_ok-extent.extent (map (file_form c.args.bytes.now) c.in_ok-files.files.items) front.1
+    (stands c.args.bytes.now c.in_ok-extent.extent c.in_ok-files.files.items (front.1).is_within c.in_ok-files.ensures.ends c.in_ok-files.ensures.read)
 
 pub returns-clause-only : goal.returns-clause-only
 returns-clause-only c = λ gs begins.
     let front = c.in_ok-extent.ensures.found in
-    one_stand c.in_ok-extent.extent _ (map file_form c.in_ok-files.files.items) gs c.in_ok-files.ensures.read
+    one_stand c.in_ok-extent.extent _ (map (file_form c.args.bytes.now) c.in_ok-files.files.items) gs
+    (stands c.args.bytes.now c.in_ok-extent.extent c.in_ok-files.files.items (front.1).is_within c.in_ok-files.ensures.ends c.in_ok-files.ensures.read)
     (located_stand c.args.bytes.now front.0 c.in_ok-extent.extent front.1 gs begins)
 
 pub returns-in_err-extent-clause-memory : goal.returns-in_err-extent-clause-memory

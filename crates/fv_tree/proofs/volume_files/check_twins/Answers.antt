@@ -2,7 +2,7 @@ use Rattle.std.proofs.Common.{◌+◌, ◌<◌, ℕ, ◌∙◌, ap, get_or, leng
 use Rattle.fv_base.proofs.Laws.{length-map, outer_fault, seam_items}
 use Rattle.fv_names.specs.Words.{NoTwins}
 use Rattle.fv_names.proofs.Laws.{no_named}
-use Rattle.fv_tree.specs.Words.{file_form, FileForm}
+use Rattle.fv_tree.specs.Words.{bare_form, FileForm}
 use Rattle.fv_tree.specs.inner.NameForms.{named_file}
 use Rattle.fv_tree.proofs.NamedLaws.{front_twins, no_file, twin_after, twins_from}
 use Rattle.fv_base.specs.declared.fault.FaultKind.TheVariants as kinds
@@ -11,13 +11,13 @@ use Rattle.fv_tree.proofs.volume_files.check_twins.Goals as goal
 pub returns-then-first-files-clause-first : goal.returns-then-first-files-clause-first
 returns-then-first-files-clause-first c =
     let n : ℕ = c.first_twin-first.result in
-    let all : List FileForm = map file_form c.args.files.now in
+    let all : List FileForm = map bare_form c.args.files.now in
     let l : n < length c.args.files.now = c.if-first-files.true in (
-      file_form (get_or c.args.files.now n no_file),
+      bare_form (get_or c.args.files.now n no_file),
       (
         take n all,
         drop (n + 1) all,
-        seam_items file_form c.args.files.now n no_file l,
+        seam_items bare_form c.args.files.now n no_file l,
         front_twins n c.args.files.now c.first_twin-first.ensures.none,
         twin_after n c.args.files.now l (c.first_twin-first.ensures.first l no_named),
       ),

@@ -1,10 +1,11 @@
 use Rattle.std.proofs.Common.{◌≡◌, ◌∙◌, sym, ap, [], ◌∷◌, ◌++◌, append-nil, arith, length-drop, map, refl, rules}
 use Rattle.std.proofs.lemmas.List.{map_push}
 use Rattle.fv_base.specs.Words.{IsBytes}
-use Rattle.fv_base.proofs.Laws.{bytes_drop, err_is}
+use Rattle.fv_base.proofs.Laws.{bytes_drop, err_is, map-append}
 use Rattle.fv_file.specs.Words.{Walked, cell_form}
 use Rattle.fv_file.proofs.Laws.{body_within, walk_begins, walk_fails, walked_on}
-use Rattle.fv_tree.specs.Words.{file_form, files_in}
+use Rattle.fv_tree.specs.Words.{bare_form, files_in}
+use Rattle.fv_tree.specs.inner.ReadingParts.{bare}
 use Rattle.fv_tree.proofs.NameLaws.{files_in_more}
 use Rattle.fv_tree.proofs.SmallCellLaws.{small_cell}
 use Rattle.fv_tree.proofs.volume_files.files_in.Goals as goal
@@ -27,7 +28,7 @@ loop-files-preserved-in_default-file_of c =
     let step : Walked c.loop-files.walk (cell ∷ []) c.next_cell.new.self = search rules in (
       cs ++ cell ∷ [],
       walked_on _ _ _ _ _ walked step,
-      are ∙ sym (files_in_more cs cell ∙ ap (λ l. files_in cs ++ l) c.in_default-file_of.ensures.none ∙ append-nil (files_in cs)),
+      are ∙ ap (map bare) (sym (files_in_more cs cell ∙ ap (λ l. files_in cs ++ l) c.in_default-file_of.ensures.none ∙ append-nil (files_in cs))),
     )
 
 pub loop-files-preserved : goal.loop-files-preserved
@@ -38,9 +39,10 @@ loop-files-preserved c =
     let items : c.push.new.self.items ≡ c.loop-files.files.items ++ c.in-Some-file_of.file ∷ [] = search rules in (
       cs ++ cell ∷ [],
       walked_on _ _ _ _ _ walked step,
-      ap (map file_form) items ∙ map_push file_form c.loop-files.files.items c.in-Some-file_of.file
-          ∙ ap (λ l. l ++ file_form c.in-Some-file_of.file ∷ []) are
-          ∙ sym (files_in_more cs cell ∙ ap (λ l. files_in cs ++ l) c.in-Some-file_of.ensures.some),
+      ap (map bare_form) items ∙ map_push bare_form c.loop-files.files.items c.in-Some-file_of.file
+          ∙ ap (λ l. l ++ bare_form c.in-Some-file_of.file ∷ []) are
+          ∙ ap (λ l. map bare (files_in cs) ++ l) (sym c.in-Some-file_of.ensures.some)
+          ∙ sym (ap (map bare) (files_in_more cs cell) ∙ map-append bare (files_in cs) (files_in (cell ∷ []))),
     )
 
 pub returns-in_err-cell-clause-first : goal.returns-in_err-cell-clause-first

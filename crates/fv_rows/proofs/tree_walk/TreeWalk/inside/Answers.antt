@@ -1,14 +1,13 @@
-use Rattle.std.proofs.Common.{◌∙◌, sym, ap, subst, refl}
-use Rattle.fv_rows.specs.RowWalks.{AreLevels, left_in}
-use Rattle.fv_rows.proofs.RowWalkLaws.{inside_begun}
+use Rattle.std.proofs.Common.{◌∙◌, sym, ap, subst}
+use Rattle.std.specs.List.{AllByRecursion}
+use Rattle.fv_rows.specs.Words.{NestsAt, part_node, rows_of_nodes}
+use Rattle.fv_rows.proofs.RowWalkLaws.{inside_nest, inside_rows}
 use Rattle.fv_rows.proofs.tree_walk.TreeWalk.inside.Goals as goal
 
-pub invariant_of-result : goal.invariant_of-result
-invariant_of-result c =
-    subst (AreLevels 0) (sym c.of.ensures)
-    (inside_begun _ (record { number = 0; nesting = 0; parts = c.parts_in.result }) c.known.ensures c.parts_in.ensures.nodes refl refl c.parts_in.ensures.few).1
+pub over-requires-clause-nest : goal.over-requires-clause-nest
+over-requires-clause-nest c =
+    subst (AllByRecursion (NestsAt 0)) (sym c.parts_in.ensures.nodes) (inside_nest (part_node c.args.part.now) c.known.ensures)
 
 pub returns : goal.returns
 returns c =
-    ap (left_in 0) c.of.ensures
-    ∙ (inside_begun _ (record { number = 0; nesting = 0; parts = c.parts_in.result }) c.known.ensures c.parts_in.ensures.nodes refl refl c.parts_in.ensures.few).0
+    c.over.ensures ∙ ap (rows_of_nodes 0 0 0) c.parts_in.ensures.nodes ∙ sym (inside_rows 0 0 (part_node c.args.part.now))

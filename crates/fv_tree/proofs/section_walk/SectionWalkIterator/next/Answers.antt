@@ -1,41 +1,55 @@
-use Rattle.std.proofs.Common.{◌∙◌, ◌∷◌, ◌++◌, [], length, length-append, refl, sym, ap, subst, arith, rules}
-use Rattle.std.proofs.lemmas.List.{nil_from_length}
+use Rattle.std.proofs.Common.{◌∙◌, length, sym, ap, subst, arith, rules}
 use Rattle.fv_tree.specs.Words.{AreLevels, left_in}
-use Rattle.fv_tree.proofs.SectionWalkLaws.{levels_less, next_are, next_fits, next_left, none_left}
+use Rattle.fv_tree.proofs.SectionWalkLaws.{none_left, outer_are, next_other, other_are, next_group, group_are, group_fits}
 use Rattle.fv_tree.proofs.section_walk.SectionWalkIterator.next.Goals as goal
 
-pub push-requires : goal.push-requires
-push-requires c =
-    let are = subst (AreLevels 0) c.in-Some.ensures.some c.loop-level.invariant.levels in
-    (omega arith, omega (arith, next_fits c.pop.new.self c.in-Some.level _ _ c.in-Some-split_first.ensures.cases.0 are))
-
-pub push-requires-in-Some-split_first : goal.push-requires-in-Some-split_first
-push-requires-in-Some-split_first c =
-    let are = subst (AreLevels 0) c.in-Some.ensures.some c.loop-level.invariant.levels in
-    let fits = next_fits c.pop.new.self c.in-Some.level _ _ c.in-Some-split_first.ensures.cases.0 are in
-    (omega arith, omega (arith, fits, ap length c.push.ensures, length-append c.pop.new.self (c.in-Some-split_first.rest ∷ [])))
+-- ---- a section that is not a group
 
 pub invariant_of-self : goal.invariant_of-self
 invariant_of-self c =
-    let are = subst (AreLevels 0) c.in-Some.ensures.some c.loop-level.invariant.levels in
-    let pushed = c.push-in-Some-split_first.ensures ∙ ap (λ l. l ++ c.sections.result ∷ []) c.push.ensures in
-    subst (AreLevels 0) (sym pushed)
-    (next_are c.pop.new.self c.in-Some.level _ _ _ c.in-Some-split_first.ensures.cases.0 c.sections.ensures are)
+    other_are c.loop-section.self-inside.outer.items c.loop-section.self-inside.sections c.next_section.new.self c.in-Some.section
+    (rw c.in-Some.is at c.next_section.ensures.some) c.loop-section.invariant.levels
 
-pub returns-in-Some-split_first : goal.returns-in-Some-split_first
-returns-in-Some-split_first c =
-    let pushed = c.push-in-Some-split_first.ensures ∙ ap (λ l. l ++ c.sections.result ∷ []) c.push.ensures in
-    let steps = sym c.self.view_is ∙ c.loop-level.invariant.left ∙ ap left_in c.in-Some.ensures.some
-    ∙ next_left c.pop.new.self c.in-Some.level _ _ _ c.in-Some-split_first.ensures.cases.0 c.sections.ensures
-    ∙ ap (λ l. c.in-Some-split_first.first.now ∷ left_in l) (sym pushed) in
+pub returns-in_default-body : goal.returns-in_default-body
+returns-in_default-body c =
+    let steps = sym c.self.view_is ∙ c.loop-section.invariant.left
+    ∙ next_other c.loop-section.self-inside.outer.items c.loop-section.self-inside.sections c.next_section.new.self c.in-Some.section
+    (rw c.in-Some.is at c.next_section.ensures.some) c.loop-section.invariant.levels c.body.result c.body.ensures c.in_default-body.not-Group in
     let shorter = ap length steps in
     record { steps = steps; goes = search rules }
 
-pub loop-level-preserved : goal.loop-level-preserved
-loop-level-preserved c =
-    let are = subst (AreLevels 0) c.in-Some.ensures.some c.loop-level.invariant.levels in
-    let none = nil_from_length c.in-Some.level.now (rw c.in_default-split_first.is at c.split_first.ensures.cases) in
+-- ---- a group
+
+pub push-requires : goal.push-requires
+push-requires c =
+    let fits = group_fits c.loop-section.self-inside.outer.items c.loop-section.self-inside.sections c.next_section.new.self c.in-Some.section
+    (rw c.in-Some.is at c.next_section.ensures.some) c.loop-section.invariant.levels c.body.result c.body.ensures c.in-Group.inside c.in-Group.is in
+    (omega arith, omega (arith, fits))
+
+pub invariant_of-self-in-Some : goal.invariant_of-self-in-Some
+invariant_of-self-in-Some c =
+    rw (c.push.ensures.items, c.replace-around.ensures.value, c.replace-around.ensures.after)
+    (group_are c.loop-section.self-inside.outer.items c.loop-section.self-inside.sections c.next_section.new.self c.in-Some.section
+    (rw c.in-Some.is at c.next_section.ensures.some) c.loop-section.invariant.levels c.body.result c.body.ensures c.in-Group.inside c.in-Group.is)
+
+pub returns-in-Some-clause-steps : goal.returns-in-Some-clause-steps
+returns-in-Some-clause-steps c =
+    rw (c.push.ensures.items, c.replace-around.ensures.value, c.replace-around.ensures.after) (sym c.self.view_is ∙ c.loop-section.invariant.left
+    ∙ next_group c.loop-section.self-inside.outer.items c.loop-section.self-inside.sections c.next_section.new.self c.in-Some.section
+    (rw c.in-Some.is at c.next_section.ensures.some) c.loop-section.invariant.levels c.body.result c.body.ensures c.in-Group.inside c.in-Group.is)
+
+pub returns-in-Some-clause-goes : goal.returns-in-Some-clause-goes
+returns-in-Some-clause-goes c = let shorter = ap length (returns-in-Some-clause-steps c) in search rules
+
+-- ---- no section is left on the innermost level
+
+pub loop-section-preserved : goal.loop-section-preserved
+loop-section-preserved c =
+    let none = (rw c.in_default.is at c.next_section.ensures.none).0 in
+    let items = c.in_ok-self-inside.ensures.items in
     record {
-      levels = (levels_less 0 _ c.pop.new.self c.in-Some.level refl are).0;
-      left = c.loop-level.invariant.left ∙ ap left_in c.in-Some.ensures.some ∙ none_left c.pop.new.self c.in-Some.level none;
+      levels = subst (AreLevels 0) items
+          (outer_are c.loop-section.self-inside.outer.items c.loop-section.self-inside.sections c.loop-section.invariant.levels);
+      left = c.loop-section.invariant.left
+          ∙ none_left c.loop-section.self-inside.outer.items c.loop-section.self-inside.sections none ∙ ap left_in items;
     }

@@ -1,0 +1,182 @@
+-- The frames and the tail that `frames_of` and `tail_of` read from the bytes of a stream are the frames and the tail
+-- into which the stream splits (`Splits`), except that each frame has the offset 0. The steps:
+-- 1. Fewer bytes are left after each frame (`fewer`). So the limit of `starts_by` does not matter if it is at least the
+--    number of bytes (`starts_same`). A stream begins with its first frame, which is followed by the frames of the
+--    bytes after it (`first_start`), and fewer than 4 bytes contain no frame (`no_start`).
+-- 2. Bytes that split into frames begin with the first of these frames (`first_is`), and the bytes that are left after
+--    it split into the other frames (`after_last`, `after_more`). So the frames that are read are the frames of the
+--    split (`starts_meet`).
+-- 3. The same is true of a whole stream (`split_is`).
+use Rattle.std.proofs.Common.{◌≡◌, ℕ, zero, suc, ◌+◌, ◌<◌, ◌≤◌, List, [], ◌∷◌, ◌++◌, length, drop, map, refl, sym, ap, ◌∙◌, subst, arith}
+use Rattle.std.proofs.Common.{Bool, true, false, length-append, append_assoc, length-drop}
+use Rattle.std.specs.Prelude.{nat_lt}
+use Rattle.std.specs.List.{AllByRecursion}
+use Rattle.std.proofs.lemmas.Bool.{ltb-true, ltb-false}
+use Rattle.std.proofs.lemmas.List.{drop_at, length-map}
+use Rattle.fv_base.specs.Words.{IsBytes}
+use Rattle.fv_base.proofs.Laws.{bytes_drop}
+use Rattle.fv_section.specs.Words.{BeginsFrame, FrameForm, HasFrameAt, Splits, SplitsFrom, after_first, after_size, frame_in, frame_len, up_to_4}
+use Rattle.fv_section.proofs.Laws.{frame_reads}
+use Rattle.fv_section.proofs.Laws.{from_least, length_begun, size_least}
+use Rattle.fv_tree.specs.Words.{BeginsFramed, frames_of, starts_by, starts_of}
+
+-- ---- the number of steps
+
+-- fewer bytes are left after a frame
+pub fewer : (r : List ℕ) → 4 ≤ length r → length (after_first r) < length r
+fewer r least = go (nat_lt (up_to_4 (frame_len (frame_in 0 r))) (length r)) refl where
+  go : (t : Bool) → nat_lt (up_to_4 (frame_len (frame_in 0 r))) (length r) ≡ t → length (after_first r) < length r
+  go true e = rw e (omega (arith, least, size_least (frame_in 0 r), length-drop (up_to_4 (frame_len (frame_in 0 r))) r))
+  go false e = rw e (omega (arith, least, size_least (frame_in 0 r), length-drop (frame_len (frame_in 0 r)) r))
+
+-- fewer than 4 bytes contain no frame
+few_starts : (n : ℕ) (r : List ℕ) → length r < 4 → starts_by n r ≡ ([], r)
+few_starts zero r few = refl
+few_starts (suc n) r few = go (nat_lt (length r) 4) refl where
+  go : (t : Bool) → nat_lt (length r) 4 ≡ t → starts_by (suc n) r ≡ ([], r)
+  go true e = rw e refl
+  go false e = absurd (omega (arith, few, ltb-false _ _ e))
+
+-- at least 4 bytes begin with a frame, which is followed by the frames of the bytes after it
+more_starts : (n : ℕ) (r : List ℕ) → 4 ≤ length r → starts_by (suc n) r ≡ (r ∷ (starts_by n (after_first r)).0, (starts_by n (after_first r)).1)
+more_starts n r least = go (nat_lt (length r) 4) refl where
+  go : (t : Bool) → nat_lt (length r) 4 ≡ t → starts_by (suc n) r ≡ (r ∷ (starts_by n (after_first r)).0, (starts_by n (after_first r)).1)
+  go true e = absurd (omega (arith, least, ltb-true _ _ e))
+  go false e = rw e refl
+
+-- the limit of the number of frames does not matter if it is at least the number of bytes
+starts_same : (n m : ℕ) (r : List ℕ) → length r ≤ n → length r ≤ m → starts_by n r ≡ starts_by m r
+starts_same zero m r less less' = sym (few_starts m r (omega (arith, less)))
+starts_same (suc n) zero r less less' = few_starts (suc n) r (omega (arith, less'))
+starts_same (suc n) (suc m) r less less' = go (starts_same n m (after_first r)) (nat_lt (length r) 4) refl where
+  go : (length (after_first r) ≤ n → length (after_first r) ≤ m → starts_by n (after_first r) ≡ starts_by m (after_first r))
+      → (t : Bool) → nat_lt (length r) 4 ≡ t → starts_by (suc n) r ≡ starts_by (suc m) r
+  go same true e = few_starts (suc n) r (ltb-true _ _ e) ∙ sym (few_starts (suc m) r (ltb-true _ _ e))
+  go same false e =
+      let least : 4 ≤ length r = ltb-false _ _ e in
+      more_starts n r least
+      ∙ ap (λ (s : List (List ℕ) × List ℕ). (r ∷ s.0, s.1)) (same (omega (arith, less, fewer r least)) (omega (arith, less', fewer r least)))
+      ∙ sym (more_starts m r least)
+
+-- the same for `starts_of`, which has no limit
+pub no_start : (r : List ℕ) → length r < 4 → starts_of r ≡ ([], r)
+no_start r few = few_starts (length r) r few
+
+pub first_start : (r : List ℕ) → 4 ≤ length r → starts_of r ≡ (r ∷ (starts_of (after_first r)).0, (starts_of (after_first r)).1)
+first_start r least =
+    starts_same (length r) (suc (length r)) r (omega arith) (omega arith) ∙ more_starts (length r) r least
+    ∙ ap (λ (s : List (List ℕ) × List ℕ). (r ∷ s.0, s.1))
+    (starts_same (length r) (length (after_first r)) (after_first r) (omega (arith, fewer r least)) (omega arith))
+
+-- a stream has no more frames than bytes
+few_by : (n : ℕ) (r : List ℕ) → length (starts_by n r).0 ≤ length r
+few_by zero r = omega arith
+few_by (suc n) r = go (few_by n (after_first r)) (nat_lt (length r) 4) refl where
+  go : length (starts_by n (after_first r)).0 ≤ length (after_first r) → (t : Bool) → nat_lt (length r) 4 ≡ t
+      → length (starts_by (suc n) r).0 ≤ length r
+  go less true e = rw e (omega arith)
+  go less false e = rw e (omega (arith, less, fewer r (ltb-false _ _ e)))
+
+pub few_frames : (r : List ℕ) → length (frames_of r) ≤ length r
+few_frames r = omega (arith, length-map (starts_of r).0 (frame_in 0), few_by (length r) r)
+
+-- ---- the frames of a split
+
+-- the frame with the offset 0
+abbrev pub unplaced : FrameForm → FrameForm
+unplaced f = record { offset = 0; kind = f.kind; extended = f.extended; body = f.body }
+
+-- bytes that begin with a frame are read as this frame, with the offset 0
+first_is : (f : FrameForm) (r rest : List ℕ) → BeginsFrame f r rest → (frame_in 0 r ≡ unplaced f) × BeginsFramed r
+first_is f r rest begun =
+    let is : frame_in 0 r ≡ unplaced f = ap unplaced (frame_reads f r rest begun).frame_is in
+    let here : HasFrameAt (unplaced f) 0 r = record {
+      offset = refl;
+      inside = omega (arith, length_begun f r rest begun, size_least f);
+      rest = rest;
+      begins = record { head = begun.head; is_header = begun.is_header; text = begun.text };
+    } in
+    (is, subst (λ g. HasFrameAt g 0 r) (sym is) here)
+
+-- the bytes after a frame, and the bytes after a frame and the filler that follows it
+cut : (f : FrameForm) (r rest : List ℕ) → BeginsFrame f r rest → drop (frame_len f) r ≡ rest
+cut f r rest begun =
+    let x : List ℕ = begun.head ++ f.body in
+    let text : r ≡ x ++ rest = begun.text ∙ sym (append_assoc begun.head f.body rest) in
+    let long : length x ≡ frame_len f = omega (arith, length-append begun.head f.body, begun.is_header.header_length) in
+    ap (drop (frame_len f)) text ∙ drop_at x rest (frame_len f) long
+
+cut_filler : (f : FrameForm) (r filler rest : List ℕ) (n : ℕ) → BeginsFrame f r (filler ++ rest) → n ≡ frame_len f + length filler
+    → drop n r ≡ rest
+cut_filler f r filler rest n begun is =
+    let x : List ℕ = begun.head ++ (f.body ++ filler) in
+    let text : r ≡ x ++ rest =
+    begun.text ∙ ap (λ l. begun.head ++ l) (sym (append_assoc f.body filler rest))
+    ∙ sym (append_assoc begun.head (f.body ++ filler) rest) in
+    let long : length x ≡ n =
+    omega (arith, is, length-append begun.head (f.body ++ filler), length-append f.body filler, begun.is_header.header_length) in
+    ap (drop n) text ∙ drop_at x rest n long
+
+-- the bytes that are left after the last frame are the tail
+after_last : (f : FrameForm) (r rest : List ℕ) → BeginsFrame f r rest → frame_len f + length rest ≤ up_to_4 (frame_len f) → after_first r ≡ rest
+after_last f r rest begun fit = ap (λ g. after_size (frame_len g) r) (first_is f r rest begun).0 ∙ go (nat_lt (up_to_4 (frame_len f)) (length r)) refl where
+  go : (t : Bool) → nat_lt (up_to_4 (frame_len f)) (length r) ≡ t → after_size (frame_len f) r ≡ rest
+  go true e = absurd (omega (arith, fit, length_begun f r rest begun, ltb-true _ _ e))
+  go false e = rw e (cut f r rest begun)
+
+-- the bytes that are left after any other frame begin with the next frame
+after_more : (f : FrameForm) (r filler rest : List ℕ) → BeginsFrame f r (filler ++ rest) → frame_len f + length filler ≡ up_to_4 (frame_len f)
+    → 0 < length rest → after_first r ≡ rest
+after_more f r filler rest begun fill some =
+    ap (λ g. after_size (frame_len g) r) (first_is f r (filler ++ rest) begun).0 ∙ go (nat_lt (up_to_4 (frame_len f)) (length r)) refl
+  where
+    go : (t : Bool) → nat_lt (up_to_4 (frame_len f)) (length r) ≡ t → after_size (frame_len f) r ≡ rest
+    go true e = rw e (cut_filler f r filler rest (up_to_4 (frame_len f)) begun (sym fill))
+    go false e = absurd (omega (arith, fill, some, length_begun f r (filler ++ rest) begun, length-append filler rest, ltb-false _ _ e))
+
+-- the frames that were read are the frames fs, with the offset 0, and t bytes are left after them; and each of these
+-- frames is at the start of the bytes from which it was read
+pub record Meets (fs : List FrameForm) (t : ℕ) (starts : List (List ℕ) × List ℕ) : Type 0 where
+  pub frames : map (frame_in 0) starts.0 ≡ map unplaced fs
+  pub tail : length starts.1 ≡ t
+  pub framed : AllByRecursion BeginsFramed starts.0
+
+meets_one : (f : FrameForm) (fs : List FrameForm) (t : ℕ) (r rest : List ℕ) → frame_in 0 r ≡ unplaced f → BeginsFramed r
+    → 4 ≤ length r → after_first r ≡ rest → Meets fs t (starts_of rest) → Meets (f ∷ fs) t (starts_of r)
+meets_one f fs t r rest is framed least after more =
+    let step : starts_of r ≡ (r ∷ (starts_of rest).0, (starts_of rest).1) =
+    first_start r least ∙ ap (λ l. (r ∷ (starts_of l).0, (starts_of l).1)) after in
+    subst (Meets (f ∷ fs) t) (sym step) (record {
+      frames = ap (λ g. g ∷ map (frame_in 0) (starts_of rest).0) is ∙ ap (λ l. unplaced f ∷ l) more.frames;
+      tail = more.tail;
+      framed = (framed, more.framed);
+    })
+
+starts_meet : (at : ℕ) (fs : List FrameForm) (t : ℕ) (r : List ℕ) → at ≡ up_to_4 at → SplitsFrom at fs t r → Meets fs t (starts_of r)
+starts_meet at [] t r multiple (none, z) =
+    subst (Meets [] t) (sym (no_start r (omega (arith, ap length none)))) (record { frames = refl; tail = omega (arith, ap length none, z); framed = tt })
+starts_meet at (f ∷ []) t r multiple (rest, begun, o, l, fit) =
+    let first = first_is f r rest begun in
+    let long = length_begun f r rest begun in
+    let small : length rest < 4 = omega (arith, l, fit) in
+    let after = after_last f r rest begun (omega (arith, multiple, l, fit)) in
+    meets_one f [] t r rest first.0 first.1 (omega (arith, long, size_least f)) after
+    (subst (Meets [] t) (sym (no_start rest small)) (record { frames = refl; tail = l; framed = tt }))
+starts_meet at (f ∷ g ∷ fs) t r multiple (filler, rest, begun, o, fill, more) =
+    let first = first_is f r (filler ++ rest) begun in
+    let long = length_begun f r (filler ++ rest) begun in
+    let some = from_least (up_to_4 (at + frame_len f)) g fs t rest more in
+    let after = after_more f r filler rest begun (omega (arith, multiple, fill)) (omega (arith, some)) in
+    meets_one f (g ∷ fs) t r rest first.0 first.1 (omega (arith, long, size_least f)) after
+    (starts_meet (up_to_4 (at + frame_len f)) (g ∷ fs) t rest (omega arith) more)
+
+-- a stream is read as the frames and the tail of its split
+pub split_is : (fs : List FrameForm) (t : ℕ) (b : List ℕ) → Splits fs t b → Meets fs t (starts_of b)
+split_is fs t b split = starts_meet 0 fs t b (omega arith) split
+
+-- if all items of a list are below 256, the items that are left after its first frame are below 256
+pub bytes_after : (r : List ℕ) → IsBytes r → IsBytes (after_first r)
+bytes_after r small = go (nat_lt (up_to_4 (frame_len (frame_in 0 r))) (length r)) refl where
+  go : (t : Bool) → nat_lt (up_to_4 (frame_len (frame_in 0 r))) (length r) ≡ t → IsBytes (after_first r)
+  go true e = rw e (bytes_drop (up_to_4 (frame_len (frame_in 0 r))) r small)
+  go false e = rw e (bytes_drop (frame_len (frame_in 0 r)) r small)

@@ -1,0 +1,40 @@
+use Rattle.std.proofs.Common.{◌≡◌, ◌∙◌, ◌≤◌, List, length, sym, ap, subst, arith}
+use Rattle.fv_section.specs.Words.{FrameForm, frame_in}
+use Rattle.fv_tree.specs.Words.{Meaning, SectionMeaning}
+use Rattle.fv_tree.specs.Words.{section_by, IsKept}
+use Rattle.fv_tree.proofs.WalkedSectionLaws.{first_kept, rest_kept, each_first, tail_after}
+use Rattle.fv_tree.proofs.view.Sections.next_section.Goals as goal
+
+pub volumes_after-self-inside-requires : goal.volumes_after-self-inside-requires
+volumes_after-self-inside-requires c =
+    subst (λ (f : FrameForm). IsKept c.self.inside.left f c.self.inside.volumes.now) (sym c.split_frame.ensures.frame)
+    (first_kept c.self.inside.left c.self.inside.rest.now c.self.inside.volumes.now (omega arith) c.self.invariant)
+
+pub invariant_of-result : goal.invariant_of-result
+invariant_of-result c =
+    subst (λ (f : FrameForm). IsKept c.self.inside.left f c.self.inside.volumes.now) (sym c.split_frame.ensures.frame)
+    (first_kept c.self.inside.left c.self.inside.rest.now c.self.inside.volumes.now (omega arith) c.self.invariant)
+
+pub invariant_of-self : goal.invariant_of-self
+invariant_of-self c =
+    let least : 4 ≤ length c.self.inside.rest.now = omega arith in
+    let taken : c.volumes_after-self-inside.result.now ≡ (section_by c.self.inside.left (frame_in 0 c.self.inside.rest.now) c.self.inside.volumes.now).1 =
+    c.volumes_after-self-inside.ensures
+    ∙ ap (λ (f : FrameForm). (section_by c.self.inside.left f c.self.inside.volumes.now).1) c.split_frame.ensures.frame in
+    rw (c.split_frame.ensures.after, taken)
+    (rest_kept c.self.inside.left c.self.inside.rest.now c.self.inside.volumes.now least c.self.invariant)
+
+pub returns-clause-some : goal.returns-clause-some
+returns-clause-some c =
+    let least : 4 ≤ length c.self.inside.rest.now = omega arith in
+    let taken : c.volumes_after-self-inside.result.now ≡ (section_by c.self.inside.left (frame_in 0 c.self.inside.rest.now) c.self.inside.volumes.now).1 =
+    c.volumes_after-self-inside.ensures
+    ∙ ap (λ (f : FrameForm). (section_by c.self.inside.left f c.self.inside.volumes.now).1) c.split_frame.ensures.frame in
+    rw (← c.self.view_is, c.split_frame.ensures.after, c.split_frame.ensures.frame, taken)
+    (ap (λ (r : List SectionMeaning × List Meaning). r.0) (each_first c.self.inside.left c.self.inside.rest.now c.self.inside.volumes.now least))
+
+pub returns-clause-tail : goal.returns-clause-tail
+returns-clause-tail c =
+    let least : 4 ≤ length c.self.inside.rest.now = omega arith in
+    rw (← c.self.view_is, c.split_frame.ensures.after)
+    (sym (tail_after c.self.inside.left c.self.inside.rest.now c.self.inside.volumes.now least))
