@@ -5,7 +5,7 @@ use Rattle.fv_base.specs.declared.guid.Guid.{Guid}
 use Rattle.uuid.specs.Parts.{swap_fields}
 use Rattle.uuid.specs.Text.{parsed}
 
--- the character code of a lower-case hexadecimal digit: 48 is the code of 0, and 97 the code of a
+-- the character code of a lower-case hexadecimal digit. 48 is the code of `0`, and 97 is the code of `a`
 abbrev pub digit : ℕ → ℕ
 digit d = if nat_lt d 10 then 48 + d else 97 + d - 10
 
@@ -25,8 +25,8 @@ guid_text b =
     digits_at (3 ∷ 2 ∷ 1 ∷ 0 ∷ []) b ++ 45 ∷ digits_at (5 ∷ 4 ∷ []) b ++ 45 ∷ digits_at (7 ∷ 6 ∷ []) b
     ++ 45 ∷ digits_at (8 ∷ 9 ∷ []) b ++ 45 ∷ digits_at (10 ∷ 11 ∷ 12 ∷ 13 ∷ 14 ∷ 15 ∷ []) b
 
--- the GUID that a text spells, if any: 32 digits, or 8-4-4-4-12 digits, which may be in braces or after `urn:uuid:`. A
--- UUID stores its first three fields with the most significant byte first. The `uuid` crate reads a text in these four
--- forms only
+-- the GUID that a text spells, if any: 32 digits, or 8-4-4-4-12 digits, which may be in braces or after `urn:uuid:`. The
+-- digits and `urn:uuid:` may be of either case. A UUID stores its first three fields with the most significant byte
+-- first. The `uuid` crate reads a text in these four forms only
 abbrev pub guid_read : List ℕ → Option Guid
 guid_read text = option_map (λ u. record { bytes = swap_fields u }) (parsed text)

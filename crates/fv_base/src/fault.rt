@@ -8,8 +8,8 @@ use std::fmt;
 use thiserror::Error;
 
 /// Why an input was rejected, or why a run stopped. The comment of each variant gives its
-/// condition, then its offset. A valid file is a file whose data are valid, marked for update or
-/// not.
+/// condition, then its offset. Here a valid file is a file, or a pad, whose data are valid, marked
+/// for update or not.
 #[derive(Clone, Copy, Debug, PartialEq, Eq)]
 pub enum FaultKind {
     /// There are fewer than 56 bytes, fewer than `HeaderLength` bytes, or fewer than `FvLength`
@@ -75,9 +75,8 @@ pub enum FaultKind {
     SectionTail,
     /// The content of a group or of an opened volume would be at depth 9. At the section header.
     Depth,
-    /// A volume was read, but its files cannot be laid out within its `FvLength` bytes, although
-    /// its volume top file, if it has one, can begin at its only possible start. At 0, with the
-    /// depth of that volume.
+    /// A volume was read, but its files cannot be laid out within its `FvLength` bytes, and
+    /// TopAlignment does not apply. At 0, with the depth of that volume.
     NoRoom,
     /// A volume was read, but its volume top file, placed so that it ends at `FvLength`, does not
     /// begin at a multiple of 8, or the file's data are not aligned (`FFS_ATTRIB_DATA_ALIGNMENT`).

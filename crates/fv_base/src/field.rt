@@ -1,4 +1,5 @@
-//! Offsets in bytes: the field at an offset, the number in it, and the next multiple of 8.
+//! Offsets in bytes: the field at an offset, the number in it, and the first multiple of 8 at or
+//! after it.
 
 ghost use Rattle.std.specs.Prelude.{◌≡◌, ◌+◌, ◌<◌, ◌≤◌, ◌^◌, length, drop};
 ghost use Rattle.fv_base.specs.Value.{field, le_at, up_to_8};

@@ -32,7 +32,8 @@ impl Guid {
 
     /// Reads a GUID from a text in one of the four forms that `uuid` accepts: 32 hexadecimal
     /// digits; the digits with hyphens (8-4-4-4-12); the form with hyphens in braces; or the form
-    /// with hyphens after `urn:uuid:`. Returns None if `uuid` rejects the text.
+    /// with hyphens after `urn:uuid:`. The digits and `urn:uuid:` may be of either case. Returns
+    /// None if `uuid` rejects the text.
     #[tactic(auto, using(crate::proofs::GuidLemmas::names_none))]
     pub fn parse(text: &str) -> Option<Guid>
         ensures { result ≡ guid_read text.now }

@@ -1,9 +1,9 @@
-//! The limits on volumes, on their headers, on nesting, on hexadecimal text and on one read. The
-//! code defines each of them only here. Each of them also has a definition with a number of its
-//! own: in `specs/Limits.antt` for volumes, their headers and the nesting depth, in
-//! `specs/Input.antt` for one read and for the least memory of an input, and in `specs/HexIn.antt`
-//! of `fv_text` for hexadecimal text. Contracts tie the two together, so a limit must be changed
-//! in both places, or the proof fails.
+//! The limits on volumes, on their headers, on nesting, on hexadecimal text and on one read, and the
+//! least memory that is taken for an input. The code defines each of these numbers only here. Each
+//! of them also has a definition with a number of its own: in `specs/Limits.antt` for volumes, their
+//! headers and the nesting depth, in `specs/Input.antt` for one read and for the least memory of an
+//! input, and in `specs/HexIn.antt` of `fv_text` for hexadecimal text. Contracts tie the two
+//! together, so a number must be changed in both places, or the proof fails.
 
 /// The maximum length in bytes of a volume, of each binary input of a run, and of a flash image
 /// that is checked or laid out.

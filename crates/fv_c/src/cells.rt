@@ -1,4 +1,5 @@
-//! The cells of a volume's body: its files, pads, deleted files and free bytes, with their offsets.
+//! The cells of a volume's body, with their offsets: its valid files, pads, deleted files, unfinished
+//! files and headers, and free bytes.
 
 ghost use Rattle.std.specs.Prelude.{◌≡◌, ◌≢◌, ◌<◌, ◌≤◌, ◌%◌, ◌++◌, List, length, drop, map, IfErr, IfOk};
 ghost use Rattle.fv_base.specs.Words.{fault_number, out_of_memory};

@@ -10,11 +10,10 @@ use Rattle.fv_file.proofs.Laws.{only_one}
 use Rattle.fv_head.specs.Words.{BeginsVolume, extent_of, first_edge, polarity_of}
 use Rattle.fv_head.specs.declared.extent.Extent.{Extent}
 use Rattle.fv_head.proofs.Laws.{one_front}
-use Rattle.fv_tree.specs.Words.{IsMeaning, MeansSection, Stream, Meaning, Volume, head_of}
+use Rattle.fv_tree.specs.Words.{IsMeaning, Meaning, Volume, head_of}
 use Rattle.fv_canon.specs.Words.{DataAligned, DataAreAligned, IsImage}
 use Rattle.fv_canon.proofs.StoredTilingLaws.{PadErased}
-use Rattle.fv_canon.proofs.StreamImageLaws.{stream_again}
-use Rattle.fv_canon.proofs.VolumeImageLaws.{known, image_front, image_tiled, sections_again}
+use Rattle.fv_canon.proofs.VolumeImageLaws.{known, image_front, image_tiled, streams_again}
 
 -- ---- 1. one tiling
 
@@ -23,8 +22,7 @@ cells_are : (m : Meaning) (image : List ℕ) (e : Extent) (cells : List CellForm
     → DataAligned cells × AllByRecursion (PadErased e.polarity) cells
 cells_are (Volume h files) image e cells (n, most, b, small, d) (stored, starts, are, placed, shows) front tiles =
     let first : ℕ = first_edge h h.ext in
-    let again = stream_again (MeansSection n) (sections_again n) in
-    let k = (known (Stream n) again h files b small d stored starts are placed).writable in
+    let k = (known n (streams_again n) h files b small d stored starts are placed).writable in
     let own : BeginsVolume h (extent_of h first) image = image_front h stored starts image k shows in
     let extents : e ≡ extent_of h first = (one_front image h h e (extent_of h first) front own).1 in
     let tiled = image_tiled h stored starts image k shows in

@@ -123,11 +123,8 @@ length-pad_head size p = length-header fixed_checksum pad_name pad_kind 0 size f
 pub length-pad : (p : Polarity) (size : ℕ) → 24 ≤ size → length (pad_bytes p size) ≡ size
 unfolding pad_bytes
 length-pad p size l =
-    length-append (pad_head_of size p) (replicate (size - 24) (erased_byte p)) ∙ sum_of (length (pad_head_of size p))
-    (length (replicate (size - 24) (erased_byte p))) (length-pad_head size p) (length-replicate (size - 24) (erased_byte p))
-  where
-    sum_of : (a b : ℕ) → a ≡ 24 → b ≡ size - 24 → a + b ≡ size
-    sum_of a b e f = omega (arith, l)
+    length-append (pad_head_of size p) (replicate (size - 24) (erased_byte p))
+    ∙ omega (arith, l, length-pad_head size p, length-replicate (size - 24) (erased_byte p))
 
 pub pad_cell : (system : FileSystem) (p : Polarity) (size : ℕ) → 24 ≤ size → size ≤ 0xffffff → size % 8 ≡ 0 → (at : ℕ)
     → IsCell system p

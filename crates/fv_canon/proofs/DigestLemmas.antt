@@ -3,7 +3,7 @@
 use Rattle.std.proofs.Common.{◌≡◌, ◌∙◌, ◌+◌, ℕ, List, [], ◌∷◌, ◌++◌, drop, sym, ap, subst}
 use Rattle.fv_canon.specs.Words.{BeginsWithStarts, StartsOfEach, AreAllStarts, AreStarts}
 use Rattle.fv_canon.proofs.PartLengthLaws.{begin_all}
-use Rattle.fv_canon.proofs.VolumeListLaws.{begins_first}
+use Rattle.fv_canon.proofs.VolumeListLaws.{begins_split}
 use Rattle.fv_tree.specs.Words.{Inside, Meaning, Volume, FileMeaning, File, content_of, volumes_in, volumes_in_content, volumes_in_files}
 use Rattle.fv_canon.specs.declared.image_digests.ImageDigests.{ImageDigests}
 use Rattle.fv_canon.specs.inner.Digests.{Covers}
@@ -62,8 +62,8 @@ file_next d n i node (File name kind attributes content) rest starts is followed
     let volumes : volumes_of rest ≡ deeper_by n (volumes_in_content content) ++ volumes_of more =
     ap volumes_of follow ∙ content_volumes (d + 1) n content more in
     let all : BeginsWithStarts (volumes_of rest) starts = subst (λ m. BeginsWithStarts (volumes_of (row d n i m ∷ rest)) starts) is begins in (
-      begins_first (volumes_in_content content) (volumes_of more) starts
-          (begins_level n (volumes_in_content content) (volumes_of more) starts (subst (λ vs. BeginsWithStarts vs starts) volumes all)),
+      (begins_split (volumes_in_content content) (volumes_of more) starts
+          (begins_level n (volumes_in_content content) (volumes_of more) starts (subst (λ vs. BeginsWithStarts vs starts) volumes all))).0,
       all,
     )
 

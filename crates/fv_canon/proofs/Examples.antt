@@ -1,11 +1,11 @@
 -- The images of small volumes, byte by byte.
-use Rattle.std.proofs.Common.{◌≡◌, ℕ, [], ◌∷◌, ◌++◌, false, List, replicate, refl, arith, None, Some}
+use Rattle.std.proofs.Common.{◌≡◌, ℕ, [], ◌∷◌, ◌++◌, false, List, replicate, refl, arith, Option, None, Some}
 use Rattle.fv_base.proofs.Laws.{common_steps}
 use Rattle.fv_base.specs.declared.flash.FileSystem.TheVariants.{Ffs2}
 use Rattle.fv_base.specs.declared.flash.Polarity.{Polarity}
 use Rattle.fv_base.specs.declared.guid.Guid.{Guid}
 use Rattle.fv_file.specs.Words.{header_bytes}
-use Rattle.fv_head.specs.Words.{HeadFields, canonical_head, head_spelled, ext_spelled}
+use Rattle.fv_head.specs.Words.{Extension, HeadFields, canonical_head, head_spelled, ext_spelled}
 use Rattle.fv_tree.specs.Words.{Volume, NoFiles, MoreFiles, File, Plain, Sectioned, NoSections, MoreSections, Section, Leaf, Nested}
 use Rattle.fv_canon.specs.inner.ImageOf.{image_of}
 use Rattle.fv_canon.specs.Words.{stored_bytes, pad_bytes, gap_bytes, ext_pad}
@@ -14,73 +14,64 @@ use Rattle.fv_canon.proofs.PadLaws.{pads_rule}
 abbrev guid : ℕ → Guid
 guid n = record { bytes = replicate 16 n }
 
-abbrev head : ℕ → HeadFields
-head n = record {
+abbrev head : ℕ → Option Extension → HeadFields
+head n ext = record {
   zero_vector = replicate 16 0;
   file_system = Ffs2;
   length = n;
   attributes = 0x4feff;
   reserved = 0;
   blocks = (1, n) ∷ [];
-  ext = None;
+  ext = ext;
 }
 
--- the 72 bytes of a volume header, with the given bytes of its length and its checksum
-abbrev head_bytes : List ℕ → ℕ → ℕ → List ℕ
-head_bytes n c d =
+-- the 72 bytes of a volume header, with the given bytes of its length, its checksum and its ExtHeaderOffset
+abbrev head_bytes : List ℕ → ℕ → ℕ → ℕ → List ℕ
+head_bytes n c d offset =
     replicate 16 0 ++ ((0x78 ∷ 0xe5 ∷ 0x8c ∷ 0x8c ∷ 0x3d ∷ 0x8a ∷ 0x1c ∷ 0x4f ∷ 0x99 ∷ 0x35 ∷ 0x89 ∷ 0x61 ∷ 0x85 ∷ 0xc3 ∷ 0x2d ∷ 0xd3 ∷ [])
     ++ ((n ++ replicate 4 0)
-    ++ ((0x5f ∷ 0x46 ∷ 0x56 ∷ 0x48 ∷ 0xff ∷ 0xfe ∷ 4 ∷ 0 ∷ 0x48 ∷ 0 ∷ c ∷ d ∷ 0 ∷ 0 ∷ 0 ∷ 2 ∷ 1 ∷ 0 ∷ 0 ∷ 0 ∷ []) ++ (n ++ replicate 8 0))))
+    ++ ((0x5f ∷ 0x46 ∷ 0x56 ∷ 0x48 ∷ 0xff ∷ 0xfe ∷ 4 ∷ 0 ∷ 0x48 ∷ 0 ∷ c ∷ d ∷ offset ∷ 0 ∷ 0 ∷ 2 ∷ 1 ∷ 0 ∷ 0 ∷ 0 ∷ []) ++ (n ++ replicate 8 0))))
 
 -- the header of a file
 abbrev file : ℕ → ℕ → ℕ → ℕ → ℕ → ℕ → List ℕ
 file n hs fs kind attributes size = replicate 16 n ++ (hs ∷ fs ∷ kind ∷ attributes ∷ size ∷ 0 ∷ 0 ∷ 0xf8 ∷ [])
 
 -- the image of a volume without files
-empty_image : image_of (Volume (head 128) NoFiles) [] ≡ head_bytes (128 ∷ 0 ∷ 0 ∷ 0 ∷ []) 0xce 0xf5 ++ replicate 56 0xff
+empty_image : image_of (Volume (head 128 None) NoFiles) [] ≡ head_bytes (128 ∷ 0 ∷ 0 ∷ 0 ∷ []) 0xce 0xf5 0 ++ replicate 56 0xff
 unfolding canonical_head head_spelled ext_pad
 empty_image = refl
 
 -- an image with a gap of 24 bytes before a file of alignment 16
-gap_image : image_of (Volume (head 160) (MoreFiles (File (guid 0x0a) 1 0 (Plain []))
+gap_image : image_of (Volume (head 160 None) (MoreFiles (File (guid 0x0a) 1 0 (Plain []))
     (MoreFiles (File (guid 0x0b) 1 8 (Plain (1 ∷ 2 ∷ 3 ∷ 4 ∷ 5 ∷ 6 ∷ 7 ∷ 8 ∷ []))) NoFiles))) (72 ∷ 120 ∷ [])
-    ≡ head_bytes (160 ∷ 0 ∷ 0 ∷ 0 ∷ []) 0x8e 0xf5 ++ (file 0x0a 0x47 0xaa 1 0 24
+    ≡ head_bytes (160 ∷ 0 ∷ 0 ∷ 0 ∷ []) 0x8e 0xf5 0 ++ (file 0x0a 0x47 0xaa 1 0 24
     ++ (file 0xff 0x08 0xaa 0xf0 0 24 ++ (file 0x0b 0x27 0xaa 1 8 32 ++ (1 ∷ 2 ∷ 3 ∷ 4 ∷ 5 ∷ 6 ∷ 7 ∷ 8 ∷ replicate 8 0xff))))
 unfolding canonical_head head_spelled ext_pad header_bytes stored_bytes pad_bytes gap_bytes
 gap_image = refl
 
 -- an image with a file of two sections whose file checksum covers the data
-sections_image : image_of (Volume (head 128) (MoreFiles (File (guid 0x0a) 2 0x40 (Sectioned (MoreSections
+sections_image : image_of (Volume (head 128 None) (MoreFiles (File (guid 0x0a) 2 0x40 (Sectioned (MoreSections
     (Section 0x19 false (Leaf (0x5a ∷ []))) (MoreSections (Section 0x19 false (Leaf (1 ∷ 2 ∷ []))) NoSections)) 0)) NoFiles)) (72 ∷ [])
-    ≡ head_bytes (128 ∷ 0 ∷ 0 ∷ 0 ∷ []) 0xce 0xf5
+    ≡ head_bytes (128 ∷ 0 ∷ 0 ∷ 0 ∷ []) 0xce 0xf5 0
     ++ (file 0x0a 0xf8 0x66 2 0x40 38 ++ (5 ∷ 0 ∷ 0 ∷ 0x19 ∷ 0x5a ∷ 0 ∷ 0 ∷ 0 ∷ 6 ∷ 0 ∷ 0 ∷ 0x19 ∷ 1 ∷ 2 ∷ replicate 18 0xff))
 unfolding canonical_head head_spelled ext_pad header_bytes stored_bytes pad_bytes gap_bytes
 sections_image = refl
 
 -- the image of a volume that contains a volume
-nested_image : image_of (Volume (head 256) (MoreFiles (File (guid 0x0a) 0x0b 0
-    (Sectioned (MoreSections (Section 0x17 false (Nested (Volume (head 128) NoFiles))) NoSections) 0)) NoFiles)) (72 ∷ [])
-    ≡ head_bytes (0 ∷ 1 ∷ 0 ∷ 0 ∷ []) 0xce 0xf4 ++ (file 0x0a 0xb9 0xaa 0x0b 0 156
-    ++ ((0x84 ∷ 0 ∷ 0 ∷ 0x17 ∷ []) ++ ((head_bytes (128 ∷ 0 ∷ 0 ∷ 0 ∷ []) 0xce 0xf5 ++ replicate 56 0xff) ++ replicate 28 0xff)))
+nested_image : image_of (Volume (head 256 None) (MoreFiles (File (guid 0x0a) 0x0b 0
+    (Sectioned (MoreSections (Section 0x17 false (Nested (Volume (head 128 None) NoFiles))) NoSections) 0)) NoFiles)) (72 ∷ [])
+    ≡ head_bytes (0 ∷ 1 ∷ 0 ∷ 0 ∷ []) 0xce 0xf4 0 ++ (file 0x0a 0xb9 0xaa 0x0b 0 156
+    ++ ((0x84 ∷ 0 ∷ 0 ∷ 0x17 ∷ []) ++ ((head_bytes (128 ∷ 0 ∷ 0 ∷ 0 ∷ []) 0xce 0xf5 0 ++ replicate 56 0xff) ++ replicate 28 0xff)))
 unfolding canonical_head head_spelled ext_pad header_bytes stored_bytes pad_bytes gap_bytes
 nested_image = refl
 
 -- an image with an extended header that has a used-size entry, in its pad
-ext_image : image_of (Volume (record {
-  zero_vector = replicate 16 0;
-  file_system = Ffs2;
-  length = 192;
-  attributes = 0x4feff;
-  reserved = 0;
-  blocks = (1, 192) ∷ [];
-  ext = Some (record { name = guid 0x0e; entries = (3, 0 ∷ 0 ∷ 0 ∷ 0 ∷ []) ∷ []; tail = [] });
-}) (MoreFiles (File (guid 0x0a) 1 0 (Plain [])) NoFiles)) (128 ∷ [])
-    ≡ replicate 16 0 ++ ((0x78 ∷ 0xe5 ∷ 0x8c ∷ 0x8c ∷ 0x3d ∷ 0x8a ∷ 0x1c ∷ 0x4f ∷ 0x99 ∷ 0x35 ∷ 0x89 ∷ 0x61 ∷ 0x85 ∷ 0xc3 ∷ 0x2d ∷ 0xd3
-    ∷ 192 ∷ 0 ∷ 0 ∷ 0 ∷ 0 ∷ 0 ∷ 0 ∷ 0
-    ∷ 0x5f ∷ 0x46 ∷ 0x56 ∷ 0x48 ∷ 0xff ∷ 0xfe ∷ 4 ∷ 0 ∷ 0x48 ∷ 0 ∷ 0xee ∷ 0xf4 ∷ 0x60 ∷ 0 ∷ 0 ∷ 2 ∷ 1 ∷ 0 ∷ 0 ∷ 0 ∷ 192 ∷ 0 ∷ 0 ∷ 0
-    ∷ replicate 8 0)
+ext_image :
+    let ext : Extension = record { name = guid 0x0e; entries = (3, 0 ∷ 0 ∷ 0 ∷ 0 ∷ []) ∷ []; tail = [] } in
+    image_of (Volume (head 192 (Some ext)) (MoreFiles (File (guid 0x0a) 1 0 (Plain [])) NoFiles)) (128 ∷ [])
+    ≡ head_bytes (192 ∷ 0 ∷ 0 ∷ 0 ∷ []) 0xee 0xf4 0x60
     ++ (file 0xff 0xec 0xaa 0xf0 0 52 ++ (replicate 16 0x0e
-    ++ ((0x1c ∷ 0 ∷ 0 ∷ 0 ∷ 8 ∷ 0 ∷ 3 ∷ 0 ∷ 0x98 ∷ 0 ∷ 0 ∷ 0 ∷ replicate 4 0xff) ++ (file 0x0a 0x47 0xaa 1 0 24 ++ replicate 40 0xff)))))
+    ++ ((0x1c ∷ 0 ∷ 0 ∷ 0 ∷ 8 ∷ 0 ∷ 3 ∷ 0 ∷ 0x98 ∷ 0 ∷ 0 ∷ 0 ∷ replicate 4 0xff) ++ (file 0x0a 0x47 0xaa 1 0 24 ++ replicate 40 0xff))))
 unfolding canonical_head head_spelled ext_spelled ext_pad header_bytes stored_bytes pad_bytes gap_bytes
 ext_image = refl
 

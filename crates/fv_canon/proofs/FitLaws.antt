@@ -1,21 +1,43 @@
 -- A volume fits exactly if it has a layout, which places its files and the files of each volume inside. It is rejected
--- exactly if it does not fit.
-use Rattle.std.proofs.Common.{◌≡◌, ◌⊎◌, inl, inr, ◌+◌, ℕ, List, [], ◌∷◌, refl, sym, ◌∙◌}
+-- exactly if it does not fit, with a fault of the layout at offset 0.
+use Rattle.std.proofs.Common.{◌≡◌, ◌≢◌, ◌⊎◌, inl, inr, ◌+◌, ℕ, List, [], ◌∷◌, refl, subst, sym, ◌∙◌}
 use Rattle.fv_base.specs.declared.fault.Fault.{Fault}
+use Rattle.fv_base.specs.declared.fault.FaultKind.{FaultKind}
 use Rattle.fv_base.specs.declared.fault.FaultKind.TheVariants as kinds
 use Rattle.fv_head.specs.Words.{first_edge}
 use Rattle.fv_placement.specs.Words.{IsFirstPlacement}
 use Rattle.fv_placement.proofs.Laws.{agree, placed_or_not, top_none}
 use Rattle.fv_tree.specs.Words.{Meaning, head_of, length_of, Inside, volumes_in}
 use Rattle.fv_canon.specs.Words.{IsOfLayout, Rejects, WhatDoesNotFitIsRejected, placement_items, AreStarts, IsPlaced, Fits, AreLeast, StartsOfEach}
-use Rattle.fv_canon.specs.Words.{AreAllStarts, AreAllLeastStarts, layout_fault, AllFit, UnfitHere, FirstUnplaced, Unfit}
-use Rattle.fv_canon.proofs.UnfitKinds.{unfit_is}
-use Rattle.fv_canon.proofs.VolumeListLaws.{laid_fit, fit_laid}
+use Rattle.fv_canon.specs.Words.{AreAllStarts, layout_fault, AllFit, UnfitHere, FirstUnplaced, Unfit}
+use Rattle.fv_canon.proofs.VolumeListLaws.{fit_laid}
 
--- a volume fits exactly if it has a layout
-pub laid_fits : (m : Meaning) (starts : List ℕ) → AreAllStarts m starts → Fits m
-laid_fits m starts laid = laid_fit (volumes_in m) starts laid
+-- ---- the kind and the place of a fault of the layout
 
+-- a property of both faults of the layout, at every depth, is a property of the fault of a volume that does not fit
+module _ (P : Fault → Type 0) (top : (depth : ℕ) → P (layout_fault kinds.TopAlignment depth))
+    (room : (depth : ℕ) → P (layout_fault kinds.NoRoom depth)) where
+  pub unfit_has : (vs : List Inside) (depth : ℕ) (f : Fault) → FirstUnplaced vs depth f → P f
+  unfit_has [] depth f unfit = absurd unfit
+  unfit_has (v ∷ vs) depth f (inl (inl (off, is))) = subst P (sym is) (top (depth + v.depth))
+  unfit_has (v ∷ vs) depth f (inl (inr (short, is))) = subst P (sym is) (room (depth + v.depth))
+  unfit_has (v ∷ vs) depth f (inr (placed, unfit)) = unfit_has vs depth f unfit
+
+pub unfit_is : (m : Meaning) (depth : ℕ) (f : Fault) → Unfit m depth f → IsOfLayout f.kind
+unfit_is m depth f unfit = unfit_has (λ g. IsOfLayout g.kind) (λ d. inl refl) (λ d. inr refl) (volumes_in m) depth f unfit
+
+-- out of memory is not a fault of the layout
+pub not_layout : (kind : FaultKind) → IsOfLayout kind → kind ≢ kinds.OutOfMemory
+not_layout kind (inl is) same = let never : kinds.TopAlignment ≡ kinds.OutOfMemory = sym is ∙ same in cc
+not_layout kind (inr is) same = let never : kinds.NoRoom ≡ kinds.OutOfMemory = sym is ∙ same in cc
+
+-- the fault of a volume that does not fit is at offset 0
+pub unfit_place : (m : Meaning) (depth : ℕ) (f : Fault) → Unfit m depth f → f.place.offset ≡ 0
+unfit_place m depth f unfit = unfit_has (λ g. g.place.offset ≡ 0) (λ d. refl) (λ d. refl) (volumes_in m) depth f unfit
+
+-- ---- volumes that fit
+
+-- a volume that fits has a layout
 pub fits_laid : (m : Meaning) → Fits m → (starts : List ℕ) × AreAllStarts m starts
 fits_laid m fit = fit_laid (volumes_in m) fit
 
@@ -35,28 +57,22 @@ unfit_none m depth f un fit = first_none (volumes_in m) depth f un fit
 -- a volume has at most one fault of the layout
 here_fault : (m : Meaning) (depth : ℕ) (f g : Fault) → UnfitHere m depth f → UnfitHere m depth g → f ≡ g
 here_fault m depth f g (inl (off, is)) (inl (off', is')) = is ∙ sym is'
-here_fault m depth f g (inl (off, is)) (inr (short, is')) = absurd (short.top_can_begin off)
-here_fault m depth f g (inr (short, is)) (inl (off, is')) = absurd (short.top_can_begin off)
+here_fault m depth f g (inl (off, is)) (inr (short, is')) = absurd (short.top_is_aligned off)
+here_fault m depth f g (inr (short, is)) (inl (off, is')) = absurd (short.top_is_aligned off)
 here_fault m depth f g (inr (short, is)) (inr (short', is')) = is ∙ sym is'
 
-first_fault : (vs : List Inside) (depth : ℕ) (f g : Fault) → FirstUnplaced vs depth f → FirstUnplaced vs depth g → f ≡ g
+pub first_fault : (vs : List Inside) (depth : ℕ) (f g : Fault) → FirstUnplaced vs depth f → FirstUnplaced vs depth g → f ≡ g
 first_fault [] depth f g un other = absurd un
 first_fault (v ∷ vs) depth f g (inl un) (inl other) = here_fault v.volume _ f g un other
 first_fault (v ∷ vs) depth f g (inl un) (inr (placed, other)) = absurd (here_none v _ f un placed)
 first_fault (v ∷ vs) depth f g (inr (placed, un)) (inl other) = absurd (here_none v _ g other placed)
 first_fault (v ∷ vs) depth f g (inr (placed, un)) (inr (placed', other)) = first_fault vs depth f g un other
 
-pub one_fault : (m : Meaning) (depth : ℕ) (f g : Fault) → Unfit m depth f → Unfit m depth g → f ≡ g
-one_fault m depth f g un other = first_fault (volumes_in m) depth f g un other
-
 -- if the least starts of each volume are a placement, they are the layout
-least_are : (vs : List Inside) (starts : List ℕ) → StartsOfEach AreLeast vs starts → StartsOfEach AreStarts vs starts
+pub least_are : (vs : List Inside) (starts : List ℕ) → StartsOfEach AreLeast vs starts → StartsOfEach AreStarts vs starts
 least_are [] starts laid = laid
 least_are (v ∷ vs) starts (own, inner, text, (least, placed), laid) =
     (own, inner, text, agree _ _ (placement_items v.volume) own least placed, least_are vs inner laid)
-
-pub least_laid : (m : Meaning) (starts : List ℕ) → AreAllLeastStarts m starts → AreAllStarts m starts
-least_laid m starts laid = least_are (volumes_in m) starts laid
 
 -- ---- a layout or a fault
 

@@ -3,23 +3,20 @@
 --    and that every other byte is unchanged (`renewed_is`).
 -- 2. The bytes up to a volume, the volume's canonical image and renewed bytes after it are renewed bytes
 --    (`renews_more`).
--- 3. Each byte either is in a volume or is not (`covered_known`), so the renewed image is unique (`normalised_one`).
+-- 3. Two renewed images have the same bytes (`same_byte`), so the renewed image is unique (`normalised_one`).
 -- 4. A volume that has a canonical image is not rejected. So if all volumes have one, the only error is OutOfMemory
 --    (`only_want`).
 use Rattle.std.proofs.Common.{◌≡◌, ◌⊎◌, ◌≤◌, ◌<◌, ◌+◌, ◌-◌, ◌^◌, ℕ, [], ◌∷◌, ◌++◌, List, length, drop, get_or, refl, sym, ap, ◌∙◌, subst, arith, inl}
 use Rattle.std.proofs.Common.{inr, append_assoc, ext_get_or, get_or-drop, get_or-take}
-use Rattle.fv_base.proofs.Laws.{common_steps, AllByRecursion, Contains, cases_lt, All-contains, All-from_recursion, drop-append_seam}
+use Rattle.fv_base.proofs.Laws.{common_steps, AllByRecursion, Contains, cases_lt, drop-append_seam}
 use Rattle.fv_base.proofs.Laws.{take-append_seam, out_of_memory, field, depth_limit, first_or_behind, in_middle, one_behind, first_only}
 use Rattle.fv_base.specs.declared.fault.Fault.{Fault}
 use Rattle.fv_flash.specs.Words.{Found, IsCovered, VolumeAt}
-use Rattle.fv_tree.specs.Words.{Meaning}
 use Rattle.fv_flash.proofs.Laws.{at_within, one_found, one_length}
-use Rattle.fv_tree.proofs.Laws.{one_meaning}
 use Rattle.fv_canon.specs.Words.{IsImage, NormalisesTo, Rejects, FirstRejected, IsNormalisedAt, NormalisesAll, NormalisesEach}
-use Rattle.fv_canon.proofs.FaultPlaces.{refused_within}
-use Rattle.fv_canon.proofs.FitLaws.{unfit_none}
-use Rattle.fv_canon.proofs.RejectedInputLaws.{image_fits}
-use Rattle.fv_canon.proofs.OneImageLaws.{image_one}
+use Rattle.fv_canon.proofs.RejectedInputLaws.{refused_within}
+use Rattle.fv_canon.proofs.ImageLaws.{never_both}
+use Rattle.fv_canon.proofs.HeadlineLaws.{same_meaning_iff_same_image}
 
 -- ---- bytes
 
@@ -40,16 +37,9 @@ field_joined xs ys zs at n long size = grind (arith, common_steps, drop_joined, 
 
 -- ---- images
 
--- a volume has at most one canonical image, and a volume that has one is not rejected
+-- a volume has at most one canonical image
 one_image_of : (b image other : List ℕ) → NormalisesTo b image → NormalisesTo b other → image ≡ other
-one_image_of b image other (m, a, is) (k, c, is') =
-    let same : m ≡ k = one_meaning depth_limit depth_limit b m k a.1 c.1 in
-    image_one m image other is (subst (λ (n : Meaning). IsImage n other) (sym same) is')
-
-refused_never : (b image : List ℕ) (f : Fault) → Rejects b f → NormalisesTo b image → ⊥
-refused_never b image f (inl bad) (m, a, is) = bad.none m a
-refused_never b image f (inr (v, a, unfit)) to =
-    unfit_none v 0 f unfit (image_fits b image v (λ m c. one_meaning depth_limit depth_limit b m v c.1 a.1) to)
+one_image_of b image other to to' = (same_meaning_iff_same_image b b image other to to').0 (to.0, to.1, to.1)
 
 -- ---- one volume
 
@@ -117,44 +107,34 @@ renews_more b ps bytes x image rest from p n least v same long gap_long front_lo
 
 -- ---- 3. the renewed image is unique
 
--- a byte either is in one of the volumes or is in none of them
-covered_known : (b o ps : List ℕ) (k : ℕ) → AllByRecursion (IsNormalisedAt b o) ps → IsCovered b ps k ⊎ (IsCovered b ps k → ⊥)
-covered_known b o [] k all = inr none where
+-- two images that have the canonical image of the volume at each of the places, and the same byte at an offset outside
+-- these volumes, have the same byte at any offset
+same_byte : (b o other places : List ℕ) (k : ℕ) → AllByRecursion (IsNormalisedAt b o) places → AllByRecursion (IsNormalisedAt b other) places
+    → ((IsCovered b places k → ⊥) → get_or o k 0 ≡ get_or other k 0) → get_or o k 0 ≡ get_or other k 0
+same_byte b o other [] k all all' outside = outside none where
   none : IsCovered b [] k → ⊥
   none (p, m, (j, l, e), w, low, high) = omega (arith, l)
-covered_known b o (p ∷ ps) k ((n, v, to), all) = go (cases_lt k p) (cases_lt k (p + n)) (covered_known b o ps k all) where
-  outside : (k < p) ⊎ (p + n ≤ k) → (IsCovered b ps k → ⊥) → IsCovered b (p ∷ ps) k → ⊥
-  outside away none (q, m, has, w, low, high) = at (first_or_behind p ps q has) where
-    at : (p ≡ q) ⊎ Contains ps q → ⊥
-    at (inl e) = omega (arith, e, away, low, high, one_length b p n m v (subst (λ (i : ℕ). VolumeAt b i m) (sym e) w))
-    at (inr h) = none (q, m, h, w, low, high)
-
-  go : (k < p) ⊎ (p ≤ k) → (k < p + n) ⊎ (p + n ≤ k) → IsCovered b ps k ⊎ (IsCovered b ps k → ⊥)
-      → IsCovered b (p ∷ ps) k ⊎ (IsCovered b (p ∷ ps) k → ⊥)
-  go (inr at) (inl inside) _ = inl (p, n, (0, omega arith, refl), v, at, inside)
-  go (inr at) (inr most) (inl c) = inl (c.0, c.1, one_behind p ps c.0 c.2, c.3, c.4, c.5)
-  go (inr at) (inr most) (inr none) = inr (outside (inr most) none)
-  go (inl less) _ (inl c) = inl (c.0, c.1, one_behind p ps c.0 c.2, c.3, c.4, c.5)
-  go (inl less) _ (inr none) = inr (outside (inl less) none)
-
--- the canonical image of the volume at a place, given the volume's length
-image_at : (b places o : List ℕ) (p n : ℕ) → NormalisesEach b places o → Contains places p → VolumeAt b p n
-    → NormalisesTo (field p n b) (field p n o)
-image_at b places o p n r has v =
-    let is = All-contains (IsNormalisedAt b o) places p (All-from_recursion (IsNormalisedAt b o) places r.volumes) has in
-    subst (λ (k : ℕ). NormalisesTo (field p k b) (field p k o)) (one_length b p is.0 n is.1 v) is.2
+same_byte b o other (p ∷ ps) k ((n, v, to), all) ((m, w, to'), all') outside = elim (cases_lt k p) [
+  | inl before ↦ same_byte b o other ps k all all' (λ none. outside (beyond (inl before) none))
+  | inr low ↦ elim (cases_lt k (p + n)) [
+    | inl high ↦
+        let image = subst (λ (i : ℕ). NormalisesTo (field p i b) (field p i other)) (one_length b p m n w v) to' in
+        let same = one_image_of (field p n b) (field p n o) (field p n other) to image in
+        sym (field_at o p n k low high) ∙ (ap (λ (l : List ℕ). get_or l (k - p) 0) same ∙ field_at other p n k low high)
+    | inr past ↦ same_byte b o other ps k all all' (λ none. outside (beyond (inr past) none))
+  ]
+]
+  where
+    beyond : (k < p) ⊎ (p + n ≤ k) → (IsCovered b ps k → ⊥) → IsCovered b (p ∷ ps) k → ⊥
+    beyond away none (q, i, has, at, low, high) = go (first_or_behind p ps q has) where
+      go : (p ≡ q) ⊎ Contains ps q → ⊥
+      go (inl e) = omega (arith, e, away, low, high, one_length b p n i v (subst (λ (j : ℕ). VolumeAt b j i) (sym e) at))
+      go (inr h) = none (q, i, h, at, low, high)
 
 pub renewed_one : (b places o other : List ℕ) → NormalisesEach b places o → NormalisesEach b places other → o ≡ other
-renewed_one b places o other r s = ext_get_or 0 o other (r.length_is ∙ sym s.length_is) each where
-  by : (k : ℕ) → k < length b → IsCovered b places k ⊎ (IsCovered b places k → ⊥) → get_or o k 0 ≡ get_or other k 0
-  by k inside (inl (p, n, has, v, low, high)) =
-      let same = one_image_of (field p n b) (field p n o) (field p n other) (image_at b places o p n r has v)
-      (image_at b places other p n s has v) in
-      sym (field_at o p n k low high) ∙ (ap (λ (l : List ℕ). get_or l (k - p) 0) same ∙ field_at other p n k low high)
-  by k inside (inr none) = r.others k inside none ∙ sym (s.others k inside none)
-
-  each : (k : ℕ) → k < length o → get_or o k 0 ≡ get_or other k 0
-  each k less = by k (omega (arith, less, r.length_is)) (covered_known b o places k r.volumes)
+renewed_one b places o other r s =
+    ext_get_or 0 o other (r.length_is ∙ sym s.length_is) (λ k less. same_byte b o other places k r.volumes s.volumes (λ none.
+    let inside : k < length b = omega (arith, less, r.length_is) in r.others k inside none ∙ sym (s.others k inside none)))
 
 -- an image has at most one renewed image
 pub normalised_one : (b o other : List ℕ) → NormalisesAll b o → NormalisesAll b other → o ≡ other
@@ -169,8 +149,8 @@ renewed_never b places other f found stops (short, places', found', s) =
     let is = in_middle (IsNormalisedAt b other) stops.before stops.place stops.after
     (subst (λ (l : List ℕ). AllByRecursion (IsNormalisedAt b other) l) split s.volumes) in
     let long : is.0 ≡ stops.rejected.0 = one_length b stops.place is.0 stops.rejected.0 is.1 stops.rejected.1 in
-    refused_never (field stops.place stops.rejected.0 b) (field stops.place stops.rejected.0 other) stops.rejected.2 stops.rejected.3
-    (subst (λ (k : ℕ). NormalisesTo (field stops.place k b) (field stops.place k other)) long is.2)
+    let to = subst (λ (k : ℕ). NormalisesTo (field stops.place k b) (field stops.place k other)) long is.2 in
+    never_both (field stops.place stops.rejected.0 b) (field stops.place stops.rejected.0 other) stops.rejected.2 to stops.rejected.3
 
 -- so if all volumes have canonical images, the only error is out of memory
 pub only_want : (b places other : List ℕ) (f : Fault) → Found b places → (f ≡ out_of_memory) ⊎ FirstRejected b places f

@@ -8,8 +8,8 @@ use Rattle.fv_tree.specs.Words.{sections_list, files_of, SectionRelation, Stream
 use Rattle.fv_tree.specs.Words.{VolumeOver, MeansContent, MeansFile, FileForm, MeansSection, Stream, Denotes, Accepted}
 use Rattle.fv_canon.specs.Words.{IsImage, MeanSame, SameMeaningIffSameImage, ImageKeepsLengthAndMeaning, ImageIsItsOwnImage, OneMeaning}
 use Rattle.fv_tree.proofs.Laws.{one_meaning}
-use Rattle.fv_canon.proofs.OneImageLaws.{image_one}
-use Rattle.fv_canon.proofs.VolumeImageLaws.{image_bytes, image_denotes, image_long, volume_of}
+use Rattle.fv_canon.proofs.OneImageLaws.{image_length, image_one}
+use Rattle.fv_canon.proofs.VolumeImageLaws.{image_denotes, volume_of}
 
 -- ---- bytes that are a volume at a depth are a volume at every greater depth
 pairs_more : {A B : Type 0} (p q : A → B → Type 0) → ((x : A) (y : B) → p x y → q x y) → (xs : List A) (ys : List B) → Pairwise p xs ys
@@ -58,22 +58,13 @@ sections_more (suc n) =
 one_deeper : (n : ℕ) (b : List ℕ) (m : Meaning) → Denotes n b m → Denotes (suc n) b m
 one_deeper n b m d = volume_more (Stream n) (Stream (suc n)) (stream_more (MeansSection n) (MeansSection (suc n)) (sections_more n)) b m d
 
-pub deeper : (k n : ℕ) (b : List ℕ) (m : Meaning) → Denotes n b m → Denotes (k + n) b m
-deeper zero n b m d = subst (λ (i : ℕ). Denotes i b m) (none n) d
-  where
-    none : (n : ℕ) → n ≡ 0 + n
-    none n = omega arith
-deeper (suc k) n b m d = subst (λ (i : ℕ). Denotes i b m) (next k n) (one_deeper (k + n) b m (deeper k n b m d))
-  where
-    next : (k n : ℕ) → suc (k + n) ≡ suc k + n
-    next k n = omega arith
+to_limit : (k n : ℕ) (b : List ℕ) (m : Meaning) → k + n ≡ depth_limit → Denotes n b m → Denotes depth_limit b m
+to_limit zero n b m e d = let same : n ≡ depth_limit = omega (arith, e) in subst (λ (i : ℕ). Denotes i b m) same d
+to_limit (suc k) n b m e d = to_limit k (suc n) b m (omega (arith, e)) (one_deeper n b m d)
 
 -- bytes that are a volume at a depth within the limit are accepted
 pub accepted : (n : ℕ) (b : List ℕ) (m : Meaning) → IsBytes b → n ≤ depth_limit → Denotes n b m → Accepted b m
-accepted n b m small l d = (small, subst (λ (i : ℕ). Denotes i b m) (back n l) (deeper (8 - n) n b m d))
-  where
-    back : (n : ℕ) → n ≤ 8 → (8 - n) + n ≡ 8
-    back n l = omega arith
+accepted n b m small l d = (small, to_limit (depth_limit - n) n b m (omega (arith, l)) d)
 
 -- ---- the headline
 pub same_meaning_iff_same_image : SameMeaningIffSameImage
@@ -83,24 +74,25 @@ same_meaning_iff_same_image a b image other (m, (small, means), is) (k, (little,
       let of_b : same.0 ≡ k = one_meaning 8 8 b same.0 k same.2.1 means' in
       image_one k image other (subst (λ (j : Meaning). IsImage j image) (sym of_a ∙ of_b) is) is',
   λ (same : image ≡ other).
-      let first = image_denotes 8 m a image small means is in
-      let second = image_denotes 8 k b other little means' is' in
+      let first = (image_denotes 8 m a image small means is).0 in
+      let second = (image_denotes 8 k b other little means' is').0 in
       let one : m ≡ k = one_meaning 8 8 other m k (subst (λ (xs : List ℕ). Denotes 8 xs m) same first) second in
       (m, (small, means), (little, subst (λ (j : Meaning). Denotes 8 b j) (sym one) means')),
 )
 
 image_read : (m : Meaning) (a image : List ℕ) → Accepted a m → IsImage m image → Accepted image m
-image_read m a image (small, means) is = (image_bytes 8 m a image small means is, image_denotes 8 m a image small means is)
+image_read m a image (small, means) is = let again = image_denotes 8 m a image small means is in (again.1, again.0)
 
 pub image_keeps_length_and_meaning : ImageKeepsLengthAndMeaning
-image_keeps_length_and_meaning a image (m, d, is) = (image_long 8 m a image d.0 d.1 is, (m, d, image_read m a image d is))
+image_keeps_length_and_meaning a image (m, d, is) =
+    (image_length m image is ∙ sym (d.1.length_is ∙ d.1.begins.length_is), (m, d, image_read m a image d is))
 
 pub image_is_its_own_image : ImageIsItsOwnImage
 image_is_its_own_image a image (m, d, is) = (m, image_read m a image d is, is)
 
 pub one_meaning_of : OneMeaning
 one_meaning_of m other image (n, l, b, small, d) (k, l', c, little, d') is is' =
-    one_meaning k n image other m (image_denotes k other c image little d' is') (image_denotes n m b image small d is)
+    one_meaning k n image other m (image_denotes k other c image little d' is').0 (image_denotes n m b image small d is).0
 
 -- bytes are a volume of at most one meaning, so two volumes mean the same exactly if their meanings are equal
 pub one_reading : (b : List ℕ) (m k : Meaning) → Accepted b m → Accepted b k → m ≡ k

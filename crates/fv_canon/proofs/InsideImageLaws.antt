@@ -1,24 +1,25 @@
--- The image of a volume contains the image of each volume inside, as consecutive bytes.
+-- The image of a volume contains the image of each volume inside, as consecutive bytes. So a volume that has an image
+-- fits.
 use Rattle.std.proofs.Common.{◌≡◌, ◌-◌, ◌+◌, ℕ, [], ◌∷◌, ◌++◌, List, length, take, drop, replicate, refl, sym, ap, ◌∙◌, append_assoc, append-nil, map}
 use Rattle.std.proofs.Common.{◌≤◌, zero, suc, arith}
-use Rattle.fv_base.proofs.Laws.{take-append-drop, AllByRecursion, up_to_8, IsBytes, bytes_back}
+use Rattle.fv_base.proofs.Laws.{take-append-drop, AllByRecursion, up_to_8, IsBytes}
 use Rattle.fv_base.specs.declared.flash.Polarity.{Polarity}
 use Rattle.fv_file.specs.Words.{attributes_by, file_sum_for, file_head_of}
 use Rattle.fv_head.specs.Words.{first_edge, polarity_of}
-use Rattle.fv_section.specs.Words.{FrameForm, frame_len, up_to_4, section_head_of, stream_of, SplitsFrom}
-use Rattle.fv_tree.specs.Words.{Meaning, Volume, FileMeanings, NoFiles, MoreFiles, FileMeaning, File, ContentMeaning, Plain, Sectioned}
+use Rattle.fv_section.specs.Words.{FrameForm, frame_len, up_to_4, section_head_of, stream_of}
+use Rattle.fv_tree.specs.Words.{Meaning, Volume, FileMeanings, NoFiles, MoreFiles, FileMeaning, File, Plain, Sectioned}
 use Rattle.fv_tree.specs.Words.{SectionMeanings, NoSections, MoreSections, SectionMeaning, Section, BodyMeaning, Leaf, Group, Nested, files_list}
-use Rattle.fv_tree.specs.Words.{IsMeaning, Inside, volumes_in, volumes_in_files, volumes_in_file, volumes_in_content, volumes_in_sections}
+use Rattle.fv_tree.specs.Words.{IsMeaning, Inside, volumes_in, volumes_in_files, volumes_in_file, volumes_in_sections}
 use Rattle.fv_tree.specs.Words.{volumes_in_section, volumes_in_body, sections_list, SectionRelation, StreamRelation, VolumeRelation, Pairwise}
-use Rattle.fv_tree.specs.Words.{StreamOver, SectionOver, VolumeOver, MeansContent, MeansFile, MeansSection, Stream, FileForm}
-use Rattle.fv_canon.specs.Words.{IsWithin, HasOwnImage, EachVolumeHasItsImage, IsImage, AreStored, IsStored, IsData, AreFrames, IsFrame, IsBodyImage}
-use Rattle.fv_canon.specs.Words.{placement_item, PlacedBytes, ContainsSpan, StoredFile, stored_bytes, stored_len, placed_files}
+use Rattle.fv_tree.specs.Words.{StreamOver, SectionOver, Denotes, MeansFile, MeansSection, Stream, FileForm}
+use Rattle.fv_canon.specs.Words.{IsWithin, HasOwnImage, EachVolumeHasItsImage, IsImage, AreStored, IsStored, AreFrames, IsFrame, IsBodyImage}
+use Rattle.fv_canon.specs.Words.{AreStarts, Fits, IsPlaced, placement_item, PlacedBytes, ContainsSpan, StoredFile, stored_bytes, stored_len, placed_files}
 use Rattle.fv_placement.specs.Words.{StartsFollow}
-use Rattle.fv_canon.proofs.VolumeListLaws.{each_joined, each_deeper}
+use Rattle.fv_canon.proofs.VolumeListLaws.{each_joined, each_deeper, each_weaker}
 use Rattle.fv_base.specs.declared.flash.FileSystem.{FileSystem}
-use Rattle.fv_section.proofs.Laws.{begun_bytes}
 use Rattle.fv_canon.proofs.ReadLaws.{FileIsAccepted}
 use Rattle.fv_canon.proofs.VolumeImageLaws.{files_read}
+use Rattle.fv_canon.proofs.WrittenImageLaws.{frames_bytes}
 
 -- ---- the meaning of each volume inside a volume that was read is the meaning of some bytes
 
@@ -39,43 +40,33 @@ both : (vs ws : List Inside) → AllMeant vs → AllMeant ws → AllMeant (vs ++
 both vs ws p q = each_joined (λ v. IsMeaning v.volume) vs ws p q
 
 -- ---- part by part
-frames_meant : (p : SectionRelation) → SectionsMeant p → (at : ℕ) (ss : SectionMeanings) (fs : List FrameForm) (tail : ℕ) (b : List ℕ) → IsBytes b
-    → SplitsFrom at fs tail b → Pairwise p fs (sections_list ss) → AllMeant (volumes_in_sections ss)
-frames_meant p meant at NoSections fs tail b small is pairs = tt
-frames_meant p meant at (MoreSections s ss) [] tail b small is pairs = absurd pairs
-frames_meant p meant at (MoreSections s NoSections) (f ∷ []) tail b small (rest, begun, offset, count, most) pairs =
-    both (volumes_in_section s) [] (meant f s (begun_bytes f b rest small begun).0 pairs.0) tt
-frames_meant p meant at (MoreSections s (MoreSections t ss)) (f ∷ []) tail b small is pairs = absurd pairs.1
-frames_meant p meant at (MoreSections s ss) (f ∷ g ∷ fs) tail b small (filler, rest, begun, offset, count, later) pairs =
-    let items = begun_bytes f b (filler ++ rest) small begun in
-    both (volumes_in_section s) (volumes_in_sections ss) (meant f s items.0 pairs.0)
-    (frames_meant p meant (up_to_4 (at + frame_len f)) ss (g ∷ fs) tail rest (bytes_back filler rest items.1) later pairs.1)
+frames_meant : (p : SectionRelation) → SectionsMeant p → (ss : SectionMeanings) (fs : List FrameForm)
+    → AllByRecursion (λ f. IsBytes f.body) fs → Pairwise p fs (sections_list ss) → AllMeant (volumes_in_sections ss)
+frames_meant p meant NoSections fs small pairs = tt
+frames_meant p meant (MoreSections s ss) [] small pairs = absurd pairs
+frames_meant p meant (MoreSections s ss) (f ∷ fs) small pairs =
+    both (volumes_in_section s) (volumes_in_sections ss) (meant f s small.0 pairs.0) (frames_meant p meant ss fs small.1 pairs.1)
 
 stream_meant : (p : SectionRelation) → SectionsMeant p → StreamsMeant (StreamOver p)
-stream_meant p meant ss t b small (fs, split, pairs) = frames_meant p meant 0 ss fs t b small split pairs
+stream_meant p meant ss t b small (fs, split, pairs) = frames_meant p meant ss fs (frames_bytes 0 fs t b small split) pairs
 
-content_meant : (p : StreamRelation) → StreamsMeant p → (kind : ℕ) (payload : List ℕ) (c : ContentMeaning) → IsBytes payload
-    → MeansContent p kind payload c → AllMeant (volumes_in_content c)
-content_meant p meant kind payload (Plain b) small h = tt
-content_meant p meant kind payload (Sectioned ss t) small h = meant ss t payload small h.1
-
-file_meant : (p : StreamRelation) → StreamsMeant p → (f : FileForm) (m : FileMeaning) → IsBytes f.payload → MeansFile p f m
+file_meant : (n : ℕ) → StreamsMeant (Stream n) → (f : FileForm) (m : FileMeaning) → IsBytes f.payload → MeansFile (Stream n) f m
     → AllMeant (volumes_in_file m)
-file_meant p meant f (File name kind attributes content) small (a, b, c, d) = content_meant p meant kind f.payload content small d
+file_meant n meant f (File name kind attributes (Plain b)) small is = tt
+file_meant n meant f (File name kind attributes (Sectioned ss t)) small is = meant ss t f.payload small is.3.1
 
-files_meant : (p : StreamRelation) → StreamsMeant p → (system : FileSystem) (limit : ℕ) (fs : List FileForm) (ms : FileMeanings)
-    → AllByRecursion (FileIsAccepted system limit) fs → Pairwise (MeansFile p) fs (files_list ms) → AllMeant (volumes_in_files ms)
-files_meant p meant system limit fs NoFiles reads pairs = tt
-files_meant p meant system limit [] (MoreFiles m ms) reads pairs = absurd pairs
-files_meant p meant system limit (f ∷ fs) (MoreFiles m ms) reads pairs =
-    both (volumes_in_file m) (volumes_in_files ms) (file_meant p meant f m reads.0.payload pairs.0)
-    (files_meant p meant system limit fs ms reads.1 pairs.1)
+files_meant : (n : ℕ) → StreamsMeant (Stream n) → (system : FileSystem) (limit : ℕ) (fs : List FileForm) (ms : FileMeanings)
+    → AllByRecursion (FileIsAccepted system limit) fs → Pairwise (MeansFile (Stream n)) fs (files_list ms) → AllMeant (volumes_in_files ms)
+files_meant n meant system limit fs NoFiles reads pairs = tt
+files_meant n meant system limit [] (MoreFiles m ms) reads pairs = absurd pairs
+files_meant n meant system limit (f ∷ fs) (MoreFiles m ms) reads pairs =
+    both (volumes_in_file m) (volumes_in_files ms) (file_meant n meant f m reads.0.payload pairs.0)
+    (files_meant n meant system limit fs ms reads.1 pairs.1)
 
-volume_meant : (n : ℕ) → n ≤ 8 → StreamsMeant (Stream n) → VolumesMeant (VolumeOver (Stream n))
+volume_meant : (n : ℕ) → n ≤ 8 → StreamsMeant (Stream n) → VolumesMeant (Denotes n)
 volume_meant n few meant b (Volume h files) small d = (
   (n, few, b, small, d),
-  files_meant (Stream n) meant h.file_system (length (drop d.extent.first b)) d.files files
-      (files_read (Stream n) h files b small d) d.meanings,
+  files_meant n meant h.file_system (length (drop d.extent.first b)) d.files files (files_read n h files b small d) d.meanings,
 )
 
 section_meant : (p : StreamRelation) (v : VolumeRelation) → StreamsMeant p → VolumesMeant v → SectionsMeant (SectionOver p v)
@@ -90,7 +81,7 @@ sections_meant zero few =
     section_meant (λ _ _ _. ⊥) (λ _ _. ⊥) (λ ss t b small none. absurd none) (λ b m small none. absurd none)
 sections_meant (suc n) few =
     let streams = stream_meant (MeansSection n) (sections_meant n (omega (arith, few))) in
-    section_meant (Stream n) (VolumeOver (Stream n)) streams (volume_meant n (omega (arith, few)) streams)
+    section_meant (Stream n) (Denotes n) streams (volume_meant n (omega (arith, few)) streams)
 
 -- ---- all volumes
 inside_meant : (m : Meaning) → IsMeaning m → AllByRecursion (λ v. IsMeaning v.volume) (volumes_in m)
@@ -99,12 +90,7 @@ inside_meant m (n, few, b, small, d) = volume_meant n few (stream_meant (MeansSe
 -- ---- bytes that other bytes contain
 
 within_within : (a b c : List ℕ) → IsWithin a b → IsWithin b c → IsWithin a c
-within_within a b c (w, x, p) (y, z, q) = (
-  y ++ w,
-  x ++ z,
-  q ∙ ap (λ (xs : List ℕ). y ++ (xs ++ z)) p ∙ ap (λ (xs : List ℕ). y ++ xs) (append_assoc w (a ++ x) z
-      ∙ ap (λ (xs : List ℕ). w ++ xs) (append_assoc a x z)) ∙ sym (append_assoc y w (a ++ (x ++ z))),
-)
+within_within a b c (w, x, p) (y, z, q) = (y ++ w, x ++ z, q ∙ ap (λ (xs : List ℕ). y ++ (xs ++ z)) p ∙ simp append_assoc)
 
 stands_within : (b : List ℕ) (p : PlacedBytes) → ContainsSpan b p → IsWithin p.bytes b
 stands_within b p (low, is) = (
@@ -126,8 +112,7 @@ payload_within p x = (
 -- if b lies within c, the bodies of the frames in b lie within c
 bodies_wider : (b c : List ℕ) → IsWithin b c → (fs : List FrameForm) → AllByRecursion (λ f. IsWithin f.body b) fs
     → AllByRecursion (λ f. IsWithin f.body c) fs
-bodies_wider b c w [] all = tt
-bodies_wider b c w (f ∷ fs) all = (within_within f.body b c all.0 w, bodies_wider b c w fs all.1)
+bodies_wider b c w fs all = each_weaker (λ f. IsWithin f.body b) (λ f. IsWithin f.body c) (λ f within. within_within f.body b c within w) fs all
 
 bodies_within : (fs : List FrameForm) (tail : ℕ) → AllByRecursion (λ f. IsWithin f.body (stream_of fs tail)) fs
 bodies_within [] tail = tt
@@ -137,13 +122,8 @@ bodies_within (f ∷ g ∷ fs) tail =
     let fill : List ℕ = replicate (up_to_4 (frame_len f) - frame_len f) 0 in
     let rest : List ℕ = stream_of (g ∷ fs) tail in (
       (head, fill ++ rest, refl),
-      bodies_wider rest (stream_of (f ∷ g ∷ fs) tail) (
-        head ++ (f.body ++ fill),
-        [],
-        sym (append_assoc head (f.body ++ fill) (rest ++ [])
-            ∙ ap (λ (xs : List ℕ). head ++ xs) (append_assoc f.body fill (rest ++ [])
-            ∙ ap (λ (xs : List ℕ). f.body ++ (fill ++ xs)) (append-nil rest))),
-      ) (g ∷ fs) (bodies_within (g ∷ fs) tail),
+      bodies_wider rest (stream_of (f ∷ g ∷ fs) tail) (head ++ (f.body ++ fill), [], simp (append_assoc, append-nil)) (g ∷ fs)
+          (bodies_within (g ∷ fs) tail),
     )
 
 stream_within : (fs : List FrameForm) (tail : ℕ) (d : List ℕ) → d ≡ stream_of fs tail → AllByRecursion (λ f. IsWithin f.body d) fs
@@ -153,8 +133,8 @@ stream_within fs tail d text =
 -- ---- volumes that lie within bytes
 
 all_wider : (b c : List ℕ) → IsWithin b c → (vs : List Inside) → AllByRecursion (HasOwnImage b) vs → AllByRecursion (HasOwnImage c) vs
-all_wider b c w [] all = tt
-all_wider b c w (v ∷ vs) all = ((all.0.0, all.0.1, within_within all.0.0 b c all.0.2 w), all_wider b c w vs all.1)
+all_wider b c w vs all =
+    each_weaker (HasOwnImage b) (HasOwnImage c) (λ v own. (own.0, own.1, within_within own.0 b c own.2 w)) vs all
 
 mutual
   volume_inside : (m : Meaning) (b : List ℕ) → IsImage m b → AllByRecursion (HasOwnImage b) (volumes_in m)
@@ -178,13 +158,9 @@ mutual
 
   file_inside : (m : FileMeaning) (x : StoredFile) (b : List ℕ) → IsStored m x → IsWithin x.payload b
       → AllByRecursion (HasOwnImage b) (volumes_in_file m)
-  file_inside (File name kind attributes content) x b (named, kinds, bits, is) within =
-      all_wider x.payload b within (volumes_in_content content) (content_inside content x.payload is)
-
-  content_inside : (content : ContentMeaning) (d : List ℕ) → IsData content d → AllByRecursion (HasOwnImage d) (volumes_in_content content)
-  content_inside (Plain b) d is = tt
-  content_inside (Sectioned sections tail) d (frames, are, text) =
-      frames_inside 0 sections frames d are (stream_within frames tail d text)
+  file_inside (File name kind attributes (Plain bytes)) x b is within = tt
+  file_inside (File name kind attributes (Sectioned sections tail)) x b (named, kinds, bits, (frames, are, text)) within =
+      frames_inside 0 sections frames b are (bodies_wider x.payload b within frames (stream_within frames tail x.payload text))
 
   frames_inside : (at : ℕ) (sections : SectionMeanings) (frames : List FrameForm) (d : List ℕ) → AreFrames at sections frames
       → AllByRecursion (λ f. IsWithin f.body d) frames → AllByRecursion (HasOwnImage d) (volumes_in_sections sections)
@@ -205,6 +181,14 @@ mutual
   body_inside (Group sections tail) d (frames, are, text) =
       frames_inside 0 sections frames d are (stream_within frames tail d text)
   body_inside (Nested volume) d is = volume_inside volume d is
+
+-- each volume inside a volume that has an image has an image, so its own files are placed
+pub image_fits : (m : Meaning) (b : List ℕ) → IsImage m b → Fits m
+image_fits m b is =
+    each_weaker (HasOwnImage b) IsPlaced (λ v own. placed_of v.volume own.0 own.1) (volumes_in m) (volume_inside m b is)
+  where
+    placed_of : (m : Meaning) (b : List ℕ) → IsImage m b → (starts : List ℕ) × AreStarts m starts
+    placed_of (Volume h files) b (stored, starts, are, placed, shows) = (starts, placed)
 
 pub each_volume_has_its_image : EachVolumeHasItsImage
 each_volume_has_its_image m image read is = both (volumes_in m) (inside_meant m read) (volume_inside m image is)

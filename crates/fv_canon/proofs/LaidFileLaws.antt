@@ -10,29 +10,26 @@ use Rattle.fv_base.proofs.Laws.{common_steps, drop_all, drop_more, length-map, e
 use Rattle.fv_base.specs.declared.flash.Polarity.{Polarity}
 use Rattle.fv_file.specs.Words.{file_sum_for, file_head_of, needs_large}
 use Rattle.fv_file.proofs.Laws.{cell_read, header_least}
-use Rattle.fv_placement.specs.Words.{IsStartInVolume}
 use Rattle.fv_tree.specs.Words.{FileMeaning, File, file_name_of, attributes_of, content_of, data_len_of, files_from, file_kind_of, IsReadFile}
-use Rattle.fv_tree.specs.Words.{MeansSection, Stream, volumes_in_files, volumes_in_file}
+use Rattle.fv_tree.specs.Words.{Stream, volumes_in_files, volumes_in_file}
 use Rattle.fv_canon.specs.inner.ImageOf.{stored_of, stored_file, data_of, starts_in, files_bytes}
 use Rattle.fv_canon.specs.Words.{BeginsWithStarts, placement_item, stored_len, size_for, stored_bytes, gap_bytes}
 use Rattle.fv_canon.proofs.ImageParts.{ComesTo, TakesFront}
-use Rattle.fv_canon.proofs.VolumeListLaws.{item_passed}
-use Rattle.fv_canon.proofs.WrittenImageLaws.{data_made, stream_made, sections_made}
+use Rattle.fv_canon.proofs.StoredTilingLaws.{apart as gap_is}
+use Rattle.fv_canon.proofs.VolumeListLaws.{passed_on}
+use Rattle.fv_canon.proofs.WrittenImageLaws.{data_made, streams_made}
 use Rattle.fv_placement.proofs.Laws.{follow_length}
-use Rattle.fv_canon.proofs.StreamImageLaws.{stream_again}
-use Rattle.fv_canon.proofs.VolumeImageLaws.{data_again, sections_again}
+use Rattle.fv_canon.proofs.VolumeImageLaws.{content_is_long, data_again, streams_again}
 use Rattle.fv_canon.specs.inner.FileWalks.{ArePlaced}
 
 -- ---- a file
 pub file_long : (m : FileMeaning) (starts : List ℕ) → IsReadFile m → BeginsWithStarts (volumes_in_file m) starts
     → length (data_of (content_of m) starts) ≡ data_len_of m
-file_long (File name kind attributes content) starts (n, l, f, (system, p, b, small, most, cell), (named, kinds, bits, is))
-    (laid, more, text, lays) =
+file_long (File name kind attributes content) starts (n, l, f, (system, p, b, small, most, cell), (named, kinds, bits, is)) begins =
     let r = cell_read system p f.offset f.head f.payload b small cell in
-    let image = data_made (Stream n) (stream_made (MeansSection n) (sections_made n)) kind content f.payload laid more r.payload is lays in
-    let again = data_again (Stream n) (stream_again (MeansSection n) (sections_again n)) kind content f.payload
-    (data_of content (laid ++ more)) r.payload is image in
-    ap (λ (xs : List ℕ). length (data_of content xs)) text ∙ again.len
+    let bytes : List ℕ = data_of content starts in
+    let image = data_made (Stream n) (streams_made n) kind content f.payload starts r.payload is begins in
+    content_is_long n kind content bytes (data_again n kind (streams_again n) content f.payload bytes r.payload is image).0
 
 pub stored_is : (p : Polarity) (m : FileMeaning) (starts : List ℕ) → length (data_of (content_of m) starts) ≡ data_len_of m
     → stored_bytes p (stored_file m starts) ≡ file_head_of (file_name_of m) (file_kind_of m) (record { 0 = attributes_of m })
@@ -48,7 +45,6 @@ size_is (File name kind attributes content) starts long = ap size_for long
 
 -- facts about the file with the start s, after the edge e
 pub record Here (total e : ℕ) (f : FileMeaning) (s : ℕ) : Type 0 where
-  pub stands : IsStartInVolume total e (placement_item f) s
   pub low : e ≤ s
   pub apart : (s - e ≡ 0) ⊎ (24 ≤ s - e)
   pub multiple : (s - e) % 8 ≡ 0
@@ -64,24 +60,16 @@ pub here_is : (total e : ℕ) (f : FileMeaning) (fs : List FileMeaning) (s : ℕ
     → Here total e f s
 here_is total e f fs s ss placed =
     let st = placed.follow.0 in
+    let a = gap_is e s placed.eighth st.lawful.eighth st.lawful.gap in
+    let low : e ≤ s = omega (arith, a.2) in
     record {
-      stands = st;
-      low = low st.lawful.gap;
-      apart = apart st.lawful.gap;
-      multiple = omega (arith, st.lawful.gap, placed.eighth, placed.follow.0.lawful.eighth);
-      most =
-          omega (arith, header_least (needs_large (data_len_of f)), low st.lawful.gap, st.within, placed.after_header, placed.limit);
+      low = low;
+      apart = a.0;
+      multiple = a.1;
+      most = omega (arith, header_least (needs_large (data_len_of f)), low, st.within, placed.after_header, placed.limit);
       ends = st.within;
       next = omega (arith, st.within, placed.multiple);
     }
-  where
-    low : (s ≡ e) ⊎ (e + 24 ≤ s) → e ≤ s
-    low (inl a) = omega arith
-    low (inr a) = omega arith
-
-    apart : (s ≡ e) ⊎ (e + 24 ≤ s) → (s - e ≡ 0) ⊎ (24 ≤ s - e)
-    apart (inl a) = inl (omega arith)
-    apart (inr a) = inr (omega arith)
 
 pub placed_on : (total e : ℕ) (f : FileMeaning) (fs : List FileMeaning) (s : ℕ) (ss : List ℕ) → ArePlaced total e (f ∷ fs) (s ∷ ss)
     → ArePlaced total (up_to_8 (s + size_for (data_len_of f))) fs ss
@@ -125,7 +113,9 @@ pub file_passed : (fs : List FileMeaning) (i : ℕ) (f : FileMeaning) (starts la
     → ComesTo (volumes_in_files (files_from (drop i fs))) starts last
     → BeginsWithStarts (volumes_in_file f) starts
     × ComesTo (volumes_in_files (files_from (drop (i + 1) fs))) (drop (starts_in (volumes_in_file f)) starts) last
-file_passed = item_passed (λ xs. volumes_in_files (files_from xs)) volumes_in_file (λ x xs. refl)
+file_passed fs i f starts last l is at =
+    passed_on (volumes_in_file f) (volumes_in_files (files_from (drop (i + 1) fs))) starts last
+    (subst (λ (xs : List FileMeaning). ComesTo (volumes_in_files (files_from xs)) starts last) (item_at fs i f l is) at)
 
 -- the bytes that are left at a file are its gap, the file and its filler, and then the files after it
 pub walk_goes : (p : Polarity) (total e : ℕ) (fs : List FileMeaning) (own : List ℕ) (i : ℕ) (f : FileMeaning) (starts : List ℕ)

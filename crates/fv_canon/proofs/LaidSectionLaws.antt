@@ -10,16 +10,17 @@ use Rattle.std.proofs.Common.{◌≡◌, ◌<◌, ◌+◌, ◌-◌, ◌^◌, ℕ
 use Rattle.std.proofs.Common.{append_assoc, append-nil, length-drop}
 use Rattle.fv_base.proofs.Laws.{common_steps, IsBytes, WalkLaws, bytes_drop}
 use Rattle.fv_section.specs.Words.{FrameForm, section_header_len, frame_len, up_to_4, FitsForm, section_head_of, stream_of}
-use Rattle.fv_section.proofs.Laws.{begun_bytes, fits, length_begun}
+use Rattle.fv_section.proofs.Laws.{begun_bytes, length_begun}
 use Rattle.fv_tree.specs.Words.{SectionMeanings, NoSections, MoreSections, SectionMeaning, Section, body_len, sections_from, body_of}
 use Rattle.fv_tree.specs.Words.{section_is_extended, section_kind_of, section_len, MeansSection, IsReadSection, volumes_in_section}
 use Rattle.fv_tree.specs.Words.{volumes_in_sections, volumes_in_body}
 use Rattle.fv_canon.specs.inner.ImageOf.{frames_of, frame_of, body_image, starts_in}
 use Rattle.fv_canon.proofs.ImageParts.{frame_bytes, sections_bytes, ComesTo, TakesFront}
 use Rattle.fv_canon.specs.Words.{BeginsWithStarts}
-use Rattle.fv_tree.proofs.Laws.{in_section}
-use Rattle.fv_canon.proofs.VolumeListLaws.{count_deeper, laid_higher, passed_on}
+use Rattle.fv_tree.proofs.Laws.{in_section, section_long}
+use Rattle.fv_canon.proofs.VolumeListLaws.{begins_higher, count_deeper, passed_on}
 use Rattle.fv_canon.proofs.WrittenImageLaws.{sections_made}
+use Rattle.fv_canon.proofs.StreamImageLaws.{frame_again}
 use Rattle.fv_canon.proofs.VolumeImageLaws.{sections_again}
 
 -- ---- a section
@@ -30,28 +31,19 @@ pub record SectionKnown (m : SectionMeaning) (starts : List ℕ) : Type 0 where
 
 pub section_known : (m : SectionMeaning) (starts : List ℕ) → IsReadSection m → BeginsWithStarts (volumes_in_section m) starts
     → SectionKnown m starts
-section_known (Section kind extended body) starts (n, l, f, (b, small, most, stands), is) (laid, more, text, lays) =
+section_known (Section kind extended body) starts (n, l, f, (b, small, most, stands), is) begins =
+    let m : SectionMeaning = Section kind extended body in
     let part : List ℕ = drop f.offset b in
     let bytes : IsBytes part = bytes_drop f.offset b small in
-    let inside = begun_bytes f part stands.rest bytes stands.begins in
-    let image = sections_made n (Section kind extended body) f 0 laid more inside.0 is lays in
-    let again =
-    sections_again n (Section kind extended body) f (frame_of 0 (Section kind extended body) (laid ++ more)) inside.0 is image in
-    let form = form_of n (Section kind extended body) f is in
-    let own : body_len body ≡ length f.body = cancel extended f.extended (length f.body) (body_len body) form again.len in
+    let image = sections_made n m f 0 starts (begun_bytes f part stands.rest bytes stands.begins).0 is begins in
+    let again = frame_again n (sections_again n) m f (frame_of 0 m starts) part stands.rest bytes stands.begins is image in
+    let whole = section_long n f m is in
+    let long : length (body_image body starts) ≡ body_len body = omega (arith, again.size, whole) in
     record {
-      fits = subst (λ (x : Bool). FitsForm x (body_len body)) (sym form)
-          (subst (FitsForm f.extended) (sym own) (fits f part stands.rest bytes stands.begins));
-      long = ap (λ (xs : List ℕ). length (body_image body xs)) text ∙ again.long ∙ sym own;
-      small = omega (arith, again.len, length_begun f part stands.rest stands.begins, length-drop f.offset b, most);
+      fits = subst (FitsForm extended) long again.fits;
+      long = long;
+      small = omega (arith, whole, length_begun f part stands.rest stands.begins, length-drop f.offset b, most);
     }
-  where
-    form_of : (n : ℕ) (m : SectionMeaning) (f : FrameForm) → MeansSection n f m → section_is_extended m ≡ f.extended
-    form_of zero (Section k e b) f is = is.1
-    form_of (suc n) (Section k e b) f is = is.1
-
-    cancel : (x y : Bool) (n k : ℕ) → x ≡ y → section_header_len y + n ≡ section_header_len x + k → k ≡ n
-    cancel x y n k e h = let same : section_header_len x ≡ section_header_len y = ap section_header_len e in omega (arith, h, same)
 
 -- ---- a stream is its first section followed by the others
 stream_goes : (at : ℕ) (s : SectionMeaning) (ss : SectionMeanings) (starts : List ℕ) (tail : ℕ)
@@ -97,7 +89,7 @@ in_body s = ap starts_in (in_section s) ∙ count_deeper (volumes_in_body (body_
 
 pub body_laid : (s : SectionMeaning) (starts : List ℕ) → BeginsWithStarts (volumes_in_section s) starts
     → BeginsWithStarts (volumes_in_body (body_of s)) starts
-body_laid (Section kind extended body) starts (laid, more, text, lays) = grind (arith, common_steps, laid_higher)
+body_laid (Section kind extended body) starts begins = begins_higher (volumes_in_body body) starts begins
 
 framed : (s : SectionMeaning) (starts : List ℕ) → SectionKnown s starts → frame_bytes (frame_of 0 s starts)
     ≡ section_head_of (section_kind_of s) (section_is_extended s) (body_len (body_of s)) ++ body_image (body_of s) starts

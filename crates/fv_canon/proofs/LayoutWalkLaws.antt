@@ -1,7 +1,7 @@
 -- The two loops over the rows of a part of a volume: one adds the starts of the files of each volume among the rows,
 -- the other skips these starts.
 use Rattle.std.proofs.Common.{◌≡◌, ◌≢◌, ◌<◌, ◌≤◌, ◌+◌, ℕ, [], ◌∷◌, ◌++◌, inl, inr, ◌∙◌, suc, List, append_assoc, append-nil, length, drop, refl, sym}
-use Rattle.std.proofs.Common.{ap, subst, arith, true, false, true≢false, drop-drop, length-append, drop_at}
+use Rattle.std.proofs.Common.{ap, subst, arith, true, false, true≢false, drop-drop}
 use Rattle.std.specs.List.{Any}
 use Rattle.fv_base.specs.declared.fault.Fault.{Fault}
 use Rattle.fv_rows.proofs.Laws.{file_inside}
@@ -14,7 +14,7 @@ use Rattle.fv_canon.specs.inner.ImageOf.{starts_in}
 use Rattle.fv_canon.specs.Words.{AreStarts, StartsOfEach, FirstUnplaced, UnfitHere}
 use Rattle.fv_canon.proofs.DataBodyLaws.{data_held, data_volumes}
 use Rattle.fv_canon.proofs.ImageParts.{ComesTo}
-use Rattle.fv_canon.proofs.VolumeListLaws.{own_count}
+use Rattle.fv_canon.proofs.VolumeListLaws.{begins_own}
 use Rattle.fv_rows.specs.declared.tree_walk.Part.TheVariants as kinds
 
 -- ---- the next row
@@ -94,12 +94,10 @@ pub passed_next : (left rest : List TreeRow) (r : Row) (v : Meaning) (count : �
     → (count ≤ length starts) × ComesTo (volumes_of rest) (drop count starts) last
 passed_next left rest r v count starts last steps node many comes =
     let begun = subst (λ vs. ComesTo vs starts last) (volume_first left rest r v steps node) comes in
-    let (laid, more, whole, (own, inner, text, placed, lays)) = begun.laid in
-    let here : length own ≡ count = own_count v own placed ∙ many in
-    let joined : starts ≡ own ++ (inner ++ more) = whole ∙ ap (λ xs. xs ++ more) text ∙ append_assoc own inner more in (
-      omega (arith, here, ap length joined, length-append own (inner ++ more)),
+    let own = begins_own (record { depth = r.nesting; volume = v }) (volumes_of rest) count starts many begun.laid in (
+      own.0,
       record {
-        laid = (inner, more, ap (drop count) joined ∙ drop_at own (inner ++ more) count here, lays);
+        laid = own.2;
         left = drop-drop (starts_in (volumes_of rest)) count starts
             ∙ ap (λ j. drop j starts) (ap (λ j. j + starts_in (volumes_of rest)) (sym many)) ∙ begun.left;
       },

@@ -5,15 +5,12 @@ pub mod CurrentFileLaws
 pub mod DataBodyLaws
 pub mod DigestLemmas
 pub mod Examples
-pub mod FaultPlaces
 pub mod FitLaws
 pub mod FlashImageLaws
 pub mod HeadlineLaws
 pub mod ImageCheckLaws
-pub mod ImageFits
 pub mod ImageLaws
 pub mod ImageParts
-pub mod ImagePieceLaws
 pub mod LaidFileLaws
 pub mod LaidSectionLaws
 pub mod LaidVolumeLaws
@@ -23,7 +20,6 @@ pub mod LayoutWalkLaws
 pub mod MatchingLemmas
 pub mod NormaliseRunLaws
 pub mod OneImageLaws
-pub mod OwnImageLaws
 pub mod PositionLaws
 pub mod ReadLaws
 pub mod PlacedBytesLaws
@@ -34,11 +30,9 @@ pub mod StoredTilingLaws
 pub mod StreamImageLaws
 pub mod SumRightLaws
 pub mod SumWalks
-pub mod UnfitKinds
 pub mod VolumeImageLaws
 pub mod VolumeWalks
 pub mod WrittenImageLaws
 pub mod VolumeListLaws
 pub mod PadLaws
 pub mod InsideImageLaws
-pub mod EveryInputLaws

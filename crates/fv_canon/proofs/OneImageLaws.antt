@@ -1,56 +1,25 @@
 -- A meaning has at most one image. The steps:
--- 1. Two lists of bytes that show the same spans are equal (`shows_one`).
--- 2. Files have at most one first placement (`starts_one` of fv_placement).
--- 3. So by induction on the meaning there is at most one image (`image_one`).
-use Rattle.std.proofs.Common.{◌≡◌, ◌≤◌, ◌<◌, ◌+◌, ◌-◌, ℕ, [], ◌∷◌, inl, inr, Bool, List, length, drop, get_or, refl, sym, ap, ◌∙◌, subst, arith}
-use Rattle.fv_base.proofs.Laws.{ext_get_or, get_or-take, get_or-drop, common_steps, AllByRecursion, cases_lt, erased_byte}
+-- 1. Two lists of bytes that show the same spans are equal (`shows_one`), and files have at most one first placement
+--    (`starts_one` of fv_placement).
+-- 2. So by induction on the meaning there is at most one image (`image_one`).
+use Rattle.std.proofs.Common.{◌≡◌, ◌+◌, ℕ, [], ◌∷◌, Bool, List, length, refl, sym, ap, ◌∙◌, subst, arith}
+use Rattle.fv_base.proofs.Laws.{common_steps, erased_byte}
 use Rattle.fv_base.specs.declared.guid.Guid.{Guid}
 use Rattle.fv_head.specs.Words.{first_edge, HeadFields, polarity_of}
 use Rattle.fv_placement.proofs.Laws.{starts_one}
 use Rattle.fv_section.specs.Words.{FrameForm, frame_len, up_to_4, stream_of}
-use Rattle.fv_tree.specs.Words.{Meaning, Volume, FileMeanings, NoFiles, MoreFiles, FileMeaning, File, ContentMeaning, Plain, Sectioned}
+use Rattle.fv_tree.specs.Words.{Meaning, Volume, head_of, FileMeanings, NoFiles, MoreFiles, FileMeaning, File, ContentMeaning, Plain, Sectioned}
 use Rattle.fv_tree.specs.Words.{SectionMeanings, NoSections, MoreSections, SectionMeaning, Section, BodyMeaning, Leaf, Group, Nested}
-use Rattle.fv_canon.specs.Words.{IsImage, AreStored, IsStored, IsData, AreFrames, IsFrame, IsBodyImage, placement_items, PlacedBytes, ContainsSpan}
-use Rattle.fv_canon.specs.Words.{IsIn, ShowsPlaced, StoredFile, placed_in_volume}
-
--- ---- bytes that show the same spans are equal
-
--- a byte at an offset within a span is the byte of the span
-byte_in : (b : List ℕ) (p : PlacedBytes) (k : ℕ) → ContainsSpan b p → p.at ≤ k → k < p.at + length p.bytes
-    → get_or b k 0 ≡ get_or p.bytes (k - p.at) 0
-byte_in b p k stands low high =
-    ap (λ (n : ℕ). get_or b n 0) (back p.at k low) ∙ sym (get_or-drop p.at b (k - p.at) 0)
-    ∙ sym (get_or-take (length p.bytes) (drop p.at b) (k - p.at) 0 (omega (arith, low, high)))
-    ∙ ap (λ (xs : List ℕ). get_or xs (k - p.at) 0) stands.1
-  where
-    back : (a k : ℕ) → a ≤ k → k ≡ a + (k - a)
-    back a k l = omega arith
-
-same_byte : (ps : List PlacedBytes) (b c : List ℕ) (k e : ℕ) → AllByRecursion (ContainsSpan b) ps
-    → AllByRecursion (ContainsSpan c) ps → (AllByRecursion (λ p. IsIn k p → ⊥) ps → get_or b k 0 ≡ e)
-    → (AllByRecursion (λ p. IsIn k p → ⊥) ps → get_or c k 0 ≡ e) → get_or b k 0 ≡ get_or c k 0
-same_byte [] b c k e sb sc rb rc = rb tt ∙ sym (rc tt)
-same_byte (p ∷ ps) b c k e sb sc rb rc = elim (cases_lt k p.at) [
-  | inl before ↦ same_byte ps b c k e sb.1 sc.1 (λ n. rb (λ i. under i.0 before, n)) (λ n. rc (λ i. under i.0 before, n))
-  | inr low ↦ elim (cases_lt k (p.at + length p.bytes)) [
-    | inl high ↦ byte_in b p k sb.0 low high ∙ sym (byte_in c p k sc.0 low high)
-    | inr past ↦ same_byte ps b c k e sb.1 sc.1 (λ n. rb (λ i. over i.1 past, n)) (λ n. rc (λ i. over i.1 past, n))
-  ]
-]
-  where
-    under : {k a : ℕ} → a ≤ k → k < a → ⊥
-    under p q = omega arith
-
-    over : {k m : ℕ} → k < m → m ≤ k → ⊥
-    over p q = omega arith
-
-pub shows_one : (total erased : ℕ) (ps : List PlacedBytes) (b c : List ℕ) → ShowsPlaced total erased ps b → ShowsPlaced total erased ps c
-    → b ≡ c
-shows_one total erased ps b c p q =
-    ext_get_or 0 b c (p.length_is ∙ sym q.length_is) (λ k l. let within : k < total = subst (λ (n : ℕ). k < n) p.length_is l in
-    same_byte ps b c k erased p.contained q.contained (p.rest k within) (q.rest k within))
+use Rattle.fv_canon.specs.Words.{IsImage, AreStored, IsStored, IsData, AreFrames, IsFrame, IsBodyImage, placement_items, ShowsPlaced}
+use Rattle.fv_canon.specs.Words.{StoredFile, placed_in_volume}
+use Rattle.fv_canon.proofs.PositionLaws.{shows_one}
 
 -- ---- there is one image at most
+
+-- an image has the length that its header states
+pub image_length : (m : Meaning) (image : List ℕ) → IsImage m image → length image ≡ (head_of m).length
+image_length (Volume h files) image (stored, starts, are, placed, shows) = shows.length_is
+
 same_spans : (h : HeadFields) (b : List ℕ) (xs ys : List StoredFile) (ss ts : List ℕ) → xs ≡ ys → ss ≡ ts
     → ShowsPlaced h.length (erased_byte (polarity_of h.attributes)) (placed_in_volume h xs ss) b
     → ShowsPlaced h.length (erased_byte (polarity_of h.attributes)) (placed_in_volume h ys ts) b

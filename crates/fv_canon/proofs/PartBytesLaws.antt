@@ -1,6 +1,8 @@
 -- The facts that the layout uses about the files of a volume that was read.
-use Rattle.std.proofs.Common.{◌≡◌, ◌≤◌, ◌<◌, ◌+◌, ◌-◌, ◌*◌, ◌/◌, ◌%◌, ℕ, [], ◌∷◌, zero, suc, Bool, true, false, List, length, drop, refl, ◌∙◌, arith}
-use Rattle.fv_base.proofs.Laws.{length-drop, All, map, slice_index, AllByRecursion, alignments, alignment_of, volume_limit}
+use Rattle.std.proofs.Common.{◌≡◌, ◌≤◌, ◌<◌, ◌+◌, ◌-◌, ◌*◌, ◌/◌, ◌%◌, ◌^◌, ℕ, [], ◌∷◌, zero, suc, Bool, true, false, List, length, drop, refl, ◌∙◌, arith}
+use Rattle.fv_base.proofs.Laws.{length-drop, All, All-from_recursion, map, nat_le, slice_index, AllByRecursion, alignment_of, and_split, volume_limit}
+use Rattle.std.proofs.lemmas.Bool.{leb-true}
+use Rattle.std.specs.List.{list_all}
 use Rattle.fv_base.specs.Words.{IsAlignment}
 use Rattle.fv_base.specs.declared.flash.FileSystem.{FileSystem}
 use Rattle.fv_file.specs.Words.{file_header_len, needs_large}
@@ -23,64 +25,17 @@ data_short (File name kind attributes content) (n, few, f, (system, p, b, small,
 
 -- ---- the alignment of a file is a power of two
 
-powers : AllByRecursion IsAlignment alignments
-powers = (
-  (0, omega arith, refl),
-  (
-    (4, omega arith, refl),
-    (
-      (7, omega arith, refl),
-      (
-        (9, omega arith, refl),
-        (
-          (10, omega arith, refl),
-          (
-            (12, omega arith, refl),
-            (
-              (15, omega arith, refl),
-              (
-                (16, omega arith, refl),
-                (
-                  (17, omega arith, refl),
-                  (
-                    (18, omega arith, refl),
-                    (
-                      (19, omega arith, refl),
-                      (
-                        (20, omega arith, refl),
-                        (
-                          (21, omega arith, refl),
-                          (
-                            (22, omega arith, refl),
-                            (
-                              (23, omega arith, refl),
-                              (
-                                (24, omega arith, refl),
-                                tt,
-                              ),
-                            ),
-                          ),
-                        ),
-                      ),
-                    ),
-                  ),
-                ),
-              ),
-            ),
-          ),
-        ),
-      ),
-    ),
-  ),
-)
+-- the exponents of the alignments
+abbrev exponents : List ℕ
+exponents = 0 ∷ 4 ∷ 7 ∷ 9 ∷ 10 ∷ 12 ∷ 15 ∷ 16 ∷ 17 ∷ 18 ∷ 19 ∷ 20 ∷ 21 ∷ 22 ∷ 23 ∷ 24 ∷ []
 
-power_at : (ns : List ℕ) (i : ℕ) → AllByRecursion IsAlignment ns → i < length ns → IsAlignment (slice_index ns i)
-power_at [] i all l = absurd (omega arith)
-power_at (n ∷ ns) zero all l = all.0
-power_at (n ∷ ns) (suc i) all l = power_at ns i all.1 (omega (arith, l))
+power_at : (ks : List ℕ) (i : ℕ) → list_all (λ k. nat_le k 24) ks ≡ true → i < length ks → IsAlignment (slice_index (map (λ k. 2 ^ k) ks) i)
+power_at [] i small l = absurd (omega arith)
+power_at (k ∷ ks) zero small l = (k, leb-true k 24 (and_split (nat_le k 24) (list_all (λ j. nat_le j 24) ks) small).0, refl)
+power_at (k ∷ ks) (suc i) small l = power_at ks i (and_split (nat_le k 24) (list_all (λ j. nat_le j 24) ks) small).1 (omega (arith, l))
 
 alignment_power : (attributes : ℕ) → IsAlignment (alignment_of attributes)
-alignment_power a = power_at alignments (a / 8 % 8 + 8 * (a / 2 % 2)) powers (omega arith)
+alignment_power a = power_at exponents (a / 8 % 8 + 8 * (a / 2 % 2)) refl (omega arith)
 
 -- ---- the parts of a volume
 
@@ -106,16 +61,14 @@ part_is total m l = record {
 -- files that were read from at most `limit` bytes are lawful items of a volume that has at least 8 bytes more
 are_parts : (n : ℕ) (system : FileSystem) (limit total : ℕ) (fs : List FileForm) (ms : List FileMeaning)
     → ((k : ℕ) → 24 + k ≤ limit → 32 + k ≤ total) → AllByRecursion (FileIsAccepted system limit) fs → Pairwise (MeansFile (Stream n)) fs ms
-    → All (IsLawfulItem total) (map placement_item ms)
-are_parts n system limit total [] [] room reads pairs i d l = absurd (omega (arith, l))
-are_parts n system limit total [] (m ∷ ms) room reads pairs i d l = absurd pairs
-are_parts n system limit total (f ∷ fs) [] room reads pairs i d l = absurd pairs
-are_parts n system limit total (f ∷ fs) (File name kind attributes content ∷ ms) room reads pairs zero d l =
+    → AllByRecursion (IsLawfulItem total) (map placement_item ms)
+are_parts n system limit total [] [] room reads pairs = tt
+are_parts n system limit total [] (m ∷ ms) room reads pairs = absurd pairs
+are_parts n system limit total (f ∷ fs) [] room reads pairs = absurd pairs
+are_parts n system limit total (f ∷ fs) (File name kind attributes content ∷ ms) room reads pairs =
     let long = content_long n f name kind attributes content pairs.0 in
     let m : FileMeaning = File name kind attributes content in
-    part_is total m (room (data_len_of m) (omega (arith, reads.0.within, long)))
-are_parts n system limit total (f ∷ fs) (m ∷ ms) room reads pairs (suc i) d l =
-    are_parts n system limit total fs ms room reads.1 pairs.1 i d (omega (arith, l))
+    (part_is total m (room (data_len_of m) (omega (arith, reads.0.within, long))), are_parts n system limit total fs ms room reads.1 pairs.1)
 
 -- the files of a volume that was read are lawful items of this volume
 pub parts_fit : (m : Meaning) → IsMeaning m → All (IsLawfulItem (head_of m).length) (map placement_item (files_of m))
@@ -124,6 +77,7 @@ parts_fit (Volume h files) (n, few, b, small, d) =
     let lies = front_lies b h d.extent d.begins in
     let behind = first_behind h.ext d.extent b d.begins.ext in
     let whole : length b ≡ h.length = d.length_is ∙ d.begins.length_is in
-    are_parts n h.file_system body h.length d.files (files_list files)
+    All-from_recursion (IsLawfulItem h.length) (map placement_item (files_list files))
+    (are_parts n h.file_system body h.length d.files (files_list files)
     (λ k l. omega (arith, length-drop d.extent.first b, whole, lies.least, behind, l))
-    (files_read (Stream n) h files b small d) d.meanings
+    (files_read n h files b small d) d.meanings)

@@ -30,23 +30,22 @@ lower : (total x y : ℕ) (ps : List PlacedBytes) → x ≤ y → InOrder total 
 lower total x y [] l o = omega (arith, l, o)
 lower total x y (q ∷ qs) l o = (omega (arith, l, o.0), o.1)
 
--- the erased bytes before the first span are written in one piece or in two
+-- erased bytes are written in one piece or in two
+two_fills : (erased x y z : ℕ) → x ≤ y → y ≤ z → replicate (z - x) erased ≡ replicate (y - x) erased ++ replicate (z - y) erased
+two_fills erased x y z l g =
+    let whole : (y - x) + (z - y) ≡ z - x = omega arith in
+    sym (replicate-append-replicate (y - x) (z - y) erased ∙ ap (λ (n : ℕ). replicate n erased) whole)
+
+-- so the erased bytes before the first span are written in one piece or in two
 painted_later : (erased total x y : ℕ) (ps : List PlacedBytes) → x ≤ y → InOrder total y ps
     → painted erased total x ps ≡ replicate (y - x) erased ++ painted erased total y ps
-painted_later erased total x y [] l o =
-    sym (replicate-append-replicate (y - x) (total - y) erased ∙ ap (λ (n : ℕ). replicate n erased) (sum_of total o))
-  where
-    sum_of : (t : ℕ) → y ≤ t → (y - x) + (t - y) ≡ t - x
-    sum_of t g = omega (arith, l)
+painted_later erased total x y [] l o = two_fills erased x y total l o
 painted_later erased total x y (p ∷ ps) l o =
-    ap (λ (xs : List ℕ). (xs ++ p.bytes) ++ painted erased total (p.at + length p.bytes) ps)
-    (sym (replicate-append-replicate (y - x) (p.at - y) erased ∙ ap (λ (n : ℕ). replicate n erased) (sum_of p.at o.0)))
-    ∙ (ap (λ (xs : List ℕ). xs ++ painted erased total (p.at + length p.bytes) ps)
-    (append_assoc (replicate (y - x) erased) (replicate (p.at - y) erased) p.bytes)
-    ∙ append_assoc (replicate (y - x) erased) (replicate (p.at - y) erased ++ p.bytes) (painted erased total (p.at + length p.bytes) ps))
-  where
-    sum_of : (t : ℕ) → y ≤ t → (y - x) + (t - y) ≡ t - x
-    sum_of t g = omega (arith, l)
+    let rest : List ℕ = painted erased total (p.at + length p.bytes) ps in
+    let gap : List ℕ = replicate (p.at - y) erased in
+    ap (λ (xs : List ℕ). (xs ++ p.bytes) ++ rest) (two_fills erased x y p.at l o.0)
+    ∙ (ap (λ (xs : List ℕ). xs ++ rest) (append_assoc (replicate (y - x) erased) gap p.bytes)
+    ∙ append_assoc (replicate (y - x) erased) (gap ++ p.bytes) rest)
 
 -- a span that begins where the walk is comes next
 painted_here : (erased total e at : ℕ) (bytes : List ℕ) (ps : List PlacedBytes) → at ≡ e

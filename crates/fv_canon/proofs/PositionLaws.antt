@@ -2,18 +2,13 @@
 -- steps:
 -- 1. The bytes that the walk writes show the spans (`walk_shows`, `shows_walk`), and have the full length
 --    (`walk_length`).
--- 2. Bytes that show the spans are the bytes that the walk writes (`walk_from`), so there is only one image
---    (`one_image`).
+-- 2. Two lists of bytes that show the same spans are equal (`shows_one`). So bytes that show the spans are the bytes
+--    that the walk writes (`one_image`).
 use Rattle.std.proofs.Common.{◌≡◌, ℕ, ◌+◌, ◌-◌, ◌<◌, ◌≤◌, [], ◌∷◌, ◌++◌, inl, inr, List, length, take, drop, get_or, replicate, refl, sym, ◌∙◌, ap}
-use Rattle.std.proofs.Common.{subst, arith, append_assoc, length-append, take-append-drop, zero-add, length-drop, drop-drop, take_at, drop_at}
-use Rattle.fv_base.proofs.Laws.{get_or-take, get_or-drop, ext_get_or, length-take-le, AllByRecursion, cases_lt, length-replicate}
+use Rattle.std.proofs.Common.{subst, arith, append_assoc, length-append, zero-add, take_at, drop_at}
+use Rattle.fv_base.proofs.Laws.{get_or-take, get_or-drop, ext_get_or, AllByRecursion, cases_lt, length-replicate}
 use Rattle.std.proofs.lemmas.List.{get_or_append_left, get_or-append_right, get_or-replicate}
 use Rattle.fv_canon.specs.Words.{PlacedBytes, IsIn, ContainsSpan, ShowsPlaced, painted, InOrder}
-
--- an offset before the first span is in none of the spans
-pub before_none : (total e k : ℕ) (ps : List PlacedBytes) → InOrder total e ps → k < e → AllByRecursion (λ p. IsIn k p → ⊥) ps
-before_none total e k [] o l = tt
-before_none total e k (p ∷ ps) o l = (λ i. omega (arith, i.0, o.0), before_none total (p.at + length p.bytes) k ps o.1 (omega (arith, o.0)))
 
 -- a byte after the first of two joined lists is a byte of the second list
 get_behind : (front back : List ℕ) (k : ℕ) → length front ≤ k → get_or (front ++ back) k 0 ≡ get_or back (k - length front) 0
@@ -86,38 +81,44 @@ shows_walk erased total ps o =
       rest = λ k l n. shows.rest k (omega arith) l n;
     }
 
--- ---- from the offsets to the walk
-pub walk_from : (erased total e : ℕ) (ps : List PlacedBytes) (b : List ℕ) → length b ≡ total → InOrder total e ps → AllByRecursion (ContainsSpan b) ps
-    → ((k : ℕ) → e ≤ k → k < total → AllByRecursion (λ p. IsIn k p → ⊥) ps → get_or b k 0 ≡ erased) → drop e b ≡ painted erased total e ps
-walk_from erased total e [] b l o s r =
-    ext_get_or 0 (drop e b) (replicate (total - e) erased)
-    (length-drop e b ∙ (ap (λ n. n - e) l ∙ sym (length-replicate (total - e) erased)))
-    (λ i h. get_or-drop e b i 0 ∙ (r (e + i) (omega arith) (omega (arith, length-drop e b, h, l)) tt
-    ∙ sym (get_or-replicate (total - e) i erased 0 (omega (arith, length-drop e b, h, l)))))
-walk_from erased total e (p ∷ ps) b l o s r =
-    let gap = replicate (p.at - e) erased in
-    let cut : take (p.at - e) (drop e b) ≡ gap = ext_get_or 0 (take (p.at - e) (drop e b)) gap (length-take-le (p.at - e) (drop e b)
-    (omega (arith, length-drop e b, s.0.0)) ∙ sym (length-replicate (p.at - e) erased)) (λ i h. let within =
-    shorter i (length (take (p.at - e) (drop e b))) (length-take-le (p.at - e) (drop e b) (omega (arith, length-drop e b, s.0.0))) h in
-    get_or-take (p.at - e) (drop e b) i 0 within ∙ (get_or-drop e b i 0 ∙ (r (e + i) (omega arith) (omega (arith, within, s.0.0, l)) (
-      λ z. omega (arith, within, z.0),
-      before_none total (p.at + length p.bytes) (e + i) ps o.1 (omega (arith, within)),
-    ) ∙ sym (get_or-replicate (p.at - e) i erased 0 within)))) in
-    let behind = walk_from erased total (p.at + length p.bytes) ps b l o.1 s.1 (λ k a c n. r k (omega (arith, a, o.0)) c (λ z. omega (arith, a, z.1), n)) in
-    sym (take-append-drop (p.at - e) (drop e b))
-    ∙ (ap (λ xs. xs ++ drop (p.at - e) (drop e b)) cut
-    ∙ (ap (λ xs. gap ++ xs)
-    (drop-drop (p.at - e) e b ∙ (ap (λ n. drop n b) at_is ∙ (sym (take-append-drop (length p.bytes) (drop p.at b)) ∙ (ap
-    (λ xs. xs ++ drop (length p.bytes) (drop p.at b)) s.0.1 ∙ ap (λ xs. p.bytes ++ xs) (drop-drop (length p.bytes) p.at b ∙ behind)))))
-    ∙ sym (append_assoc gap p.bytes (painted erased total (p.at + length p.bytes) ps))))
+-- ---- only one list of bytes shows the spans
+
+-- a byte at an offset within a span is the byte of the span
+byte_in : (b : List ℕ) (p : PlacedBytes) (k : ℕ) → ContainsSpan b p → p.at ≤ k → k < p.at + length p.bytes
+    → get_or b k 0 ≡ get_or p.bytes (k - p.at) 0
+byte_in b p k stands low high =
+    ap (λ (n : ℕ). get_or b n 0) (back p.at k low) ∙ sym (get_or-drop p.at b (k - p.at) 0)
+    ∙ sym (get_or-take (length p.bytes) (drop p.at b) (k - p.at) 0 (omega (arith, low, high)))
+    ∙ ap (λ (xs : List ℕ). get_or xs (k - p.at) 0) stands.1
   where
-    at_is : e + (p.at - e) ≡ p.at
-    at_is = omega (arith, o.0)
+    back : (a k : ℕ) → a ≤ k → k ≡ a + (k - a)
+    back a k l = omega arith
 
-    shorter : (i n : ℕ) → n ≡ p.at - e → i < n → i < p.at - e
-    shorter i n h g = omega arith
+same_byte : (ps : List PlacedBytes) (b c : List ℕ) (k e : ℕ) → AllByRecursion (ContainsSpan b) ps
+    → AllByRecursion (ContainsSpan c) ps → (AllByRecursion (λ p. IsIn k p → ⊥) ps → get_or b k 0 ≡ e)
+    → (AllByRecursion (λ p. IsIn k p → ⊥) ps → get_or c k 0 ≡ e) → get_or b k 0 ≡ get_or c k 0
+same_byte [] b c k e sb sc rb rc = rb tt ∙ sym (rc tt)
+same_byte (p ∷ ps) b c k e sb sc rb rc = elim (cases_lt k p.at) [
+  | inl before ↦ same_byte ps b c k e sb.1 sc.1 (λ n. rb (λ i. under i.0 before, n)) (λ n. rc (λ i. under i.0 before, n))
+  | inr low ↦ elim (cases_lt k (p.at + length p.bytes)) [
+    | inl high ↦ byte_in b p k sb.0 low high ∙ sym (byte_in c p k sc.0 low high)
+    | inr past ↦ same_byte ps b c k e sb.1 sc.1 (λ n. rb (λ i. over i.1 past, n)) (λ n. rc (λ i. over i.1 past, n))
+  ]
+]
+  where
+    under : {k a : ℕ} → a ≤ k → k < a → ⊥
+    under p q = omega arith
 
--- only one list of bytes shows the spans, and the walk writes this list
+    over : {k m : ℕ} → k < m → m ≤ k → ⊥
+    over p q = omega arith
+
+pub shows_one : (total erased : ℕ) (ps : List PlacedBytes) (b c : List ℕ) → ShowsPlaced total erased ps b → ShowsPlaced total erased ps c
+    → b ≡ c
+shows_one total erased ps b c p q =
+    ext_get_or 0 b c (p.length_is ∙ sym q.length_is) (λ k l. let within : k < total = subst (λ (n : ℕ). k < n) p.length_is l in
+    same_byte ps b c k erased p.contained q.contained (p.rest k within) (q.rest k within))
+
+-- so only the bytes that the walk writes show the spans
 pub one_image : (erased total : ℕ) (ps : List PlacedBytes) (b : List ℕ) → InOrder total 0 ps → ShowsPlaced total erased ps b
     → b ≡ painted erased total 0 ps
-one_image erased total ps b o h = walk_from erased total 0 ps b h.length_is o h.contained (λ k a c n. h.rest k c n)
+one_image erased total ps b o shows = shows_one total erased ps b (painted erased total 0 ps) shows (shows_walk erased total ps o)

@@ -1,13 +1,12 @@
 -- The laws of inputs that are rejected.
-use Rattle.std.proofs.Common.{◌≡◌, ◌≢◌, ℕ, ◌⊎◌, List, refl, sym, ap, subst, inl, inr}
+use Rattle.std.proofs.Common.{◌≡◌, ◌≢◌, ◌≤◌, ℕ, ◌⊎◌, List, arith, length, refl, sym, ap, subst, inl, inr}
 use Rattle.fv_base.proofs.Laws.{or_more, first_only, out_of_memory}
 use Rattle.fv_base.specs.declared.fault.Fault.{Fault}
 use Rattle.fv_tree.specs.Words.{Accepted, IsFirstOfInput, NotRead, Meaning}
-use Rattle.fv_tree.proofs.Laws.{IsOfInput, fault_stands, stands_other}
+use Rattle.fv_tree.proofs.Laws.{IsOfInput, fault_stands, first_within, stands_other}
 use Rattle.fv_canon.specs.Words.{NormalisesTo, IsNotVolume, IsOfLayout, IsUnfit, NotPlaced, Rejects, OnlyWhatDoesNotFitIsRejected, Fits, Unfit}
-use Rattle.fv_canon.proofs.FitLaws.{unfit_none}
-use Rattle.fv_canon.proofs.ImageFits.{image_fits as has_image_fits}
-use Rattle.fv_canon.proofs.UnfitKinds.{not_layout, unfit_is}
+use Rattle.fv_canon.proofs.FitLaws.{not_layout, unfit_is, unfit_none, unfit_place}
+use Rattle.fv_canon.proofs.InsideImageLaws.{image_fits as has_image_fits}
 use Rattle.fv_base.specs.declared.fault.FaultKind.TheVariants as kinds
 
 -- ---- a volume that fits
@@ -37,6 +36,16 @@ unfit_kind v f (inr unfit) = go (unfit_is v 0 f unfit) where
   go : IsOfLayout f.kind → IsOfInput f.kind
   go (inl is) = subst IsOfInput (sym is) (λ e. cc, λ e. cc)
   go (inr is) = subst IsOfInput (sym is) (λ e. cc, λ e. cc)
+
+-- ---- the place of a fault
+
+-- the fault with which an input is rejected lies within the input or at its end
+pub refused_within : (b : List ℕ) (e : Fault) → Rejects b e → e.place.offset ≤ length b
+refused_within b e (inl bad) = go bad.first where
+  go : IsFirstOfInput b e → e.place.offset ≤ length b
+  go (inl first) = (first_within b e first).0
+  go (inr (m, accepted, less, is)) = subst (λ (g : Fault). g.place.offset ≤ length b) (sym is) (omega (arith, less))
+refused_within b e (inr (m, accepted, unfit)) = omega (arith, unfit_place m 0 e unfit)
 
 -- ---- which inputs are rejected with which kind of fault
 

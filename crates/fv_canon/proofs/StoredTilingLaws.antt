@@ -41,7 +41,7 @@ pub record Tiled (system : FileSystem) (p : Polarity) (at : ℕ) (b : List ℕ) 
   pub erased : AllByRecursion (PadErased p) cells
   pub fixed : AllByRecursion PadFixed cells
 
-never : {A : Type 0} → false ≡ true → A
+pub never : {A : Type 0} → false ≡ true → A
 never e = absurd cc
 
 -- ---- a gap
@@ -84,11 +84,7 @@ pub length-gap : (p : Polarity) (gap : ℕ) → (gap ≡ 0) ⊎ (24 ≤ gap) →
 length-gap p gap (inl z) multiple = ap length (gap_none p gap z) ∙ sym z
 length-gap p gap (inr l) multiple =
     gap_has p (λ n xs. length xs ≡ n) (λ n least most eighth. length-pad p n least)
-    (λ n xs past next. length-append (pad_bytes p long_pad) xs
-    ∙ sum_of (length (pad_bytes p long_pad)) (length xs) n (length-pad p long_pad (omega arith)) next past) gap l multiple
-  where
-    sum_of : (a b n : ℕ) → a ≡ 0xffff00 → b ≡ n - 0xffff00 → 0xfffff8 < n → a + b ≡ n
-    sum_of a b n e f l = omega (arith, l, e, f)
+    (λ n xs past next. omega (arith, length-append (pad_bytes p long_pad) xs, length-pad p long_pad (omega arith), next, past)) gap l multiple
 
 -- ---- erased bytes at the end
 

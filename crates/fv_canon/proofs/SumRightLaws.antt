@@ -16,14 +16,13 @@ use Rattle.fv_file.proofs.Laws.{head_of_pad, pad_written}
 use Rattle.fv_head.specs.Words.{Extension, IfRead, extent_of, canonical_end, first_edge, ext_len, ext_spelled, HeadFields, BeginsVolume}
 use Rattle.fv_head.specs.Words.{header_len_of, canonical_head, polarity_of}
 use Rattle.fv_head.proofs.Laws.{ext_again, ext_len_most, length-canonical}
-use Rattle.fv_tree.specs.Words.{MeansSection, Stream, Volume}
+use Rattle.fv_tree.specs.Words.{Volume}
 use Rattle.fv_canon.specs.Words.{CellSums, SumsAreRight, ext_pad, used_size}
 use Rattle.fv_canon.specs.inner.ImageOf.{files_bytes}
 use Rattle.fv_canon.proofs.CellLaws.{bytes_pad_head, length-pad_head}
-use Rattle.fv_canon.proofs.PlacedBytesLaws.{first_is, volume_shows}
-use Rattle.fv_canon.proofs.StoredTilingLaws.{PadFixed, body_tiles}
-use Rattle.fv_canon.proofs.StreamImageLaws.{stream_again}
-use Rattle.fv_canon.proofs.VolumeImageLaws.{known, image_front, sections_again}
+use Rattle.fv_canon.proofs.PlacedBytesLaws.{first_is, length-ext_pad, volume_shows}
+use Rattle.fv_canon.proofs.StoredTilingLaws.{PadFixed, body_tiles, filler_is, never}
+use Rattle.fv_canon.proofs.VolumeImageLaws.{known, image_front, streams_again}
 
 -- ---- cells that tile bytes
 
@@ -86,42 +85,29 @@ rest_summed system p h None used files read behind =
     none : (n : ℕ) → 0 ≡ n - n
     none n = omega arith
 rest_summed system p h (Some x) used files read behind =
-    let size : ℕ = 24 + ext_len x in
     let end : ℕ = canonical_end h (Some x) in
     let filler : List ℕ = replicate (up_to_8 end - end) (erased_byte p) in
-    let short : length filler ≡ up_to_8 end - end = length-replicate (up_to_8 end - end) (erased_byte p) in
     let pad : List ℕ = ext_pad p (Some x) used in
-    let long : length pad ≡ size = length-append (pad_head_of size p) (ext_spelled x used)
-    ∙ sum_of (length (pad_head_of size p)) (length (ext_spelled x used)) (ext_len x) (length-pad_head size p) (ext_again x used read).1 in
-    let fill = filled (header_len_of h) (ext_len x) (length filler) (first_is h None).1 short in
-    let cell = ext_cell system p x used filler read fill.0 fill.1 (header_len_of h) in
-    let place : header_len_of h + length (pad ++ filler) ≡ up_to_8 end = ended (header_len_of h) (ext_len x) (length (pad ++ filler))
-    (length pad) (length filler) (length-append pad filler) long short in
+    let fill = filler_is end in
+    let short : length filler ≡ up_to_8 end - end = length-replicate (up_to_8 end - end) (erased_byte p) in
+    let few : length filler < 8 = subst (λ (n : ℕ). n < 8) (sym short) fill.0 in
+    let edge : end + length filler ≡ up_to_8 end = ap (λ (n : ℕ). end + n) short ∙ fill.1 in
+    let cell = ext_cell system p x used filler read few (omega (arith, (first_is h None).1, fill.2, edge)) (header_len_of h) in
+    let place : header_len_of h + length (pad ++ filler) ≡ up_to_8 end =
+    omega (arith, length-append pad filler, length-ext_pad p h (Some x) used read, edge) in
     record {
-      cells = Pad (header_len_of h) (pad_fields size (slice_index (pad_head_of size p) 16)) (ext_spelled x used) ∷ behind.cells;
+      cells = Pad (header_len_of h) (pad_fields (24 + ext_len x) (slice_index (pad_head_of (24 + ext_len x) p) 16)) (ext_spelled x used) ∷ behind.cells;
       tiles = (
         pad ++ filler,
         files,
         sym (append_assoc pad filler files),
         cell,
         refl,
-        λ e. absurd (no e),
+        λ e. never e,
         subst (λ (n : ℕ). Tiles system p n behind.cells files) (sym place) behind.tiles,
       );
       fixed = (refl, behind.fixed);
     }
-  where
-    no : false ≡ true → ⊥
-    no e = cc
-
-    sum_of : (a b n : ℕ) → a ≡ 24 → b ≡ n → a + b ≡ 24 + n
-    sum_of a b n e f = omega (arith, e, f)
-
-    filled : (l n k : ℕ) → l % 8 ≡ 0 → k ≡ up_to_8 (l + 24 + n) - (l + 24 + n) → (k < 8) × ((24 + n + k) % 8 ≡ 0)
-    filled l n k m e = (omega (arith, e), omega (arith, e, m))
-
-    ended : (l n t a k : ℕ) → t ≡ a + k → a ≡ 24 + n → k ≡ up_to_8 (l + 24 + n) - (l + 24 + n) → l + t ≡ up_to_8 (l + 24 + n)
-    ended l n t a k e f g = omega (arith, e, f, g)
 
 -- ---- the image
 
@@ -130,7 +116,7 @@ sums_are_right (Volume h files) image (n, most, b, small, d) (stored, starts, ar
     let p : Polarity = polarity_of h.attributes in
     let first : ℕ = first_edge h h.ext in
     let used : ℕ = used_size first stored starts in
-    let k = (known (Stream n) (stream_again (MeansSection n) (sections_again n)) h files b small d stored starts are placed).writable in
+    let k = (known n (streams_again n) h files b small d stored starts are placed).writable in
     let front : BeginsVolume h (extent_of h first) image = image_front h stored starts image k shows in
     let body : List ℕ = files_bytes p h.length first stored starts in
     let rest : List ℕ = ext_pad p h.ext used ++ (replicate (first - canonical_end h h.ext) (erased_byte p) ++ body) in

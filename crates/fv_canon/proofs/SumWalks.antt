@@ -10,6 +10,9 @@ use Rattle.fv_canon.specs.Words.{stored_bytes, StoredFile, head_len_for}
 
 -- ---- the number that the bytes of a file add to a sum
 
+sum-joined : (a b : List ℕ) → sum (a ++ b) ≡ sum a + sum b
+sum-joined a b = sum_by-append (λ (x : ℕ). x) a b
+
 -- the sum of a header is the sum of the header with checksums and State zero, plus the header checksum, the file
 -- checksum and State
 header_sum : (c file_sum : ℕ) (name : List ℕ) (kind attributes size : ℕ) (large : Bool) (state : ℕ)
@@ -18,25 +21,9 @@ header_sum : (c file_sum : ℕ) (name : List ℕ) (kind attributes size : ℕ) (
 header_sum c file_sum name kind attributes size large state =
     by (if large then le_bytes 3 0 else le_bytes 3 size) (if large then le_bytes 8 size else [])
   where
-    add : (a b : List ℕ) → sum (a ++ b) ≡ sum a + sum b
-    add a b = sum_by-append (λ (x : ℕ). x) a b
-
-    whole : (c f s : ℕ) (x y : List ℕ) → sum (name ++ (c ∷ f ∷ kind ∷ attributes ∷ []) ++ x ++ (s ∷ []) ++ y)
-        ≡ (((sum name + sum (c ∷ f ∷ kind ∷ attributes ∷ [])) + sum x) + sum (s ∷ [])) + sum y
-    whole c f s x y =
-        add (name ++ (c ∷ f ∷ kind ∷ attributes ∷ []) ++ x ++ (s ∷ [])) y
-        ∙ ap (λ (n : ℕ). n + sum y) (add (name ++ (c ∷ f ∷ kind ∷ attributes ∷ []) ++ x) (s ∷ [])
-        ∙ ap (λ (n : ℕ). n + sum (s ∷ [])) (add (name ++ (c ∷ f ∷ kind ∷ attributes ∷ [])) x
-        ∙ ap (λ (n : ℕ). n + sum x) (add name (c ∷ f ∷ kind ∷ attributes ∷ []))))
-
     by : (x y : List ℕ) → sum (name ++ (c ∷ file_sum ∷ kind ∷ attributes ∷ []) ++ x ++ (state ∷ []) ++ y)
         ≡ sum (name ++ (0 ∷ 0 ∷ kind ∷ attributes ∷ []) ++ x ++ (0 ∷ []) ++ y) + (c + file_sum + state)
-    by x y = whole c file_sum state x y ∙ joined (sum name) (sum x) (sum y) c file_sum kind attributes state
-        ∙ ap (λ (n : ℕ). n + (c + file_sum + state)) (sym (whole 0 0 0 x y))
-      where
-        joined : (n x y c f k a s : ℕ) → (((n + sum (c ∷ f ∷ k ∷ a ∷ [])) + x) + sum (s ∷ [])) + y
-            ≡ ((((n + sum (0 ∷ 0 ∷ k ∷ a ∷ [])) + x) + sum (0 ∷ [])) + y) + (c + f + s)
-        joined n x y c f k a s = omega arith
+    by x y = simp sum-joined (omega arith)
 
 -- a written header adds its file checksum and State
 header_adds : (file_sum : ℕ) (name : List ℕ) (kind attributes size : ℕ) (large : Bool) (state : ℕ)

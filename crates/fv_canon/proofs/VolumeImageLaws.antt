@@ -4,8 +4,8 @@
 -- 2. So all files of a volume can be stored, and the layout uses the same facts about them (`files_again`).
 -- 3. The image begins with the volume's header (`image_front`), and its files and pads tile the rest (`image_tiled`).
 -- 4. So the image of a volume is read as its meaning, if the same is true of the parts in its files (`volume_again`).
--- 5. By induction on the nesting depth it is true at every level (`sections_again`), and so of each image
---    (`image_denotes`).
+-- 5. By induction on the nesting depth it is true at every level (`sections_again`), and so of each stream and each
+--    image (`streams_again`, `image_denotes`).
 use Rattle.std.proofs.Common.{◌≡◌, ◌≢◌, ◌≤◌, ◌<◌, ◌+◌, ◌-◌, ◌*◌, ◌/◌, ◌%◌, ℕ, [], ◌∷◌, ◌++◌, zero, suc, Bool, true, false, List, length, take, drop}
 use Rattle.std.proofs.Common.{replicate, refl, sym, ap, ◌∙◌, subst, arith, append_assoc, length-append, length-drop, map, nat_lt, Option, None, Some}
 use Rattle.fv_base.proofs.Laws.{ne_eqb, drop_at, common_steps, AllByRecursion, bytes_eq, nat_tests, length-replicate, alignment_of, erased_byte}
@@ -22,9 +22,10 @@ use Rattle.fv_head.proofs.Laws.{canonical_front, front_lies, length-canonical}
 use Rattle.fv_placement.specs.Words.{StartsFollow, IsFirstPlacement}
 use Rattle.fv_placement.specs.declared.first_placement.PlacementItem.{PlacementItem}
 use Rattle.fv_tree.specs.Words.{Meaning, Volume, FileMeanings, NoFiles, MoreFiles, FileMeaning, File, ContentMeaning, Plain, Sectioned, AreFilesOf}
-use Rattle.fv_tree.specs.Words.{files_list, files_of, head_of, content_len, StreamRelation, Pairwise, MeansContent, MeansFile, StreamOver, VolumeOver}
+use Rattle.fv_tree.specs.Words.{files_list, files_of, head_of, content_len, StreamRelation, Pairwise, MeansContent, MeansFile, VolumeOver}
 use Rattle.fv_tree.specs.Words.{Opens, MeansSection, Stream, Denotes, FileForm, files_in, NoTwins, current_in, top_name}
-use Rattle.fv_canon.specs.Words.{IsImage, AreStored, IsStored, IsData, AreStarts, placement_item, ShowsPlaced, StoredFile, size_for, head_len_for}
+use Rattle.fv_tree.proofs.Laws.{section_long, stream_long}
+use Rattle.fv_canon.specs.Words.{AreStored, IsStored, IsData, AreStarts, placement_item, ShowsPlaced, StoredFile, size_for, head_len_for}
 use Rattle.fv_canon.specs.Words.{ext_pad, placed_in_volume, used_size}
 use Rattle.fv_canon.specs.inner.ImageOf.{files_bytes, volume_bytes}
 use Rattle.fv_canon.proofs.ImageParts.{stored_item}
@@ -40,31 +41,24 @@ use Rattle.fv_canon.proofs.StoredTilingLaws.{forms_of, Tiled, body_tiles}
 -- ---- 1. a file
 
 -- the file x that is stored in the canonical image for the file f of meaning m
-record FileAgain (is_stream : StreamRelation) (system : FileSystem) (m : FileMeaning) (f : FileForm) (x : StoredFile) : Type 0 where
+record FileAgain (n : ℕ) (system : FileSystem) (m : FileMeaning) (f : FileForm) (x : StoredFile) : Type 0 where
   pub storable : Storable system x
   pub part : stored_item x ≡ placement_item m
   pub name : bytes_of x.name ≡ bytes_of f.head.name
-  pub form : (p : Polarity) (at : ℕ) → MeansFile is_stream (record { offset = at; head = stored_head p x; payload = x.payload }) m
+  pub form : (p : Polarity) (at : ℕ) → MeansFile (Stream n) (record { offset = at; head = stored_head p x; payload = x.payload }) m
 
--- the data d that are written for data that were read as this content
-pub record DataAgain (is_stream : StreamRelation) (kind : ℕ) (content : ContentMeaning) (payload d : List ℕ) : Type 0 where
-  pub is : MeansContent is_stream kind d content
-  pub bytes : IsBytes d
-  pub long : length d ≡ length payload
-  pub len : length d ≡ content_len content
+-- the data d that are written for data that were read have the same content
+pub data_again : (n kind : ℕ) → StreamsAgain (Stream n) → (content : ContentMeaning) (payload d : List ℕ) → IsBytes payload
+    → MeansContent (Stream n) kind payload content → IsData content d → MeansContent (Stream n) kind d content × IsBytes d
+data_again n kind streams (Plain b) payload d small (plain, same) image = ((plain, sym image), subst IsBytes (sym (image ∙ same)) small)
+data_again n kind streams (Sectioned ss tail) payload d small (sectioned, is) image =
+    let a = streams ss tail payload d small is image in ((sectioned, a.0), a.1)
 
-pub data_again : (is_stream : StreamRelation) → StreamsAgain is_stream → (kind : ℕ) (content : ContentMeaning) (payload d : List ℕ)
-    → IsBytes payload → MeansContent is_stream kind payload content → IsData content d
-    → DataAgain is_stream kind content payload d
-data_again is_stream streams kind (Plain b) payload d small (plain, same) image = record {
-  is = (plain, sym image);
-  bytes = subst IsBytes (sym (image ∙ same)) small;
-  long = ap length (image ∙ same);
-  len = ap length image;
-}
-data_again is_stream streams kind (Sectioned ss tail) payload d small (sectioned, is) image =
-    let a = streams ss tail payload d small is image in
-    record { is = (sectioned, a.is); bytes = a.bytes; long = a.long; len = a.long ∙ a.len }
+-- data have the length that their content states
+pub content_is_long : (n kind : ℕ) (content : ContentMeaning) (payload : List ℕ) → MeansContent (Stream n) kind payload content
+    → length payload ≡ content_len content
+content_is_long n kind (Plain b) payload is = ap length (sym is.1)
+content_is_long n kind (Sectioned ss tail) payload is = sym (stream_long (MeansSection n) (section_long n) ss tail payload is.1)
 
 half_even : (a : ℕ) → is_large (a / 2 * 2) ≡ false
 half_even a = ne_eqb (a / 2 * 2 % 2) 1 (λ e. omega (arith, e))
@@ -92,11 +86,12 @@ same_part : (n k a b : ℕ) (g h : Guid) → n ≡ k → a ≡ b → g ≡ h →
     made ≡ record { header = head_len_for k; size = size_for k; alignment = alignment_of b; top = bytes_eq (bytes_of h) top_name }
 same_part n k a b g h p q r = rw (p, q, r) refl
 
-file_again : (is_stream : StreamRelation) → StreamsAgain is_stream → (system : FileSystem) (limit : ℕ) (m : FileMeaning) (f : FileForm)
-    (x : StoredFile) → limit ≤ 24 + data_limit → FileIsAccepted system limit f → MeansFile is_stream f m → IsStored m x
-    → FileAgain is_stream system m f x
-file_again is_stream streams system limit (File name kind attributes content) f x most r (named, kinds, bits, is) (xn, xk, xa, image) =
-    let d = data_again is_stream streams kind content f.payload x.payload r.payload is image in
+file_again : (n : ℕ) → StreamsAgain (Stream n) → (system : FileSystem) (limit : ℕ) (m : FileMeaning) (f : FileForm) (x : StoredFile)
+    → limit ≤ 24 + data_limit → FileIsAccepted system limit f → MeansFile (Stream n) f m → IsStored m x → FileAgain n system m f x
+file_again n streams system limit (File name kind attributes content) f x most r (named, kinds, bits, is) (xn, xk, xa, image) =
+    let d = data_again n kind streams content f.payload x.payload r.payload is image in
+    let len = content_is_long n kind content x.payload d.0 in
+    let long : length x.payload ≡ length f.payload = len ∙ sym (content_is_long n kind content f.payload is) in
     let guid : x.name ≡ f.head.name = xn ∙ named in
     let names : bytes_of x.name ≡ bytes_of f.head.name = ap bytes_of guid in
     let kind_is : x.kind ≡ f.head.kind = xk ∙ kinds in
@@ -111,14 +106,14 @@ file_again is_stream streams system limit (File name kind attributes content) f 
         kind = subst (λ (n : ℕ). n ≢ pad_kind) (sym kind_is) r.kind;
         short = ap is_large bits_are ∙ half_even a;
         moves = ap is_fixed bits_are ∙ half_moves a r.moves;
-        large = λ e. large_system system (is_large a) (length f.payload) r.large r.short (ap needs_large (sym d.long) ∙ e);
-        most = omega (arith, d.long, r.within, most);
-        payload = d.bytes;
+        large = λ e. large_system system (is_large a) (length f.payload) r.large r.short (ap needs_large (sym long) ∙ e);
+        most = omega (arith, long, r.within, most);
+        payload = d.1;
       };
-      part = same_part (length x.payload) (content_len content) x.attributes attributes x.name name d.len xa xn;
+      part = same_part (length x.payload) (content_len content) x.attributes attributes x.name name len xa xn;
       name = names;
       form = λ p at.
-          (ap (λ (g : Guid). g) (sym xn) ∙ refl, sym xk, sym xa ∙ back (needs_large (length x.payload)) a x.attributes bits_are, d.is);
+          (ap (λ (g : Guid). g) (sym xn) ∙ refl, sym xk, sym xa ∙ back (needs_large (length x.payload)) a x.attributes bits_are, d.0);
     }
   where
     back : (l : Bool) (a y : ℕ) → y ≡ a / 2 * 2 → y ≡ without_large (with_large l y)
@@ -126,41 +121,41 @@ file_again is_stream streams system limit (File name kind attributes content) f 
 
 -- ---- 2. file by file
 
-pub record FilesAgain (is_stream : StreamRelation) (system : FileSystem) (files : FileMeanings) (forms : List FileForm)
+pub record FilesAgain (n : ℕ) (system : FileSystem) (files : FileMeanings) (forms : List FileForm)
     (stored : List StoredFile) : Type 0 where
   pub storable : AllByRecursion (Storable system) stored
   pub items : map stored_item stored ≡ map placement_item (files_list files)
   pub names : names_of stored ≡ names_in forms
   pub are : (p : Polarity) (total e : ℕ) (ss : List ℕ) → StartsFollow total e (map stored_item stored) ss
-      → Pairwise (MeansFile is_stream) (forms_of p stored ss) (files_list files)
+      → Pairwise (MeansFile (Stream n)) (forms_of p stored ss) (files_list files)
 
 no_file : {A : Type 0} (x : A) (xs : List A) → x ∷ xs ≡ [] → ⊥
 no_file x xs e = cc
 
-files_again : (is_stream : StreamRelation) → StreamsAgain is_stream
+files_again : (n : ℕ) → StreamsAgain (Stream n)
     → (system : FileSystem) (limit : ℕ) (files : FileMeanings) (forms : List FileForm) (stored : List StoredFile) → limit ≤ 24 + data_limit
-    → AllByRecursion (FileIsAccepted system limit) forms → Pairwise (MeansFile is_stream) forms (files_list files) → AreStored files stored
-    → FilesAgain is_stream system files forms stored
-files_again is_stream streams system limit NoFiles [] [] most reads pairs are =
+    → AllByRecursion (FileIsAccepted system limit) forms → Pairwise (MeansFile (Stream n)) forms (files_list files) → AreStored files stored
+    → FilesAgain n system files forms stored
+files_again n streams system limit NoFiles [] [] most reads pairs are =
     record { storable = tt; items = refl; names = refl; are = λ p total e ss follow. tt }
-files_again is_stream streams system limit NoFiles [] (x ∷ xs) most reads pairs are = absurd (no_file x xs are)
-files_again is_stream streams system limit NoFiles (f ∷ fs) stored most reads pairs are = absurd pairs
-files_again is_stream streams system limit (MoreFiles m ms) [] stored most reads pairs are = absurd pairs
-files_again is_stream streams system limit (MoreFiles m ms) (f ∷ fs) [] most reads pairs are = absurd are
-files_again is_stream streams system limit (MoreFiles m ms) (f ∷ fs) (x ∷ xs) most reads pairs are =
-    let here = file_again is_stream streams system limit m f x most reads.0 pairs.0 are.0 in
-    let behind = files_again is_stream streams system limit ms fs xs most reads.1 pairs.1 are.1 in
+files_again n streams system limit NoFiles [] (x ∷ xs) most reads pairs are = absurd (no_file x xs are)
+files_again n streams system limit NoFiles (f ∷ fs) stored most reads pairs are = absurd pairs
+files_again n streams system limit (MoreFiles m ms) [] stored most reads pairs are = absurd pairs
+files_again n streams system limit (MoreFiles m ms) (f ∷ fs) [] most reads pairs are = absurd are
+files_again n streams system limit (MoreFiles m ms) (f ∷ fs) (x ∷ xs) most reads pairs are =
+    let here = file_again n streams system limit m f x most reads.0 pairs.0 are.0 in
+    let behind = files_again n streams system limit ms fs xs most reads.1 pairs.1 are.1 in
     record {
       storable = (here.storable, behind.storable);
       items = ap (λ (q : PlacementItem). q ∷ map stored_item xs) here.part ∙ ap (λ (qs : List PlacementItem). placement_item m ∷ qs) behind.items;
-      names = ap (λ (n : List ℕ). n ∷ names_of xs) here.name ∙ ap (λ (ns : List (List ℕ)). bytes_of f.head.name ∷ ns) behind.names;
+      names = ap (λ (name : List ℕ). name ∷ names_of xs) here.name ∙ ap (λ (ns : List (List ℕ)). bytes_of f.head.name ∷ ns) behind.names;
       are = λ p total e ss follow. step p total e ss follow here.form behind.are;
     }
   where
     step : (p : Polarity) (total e : ℕ) (ss : List ℕ) → StartsFollow total e (map stored_item (x ∷ xs)) ss
-        → ((q : Polarity) (at : ℕ) → MeansFile is_stream (record { offset = at; head = stored_head q x; payload = x.payload }) m)
-        → ((q : Polarity) (n k : ℕ) (ts : List ℕ) → StartsFollow n k (map stored_item xs) ts → Pairwise (MeansFile is_stream)
-        (forms_of q xs ts) (files_list ms)) → Pairwise (MeansFile is_stream) (forms_of p (x ∷ xs) ss) (files_list (MoreFiles m ms))
+        → ((q : Polarity) (at : ℕ) → MeansFile (Stream n) (record { offset = at; head = stored_head q x; payload = x.payload }) m)
+        → ((q : Polarity) (t k : ℕ) (ts : List ℕ) → StartsFollow t k (map stored_item xs) ts → Pairwise (MeansFile (Stream n))
+        (forms_of q xs ts) (files_list ms)) → Pairwise (MeansFile (Stream n)) (forms_of p (x ∷ xs) ss) (files_list (MoreFiles m ms))
     step p total e [] follow form behind = absurd follow
     step p total e (s ∷ ss) follow form behind = (form p s, behind p total _ ss follow.1)
 
@@ -220,15 +215,15 @@ opened h e o front whole =
     }
 
 -- the facts about a volume that was read, and about the files that are stored and placed for it
-pub record Known (is_stream : StreamRelation) (h : HeadFields) (files : FileMeanings) (forms : List FileForm) (stored : List StoredFile)
+pub record Known (n : ℕ) (h : HeadFields) (files : FileMeanings) (forms : List FileForm) (stored : List StoredFile)
     (starts : List ℕ) : Type 0 where
   pub writable : Writable h stored starts
-  pub again : FilesAgain is_stream h.file_system files forms stored
+  pub again : FilesAgain n h.file_system files forms stored
 
 -- each file of a volume that was read is accepted
-pub files_read : (is_stream : StreamRelation) (h : HeadFields) (files : FileMeanings) (b : List ℕ) → IsBytes b
-    → (d : VolumeOver is_stream b (Volume h files)) → AllByRecursion (FileIsAccepted h.file_system (length (drop d.extent.first b))) d.files
-files_read is_stream h files b small d =
+pub files_read : (n : ℕ) (h : HeadFields) (files : FileMeanings) (b : List ℕ) → IsBytes b
+    → (d : Denotes n b (Volume h files)) → AllByRecursion (FileIsAccepted h.file_system (length (drop d.extent.first b))) d.files
+files_read n h files b small d =
     let e : Extent = d.extent in
     let body : List ℕ = drop e.first b in
     let reads = body_read e.file_system e.polarity (length body) e.first d.cells body (bytes_drop e.first b small) (omega arith) d.tiles in
@@ -236,17 +231,17 @@ files_read is_stream h files b small d =
     (subst (AllByRecursion (FileIsAccepted e.file_system (length body))) (sym d.current.files_are)
     (current_read e.file_system (length body) (files_in d.cells) reads))
 
-pub known : (is_stream : StreamRelation) → StreamsAgain is_stream → (h : HeadFields) (files : FileMeanings) (b : List ℕ) → IsBytes b
-    → (d : VolumeOver is_stream b (Volume h files)) (stored : List StoredFile) (starts : List ℕ)
-    → AreStored files stored → AreStarts (Volume h files) starts → Known is_stream h files d.files stored starts
-known is_stream streams h files b small d stored starts are placed =
+pub known : (n : ℕ) → StreamsAgain (Stream n) → (h : HeadFields) (files : FileMeanings) (b : List ℕ) → IsBytes b
+    → (d : Denotes n b (Volume h files)) (stored : List StoredFile) (starts : List ℕ)
+    → AreStored files stored → AreStarts (Volume h files) starts → Known n h files d.files stored starts
+known n streams h files b small d stored starts are placed =
     let e : Extent = d.extent in
     let first : ℕ = first_edge h h.ext in
     let lies = front_lies b h e d.begins in
     let body : List ℕ = drop e.first b in
-    let current = files_read is_stream h files b small d in
+    let current = files_read n h files b small d in
     let limit : length body ≤ 24 + data_limit = omega (arith, length-drop e.first b, d.length_is, lies.limit, lies.least, first_behind h.ext e b d.begins.ext) in
-    let a = files_again is_stream streams h.file_system (length body) files d.files stored limit current d.meanings are in
+    let a = files_again n streams h.file_system (length body) files d.files stored limit current d.meanings are in
     let place : IsFirstPlacement h.length first (map stored_item stored) starts =
     subst (λ (qs : List PlacementItem). IsFirstPlacement h.length first qs starts) (sym a.items) placed in
     record {
@@ -297,11 +292,11 @@ pub volume_of : (is_stream : StreamRelation) (b : List ℕ) (m : Meaning) (e : E
     → length b ≡ e.length → AreFilesOf e b files → Pairwise (MeansFile is_stream) files (files_of m) → VolumeOver is_stream b m
 volume_of is_stream b m e files front whole contained meanings = grind (arith, common_steps)
 
-pub volume_again : (is_stream : StreamRelation) → StreamsAgain is_stream → VolumesAgain (VolumeOver is_stream)
-volume_again is_stream streams (Volume h files) b o small d (stored, starts, are, placed, shows) =
+pub volume_again : (n : ℕ) → StreamsAgain (Stream n) → VolumesAgain (Denotes n)
+volume_again n streams (Volume h files) b o small d (stored, starts, are, placed, shows) =
     let p : Polarity = polarity_of h.attributes in
     let first : ℕ = first_edge h h.ext in
-    let known_of = known is_stream streams h files b small d stored starts are placed in
+    let known_of = known n streams h files b small d stored starts are placed in
     let k = known_of.writable in
     let a = known_of.again in
     let front = image_front h stored starts o k shows in
@@ -311,22 +306,20 @@ volume_again is_stream streams (Volume h files) b o small d (stored, starts, are
     (subst (λ (xs : List FileForm). NamesApart (names_in xs)) (sym d.current.files_are) (current_apart (files_in d.cells)
     d.current.no_twins)) in
     let last : TopLast (names_of stored) = subst TopLast (sym a.names) (top_last d.extent.length d.files d.current.top) in
-    let same : length o ≡ length b = shows.length_is ∙ sym (d.length_is ∙ d.begins.length_is) in
-    record {
-      is = volume_of is_stream o (Volume h files) (extent_of h first) (forms_of p stored starts) front shows.length_is (record {
-        cells = tiled.cells;
-        tiles = tiled.tiles;
-        current = record {
-          no_twins = subst NoTwins (sym tiled.files_are) (no_twins (forms_of p stored starts) apart);
-          files_are = sym (all_current (forms_of p stored starts) (forms_unmarked p stored starts)) ∙ ap current_in (sym tiled.files_are);
-          top = forms_top p h.length first stored starts last k.follow;
-        };
-      }) (a.are p h.length first starts k.follow);
-      bytes = subst IsBytes (sym (volume_shows h stored starts o k shows)) (bytes_volume h stored starts k);
-      long = same;
-      len = d.length_is ∙ d.begins.length_is;
-      opens = opened h (extent_of h first) o front shows.length_is;
-    }
+    let means : Denotes n o (Volume h files) =
+    volume_of (Stream n) o (Volume h files) (extent_of h first) (forms_of p stored starts) front shows.length_is (record {
+      cells = tiled.cells;
+      tiles = tiled.tiles;
+      current = record {
+        no_twins = subst NoTwins (sym tiled.files_are) (no_twins (forms_of p stored starts) apart);
+        files_are = sym (all_current (forms_of p stored starts) (forms_unmarked p stored starts)) ∙ ap current_in (sym tiled.files_are);
+        top = forms_top p h.length first stored starts last k.follow;
+      };
+    }) (a.are p h.length first starts k.follow) in (
+      means,
+      subst IsBytes (sym (volume_shows h stored starts o k shows)) (bytes_volume h stored starts k),
+      opened h (extent_of h first) o front shows.length_is,
+    )
 
 -- ---- 5. all volumes, by induction on the nesting depth
 
@@ -339,18 +332,11 @@ no_volume m b o small none image = absurd none
 pub sections_again : (n : ℕ) → SectionsAgain (MeansSection n)
 sections_again zero = section_again (λ _ _ _. ⊥) (λ _ _. ⊥) no_stream no_volume
 sections_again (suc n) =
-    let streams = stream_again (MeansSection n) (sections_again n) in
-    section_again (StreamOver (MeansSection n)) (VolumeOver (StreamOver (MeansSection n))) streams
-    (volume_again (StreamOver (MeansSection n)) streams)
+    let streams = stream_again n (sections_again n) in section_again (Stream n) (Denotes n) streams (volume_again n streams)
 
--- an image of a meaning is a volume of this meaning
-pub image_denotes : (n : ℕ) (m : Meaning) (b o : List ℕ) → IsBytes b → Denotes n b m → IsImage m o → Denotes n o m
-image_denotes n m b o small d image = (volume_again (Stream n) (stream_again (MeansSection n) (sections_again n)) m b o small d image).is
+pub streams_again : (n : ℕ) → StreamsAgain (Stream n)
+streams_again n = stream_again n (sections_again n)
 
--- an image has the length of the volume that its meaning was read from
-pub image_long : (n : ℕ) (m : Meaning) (b o : List ℕ) → IsBytes b → Denotes n b m → IsImage m o → length o ≡ length b
-image_long n m b o small d image = (volume_again (Stream n) (stream_again (MeansSection n) (sections_again n)) m b o small d image).long
-
--- an image is a list of bytes
-pub image_bytes : (n : ℕ) (m : Meaning) (b o : List ℕ) → IsBytes b → Denotes n b m → IsImage m o → IsBytes o
-image_bytes n m b o small d image = (volume_again (Stream n) (stream_again (MeansSection n) (sections_again n)) m b o small d image).bytes
+-- an image of a meaning is a volume of this meaning, and a list of bytes
+pub image_denotes : (n : ℕ) → VolumesAgain (Denotes n)
+image_denotes n = volume_again n (streams_again n)

@@ -1,16 +1,15 @@
 -- Facts about each volume of a list, if two lists are joined or nest one level deeper. The steps:
 -- 1. The starts of the files of two lists of volumes can be split (`laid_split`), and do not change one level deeper
 --    (`laid_deeper`, `laid_higher`). The same is true of the number of these starts (`count_joined`, `count_deeper`).
--- 2. All volumes of two lists fit if the volumes of each list do (`fit_joined`).
--- 3. A walk that takes starts goes from one list to the next (`passed_on`), and so from each item of a list to the next
---    item (`item_passed`).
-use Rattle.std.proofs.Common.{◌≡◌, ◌≤◌, ◌<◌, ◌+◌, ℕ, [], ◌∷◌, ◌++◌, List, length, drop, get_or, refl, sym, ap, ◌∙◌, subst, arith, append_assoc}
-use Rattle.fv_base.proofs.Laws.{length-append, drop-drop, drop_at, AllByRecursion, length-map, item_at}
-use Rattle.fv_head.specs.Words.{HeadFields}
+-- 2. A fact about each volume of two lists is a fact about each volume of the joined list (`each_joined`), and does not
+--    depend on the depth (`each_deeper`).
+-- 3. A walk that takes starts goes from one list to the next (`passed_on`).
+use Rattle.std.proofs.Common.{◌≡◌, ◌≤◌, ◌+◌, ℕ, [], ◌∷◌, ◌++◌, List, length, take, drop, refl, sym, ap, ◌∙◌, subst, arith, append_assoc}
+use Rattle.fv_base.proofs.Laws.{length-append, drop-drop, drop_at, take_at, AllByRecursion, length-map}
 use Rattle.fv_tree.specs.Words.{Meaning, Volume, FileMeaning, files_of, head_of, files_from, Inside, deeper, volumes_in, volumes_in_files}
 use Rattle.fv_canon.specs.inner.ImageOf.{starts_in}
 use Rattle.fv_canon.proofs.ImageParts.{ComesTo}
-use Rattle.fv_canon.specs.Words.{BeginsWithStarts, StartsOfEach, AreStarts, IsPlaced, placement_item, placement_items, AllFit}
+use Rattle.fv_canon.specs.Words.{BeginsWithStarts, StartsOfEach, AreStarts, placement_item, placement_items, AllFit}
 use Rattle.fv_tree.proofs.Laws.{files_list_back}
 use Rattle.fv_placement.proofs.Laws.{follow_length}
 
@@ -57,31 +56,47 @@ count_deeper (v ∷ vs) = ap (λ n. length (files_of v.volume) + n) (count_deepe
 
 -- ---- lists that begin with the starts of the files of volumes
 
+-- starts that begin with the starts of the files of some volumes begin with the starts of the first volume's own files
+pub begins_own : (v : Inside) (vs : List Inside) (n : ℕ) (starts : List ℕ) → length (files_of v.volume) ≡ n → BeginsWithStarts (v ∷ vs) starts
+    → (n ≤ length starts) × AreStarts v.volume (take n starts) × BeginsWithStarts vs (drop n starts)
+begins_own v vs n starts many (laid, more, whole, (own, inner, text, placed, lays)) =
+    let count : length own ≡ n = own_count v.volume own placed ∙ many in
+    let here : starts ≡ own ++ (inner ++ more) = whole ∙ ap (λ (xs : List ℕ). xs ++ more) text ∙ append_assoc own inner more in (
+      omega (arith, count, ap length here, length-append own (inner ++ more)),
+      subst (AreStarts v.volume) (sym (ap (take n) here ∙ take_at own (inner ++ more) n count)) placed,
+      (inner, more, ap (drop n) here ∙ drop_at own (inner ++ more) n count, lays),
+    )
+
 -- the starts of a volume's own files are followed by the starts of the files of the volumes inside it
 pub inside_begins : (m : Meaning) (fs : List FileMeaning) (more : List Inside) (starts : List ℕ) → m ≡ Volume (head_of m) (files_from fs)
     → BeginsWithStarts (volumes_in m ++ more) starts
     → (length fs ≤ length starts) × BeginsWithStarts (drop 1 (volumes_in m) ++ more) (drop (length fs) starts)
-inside_begins m fs more starts is begins =
-    subst (λ (x : Meaning). (length fs ≤ length starts) × BeginsWithStarts (drop 1 (volumes_in x) ++ more) (drop (length fs) starts)) (sym is)
-    (apart (head_of m) (subst (λ (x : Meaning). BeginsWithStarts (volumes_in x ++ more) starts) is begins))
-  where
-    apart : (h : HeadFields) → BeginsWithStarts (volumes_in (Volume h (files_from fs)) ++ more) starts
-        → (length fs ≤ length starts) × BeginsWithStarts (volumes_in_files (files_from fs) ++ more) (drop (length fs) starts)
-    apart h (laid, after, whole, (own, inner, text, placed, lays)) =
-        let count : length own ≡ length fs = own_count (Volume h (files_from fs)) own placed ∙ ap length (files_list_back fs) in
-        let here : starts ≡ own ++ (inner ++ after) = whole ∙ ap (λ (xs : List ℕ). xs ++ after) text ∙ append_assoc own inner after in (
-          omega (arith, count, ap length here, length-append own (inner ++ after)),
-          (inner, after, ap (drop (length fs)) here ∙ drop_at own (inner ++ after) (length fs) count, lays),
-        )
+inside_begins (Volume h files) fs more starts is begins =
+    let own = begins_own (record { depth = 0; volume = Volume h files }) (volumes_in_files files ++ more) (length fs) starts
+    (ap length (ap files_of is ∙ files_list_back fs)) begins in
+    (own.0, own.2)
 
 -- starts that begin with the starts of the files of two lists of volumes begin with the starts of the files of the
--- first list
-pub begins_first : (vs ws : List Inside) (starts : List ℕ) → BeginsWithStarts (vs ++ ws) starts → BeginsWithStarts vs starts
-begins_first vs ws starts (laid, more, whole, lays) =
-    let parts = laid_split AreStarts vs ws laid lays in
-    (parts.0, parts.1 ++ more, whole ∙ ap (λ (xs : List ℕ). xs ++ more) parts.2 ∙ append_assoc parts.0 parts.1 more, parts.3)
+-- first list, and go on with the starts of the files of the second list
+pub begins_split : (vs ws : List Inside) (starts : List ℕ) → BeginsWithStarts (vs ++ ws) starts
+    → BeginsWithStarts vs starts × BeginsWithStarts ws (drop (starts_in vs) starts)
+begins_split vs ws starts (whole, rest, text, laid) =
+    let items = laid_split AreStarts vs ws whole laid in
+    let here : starts ≡ items.0 ++ (items.1 ++ rest) =
+    text ∙ ap (λ (ys : List ℕ). ys ++ rest) items.2 ∙ append_assoc items.0 items.1 rest in
+    let behind : drop (starts_in vs) starts ≡ items.1 ++ rest =
+    ap (drop (starts_in vs)) here ∙ drop_at items.0 (items.1 ++ rest) (starts_in vs) (laid_count vs items.0 items.3) in
+    ((items.0, items.1 ++ rest, here, items.3), (items.1, rest, behind, items.4))
 
--- ---- the volumes that fit
+-- the depth of the volumes does not matter
+pub begins_higher : (vs : List Inside) (starts : List ℕ) → BeginsWithStarts (deeper vs) starts → BeginsWithStarts vs starts
+begins_higher vs starts (laid, more, text, lays) = (laid, more, text, laid_higher AreStarts vs laid lays)
+
+-- ---- facts about each volume
+
+pub each_weaker : {A : Type 0} (P Q : A → Type 0) → ((x : A) → P x → Q x) → (xs : List A) → AllByRecursion P xs → AllByRecursion Q xs
+each_weaker P Q more [] all = tt
+each_weaker P Q more (x ∷ xs) all = (more x all.0, each_weaker P Q more xs all.1)
 
 pub each_joined : (P : Inside → Type 0) (vs ws : List Inside) → AllByRecursion P vs → AllByRecursion P ws → AllByRecursion P (vs ++ ws)
 each_joined P [] ws p q = q
@@ -91,12 +106,6 @@ pub each_deeper : (P : Meaning → Type 0) (vs : List Inside) → AllByRecursion
     → AllByRecursion (λ v. P v.volume) (deeper vs)
 each_deeper P [] p = tt
 each_deeper P (v ∷ vs) p = (p.0, each_deeper P vs p.1)
-
-pub fit_joined : (vs ws : List Inside) → AllFit vs → AllFit ws → AllFit (vs ++ ws)
-fit_joined vs ws p q = each_joined IsPlaced vs ws p q
-
-pub fit_deeper : (vs : List Inside) → AllFit vs → AllFit (deeper vs)
-fit_deeper vs p = each_deeper (λ m. (starts : List ℕ) × AreStarts m starts) vs p
 
 pub laid_fit : (vs : List Inside) (starts : List ℕ) → StartsOfEach AreStarts vs starts → AllFit vs
 laid_fit [] starts laid = tt
@@ -113,23 +122,10 @@ fit_laid (v ∷ vs) (own, fit) = let l = fit_laid vs fit in (own.0 ++ l.0, (own.
 pub passed_on : (vs ws : List Inside) (starts last : List ℕ) → ComesTo (vs ++ ws) starts last
     → BeginsWithStarts vs starts × ComesTo ws (drop (starts_in vs) starts) last
 passed_on vs ws starts last at =
-    let (whole, rest, text, laid) = at.laid in
-    let items = laid_split AreStarts vs ws whole laid in
-    let here : starts ≡ items.0 ++ (items.1 ++ rest) =
-    text ∙ ap (λ (ys : List ℕ). ys ++ rest) items.2 ∙ append_assoc items.0 items.1 rest in
-    let behind : drop (starts_in vs) starts ≡ items.1 ++ rest =
-    ap (drop (starts_in vs)) here ∙ drop_at items.0 (items.1 ++ rest) (starts_in vs) (laid_count vs items.0 items.3) in (
-      (items.0, items.1 ++ rest, here, items.3),
+    let parts = begins_split vs ws starts at.laid in (
+      parts.0,
       record {
-        laid = (items.1, rest, behind, items.4);
+        laid = parts.1;
         left = drop-drop (starts_in ws) (starts_in vs) starts ∙ ap (λ n. drop n starts) (sym (count_joined vs ws)) ∙ at.left;
       },
     )
-
--- after an item the walk goes on with the items after it
-pub item_passed : {A : Type 0} (all : List A → List Inside) (one : A → List Inside) → ((x : A) (xs : List A) → all (x ∷ xs) ≡ one x ++ all xs)
-    → (xs : List A) (i : ℕ) (x : A) (starts last : List ℕ) → i < length xs → x ≡ get_or xs i x → ComesTo (all (drop i xs)) starts last
-    → BeginsWithStarts (one x) starts × ComesTo (all (drop (i + 1) xs)) (drop (starts_in (one x)) starts) last
-item_passed all one more xs i x starts last l is at =
-    passed_on (one x) (all (drop (i + 1) xs)) starts last
-    (subst (λ ws. ComesTo ws starts last) (ap all (item_at xs i x l is) ∙ more x (drop (i + 1) xs)) at)

@@ -1,42 +1,31 @@
 -- Facts about a volume that was read and laid out, and the bytes that the walk over it writes.
 use Rattle.std.proofs.Common.{◌≡◌, ◌≤◌, ◌<◌, ◌+◌, ◌-◌, ℕ, [], ◌∷◌, ◌++◌, zero, suc, List, length, take, drop, replicate, get_or, refl, sym, ap, ◌∙◌}
-use Rattle.std.proofs.Common.{subst, arith, append_assoc, drop-drop, length-append, map, Option, None, Some}
-use Rattle.fv_base.proofs.Laws.{common_steps, length-map, erased_byte, up_to_8}
+use Rattle.std.proofs.Common.{subst, arith, append_assoc, drop-drop, map, Option, None, Some}
+use Rattle.fv_base.proofs.Laws.{common_steps, erased_byte, up_to_8}
 use Rattle.fv_head.specs.Words.{Extension, HeadFields, canonical_head, canonical_end, first_edge, polarity_of}
 use Rattle.fv_placement.specs.Words.{StartsFollow}
 use Rattle.fv_placement.specs.declared.first_placement.PlacementItem.{PlacementItem}
-use Rattle.fv_tree.specs.Words.{Meaning, Volume, FileMeanings, FileMeaning, head_of, data_len_of, files_from, IsMeaning, MeansSection, Stream}
+use Rattle.fv_tree.specs.Words.{Meaning, Volume, FileMeanings, FileMeaning, head_of, data_len_of, files_from, IsMeaning, Stream}
 use Rattle.fv_tree.specs.Words.{volumes_in, volumes_in_files}
 use Rattle.fv_canon.specs.inner.ImageOf.{image_of, stored_of, starts_in, files_bytes}
 use Rattle.fv_canon.proofs.ImageParts.{stored_item}
 use Rattle.fv_canon.specs.Words.{BeginsWithStarts, AreStored, placement_items, placement_item, StoredFile, size_for, stored_len, used_size, ext_pad}
-use Rattle.fv_canon.proofs.WrittenImageLaws.{files_made, stream_made, sections_made, front_is, behind_is}
-use Rattle.fv_placement.proofs.Laws.{follow_length}
+use Rattle.fv_canon.proofs.WrittenImageLaws.{files_made, streams_made}
+use Rattle.fv_canon.proofs.VolumeListLaws.{begins_own}
 use Rattle.fv_canon.proofs.PlacedBytesLaws.{first_is}
-use Rattle.fv_canon.proofs.StreamImageLaws.{stream_again}
-use Rattle.fv_canon.proofs.VolumeImageLaws.{known, files_read, sections_again}
+use Rattle.fv_canon.proofs.VolumeImageLaws.{known, files_read, streams_again}
 use Rattle.fv_canon.specs.inner.FileWalks.{ArePlaced, used_by}
 use Rattle.fv_tree.proofs.Laws.{files_list_back}
 
 -- ---- the used size
-abbrev used_parts : ℕ → List PlacementItem → List ℕ → ℕ
-used_parts end [] starts = end
-used_parts end (f ∷ fs) [] = end
-used_parts end (f ∷ fs) (s ∷ ss) = used_parts (s + f.size) fs ss
-
-used_stored : (end : ℕ) (fs : List StoredFile) (ss : List ℕ) → used_size end fs ss ≡ used_parts end (map stored_item fs) ss
+used_stored : (end : ℕ) (fs : List StoredFile) (ss : List ℕ) → used_size end fs ss ≡ used_by end (map stored_item fs) ss
 used_stored end [] ss = refl
 used_stored end (f ∷ fs) [] = refl
 used_stored end (f ∷ fs) (s ∷ ss) = used_stored (s + stored_len f) fs ss
 
-used_files : (end : ℕ) (fs : List FileMeaning) (ss : List ℕ) → used_by end fs ss ≡ used_parts end (map placement_item fs) ss
-used_files end [] ss = refl
-used_files end (f ∷ fs) [] = refl
-used_files end (f ∷ fs) (s ∷ ss) = used_files (s + size_for (data_len_of f)) fs ss
-
 pub used_last : (total e end : ℕ) (fs : List FileMeaning) (ss : List ℕ) (n : ℕ) (d : FileMeaning) → length fs ≡ suc n
     → StartsFollow total e (map placement_item fs) ss
-    → (used_by end fs ss ≡ get_or ss n 0 + size_for (data_len_of (get_or fs n d)))
+    → (used_by end (map placement_item fs) ss ≡ get_or ss n 0 + size_for (data_len_of (get_or fs n d)))
     × (get_or ss n 0 + size_for (data_len_of (get_or fs n d)) ≤ total) × (n < length ss)
 used_last total e end [] ss n d l follow = absurd (omega (arith, l))
 used_last total e end (f ∷ fs) [] n d l follow = absurd follow
@@ -54,7 +43,7 @@ pub record VolumeLaid (h : HeadFields) (fs : List FileMeaning) (starts : List �
   pub placed : ArePlaced h.length (first_edge h h.ext) fs (take (length fs) starts)
   pub inner : BeginsWithStarts (volumes_in_files (files_from fs)) (drop (length fs) starts)
   pub used : used_size (first_edge h h.ext) (stored_of (files_from fs) (drop (length fs) starts)) (take (length fs) starts)
-      ≡ used_by (first_edge h h.ext) fs (take (length fs) starts)
+      ≡ used_by (first_edge h h.ext) (map placement_item fs) (take (length fs) starts)
 
 least_first : (h : HeadFields) (x : Option Extension) → 64 ≤ canonical_end h x
 least_first h None = omega arith
@@ -62,45 +51,38 @@ least_first h (Some x) = omega arith
 
 pub volume_laid : (h : HeadFields) (fs : List FileMeaning) (starts : List ℕ) → IsMeaning (Volume h (files_from fs))
     → BeginsWithStarts (volumes_in (Volume h (files_from fs))) starts → VolumeLaid h fs starts
-volume_laid h fs starts (k, few, b, small, d) (laid, more, whole, (own, inner, text, placed, lays)) =
+volume_laid h fs starts (k, few, b, small, d) begins =
     let files : FileMeanings = files_from fs in
     let first : ℕ = first_edge h h.ext in
-    let n : ℕ = length fs in
+    let own : List ℕ = take (length fs) starts in
+    let stored : List StoredFile = stored_of files (drop (length fs) starts) in
+    let parts = begins_own (record { depth = 0; volume = Volume h files }) (volumes_in_files files) (length fs) starts
+    (ap length (files_list_back fs)) begins in
     let items : placement_items (Volume h files) ≡ map placement_item fs = ap (λ (xs : List FileMeaning). map placement_item xs) (files_list_back
     fs) in
-    let follow : StartsFollow h.length first (map placement_item fs) own =
-    subst (λ (ps : List PlacementItem). StartsFollow h.length first ps own) items placed.placement.follow in
-    let count : length own ≡ n = follow_length h.length first (map placement_item fs) own follow ∙ length-map fs placement_item in
-    let front : take n starts ≡ own = ap (take n) whole ∙ front_is n laid own inner more text count in
-    let behind : drop n starts ≡ inner ++ more = ap (drop n) whole ∙ behind_is n laid own inner more text count in
-    let reads = files_read (Stream k) h files b small d in
-    let again = stream_again (MeansSection k) (sections_again k) in
-    let are : AreStored files (stored_of files (inner ++ more)) = files_made (Stream k) (stream_made (MeansSection k) (sections_made k))
-    h.file_system (length (drop d.extent.first b)) files d.files inner more reads d.meanings lays in
-    let same = (known (Stream k) again h files b small d (stored_of files (inner ++ more)) own are placed).again.items in
-    let used : used_size first (stored_of files (inner ++ more)) own ≡ used_by first fs own =
-    used_stored first (stored_of files (inner ++ more)) own ∙ ap (λ (ps : List PlacementItem). used_parts first ps own) (same ∙ items)
-    ∙ sym (used_files first fs own) in
+    let are : AreStored files stored = files_made (Stream k) (streams_made k) h.file_system (length (drop d.extent.first b)) files d.files
+    (drop (length fs) starts) (files_read k h files b small d) d.meanings parts.2 in
+    let same = (known k (streams_again k) h files b small d stored own are parts.1).again.items in
     let f = first_is h h.ext in
     record {
-      enough = omega (arith, count, ap length text ∙ length-append own inner, ap length whole ∙ length-append laid more);
-      placed = subst (λ (ss : List ℕ). ArePlaced h.length first fs ss) (sym front) (record {
-        follow = follow;
+      enough = parts.0;
+      placed = record {
+        follow = subst (λ (ps : List PlacementItem). StartsFollow h.length first ps own) items parts.1.placement.follow;
         eighth = f.1;
         after_header = omega (arith, least_first h h.ext, f.0);
-        within = placed.placement.room;
+        within = parts.1.placement.room;
         multiple = d.begins.head.volume_multiple;
         limit = d.begins.head.volume_most;
-      });
-      inner = (inner, more, behind, lays);
-      used = subst (λ (ss : List ℕ). used_size first (stored_of files (drop n starts)) ss ≡ used_by first fs ss) (sym front)
-          (subst (λ (xs : List ℕ). used_size first (stored_of files xs) own ≡ used_by first fs own) (sym behind) used);
+      };
+      inner = parts.2;
+      used = used_stored first stored own ∙ ap (λ (ps : List PlacementItem). used_by first ps own) (same ∙ items);
     }
 
 -- the walk writes the header, the extended header in its pad, and the files
 pub volume_text : (h : HeadFields) (fs : List FileMeaning) (starts : List ℕ) → VolumeLaid h fs starts
     → image_of (Volume h (files_from fs)) starts
-    ≡ canonical_head h ++ ((ext_pad (polarity_of h.attributes) h.ext (used_by (first_edge h h.ext) fs (take (length fs) starts))
+    ≡ canonical_head h
+    ++ ((ext_pad (polarity_of h.attributes) h.ext (used_by (first_edge h h.ext) (map placement_item fs) (take (length fs) starts))
     ++ replicate (first_edge h h.ext - canonical_end h h.ext) (erased_byte (polarity_of h.attributes)))
     ++ files_bytes (polarity_of h.attributes) h.length (first_edge h h.ext) (stored_of (files_from fs) (drop (length fs) starts))
     (take (length fs) starts))

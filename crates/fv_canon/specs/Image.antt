@@ -13,7 +13,8 @@ use Rattle.fv_canon.specs.StoredFiles.{StoredFile, placed_in_volume}
 -- the bytes are the canonical image of a volume with this meaning. Its files are in their first placement. The volume
 -- header, the pad with the extended header, the files and the pads of the gaps are at their places, and every other
 -- byte is erased. The data of each file are plain bytes, or the file's sections one after the other, with zero bytes
--- between them and after the last. If the body of a section is a volume, it is that volume's own canonical image
+-- between them and after the last. The body of a group is its sections, written in the same way. A body that is a volume
+-- is that volume's own canonical image. Any other body is kept as it is
 abbrev mutual
   pub IsImage : Meaning → List ℕ → Type 0
   IsImage (Volume h files) b =

@@ -19,8 +19,8 @@ abbrev pub IsOtherThanImage : List ℕ → Type 0
 IsOtherThanImage bytes = (m : Meaning) × Accepted bytes m × (IsImage m bytes → ⊥)
 
 -- the outcome describes the bytes, which begin at this offset of a flash image. Canonical: they are a volume and its
--- own canonical image. NotCanonical: they are a volume, but not its canonical image. Rejected: they are not a volume,
--- and the fault is their first fault, with its offset counted from the first byte of the flash image
+-- own canonical image. NotCanonical: they are a volume, but not its canonical image. Rejected: they are not accepted as
+-- a volume, and the fault is their first fault, with its offset counted from the first byte of the flash image
 abbrev pub HasOutcome : ℕ → List ℕ → VolumeOutcome → Type 0
 HasOutcome at bytes Canonical = NormalisesTo bytes bytes
 HasOutcome at bytes NotCanonical = IsOtherThanImage bytes

@@ -62,14 +62,15 @@ unfoldable pub ext_pad : Polarity → Option Extension → ℕ → List ℕ
 ext_pad polarity None used = []
 ext_pad polarity (Some x) used = pad_head_of (24 + ext_len x) polarity ++ ext_spelled x used
 
--- the offset at which the last file ends, or `end`, the first edge, if there is no file
+-- the offset at which the last of these files ends, or `end` if there is no file. A caller passes the first edge of the
+-- volume as `end`. There are as many starts as files (`AreStarts`), so the second case does not occur
 abbrev pub used_size : ℕ → List StoredFile → List ℕ → ℕ
 used_size end [] starts = end
 used_size end (f ∷ fs) [] = end
 used_size end (f ∷ fs) (s ∷ ss) = used_size (s + stored_len f) fs ss
 
--- the spans of the files from the edge e on: for each file, the pads of the preceding gap, and the file. There are as
--- many starts as files (`AreStarts`), so the other cases do not occur
+-- the spans of the files from the edge e on: for each file, the pads of the preceding gap, and the file. If no file is
+-- left, there are no spans. There are as many starts as files (`AreStarts`), so the second case does not occur
 abbrev pub placed_files : Polarity → ℕ → List StoredFile → List ℕ → List PlacedBytes
 placed_files polarity e [] starts = []
 placed_files polarity e (f ∷ fs) [] = []

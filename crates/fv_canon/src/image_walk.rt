@@ -35,11 +35,11 @@ fn complement(sum: u8) -> u8
     0u8.wrapping_sub(sum)
 }
 
-// Puts the sections of a stream, with zero bytes between them and, if there are sections, in place
-// of the tail. `starts` begins with the starts of the files of the volumes in these sections.
-// Returns the starts after them. `put_body`, `put_file`, `put_files` and `put_volume` use and
-// return `starts` in the same way; `file_sum`, `put_image` and `put_body_image` use `starts` in the
-// same way, but do not return starts.
+// Puts the sections of a stream. Zero bytes take the place of the bytes between the sections and of
+// the tail. A stream without sections has no tail. `starts` begins with the starts of the files of
+// the volumes in these sections. Returns the starts after them. `put_body`, `put_file`, `put_files`
+// and `put_volume` use and return `starts` in the same way; `file_sum`, `put_image` and
+// `put_body_image` use `starts` in the same way, but do not return starts.
 #[cycle(put)]
 fn put_sections<'s, S: Sink>(
     out: &mut SummingSink<'_, S>,
@@ -56,7 +56,8 @@ fn put_sections<'s, S: Sink>(
     let mut walk = sections;
     let mut is_empty = true;
     while let Some(section) = walk.next_section() {
-        // A section that was read is shorter than 4 GiB, and its body fits the form of its header.
+        // `known` tells the proof that the section was read. So the section is shorter than 4 GiB,
+        // and its body fits the form of its header.
         section.known();
         fill(out, 0, gap);
         put_section_head(out, &section);
@@ -109,8 +110,8 @@ fn file_sum<S: Sink>(out: &mut SummingSink<'_, S>, file: &FileView<'_>, starts: 
 }
 
 // Returns the part of `starts` that follows the starts of the files of the volumes in a file. The
-// walk has a function of its own, because a function clears the room for its walks when it is
-// called, and few calls of `put_file` need a walk.
+// walk has a function of its own, because a `TreeWalk` is large, and its stack space is zeroed on
+// every call of the function that holds it.
 #[inline(never)]
 fn skip_file<'s>(file: &FileView<'_>, starts: &'s [u64]) -> &'s [u64]
     requires { BeginsWithStarts (volumes_in_file file.now) starts.now }
@@ -144,9 +145,9 @@ fn put_file<'s, S: Sink>(
     put_body(out, data_body(file), starts)
 }
 
-// Puts the files of a volume from the edge `first` on, with the pads of the gaps, and erased bytes
-// up to the volume's end. `own` lists the starts of these files, and `total` is the length of the
-// volume.
+// Puts the bytes of a volume from the edge `first` on: for each file the pads of the gap, the file,
+// and erased bytes up to the next edge; then erased bytes up to the volume's end. `own` lists the
+// starts of these files, and `total` is the length of the volume.
 #[cycle(put)]
 fn put_files<'s, S: Sink>(
     out: &mut SummingSink<'_, S>,

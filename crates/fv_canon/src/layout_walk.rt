@@ -90,7 +90,8 @@ pub(crate) fn skip_starts<'s>(rows: TreeWalk<'_, '_>, starts: &'s [u64]) -> &'s 
     rest
 }
 
-// Returns the starts of a volume's own files, or the fault if they cannot be placed.
+// Returns the starts of a volume's own files, or the fault if they cannot be placed. `depth` is the
+// number of groups and opened volumes around the volume, which a row calls `nesting`.
 fn own_starts(alloc: Global, view: &VolumeView<'_>, depth: u8) -> Result<Vec<u64>, Fault>
     ensures ok { IfOk result (λ own. AreStarts view.now own.items) }
     ensures err { IfErr result (OrMemory (UnfitHere view.now depth)) }

@@ -1,10 +1,11 @@
 //! The pieces of a canonical image: pads, gaps, and the headers of files and sections.
 
-ghost use Rattle.std.specs.Prelude.{◌⊎◌, ◌≡◌, ◌≤◌, ◌<◌, ◌+◌, ◌-◌, ◌%◌, ◌^◌, ℕ, [], ◌∷◌, ◌++◌, replicate};
+ghost use Rattle.std.specs.Prelude.{◌⊎◌, ◌≡◌, ◌≤◌, ◌<◌, ◌+◌, ◌-◌, ◌%◌, ◌^◌, ℕ, [], ◌∷◌, ◌++◌, map, replicate};
 ghost use Rattle.fv_file.specs.Words.{attributes_by, file_head_of, state_byte};
 ghost use Rattle.fv_section.specs.Words.{up_to_4, FitsForm, section_head_of};
 ghost use Rattle.fv_tree.specs.Words.{file_name_of, attributes_of, data_len_of, file_kind_of, body_of};
 ghost use Rattle.fv_tree.specs.Words.{section_is_extended, section_kind_of, body_len, section_len};
+ghost use Rattle.fv_canon.specs.Layouts.{placement_item};
 ghost use Rattle.fv_canon.specs.StoredFiles.{ext_pad, gap_bytes, head_len_for, pad_bytes, size_for};
 ghost use Rattle.fv_canon.specs.inner.FileWalks.{ArePlaced, used_by};
 ghost use Rattle.fv_base.specs.Words.{erased_byte, data_limit, volume_limit};
@@ -130,7 +131,7 @@ pub(crate) fn put_ext_pad<S: Sink>(out: &mut S, head: &VolumeHead<'_>, used: u32
 // Returns the end of the last file, or the first edge if there is no file.
 pub(crate) fn used_end(files: &[FileView<'_>], own: &[u64], first: u64) -> u64
     requires { (total : ℕ) × ArePlaced total first files.now own.now }
-    ensures used { result ≡ used_by first files.now own.now }
+    ensures used { result ≡ used_by first (map placement_item files.now) own.now }
     ensures most { result ≤ volume_limit }
 {
     if files.is_empty() {

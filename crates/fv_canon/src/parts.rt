@@ -1,9 +1,10 @@
 //! The parts of a volume: where the volumes inside them place their files, and the bytes of these
 //! parts in the canonical image.
 //!
-//! A caller that puts the parts of a volume that is laid out walks the volume in preorder: each
-//! volume, then its files in order, with the volumes inside each file. The caller keeps the starts
-//! of the layout that it has not used. These begin with the starts of the files of the next volume.
+//! To put all parts of a volume into a sink, a caller first lays out the volume. Then it walks the
+//! volume in preorder: each volume, then its files in order, with the volumes inside each file. The
+//! caller keeps the starts that it has not used yet. They begin with the starts of the files of the
+//! next volume of the walk.
 
 ghost use Rattle.std.specs.Prelude.{◌≡◌, ◌≢◌, ◌⊎◌, ◌++◌, ℕ, List, [], Any, length, drop, IfOk, IfErr};
 ghost use Rattle.fv_base.specs.Words.{OrMemory, out_of_memory};

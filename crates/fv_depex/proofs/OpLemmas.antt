@@ -37,12 +37,7 @@ below_10 P a b c d e f g h i j (suc (suc (suc (suc (suc (suc (suc (suc (suc zero
 below_10 P a b c d e f g h i j (suc (suc (suc (suc (suc (suc (suc (suc (suc (suc n)))))))))) l = absurd (omega (arith, l))
 
 pub op_of_code : (g : Guid) (code : ℕ) → code ≤ 9 → IsOpOf code g (op_by code g)
-op_of_code g =
-    below_10 (λ n. IsOpOf n g (op_by n g)) (record { code_is = refl; operand_is = refl }) (record { code_is = refl; operand_is = refl })
-    (record { code_is = refl; operand_is = refl }) (record { code_is = refl; operand_is = refl })
-    (record { code_is = refl; operand_is = refl }) (record { code_is = refl; operand_is = refl })
-    (record { code_is = refl; operand_is = refl }) (record { code_is = refl; operand_is = refl })
-    (record { code_is = refl; operand_is = refl }) (record { code_is = refl; operand_is = refl })
+op_of_code g = grind (arith, common_steps, below_10)
 
 -- a property that the ops with each code have is a property of every op
 pub each_op : (P : Op → Type 0) → ((g : Guid) → P (ops.Before g)) → ((g : Guid) → P (ops.After g)) → ((g : Guid) → P (ops.Push g))
@@ -130,16 +125,7 @@ op_stands phase stage r none =
 -- if an op is there, the checks hold
 pub checks_hold : (phase : Phase) (stage : Stage) (o : Op) (x : List ℕ) → OpFits phase stage o
     → AllHold (op_checks phase stage (op_code o ∷ (op_operand o ++ x)))
-checks_hold phase stage o x fits = (
-  le-leb 1 (suc (length (op_operand o ++ x))) (omega arith),
-  (fits.known, (fits.placed, (room (carries (op_code o)) refl, (fits.valued, tt)))),
-)
-  where
-    room : (c : Bool) → carries (op_code o) ≡ c → has_operand (op_code o ∷ (op_operand o ++ x)) ≡ true
-    room true c =
-        ap (λ (t : Bool). not t || nat_le 17 (suc (length (op_operand o ++ x)))) c
-        ∙ le-leb 17 (suc (length (op_operand o ++ x))) (omega (arith, length-append (op_operand o) x, fits.sized ∙ ap operand_len c))
-    room false c = ap (λ (t : Bool). not t || nat_le 17 (suc (length (op_operand o ++ x)))) c
+checks_hold phase stage o x fits = grind (arith, common_steps, le-leb, length-append)
 
 -- bytes begin with one op at most
 pub same_op : (o p : Op) (x y : List ℕ) → IsSized o → IsSized p → op_code o ∷ (op_operand o ++ x) ≡ op_code p ∷ (op_operand p ++ y)

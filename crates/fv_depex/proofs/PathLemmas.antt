@@ -6,8 +6,8 @@
 --    expression (`leaves_whole`).
 -- 3. Conversely, the ops of a tree are a path (`tree_path`), so a whole expression is a path and END (`whole_ended`).
 -- 4. Bytes have at most one path (`same_front`), so they spell at most one list of ops (`one_spelling`).
-use Rattle.std.proofs.Common.{◌≡◌, ◌≢◌, ◌≤◌, ◌<◌, ℕ, ◌+◌, ◌-◌, [], ◌∷◌, ◌++◌, ◌⊎◌, ◌&&◌, List, length, drop, inl, inr, refl, sym, ap, ◌∙◌, subst}
-use Rattle.std.proofs.Common.{arith, true, false, length-append, append_assoc, append-nil, nat_le, slice_index, leb-true, le-leb, eqb-true}
+use Rattle.std.proofs.Common.{◌≡◌, ◌≢◌, ◌≤◌, ◌<◌, ℕ, ◌+◌, ◌-◌, [], ◌∷◌, ◌++◌, ◌⊎◌, List, length, drop, inl, inr, refl, sym, ap, ◌∙◌, subst}
+use Rattle.std.proofs.Common.{arith, true, false, length-append, append_assoc, append-nil, slice_index, leb-true, le-leb, eqb-true}
 use Rattle.fv_base.proofs.Laws.{common_steps, AllByRecursion, and_split}
 use Rattle.fv_base.specs.declared.guid.Guid.{Guid}
 use Rattle.fv_depex.specs.Words.{OpFits, OpPath, has_values, has_code, stage_after, values_after, values_of, Expression, IsTree, IsOrder, Spells}
@@ -54,15 +54,10 @@ bytes_join (x ∷ xs) ys =
 
 -- ---- a path leads to trees
 
--- the ops of trees, one tree after another
-abbrev pub trees_ops : List Expression → List Op
-trees_ops [] = []
-trees_ops (t ∷ ts) = postfix t ++ trees_ops ts
-
-trees_join : (ts us : List Expression) → trees_ops (ts ++ us) ≡ trees_ops ts ++ trees_ops us
-trees_join [] us = refl
-trees_join (t ∷ ts) us =
-    ap (λ (l : List Op). postfix t ++ l) (trees_join ts us) ∙ sym (append_assoc (postfix t) (trees_ops ts) (trees_ops us))
+-- the ops of the trees on a stack; the first tree is the top of the stack
+abbrev pub stack_ops : List Expression → List Op
+stack_ops [] = []
+stack_ops (t ∷ ts) = stack_ops ts ++ postfix t
 
 -- SOR, or nothing
 abbrev pub IsSor : Phase → List Op → Type 0
@@ -73,45 +68,27 @@ abbrev pub LeavesStage : Phase → Stage → List Op → Type 0
 LeavesStage phase stages.Start os = os ≡ []
 LeavesStage phase stages.Ordered os = (phase ≡ Dxe) × (g : Guid) × ((os ≡ ops.Before g ∷ []) ⊎ (os ≡ ops.After g ∷ []))
 LeavesStage phase (stages.Values n) os =
-    (sor : List Op) × (ts : List Expression) × (os ≡ sor ++ trees_ops ts) × (length ts ≡ n) × IsSor phase sor
+    (sor : List Op) × (ts : List Expression) × (os ≡ sor ++ stack_ops ts) × (length ts ≡ n) × IsSor phase sor
 
--- if one more op makes the tree t of the last trees vs on the stack, t takes their place
-more_trees : (phase : Phase) (os sor : List Op) (us vs : List Expression) (t : Expression) (o : Op) (n : ℕ)
-    → os ≡ sor ++ trees_ops (us ++ vs) → IsSor phase sor
-    → trees_ops vs ++ (o ∷ []) ≡ postfix t → length us + 1 ≡ n → LeavesStage phase (stages.Values n) (os ++ o ∷ [])
-more_trees phase os sor us vs t o n e s last len =
-    let behind : trees_ops (us ++ vs) ++ (o ∷ []) ≡ trees_ops (us ++ (t ∷ [])) =
-    ap (λ (l : List Op). l ++ (o ∷ [])) (trees_join us vs) ∙ append_assoc (trees_ops us) (trees_ops vs) (o ∷ [])
-    ∙ ap (λ (l : List Op). trees_ops us ++ l) (last ∙ sym (append-nil (postfix t))) ∙ sym (trees_join us (t ∷ [])) in (
-      sor,
-      us ++ (t ∷ []),
-      ap (λ (l : List Op). l ++ (o ∷ [])) e ∙ append_assoc sor (trees_ops (us ++ vs)) (o ∷ []) ∙ ap (λ (l : List Op). sor ++ l) behind,
-      length-append us (t ∷ []) ∙ len,
-      s,
-    )
+-- an op that is a tree puts this tree on the stack
+pushed : (phase : Phase) (n : ℕ) (os : List Op) (t : Expression) (o : Op) → postfix t ≡ o ∷ [] → LeavesStage phase (stages.Values n) os
+    → LeavesStage phase (stages.Values (n + 1)) (os ++ o ∷ [])
+pushed phase n os t o is (sor, ts, e, len, s) = (
+  sor,
+  t ∷ ts,
+  ap (λ (l : List Op). l ++ (o ∷ [])) e ∙ append_assoc sor (stack_ops ts) (o ∷ []) ∙ ap (λ (l : List Op). sor ++ (stack_ops ts ++ l)) (sym is),
+  omega (arith, len),
+  s,
+)
 
-last_one : (ts : List Expression) → 1 ≤ length ts → (us : List Expression) × (t : Expression) × (ts ≡ us ++ (t ∷ []))
-last_one [] l = absurd (omega (arith, l))
-last_one (t ∷ []) l = ([], t, refl)
-last_one (t ∷ u ∷ ts) l = let r = last_one (u ∷ ts) (omega arith) in (t ∷ r.0, r.1, ap (λ (k : List Expression). t ∷ k) r.2)
-
-last_two : (ts : List Expression) → 2 ≤ length ts → (us : List Expression) × (t : Expression) × (u : Expression) × (ts ≡ us ++ (t ∷ u ∷ []))
-last_two [] l = absurd (omega (arith, l))
-last_two (t ∷ []) l = absurd (omega (arith, l))
-last_two (t ∷ u ∷ []) l = ([], t, u, refl)
-last_two (t ∷ u ∷ v ∷ ts) l = let r = last_two (u ∷ v ∷ ts) (omega arith) in (t ∷ r.0, r.1, r.2, ap (λ (k : List Expression). t ∷ k) r.3)
-
--- AND and OR make one tree of the last two trees on the stack
+-- AND and OR put one tree in the place of the two trees on top of the stack
 two_more : (phase : Phase) (n : ℕ) (os : List Op) (make : Expression → Expression → Expression) (o : Op)
     → ((t u : Expression) → postfix (make t u) ≡ postfix t ++ (postfix u ++ (o ∷ []))) → LeavesStage phase (stages.Values n) os → 2 ≤ n
     → LeavesStage phase (stages.Values (n - 1)) (os ++ o ∷ [])
-two_more phase n os make o made (sor, ts, e, len, s) some =
-    let r = last_two ts (omega (arith, len, some)) in
-    let last : trees_ops (r.1 ∷ r.2 ∷ []) ++ (o ∷ []) ≡ postfix (make r.1 r.2) =
-    append_assoc (postfix r.1) (postfix r.2 ++ []) (o ∷ [])
-    ∙ ap (λ (l : List Op). postfix r.1 ++ (l ++ (o ∷ []))) (append-nil (postfix r.2)) ∙ sym (made r.1 r.2) in
-    more_trees phase os sor r.0 (r.1 ∷ r.2 ∷ []) (make r.1 r.2) o (n - 1) (e ∙ ap (λ (l : List Expression). sor ++ trees_ops l) r.3) s
-    last (omega (arith, len, some, ap length r.3, length-append r.0 (r.1 ∷ r.2 ∷ [])))
+two_more phase n os make o made (sor, [], e, len, s) some = absurd (omega (arith, len, some))
+two_more phase n os make o made (sor, u ∷ [], e, len, s) some = absurd (omega (arith, len, some))
+two_more phase n os make o made (sor, u ∷ t ∷ ts, e, len, s) some =
+    (sor, make t u ∷ ts, ap (λ (l : List Op). l ++ (o ∷ [])) e ∙ rw (made t u) (simp append_assoc), omega (arith, len), s)
 
 -- the ops that were read, with an op that finds enough values, leave the number of values after it
 values_more : (phase : Phase) (n : ℕ) (os : List Op) (o : Op) → LeavesStage phase (stages.Values n) os → 2 ≤ op_code o → op_code o < 8
@@ -119,19 +96,12 @@ values_more : (phase : Phase) (n : ℕ) (os : List Op) (o : Op) → LeavesStage 
     → LeavesStage phase (stages.Values (values_after n o)) (os ++ o ∷ [])
 values_more phase n os (ops.Before g) h low high v = absurd (omega (arith, low))
 values_more phase n os (ops.After g) h low high v = absurd (omega (arith, low))
-values_more phase n os (ops.Push g) (sor, ts, e, len, s) low high v =
-    more_trees phase os sor ts [] (installed g) (ops.Push g) (n + 1)
-    (e ∙ ap (λ (l : List Expression). sor ++ trees_ops l) (sym (append-nil ts))) s refl (ap (λ (k : ℕ). k + 1) len)
-values_more phase n os ops.True (sor, ts, e, len, s) low high v =
-    more_trees phase os sor ts [] always ops.True (n + 1) (e ∙ ap (λ (l : List Expression). sor ++ trees_ops l) (sym (append-nil ts))) s
-    refl (ap (λ (k : ℕ). k + 1) len)
-values_more phase n os ops.False (sor, ts, e, len, s) low high v =
-    more_trees phase os sor ts [] never ops.False (n + 1) (e ∙ ap (λ (l : List Expression). sor ++ trees_ops l) (sym (append-nil ts))) s
-    refl (ap (λ (k : ℕ). k + 1) len)
-values_more phase n os ops.Not (sor, ts, e, len, s) low high v =
-    let r = last_one ts (omega (arith, len, leb-true 1 n v)) in
-    more_trees phase os sor r.0 (r.1 ∷ []) (negated r.1) ops.Not n (e ∙ ap (λ (l : List Expression). sor ++ trees_ops l) r.2) s
-    (ap (λ (l : List Op). l ++ (ops.Not ∷ [])) (append-nil (postfix r.1))) (omega (arith, len, ap length r.2, length-append r.0 (r.1 ∷ [])))
+values_more phase n os (ops.Push g) h low high v = pushed phase n os (installed g) (ops.Push g) refl h
+values_more phase n os ops.True h low high v = pushed phase n os always ops.True refl h
+values_more phase n os ops.False h low high v = pushed phase n os never ops.False refl h
+values_more phase n os ops.Not (sor, [], e, len, s) low high v = absurd (omega (arith, len, leb-true 1 n v))
+values_more phase n os ops.Not (sor, t ∷ ts, e, len, s) low high v =
+    (sor, negated t ∷ ts, ap (λ (l : List Op). l ++ (ops.Not ∷ [])) e ∙ simp append_assoc, len, s)
 values_more phase n os ops.And h low high v = two_more phase n os both ops.And (λ t u. refl) h (leb-true 2 n v)
 values_more phase n os ops.Or h low high v = two_more phase n os either ops.Or (λ t u. refl) h (leb-true 2 n v)
 values_more phase n os ops.End h low high v = absurd (omega (arith, high))
@@ -140,16 +110,10 @@ values_more phase n os ops.Sor h low high v = absurd (omega (arith, high))
 begun : (phase : Phase) (os : List Op) → os ≡ [] → LeavesStage phase (stages.Values 0) os
 begun phase os e = ([], [], e, refl, inl refl)
 
--- BEFORE, AFTER and SOR are ops of DXE only
-no_pei : (phase : Phase) (o : Op) (stage : Stage) → OpFits phase stage o → ((op_code o ≡ 0) ⊎ (op_code o ≡ 1)) ⊎ (op_code o ≡ 9)
-    → phase ≡ Dxe
-no_pei Dxe o stage fits h = refl
-no_pei Pei o stage fits h = absurd (go (op_code o) fits.known h)
-  where
-    go : (c : ℕ) → (nat_le 2 c && nat_le c 8) ≡ true → ((c ≡ 0) ⊎ (c ≡ 1)) ⊎ (c ≡ 9) → ⊥
-    go c k (inl (inl e)) = let t : (nat_le 2 0 && nat_le 0 8) ≡ true = subst (λ (n : ℕ). (nat_le 2 n && nat_le n 8) ≡ true) e k in cc
-    go c k (inl (inr e)) = let t : (nat_le 2 1 && nat_le 1 8) ≡ true = subst (λ (n : ℕ). (nat_le 2 n && nat_le n 8) ≡ true) e k in cc
-    go c k (inr e) = let t : (nat_le 2 9 && nat_le 9 8) ≡ true = subst (λ (n : ℕ). (nat_le 2 n && nat_le n 8) ≡ true) e k in cc
+-- a code that PEI does not have is a code of DXE
+no_pei : (phase : Phase) (code : ℕ) → has_code phase code ≡ true → has_code Pei code ≡ false → phase ≡ Dxe
+no_pei Dxe code known none = refl
+no_pei Pei code known none = cc
 
 value_code : (o : Op) → 2 ≤ op_code o → op_code o ≤ 8 → o ≢ ops.End → op_code o < 8
 value_code o low high ne = grind (arith, common_steps, end_code)
@@ -171,11 +135,11 @@ start_value phase os o h fits low high = values_more phase 0 os o (begun phase o
 pub leaves_more : (phase : Phase) (stage : Stage) (os : List Op) (o : Op) → LeavesStage phase stage os → OpFits phase stage o → o ≢ ops.End
     → LeavesStage phase (stage_after stage o) (os ++ o ∷ [])
 leaves_more phase stages.Start os (ops.Before g) h fits ne =
-    (no_pei phase (ops.Before g) stages.Start fits (inl (inl refl)), g, inl (ap (λ (l : List Op). l ++ (ops.Before g ∷ [])) h))
+    (no_pei phase 0 fits.known refl, g, inl (ap (λ (l : List Op). l ++ (ops.Before g ∷ [])) h))
 leaves_more phase stages.Start os (ops.After g) h fits ne =
-    (no_pei phase (ops.After g) stages.Start fits (inl (inr refl)), g, inr (ap (λ (l : List Op). l ++ (ops.After g ∷ [])) h))
+    (no_pei phase 1 fits.known refl, g, inr (ap (λ (l : List Op). l ++ (ops.After g ∷ [])) h))
 leaves_more phase stages.Start os ops.Sor h fits ne =
-    (ops.Sor ∷ [], [], ap (λ (l : List Op). l ++ (ops.Sor ∷ [])) h, refl, inr (refl, no_pei phase ops.Sor stages.Start fits (inr refl)))
+    (ops.Sor ∷ [], [], ap (λ (l : List Op). l ++ (ops.Sor ∷ [])) h, refl, inr (refl, no_pei phase 9 fits.known refl))
 leaves_more phase stages.Start os ops.End h fits ne = absurd (ne refl)
 leaves_more phase stages.Start os (ops.Push g) h fits ne = start_value phase os (ops.Push g) h fits (omega arith) (omega arith)
 leaves_more phase stages.Start os ops.And h fits ne = start_value phase os ops.And h fits (omega arith) (omega arith)
@@ -196,7 +160,7 @@ leaves_whole phase stages.Ordered os (dxe, g, which) fits = inr (record { guid =
   joined (inl e) = inl (ap (λ (l : List Op). l ++ (ops.End ∷ [])) e)
   joined (inr e) = inr (ap (λ (l : List Op). l ++ (ops.End ∷ [])) e)
 leaves_whole phase (stages.Values n) os (sor, ts, e, len, s) fits = one ts e (len ∙ eqb-true n 1 fits.valued) where
-  one : (us : List Expression) → os ≡ sor ++ trees_ops us → length us ≡ 1
+  one : (us : List Expression) → os ≡ sor ++ stack_ops us → length us ≡ 1
       → ((t : Expression) × IsTree phase (os ++ ops.End ∷ []) t) ⊎ IsOrder phase (os ++ ops.End ∷ [])
   one [] e l = absurd (omega (arith, l))
   one (t ∷ []) e l =
@@ -204,8 +168,7 @@ leaves_whole phase (stages.Values n) os (sor, ts, e, len, s) fits = one ts e (le
         t,
         record {
           sor = sor;
-          joined = ap (λ (k : List Op). k ++ (ops.End ∷ [])) (e ∙ ap (λ (k : List Op). sor ++ k) (append-nil (postfix t)))
-              ∙ append_assoc sor (postfix t) (ops.End ∷ []);
+          joined = ap (λ (k : List Op). k ++ (ops.End ∷ [])) e ∙ append_assoc sor (postfix t) (ops.End ∷ []);
           sor_is = s;
         },
       )
@@ -225,9 +188,7 @@ two_paths : (phase : Phase) (n : ℕ) (t u : Expression) (o : Op) → OpPath pha
     → OpPath phase (stages.Values (n + 1)) (postfix u) (stages.Values (n + 1 + 1))
     → OpFits phase (stages.Values (n + 1 + 1)) o → o ≢ ops.End → stage_after (stages.Values (n + 1 + 1)) o ≡ stages.Values (n + 1)
     → OpPath phase (stages.Values n) (postfix t ++ (postfix u ++ (o ∷ []))) (stages.Values (n + 1))
-two_paths phase n t u o p q fits ne after =
-    path_join phase (stages.Values n) (stages.Values (n + 1)) (stages.Values (n + 1)) (postfix t) (postfix u ++ (o ∷ [])) p
-    (path_join phase (stages.Values (n + 1)) (stages.Values (n + 1 + 1)) (stages.Values (n + 1)) (postfix u) (o ∷ []) q (fits, ne, after))
+two_paths phase n t u o p q fits ne after = grind (arith, common_steps, path_join)
 
 one_less : (n : ℕ) → n + 1 + 1 - 1 ≡ n + 1
 one_less n = omega arith
@@ -280,41 +241,35 @@ pub record IsEnded (phase : Phase) (all : List Op) : Type 0 where
 
 tree_ended : (phase : Phase) (all sor : List Op) (t : Expression) → all ≡ sor ++ (postfix t ++ (ops.End ∷ [])) → IsSor phase sor
     → AllByRecursion IsSized all → IsEnded phase all
-tree_ended phase all sor t e (inl none) sized =
-    let whole : all ≡ postfix t ++ (ops.End ∷ []) = e ∙ ap (λ (l : List Op). l ++ (postfix t ++ (ops.End ∷ []))) none in
-    let parts = all_front (postfix t) (ops.End ∷ []) (subst (λ (l : List Op). AllByRecursion IsSized l) whole sized) in
-    record {
-      front = postfix t;
-      stage = stages.Values (0 + 1);
-      joined = whole;
-      path = start_path phase (stages.Values (0 + 1)) (postfix t) (some_ops t) (tree_path phase 0 t parts);
-      ended = fits_value phase (0 + 1) ops.End (omega arith) (omega arith) refl refl;
-    }
-tree_ended phase all sor t e (inr (is, dxe)) sized =
-    let whole : all ≡ ops.Sor ∷ (postfix t ++ (ops.End ∷ [])) = e ∙ ap (λ (l : List Op). l ++ (postfix t ++ (ops.End ∷ []))) is in
-    let parts = all_front (postfix t) (ops.End ∷ []) (subst (λ (l : List Op). AllByRecursion IsSized l) whole sized).1 in
-    record {
-      front = ops.Sor ∷ postfix t;
-      stage = stages.Values (0 + 1);
-      joined = whole;
-      path = (
-        record { known = subst (λ (p : Phase). has_code p 9 ≡ true) (sym dxe) refl; placed = refl; valued = refl; sized = refl },
-        λ e. cc,
-        tree_path phase 0 t parts,
-      );
-      ended = fits_value phase (0 + 1) ops.End (omega arith) (omega arith) refl refl;
-    }
+tree_ended phase all sor t e s sized = record {
+  front = sor ++ postfix t;
+  stage = stages.Values (0 + 1);
+  joined = e ∙ sym (append_assoc sor (postfix t) (ops.End ∷ []));
+  path = path s;
+  ended = fits_value phase (0 + 1) ops.End (omega arith) (omega arith) refl refl;
+} where
+  parts : AllByRecursion IsSized (postfix t)
+  parts = all_front (postfix t) (ops.End ∷ [])
+      (all_behind sor (postfix t ++ (ops.End ∷ [])) (subst (λ (l : List Op). AllByRecursion IsSized l) e sized))
 
-order_ended : (phase : Phase) (all : List Op) (o : Op) → all ≡ o ∷ ops.End ∷ [] → phase ≡ Dxe → (op_code o ≡ 0) ⊎ (op_code o ≡ 1)
+  path : IsSor phase sor → OpPath phase stages.Start (sor ++ postfix t) (stages.Values (0 + 1))
+  path (inl none) = rw none (start_path phase (stages.Values (0 + 1)) (postfix t) (some_ops t) (tree_path phase 0 t parts))
+  path (inr (is, dxe)) = rw is (
+    record { known = subst (λ (p : Phase). has_code p 9 ≡ true) (sym dxe) refl; placed = refl; valued = refl; sized = refl },
+    λ e. cc,
+    tree_path phase 0 t parts,
+  )
+
+order_ended : (phase : Phase) (all : List Op) (o : Op) → all ≡ o ∷ ops.End ∷ [] → phase ≡ Dxe → has_code Dxe (op_code o) ≡ true
     → AllByRecursion IsSized all → stage_after stages.Start o ≡ stages.Ordered → o ≢ ops.End → has_values 0 (op_code o) ≡ true
     → IsEnded phase all
-order_ended phase all o e dxe code sized after ne values = record {
+order_ended phase all o e dxe known sized after ne values = record {
   front = o ∷ [];
   stage = stages.Ordered;
   joined = e;
   path = (
     record {
-      known = subst (λ (p : Phase). has_code p (op_code o) ≡ true) (sym dxe) (known code);
+      known = rw dxe known;
       placed = refl;
       valued = values;
       sized = (subst (λ (l : List Op). AllByRecursion IsSized l) e sized).0;
@@ -322,21 +277,11 @@ order_ended phase all o e dxe code sized after ne values = record {
     ne,
     after,
   );
-  ended = record { known = subst (λ (p : Phase). has_code p 8 ≡ true) (sym dxe) refl; placed = refl; valued = refl; sized = refl };
-} where
-  known : (op_code o ≡ 0) ⊎ (op_code o ≡ 1) → nat_le (op_code o) 9 ≡ true
-  known (inl e) = rw e refl
-  known (inr e) = rw e refl
+  ended = record { known = rw dxe refl; placed = refl; valued = refl; sized = refl };
+}
 
 pub whole_ended : (phase : Phase) (all : List Op) (rest b : List ℕ) → Spells phase all rest b → IsEnded phase all
-whole_ended phase all rest b spells = go spells.is_expression where
-  go : ((t : Expression) × IsTree phase all t) ⊎ IsOrder phase all → IsEnded phase all
-  go (inl (t, is)) = tree_ended phase all is.sor t is.joined is.sor_is spells.sized
-  go (inr is) = order is.guid is.dxe is.joined
-    where
-      order : (g : Guid) → phase ≡ Dxe → (all ≡ ops.Before g ∷ ops.End ∷ []) ⊎ (all ≡ ops.After g ∷ ops.End ∷ []) → IsEnded phase all
-      order g dxe (inl e) = order_ended phase all (ops.Before g) e dxe (inl refl) spells.sized refl (λ x. cc) refl
-      order g dxe (inr e) = order_ended phase all (ops.After g) e dxe (inr refl) spells.sized refl (λ x. cc) refl
+whole_ended phase all rest b spells = grind (arith, common_steps, tree_ended, order_ended)
 
 -- ---- bytes have at most one path
 

@@ -33,8 +33,8 @@ has_values n code =
     else (if code == 5 then nat_le 1 n
     else (if code == 8 then n == 1 else true))
 
--- whether the number of values on the stack at this stage is right for an op with this code (`has_values`). After BEFORE
--- or AFTER the stack is empty, which is right for END
+-- whether the number of values on the stack at this stage is right for an op with this code (`has_values`). END after
+-- BEFORE or AFTER is an exception: the stack is empty there, and END takes no value
 abbrev pub holds_values : Stage → ℕ → Bool
 holds_values stages.Start code = has_values 0 code
 holds_values stages.Ordered code = (code == 8) || has_values 0 code

@@ -63,7 +63,8 @@ fn has_values(count: u64, code: u8) -> bool
 }
 
 // Returns whether the number of values on the stack at this stage is right for an op with this code
-// (`has_values`). After BEFORE or AFTER the stack is empty, which is right for END.
+// (`has_values`). END after BEFORE or AFTER is an exception: the stack is empty there, and END takes
+// no value.
 fn holds_values(stage: Stage, code: u8) -> bool
     ensures { result ≡ holds_values stage code }
 {

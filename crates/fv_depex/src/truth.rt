@@ -19,7 +19,8 @@ fn is_among(guid: &Guid, installed: &[Guid]) -> bool
     installed.iter().any(|other| other == guid)
 }
 
-// Pops the two values on top of a stack. Returns the lower value first.
+// Pops the two values on top of a stack, and returns the lower value first. Returns None if the stack
+// holds fewer than two values; the stack is empty then.
 fn pop_two(stack: &mut Vec<bool>) -> Option<(bool, bool)>
     ensures found { IfSome result (λ p. reverse stack.old.items ≡ p.1 ∷ p.0 ∷ reverse stack.new.items) }
     ensures none { IfNone result (length stack.old.items < 2) }

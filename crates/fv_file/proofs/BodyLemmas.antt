@@ -6,13 +6,13 @@
 -- 3. A body is tiled in one way (`only_one`). If cells that are not free tile the body up to a place, every tiling of
 --    the body has cells that tile the bytes from this place on (`goes_on`). So if a check fails there, the body has no
 --    tiling (`none_after`).
-use Rattle.std.proofs.Common.{◌≡◌, ◌≤◌, ◌<◌, ℕ, ◌+◌, ◌-◌, ◌%◌, [], ◌∷◌, ◌++◌, ◌⊎◌, List, length, take, drop, map, refl, sym, ap, ◌∙◌, subst, arith}
-use Rattle.std.proofs.Common.{inl, inr, true, false, length-drop, length-append, Ok, Err, take-append-drop, length-take-le, take_all}
+use Rattle.std.proofs.Common.{◌≡◌, ◌≤◌, ◌<◌, ℕ, ◌+◌, ◌-◌, ◌%◌, [], ◌∷◌, ◌++◌, List, length, take, drop, map, refl, sym, ap, ◌∙◌, subst, arith}
+use Rattle.std.proofs.Common.{true, false, length-drop, length-append, Ok, Err, take-append-drop, length-take-le, take_all}
 use Rattle.fv_base.proofs.Laws.{common_steps, cases_lt, map_push, take-add, Which, AllAre, erased_byte, all_are, all_are-true}
 use Rattle.fv_base.specs.declared.fault.Fault.{Fault}
 use Rattle.fv_base.specs.declared.flash.FileSystem.{FileSystem}
 use Rattle.fv_base.specs.declared.flash.Polarity.{Polarity}
-use Rattle.fv_file.specs.Words.{CellForm, Free, offset_of, IsCell, Tiles, cell_len, CellsWithin, cell_form, NoneFree, CellFault, IsFirstCellFault}
+use Rattle.fv_file.specs.Words.{CellForm, Free, IsCell, Tiles, cell_len, CellsWithin, cell_form, NoneFree, CellFault, IsFirstCellFault}
 use Rattle.fv_file.specs.declared.cell.Cell.{Cell}
 use Rattle.fv_file.specs.inner.CellVerdicts.{cell_verdict}
 use Rattle.fv_file.proofs.CellFoundLemmas.{CellStandsAt}
@@ -47,20 +47,7 @@ module _ (s : FileSystem) (p : Polarity) (first : ℕ) (body : List ℕ) where
     -- with the cell that begins at the place, the cells tile the body up to the end of this cell
     pub one_on : (c : CellForm) (len : ℕ) → CellStandsAt s p (first + at) c (drop at body) → len ≡ cell_len c
         → Upto (cs ++ c ∷ []) (at + len)
-    one_on c len stands l =
-        let long : length (take at body) ≡ at = length-take-le at body before.inside in
-        let part : IsCell s p c (take len (drop at body)) = subst (λ (n : ℕ). IsCell s p c (take n (drop at body))) (sym l) stands.cell in
-        let place : offset_of c ≡ first + length (take at body) = omega (arith, stands.place, long) in
-        let more = one_more s p first cs c (take at body) (take len (drop at body)) before.tiled before.none_free part place in
-        record {
-          tiled = subst (λ (b : List ℕ). Tiles s p first (cs ++ c ∷ []) b) (sym (take-add at len body)) more;
-          none_free = none_more cs c before.none_free stands.not_free;
-          multiple = eighth (cell_len c) stands.multiple l;
-          inside = omega (arith, l, stands.within, length-drop at body, before.inside);
-        }
-      where
-        eighth : (n : ℕ) → n % 8 ≡ 0 → len ≡ n → (at + len) % 8 ≡ 0
-        eighth n h e = omega (arith, before.multiple)
+    one_on c len stands l = grind (arith, common_steps, length-take-le, one_more, take-add, none_more, length-drop)
 
     -- at the end of the body, the cells tile all of it
     pub whole_kept : length body ≤ at → Tiles s p first cs body
@@ -78,23 +65,12 @@ module _ (s : FileSystem) (p : Polarity) (first : ℕ) (body : List ℕ) where
 
     -- at the end of the body, or before an erased rest, some cells tile all of it
     pub all_kept : AllAre (erased_byte p) (drop at body) → (cells : List CellForm) × Tiles s p first cells body
-    all_kept clean = go (cases_lt at (length body)) where
-      go : (at < length body) ⊎ (length body ≤ at) → (cells : List CellForm) × Tiles s p first cells body
-      go (inl some) = (cs ++ Free (first + at) (length body - at) ∷ [], free_kept some clean)
-      go (inr all) = (cs, whole_kept all)
+    all_kept clean = grind (arith, common_steps, cases_lt, free_kept, whole_kept)
 
     -- the fault of the place at which a check fails is the first fault of the body
     pub first_here : (f : Fault) → (at < length body) × (AllAre (erased_byte p) (drop at body) → ⊥)
         → cell_verdict s p (first + at) (drop at body) ≡ Err f → IsFirstCellFault s p first body f
-    first_here f used is = record {
-      cells = cs;
-      at = at;
-      tiled = before.tiled;
-      none_free = before.none_free;
-      inside = used.0;
-      not_erased = used.1;
-      fails = verdict_first s p (first + at) (drop at body) f is;
-    }
+    first_here f used is = grind (arith, common_steps, not_erased, verdict_first)
 
 -- the forms of the cells so far, and then the form of the cell that is read, are the forms of the new list
 pub more_read : (items new : List Cell) (cell : Cell) (c : CellForm) → cell_form cell ≡ c → new ≡ items ++ cell ∷ []

@@ -1,6 +1,7 @@
 -- If the checks of a cell hold, the bytes begin with the cell that State and the header describe. A file and its filler
 -- lie within the bytes, because the number of bytes is a multiple of 8. A header under construction or an invalid
 -- header lies within the bytes, because the only check of such a cell says so.
+use Rattle.std.proofs.lemmas.Grind.{common_steps}
 use Rattle.std.proofs.Common.{◌≡◌, ◌≤◌, ◌<◌, ℕ, ◌+◌, ◌-◌, ◌*◌, ◌/◌, ◌%◌, List, length, take, drop, inl, inr, refl, sym, ap, ◌∙◌}
 use Rattle.std.proofs.Common.{subst, arith, Bool, true, false, length-drop}
 use Rattle.std.specs.Prelude.{◌==◌, ◌⊎◌, not, nat_le, slice_index, Option, None, Some, if◌then◌else◌}
@@ -14,7 +15,7 @@ use Rattle.fv_base.specs.declared.flash.Polarity.{Polarity}
 use Rattle.fv_base.specs.inner.Verdicts.{first_fault}
 use Rattle.fv_base.proofs.Laws.{all_hold, and_split}
 use Rattle.fv_file.specs.Words.{CellForm, Valid, Pad, Dead, Stub, offset_of, is_free, IsFilled, IsCell, cell_len, is_large}
-use Rattle.fv_file.specs.Words.{file_header_len_at, file_size_at, payload_at, state_checks, cell_checks, attributes_at, file_header_len}
+use Rattle.fv_file.specs.Words.{file_header_len_at, file_size_at, payload_at, state_checks, cell_checks, attributes_at}
 use Rattle.fv_file.specs.Words.{head_in, pad_kind, StateOf, bits_of, state_of, is_alive}
 use Rattle.fv_file.specs.declared.state.FileState.{FileState}
 use Rattle.fv_file.specs.inner.CellVerdicts.{cell_in, cell_of, StateSort, sort_of, sort_checks}
@@ -72,26 +73,7 @@ filled_stands s p st at r c in_eights f used place span cell =
 stub_stands : (s : FileSystem) (p : Polarity) (at : ℕ) (r : List ℕ) → file_header_len_at r ≤ length r
     → (StateOf (slice_index r 23) p states.Construction ⊎ StateOf (slice_index r 23) p states.HeaderInvalid)
     → CellStandsAt s p at (Stub at (file_header_len_at r)) r
-stub_stands s p at r within state =
-    let n : ℕ = file_header_len_at r in
-    let low : 24 ≤ n = header_least (is_large (attributes_at r)) in
-    let long : length (take n r) ≡ n = length-take-le n r within in
-    let e19 : slice_index (take n r) 19 ≡ slice_index r 19 = get_or-take n r 19 0 (omega (arith, low)) in
-    let e23 : slice_index (take n r) 23 ≡ slice_index r 23 = get_or-take n r 23 0 (omega (arith, low)) in
-    let shown : StateOf (slice_index (take n r) 23) p states.Construction ⊎ StateOf (slice_index (take n r) 23) p states.HeaderInvalid =
-    subst (λ (k : ℕ). StateOf k p states.Construction ⊎ StateOf k p states.HeaderInvalid) (sym e23) state in
-    record {
-      not_free = refl;
-      place = refl;
-      within = within;
-      some = omega (arith, low);
-      multiple = eighth (is_large (attributes_at r));
-      cell = (shown, long ∙ ap (λ (k : ℕ). file_header_len (is_large k)) (sym e19), sym long);
-    }
-  where
-    eighth : (large : Bool) → file_header_len large % 8 ≡ 0
-    eighth false = refl
-    eighth true = refl
+stub_stands s p at r within state = grind (arith, common_steps, header_least, length-take-le, get_or-take)
 
 -- if the State byte shows a state, and the checks for the sort of this state hold, the bytes begin with a cell of this
 -- sort

@@ -1,7 +1,7 @@
 -- A file with its filler ends at a multiple of 8, the header and the data of a file make up its size, and every cell
 -- has bytes.
 use Rattle.std.proofs.lemmas.Grind.{common_steps}
-use Rattle.std.proofs.Common.{◌≡◌, ◌≤◌, ◌<◌, ◌+◌, ◌*◌, ◌/◌, ◌%◌, ℕ, List, length, sym, ap, ◌∙◌, arith, true, length-append}
+use Rattle.std.proofs.Common.{◌≡◌, ◌≤◌, ◌+◌, ℕ, List, length, ap, arith, true, length-append}
 use Rattle.std.specs.Prelude.{slice_index}
 use Rattle.fv_base.specs.Words.{AllAre, erased_byte, up_to_8}
 use Rattle.fv_base.specs.declared.flash.FileSystem.{FileSystem}
@@ -15,9 +15,7 @@ use Rattle.fv_file.proofs.TilingLemmas.{NotEmpty}
 
 pub filled_span : (s : FileSystem) (p : Polarity) (head : FileHead) (payload b : List ℕ) → IsFilled s p head payload b
     → up_to_8 head.size ≡ length b
-filled_span s p head payload b filled =
-    let n : length b ≡ length filled.file + length filled.filler = ap length filled.text ∙ length-append filled.file filled.filler in
-    omega (arith, n ∙ ap (λ (k : ℕ). k + length filled.filler) (sym filled.is_file.size), filled.short, filled.multiple)
+filled_span s p head payload b filled = grind (arith, common_steps, length-append)
 
 pub cell_span : (s : FileSystem) (p : Polarity) (c : CellForm) (u : List ℕ) → IsCell s p c u → cell_len c ≡ length u
 cell_span s p (Valid at head payload) u is = filled_span s p head payload u is.0

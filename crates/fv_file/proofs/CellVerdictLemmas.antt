@@ -77,11 +77,14 @@ verdict_stands s p at r c in_eights is =
     let v = verdict_ok (first_fault (cell_checks s p at r)) (cell_in (state_of p (slice_index r 23)) at r) c (sym (verdict_is s p at r) ∙ is) in
     subst (λ (d : CellForm). CellStandsAt s p at d r) v.1 (cell_stands s p at r in_eights v.0)
 
+pub verdict_fails : (s : FileSystem) (p : Polarity) (at : ℕ) (r : List ℕ) (f : Fault) → cell_verdict s p at r ≡ Err f
+    → first_fault (cell_checks s p at r) ≡ Some f
+verdict_fails s p at r f is =
+    verdict_err (first_fault (cell_checks s p at r)) (cell_in (state_of p (slice_index r 23)) at r) f (sym (verdict_is s p at r) ∙ is)
+
 pub verdict_first : (s : FileSystem) (p : Polarity) (at : ℕ) (r : List ℕ) (f : Fault) → cell_verdict s p at r ≡ Err f
     → IsFirstFault (cell_checks s p at r) f
-verdict_first s p at r f is =
-    first_is (cell_checks s p at r) f
-    (verdict_err (first_fault (cell_checks s p at r)) (cell_in (state_of p (slice_index r 23)) at r) f (sym (verdict_is s p at r) ∙ is))
+verdict_first s p at r f is = first_is (cell_checks s p at r) f (verdict_fails s p at r f is)
 
 -- ---- one cell at a place
 

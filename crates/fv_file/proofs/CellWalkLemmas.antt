@@ -1,6 +1,7 @@
 -- A walk over the cells of a body. Each step passes the cell at the start of the part that is left (`stands_walked`,
 -- `free_walked`). The cells that a walk passed tile the bytes that it passed (`walked_on`), so they tile the body if
 -- nothing is left (`walk_ends`). If the next cell has a fault, this is the first fault of the body (`walk_fails`).
+use Rattle.std.proofs.lemmas.Grind.{common_steps}
 use Rattle.std.proofs.Common.{◌≡◌, ◌<◌, ℕ, ◌+◌, List, [], ◌∷◌, ◌++◌, length, take, drop, refl, sym, ap, ◌∙◌, subst, arith}
 use Rattle.std.proofs.Common.{length-append, append_assoc, append-nil}
 use Rattle.std.proofs.lemmas.List.{take-append-drop, length-take-le}
@@ -33,23 +34,12 @@ module _ (s : FileSystem) (p : Polarity) (at : ℕ) (r : List ℕ) where
   }
 
   pub free_walked : 0 < length r → AllAre (erased_byte p) r → After (Free at (length r))
-  free_walked some clean = record {
-    passed = r;
-    text = sym (ap (λ (l : List ℕ). r ++ l) (drop-length r) ∙ append-nil r);
-    tiled = (r, [], sym (append-nil r), (some, clean, refl), refl, λ f. refl, refl);
-    none_free = λ left. absurd (omega (arith, left, ap length (drop-length r)));
-    place = refl;
-    system = refl;
-    polarity = refl;
-  }
+  free_walked some clean = grind (arith, common_steps, drop-length, append-nil)
 
 -- the bytes that a walk passes at a cell are this cell
 pub one_passed : (a b : CellsLeft) (c : CellForm) (w : Walked a (c ∷ []) b)
     → IsCell a.system a.polarity c w.passed × (offset_of c ≡ a.at)
-one_passed a b c w = go w.passed w.tiled where
-  go : (x : List ℕ) → Tiles a.system a.polarity a.at (c ∷ []) x → IsCell a.system a.polarity c x × (offset_of c ≡ a.at)
-  go x (y, rest, e, is, o, last, none) =
-      (subst (IsCell a.system a.polarity c) (sym (e ∙ ap (λ (l : List ℕ). y ++ l) none ∙ append-nil y)) is, o)
+one_passed a b c w = grind (arith, common_steps, append-nil)
 
 -- ---- a walk
 
@@ -86,9 +76,7 @@ walked_on a b d cs c w v =
 
 -- a walk that has passed all bytes has passed cells that tile them
 pub walk_ends : (a b : CellsLeft) (cs : List CellForm) → Walked a cs b → b.rest ≡ [] → TileLeft cs a
-walk_ends a b cs w none =
-    subst (Tiles a.system a.polarity a.at cs)
-    (sym (w.text ∙ ap (λ (l : List ℕ). w.passed ++ l) none ∙ append-nil w.passed)) w.tiled
+walk_ends a b cs w none = grind (arith, common_steps, append-nil)
 
 -- the fault of the next cell is the first fault of the part where the walk began
 pub walk_fails : (a b : CellsLeft) (cs : List CellForm) (f : Fault) → Walked a cs b → IsNextFault b f

@@ -1,47 +1,21 @@
--- The verdict on a file is the fault of the first of its checks that does not hold.
-use Rattle.std.proofs.Common.{◌≡◌, ◌≤◌, ℕ, ◌+◌, ◌&&◌, ◌||◌, Bool, List, length, true, false, not, refl, arith, nat_le, Ok, Err, leb-true}
+-- The verdict on a file is the fault of the first of its checks that does not hold. If this fault is Fixed, the header
+-- of the file is right, and its attributes have the bit (`marked_file`). If the header is right and the file is not
+-- fixed, its data decide (`data_wrong`, `data_right`).
+use Rattle.std.proofs.Common.{◌≡◌, ◌≢◌, ◌≤◌, ℕ, ◌+◌, ◌&&◌, ◌||◌, if◌then◌else◌, Bool, List, length, drop, true, false, not, refl, ap, ◌∙◌, arith, nat_le}
+use Rattle.std.proofs.Common.{Ok, Err, Option, None, Some, leb-true}
 use Rattle.fv_base.proofs.Laws.{common_steps, and_split, outer_fault}
+use Rattle.fv_base.specs.inner.Verdicts.{first_fault}
+use Rattle.fv_base.specs.declared.fault.Fault.{Fault}
 use Rattle.fv_base.specs.declared.flash.FileSystem.{FileSystem}
 use Rattle.fv_file.specs.Words.{file_header_len_at, has_file_size, has_file_sum, has_header_sum, may_be_large, skips_data, is_fixed, attributes_at}
-use Rattle.fv_file.specs.Words.{head_in, is_alive}
+use Rattle.fv_file.specs.Words.{file_checks, head_in, is_alive}
 use Rattle.fv_file.specs.declared.state.FileState.{FileState}
 use Rattle.fv_file.specs.inner.CellVerdicts.{file_verdict}
 use Rattle.fv_base.specs.declared.fault.FaultKind.TheVariants as kinds
 
--- the data are skipped if they are not checked
-pub is_skipped : (alive pad : Bool) → (alive && not pad) ≡ false → (not alive || pad) ≡ true
-is_skipped true true h = refl
-is_skipped true false h = cc
-is_skipped false pad h = refl
-
 -- the test of the size says that the size is in its range
 pub sizes : (low n high : ℕ) (more : Bool) → (nat_le low n && (nat_le n high && more)) ≡ true → (low ≤ n) × (n ≤ high)
 sizes low n high more h = grind (arith, common_steps, and_split, leb-true)
-
-pub is_not_skipped : (alive pad : Bool) → (alive && not pad) ≡ true → (not alive || pad) ≡ false
-is_not_skipped true true h = cc
-is_not_skipped true false h = refl
-is_not_skipped false pad h = cc
-
-pub form_wrong : (s : FileSystem) (st : FileState) (at : ℕ) (r : List ℕ) → may_be_large s r ≡ false
-    → file_verdict s st at r ≡ Err (outer_fault kinds.LargeFile (at + 19))
-unfolding file_verdict
-form_wrong s st at r form = rw form refl
-
-pub header_cut : (s : FileSystem) (st : FileState) (at : ℕ) (r : List ℕ) → may_be_large s r ≡ true
-    → nat_le (file_header_len_at r) (length r) ≡ false → file_verdict s st at r ≡ Err (outer_fault kinds.FileSize (at + 20))
-unfolding file_verdict
-header_cut s st at r form whole = rw (form, whole) refl
-
-module _ (s : FileSystem) (st : FileState) (at : ℕ) (r : List ℕ) (form : may_be_large s r ≡ true)
-    (whole : nat_le (file_header_len_at r) (length r) ≡ true) where
-  pub sum_wrong : has_header_sum r ≡ false → file_verdict s st at r ≡ Err (outer_fault kinds.FileHeaderSum at)
-  unfolding file_verdict
-  sum_wrong sum = rw (form, whole, sum) refl
-
-  pub size_wrong : has_header_sum r ≡ true → has_file_size r ≡ false → file_verdict s st at r ≡ Err (outer_fault kinds.FileSize (at + 20))
-  unfolding file_verdict
-  size_wrong sum size = rw (form, whole, sum, size) refl
 
 -- the checks of the header hold
 pub record IsHeaderRight (s : FileSystem) (r : List ℕ) : Type 0 where
@@ -50,22 +24,55 @@ pub record IsHeaderRight (s : FileSystem) (r : List ℕ) : Type 0 where
   pub sum : has_header_sum r ≡ true
   pub size : has_file_size r ≡ true
 
-module _ (s : FileSystem) (st : FileState) (at : ℕ) (r : List ℕ) (head : IsHeaderRight s r) where
-  pub data_skipped : skips_data (is_alive st) r ≡ true → file_verdict s st at r ≡ Ok (head_in st r)
-  unfolding file_verdict
-  data_skipped skips = rw (head.form, head.whole, head.sum, head.size, skips) refl
+module _ (s : FileSystem) (st : FileState) (at : ℕ) (r : List ℕ) where
+  module _ (head : IsHeaderRight s r) (checked : skips_data (is_alive st) r ≡ false) (moves : not (is_fixed (attributes_at r)) ≡ true) where
+    pub data_wrong : has_file_sum r ≡ false → file_verdict s st at r ≡ Err (outer_fault kinds.FileSum (at + 17))
+    unfolding file_verdict
+    data_wrong payload = rw (head.form, head.whole, head.sum, head.size, checked, moves, payload) refl
 
-  pub file_fixed : skips_data (is_alive st) r ≡ false → not (is_fixed (attributes_at r)) ≡ false
-      → file_verdict s st at r ≡ Err (outer_fault kinds.Fixed (at + 19))
-  unfolding file_verdict
-  file_fixed skips fixed = rw (head.form, head.whole, head.sum, head.size, skips, fixed) refl
+    pub data_right : has_file_sum r ≡ true → file_verdict s st at r ≡ Ok (head_in st r)
+    unfolding file_verdict
+    data_right payload = rw (head.form, head.whole, head.sum, head.size, checked, moves, payload) refl
 
-  pub data_wrong : skips_data (is_alive st) r ≡ false → not (is_fixed (attributes_at r)) ≡ true → has_file_sum r ≡ false
-      → file_verdict s st at r ≡ Err (outer_fault kinds.FileSum (at + 17))
-  unfolding file_verdict
-  data_wrong skips fixed payload = rw (head.form, head.whole, head.sum, head.size, skips, fixed, payload) refl
+-- ---- the fault Fixed
 
-  pub data_right : skips_data (is_alive st) r ≡ false → not (is_fixed (attributes_at r)) ≡ true → has_file_sum r ≡ true
-      → file_verdict s st at r ≡ Ok (head_in st r)
-  unfolding file_verdict
-  data_right skips fixed payload = rw (head.form, head.whole, head.sum, head.size, skips, fixed, payload) refl
+-- if the first fault of some checks is Fixed, and the first check has another fault, this check holds
+pub held : (holds : Bool) (fault : Fault) (more : Option Fault) (f : Fault) → (if holds then more else Some fault) ≡ Some f
+    → f.kind ≡ kinds.Fixed → fault.kind ≢ kinds.Fixed → (holds ≡ true) × (more ≡ Some f)
+held true fault more f is kind other = (refl, is)
+held false fault more f is kind other = let same : fault ≡ f = cc in absurd (other (ap (λ (g : Fault). g.kind) same ∙ kind))
+
+-- the header is right, the data are checked, and the attributes have the bit
+pub record MarkedFile (s : FileSystem) (st : FileState) (at : ℕ) (r : List ℕ) (f : Fault) : Type 0 where
+  pub right : IsHeaderRight s r
+  pub checked : skips_data (is_alive st) r ≡ false
+  pub fixed : is_fixed (attributes_at r) ≡ true
+  pub fault : f ≡ outer_fault kinds.Fixed (at + 19)
+
+pub marked_file : (s : FileSystem) (st : FileState) (at : ℕ) (r : List ℕ) (f : Fault) → first_fault (file_checks s (is_alive st) at r) ≡ Some f
+    → f.kind ≡ kinds.Fixed → MarkedFile s st at r f
+marked_file s st at r f is kind =
+    let more : ℕ → Option Fault = λ n. first_fault (drop n (file_checks s (is_alive st) at r)) in
+    let form = held (may_be_large s r) (outer_fault kinds.LargeFile (at + 19)) (more 1) f is kind (λ k. cc) in
+    let whole = held (nat_le (file_header_len_at r) (length r)) (outer_fault kinds.FileSize (at + 20)) (more 2) f form.1 kind (λ k. cc) in
+    let sum = held (has_header_sum r) (outer_fault kinds.FileHeaderSum at) (more 3) f whole.1 kind (λ k. cc) in
+    let size = held (has_file_size r) (outer_fault kinds.FileSize (at + 20)) (more 4) f sum.1 kind (λ k. cc) in
+    let content = of_data (skips_data (is_alive st) r) (is_fixed (attributes_at r)) (has_file_sum r) size.1 in
+    record {
+      right = record { form = form.0; whole = whole.0; sum = sum.0; size = size.0 };
+      checked = content.0;
+      fixed = content.1;
+      fault = content.2;
+    }
+  where
+    of_data : (skip fixed sound : Bool)
+        → (if skip || not fixed then (if skip || sound then None else Some (outer_fault kinds.FileSum (at + 17)))
+        else Some (outer_fault kinds.Fixed (at + 19))) ≡ Some f
+        → (skip ≡ false) × (fixed ≡ true) × (f ≡ outer_fault kinds.Fixed (at + 19))
+    of_data true fixed sound is = cc
+    of_data false false true is = cc
+    of_data false false false is =
+        let same : outer_fault kinds.FileSum (at + 17) ≡ f = cc in
+        let other : kinds.FileSum ≡ kinds.Fixed = ap (λ (g : Fault). g.kind) same ∙ kind in
+        cc
+    of_data false true sound is = (refl, refl, cc)

@@ -1,7 +1,9 @@
 -- The bytes begin with a file exactly if one is read. The verdict on the bytes is the verdict of their checks. If all
 -- of them hold, the header at the start is the header of a file, and if a file begins the bytes, all of them hold.
+use Rattle.std.proofs.lemmas.Grind.{common_steps}
+use Rattle.std.proofs.Common.{arith}
 use Rattle.std.proofs.Common.{◌≡◌, ℕ, ◌∷◌, ◌++◌, ◌==◌, ◌⊎◌, if◌then◌else◌, List, length, take, drop, inl, inr, refl, sym, ap, ◌∙◌, subst, Bool, true}
-use Rattle.std.proofs.Common.{false, nat_le, nat_lt, slice_index, Option, None, Some, Result, Ok, Err, IfOk, IfErr, leb-true, le-leb, ltb-true}
+use Rattle.std.proofs.Common.{false, nat_le, slice_index, Option, None, Some, Result, Ok, Err, IfOk, IfErr, leb-true, le-leb, ltb-true}
 use Rattle.fv_base.proofs.Laws.{ltb-false, eqb-true, take-append-drop, AllHold, IsFirstFault, check, outer_fault, all_hold, first_is, none_faulty}
 use Rattle.fv_base.proofs.Laws.{not_at_most, not_less, verdict_err, verdict_none, verdict_ok}
 use Rattle.fv_base.specs.inner.Verdicts.{first_fault, verdict_by}
@@ -38,11 +40,7 @@ standing_is s (Some st) b = go (is_alive st) where
 
 verify_is : (s : FileSystem) (p : Polarity) (b : List ℕ)
     → verify_verdict s p b ≡ verdict_by (first_fault (verify_checks s p b)) (head_of (state_of p (slice_index b 23)) b)
-verify_is s p b = go (nat_lt (length b) 24) refl where
-  go : (t : Bool) → nat_lt (length b) 24 ≡ t
-      → verify_verdict s p b ≡ verdict_by (first_fault (verify_checks s p b)) (head_of (state_of p (slice_index b 23)) b)
-  go true l = rw (l, not_at_most 24 (length b) (ltb-true (length b) 24 l)) refl
-  go false l = rw (l, le-leb 24 (length b) (ltb-false (length b) 24 l)) (standing_is s (state_of p (slice_index b 23)) b)
+verify_is s p b = grind (arith, common_steps, not_at_most, ltb-true, le-leb, ltb-false, standing_is)
 
 -- for bytes that show the state of a valid file, the verdict is that on a file
 pub alive_read : (s : FileSystem) (p : Polarity) (b : List ℕ) (st : FileState) → nat_le 24 (length b) ≡ true

@@ -8,7 +8,7 @@
 --    `pad_written`).
 -- 5. Conversely, bytes that are the header of some fields are the bytes that are written for them (`form_of`,
 --    `only_written`), for a file and for a pad (`only_file`, `only_pad`).
-use Rattle.std.proofs.Common.{◌≡◌, ◌≤◌, ◌<◌, ◌+◌, ◌/◌, ◌%◌, ◌^◌, ℕ, [], ◌∷◌, ◌++◌, Bool, true, false, List, length, take, drop, refl, sym, ap, ◌∙◌}
+use Rattle.std.proofs.Common.{◌≡◌, ◌≤◌, ◌<◌, ◌+◌, ◌%◌, ◌^◌, ℕ, [], ◌∷◌, ◌++◌, Bool, true, false, List, length, take, drop, refl, sym, ap, ◌∙◌}
 use Rattle.std.proofs.Common.{subst, arith, append_assoc, length-append, length-drop, drop-drop, slice_index, sum, take-append-drop, take_at}
 use Rattle.std.proofs.Common.{take_all, get_or-append-add, length-take-le, shr-shr}
 use Rattle.fv_base.proofs.Laws.{common_steps, take-append-add, drop_more, drop_all, length-replicate, sum_by-append, nat_tests, bytes_of, data_limit}
@@ -90,32 +90,21 @@ drop_behind k name rest long = subst (λ (n : ℕ). drop (n + k) (name ++ rest) 
 
 -- ---- the header sum
 
-sum_parts : (name l : List ℕ) (a b c d e f g h : ℕ)
-    → sum (name ++ (a ∷ b ∷ c ∷ d ∷ e ∷ f ∷ g ∷ h ∷ l)) ≡ sum name + (a + b + c + d + e + f + g + h) + sum l
-sum_parts name l a b c d e f g h =
-    sum_by-append (λ (x : ℕ). x) name (a ∷ b ∷ c ∷ d ∷ e ∷ f ∷ g ∷ h ∷ l)
-    ∙ (ap (λ (n : ℕ). sum name + n) (sum_by-append (λ (x : ℕ). x) (a ∷ b ∷ c ∷ d ∷ e ∷ f ∷ g ∷ h ∷ []) l)
-    ∙ turned (sum name) (sum l) a b c d e f g h)
-  where
-    turned : (s t a b c d e f g h : ℕ) → s + (sum (a ∷ b ∷ c ∷ d ∷ e ∷ f ∷ g ∷ h ∷ []) + t) ≡ s + (a + b + c + d + e + f + g + h) + t
-    turned s t a b c d e f g h = omega arith
-
 -- the sum of a header, with file checksum and State taken as zero, is the sum of its other bytes plus the header
 -- checksum
 sum_apart : (name l : List ℕ) (a b c d e f g h : ℕ) → length name ≡ 16
     → header_sum_of (name ++ (a ∷ b ∷ c ∷ d ∷ e ∷ f ∷ g ∷ h ∷ l)) ≡ (sum (name ++ (0 ∷ 0 ∷ c ∷ d ∷ e ∷ f ∷ g ∷ 0 ∷ l)) + a) % 256
 sum_apart name l a b c d e f g h long =
     let rest : List ℕ = a ∷ b ∷ c ∷ d ∷ e ∷ f ∷ g ∷ h ∷ l in
-    let first : sum (take 17 (name ++ rest)) ≡ sum name + sum (a ∷ []) =
-    ap sum (take_behind 1 name rest long) ∙ sum_by-append (λ (x : ℕ). x) name (a ∷ []) in
-    let second : sum (field 18 5 (name ++ rest)) ≡ sum (c ∷ d ∷ e ∷ f ∷ g ∷ []) =
-    ap (λ (xs : List ℕ). sum (take 5 xs)) (drop_behind 2 name rest long) in
-    let third : sum (drop 24 (name ++ rest)) ≡ sum l = ap sum (drop_behind 8 name rest long) in
-    ap (λ (n : ℕ). n % 256) (added _ _ _ _ (sum name) (sum l) a c d e f g first second third (sum_parts name l 0 0 c d e f g 0))
-  where
-    added : (x y z w s t a c d e f g : ℕ) → x ≡ s + sum (a ∷ []) → y ≡ sum (c ∷ d ∷ e ∷ f ∷ g ∷ []) → z ≡ t
-        → w ≡ s + (0 + 0 + c + d + e + f + g + 0) + t → x + y + z ≡ w + a
-    added x y z w s t a c d e f g p q r v = omega arith
+    let joined : (xs ys : List ℕ) → sum (xs ++ ys) ≡ sum xs + sum ys = λ xs ys. sum_by-append (λ (x : ℕ). x) xs ys in
+    omega (
+      arith,
+      ap sum (take_behind 1 name rest long) ∙ joined name (a ∷ []),
+      ap (λ (xs : List ℕ). sum (take 5 xs)) (drop_behind 2 name rest long),
+      ap sum (drop_behind 8 name rest long),
+      joined name (0 ∷ 0 ∷ c ∷ d ∷ e ∷ f ∷ g ∷ 0 ∷ l),
+      joined (0 ∷ 0 ∷ c ∷ d ∷ e ∷ f ∷ g ∷ 0 ∷ []) l,
+    )
 
 -- the sum of the bytes of a header with both checksums and State zero
 abbrev bare_sum : FileHead → Bool → ℕ
@@ -123,12 +112,7 @@ bare_sum h large = sum (spelled (record h { header_sum = 0; file_sum = 0 }) larg
 
 header_sum_is : (h : FileHead) (large : Bool) (state : ℕ) → length (bytes_of h.name) ≡ 16
     → header_sum_of (spelled h large state) ≡ (bare_sum h large + h.header_sum) % 256
-header_sum_is h large state long =
-    let short : ℕ = short_size large h.size in
-    ap header_sum_of (header_parts h large state)
-    ∙ (sum_apart (bytes_of h.name) (long_size large h.size) h.header_sum h.file_sum h.kind (attribute_bits h.attributes) (short % 256)
-    (short / 256 % 256) (short / 256 / 256 % 256) state long
-    ∙ ap (λ (xs : List ℕ). (sum xs + h.header_sum) % 256) (sym (header_parts (record h { header_sum = 0; file_sum = 0 }) large 0)))
+header_sum_is h large state long = grind (arith, common_steps, header_parts, sum_apart)
 
 -- the complement of a sum makes it 0 modulo 256, and no other byte does
 complement_right : (n : ℕ) → (n + complement n) % 256 ≡ 0
@@ -155,34 +139,20 @@ zero_size : (h : FileHead) (large : Bool) (state : ℕ) → length (bytes_of h.n
 zero_size h true state long is = ap (λ (xs : List ℕ). le (take 3 xs)) (drop_behind 4 (bytes_of h.name) (rest_of h true state) long)
 zero_size h false state long is = cc
 
--- the fields of a file header, by their values
-abbrev fields : List ℕ → ℕ → ℕ → ℕ → ℕ → ℕ → ℕ → FileHead
-fields name kind attributes size header_len header_sum file_sum = record {
-  name = record { bytes = name };
-  kind = kind;
-  attributes = record { 0 = attributes };
-  size = size;
-  header_len = header_len;
-  header_sum = header_sum;
-  file_sum = file_sum;
-  state = states.DataValid;
-}
-
 fields_are : (h : FileHead) (large : Bool) (state : ℕ) → length (bytes_of h.name) ≡ 16 → is_large (attribute_bits h.attributes) ≡ large
     → h.size < size_limit large → formed h large ≡ head_in states.DataValid (bytes_of h.name ++ rest_of h large state)
 fields_are h large state long is small =
     let name : List ℕ = bytes_of h.name in
     let rest : List ℕ = rest_of h large state in
-    let b : List ℕ = name ++ rest in
-    let place : is_large (slice_index b 19) ≡ large = ap is_large (at_behind 3 name rest long) ∙ is in
-    let whole : file_size_in (is_large (slice_index b 19)) b ≡ h.size =
-    ap (λ (l : Bool). file_size_in l b) place ∙ size_is h large state long small in
-    sym (same_fields (take_at name rest 16 long) (at_behind 2 name rest long) (at_behind 3 name rest long) whole
-    (ap file_header_len place) (at_behind 0 name rest long) (at_behind 1 name rest long))
-  where
-    same_fields : {a a' : List ℕ} {b b' c c' d d' e e' f f' g g' : ℕ} → a ≡ a' → b ≡ b' → c ≡ c' → d ≡ d' → e ≡ e' → f ≡ f' → g ≡ g'
-        → fields a b c d e f g ≡ fields a' b' c' d' e' f' g'
-    same_fields p q r s t u v = rw (p, q, r, s, t, u, v)
+    rw (
+      take_at name rest 16 long,
+      at_behind 0 name rest long,
+      at_behind 1 name rest long,
+      at_behind 2 name rest long,
+      at_behind 3 name rest long,
+      is,
+      size_is h large state long small,
+    ) refl
 
 length_is : (h : FileHead) (large : Bool) (state : ℕ) → length (bytes_of h.name) ≡ 16
     → length (bytes_of h.name ++ rest_of h large state) ≡ file_header_len large
@@ -199,25 +169,7 @@ state_is Zeros = refl
 written_with : (polarity : Polarity) (h : FileHead) (large : Bool) → length (bytes_of h.name) ≡ 16
     → is_large (attribute_bits h.attributes) ≡ large → h.size < size_limit large → (bare_sum h large + h.header_sum) % 256 ≡ 0
     → IsBytes (spelled h large (state_byte polarity)) → IsNewHeader polarity (formed h large) (spelled h large (state_byte polarity))
-written_with polarity h large long is small right bytes =
-    let state : ℕ = state_byte polarity in
-    let rest : List ℕ = rest_of h large state in
-    let b : List ℕ = bytes_of h.name ++ rest in
-    let parts = header_parts h large state in
-    let place : is_large (slice_index b 19) ≡ large = ap is_large (at_behind 3 (bytes_of h.name) rest long) ∙ is in
-    let byte : slice_index b 23 ≡ state = at_behind 7 (bytes_of h.name) rest long in
-    let written : IsNewHeader polarity (formed h large) b = record {
-      header = λ system only. record {
-        header_length = length_is h large state long ∙ ap file_header_len (sym place);
-        fields = fields_are h large state long is small;
-        state = subst (λ (n : ℕ). StateOf n polarity states.DataValid) (sym byte) (state_is polarity);
-        large = λ e. (only (is ∙ sym place ∙ e), zero_size h large state long (sym place ∙ e));
-        sum = ap header_sum_of (sym parts) ∙ header_sum_is h large state long ∙ right;
-      };
-      state = byte;
-      bytes = subst IsBytes parts bytes;
-    } in
-    subst (IsNewHeader polarity (formed h large)) (sym parts) written
+written_with polarity h large long is small right bytes = grind (arith, common_steps, header_parts, at_behind, length_is, fields_are, state_is, zero_size, header_sum_is)
 
 -- the header checksum of a header is byte 16
 sum_at : (h : FileHead) (large : Bool) (state : ℕ) → length (bytes_of h.name) ≡ 16 → slice_index (spelled h large state) 16 ≡ h.header_sum
@@ -310,16 +262,12 @@ parts_of : (b : List ℕ) → IsBytes b → 24 ≤ length b
     → b ≡ take 16 b
     ++ behind_name (slice_index b 16) (slice_index b 17) (slice_index b 18) (slice_index b 19) (le_at 20 3 b) (slice_index b 23) (drop 24 b)
 parts_of b small least =
-    let tail : drop 23 b ≡ slice_index b 23 ∷ drop 24 b = drop_more b 23 0 (omega (arith, least)) in
     let size : drop 20 b ≡ le_bytes 3 (le_at 20 3 b) ++ drop 23 b =
     sym (take-append-drop 3 (drop 20 b)) ∙ (ap (λ (xs : List ℕ). field 20 3 b ++ xs) (drop-drop 3 20 b)
     ∙ ap (λ (xs : List ℕ). xs ++ drop 23 b) (sym (field_is 20 3 b small (omega (arith, least))))) in
-    sym (take-append-drop 16 b)
-    ∙ ap (λ (xs : List ℕ). take 16 b ++ xs) (drop_more b 16 0 (omega (arith, least))
-    ∙ ap (λ (xs : List ℕ). slice_index b 16 ∷ xs) (drop_more b 17 0 (omega (arith, least))
-    ∙ ap (λ (xs : List ℕ). slice_index b 17 ∷ xs) (drop_more b 18 0 (omega (arith, least))
-    ∙ ap (λ (xs : List ℕ). slice_index b 18 ∷ xs) (drop_more b 19 0 (omega (arith, least))
-    ∙ ap (λ (xs : List ℕ). slice_index b 19 ∷ xs) (size ∙ ap (λ (xs : List ℕ). le_bytes 3 (le_at 20 3 b) ++ xs) tail)))))
+    let more : (i : ℕ) → i ≤ 23 → drop i b ≡ slice_index b i ∷ drop (i + 1) b = λ i low. drop_more b i 0 (omega (arith, least, low)) in
+    rw (more 16 (omega arith), more 17 (omega arith), more 18 (omega arith), more 19 (omega arith), size, more 23 (omega arith))
+    at (sym (take-append-drop 16 b))
 
 short_is : (large : Bool) (b : List ℕ) (size : ℕ) → (large ≡ true → le_at 20 3 b ≡ 0) → size ≡ file_size_in large b
     → le_at 20 3 b ≡ short_size large size

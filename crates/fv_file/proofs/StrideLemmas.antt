@@ -4,6 +4,7 @@
 --    (`file_stride`, `stub_stride`, `cell_stride`).
 -- 2. So one step is one cell (`one_less`), and the count goes up by one (`one_counted`).
 -- 3. At the end one free cell is left if any bytes are left (`free_left`), so all cells are counted (`all_counted`).
+use Rattle.std.proofs.lemmas.Grind.{common_steps}
 use Rattle.std.proofs.Common.{◌≡◌, ◌≤◌, ◌<◌, ℕ, ◌+◌, [], ◌∷◌, ◌++◌, ◌==◌, ◌≢◌, ◌⊎◌, List, length, drop, inl, inr, refl, sym, ap, ◌∙◌, subst, arith}
 use Rattle.std.proofs.Common.{Bool, true, false, length-append, append_assoc, append-nil, not, nat_le, slice_index, Option, Some, leb-true, eq-eqb}
 use Rattle.fv_base.proofs.Laws.{eqb-true, drop_at, eqb-false, all_hold, and_split, erased_byte, up_to_8}
@@ -58,16 +59,7 @@ file_stride s p head payload u w filled made finished =
 
 stub_stride : (p : Polarity) (u w : List ℕ) (st : FileState) → is_unfinished (Some st) ≡ true
     → StateOf (slice_index u 23) p st → length u ≡ file_header_len (is_large (slice_index u 19)) → Stride p (u ++ w) (length u)
-stub_stride p u w st unfinished state len =
-    let low : 24 ≤ length u = omega (arith, len, header_least (is_large (slice_index u 19))) in
-    let e19 : slice_index (u ++ w) 19 ≡ slice_index u 19 = front_byte 19 u w (omega (arith, low)) in
-    let e23 : slice_index (u ++ w) 23 ≡ slice_index u 23 = front_byte 23 u w (omega (arith, low)) in
-    let n : file_header_len_at (u ++ w) ≡ length u = ap (λ (k : ℕ). file_header_len (is_large k)) e19 ∙ sym len in
-    record {
-      header = omega (arith, n);
-      within = omega (arith, length-append u w);
-      is = ap (λ (o : Option FileState). stride_by (is_unfinished o) (u ++ w)) (ap (state_of p) e23 ∙ state) ∙ ap (λ (t : Bool). stride_by t (u ++ w)) unfinished ∙ n;
-    }
+stub_stride p u w st unfinished state len = grind (arith, common_steps, header_least, front_byte, length-append)
 
 -- if a cell that is not free begins the bytes, the next header begins at its end
 pub cell_stride : (s : FileSystem) (p : Polarity) (c : CellForm) (u w : List ℕ) → IsCell s p c u → is_free c ≡ false
@@ -144,12 +136,4 @@ pub all_counted : (p : Polarity) (count result : ℕ) (body rest : List ℕ) →
     → (24 ≤ length rest → slice_index rest 23 ≡ erased_byte p)
     → (length rest ≡ 0 → result ≡ count) → (0 < length rest → result ≡ count + 1)
     → (s : FileSystem) (first : ℕ) (cs : List CellForm) → Tiles s p first cs body → result ≡ length cs
-all_counted p count result body rest counted ends none some s first cs t =
-    let k = counted s first cs t in
-    let left = free_left s p k.0 k.1 rest k.2 ends in
-    go (length rest == 0) refl (length k.1) left.0 left.1 k.3
-  where
-    go : (z : Bool) → (length rest == 0) ≡ z → (n : ℕ) → (length rest ≡ 0 → n ≡ 0) → (0 < length rest → n ≡ 1) → count + n ≡ length cs
-        → result ≡ length cs
-    go true z n a b e = let l : length rest ≡ 0 = eqb-true _ 0 z in omega (arith, none l, a l, e)
-    go false z n a b e = let l : 0 < length rest = omega (arith, eqb-false _ 0 z) in omega (arith, some l, b l, e)
+all_counted p count result body rest counted ends none some s first cs t = grind (arith, common_steps, free_left, eqb-true, eqb-false)

@@ -1,83 +1,71 @@
 -- There is one way to remove the marks of all fixed files. The steps:
--- 1. If the fault of a cell is Fixed, the cell's attributes lie within the bytes, and their bit 0x04 is set.
+-- 1. If the fault of a cell is Fixed, the cell is a file that is valid by its state, and only its mark is wrong
+--    (`fixed_there`).
 -- 2. Without the mark, the file is no longer fixed, and the bytes before it are the same.
 -- 3. The marks are removed one after another, and cells tile the body up to each place.
 -- 4. There is one way to remove all marks (`one_unmarked`).
 -- 5. If all marks can be removed, a cell begins at each place after the mark there was removed (`unmarked_cell`).
-use Rattle.std.proofs.Common.{◌≡◌, ◌≤◌, ◌<◌, ℕ, ◌+◌, ◌-◌, ◌%◌, [], ◌∷◌, ◌++◌, ◌≢◌, ◌⊎◌, ◌||◌, ◌&&◌, ◌==◌, List, length, take, drop, refl, sym, ap}
-use Rattle.std.proofs.Common.{◌∙◌, subst, arith, Bool, true, false, length-drop, inl, inr, not, nat_le, slice_index, slice_set, nat_lt, Option, None}
+use Rattle.std.proofs.lemmas.Grind.{common_steps}
+use Rattle.std.proofs.Common.{◌≡◌, ◌≤◌, ◌<◌, ℕ, ◌+◌, ◌-◌, ◌%◌, [], ◌∷◌, ◌++◌, ◌≢◌, ◌⊎◌, ◌&&◌, ◌==◌, List, length, take, drop, refl, sym, ap}
+use Rattle.std.proofs.Common.{◌∙◌, subst, arith, Bool, true, false, length-drop, inl, inr, not, nat_le, slice_index, slice_set, Option, None}
 use Rattle.std.proofs.Common.{Some, Ok, Err, Result, leb-true, ltb-false, eq-eqb, get_or-drop, get_or-set_same, get_or-set_other, length-set}
-use Rattle.fv_base.proofs.Laws.{length-take-le, take-append-drop, AllByRecursion, nat_tests, take-set-le, First, Check, check, AllHold, outer_fault}
-use Rattle.fv_base.proofs.Laws.{AllAre, erased_byte, and_split, in_middle, up_is_not_down}
+use Rattle.fv_base.proofs.Laws.{length-take-le, take-append-drop, nat_tests, take-set-le, First, outer_fault}
+use Rattle.fv_base.proofs.Laws.{AllAre, erased_byte, and_split, up_is_not_down}
+use Rattle.fv_base.specs.inner.Verdicts.{first_fault}
 use Rattle.fv_base.specs.declared.fault.Fault.{Fault}
 use Rattle.fv_base.specs.declared.flash.FileSystem.{FileSystem}
 use Rattle.fv_base.specs.declared.flash.Polarity.{Polarity}
-use Rattle.fv_file.specs.Words.{CellForm, is_free, IsCell, Tiles, cell_len, IsFirstCellFault, cell_checks, file_checks, state_checks, leading_count}
-use Rattle.fv_file.specs.Words.{attributes_at, is_fixed, bits_of, state_of, state_at, unmarked, Unmarks}
+use Rattle.fv_file.specs.Words.{CellForm, is_free, IsCell, Tiles, cell_len, IsFirstCellFault, file_checks, state_checks, stub_checks}
+use Rattle.fv_file.specs.Words.{file_header_len_at, attributes_at, is_fixed, bits_of, state_of, state_at, unmarked, Unmarks}
 use Rattle.fv_file.specs.declared.state.FileState.{FileState}
-use Rattle.fv_file.specs.inner.CellVerdicts.{cell_verdict, stray}
-use Rattle.fv_file.proofs.CellVerdictLemmas.{verdict_first, no_bits}
+use Rattle.fv_file.specs.inner.CellVerdicts.{cell_verdict, sort_of, stray}
+use Rattle.fv_file.proofs.CellVerdictLemmas.{verdict_fails, no_bits}
+use Rattle.fv_file.proofs.FileVerdictLemmas.{MarkedFile, held, marked_file}
 use Rattle.fv_file.proofs.ErasedByteLemmas.{all_at}
 use Rattle.fv_file.proofs.BodyLemmas.{Upto, upto_begins, stands_here, one_on, first_here, none_after}
 use Rattle.fv_file.proofs.CellFoundLemmas.{CellStandsAt}
 use Rattle.fv_file.proofs.OneFaultLemmas.{one_cell_fault}
 use Rattle.fv_base.specs.declared.fault.FaultKind.TheVariants as kinds
 use Rattle.fv_file.specs.declared.state.FileState.TheVariants as states
+use Rattle.fv_file.specs.inner.CellVerdicts as sorts
 
 -- ---- 1. the fault Fixed
 
-or_not : (a b : Bool) → (a || not b) ≡ false → b ≡ true
-or_not true b h = cc
-or_not false true h = refl
-or_not false false h = cc
-
-module _ (at : ℕ) (r : List ℕ) where
-  -- a check whose fault is Fixed has it at the attributes, and fails only if they have the bit
-  abbrev Marked : Check Fault → Type 0
-  Marked c = c.fault.kind ≡ kinds.Fixed → c.holds ≡ false
-      → (c.fault ≡ outer_fault kinds.Fixed (at + 19)) × (is_fixed (attributes_at r) ≡ true)
-
-  file_marked : (s : FileSystem) (alive : Bool) → AllByRecursion Marked (file_checks s alive at r)
-  file_marked s alive =
-      (λ e h. cc, (λ e h. cc, (λ e h. cc, (λ e h. cc, (λ e h. (refl, or_not _ _ h), (λ e h. cc, tt))))))
-
-  state_marked : (o : Option FileState) (s : FileSystem) → AllByRecursion Marked (state_checks o s at r)
-  state_marked None s = (λ e h. cc, tt)
-  state_marked (Some states.Free) s = tt
-  state_marked (Some states.Construction) s = (λ e h. cc, tt)
-  state_marked (Some states.HeaderInvalid) s = (λ e h. cc, tt)
-  state_marked (Some states.HeaderValid) s = file_marked s false
-  state_marked (Some states.DataValid) s = file_marked s true
-  state_marked (Some states.Marked) s = file_marked s true
-  state_marked (Some states.Deleted) s = file_marked s false
-
-  cell_marked : (s : FileSystem) (p : Polarity) → AllByRecursion Marked (cell_checks s p at r)
-  cell_marked s p = (λ e h. cc, state_marked (state_of p (state_at r)) s)
-
--- the fault Fixed is at the attributes, and the bytes there have the bit
-pub record FixedThere (p : Polarity) (at : ℕ) (r : List ℕ) (f : Fault) : Type 0 where
-  pub fault : f ≡ outer_fault kinds.Fixed (at + 19)
-  pub fixed : is_fixed (attributes_at r) ≡ true
+-- the fault Fixed is the fault of a file that is valid by its state
+pub record FixedThere (s : FileSystem) (p : Polarity) (at : ℕ) (r : List ℕ) (f : Fault) : Type 0 where
   pub long : 24 ≤ length r
   pub used : not (bits_of p (state_at r) == 0) ≡ true
+  pub state : FileState
+  pub shown : state_of p (state_at r) ≡ Some state
+  pub sort : sort_of state ≡ sorts.Valid
+  pub file : MarkedFile s state at r f
 
 pub fixed_there : (s : FileSystem) (p : Polarity) (at : ℕ) (r : List ℕ) (f : Fault) → cell_verdict s p at r ≡ Err f → f.kind ≡ kinds.Fixed
-    → FixedThere p at r f
+    → FixedThere s p at r f
 fixed_there s p at r f is kind =
-    let w = verdict_first s p at r f is in go w.0 w.1 w.2 w.3 w.4 w.5 w.6
+    let front = held (nat_le 24 (length r) && not (bits_of p (state_at r) == 0)) (stray p at r)
+    (first_fault (state_checks (state_of p (state_at r)) s at r)) f (verdict_fails s p at r f is) kind (λ k. cc) in
+    let both = and_split (nat_le 24 (length r)) (not (bits_of p (state_at r) == 0)) front.0 in
+    in_state (leb-true 24 (length r) both.0) both.1 (state_of p (state_at r)) refl front.1
   where
-    go : (before : List (Check Fault)) (c : Check Fault) (after : List (Check Fault)) → cell_checks s p at r ≡ before ++ (c ∷ after)
-        → AllHold before → c.holds ≡ false → f ≡ c.fault → FixedThere p at r f
-    go [] c after e held fails is =
-        let first : c ≡ check (nat_le 24 (length r) && not (bits_of p (state_at r) == 0)) kinds.FreeSpace (at + leading_count (erased_byte p) r) = cc in
-        let other : kinds.FreeSpace ≡ kinds.Fixed = ap (λ (d : Check Fault). d.fault.kind) (sym first) ∙ ap (λ (g : Fault). g.kind) (sym is) ∙ kind in
-        cc
-    go (d ∷ ds) c after e held fails is =
-        let all = subst (λ (cs : List (Check Fault)). AllByRecursion (Marked at r) cs) e (cell_marked at r s p) in
-        let here = in_middle (Marked at r) (d ∷ ds) c after all (ap (λ (g : Fault). g.kind) (sym is) ∙ kind) fails in
-        let first : d ≡ check (nat_le 24 (length r) && not (bits_of p (state_at r) == 0)) kinds.FreeSpace (at + leading_count (erased_byte p) r) = cc in
-        let both = and_split (nat_le 24 (length r)) (not (bits_of p (state_at r) == 0)) (ap (λ (g : Check Fault). g.holds) (sym first) ∙ held.0) in
-        record { fault = is ∙ here.0; fixed = here.1; long = leb-true _ _ both.0; used = both.1 }
+    stub : {A : Type 0} → first_fault (stub_checks at r) ≡ Some f → A
+    stub v = let none = (held (nat_le (file_header_len_at r) (length r)) (outer_fault kinds.FileSize (at + 20)) None f v kind (λ k. cc)).1 in cc
+
+    dead : {A : Type 0} → first_fault (file_checks s false at r) ≡ Some f → A
+    dead v = let skipped : true ≡ false = (marked_file s states.Deleted at r f v kind).checked in cc
+
+    in_state : 24 ≤ length r → not (bits_of p (state_at r) == 0) ≡ true → (o : Option FileState) → state_of p (state_at r) ≡ o
+        → first_fault (state_checks o s at r) ≡ Some f → FixedThere s p at r f
+    in_state long used None shown v = let none = (held false (outer_fault kinds.FileState (at + 23)) None f v kind (λ k. cc)).0 in cc
+    in_state long used (Some states.Free) shown v = cc
+    in_state long used (Some states.Construction) shown v = stub v
+    in_state long used (Some states.HeaderInvalid) shown v = stub v
+    in_state long used (Some states.HeaderValid) shown v = dead v
+    in_state long used (Some states.Deleted) shown v = dead v
+    in_state long used (Some states.DataValid) shown v =
+        record { long = long; used = used; state = states.DataValid; shown = shown; sort = refl; file = marked_file s states.DataValid at r f v kind }
+    in_state long used (Some states.Marked) shown v =
+        record { long = long; used = used; state = states.Marked; shown = shown; sort = refl; file = marked_file s states.Marked at r f v kind }
 
 -- attributes with the bit are at least 4
 pub fixed_least : (a : ℕ) → is_fixed a ≡ true → 4 ≤ a
@@ -95,17 +83,10 @@ front_unmarked p b = take-set-le p (slice_set b (p + 16) ((slice_index b (p + 16
 
 attributes_unmarked : (p : ℕ) (b : List ℕ) → p + 19 < length b
     → attributes_at (drop p (unmarked p b)) ≡ slice_index b (p + 19) - 4
-attributes_unmarked p b l =
-    get_or-drop p (unmarked p b) 19 0
-    ∙ get_or-set_same (slice_set b (p + 16) ((slice_index b (p + 16) + 4) % 256)) (p + 19) (slice_index b (p + 19) - 4) 0
-    (subst (λ (n : ℕ). p + 19 < n) (sym (length-set b (p + 16) ((slice_index b (p + 16) + 4) % 256))) l)
+attributes_unmarked p b l = grind (arith, common_steps, get_or-drop, get_or-set_same, length-set)
 
 state_unmarked : (p : ℕ) (b : List ℕ) → state_at (drop p (unmarked p b)) ≡ state_at (drop p b)
-state_unmarked p b =
-    get_or-drop p (unmarked p b) 23 0
-    ∙ get_or-set_other (slice_set b (p + 16) ((slice_index b (p + 16) + 4) % 256)) (p + 19) (p + 23) (slice_index b (p + 19) - 4) 0 (λ e. omega (arith, e))
-    ∙ get_or-set_other b (p + 16) (p + 23) ((slice_index b (p + 16) + 4) % 256) 0 (λ e. omega (arith, e))
-    ∙ sym (get_or-drop p b 23 0)
+state_unmarked p b = grind (arith, common_steps, get_or-drop, get_or-set_other)
 
 bit_cleared : (a : ℕ) → is_fixed a ≡ true → is_fixed (a - 4) ≡ true → ⊥
 bit_cleared a h k = grind (arith, nat_tests)
@@ -115,7 +96,7 @@ pub not_fixed_again : (s : FileSystem) (p : Polarity) (from at : ℕ) (b : List 
     → is_fixed (slice_index b (at + 19)) ≡ true → cell_verdict s p from (drop at (unmarked at b)) ≡ Err f → f.kind ≢ kinds.Fixed
 not_fixed_again s p from at b f l fixed is kind =
     let again = fixed_there s p from (drop at (unmarked at b)) f is kind in
-    bit_cleared (slice_index b (at + 19)) fixed (ap is_fixed (sym (attributes_unmarked at b l)) ∙ again.fixed)
+    bit_cleared (slice_index b (at + 19)) fixed (ap is_fixed (sym (attributes_unmarked at b l)) ∙ again.file.fixed)
 
 not_up : (t : Bool) → not t ≡ true → t ≡ false
 not_up false h = refl
@@ -264,10 +245,7 @@ unmarked_cell s p first old body new at accepts k used step plain = go (cell_ver
 
 -- if a cell begins the bytes, there are at least the 24 bytes of a header
 pub cell_long : (s : FileSystem) (p : Polarity) (at : ℕ) (r : List ℕ) (c : CellForm) → cell_verdict s p at r ≡ Ok c → 24 ≤ length r
-cell_long s p at r c is = go (nat_lt (length r) 24) refl where
-  go : (t : Bool) → nat_lt (length r) 24 ≡ t → 24 ≤ length r
-  go true l = let bad : Err (stray p at r) ≡ Ok c = sym (rw l refl) ∙ is in cc
-  go false l = ltb-false (length r) 24 l
+cell_long s p at r c is = grind (arith, common_steps, ltb-false)
 
 -- after the cell at the place, the marks up to the next place are removed
 pub one_further : (s : FileSystem) (p : Polarity) (first : ℕ) (old body : List ℕ) (at len : ℕ) (c : CellForm) → Unmarked s p first old body at

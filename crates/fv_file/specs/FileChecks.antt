@@ -1,5 +1,5 @@
--- The checks of a file and of a cell in order, and the faults of a body: the first, or any (PI specification, volume 3,
--- sections 3.2.2 and 3.2.3.1).
+-- The checks of a file and of a cell in order, and the faults of a body: its first fault, or any fault (PI specification,
+-- volume 3, sections 3.2.2 and 3.2.3.1).
 use Rattle.std.specs.List.{AllByRecursion}
 use Rattle.std.specs.Prelude.{ℕ, ◌≡◌, ◌+◌, ◌-◌, ◌<◌, ◌==◌, nat_le, ◌&&◌, ◌||◌, not, Bool, true, false, if◌then◌else◌}
 use Rattle.std.specs.Prelude.{Option, Some, None, List, [], ◌∷◌, length, take, drop}
@@ -71,7 +71,8 @@ file_checks system alive p r =
     ∷ check (skips_data alive r || has_file_sum r) kinds.FileSum (p + 17)
     ∷ []
 
--- the only check of a stub (a header under construction or an invalid header): the header is complete
+-- the only check of a stub (a header under construction or an invalid header): r has at least as many bytes as the
+-- header, which has 24 bytes, or 32 if bit 01 of its attributes is set
 abbrev pub stub_checks : ℕ → List ℕ → List (Check Fault)
 stub_checks p r = check (nat_le (file_header_len_at r) (length r)) kinds.FileSize (p + 20) ∷ []
 

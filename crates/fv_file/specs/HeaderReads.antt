@@ -36,7 +36,7 @@ pub record IsNewHeader (polarity : Polarity) (head : FileHead) (h : List ℕ) : 
   pub bytes : IsBytes h
 
 -- h begins the cell of a valid file, in each file system that allows this header. Any data of the right length that
--- make the file sound may follow, and then any filler up to the next multiple of 8
+-- make the file sound may follow, and then any filler of 0 to 7 bytes up to a multiple of 8
 abbrev pub IsHeadOfFile : Polarity → FileHead → List ℕ → Type 0
 IsHeadOfFile polarity head h =
     (system : FileSystem) (at : ℕ) (payload filler : List ℕ)
@@ -46,14 +46,14 @@ IsHeadOfFile polarity head h =
     → IsCell system polarity (Valid at head payload) (h ++ (payload ++ filler))
 
 -- h begins the cell of a pad, in each file system. Any bytes may follow, as many as the size requires, and then any
--- filler up to the next multiple of 8
+-- filler of 0 to 7 bytes up to a multiple of 8
 abbrev pub IsHeadOfPad : Polarity → FileHead → List ℕ → Type 0
 IsHeadOfPad polarity head h =
     (system : FileSystem) (at : ℕ) (payload filler : List ℕ) → head.size ≡ length h + length payload → length filler < 8
     → (head.size + length filler) % 8 ≡ 0 → IsCell system polarity (Pad at head payload) (h ++ (payload ++ filler))
 
--- the fields of the header of a new file with valid data (`fields_of`, `file_fields`), and of a new pad (`pad_fields`);
--- the header checksum is an argument
+-- the fields of a new header (`fields_of`): of a file with valid data (`file_fields`), and of a pad (`pad_fields`). The
+-- header checksum is an argument
 abbrev pub fields_of : List ℕ → ℕ → ℕ → ℕ → Bool → ℕ → ℕ → FileHead
 fields_of name kind attributes size large header_sum file_sum = record {
   name = guid_of name;

@@ -23,10 +23,10 @@ use fv_base::{Fault, FaultKind, FileSystem, Polarity, all_are, check};
 use std::alloc::Global;
 use std::marker::Model;
 
-// Returns whether all bytes of `rest`, the part of the body that is left, are erased. Then `rest`
-// is a free cell, or no bytes are left. `all_are` is called only if fewer than 24 bytes are left or
-// `State` is erased. Then the walk ends here: if all bytes of `rest` are erased, `rest` is a free
-// cell, and otherwise `cell_at` rejects the body. So a walk calls `all_are` at most once.
+// Returns whether all bytes of `rest`, the part of the body that is left, are erased. They are not
+// if there are 24 bytes and State is not erased, so `all_are` is not called then. Wherever it is
+// called, the walk ends: `rest` is a free cell or no bytes, or `cell_at` rejects the body. So a walk
+// calls `all_are` at most once.
 pub(crate) fn is_free(rest: &[u8], polarity: Polarity) -> bool
     ensures { result ≡ all_are (erased_byte polarity) rest.now }
 {

@@ -1,11 +1,12 @@
 //! The header of a file, and the checks of a file.
 
-ghost use Rattle.std.specs.Prelude.{◌≡◌, ◌==◌, ◌≤◌, ◌<◌, ◌^◌, ◌&&◌, ◌||◌, not, nat_le, length, IfOk};
+ghost use Rattle.std.specs.Prelude.{◌≡◌, ◌==◌, ◌≤◌, ◌<◌, ◌^◌, ◌||◌, not, nat_le, length, None, Some, IfOk, IfErr, OnOk};
 ghost use Rattle.fv_base.specs.Words.{le_at};
-ghost use Rattle.fv_file.specs.FileAttributes.{attribute_bits, is_large};
-ghost use Rattle.fv_file.specs.FileChecks.{file_header_len_at, file_size_at, has_header_sum, may_be_large};
-ghost use Rattle.fv_file.specs.FileHeaders.{head_in, header_sum_of, attributes_at, file_header_len, file_sum_right};
-ghost use Rattle.fv_file.specs.FileHeaders.{pad_kind};
+ghost use Rattle.fv_base.specs.inner.Verdicts.{first_fault};
+ghost use Rattle.fv_file.specs.FileAttributes.{attribute_bits, is_fixed, is_large};
+ghost use Rattle.fv_file.specs.FileChecks.{file_header_len_at, file_size_at, file_checks, may_be_large, has_header_sum};
+ghost use Rattle.fv_file.specs.FileChecks.{has_file_size, has_file_sum, skips_data};
+ghost use Rattle.fv_file.specs.FileHeaders.{head_in, header_sum_of, attributes_at, file_header_len};
 ghost use Rattle.fv_file.specs.States.{is_alive};
 ghost use Rattle.fv_file.specs.inner.CellVerdicts.{file_verdict};
 
@@ -133,6 +134,14 @@ fn header_sum(header: &[u8]) -> u8
         .wrapping_add(sum8(bytes_from(header, HEADER_LEN)))
 }
 
+// Returns whether all bytes of the header are there.
+fn has_header(rest: &[u8]) -> bool
+    requires { 24 ≤ length rest.now }
+    ensures { result ≡ nat_le (file_header_len_at rest.now) (length rest.now) }
+{
+    header_len_at(rest) <= rest.len()
+}
+
 // Returns whether the header sums to zero, so that its header checksum is right.
 fn has_header_sum(rest: &[u8]) -> bool
     requires least { 24 ≤ length rest.now }
@@ -142,37 +151,92 @@ fn has_header_sum(rest: &[u8]) -> bool
     header_sum(&rest[..header_len_at(rest)]) == 0
 }
 
+// Returns whether `Size` is zero, as it must be in a large header. Returns true for a short header.
+fn has_unused_size(rest: &[u8]) -> bool
+    requires { 24 ≤ length rest.now }
+    ensures { result ≡ (not (is_large (attributes_at rest.now)) || (le_at 20 3 rest.now == 0)) }
+{
+    !attributes_at(rest).is_large() || short_size(rest) == 0
+}
+
 // Returns whether the file's size is at least the header's length and at most the length of `rest`,
 // and whether `Size` of a large header is zero.
-fn has_file_size(head: &FileHead, rest: &[u8]) -> bool
-    requires { 24 ≤ length rest.now }
-    ensures { result ≡ (nat_le head.now.header_len head.now.size && (nat_le head.now.size (length rest.now)
-        && (not (is_large (attribute_bits head.now.attributes)) || (le_at 20 3 rest.now == 0)))) }
+fn has_file_size(rest: &[u8]) -> bool
+    requires least { 24 ≤ length rest.now }
+    requires header { file_header_len_at rest.now ≤ length rest.now }
+    ensures { result ≡ has_file_size rest.now }
 {
-    if head.size < head.header_len || head.size > rest.len() as u64 {
+    let size = size_at(rest);
+    if size < header_len_at(rest) as u64 || size > rest.len() as u64 {
         return false;
     }
-    !head.attributes.is_large() || short_size(rest) == 0
+    has_unused_size(rest)
 }
 
 // Returns whether the file checksum is right: with the checksum attribute, the data and the file
 // checksum sum to zero modulo 256; otherwise the file checksum is 0xAA.
-pub(crate) fn has_file_sum(head: &FileHead, payload: &[u8]) -> bool
-    ensures { result ≡ file_sum_right (attribute_bits head.now.attributes) head.now.file_sum payload.now }
+pub(crate) fn has_file_sum(rest: &[u8]) -> bool
+    requires least { 24 ≤ length rest.now }
+    requires header { file_header_len_at rest.now ≤ file_size_at rest.now }
+    requires size { file_size_at rest.now ≤ length rest.now }
+    ensures { result ≡ has_file_sum rest.now }
 {
-    if head.attributes.is_summed() {
-        sum8(payload).wrapping_add(head.file_sum) == 0
+    let payload = &rest[header_len_at(rest)..size_at(rest) as usize];
+    let file_sum = rest[FILE_SUM_OFFSET];
+    if attributes_at(rest).is_summed() {
+        sum8(payload).wrapping_add(file_sum) == 0
     } else {
-        head.file_sum == FIXED_CHECKSUM
+        file_sum == FIXED_CHECKSUM
     }
 }
 
-// Returns whether the fixed bit and the file checksum are checked: only in a valid file that is not
-// a pad.
-fn checks_data(head: &FileHead) -> bool
-    ensures { result ≡ (is_alive head.now.state && not (head.now.kind == pad_kind)) }
+// Returns whether the fixed bit and the file checksum are not checked: the file is not valid in
+// this state, or it is a pad.
+fn skips_data(rest: &[u8], state: FileState) -> bool
+    requires { 24 ≤ length rest.now }
+    ensures { result ≡ skips_data (is_alive state) rest.now }
 {
-    head.state.is_alive() && head.kind != FFS_PAD
+    !state.is_alive() || rest[TYPE_OFFSET] == FFS_PAD
+}
+
+// Returns whether the file is not fixed, or its fixed bit is not checked.
+fn may_move(rest: &[u8], state: FileState) -> bool
+    requires { 24 ≤ length rest.now }
+    ensures { result ≡ (skips_data (is_alive state) rest.now || not (is_fixed (attributes_at rest.now))) }
+{
+    skips_data(rest, state) || !attributes_at(rest).is_fixed()
+}
+
+// Returns whether the file checksum is right or is not checked.
+fn has_sound_data(rest: &[u8], state: FileState) -> bool
+    requires least { 24 ≤ length rest.now }
+    requires header { file_header_len_at rest.now ≤ file_size_at rest.now }
+    requires size { file_size_at rest.now ≤ length rest.now }
+    ensures { result ≡ (skips_data (is_alive state) rest.now || has_file_sum rest.now) }
+{
+    skips_data(rest, state) || has_file_sum(rest)
+}
+
+// Makes the checks of the file at the start of `rest`, which is at the offset `at` of the volume.
+// Returns the first fault, if there is one.
+#[inline(always)]
+fn check_file(rest: &[u8], at: u64, system: FileSystem, state: FileState) -> Result<(), Fault>
+    requires least { 24 ≤ length rest.now }
+    requires place { at < 2 ^ 63 }
+    ensures ok { OnOk result (first_fault (file_checks system (is_alive state) at rest.now) ≡ None) }
+    ensures within { OnOk result
+        ((file_header_len_at rest.now ≤ file_size_at rest.now) × (file_size_at rest.now ≤ length rest.now)) }
+    ensures err { IfErr result (λ f. first_fault (file_checks system (is_alive state) at rest.now) ≡ Some f) }
+{
+    let attributes = at + ATTRIBUTES_OFFSET as u64;
+    let size = at + SIZE_OFFSET as u64;
+    let file_sum = at + FILE_SUM_OFFSET as u64;
+    check(may_be_large(rest, system), FaultKind::LargeFile, attributes)?;
+    check(has_header(rest), FaultKind::FileSize, size)?;
+    check(has_header_sum(rest), FaultKind::FileHeaderSum, at)?;
+    check(has_file_size(rest), FaultKind::FileSize, size)?;
+    check(may_move(rest, state), FaultKind::Fixed, attributes)?;
+    check(has_sound_data(rest, state), FaultKind::FileSum, file_sum)
 }
 
 // Checks the file at the start of `rest`, which is at the offset `at` of the volume. Returns the
@@ -191,19 +255,6 @@ pub(crate) fn file_at(
     ensures size { IfOk result (λ h. (h.header_len ≡ file_header_len_at rest.now) × (h.size ≡ file_size_at rest.now)) }
     ensures within { IfOk result (λ h. (h.header_len ≤ h.size) × (h.size ≤ length rest.now)) }
 {
-    let attributes = at + ATTRIBUTES_OFFSET as u64;
-    let size = at + SIZE_OFFSET as u64;
-    let file_sum = at + FILE_SUM_OFFSET as u64;
-    let header_len = header_len_at(rest);
-    check(may_be_large(rest, system), FaultKind::LargeFile, attributes)?;
-    check(header_len <= rest.len(), FaultKind::FileSize, size)?;
-    check(has_header_sum(rest), FaultKind::FileHeaderSum, at)?;
-    let head = head_in(rest, state);
-    check(has_file_size(&head, rest), FaultKind::FileSize, size)?;
-    if checks_data(&head) {
-        let payload = &rest[header_len..head.size as usize];
-        check(!head.attributes.is_fixed(), FaultKind::Fixed, attributes)?;
-        check(has_file_sum(&head, payload), FaultKind::FileSum, file_sum)?;
-    }
-    Ok(head)
+    check_file(rest, at, system, state)?;
+    Ok(head_in(rest, state))
 }

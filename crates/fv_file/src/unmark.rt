@@ -69,9 +69,9 @@ fn take_marks(body: &mut [u8], first: u64, system: FileSystem, polarity: Polarit
 /// Takes the marks away from all fixed files of a volume's body, which begins at the offset `first`
 /// of the volume, in bytes. For each such file, bit 0x04 of its attributes is cleared and 4 is
 /// added to its header checksum (modulo 256), so no checksum becomes wrong. The fixed files include
-/// files that are marked for update, whether or not they are superseded. Pads, deleted files, and
-/// files of volumes inside the body stay as they are. Takes no memory. (PI specification, volume 3,
-/// section 3.2.3.1, `FFS_ATTRIB_FIXED`.)
+/// files that are marked for update, whether or not they are superseded. Pads, dead cells (deleted
+/// files, and files whose data are not valid), stubs, and files of volumes inside the body stay as
+/// they are. Takes no memory. (PI specification, volume 3, section 3.2.3.1, `FFS_ATTRIB_FIXED`.)
 ///
 /// # Errors
 ///

@@ -11,9 +11,8 @@ ghost use Rattle.fv_file.specs.inner.CellVerdicts.{cell_verdict};
 ghost use Rattle.fv_file.specs.inner.MarkSteps.{OneMarkLess};
 
 use crate::cell_walk::{cell_at, is_free, span_of};
-use crate::head::{has_file_sum, head_in};
+use crate::head::{has_file_sum, size_at};
 use crate::offsets::FILE_SUM_OFFSET;
-use crate::state::FileState;
 use fv_base::field::{bytes_from, up_to_8};
 use fv_base::{Fault, FaultKind, FileSystem, Polarity, check};
 
@@ -27,11 +26,9 @@ fn sound_size(rest: &[u8], at: u64) -> Result<u64, Fault>
     ensures right { IfOk result (λ n. (n ≡ file_size_at rest.now) × (has_file_sum rest.now ≡ true)) }
     ensures wrong { IfErr result (λ f. (f ≡ outer_fault FaultKind.FileSum (at + 17)) × (has_file_sum rest.now ≡ false)) }
 {
-    let head = head_in(rest, FileState::DataValid);
-    let payload = &rest[head.header_len as usize..head.size as usize];
     let file_sum = at + FILE_SUM_OFFSET as u64;
-    check(has_file_sum(&head, payload), FaultKind::FileSum, file_sum)?;
-    Ok(head.size)
+    check(has_file_sum(rest), FaultKind::FileSum, file_sum)?;
+    Ok(size_at(rest))
 }
 
 // Returns the length in bytes of the cell at the start of `rest`, including its filler, or the

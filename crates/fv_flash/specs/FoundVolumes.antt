@@ -5,7 +5,7 @@ use Rattle.fv_head.specs.Words.{HeadFields, BeginsVolume}
 use Rattle.fv_head.specs.declared.extent.Extent.{Extent}
 use Rattle.fv_flash.specs.declared.scanner.FoundVolume.{FoundVolume}
 
--- a volume of n bytes begins at the offset k of b
+-- a volume of n bytes begins at the offset k of b: its header is right, and its body is not checked
 abbrev pub VolumeAt : List ℕ → ℕ → ℕ → Type 0
 VolumeAt b k n = (h : HeadFields) × (e : Extent) × BeginsVolume h e (drop k b) × (n ≡ e.length)
 
@@ -26,8 +26,8 @@ DoNotOverlap b (o ∷ os) = AllByRecursion (IsAfter b o) os × DoNotOverlap b os
 abbrev pub IsCovered : List ℕ → List ℕ → ℕ → Type 0
 IsCovered b os k = (o : ℕ) × (n : ℕ) × Contains os o × VolumeAt b o n × (o ≤ k) × (k < o + n)
 
--- a volume begins at each of these offsets, the offsets ascend, the volumes do not overlap, and every multiple of 8 at
--- which a volume begins in b lies in one of these volumes
+-- each of these offsets is a multiple of 8 at which a volume begins, the offsets ascend, the volumes do not overlap, and
+-- every multiple of 8 at which a volume begins in b lies in one of these volumes
 pub record Found (b os : List ℕ) : Type 0 where
   pub places : AllByRecursion (IsPlace b) os
   pub do_not_overlap : DoNotOverlap b os

@@ -65,8 +65,8 @@ fn is_signed(bytes: &[u8], at: usize) -> bool
     bytes[at + 40..at + 44] == SIGNATURE[..]
 }
 
-// Returns the first of the offsets `from`, `from` + 8, and so on, at which there are at least 56
-// bytes with the signature.
+// Returns the first of the offsets `from`, `from` + 8, and so on, from which at least 56 bytes are
+// left and which has the signature 40 bytes after it.
 fn next_signature(bytes: &[u8], from: usize) -> Option<usize>
     requires multiple { from % 8 ≡ 0 }
     requires within { from ≤ length bytes.now }

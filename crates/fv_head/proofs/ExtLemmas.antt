@@ -7,7 +7,7 @@
 --    header that is right, or ExtHeaderOffset is 0 (`some_has_ext`, `has_ext_holds`). Only the volume's own bytes
 --    decide this (`ext_same`).
 -- 4. A reader counts the entries (`entry_counted`, `entries_counted`) and takes them one by one (`more_entries`,
---    `end_entries`), and the extended header that it has read is the volume's (`read_there`).
+--    `end_entries`), and the extended header that it has read is an extended header (`ext_from`).
 use Rattle.std.proofs.Common.{◌≡◌, ◌≤◌, ◌<◌, ℕ, ◌+◌, ◌-◌, [], ◌∷◌, ◌++◌, rules, ◌==◌, ◌&&◌, ◌||◌, if◌then◌else◌, zero, suc, List, length, take, drop}
 use Rattle.std.proofs.Common.{refl, sym, ap, ◌∙◌, subst, arith, inl, inr, Bool, true, false, length-append, length-drop, append_assoc, append-nil}
 use Rattle.std.proofs.Common.{drop-drop, nat_le, Option, Some, None, take_at, drop_at, take-append-drop, length-take-le, take_all, leb-true, le-leb}
@@ -53,12 +53,6 @@ no_entry : (b head payload rest : List ℕ) → Begins b head payload rest → B
 no_entry b head payload rest is (inl short) = absurd (omega (arith, short, is.long))
 no_entry b head payload rest is (inr (inl low)) = absurd (omega (arith, low, is.size))
 no_entry b head payload rest is (inr (inr high)) = absurd (omega (arith, high, is.size, is.long))
-
--- bytes begin with an entry if they begin with a size of at least 4 and are at least that long
-entry_there : (b : List ℕ) (n : ℕ) → n ≡ le_at 0 2 b → 4 ≤ n → n ≤ length b → BeginNoEntry b → ⊥
-entry_there b n size least within (inl short) = absurd (omega (arith, short, least, within))
-entry_there b n size least within (inr (inl low)) = absurd (omega (arith, low, size, least))
-entry_there b n size least within (inr (inr high)) = absurd (omega (arith, high, size, within))
 
 pair_is : (e f : ℕ × List ℕ) → e.0 ≡ f.0 → e.1 ≡ f.1 → e ≡ f
 pair_is e f p q = ap (λ (n : ℕ). (n, e.1)) p ∙ ap (λ (xs : List ℕ). (f.0, xs)) q
@@ -185,18 +179,17 @@ length-ext x b is = grind (arith, common_steps, length-append)
 
 -- ---- where it is
 
--- an extended header lies at ExtHeaderOffset, after the volume header and within the volume
-pub record Placed (x : Extension) (e : Extent) (b part : List ℕ) : Type 0 where
-  pub least : 20 ≤ length part
-  pub most : length part ≤ ext_limit
-  pub size : ext_size_at b ≡ length part
-  pub part_is : part ≡ field (ext_offset_at b) (length part) b
+-- the bytes at ExtHeaderOffset are an extended header, after the volume header and within the volume
+pub record Placed (x : Extension) (e : Extent) (b : List ℕ) : Type 0 where
+  pub least : 20 ≤ ext_size_at b
+  pub most : ext_size_at b ≤ ext_limit
   pub behind_header : e.header_len ≤ ext_offset_at b
-  pub within : ext_offset_at b + length part ≤ e.length
-  pub first : e.first ≡ up_to_8 (ext_offset_at b + length part)
-  pub is_ext : IsExt x part
+  pub within : ext_offset_at b + ext_size_at b ≤ e.length
+  pub size : le_at 16 4 (field (ext_offset_at b) (ext_size_at b) b) ≡ ext_size_at b
+  pub first : e.first ≡ up_to_8 (ext_offset_at b + ext_size_at b)
+  pub is_ext : IsExt x (field (ext_offset_at b) (ext_size_at b) b)
 
-pub placed : (x : Extension) (e : Extent) (b : List ℕ) → (h : HasExt (Some x) e b) → Placed x e b h.1
+pub placed : (x : Extension) (e : Extent) (b : List ℕ) → HasExt (Some x) e b → Placed x e b
 placed x e b (before, part, behind, text, at, low, high, is, first) =
     let least : 20 ≤ length part = omega (arith, length-ext x part is) in
     let moved : drop (length before) b ≡ part ++ behind =
@@ -207,17 +200,22 @@ placed x e b (before, part, behind, text, at, low, high, is, first) =
     let size : ext_size_at b ≡ length part =
     ap (λ (n : ℕ). le_at (n + 16) 4 b) (sym at) ∙ ap le (ap (take 4) (sym (drop-drop 16 (length before) b) ∙ ap (drop 16) moved)
     ∙ field-append_front 16 4 part behind (omega (arith, least)) ∙ head) ∙ is.size in
+    let part_is : field (ext_offset_at b) (ext_size_at b) b ≡ part =
+    ap (λ (n : ℕ). field n (ext_size_at b) b) (sym at) ∙ ap (take (ext_size_at b)) moved ∙ take_at part behind (ext_size_at b) (sym size) in
     record {
-      least = least;
-      most = is.most;
-      size = size;
-      part_is =
-          sym (ap (λ (n : ℕ). field n (length part) b) (sym at) ∙ ap (take (length part)) moved ∙ take_at part behind (length part) refl);
+      least = omega (arith, size, least);
+      most = omega (arith, size, is.most);
       behind_header = omega (arith, at, low);
-      within = omega (arith, at, high);
-      first = first ∙ ap (λ (n : ℕ). up_to_8 (n + length part)) at;
-      is_ext = is;
+      within = omega (arith, at, size, high);
+      size = ap (le_at 16 4) part_is ∙ ap le head ∙ is.size ∙ sym size;
+      first = first ∙ ap (λ (n : ℕ). up_to_8 (n + length part)) at ∙ ap (λ (n : ℕ). up_to_8 (ext_offset_at b + n)) (sym size);
+      is_ext = subst (IsExt x) (sym part_is) is;
     }
+
+-- if ExtHeaderOffset is not 0, the volume has an extended header there
+pub placed_there : (x : Option Extension) (e : Extent) (b : List ℕ) → HasExt x e b → (ext_offset_at b ≡ 0 → ⊥) → (y : Extension) × Placed y e b
+placed_there None e b h some = absurd (some h.0)
+placed_there (Some x) e b h some = (x, placed x e b h)
 
 -- a volume has at most one extended header
 pub one_has_ext : (x y : Option Extension) (e : Extent) (b : List ℕ) → 64 ≤ e.header_len → HasExt x e b → HasExt y e b → x ≡ y
@@ -225,11 +223,8 @@ one_has_ext None None e b least first second = refl
 one_has_ext None (Some y) e b least first second = absurd (omega (arith, least, first.0, (placed y e b second).behind_header))
 one_has_ext (Some x) None e b least first second = absurd (omega (arith, least, second.0, (placed x e b first).behind_header))
 one_has_ext (Some x) (Some y) e b least first second =
-    let p = placed x e b first in
-    let q = placed y e b second in
-    let same : first.1 ≡ second.1 = p.part_is ∙ ap (λ (n : ℕ). field (ext_offset_at b) n b) (sym p.size ∙ q.size) ∙ sym q.part_is in
     ap (λ (z : Extension). let A : Type 0 = Option Extension in let made : A = Some z in made)
-    (one_ext x y second.1 (subst (IsExt x) same p.is_ext) q.is_ext)
+    (one_ext x y (field (ext_offset_at b) (ext_size_at b) b) (placed x e b first).is_ext (placed y e b second).is_ext)
 
 -- an extended header that lies after the volume header and within the volume is the volume's
 pub make_has_ext : (x : Extension) (e : Extent) (b : List ℕ) (n : ℕ) → e.length ≤ length b → e.header_len ≤ ext_offset_at b
@@ -298,8 +293,8 @@ pub has_ext_holds : (x : Option Extension) (e : Extent) (b : List ℕ) → HasEx
 has_ext_holds None e b h = rw h.0 refl
 has_ext_holds (Some x) e b h =
     let p = placed x e b h in
-    or_right (ext_offset_at b == 0) _ (rw p.size (tests_hold (ext_offset_at b) e.header_len (length h.1) e.length p.behind_header
-    (omega (arith, p.least, p.within)) p.least p.most p.within))
+    or_right (ext_offset_at b == 0) _ (tests_hold (ext_offset_at b) e.header_len (ext_size_at b) e.length p.behind_header
+    (omega (arith, p.least, p.within)) p.least p.most p.within)
   where
     or_right : (s t : Bool) → t ≡ true → (s || t) ≡ true
     or_right true t is = refl
@@ -311,7 +306,7 @@ pub has_ext_first : (x : Option Extension) (e : Extent) (b : List ℕ) → 64 �
 has_ext_first None e b least h = rw h.0 (sym h.1)
 has_ext_first (Some x) e b least h =
     let p = placed x e b h in
-    rw (not_zero (ext_offset_at b) (omega (arith, least, p.behind_header)), p.size) (sym p.first)
+    rw (not_zero (ext_offset_at b) (omega (arith, least, p.behind_header))) (sym p.first)
   where
     not_zero : (o : ℕ) → 0 < o → (o == 0) ≡ false
     not_zero o some = grind (arith, nat_tests)
@@ -329,46 +324,35 @@ ext_same x e b c least within h long same = go x h where
   go None h = (offset ∙ h.0, h.1)
   go (Some x) h =
       let p = placed x e b h in
-      let n : ℕ = length h.1 in
+      let n : ℕ = ext_size_at b in
       let o : ℕ = ext_offset_at b in
-      let part : field (ext_offset_at c) n c ≡ h.1 =
-      ap (λ (k : ℕ). field k n c) offset ∙ sym (field-take o n e.length c p.within) ∙ ap (field o n) same
-      ∙ field-take o n e.length b p.within ∙ sym p.part_is in
+      let part : field (ext_offset_at c) n c ≡ field o n b =
+      ap (λ (k : ℕ). field k n c) offset ∙ sym (field-take o n e.length c p.within) ∙ ap (field o n) same ∙ field-take o n e.length b p.within in
       make_has_ext x e c n long (omega (arith, offset, p.behind_header)) (omega (arith, offset, p.within))
       (p.first ∙ ap (λ (k : ℕ). up_to_8 (k + n)) (sym offset)) (subst (IsExt x) (sym part) p.is_ext)
 
 -- ---- reading
 
--- if all bytes are some entries and a tail, the rest is the entries after the first `count` entries, and the same tail
+-- entries and a tail that split the rest, with the entries before the rest, split all bytes
 abbrev pub EntriesLeft : ℕ → List ℕ → List ℕ → Type 0
 EntriesLeft count bytes rest =
-    (es : List (ℕ × List ℕ)) (tail : List ℕ) → SplitsEntries es tail bytes
-    → (fs : List (ℕ × List ℕ)) × SplitsEntries fs tail rest × (count + length fs ≡ length es)
-
--- the bytes after an entry are the further entries and the tail
-without_entry : (n : ℕ) (fs : List (ℕ × List ℕ)) (tail rest : List ℕ) → n ≡ le_at 0 2 rest → 4 ≤ n → n ≤ length rest → SplitsEntries fs tail rest
-    → (gs : List (ℕ × List ℕ)) × SplitsEntries gs tail (drop n rest) × (length fs ≡ 1 + length gs)
-without_entry n [] tail rest size least within (is, ended) = absurd (entry_there rest n size least within ended)
-without_entry n (f ∷ fs) tail rest size least within (head, payload, behind, text, four, sized, kind, kept, more) =
-    let begin = begins rest head payload behind text four sized in
-    (fs, subst (SplitsEntries fs tail) (begin.rest_is ∙ ap (λ (k : ℕ). drop k rest) (sym size)) more, omega arith)
+    (es : List (ℕ × List ℕ)) (tail : List ℕ) → SplitsEntries es tail rest
+    → (all : List (ℕ × List ℕ)) × SplitsEntries all tail bytes × (length all ≡ count + length es)
 
 -- one more entry is counted, and the bytes after it are left
 pub entry_counted : (count n : ℕ) (bytes rest behind : List ℕ) → behind ≡ drop n rest → n ≡ le_at 0 2 rest → 4 ≤ n → n ≤ length rest
     → EntriesLeft count bytes rest → EntriesLeft (count + 1) bytes behind
-entry_counted count n bytes rest behind back size least within sofar es tail split =
-    let left = sofar es tail split in
-    let next = without_entry n left.0 tail rest size least within left.1 in
-    (next.0, subst (SplitsEntries next.0 tail) (sym back) next.1, omega (arith, next.2, left.2))
+entry_counted count n bytes rest behind back size least within sofar es tail more =
+    let e : ℕ × List ℕ = (le_at 2 2 rest, kept_payload (le_at 2 2 rest) (field 4 (n - 4) rest)) in
+    let all = sofar (e ∷ es) tail (entry_before rest n e es tail size least within refl refl (subst (SplitsEntries es tail) back more)) in
+    (all.0, all.1, omega (arith, all.2))
 
 -- if the rest begins with no entry, all entries are counted
 pub entries_counted : (count : ℕ) (bytes rest : List ℕ) → EntriesLeft count bytes rest → BeginNoEntry rest
     → (es : List (ℕ × List ℕ)) (tail : List ℕ) → SplitsEntries es tail bytes → count ≡ length es
-entries_counted count bytes rest sofar ended es tail split = none_left (sofar es tail split) where
-  none_left : (fs : List (ℕ × List ℕ)) × SplitsEntries fs tail rest × (count + length fs ≡ length es) → count ≡ length es
-  none_left ([], more, is) = omega (arith, is)
-  none_left (f ∷ fs, (head, payload, behind, text, four, sized, kind, kept, more), is) =
-      absurd (no_entry rest head payload behind (begins rest head payload behind text four sized) ended)
+entries_counted count bytes rest sofar ended es tail split =
+    let all = sofar [] rest (refl, ended) in
+    omega (arith, all.2, ap length (one_entries all.0 es rest tail bytes all.1 split).0)
 
 -- an entry is read: it is added to the entries so far, and the entries of the rest complete them
 pub more_entries : (items new : List (ℕ × List ℕ)) (e : ℕ × List ℕ) (bytes rest behind entry : List ℕ) (n : ℕ) → new ≡ items ++ (e ∷ [])
@@ -399,34 +383,3 @@ pub ext_from : (b : List ℕ) (g : Guid) (es : List (ℕ × List ℕ)) (tail : L
     → le_at 16 4 b ≡ length b → bytes_of g ≡ take 16 b
     → SplitsEntries es tail (take (length b - 20) (drop 20 b)) → IsExt (record { name = g; entries = es; tail = tail }) b
 ext_from b g es tail least most size name entries = search (rules, ext_of, take_all, length-drop)
-
--- the conditions that an extended header meets if ExtHeaderOffset is not 0
-pub record ExtStands (e : Extent) (b : List ℕ) : Type 0 where
-  pub least : 20 ≤ ext_size_at b
-  pub most : ext_size_at b ≤ ext_limit
-  pub behind_header : e.header_len ≤ ext_offset_at b
-  pub within : ext_offset_at b + ext_size_at b ≤ e.length
-  pub size : le_at 16 4 (field (ext_offset_at b) (ext_size_at b) b) ≡ ext_size_at b
-  pub first : e.first ≡ up_to_8 (ext_offset_at b + ext_size_at b)
-
-pub stands : (x : Option Extension) (e : Extent) (b : List ℕ) → HasExt x e b → (ext_offset_at b ≡ 0 → ⊥) → ExtStands e b
-stands None e b h some = absurd (some h.0)
-stands (Some x) e b h some =
-    let p = placed x e b h in
-    let inner : le_at 16 4 (field (ext_offset_at b) (ext_size_at b) b) ≡ ext_size_at b =
-    ap le (field-take 16 4 (ext_size_at b) (drop (ext_offset_at b) b) (omega (arith, p.least, p.size))
-    ∙ ap (take 4) (drop-drop 16 (ext_offset_at b) b)) in
-    record {
-      least = omega (arith, p.least, p.size);
-      most = omega (arith, p.most, p.size);
-      behind_header = p.behind_header;
-      within = omega (arith, p.within, p.size);
-      size = inner;
-      first = p.first ∙ ap (λ (n : ℕ). up_to_8 (ext_offset_at b + n)) (sym p.size);
-    }
-
--- an extended header that is read at ExtHeaderOffset is the volume's
-pub read_there : (x : Extension) (e : Extent) (b part : List ℕ) → ExtStands e b → e.length ≤ length b
-    → part ≡ field (ext_offset_at b) (ext_size_at b) b → IsExt x part → HasExt (Some x) e b
-read_there x e b part s whole is read =
-    make_has_ext x e b (ext_size_at b) whole s.behind_header s.within s.first (subst (IsExt x) is read)

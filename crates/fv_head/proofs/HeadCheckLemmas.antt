@@ -54,22 +54,25 @@ pub verdict_extent : (b : List ℕ) (fs : FileSystem) → first_fault (head_chec
     → head_verdict b ≡ Ok (extent_at fs b)
 verdict_extent b fs none system = grind (arith, common_steps)
 
--- the checks of a header, each by the name of its field
-pub record Checked (b : List ℕ) : Type 0 where
+-- the checks of a header with this HeaderLength, FvLength and file system, each by the name of its field
+pub record Checked (b : List ℕ) (n len : ℕ) (system : Option FileSystem) : Type 0 where
   pub front_within : nat_le 56 (length b) ≡ true
   pub signature : has_signature b ≡ true
-  pub file_system : is_some (file_system_at b) ≡ true
+  pub file_system : is_some system ≡ true
   pub revision : (slice_index b 55 == 2) ≡ true
-  pub header_len : is_header_len (header_len_at b) ≡ true
-  pub header_within : nat_le (header_len_at b) (length b) ≡ true
-  pub sum : has_sum (header_len_at b) b ≡ true
-  pub block_map : has_block_map (header_len_at b) b ≡ true
-  pub volume_len : is_volume_len (header_len_at b) (volume_len_at b) ≡ true
-  pub volume_within : nat_le (volume_len_at b) (length b) ≡ true
-  pub ext : has_ext (header_len_at b) (volume_len_at b) b ≡ true
+  pub header_len : is_header_len n ≡ true
+  pub header_within : nat_le n (length b) ≡ true
+  pub sum : has_sum n b ≡ true
+  pub block_map : has_block_map n b ≡ true
+  pub volume_len : is_volume_len n len ≡ true
+  pub volume_within : nat_le len (length b) ≡ true
+  pub ext : has_ext n len b ≡ true
 
-pub checked : (b : List ℕ) → AllHold (head_checks b) → Checked b
+pub checked : (b : List ℕ) → AllHold (head_checks b) → Checked b (header_len_at b) (volume_len_at b) (file_system_at b)
 checked b all = grind (arith, common_steps)
+
+all_checked : (b : List ℕ) → Checked b (header_len_at b) (volume_len_at b) (file_system_at b) → AllHold (head_checks b)
+all_checked b k = search rules
 
 front_of : (b : List ℕ) (fs : FileSystem) → IsBytes b → file_system_at b ≡ Some fs → field 16 16 b ≡ system_guid fs
     → AllHold (head_checks b)
@@ -168,40 +171,19 @@ front_exact b h e same least f =
     ap (λ (ps : List (ℕ × ℕ)). makes_up ps h.length) pairs.0
     ∙ and_join _ _ (all_not_zero h.blocks head.no_pair_of_zeros) (eq-eqb _ _ head.makes_up) in
     let last : is_zero_pair (le_at (m - 8) 4 b, le_at (m - 4) 4 b) ≡ true = ap is_zero_pair pairs.1 in
-    let all : AllHold (head_checks b) = rw (same, vol, system) (
-      le-leb 56 (length b) (omega (arith, f.long_enough)),
-      (
-        (bytes_eq-Decides _ _).1 (sym (field-take 40 4 m b (omega arith)) ∙ head.signature),
-        (
-          refl,
-          (
-            eq-eqb _ _ (sym (get_or-take m b 55 0 (omega arith)) ∙ head.revision),
-            (
-              and_join _ _ (and_join _ _ (eq-eqb _ _ multiple) (le-leb _ _ least)) (le-leb _ _ most),
-              (
-                le-leb _ _ f.long_enough,
-                (
-                  eq-eqb _ _ head.sum,
-                  (
-                    and_join _ _ made_up last,
-                    (
-                      and_join _ _ (and_join _ _ (eq-eqb _ _ head.volume_multiple) (le-leb _ _ vol_least)) (le-leb _ _ head.volume_most),
-                      (
-                        le-leb _ _ whole,
-                        (
-                          ap (λ (k : ℕ). has_ext m k b) (sym f.length_is) ∙ has_ext_holds h.ext e b f.ext,
-                          tt,
-                        ),
-                      ),
-                    ),
-                  ),
-                ),
-              ),
-            ),
-          ),
-        ),
-      ),
-    ) in
+    let all : AllHold (head_checks b) = all_checked b (rw (same, vol, system) (record {
+      front_within = le-leb 56 (length b) (omega (arith, f.long_enough));
+      signature = (bytes_eq-Decides _ _).1 (sym (field-take 40 4 m b (omega arith)) ∙ head.signature);
+      file_system = refl;
+      revision = eq-eqb _ _ (sym (get_or-take m b 55 0 (omega arith)) ∙ head.revision);
+      header_len = and_join _ _ (and_join _ _ (eq-eqb _ _ multiple) (le-leb _ _ least)) (le-leb _ _ most);
+      header_within = le-leb _ _ f.long_enough;
+      sum = eq-eqb _ _ head.sum;
+      block_map = and_join (makes_up (blocks_at m b) (volume_len_at b)) _ (rw vol made_up) last;
+      volume_len = and_join _ _ (and_join _ _ (eq-eqb _ _ head.volume_multiple) (le-leb _ _ vol_least)) (le-leb _ _ head.volume_most);
+      volume_within = le-leb _ _ whole;
+      ext = ap (λ (k : ℕ). has_ext m k b) (sym f.length_is) ∙ has_ext_holds h.ext e b f.ext;
+    })) in
     let made : extent_at h.file_system b ≡ e =
     extent_is _ _ _ _ _ e (vol ∙ sym f.length_is) same
     (ap (λ (k : ℕ). if ext_offset_at b == 0 then k else up_to_8 (ext_offset_at b + ext_size_at b)) same

@@ -4,7 +4,7 @@
 --    (`fault_known`).
 -- 3. So a result that is the verdict meets each clause (`ok_found`, `err_first`, `err_within`).
 use Rattle.std.proofs.Common.{◌≡◌, ◌≢◌, ◌≤◌, ℕ, [], ◌∷◌, List, length, refl, sym, ap, ◌∙◌, arith, true, nat_le, is_some, Option, None, Some, Result}
-use Rattle.std.proofs.Common.{Ok, Err, IfOk, IfErr, leb-true}
+use Rattle.std.proofs.Common.{Ok, Err, IfOk, IfErr, leb-true, rules}
 use Rattle.fv_base.proofs.Laws.{AllByRecursion, Check, check, IsFirstFault, outer_fault, IsBytes, all_hold, first_among, first_is}
 use Rattle.fv_base.specs.declared.fault.Fault.{Fault}
 use Rattle.fv_base.specs.declared.flash.FileSystem.{FileSystem}
@@ -35,16 +35,7 @@ fault_within b f (d ∷ ds, c, after, is, held, fails, fault) =
     let first : d ≡ check (nat_le 56 (length b)) kinds.Truncated (length b) = cc in
     let long : 56 ≤ length b = leb-true _ _ (ap (λ (g : Check Fault). g.holds) (sym first) ∙ held.0) in
     let P : Fault → Type 0 = λ g. g.place.offset ≤ length b in
-    let all : AllByRecursion (λ g. P g.fault) (head_checks b) = (
-      omega arith,
-      (
-        omega arith,
-        (
-          omega arith,
-          (omega arith, (omega arith, (omega arith, (omega arith, (omega arith, (omega arith, (omega arith, (omega arith, tt)))))))),
-        ),
-      ),
-    ) in
+    let all : AllByRecursion (λ g. P g.fault) (head_checks b) = search rules in
     first_among P (head_checks b) f all (d ∷ ds, c, after, is, held, fails, fault)
 
 -- the first fault of a header is not OutOfMemory

@@ -1,20 +1,20 @@
 -- A header is the bytes that are written for its fields. The bytes that `canonical_head` spells satisfy
 -- `IsCanonicalHead`, and no other bytes do. The steps:
 -- 1. The bytes that are written for the pairs of some bytes are these bytes (`pairs_bytes-pairs_of`).
--- 2. A header is the bytes that are written for its fields, its checksum and its ExtHeaderOffset (`before_is`,
---    `behind_is`, `patched_is`, `unpatched`).
--- 3. With another ExtHeaderOffset, and the checksum that makes its sum 0, it is a header with the same fields
---    (`patched_head`). There is one such checksum (`sum_patched`, `checksum_right`, `checksum_only`).
+-- 2. A header is the bytes that are written for its fields, its checksum and its ExtHeaderOffset (`front_is`,
+--    `behind_is`, `spelled_is`).
+-- 3. With another ExtHeaderOffset, and the checksum that makes its sum 0, they are a header with the same fields
+--    (`spelled_head`). There is one such checksum (`spelled_sum`, `checksum_right`, `checksum_only`).
 -- 4. So the bytes of `canonical_head` satisfy `IsCanonicalHead` (`canonical_is`), and no other bytes do
 --    (`canonical_only`). With the extended header in a pad file after them, they begin a volume with these fields
 --    (`canonical_front`).
 -- 5. The checksum is computed from a sum of words (`weight-words`, `words_added`, `checksum_from`).
-use Rattle.std.proofs.Common.{◌≡◌, ◌≤◌, ◌<◌, ℕ, ◌+◌, ◌-◌, ◌*◌, ◌%◌, [], ◌∷◌, ◌++◌, rules, List, length, take, drop, refl, sym, ap, ◌∙◌, subst, arith}
+use Rattle.std.proofs.Common.{◌≡◌, ◌≤◌, ◌<◌, ℕ, ◌+◌, ◌-◌, ◌*◌, ◌%◌, [], ◌∷◌, ◌++◌, List, length, take, drop, refl, sym, ap, ◌∙◌, subst, arith}
 use Rattle.std.proofs.Common.{false, length-append, length-drop, append_assoc, drop-drop, slice_index, sum, Bool, Option, None, Some}
 use Rattle.std.proofs.Common.{take-append-drop, take_at, drop_at, get_or-drop, length-take-le}
 use Rattle.fv_base.proofs.Laws.{common_steps, take-add, drop_more, words_of, header_limit, IsBytes, le, le_bytes, field, le_at, up_to_8, bytes_append}
-use Rattle.fv_base.proofs.Laws.{bytes_drop, bytes_le_bytes, bytes_take, drop-append_behind, field-append_front, field-take, field_is, le-le_bytes}
-use Rattle.fv_base.proofs.Laws.{le_bytes-le, length-le_bytes, sum-words_of-append, two_bytes, sum_by-cons}
+use Rattle.fv_base.proofs.Laws.{bytes_drop, bytes_le_bytes, bytes_take, field-append_front, field-take, field_is, le-le_bytes}
+use Rattle.fv_base.proofs.Laws.{le_bytes-le, sum-words_of-append, two_bytes, sum_by-cons}
 use Rattle.fv_base.specs.Words.{sum16_of}
 use Rattle.fv_head.specs.Words.{Extension, HasExt, HeadFields, IsHead, BeginsVolume, canonical_offset, IsReadHead, IsCanonicalHead, extent_of, IfRead}
 use Rattle.fv_head.specs.Words.{CanonicalRest, header_len_of, signature_bytes, system_guid, pairs_of, pairs_bytes, ext_spelled, canonical_end}
@@ -63,39 +63,39 @@ header_len_is h b head =
     let more : length (pairs_of (drop 56 b)) ≡ length h.blocks + 1 = ap length head.block_map ∙ length-append h.blocks ((0, 0) ∷ []) in
     omega (arith, behind, count, more, head.least)
 
--- n + k bytes from an offset on are a field of n bytes, and then k bytes
-cut : (at n k : ℕ) (b r : List ℕ) → take (n + k) (drop at b) ++ r ≡ field at n b ++ (take k (drop (at + n) b) ++ r)
-cut at n k b r = grind (arith, common_steps, take-add, append_assoc, drop-drop)
+-- the bytes of a header before Checksum
+abbrev front_of : HeadFields → List ℕ
+front_of h =
+    h.zero_vector ++ system_guid h.file_system ++ le_bytes 8 h.length ++ signature_bytes ++ le_bytes 4 h.attributes ++ le_bytes 2 (header_len_of h)
 
--- the bytes before the checksum are ZeroVector, the file system's GUID, FvLength, the signature, Attributes and
--- HeaderLength
-before_is : (h : HeadFields) (b r : List ℕ) → IsHead h b
-    → take 50 b ++ r
-    ≡ h.zero_vector ++ (system_guid h.file_system
-    ++ (le_bytes 8 h.length ++ (signature_bytes ++ (le_bytes 4 h.attributes ++ (le_bytes 2 (header_len_of h) ++ r)))))
-before_is h b r head =
-    let parts : take 50 b ++ r ≡ field 0 16 b
-    ++ (field 16 16 b ++ (field 32 8 b ++ (field 40 4 b ++ (field 44 4 b ++ (field 48 2 b ++ r))))) =
-    cut 0 16 34 b r
-    ∙ ap (λ (xs : List ℕ). field 0 16 b ++ xs) (cut 16 16 18 b r
-    ∙ ap (λ (xs : List ℕ). field 16 16 b ++ xs) (cut 32 8 10 b r
-    ∙ ap (λ (xs : List ℕ). field 32 8 b ++ xs) (cut 40 4 6 b r
-    ∙ ap (λ (xs : List ℕ). field 40 4 b ++ xs) (cut 44 4 2 b r)))) in
-    let length_is : field 32 8 b ≡ le_bytes 8 h.length =
-    sym (field_is 32 8 b head.bytes (omega (arith, head.least))) ∙ ap (le_bytes 8) head.volume_length in
-    let attributes_is : field 44 4 b ≡ le_bytes 4 h.attributes =
-    sym (field_is 44 4 b head.bytes (omega (arith, head.least))) ∙ ap (le_bytes 4) head.attributes in
-    let own : le_at 48 2 b ≡ header_len_of h = head.header_length ∙ sym (header_len_is h b head) in
-    let own_is : field 48 2 b ≡ le_bytes 2 (header_len_of h) =
-    sym (field_is 48 2 b head.bytes (omega (arith, head.least))) ∙ ap (le_bytes 2) own in
-    parts ∙ six _ _ _ _ _ _ _ _ _ _ _ _ r head.zero_vector head.file_system length_is head.signature attributes_is own_is
+-- the bytes of a header after ExtHeaderOffset
+abbrev behind_of : HeadFields → List ℕ
+behind_of h = h.reserved ∷ 2 ∷ (pairs_bytes h.blocks ++ le_bytes 8 0)
+
+rejoined : (a b c d e f g h i j k : List ℕ)
+    → a ++ b ++ c ++ d ++ e ++ f ++ g ++ h ++ i ++ j ++ k ≡ (a ++ b ++ c ++ d ++ e ++ f) ++ (g ++ (h ++ (i ++ (j ++ k))))
+rejoined a b c d e f g h i j k = simp append_assoc refl
+
+spelled_parts : (h : HeadFields) (checksum offset : ℕ)
+    → head_spelled h checksum offset ≡ front_of h ++ (le_bytes 2 checksum ++ (le_bytes 2 offset ++ behind_of h))
+unfolding head_spelled
+spelled_parts h checksum offset = grind (arith, common_steps, rejoined)
+
+-- the bytes before Checksum are the fields before it
+front_is : (h : HeadFields) (b : List ℕ) → IsHead h b → take 50 b ≡ front_of h
+front_is h b head =
+    let number : (at n value : ℕ) → at + n ≤ 50 → le_at at n b ≡ value → field at n b ≡ le_bytes n value =
+    λ at n value within is. sym (field_is at n b head.bytes (omega (arith, within, head.least))) ∙ ap (le_bytes n) is in
+    grown 48 2 (grown 44 4 (grown 40 4 (grown 32 8 (grown 16 16 head.zero_vector head.file_system)
+    (number 32 8 h.length (omega arith) head.volume_length)) head.signature)
+    (number 44 4 h.attributes (omega arith) head.attributes))
+    (number 48 2 (header_len_of h) (omega arith) (head.header_length ∙ sym (header_len_is h b head)))
   where
-    six : (a b c d e f a' b' c' d' e' f' r : List ℕ) → a ≡ a' → b ≡ b' → c ≡ c' → d ≡ d' → e ≡ e' → f ≡ f'
-        → a ++ (b ++ (c ++ (d ++ (e ++ (f ++ r))))) ≡ a' ++ (b' ++ (c' ++ (d' ++ (e' ++ (f' ++ r)))))
-    six a b c d e f a' b' c' d' e' f' r p q s t u v = rw (p, q, s, t, u, v) refl
+    grown : (n k : ℕ) {front part : List ℕ} → take n b ≡ front → field n k b ≡ part → take (n + k) b ≡ front ++ part
+    grown n k p q = take-add n k b ∙ rw (p, q) refl
 
 -- the bytes after ExtHeaderOffset are Reserved, Revision 2, the blocks and the pair of zeros
-behind_is : (h : HeadFields) (b : List ℕ) → IsHead h b → drop 54 b ≡ (h.reserved ∷ 2 ∷ []) ++ (pairs_bytes h.blocks ++ le_bytes 8 0)
+behind_is : (h : HeadFields) (b : List ℕ) → IsHead h b → drop 54 b ≡ behind_of h
 behind_is h b head =
     let behind : length (drop 56 b) ≡ length b - 56 = length-drop 56 b in
     let map : pairs_bytes (pairs_of (drop 56 b)) ≡ drop 56 b =
@@ -104,147 +104,93 @@ behind_is h b head =
     sym map ∙ ap pairs_bytes head.block_map ∙ pairs_bytes-append h.blocks ((0, 0) ∷ []) in
     drop_more b 54 0 (omega (arith, head.least))
     ∙ ap (λ (xs : List ℕ). slice_index b 54 ∷ xs) (drop_more b 55 0 (omega (arith, head.least)))
-    ∙ three _ _ _ _ _ _ head.reserved head.revision pairs
+    ∙ rw (head.reserved, head.revision, pairs) refl
+
+-- a header is the bytes that are written for its fields, its Checksum and its ExtHeaderOffset
+spelled_is : (h : HeadFields) (b : List ℕ) → IsHead h b → b ≡ head_spelled h (le_at 50 2 b) (le_at 52 2 b)
+spelled_is h b head =
+    sym (take-append-drop 50 b)
+    ∙ ap (λ (xs : List ℕ). take 50 b ++ xs) (number 50 (omega arith) ∙ ap (λ (xs : List ℕ). le_bytes 2 (le_at 50 2 b) ++ xs) (number 52 (omega arith)))
+    ∙ ap (λ (xs : List ℕ). xs ++ (le_bytes 2 (le_at 50 2 b) ++ (le_bytes 2 (le_at 52 2 b) ++ drop 54 b))) (front_is h b head)
+    ∙ ap (λ (xs : List ℕ). front_of h ++ (le_bytes 2 (le_at 50 2 b) ++ (le_bytes 2 (le_at 52 2 b) ++ xs))) (behind_is h b head)
+    ∙ sym (spelled_parts h (le_at 50 2 b) (le_at 52 2 b))
   where
-    three : (x y x' y' : ℕ) (r r' : List ℕ) → x ≡ x' → y ≡ y' → r ≡ r' → x ∷ y ∷ r ≡ x' ∷ y' ∷ r'
-    three x y x' y' r r' p q s = rw (p, q, s) refl
+    number : (at : ℕ) → at ≤ 52 → drop at b ≡ le_bytes 2 (le_at at 2 b) ++ drop (at + 2) b
+    number at low =
+        sym (take-append-drop 2 (drop at b)) ∙ ap (λ (xs : List ℕ). field at 2 b ++ xs) (drop-drop 2 at b)
+        ∙ ap (λ (xs : List ℕ). xs ++ drop (at + 2) b) (sym (field_is at 2 b head.bytes (omega (arith, head.least, low))))
 
--- a header in which Checksum and ExtHeaderOffset are replaced
-patched : List ℕ → ℕ → ℕ → List ℕ
-patched b checksum offset = take 50 b ++ (le_bytes 2 checksum ++ (le_bytes 2 offset ++ drop 54 b))
+-- ---- another Checksum and another ExtHeaderOffset
 
--- eleven lists that are joined from the right are the same lists joined from the left
-rejoined : (a b c d e f g h i j k : List ℕ)
-    → a ++ (b ++ (c ++ (d ++ (e ++ (f ++ (g ++ (h ++ (i ++ (j ++ k))))))))) ≡ a ++ b ++ c ++ d ++ e ++ f ++ g ++ h ++ i ++ j ++ k
-rejoined a b c d e f g h i j k = simp append_assoc refl
+-- the bytes that are written for the fields of a header, with any Checksum and ExtHeaderOffset
+module _ (h : HeadFields) (b : List ℕ) (head : IsHead h b) (checksum offset : ℕ) where
+  abbrev bytes : List ℕ
+  bytes = head_spelled h checksum offset
 
-patched_is : (h : HeadFields) (b : List ℕ) (checksum offset : ℕ) → IsHead h b → patched b checksum offset ≡ head_spelled h checksum offset
-unfolding head_spelled patched
-patched_is h b checksum offset head =
-    before_is h b (le_bytes 2 checksum ++ (le_bytes 2 offset ++ drop 54 b)) head
-    ∙ ap
-    (λ (xs : List ℕ). h.zero_vector ++ (system_guid h.file_system ++ (le_bytes 8 h.length ++ (signature_bytes ++ (le_bytes 4 h.attributes
-    ++ (le_bytes 2 (header_len_of h) ++ (le_bytes 2 checksum ++ (le_bytes 2 offset ++ xs)))))))) (behind_is h b head)
-    ∙ rejoined h.zero_vector (system_guid h.file_system) (le_bytes 8 h.length) signature_bytes (le_bytes 4 h.attributes)
-    (le_bytes 2 (header_len_of h)) (le_bytes 2 checksum) (le_bytes 2 offset) (h.reserved ∷ 2 ∷ []) (pairs_bytes h.blocks) (le_bytes 8 0)
+  abbrev rest : List ℕ
+  rest = le_bytes 2 checksum ++ (le_bytes 2 offset ++ behind_of h)
 
--- a header in which Checksum and ExtHeaderOffset are replaced by their own values is unchanged
-unpatched : (h : HeadFields) (b : List ℕ) → IsHead h b → patched b (le_at 50 2 b) (le_at 52 2 b) ≡ b
-unfolding patched
-unpatched h b head =
-    let checksum : le_bytes 2 (le_at 50 2 b) ≡ field 50 2 b = field_is 50 2 b head.bytes (omega (arith, head.least)) in
-    let offset : le_bytes 2 (le_at 52 2 b) ≡ field 52 2 b = field_is 52 2 b head.bytes (omega (arith, head.least)) in
-    let second : drop 52 b ≡ field 52 2 b ++ drop 54 b =
-    sym (take-append-drop 2 (drop 52 b)) ∙ ap (λ (xs : List ℕ). field 52 2 b ++ xs) (drop-drop 2 52 b) in
-    let first : drop 50 b ≡ field 50 2 b ++ (field 52 2 b ++ drop 54 b) =
-    sym (take-append-drop 2 (drop 50 b)) ∙ ap (λ (xs : List ℕ). field 50 2 b ++ xs) (drop-drop 2 50 b ∙ second) in
-    ap (λ (xs : List ℕ). take 50 b ++ (xs ++ (le_bytes 2 (le_at 52 2 b) ++ drop 54 b))) checksum
-    ∙ ap (λ (xs : List ℕ). take 50 b ++ (field 50 2 b ++ (xs ++ drop 54 b))) offset
-    ∙ ap (λ (xs : List ℕ). take 50 b ++ xs) (sym first) ∙ take-append-drop 50 b
+  whole : bytes ≡ front_of h ++ rest
+  whole = spelled_parts h checksum offset
 
--- ---- a header that is changed
+  fifty : length (front_of h) ≡ 50
+  fifty = ap length (sym (front_is h b head)) ∙ length-take-le 50 b (omega (arith, head.least))
 
--- a field before Checksum is the same in the changed header
-patched_front : (i n : ℕ) (b : List ℕ) (checksum offset : ℕ) → i + n ≤ 50 → 54 ≤ length b
-    → field i n (patched b checksum offset) ≡ field i n b
-unfolding patched
-patched_front i n b checksum offset within long =
-    let fifty : length (take 50 b) ≡ 50 = length-take-le 50 b (omega (arith, long)) in
-    field-append_front i n (take 50 b) (le_bytes 2 checksum ++ (le_bytes 2 offset ++ drop 54 b)) (omega (arith, fifty, within))
-    ∙ field-take i n 50 b within
+  front_same : take 50 bytes ≡ take 50 b
+  front_same = ap (take 50) whole ∙ take_at (front_of h) rest 50 fifty ∙ sym (front_is h b head)
 
--- the bytes after ExtHeaderOffset are the same in the changed header
-patched_behind : (i : ℕ) (b : List ℕ) (checksum offset : ℕ) → 54 ≤ i → 54 ≤ length b → drop i (patched b checksum offset) ≡ drop i b
-unfolding patched
-patched_behind i b checksum offset past long =
-    let fifty : length (take 50 b) ≡ 50 = length-take-le 50 b (omega (arith, long)) in
-    let rest : List ℕ = le_bytes 2 offset ++ drop 54 b in
-    let first : drop i (take 50 b ++ (le_bytes 2 checksum ++ rest)) ≡ drop (i - 50) (le_bytes 2 checksum ++ rest) =
-    drop-append_behind i (take 50 b) (le_bytes 2 checksum ++ rest) (omega (arith, fifty, past))
-    ∙ ap (λ (n : ℕ). drop (i - n) (le_bytes 2 checksum ++ rest)) fifty in
-    let second : drop (i - 50) (le_bytes 2 checksum ++ rest) ≡ drop (i - 50 - 2) rest =
-    drop-append_behind (i - 50) (le_bytes 2 checksum) rest (omega (arith, past)) in
-    let third : drop (i - 50 - 2) rest ≡ drop (i - 50 - 2 - 2) (drop 54 b) =
-    drop-append_behind (i - 50 - 2) (le_bytes 2 offset) (drop 54 b) (omega (arith, past)) in
-    first ∙ second ∙ third ∙ drop-drop (i - 50 - 2 - 2) 54 b ∙ ap (λ (n : ℕ). drop n b) (whole i past)
-  where
-    whole : (i : ℕ) → 54 ≤ i → 54 + (i - 50 - 2 - 2) ≡ i
-    whole i past = omega arith
+  from_50 : drop 50 bytes ≡ rest
+  from_50 = ap (drop 50) whole ∙ drop_at (front_of h) rest 50 fifty
 
-patched_at : (i : ℕ) (b : List ℕ) (checksum offset : ℕ) → 54 ≤ i → 54 ≤ length b
-    → slice_index (patched b checksum offset) i ≡ slice_index b i
-patched_at i b checksum offset past long = grind (arith, common_steps, patched, patched_behind, get_or-drop)
+  behind_same : drop 54 bytes ≡ drop 54 b
+  behind_same = sym (drop-drop 4 50 bytes) ∙ ap (drop 4) from_50 ∙ sym (behind_is h b head)
 
--- ExtHeaderOffset has its new value in the changed header
-patched_offset : (b : List ℕ) (checksum offset : ℕ) → offset < 65536 → 54 ≤ length b → le_at 52 2 (patched b checksum offset) ≡ offset
-unfolding patched
-patched_offset b checksum offset small long =
-    let fifty : length (take 50 b) ≡ 50 = length-take-le 50 b (omega (arith, long)) in
-    let rest : List ℕ = le_bytes 2 offset ++ drop 54 b in
-    let first : drop 52 (take 50 b ++ (le_bytes 2 checksum ++ rest)) ≡ drop 2 (le_bytes 2 checksum ++ rest) =
-    drop-append_behind 52 (take 50 b) (le_bytes 2 checksum ++ rest) (omega (arith, fifty))
-    ∙ ap (λ (n : ℕ). drop (52 - n) (le_bytes 2 checksum ++ rest)) fifty in
-    let second : drop 2 (le_bytes 2 checksum ++ rest) ≡ rest = drop_at (le_bytes 2 checksum) rest 2 refl in
-    ap (λ (xs : List ℕ). le (take 2 xs)) (first ∙ second) ∙ ap le (take_at (le_bytes 2 offset) (drop 54 b) 2 refl)
-    ∙ le-le_bytes 2 offset small
+  spelled_length : length bytes ≡ length b
+  spelled_length =
+      omega (arith, ap length whole, length-append (front_of h) rest, fifty, ap length (behind_is h b head), length-drop 54 b, head.least)
 
-length-patched : (b : List ℕ) (checksum offset : ℕ) → 54 ≤ length b → length (patched b checksum offset) ≡ length b
-unfolding patched
-length-patched b checksum offset long =
-    let fifty : length (take 50 b) ≡ 50 = length-take-le 50 b (omega (arith, long)) in
-    let rest : List ℕ = le_bytes 2 offset ++ drop 54 b in
-    let whole = length-append (take 50 b) (le_bytes 2 checksum ++ rest) in
-    let first = length-append (le_bytes 2 checksum) rest in
-    let second = length-append (le_bytes 2 offset) (drop 54 b) in
-    omega (arith, fifty, whole, first, second, length-le_bytes 2 checksum, length-le_bytes 2 offset, length-drop 54 b, long)
+  spelled_offset : offset < 65536 → le_at 52 2 bytes ≡ offset
+  spelled_offset small = ap (λ (xs : List ℕ). le (take 2 xs)) (sym (drop-drop 2 50 bytes) ∙ ap (drop 2) from_50) ∙ le-le_bytes 2 offset small
 
-bytes_patched : (b : List ℕ) (checksum offset : ℕ) → IsBytes b → IsBytes (patched b checksum offset)
-unfolding patched
-bytes_patched b checksum offset small = search (rules, bytes_append, bytes_take, bytes_le_bytes, bytes_drop)
+  spelled_bytes : IsBytes bytes
+  spelled_bytes = subst IsBytes (sym whole) (bytes_append (front_of h) rest (subst IsBytes (front_is h b head) (bytes_take 50 b head.bytes))
+      (bytes_append (le_bytes 2 checksum) (le_bytes 2 offset ++ behind_of h) (bytes_le_bytes 2 checksum)
+      (bytes_append (le_bytes 2 offset) (behind_of h) (bytes_le_bytes 2 offset) (subst IsBytes (behind_is h b head) (bytes_drop 54 b head.bytes)))))
 
--- a changed header whose words sum to 0 is a header with the same fields
-patched_head : (h : HeadFields) (b : List ℕ) (checksum offset : ℕ) → IsHead h b → sum16_of (patched b checksum offset) ≡ 0
-    → IsHead h (patched b checksum offset)
-patched_head h b checksum offset head right =
-    let long : 54 ≤ length b = omega (arith, head.least) in
-    let same : length (patched b checksum offset) ≡ length b = length-patched b checksum offset long in
-    record {
-      bytes = bytes_patched b checksum offset head.bytes;
-      zero_vector = patched_front 0 16 b checksum offset (omega arith) long ∙ head.zero_vector;
-      file_system = patched_front 16 16 b checksum offset (omega arith) long ∙ head.file_system;
-      volume_length = ap le (patched_front 32 8 b checksum offset (omega arith) long) ∙ head.volume_length;
-      signature = patched_front 40 4 b checksum offset (omega arith) long ∙ head.signature;
-      attributes = ap le (patched_front 44 4 b checksum offset (omega arith) long) ∙ head.attributes;
-      header_length = ap le (patched_front 48 2 b checksum offset (omega arith) long) ∙ head.header_length ∙ sym same;
-      reserved = patched_at 54 b checksum offset (omega arith) long ∙ head.reserved;
-      revision = patched_at 55 b checksum offset (omega arith) long ∙ head.revision;
-      block_map = ap pairs_of (patched_behind 56 b checksum offset (omega arith) long) ∙ head.block_map;
-      no_pair_of_zeros = head.no_pair_of_zeros;
-      sum = right;
-      multiple = rw same head.multiple;
-      least = rw same head.least;
-      most = rw same head.most;
-      makes_up = head.makes_up;
-      volume_multiple = head.volume_multiple;
-      volume_least = rw same head.volume_least;
-      volume_most = head.volume_most;
-    }
+  -- if their words sum to 0, they are a header with the same fields
+  spelled_head : sum16_of bytes ≡ 0 → IsHead h bytes
+  spelled_head right = record {
+    bytes = spelled_bytes;
+    zero_vector = at 0 16 (omega arith) ∙ head.zero_vector;
+    file_system = at 16 16 (omega arith) ∙ head.file_system;
+    volume_length = ap le (at 32 8 (omega arith)) ∙ head.volume_length;
+    signature = at 40 4 (omega arith) ∙ head.signature;
+    attributes = ap le (at 44 4 (omega arith)) ∙ head.attributes;
+    header_length = ap le (at 48 2 (omega arith)) ∙ head.header_length ∙ sym spelled_length;
+    reserved = byte 0 ∙ head.reserved;
+    revision = byte 1 ∙ head.revision;
+    block_map = ap pairs_of (sym (drop-drop 2 54 bytes) ∙ ap (drop 2) behind_same ∙ drop-drop 2 54 b) ∙ head.block_map;
+    no_pair_of_zeros = head.no_pair_of_zeros;
+    sum = right;
+    multiple = rw spelled_length head.multiple;
+    least = rw spelled_length head.least;
+    most = rw spelled_length head.most;
+    makes_up = head.makes_up;
+    volume_multiple = head.volume_multiple;
+    volume_least = rw spelled_length head.volume_least;
+    volume_most = head.volume_most;
+  } where
+    at : (i n : ℕ) → i + n ≤ 50 → field i n bytes ≡ field i n b
+    at i n within = sym (field-take i n 50 bytes within) ∙ ap (field i n) front_same ∙ field-take i n 50 b within
 
--- ---- the checksum
+    byte : (i : ℕ) → slice_index bytes (54 + i) ≡ slice_index b (54 + i)
+    byte i = sym (get_or-drop 54 bytes i 0) ∙ ap (λ (xs : List ℕ). slice_index xs i) behind_same ∙ get_or-drop 54 b i 0
 
--- the words of a header sum to their sum with Checksum 0, plus the checksum
-sum_patched : (b : List ℕ) (checksum offset : ℕ) → checksum < 65536 → 54 ≤ length b
-    → sum (words_of (patched b checksum offset)) ≡ sum (words_of (patched b 0 offset)) + checksum
-unfolding patched
-sum_patched b checksum offset small long =
-    let rest : List ℕ = le_bytes 2 offset ++ drop 54 b in
-    let fifty : length (take 50 b) ≡ 50 = length-take-le 50 b (omega (arith, long)) in
-    let this = sum-words_of-append (take 50 b) (le_bytes 2 checksum ++ rest) (omega (arith, fifty)) in
-    let none = sum-words_of-append (take 50 b) (le_bytes 2 0 ++ rest) (omega (arith, fifty)) in
-    let word = sum_by-cons (λ (x : ℕ). x) (le (le_bytes 2 checksum)) (words_of rest) in
-    let zero_word = sum_by-cons (λ (x : ℕ). x) (le (le_bytes 2 0)) (words_of rest) in
-    let value = le-le_bytes 2 checksum small in
-    omega (arith, this, none, word, zero_word, value)
+  -- their words sum to their sum with Checksum 0, plus the checksum
+  spelled_sum : checksum < 65536 → sum (words_of bytes) ≡ sum (words_of (head_spelled h 0 offset)) + checksum
+  spelled_sum small = grind (arith, common_steps, sum-words_of-append, fifty, sum_by-cons, whole, spelled_parts, le-le_bytes)
+
+-- ---- the canonical head
 
 checksum_right : (total : ℕ) → (total + (65536 - total % 65536) % 65536) % 65536 ≡ 0
 checksum_right total = omega arith
@@ -255,8 +201,6 @@ checksum_only total checksum small none = omega arith
 checksum_small : (total : ℕ) → (65536 - total) % 65536 < 65536
 checksum_small total = omega arith
 
--- ---- the canonical head
-
 canonical_offset_small : (h : HeadFields) (b : List ℕ) (x : Option Extension) → IsHead h b → canonical_offset h x < 65536
 canonical_offset_small h b None head = omega arith
 canonical_offset_small h b (Some x) head = omega (arith, header_len_is h b head, head.most)
@@ -265,20 +209,12 @@ canonical_offset_small h b (Some x) head = omega (arith, header_len_is h b head,
 pub canonical_is : (h : HeadFields) → IsReadHead h → IsCanonicalHead h (canonical_head h)
 unfolding canonical_head
 canonical_is h (b, head) =
-    let long : 54 ≤ length b = omega (arith, head.least) in
     let offset : ℕ = canonical_offset h h.ext in
-    let total : ℕ = sum (words_of (patched b 0 offset)) in
-    let none : patched b 0 offset ≡ head_spelled h 0 offset = patched_is h b 0 offset head in
     let checksum : ℕ = checksum_of h offset in
-    let checksum_is : checksum ≡ (65536 - total % 65536) % 65536 = ap (λ (xs : List ℕ). (65536 - sum16_of xs) % 65536) (sym none) in
-    let small : checksum < 65536 = checksum_small (sum16_of (head_spelled h 0 offset)) in
-    let sums : sum (words_of (patched b checksum offset)) ≡ total + checksum = sum_patched b checksum offset small long in
-    let right : sum16_of (patched b checksum offset) ≡ 0 =
-    ap (λ (n : ℕ). n % 65536) (sums ∙ ap (λ (n : ℕ). total + n) checksum_is) ∙ checksum_right total in
-    let same : patched b checksum offset ≡ head_spelled h checksum offset = patched_is h b checksum offset head in
+    let sums = spelled_sum h b head checksum offset (checksum_small (sum16_of (head_spelled h 0 offset))) in
     record {
-      head = subst (IsHead h) same (patched_head h b checksum offset head right);
-      offset = ap (le_at 52 2) (sym same) ∙ patched_offset b checksum offset (canonical_offset_small h b h.ext head) long;
+      head = spelled_head h b head checksum offset (ap (λ (n : ℕ). n % 65536) sums ∙ checksum_right (sum (words_of (head_spelled h 0 offset))));
+      offset = spelled_offset h b head checksum offset (canonical_offset_small h b h.ext head);
     }
 
 -- no other bytes are such a header
@@ -286,20 +222,14 @@ pub canonical_only : (h : HeadFields) (b : List ℕ) → IsCanonicalHead h b →
 unfolding canonical_head
 canonical_only h b canonical =
     let head = canonical.head in
-    let long : 54 ≤ length b = omega (arith, head.least) in
     let checksum : ℕ = le_at 50 2 b in
     let offset : ℕ = le_at 52 2 b in
+    let total : ℕ = sum (words_of (head_spelled h 0 offset)) in
+    let own : b ≡ head_spelled h checksum offset = spelled_is h b head in
     let small : checksum < 65536 = two_bytes 50 b head.bytes in
-    let total : ℕ = sum (words_of (patched b 0 offset)) in
-    let whole : patched b checksum offset ≡ b = unpatched h b head in
-    let sums : sum (words_of b) ≡ total + checksum =
-    ap (λ (xs : List ℕ). sum (words_of xs)) (sym whole) ∙ sum_patched b checksum offset small long in
+    let sums : sum (words_of b) ≡ total + checksum = ap (λ (xs : List ℕ). sum (words_of xs)) own ∙ spelled_sum h b head checksum offset small in
     let none_left : (total + checksum) % 65536 ≡ 0 = ap (λ (n : ℕ). n % 65536) (sym sums) ∙ head.sum in
-    let none : patched b 0 offset ≡ head_spelled h 0 offset = patched_is h b 0 offset head in
-    let checksum_is : checksum ≡ checksum_of h offset =
-    checksum_only total checksum small none_left ∙ ap (λ (xs : List ℕ). (65536 - sum16_of xs) % 65536) none in
-    sym whole ∙ patched_is h b checksum offset head
-    ∙ ap (λ (n : ℕ). head_spelled h n offset) checksum_is
+    own ∙ ap (λ (n : ℕ). head_spelled h n offset) (checksum_only total checksum small none_left)
     ∙ ap (λ (n : ℕ). head_spelled h (checksum_of h n) n) canonical.offset
 
 -- the canonical head has the length that follows from its fields
@@ -366,10 +296,7 @@ words_added high xs t s low even is = rw (low, high_even xs even, weight-words x
 
 -- a header has an even number of bytes
 pub spelled_even : (h : HeadFields) (checksum offset : ℕ) → IsReadHead h → length (head_spelled h checksum offset) % 2 ≡ 0
-spelled_even h checksum offset (b, head) =
-    let same : length (head_spelled h checksum offset) ≡ length b =
-    ap length (sym (patched_is h b checksum offset head)) ∙ length-patched b checksum offset (omega (arith, head.least)) in
-    omega (arith, same, head.multiple)
+spelled_even h checksum offset (b, head) = omega (arith, spelled_length h b head checksum offset, head.multiple)
 
 -- a header has at most 2112 bytes
 pub header_len_most : (h : HeadFields) → IsReadHead h → header_len_of h ≤ header_limit

@@ -2,17 +2,18 @@
 -- 1. The length of the header and its fields are read at their offsets (`front_within`, `kept_fields`, `ext_there`).
 -- 2. So bytes begin with at most one volume (`one_front`), and only the volume's own bytes decide which (`front_same`).
 -- 3. The header and the start of the first file lie within the volume (`front_lies`, `first_lies`).
+use Rattle.std.proofs.lemmas.Grind.{common_steps}
 use Rattle.std.proofs.Common.{◌≡◌, ◌≤◌, ℕ, ◌+◌, ◌-◌, ◌%◌, rules, zero, suc, List, length, take, refl, sym, ap, ◌∙◌, subst, arith, inl, inr, Option}
 use Rattle.std.proofs.Common.{Some, slice_index, length-take-le}
 use Rattle.fv_base.proofs.Laws.{AllHold, volume_limit, header_limit, ext_limit, le, field, le_at, all_hold, field-take, take-take_le}
 use Rattle.fv_base.specs.declared.flash.FileSystem.{FileSystem}
 use Rattle.fv_base.specs.inner.Verdicts.{first_fault}
-use Rattle.fv_head.specs.Words.{Extension, IsExt, HasExt, HeadFields, IsHead, BeginsVolume, head_checks, blocks_at, file_system_at, header_len_at}
+use Rattle.fv_head.specs.Words.{Extension, IsExt, HasExt, HeadFields, IsHead, BeginsVolume, head_checks, file_system_at, header_len_at}
 use Rattle.fv_head.specs.Words.{volume_len_at, ext_offset_at, ext_size_at, pairs_of}
 use Rattle.fv_head.specs.declared.extent.Extent.{Extent}
 use Rattle.fv_head.specs.inner.HeadVerdicts.{ExtHeaderWithin, extent_at}
-use Rattle.fv_head.proofs.ExtLemmas.{stands, read_there, one_has_ext, ext_same}
-use Rattle.fv_head.proofs.HeadCheckLemmas.{extent_ok, fields_are, fields_of, front_fields, front_only, verdict_ok}
+use Rattle.fv_head.proofs.ExtLemmas.{make_has_ext, placed_there, one_has_ext, ext_same}
+use Rattle.fv_head.proofs.HeadCheckLemmas.{extent_ok, fields_are, front_fields, front_only, verdict_ok}
 
 -- the header of a volume lies within the bytes, and HeaderLength is its length
 pub record Within (b : List ℕ) (e : Extent) : Type 0 where
@@ -39,16 +40,7 @@ pub kept_fields : (b : List ℕ) (e : Extent) (z : List ℕ) (l a r : ℕ) (bs :
     → (let made : HeadFields =
     record { zero_vector = z; file_system = e.file_system; length = l; attributes = a; reserved = r; blocks = bs; ext = x } in
     BeginsVolume made e b)
-kept_fields b e z l a r bs x found p q s t u ext =
-    let front = found.1 in
-    let within = front_within b found.0 e front in
-    let made : HeadFields =
-    record { zero_vector = z; file_system = e.file_system; length = l; attributes = a; reserved = r; blocks = bs; ext = x } in
-    let exts : found.0.ext ≡ x = one_has_ext found.0.ext x e b within.least front.ext ext in
-    let same : fields_of e.file_system found.0.ext b ≡ made =
-    fields_are _ _ _ _ _ _ _ (fields_of e.file_system found.0.ext b) (sym p) refl (sym q) (sym s) (sym t)
-    (ap (λ (n : ℕ). blocks_at n b) (sym within.at) ∙ sym u) exts in
-    subst (λ (h : HeadFields). BeginsVolume h e b) (front_fields b found.0 e front ∙ same) front
+kept_fields b e z l a r bs x found p q s t u ext = grind (arith, common_steps, front_within, one_has_ext, fields_are, front_fields)
 
 -- the extended header at ExtHeaderOffset lies within the bytes
 pub record ExtThere (e : Extent) (b : List ℕ) : Type 0 where
@@ -64,14 +56,14 @@ pub ext_there : {b : List ℕ} {e : Extent} {offset : ℕ} → ((h : HeadFields)
     → ExtThere e b
 ext_there {b} {e} {offset} found at some =
     let front = found.1 in
-    let s = stands found.0.ext e b front.ext (λ none. some (at ∙ none)) in
+    let s = (placed_there found.0.ext e b front.ext (λ none. some (at ∙ none))).1 in
     record {
       header = omega (arith, s.least, s.within, front.is_within);
       within = omega (arith, s.within, front.is_within);
       least = s.least;
       most = s.most;
       size = s.size;
-      read = λ x is. read_there x e b _ s front.is_within refl is;
+      read = λ x is. make_has_ext x e b (ext_size_at b) front.is_within s.behind_header s.within s.first is;
     }
 
 -- bytes begin with at most one volume
@@ -109,14 +101,7 @@ pub record Lies (e : Extent) : Type 0 where
   pub limit : e.length ≤ volume_limit
 
 pub front_lies : (b : List ℕ) (h : HeadFields) (e : Extent) → BeginsVolume h e b → Lies e
-front_lies b h e f =
-    let len : length (take e.header_len b) ≡ e.header_len = length-take-le e.header_len b f.long_enough in
-    record {
-      least = rw (← len) f.head.least;
-      most = rw (← len) f.head.most;
-      within = rw (f.length_is, ← len) f.head.volume_least;
-      limit = rw f.length_is f.head.volume_most;
-    }
+front_lies b h e f = grind (arith, common_steps, length-take-le)
 
 -- the first file may begin at a multiple of 8 within the volume, whose length is a multiple of 8
 pub first_lies : (b : List ℕ) (h : HeadFields) (e : Extent) → BeginsVolume h e b

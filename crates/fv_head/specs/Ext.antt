@@ -29,7 +29,8 @@ abbrev pub BeginNoEntry : List ℕ → Type 0
 BeginNoEntry b = (length b < 4) ⊎ ((le_at 0 2 b < 4) ⊎ (length b < le_at 0 2 b))
 
 -- the bytes are the entries, one after the other, each a header (size and type) and a payload, and then the tail, which
--- does not begin with an entry
+-- does not begin with an entry. An entry of the list has the payload that is kept (`kept_payload`), so a used size in the
+-- bytes may have any value
 abbrev pub SplitsEntries : List (ℕ × List ℕ) → List ℕ → List ℕ → Type 0
 SplitsEntries [] tail b = (b ≡ tail) × BeginNoEntry b
 SplitsEntries (e ∷ es) tail b =

@@ -61,8 +61,8 @@ abbrev pub header_len_of : HeadFields → ℕ
 header_len_of h = 56 + 8 * (length h.blocks + 1)
 
 -- the bytes at ExtHeaderOffset are an extended header with the meaning x, after the volume header and within the
--- volume, and the first file may begin at its end, rounded up to a multiple of 8. Or there is no extended header:
--- ExtHeaderOffset is 0, and the first file may begin at HeaderLength
+-- volume, and the first file may begin at the end of the extended header, rounded up to a multiple of 8. Or there is no
+-- extended header: ExtHeaderOffset is 0, and the first file may begin at HeaderLength
 abbrev pub HasExt : Option Extension → Extent → List ℕ → Type 0
 HasExt None e b = (le_at 52 2 b ≡ 0) × (e.first ≡ e.header_len)
 HasExt (Some x) e b =

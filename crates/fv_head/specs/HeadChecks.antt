@@ -92,7 +92,7 @@ leading_checks b =
     ∷ []
 
 -- the checks after the leading checks, in order, each with its fault: all HeaderLength bytes are there, their checksum,
--- the block map, FvLength, and the extended header
+-- the block map, FvLength, all FvLength bytes are there, and the extended header
 abbrev pub later_checks : List ℕ → List (Check Fault)
 later_checks b =
     check (nat_le (header_len_at b) (length b)) kinds.Truncated (length b)

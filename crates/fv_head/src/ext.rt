@@ -49,7 +49,8 @@ impl<'a> Model for ExtEntry<'a> {
 impl<'a> ExtEntry<'a> {
     /// Returns the entry's type, `ExtEntryType`: 1 for OEM types (`EFI_FV_EXT_TYPE_OEM_TYPE`), 2
     /// for a GUID entry (`EFI_FV_EXT_TYPE_GUID_TYPE`), 3 for the used size
-    /// (`EFI_FV_EXT_TYPE_USED_SIZE_TYPE`).
+    /// (`EFI_FV_EXT_TYPE_USED_SIZE_TYPE`). It may have any other value too. An entry of type 3 holds
+    /// the used size only if its payload has 4 bytes.
     pub fn kind(&self) -> u16
         ensures { result ≡ self.now.0 }
     {

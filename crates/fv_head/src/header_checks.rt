@@ -1,12 +1,12 @@
 //! The checks of a volume's header, and the extent of a volume whose header passes them.
 
-ghost use Rattle.std.specs.Prelude.{◌≡◌, ◌==◌, ◌%◌, ◌≤◌, length, IfOk, IfErr, OnOk, None, Some, true};
-ghost use Rattle.fv_base.specs.Words.{IsFirstFault, bytes_of, sum16_of};
+ghost use Rattle.std.specs.Prelude.{◌≡◌, ◌%◌, ◌≤◌, nat_le, length, IfOk, IfErr, OnOk, None, Some, true};
+ghost use Rattle.fv_base.specs.Words.{IsFirstFault, bytes_of};
 ghost use Rattle.fv_base.specs.inner.Verdicts.{first_fault};
 ghost use Rattle.fv_head.specs.Head.{HeadFields, BeginsVolume, system_guid};
-ghost use Rattle.fv_head.specs.HeadChecks.{has_signature, file_system_at, is_one_volume, header_len_at, is_header_len};
-ghost use Rattle.fv_head.specs.HeadChecks.{is_zero_pair, makes_up, has_block_map, is_volume_len, has_ext, leading_checks};
-ghost use Rattle.fv_head.specs.HeadChecks.{later_checks, head_checks, BeginsWithHeader};
+ghost use Rattle.fv_head.specs.HeadChecks.{has_signature, file_system_at, is_one_volume, header_len_at, volume_len_at};
+ghost use Rattle.fv_head.specs.HeadChecks.{is_header_len, has_sum, is_zero_pair, makes_up, has_block_map, is_volume_len, has_ext};
+ghost use Rattle.fv_head.specs.HeadChecks.{leading_checks, later_checks, head_checks, BeginsWithHeader};
 ghost use Rattle.fv_head.specs.inner.HeadVerdicts.{ExtHeaderWithin, first_at, extent_at, head_verdict};
 ghost use Rattle.fv_head.specs.Pairs.{pairs_of};
 ghost use Rattle.fv_head.specs.declared.extent.Extent.{Extent};
@@ -104,12 +104,22 @@ fn is_volume_len(header_len: usize, len: u64) -> bool
     len % 8 == 0 && header_len as u64 <= len && len <= VOLUME_LIMIT
 }
 
-// Returns whether the 16-bit words of a header sum to 0 modulo 65536.
-fn has_sum(bytes: &[u8]) -> bool
-    requires { length bytes.now % 2 ≡ 0 }
-    ensures { result ≡ (sum16_of bytes.now == 0) }
+// Returns whether all bytes of the header are there.
+fn has_header(bytes: &[u8]) -> bool
+    requires { 56 ≤ length bytes.now }
+    ensures { result ≡ nat_le (header_len_at bytes.now) (length bytes.now) }
 {
-    sum16(bytes) == 0
+    header_len_at(bytes) <= bytes.len()
+}
+
+// Returns whether the 16-bit words of the header sum to 0 modulo 65536.
+fn has_sum(bytes: &[u8]) -> bool
+    requires long { 56 ≤ length bytes.now }
+    requires header_len { is_header_len (header_len_at bytes.now) ≡ true }
+    requires within { header_len_at bytes.now ≤ length bytes.now }
+    ensures { result ≡ has_sum (header_len_at bytes.now) bytes.now }
+{
+    sum16(&bytes[..header_len_at(bytes)]) == 0
 }
 
 // Returns whether both numbers of a pair are zero, as in the pair that ends a block map.
@@ -143,12 +153,13 @@ fn makes_up(blocks: &[u8], total: u64) -> bool
 
 // Returns whether the first pair of zeros is at the end of the header, and the blocks of the pairs
 // before it together have `FvLength` bytes.
-fn has_block_map(bytes: &[u8], header_len: usize) -> bool
-    requires least { 64 ≤ header_len }
-    requires multiple { header_len % 8 ≡ 0 }
-    requires within { header_len ≤ length bytes.now }
-    ensures { result ≡ has_block_map header_len bytes.now }
+fn has_block_map(bytes: &[u8]) -> bool
+    requires long { 56 ≤ length bytes.now }
+    requires header_len { is_header_len (header_len_at bytes.now) ≡ true }
+    requires within { header_len_at bytes.now ≤ length bytes.now }
+    ensures { result ≡ has_block_map (header_len_at bytes.now) bytes.now }
 {
+    let header_len = header_len_at(bytes);
     let blocks = field(bytes, BLOCK_MAP_OFFSET, header_len - HEADER_LEAST);
     let last = header_len - BLOCK_ENTRY_LEN;
     makes_up(blocks, volume_len_at(bytes))
@@ -156,13 +167,31 @@ fn has_block_map(bytes: &[u8], header_len: usize) -> bool
         && u32_at(bytes, last + BLOCK_LENGTH_OFFSET) == 0
 }
 
+// Returns whether `FvLength` may have its value.
+fn has_volume_len(bytes: &[u8]) -> bool
+    requires { 56 ≤ length bytes.now }
+    ensures { result ≡ is_volume_len (header_len_at bytes.now) (volume_len_at bytes.now) }
+{
+    is_volume_len(header_len_at(bytes), volume_len_at(bytes))
+}
+
+// Returns whether all bytes of the volume are there.
+fn has_volume(bytes: &[u8]) -> bool
+    requires { 56 ≤ length bytes.now }
+    ensures { result ≡ nat_le (volume_len_at bytes.now) (length bytes.now) }
+{
+    volume_len_at(bytes) <= bytes.len() as u64
+}
+
 // Returns whether there is no extended header, or it has 20 to `EXT_LIMIT` bytes and lies after the
 // volume header and within the volume.
-fn has_ext(bytes: &[u8], header_len: usize, volume_len: u64) -> bool
+fn has_ext(bytes: &[u8]) -> bool
     requires least { 56 ≤ length bytes.now }
-    requires within { volume_len ≤ length bytes.now }
-    ensures { result ≡ has_ext header_len volume_len bytes.now }
+    requires within { volume_len_at bytes.now ≤ length bytes.now }
+    ensures { result ≡ has_ext (header_len_at bytes.now) (volume_len_at bytes.now) bytes.now }
 {
+    let header_len = header_len_at(bytes);
+    let volume_len = volume_len_at(bytes);
     let offset = ext_offset_at(bytes);
     if offset == 0 {
         return true;
@@ -255,8 +284,8 @@ fn leading_verdict(bytes: &[u8]) -> Result<FileSystem, Fault>
 }
 
 // Makes the checks that come after `leading_verdict`: whether all HeaderLength bytes are there,
-// their checksum, the block map, FvLength, and the extended header. Returns the first fault, if
-// there is one.
+// their checksum, the block map, FvLength, whether all FvLength bytes are there, and the extended
+// header. Returns the first fault, if there is one.
 fn later_verdict(bytes: &[u8]) -> Result<(), Fault>
     requires long { 56 ≤ length bytes.now }
     requires header_len { is_header_len (header_len_at bytes.now) ≡ true }
@@ -265,23 +294,21 @@ fn later_verdict(bytes: &[u8]) -> Result<(), Fault>
     ensures err { IfErr result (λ f. first_fault (later_checks bytes.now) ≡ Some f) }
 {
     let end = bytes.len() as u64;
-    let header_len = header_len_at(bytes);
-    check(header_len <= bytes.len(), FaultKind::Truncated, end)?;
-    check(has_sum(&bytes[..header_len]), FaultKind::HeaderSum, 0)?;
+    check(has_header(bytes), FaultKind::Truncated, end)?;
+    check(has_sum(bytes), FaultKind::HeaderSum, 0)?;
     check(
-        has_block_map(bytes, header_len),
+        has_block_map(bytes),
         FaultKind::BlockMap,
         BLOCK_MAP_OFFSET as u64,
     )?;
-    let length = volume_len_at(bytes);
     check(
-        is_volume_len(header_len, length),
+        has_volume_len(bytes),
         FaultKind::Length,
         FV_LENGTH_OFFSET as u64,
     )?;
-    check(length <= end, FaultKind::Truncated, end)?;
+    check(has_volume(bytes), FaultKind::Truncated, end)?;
     check(
-        has_ext(bytes, header_len, length),
+        has_ext(bytes),
         FaultKind::ExtHeader,
         EXT_HEADER_OFFSET_OFFSET as u64,
     )

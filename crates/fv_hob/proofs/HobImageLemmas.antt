@@ -3,7 +3,7 @@
 --    body, it is the same block (`zeroed`, `written_again`).
 -- 2. So the written blocks of a list are these blocks (`list_again`), and if no block is unused, the bytes are the same
 --    (`list_kept`).
-use Rattle.std.proofs.Common.{◌≡◌, ◌≤◌, ℕ, ◌+◌, ◌-◌, [], ◌∷◌, ◌++◌, ◌==◌, ◌%◌, zero, suc, List, length, take, drop, refl, sym, ap, ◌∙◌, subst, arith}
+use Rattle.std.proofs.Common.{◌≡◌, ◌≤◌, ℕ, ◌-◌, [], ◌∷◌, ◌++◌, ◌==◌, ◌%◌, zero, suc, List, length, take, drop, refl, sym, ap, ◌∙◌, subst, arith}
 use Rattle.std.proofs.Common.{Bool, true, false, length-append, append-nil, append_assoc, replicate, eqb-true, take-append-drop, length-take-le}
 use Rattle.fv_base.proofs.Laws.{common_steps, AllByRecursion, concat, length-replicate, take-add, IsBytes, field, le, le_at, le_bytes, bytes_append}
 use Rattle.fv_base.proofs.Laws.{bytes_take, field-append_front, field-take, field_is, not_equal}

@@ -6,6 +6,7 @@
 --    OutOfMemory as its fault (`no_want`).
 -- 4. The fault of the next block is the first fault (`first_here`), and bytes with a first fault do not begin with a
 --    list (`none_after`).
+use Rattle.std.proofs.lemmas.Grind.{common_steps}
 use Rattle.std.proofs.Common.{◌≡◌, ◌≤◌, ℕ, ◌+◌, [], ◌∷◌, ◌++◌, ◌==◌, ◌≢◌, List, length, take, drop, refl, sym, ap, ◌∙◌, subst, arith, true}
 use Rattle.std.proofs.Common.{length-append, length-drop, append_assoc, Bool, eqb-true, length-take-le, take-append-drop, take_at}
 use Rattle.fv_base.proofs.Laws.{AllByRecursion, take-add, IsFirstFault, first_among, none_faulty, not_first}
@@ -102,17 +103,7 @@ table_stands b (h ∷ hs) c at first first_is k stands = go k.joined k.begins wh
 -- the fault of the next block is the first fault of the list
 pub first_here : (b : List ℕ) (items : List HobForm) (at : ℕ) (first : Bool) (f : HobFault) → first ≡ (length items == 0)
     → HobsKept b items at → f.offset ≡ at → IsFirstFault (hob_checks first (drop at b)) f.kind → IsFirstHobFault b f
-first_here b items at first f first_is k place kind = record {
-  before = items;
-  c = take at b;
-  r = drop at b;
-  joined = sym (take-append-drop at b);
-  read = k.joined;
-  begins = k.begins;
-  others = k.others;
-  place = place ∙ sym (length-take-le at b k.inside);
-  kind_is = subst (λ (t : Bool). IsFirstFault (hob_checks t (drop at b)) f.kind) first_is kind;
-}
+first_here b items at first f first_is k place kind = grind (arith, common_steps, take-append-drop, length-take-le)
 
 -- the fault of a check is not OutOfMemory
 pub no_want : (begins : Bool) (r : List ℕ) (kind : HobFaultKind) → IsFirstFault (hob_checks begins r) kind → kind ≢ kinds.OutOfMemory

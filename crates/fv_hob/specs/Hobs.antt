@@ -47,7 +47,7 @@ hob_len (kinds.Unused len) = 8 + len
 hob_len kinds.End = 8
 hob_len (kinds.Other code payload) = 8 + length payload
 
--- whether a block of the type `code` may have a length of n bytes
+-- whether the type `code` allows a length of n bytes. The rule for all types is a check of its own (`is_hob_len`)
 abbrev pub has_shape : ℕ → ℕ → Bool
 has_shape code n =
     if code == 0x0001 then n == 56
@@ -98,7 +98,8 @@ resource_in b = record {
   length = le_at 40 8 b;
 }
 
--- the content of a block b of this type: its fields at their offsets
+-- the content of a block b of this type: the fields after its header, at their offsets. For an unused block it is only
+-- the number of bytes after the header. For a type without a kind of its own it includes the type too
 abbrev pub kind_by : ℕ → List ℕ → HobKind
 kind_by code b =
     if code == 0x0001 then kinds.Handoff (handoff_in b)

@@ -42,12 +42,12 @@ IsUsedHob h = hob_type h.kind ≢ 0xfffe
 abbrev pub IsReadList : List HobForm → Type 0
 IsReadList all = (b : List ℕ) × IsHobList all b
 
--- the base and the length of the volume that a block describes, if it describes one
+-- the base and the length in an FV or FV2 block. Any other block has none, also an FV3 block
 abbrev pub span_of : HobKind → Option Span
 span_of (kinds.FirmwareVolume base len) = Some (record { base = base; length = len })
 span_of (kinds.FirmwareVolume2 base len volume file) = Some (record { base = base; length = len })
 span_of _ = None
 
--- the base and the length of each volume that the blocks describe, in order
+-- the base and the length in each FV or FV2 block, in order
 abbrev pub spans_of : List HobForm → List Span
 spans_of hs = filter_map (λ h. span_of h.kind) hs

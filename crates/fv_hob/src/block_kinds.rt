@@ -12,7 +12,8 @@ use fv_base::field::{bytes_from, field, u16_at, u32_at, u64_at};
 use fv_base::{ByteList, guid_at};
 use std::alloc::{AllocError, Global};
 
-/// Returns whether a block of this HobType may have this HobLength.
+/// Returns whether this HobType allows this HobLength. Does not check the rule for all types: a
+/// multiple of 8, and at least 8 (`is_hob_len`).
 pub fn has_shape(code: u16, len: usize) -> bool
     ensures { result ≡ has_shape code len }
 {
@@ -114,7 +115,8 @@ fn volume2_in(block: &[u8]) -> HobKind
     }
 }
 
-// Reads the content of a block: the fields that follow its header.
+// Reads the content of a block: the fields after its header. For an unused block, the content is only
+// the number of bytes after the header. For a type without a kind of its own it includes HobType too.
 fn kind_in(alloc: Global, block: &[u8]) -> Result<HobKind, AllocError>
     requires { IsBlock block.now }
     ensures { IfOk result (λ kind. kind ≡ kind_by (hob_type_at block.now) block.now) }

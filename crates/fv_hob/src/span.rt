@@ -1,4 +1,4 @@
-//! The volumes that a hand-off list describes.
+//! The volumes that the FV and FV2 blocks of a hand-off list describe.
 
 ghost use Rattle.std.specs.Prelude.{◌≡◌, IfOk, IfErr};
 ghost use Rattle.fv_hob.specs.HobChecks.{hob_out_of_memory};
@@ -70,7 +70,7 @@ impl Hob {
 ///
 /// OutOfMemory.
 pub fn volume_hobs(alloc: Global, hobs: &HobList) -> Result<Spans, HobFault>
-    // The result has the base and the length of each volume that the blocks describe, in order.
+    // The result has the base and the length in each FV or FV2 block, in order.
     ensures spans { IfOk result (λ s. s ≡ spans_of hobs.now) }
 
     // The only error is OutOfMemory.

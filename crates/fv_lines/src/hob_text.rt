@@ -15,7 +15,8 @@ use fv_text::{put_decimal, put_four_digits};
 pub enum SpanContent {
     /// The span is not within the image.
     Outside,
-    /// A volume fills the span: `verify_fv` of its bytes returns the length of the span.
+    /// `verify_fv` accepts the bytes of the span, and the length in the extent that it returns is the
+    /// length of the span. The body of the volume is not checked.
     Volume,
     /// The span is within the image, but no volume fills it.
     Absent,

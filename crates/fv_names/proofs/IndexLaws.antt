@@ -17,6 +17,8 @@ use Rattle.std.proofs.lemmas.List.Sums.{position_or_len_is}
 use Rattle.std.proofs.lemmas.Map.Keys.{apart_from_distinct, IsDistinct-IsPermutation, IsDistinct-from_apart}
 use Rattle.fv_base.specs.declared.guid.Guid.{Guid}
 use Rattle.fv_names.specs.Words.{Entry, Halves, IsIndex, IsName, entry_cmp, halves_cmp, halves_of, numbered, NamedFile, is_name, IsOrder}
+use Rattle.std.specs.List.Sorted.{IsSorted, IsPartitionedBy, IsPartitionPoint}
+use Rattle.fv_names.specs.inner.NameOrders.{IsShared}
 use Rattle.fv_names.proofs.EntryOrderLaws.{before_too, less_orders, name_upto, neither_before, not_before_itself, not_before_too, numbers_rise}
 use Rattle.fv_names.proofs.EntryOrderLaws.{one_name_between}
 use Rattle.fv_names.proofs.NumberedLaws.{names_decide, numbered_are, numbers_are}
@@ -169,6 +171,34 @@ module _ (es : List Entry) (name : Guid) (names : List Guid) (whole : IsName nam
             ap (λ (h : Halves). is_lt (halves_cmp h (entry place).0)) (sym key)
             ∙ name_upto (entry place) (entry q) (in_order names es index g e place q le within) in
             not_there inside (neither_before (entry place).0 (halves_of name) (more inside) upto)
+
+-- ---- the entries with a name
+
+-- the names that precede a name come first
+pub parted : (es : List Entry) (key : Halves) → IsSorted entry_cmp es → IsPartitionedBy (λ (e : Entry). is_lt (halves_cmp e.0 key)) es
+parted es key sorted i j e le l less =
+    before_too (get_or es i e).0 (get_or es j e).0 key
+    (name_upto (get_or es i e) (get_or es j e) (sorted_far (λ (a b : Entry). is_lt (entry_cmp a b)) less_orders es sorted i j e le l)) less
+
+-- two entries have a name exactly if the entry after the first place whose name does not precede it has this name
+module _ (es : List Entry) (key : Halves) (sorted : IsSorted entry_cmp es) (first : ℕ)
+    (point : IsPartitionPoint (λ (e : Entry). is_lt (halves_cmp e.0 key) ≡ true) (λ (e : Entry). is_lt (halves_cmp e.0 key) ≡ false) es first)
+    (e : Entry)
+  where
+    key_from : (p q : ℕ) → first ≤ p → p ≤ q → q < length es → (get_or es q e).0 ≡ key → (get_or es p e).0 ≡ key
+    key_from p q low le l is =
+        neither_before (get_or es p e).0 key (point.1 p e low (omega (arith, le, l)))
+        (subst (λ (h : Halves). is_lt (halves_cmp h (get_or es p e).0) ≡ false) is
+        (name_upto (get_or es p e) (get_or es q e) (sorted_far (λ (a b : Entry). is_lt (entry_cmp a b)) less_orders es sorted p q e le l)))
+
+    pub shared_by : first + 1 < length es → (get_or es (first + 1) e).0 ≡ key → IsShared es e key
+    shared_by l is = (first, first + 1, omega arith, l, key_from first (first + 1) (omega arith) (omega arith) l is, is)
+
+    pub second_has : IsShared es e key → (first + 1 < length es) × ((get_or es (first + 1) e).0 ≡ key)
+    second_has (p, q, lt, l, is, same) = go (cases_lt p first) where
+      go : (p < first) ⊎ (first ≤ p) → (first + 1 < length es) × ((get_or es (first + 1) e).0 ≡ key)
+      go (inl less) = absurd (not_before_itself (get_or es p e).0 key is (point.0 p e (omega arith) less))
+      go (inr most) = (omega (arith, most, lt, l), key_from (first + 1) q (omega arith) (omega (arith, most, lt)) l same)
 
 -- ---- a search
 

@@ -4,19 +4,21 @@
 --    `twins`, `replaces_at`).
 -- 2. Among the entries from one twin to another, one has a twin among the two entries before it (`near`). So the least
 --    number of such an entry is the number of the first file with an earlier twin (`twin_before`, `first_none`).
--- 3. If there are no twins, a marked file is replaced exactly if its entry shares its name with a neighbour (`beside`,
---    `replaced_back`).
+-- 3. If there are no twins, a marked file is replaced exactly if two entries have its name (`replaced_back`,
+--    `shared_replaced`).
 -- 4. If no entry shares its name, there are no twins, and no file is replaced (`apart_twins`, `none_replaced`).
 use Rattle.std.proofs.Common.{◌≡◌, ◌≤◌, ◌<◌, ◌⊎◌, ℕ, ◌+◌, ◌-◌, [], ◌∷◌, ◌&&◌, zero, suc, List, length, take, get_or, map, Bool, true, false, refl}
 use Rattle.std.proofs.Common.{sym, ap, ◌∙◌, subst, arith, inl, inr, not, get_or-take, length-take-le, take_all}
 use Rattle.fv_base.proofs.Laws.{common_steps, Decides, beq, booleans_Decides, AllByRecursion, list_any, cases_lt, not_from_Decides, get_or_default}
 use Rattle.fv_base.proofs.Laws.{get_or-map, length-map, recursion_from_All, Any-from_list_any, list_any_at, at_index}
-use Rattle.std.proofs.lemmas.Bool.Decides.{Decides-and}
+use Rattle.std.proofs.lemmas.Bool.Decides.{Decides-and, same_from_decides}
+use Rattle.std.specs.List.{Contains}
+use Rattle.fv_base.proofs.Laws.{or_both}
 use Rattle.std.proofs.lemmas.List.Elements.{All-from_get_or}
 use Rattle.std.proofs.lemmas.List.Folds.{list_any_none}
 use Rattle.fv_base.specs.declared.guid.Guid.{Guid}
 use Rattle.fv_names.specs.Words.{NamedFile, NoTwins, is_twin, names_in, replaced_by, same_name, NeighboursDiffer, Entry, IsIndex, IsName, halves_of}
-use Rattle.fv_names.specs.inner.NameOrders.{AreTwins, IsTwinAt, SharesItsName, mark_at}
+use Rattle.fv_names.specs.inner.NameOrders.{AreTwins, IsShared, IsTwinAt, mark_at}
 use Rattle.fv_names.proofs.IndexLaws.{between, beyond, no_named, of_name, place_of, upward}
 use Rattle.fv_names.proofs.NumberedLaws.{names_decide}
 
@@ -50,6 +52,14 @@ two_same true false true = inr (inr refl)
 two_same true false false = inr (inl refl)
 two_same false true false = inr (inr refl)
 two_same false true true = inr (inl refl)
+
+-- a file that is not marked is not replaced
+pub unmarked_kept : (f : NamedFile) (fs : List NamedFile) → f.marked ≡ false → list_any (replaced_by f) fs ≡ false
+unmarked_kept f [] off = refl
+unmarked_kept f (g ∷ gs) off = or_both (replaced_by f g) (list_any (replaced_by f) gs) (here (same_name f g)) (unmarked_kept f gs off) where
+  here : (same : Bool) → (same && (f.marked && not g.marked)) ≡ false
+  here true = rw off refl
+  here false = refl
 
 -- ---- the files of an index
 
@@ -210,9 +220,8 @@ module _ (fs : List NamedFile) (es : List Entry) (index : IsIndex (names_in fs) 
       plain false is = refl
       plain true is = absurd (never order (is ∙ sym marked))
 
-  -- only a marked file whose entry shares its name is replaced
-  pub replaced_back : (p : ℕ) → p < length es → list_any (replaced_by (get_or fs (get_or es p e).1 d)) fs ≡ true
-      → SharesItsName es e p × (mark_at fs d (get_or es p e).1 ≡ true)
+  -- if a file is replaced, it is marked, and two entries have its name
+  replaced_back : (p : ℕ) → p < length es → list_any (replaced_by (file p)) fs ≡ true → IsShared es e (at p).0 × ((file p).marked ≡ true)
   replaced_back p l h =
       let r = Any-from_list_any (replaced_by (file p)) fs h in
       let b = entry_of r.0 r.2 in
@@ -224,36 +233,41 @@ module _ (fs : List NamedFile) (es : List Entry) (index : IsIndex (names_in fs) 
       itself m x y = cc
 
       side : (q : ℕ) → q < length es → (at p).0 ≡ (at q).0 → not (file q).marked ≡ true
-          → (file p).marked ≡ true → (p < q) ⊎ (q ≤ p) → (q < p) ⊎ (p ≤ q) → SharesItsName es e p
-      side q m same plain marked (inl lt) other =
-          inr (
-            omega (arith, lt, m),
-            between (names_in fs) es index d.name e p (p + 1) q (omega arith) (omega (arith, lt)) m same
-                ∙ sym same,
-          )
-      side q m same plain marked (inr le) (inl lt) =
-          inl (omega (arith, lt), between (names_in fs) es index d.name e q (p - 1) p (omega (arith, lt)) (omega arith) l (sym same))
+          → (file p).marked ≡ true → (p < q) ⊎ (q ≤ p) → (q < p) ⊎ (p ≤ q) → IsShared es e (at p).0
+      side q m same plain marked (inl lt) other = (p, q, lt, m, refl, sym same)
+      side q m same plain marked (inr le) (inl lt) = (q, p, lt, l, sym same, refl)
       side q m same plain marked (inr le) (inr ge) =
           let here : q ≡ p = omega (arith, le, ge) in
-          absurd (itself (file p).marked marked
-          (ap (λ (k : ℕ). not (file k).marked) (sym here) ∙ plain))
+          absurd (itself (file p).marked marked (ap (λ (k : ℕ). not (file k).marked) (sym here) ∙ plain))
 
-  -- so a file whose entry shares its name is replaced exactly if it is marked; another file is not replaced
-  pub marked_replaced : NoTwins fs → (p : ℕ) (t : Bool) → p < length es → SharesItsName es e p → t ≡ mark_at fs d (get_or es p e).1
-      → t ≡ list_any (replaced_by (get_or fs (get_or es p e).1 d)) fs
-  marked_replaced none p true l (inl h) is = sym (beside p (p - 1) l (omega (arith, l)) (inr (omega (arith, h.0))) none h.1 (sym is))
-  marked_replaced none p true l (inr h) is = sym (beside p (p + 1) l h.0 (inl (omega arith)) none h.1 (sym is))
-  marked_replaced none p false l h is = go (list_any (replaced_by (file p)) fs) refl where
-    go : (u : Bool) → list_any (replaced_by (file p)) fs ≡ u → false ≡ u
-    go true x = is ∙ (replaced_back p l x).1
-    go false x = refl
+  -- if two entries have the name of a marked file, and there are no twins, the file is replaced
+  shared_replaced : NoTwins fs → (p : ℕ) → p < length es → (file p).marked ≡ true → IsShared es e (at p).0
+      → list_any (replaced_by (file p)) fs ≡ true
+  shared_replaced none p l marked (i, j, lt, m, first, second) = go (cases_lt i p) where
+    go : (i < p) ⊎ (p ≤ i) → list_any (replaced_by (file p)) fs ≡ true
+    go (inl less) = beside p i l (omega (arith, less, l)) (inr less) none first marked
+    go (inr most) = beside p j l m (inl (omega (arith, most, lt))) none second marked
 
-  pub alone_kept : (p : ℕ) (t : Bool) → p < length es → t ≡ false → (SharesItsName es e p → t ≡ true)
-      → t ≡ list_any (replaced_by (get_or fs (get_or es p e).1 d)) fs
-  alone_kept p t l is all = go (list_any (replaced_by (file p)) fs) refl where
-    go : (u : Bool) → list_any (replaced_by (file p)) fs ≡ u → t ≡ u
-    go true x = all (replaced_back p l x).0
-    go false x = is
+  -- so a marked file is replaced exactly if two entries have its name
+  pub update_shares : NoTwins fs → (f : NamedFile) (t : Bool) → Contains fs f → f.marked ≡ true
+      → (t ≡ true → IsShared es e (halves_of f.name)) → (IsShared es e (halves_of f.name) → t ≡ true) → t ≡ list_any (replaced_by f) fs
+  update_shares none f t (n, l, is) marked shown all = same_from_decides t (list_any (replaced_by f) fs) (shown, all) (back, forth) where
+    r : (p : ℕ) × (p < length es) × ((get_or es p e).1 ≡ n)
+    r = entry_of n l
+
+    same : file r.0 ≡ f
+    same = ap (λ (k : ℕ). get_or fs k d) r.2 ∙ get_or_default fs n d f l ∙ is
+
+    key : (at r.0).0 ≡ halves_of f.name
+    key = has_name r.0 r.1 ∙ ap (λ (g : NamedFile). halves_of g.name) same
+
+    back : list_any (replaced_by f) fs ≡ true → IsShared es e (halves_of f.name)
+    back h = subst (IsShared es e) key (replaced_back r.0 r.1 (ap (λ (g : NamedFile). list_any (replaced_by g) fs) same ∙ h)).0
+
+    forth : IsShared es e (halves_of f.name) → list_any (replaced_by f) fs ≡ true
+    forth shared =
+        ap (λ (g : NamedFile). list_any (replaced_by g) fs) (sym same)
+        ∙ shared_replaced none r.0 r.1 (ap (λ (g : NamedFile). g.marked) same ∙ marked) (subst (IsShared es e) (sym key) shared)
 
   -- ---- names that differ
 
@@ -269,17 +283,16 @@ module _ (fs : List NamedFile) (es : List Entry) (index : IsIndex (names_in fs) 
         subst NoTwins (take_all (length fs) fs (omega arith)) (first_none (length fs) (omega arith) (λ r above l twin.
         absurd (no_twin_at r above l twin)))
 
-    alone : (p : ℕ) → p < length es → SharesItsName es e p → ⊥
-    alone p l (inl h) = apart e p h.0 l h.1
-    alone p l (inr h) =
-        let one : p + 1 - 1 ≡ p = omega arith in
-        apart e (p + 1) (omega arith) h.0 (ap (λ (k : ℕ). (at k).0) one ∙ sym h.1)
+    alone : (p : ℕ) → IsShared es e (at p).0 → ⊥
+    alone p (i, j, lt, m, first, second) =
+        apart e j (omega (arith, lt)) m
+        (between (names_in fs) es index d.name e i (j - 1) j (omega (arith, lt)) (omega arith) m (first ∙ sym second))
 
     not_replaced : (n : ℕ) → n < length fs → (t : Bool) → list_any (replaced_by (get_or fs n d)) fs ≡ t → t ≡ false
     not_replaced n l false h = refl
     not_replaced n l true h =
         let r = entry_of n l in
-        absurd (alone r.0 r.1 (replaced_back r.0 r.1 (ap (λ (k : ℕ). list_any (replaced_by (get_or fs k d)) fs) r.2 ∙ h)).0)
+        absurd (alone r.0 (replaced_back r.0 r.1 (ap (λ (k : ℕ). list_any (replaced_by (get_or fs k d)) fs) r.2 ∙ h)).0)
 
     -- if no entry shares its name, no file is replaced
     pub none_replaced : AllByRecursion (λ f. list_any (replaced_by f) fs ≡ false) fs

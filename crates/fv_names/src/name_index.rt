@@ -1,15 +1,18 @@
 //! The index of the names of some files.
 
-ghost use Rattle.std.specs.Prelude.{◌≡◌, ◌<◌, ◌≤◌, ◌^◌, List, length, map, take, get_or, true, IsSorted, IsTrue, IfOk, OnOk};
-ghost use Rattle.std.specs.Prelude.{IfErr};
-ghost use Rattle.std.specs.List.{list_any};
+ghost use Rattle.std.specs.Prelude.{◌≡◌, ◌<◌, ◌≤◌, ◌^◌, List, length, map, take, get_or, true, false, IsSorted, IsTrue, IfOk};
+ghost use Rattle.std.specs.Prelude.{OnOk, IfErr};
+ghost use Rattle.std.specs.List.{Contains, list_any};
+ghost use Rattle.std.specs.List.Sorted.{IsPartitionPoint};
+ghost use Rattle.std.specs.Ordering.{is_lt};
 ghost use Rattle.fv_base.specs.Words.{out_of_memory};
 ghost use Rattle.fv_base.specs.declared.guid.Guid.{Guid};
 ghost use Rattle.fv_names.specs.NamedFiles.{NamedFile, NoTwins, is_twin, names_in, replaced_by};
 ghost use Rattle.fv_names.specs.NameIndexes.{NeighboursDiffer, Entry, IsIndex, IsName, IsSixteenBytes, entries_of, entry_cmp};
-ghost use Rattle.fv_names.specs.NameIndexes.{halves_in, halves_of};
-ghost use Rattle.fv_names.specs.inner.NameOrders.{AreTwins, IsTwinAt, SharesItsName, mark_at};
+ghost use Rattle.fv_names.specs.NameIndexes.{halves_cmp, halves_in, halves_of};
+ghost use Rattle.fv_names.specs.inner.NameOrders.{AreTwins, IsShared, IsTwinAt, mark_at};
 
+use crate::name_order::is_before;
 use crate::named::Named;
 use fv_base::{Fault, Guid};
 use std::alloc::Global;
@@ -86,9 +89,9 @@ impl NameIndex {
         Ok(index)
     }
 
-    /// Makes this index the index of these files, in place of the files that it was built from. Takes
-    /// no new memory if there are at most as many files as before. There must be fewer than 2 ^ 32
-    /// files.
+    /// Makes this index the index of these files, in place of the files that it was built from.
+    /// Takes no new memory if there are at most as many files as before. There must be fewer than
+    /// 2 ^ 32 files.
     ///
     /// # Errors
     ///
@@ -143,11 +146,12 @@ impl NameIndex {
         true
     }
 
-    // Returns whether one of the two entries preceding the entry at a place is its twin. For
-    // `first_twin` this is enough. If an entry further back is a twin, and these two are not, both
-    // have the name of this entry, because the entries are sorted by name, and both have the other
-    // mark. So they are twins of each other. The later of them has a lower number than this entry,
-    // so the file of this entry is not the first that has an earlier twin.
+    // Returns whether one of the two entries preceding the entry at a place is its twin. (Only one
+    // entry precedes the entry at place 1, and is compared twice.) For `first_twin` this is enough.
+    // If an entry further back is a twin, and these two are not, both have the name of this entry,
+    // because the entries are sorted by name, and both have the other mark. So they are twins of
+    // each other. The later of them has a lower number than this entry, so the file of this entry
+    // is not the first that has an earlier twin.
     pub(crate) fn has_twin<F: Named>(&self, files: &[F], place: usize) -> bool
         requires index { IsIndex (names_in (map F.named files.now)) (entries_of self.now) }
         requires first { 0 < place }
@@ -183,30 +187,38 @@ impl NameIndex {
         first
     }
 
-    // Returns whether an entry next to the entry at a place has the same name.
-    pub(crate) fn shares_its_name(&self, place: usize) -> bool
-        requires { place < length (entries_of self.now) }
-        ensures yes { IsTrue result → (e : Entry) → SharesItsName (entries_of self.now) e place }
-        ensures all { (e : Entry) → SharesItsName (entries_of self.now) e place → IsTrue result }
+    // Returns the first place whose name does not precede this name. Both are given as two numbers.
+    fn place_of(&self, key: (u64, u64)) -> usize
+        ensures most { result ≤ length (entries_of self.now) }
+        ensures parted { IsSorted entry_cmp (entries_of self.now)
+            → IsPartitionPoint (λ (e : Entry). is_lt (halves_cmp e.0 key) ≡ true)
+            (λ (e : Entry). is_lt (halves_cmp e.0 key) ≡ false) (entries_of self.now) result }
     {
-        let name = self.sorted[place].0;
-        (place > 0 && self.sorted[place - 1].0 == name)
-            || (place + 1 < self.sorted.len() && self.sorted[place + 1].0 == name)
+        self.sorted
+            .as_slice()
+            .partition_point(|entry| is_before(entry.0, key))
     }
 
-    /// Returns whether one of the files replaces the file whose name is at this place: that file is
-    /// marked for update, and the other has the same name and is not marked. The index must be the
-    /// index of these files, no two of the files may be twins, and there must be an entry at this
-    /// place.
-    pub fn is_replaced<F: Named>(&self, files: &[F], place: usize) -> bool
-        requires index { IsIndex (names_in (map F.named files.now)) (entries_of self.now) }
-        requires no_twins { NoTwins (map F.named files.now) }
-        requires last { place < length (entries_of self.now) }
-        ensures { (d : NamedFile) (e : Entry) → result
-            ≡ list_any (replaced_by (get_or (map F.named files.now) (get_or (entries_of self.now) place e).1 d))
-            (map F.named files.now) }
+    // Returns whether two entries have this name.
+    pub(crate) fn is_shared(&self, name: Guid) -> bool
+        ensures yes { IsSorted entry_cmp (entries_of self.now) → IsTrue result
+            → (e : Entry) → IsShared (entries_of self.now) e (halves_of name) }
+        ensures all { IsSorted entry_cmp (entries_of self.now)
+            → (e : Entry) → IsShared (entries_of self.now) e (halves_of name) → IsTrue result }
     {
-        // No two files are twins, so the entry of the replacing file is next to this one.
-        self.shares_its_name(place) && is_marked_at(files, self.sorted[place].1)
+        let key = halves(name);
+        let second = self.place_of(key) + 1;
+        second < self.sorted.len() && self.sorted[second].0 == key
+    }
+
+    /// Returns whether one of the files replaces this file: this file is marked for update, and
+    /// the other has the same name and is not marked. The file must be one of the files of the
+    /// index, and no two of these files may be twins.
+    pub fn is_replaced<F: Named>(&self, file: &F) -> bool
+        ensures { (fs : List NamedFile) → IsIndex (names_in fs) (entries_of self.now) → NoTwins fs
+            → Contains fs (F.named file.now) → result ≡ list_any (replaced_by (F.named file.now)) fs }
+    {
+        // No two files are twins, so a file with the same name has the other mark.
+        file.is_marked() && self.is_shared(file.name())
     }
 }

@@ -21,8 +21,8 @@ pub struct NameOrder {
     numbers: Vec<u32>,
 }
 
-// Returns whether a name precedes another. Both are given as two numbers.
-fn is_before(one: (u64, u64), other: (u64, u64)) -> bool
+/// Returns whether a name precedes another. Both are given as two numbers.
+pub(crate) fn is_before(one: (u64, u64), other: (u64, u64)) -> bool
     ensures { result ≡ is_lt (halves_cmp one other) }
 {
     one.0 < other.0 || (one.0 == other.0 && one.1 < other.1)

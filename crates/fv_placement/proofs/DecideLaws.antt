@@ -186,4 +186,4 @@ placed_or_not total first fs = go (top_dec total fs) (placed_or_none total first
       → ((starts : List ℕ) × IsFirstPlacement total first fs starts) ⊎ (TopMisaligned total fs ⊎ HasNoRoom total first fs)
   go (inl off) h = inr (inl off)
   go (inr on) (inl placed) = inl placed
-  go (inr on) (inr none) = inr (inr (record { top_can_begin = on; none = none }))
+  go (inr on) (inr none) = inr (inr (record { top_is_aligned = on; none = none }))

@@ -16,8 +16,8 @@ abbrev pub TopMisaligned : ℕ → List PlacementItem → Type 0
 TopMisaligned total [] = ⊥
 TopMisaligned total (f ∷ fs) = (IsTrue f.top × IsMisaligned total f) ⊎ TopMisaligned total fs
 
--- the files cannot be placed in their order at all, although the volume top file, if there is one, can begin at its
--- only possible start
+-- the files cannot be placed in their order at all, although a volume top file, if there is one, is aligned at its only
+-- possible start (`TopMisaligned` does not hold)
 pub record HasNoRoom (total first : ℕ) (fs : List PlacementItem) : Type 0 where
-  pub top_can_begin : TopMisaligned total fs → ⊥
+  pub top_is_aligned : TopMisaligned total fs → ⊥
   pub none : (starts : List ℕ) → Placement total first fs starts → ⊥

@@ -2,14 +2,16 @@
 //!
 //! The files are placed in their order. A file begins at a lawful start: a multiple of 8 at which
 //! its data are aligned, and which is either the preceding edge or at least 24 bytes after it, so
-//! that a pad fits in the gap. (The preceding edge is the end of the previous file, rounded up to
-//! 8.) Each file ends within the volume, and the volume top file ends where the volume ends. A list
-//! of such starts, with one start for each file, is a placement. In the first placement each start
-//! is the least among all placements with the same earlier starts.
+//! that a pad fits in the gap. (For the first file, the preceding edge is the first edge of the
+//! volume. For any other file, it is the end of the previous file, rounded up to 8.) Each file ends
+//! within the volume, and the volume top file ends where the volume ends. A list of such starts,
+//! with one start for each file, is a placement. In the first placement each start is the least
+//! among all placements with the same earlier starts.
 //!
-//! In most volumes each file can have the least lawful start after the previous file. If these
+//! In most volumes each file can have its least start: the least lawful start after the preceding
+//! edge, and for the volume top file the start with which it ends where the volume ends. If these
 //! least starts are a placement, they are the first placement, because no placement with the same
-//! earlier starts has a lesser start there. But a least start can be too low. If it leaves 8 or 16
+//! earlier starts has a lower next start. But a least start can be too low. If it leaves 8 or 16
 //! bytes in front of the volume top file, no pad fits there, and an earlier file has to begin
 //! further on.
 //!

@@ -3,10 +3,11 @@
 //! A file begins at the preceding edge, or at least 24 bytes after it, because the smallest pad has
 //! 24 bytes. If `greatest` is the greatest usable edge, every edge at least 24 bytes below it is
 //! usable too, because a pad fills the gap. Edges are multiples of 8, so only the edges 8 and 16
-//! bytes below `greatest` are left. A start that leaves room for a pad after such an edge is above
-//! `greatest`. The first file cannot begin at that start: otherwise the start itself would be a
-//! usable edge above `greatest`. So each of these two edges is usable only if the first file can
-//! begin at the edge itself. So one number and two truth values determine which edges are usable.
+//! bytes below `greatest` are left. After one of these two edges, a start that leaves room for a pad
+//! is above `greatest`. The first of the files cannot begin at such a start. If it could, the start
+//! would be a usable edge too, because a file may begin at the preceding edge. But no usable edge is
+//! above `greatest`. So each of the two edges is usable only if the first file can begin at the edge
+//! itself. So one number and two truth values determine which edges are usable.
 
 ghost use Rattle.std.specs.Prelude.{◌≡◌, ◌%◌, ◌^◌, ◌<◌, ◌≤◌, ◌↔◌, IsTrue, List, []};
 ghost use Rattle.fv_base.specs.Words.{volume_limit};
@@ -54,7 +55,8 @@ fn is_usable_edge(after: Reach, edge: u64) -> bool
         || (after.far && edge + 16 == after.greatest)
 }
 
-// Returns whether the file may begin at `start`, if the files after it have the reach `after`.
+// Returns whether `start` is usable for the file, if the files after it have the reach `after`. Does
+// not check the gap before `start`.
 pub(crate) fn is_usable_start(total: u64, item: &PlacementItem, after: Reach, start: u64) -> bool
     requires total { total ≤ volume_limit }
     requires item { IsLawfulItem total item.now }

@@ -56,9 +56,10 @@ fn widened(alignment: u32) -> u64
 // Returns the first usable start at or after `edge`, if there is one: `edge` itself, or a start
 // that leaves room for a pad. The loop tries at most two starts. A start in the loop fails only if
 // the edge after the file is 8 or 16 bytes below `after.greatest`. With a step of 8 no start in the
-// loop fails: the first start in the loop is `edge` + 24. If this start failed, the edge after a
-// file at `edge` would be 32 or 40 bytes below `after.greatest`, so `edge` would have been returned
-// before. A larger step is at least 16, so the next start leads to `after.greatest` or past it.
+// loop fails. The first start in the loop is `edge` + 24. If it failed, a file that begins at `edge`
+// would end 24 bytes earlier, so the edge after that file would be 32 or 40 bytes below
+// `after.greatest` and usable, and `edge` would have been returned before. A larger step is at least
+// 16, so the next start leads to `after.greatest` or past it.
 pub(crate) fn first_start(total: u64, edge: u64, item: &PlacementItem, after: Reach) -> Option<u64>
     requires total { total ≤ volume_limit }
     requires edge { (edge % 8 ≡ 0) × (edge ≤ total) }

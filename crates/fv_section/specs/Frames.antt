@@ -45,8 +45,8 @@ abbrev pub up_to_4 : ℕ → ℕ
 up_to_4 n = (n + 3) / 4 * 4
 
 -- b is the part of a stream from the offset `at` on: it consists of these frames, in order. Between two frames, filler
--- of any value leads to the next multiple of 4. After the last frame `tail` bytes follow, at most up to the next
--- multiple of 4
+-- of any value leads to the first multiple of 4 at or after the end of the first of them. After the last frame `tail`
+-- bytes follow, at most up to the first multiple of 4 at or after its end. Without frames, b is empty and `tail` is 0
 abbrev pub SplitsFrom : ℕ → List FrameForm → ℕ → List ℕ → Type 0
 SplitsFrom at [] tail b = (b ≡ []) × (tail ≡ 0)
 SplitsFrom at (f ∷ []) tail b =

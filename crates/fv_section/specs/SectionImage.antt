@@ -8,8 +8,8 @@ abbrev pub section_head_of : ℕ → Bool → ℕ → List ℕ
 section_head_of kind false n = le_bytes 3 (section_header_len false + n) ++ (kind ∷ [])
 section_head_of kind true n = le_bytes 3 0xffffff ++ (kind ∷ le_bytes 4 (section_header_len true + n))
 
--- the bytes of a stream of these frames: each is a header and a body, zero bytes fill up to the next multiple of 4
--- between two frames, and `tail` zero bytes follow the last frame
+-- the bytes of a stream of these frames: each is a header and a body, zero bytes between two frames lead to a multiple
+-- of 4 (none if the frame ends at one), and `tail` zero bytes follow the last frame
 abbrev pub stream_of : List FrameForm → ℕ → List ℕ
 stream_of [] tail = []
 stream_of (f ∷ []) tail = section_head_of f.kind f.extended (length f.body) ++ (f.body ++ replicate tail 0)

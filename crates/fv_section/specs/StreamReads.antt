@@ -36,7 +36,7 @@ IsHeadOfFrame extended kind n h =
 
 -- the frames are in place from the offset `at` on: the first begins at `at`, and each other at the first multiple of 4
 -- at or after the end of the previous frame; each body fits the form of its header; and the tail ends at most at the
--- next multiple of 4. Without frames, the tail is 0
+-- first multiple of 4 at or after the end of the last frame. Without frames, the tail is 0
 abbrev pub InPlace : ℕ → List FrameForm → ℕ → Type 0
 InPlace at [] tail = tail ≡ 0
 InPlace at (f ∷ []) tail =
@@ -58,8 +58,8 @@ frame_in at r = record {
   body = take (section_size_at r - section_header_len_at r) (drop (section_header_len_at r) r);
 }
 
--- the bytes that are left after a frame of n bytes at the start of r: the bytes from the next multiple of 4 on or, if r
--- ends there or before it, the bytes directly after the frame
+-- the bytes that are left after a frame of n bytes at the start of r. If r goes past the first multiple of 4 at or after
+-- the end of the frame, they begin at that multiple. Otherwise they begin directly after the frame
 abbrev pub after_size : ℕ → List ℕ → List ℕ
 after_size n r = if nat_lt (up_to_4 n) (length r) then drop (up_to_4 n) r else drop n r
 

@@ -113,9 +113,9 @@ pub(crate) fn frame_in(rest: &[u8], at: u64) -> Frame<'_>
     }
 }
 
-// Returns the bytes that are left after a frame of `size` bytes at the start of `rest`: the bytes
-// from the next multiple of 4 on or, if `rest` ends there or before it, the bytes directly after
-// the frame.
+// Returns the bytes that are left after a frame of `size` bytes at the start of `rest`. If `rest`
+// goes past the first multiple of 4 at or after the end of the frame, these bytes begin at that
+// multiple. Otherwise they begin directly after the frame.
 fn after_frame(rest: &[u8], size: usize) -> &[u8]
     requires within { size ≤ length rest.now }
     ensures { result.now ≡ after_size size rest.now }
@@ -129,9 +129,10 @@ fn after_frame(rest: &[u8], size: usize) -> &[u8]
 }
 
 /// Returns the frame at the start of `rest`, with the offset 0, and the bytes that are left after
-/// it. These are the bytes from the next multiple of 4 on or, if `rest` ends there or before it,
-/// the bytes directly after the frame: the tail. `rest` must begin with a frame, because the header
-/// is not checked. Allocates no memory. (PI specification, volume 3, section 3.2.4.)
+/// it. If `rest` goes past the first multiple of 4 at or after the end of the frame, these bytes
+/// begin at that multiple. Otherwise they begin directly after the frame, and are the tail. `rest`
+/// must begin with a frame, because the header is not checked. Allocates no memory. (PI
+/// specification, volume 3, section 3.2.4.)
 pub fn split_frame(rest: &[u8]) -> (Frame<'_>, &[u8])
     requires least { 4 ≤ length rest.now }
     requires frame { HasFrameAt (frame_in 0 rest.now) 0 rest.now }

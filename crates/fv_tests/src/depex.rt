@@ -1,6 +1,6 @@
-//! Tests of fv_depex, with results that were worked out by hand: expressions, and the printed
-//! texts. Wrong expressions, with the fault of each, are in `parts.rows` of fv_run_tests, and the
-//! truth values in its `library.rows`.
+//! Tests of fv_depex, with results that were worked out by hand: expressions, the printed texts, and
+//! memory that runs out. Wrong expressions, with the fault of each, are in `parts.rows` of
+//! fv_run_tests, and the truth values in its `library.rows`.
 
 mod memory;
 mod read;

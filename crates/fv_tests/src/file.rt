@@ -1,6 +1,6 @@
 //! Tests of fv_file, with results that were worked out by hand: bytes that begin with a file,
-//! deleted and incomplete files, states, attribute bits, and written headers. Other bodies of
-//! volumes, and the fault of each change to one of them, are in `bodies.rows` of fv_run_tests.
+//! deleted and incomplete files, states, attribute bits, written headers, and memory that runs out.
+//! Other bodies of volumes are in `bodies.rows` of fv_run_tests, each with its cells or its fault.
 
 mod begins;
 mod memory;

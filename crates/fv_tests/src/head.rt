@@ -1,6 +1,7 @@
 //! Tests of fv_head, with results that were worked out by hand: whether bytes are one volume,
-//! extended headers that are read, and headers that are written. Other headers and their extents are in `volumes.rows` and
-//! `library.rows` of fv_run_tests, and the fault of each change to a header in its `parts.rows`.
+//! extended headers that are read, headers that are written, and memory that runs out. Other headers
+//! are in `volumes.rows` of fv_run_tests, their extents in its `library.rows`, and wrong headers and
+//! their faults in its `parts.rows`.
 
 mod extended;
 mod memory;

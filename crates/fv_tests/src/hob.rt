@@ -1,5 +1,7 @@
-//! Tests of fv_hob, with results that were worked out by hand: lists, and the printed texts. Wrong
-//! lists, with the fault of each, are in `parts.rows` and `lengths.rows` of fv_run_tests.
+//! Tests of fv_hob, with results that were worked out by hand: lists, the printed texts, and memory
+//! that runs out. Wrong lists and their faults are in `hobs.rows` of fv_run_tests, and lists that are
+//! cut short in its `parts.rows`. Its `lengths.rows` has the lengths that a block may have, and
+//! others.
 
 mod faults;
 mod known;

@@ -1,23 +1,63 @@
 -- The files of a volume are the files of its cells.
 use Rattle.std.proofs.Common.{◌≡◌, ◌≤◌, ◌<◌, ℕ, ◌+◌, ◌^◌, [], ◌∷◌, ◌++◌, List, length, drop, sym, ap, ◌∙◌, subst, arith, length-append, not}
-use Rattle.fv_base.proofs.Laws.{length-drop, common_steps, list_any, First, volume_limit, IsBytes, all_filter, bytes_back, bytes_drop, bytes_front}
+use Rattle.fv_base.proofs.Laws.{AllByRecursion, length-drop, common_steps, list_any, First, volume_limit, IsBytes, all_filter, bytes_back, bytes_drop}
+use Rattle.fv_base.proofs.Laws.{bytes_front}
 use Rattle.fv_base.specs.declared.fault.Fault.{Fault}
 use Rattle.fv_base.specs.declared.flash.FileSystem.{FileSystem}
 use Rattle.fv_base.specs.declared.flash.Polarity.{Polarity}
 use Rattle.fv_base.specs.declared.fault.Place.{Place}
-use Rattle.fv_file.specs.Words.{CellForm, Valid, Pad, Dead, Stub, Free, Tiles, IsCell, offset_of, CellsWithin, LengthsAgree, cell_len}
-use Rattle.fv_file.proofs.Laws.{cell_span}
+use Rattle.fv_file.specs.Words.{CellForm, Valid, Tiles, IsCell, offset_of, CellsWithin, LengthsAgree, cell_len}
+use Rattle.fv_file.specs.declared.head.FileHead.{FileHead}
+use Rattle.fv_file.proofs.Laws.{all_within, cell_span}
 use Rattle.fv_head.specs.declared.extent.Extent.{Extent}
 use Rattle.fv_tree.specs.inner.ReadingParts.{IsReadyFile, AllStored}
-use Rattle.fv_tree.specs.Words.{AreFilesOf, Stream, MeansFile, FileForm, files_in, AreCurrent, replaced_by, Faulty, FileFault, BodyFault, OneOf}
+use Rattle.fv_tree.specs.Words.{AreFilesOf, Stream, MeansFile, FileForm, files_in, AreCurrent, current_in, end_of, replaced_by, Faulty, FileFault}
+use Rattle.fv_tree.specs.Words.{BodyFault, OneOf}
 
--- ---- the files that are stored in a volume
+-- ---- a property of each file
 
--- the current files among some stored files are the current files of the cells that contain these files
-pub current_of : (length : ℕ) (cs : List CellForm) (standing files : List FileForm) → standing ≡ files_in cs
-    → AreCurrent length standing files
-    → AreCurrent length (files_in cs) files
-current_of length cs standing files is h = subst (λ (fs : List FileForm). AreCurrent length fs files) is h
+-- a property of the file in each valid cell is a property of each file of the cells
+pub each_file : (P : CellForm → Type 0) (Q : FileForm → Type 0)
+    → ((at : ℕ) (head : FileHead) (payload : List ℕ) → P (Valid at head payload) → Q (record { offset = at; head = head; payload = payload }))
+    → (cs : List CellForm) → AllByRecursion P cs → AllByRecursion Q (files_in cs)
+each_file P Q one [] all = tt
+each_file P Q one (Valid at head payload ∷ cs) all = (one at head payload all.0, each_file P Q one cs all.1)
+each_file P Q one (_ ∷ cs) all = each_file P Q one cs all.1
+
+-- a property of each file is a property of each current file
+pub of_current : (P : FileForm → Type 0) (fs : List FileForm) → AllByRecursion P fs → AllByRecursion P (current_in fs)
+of_current P fs = all_filter (λ f. not (list_any (replaced_by f) fs)) P fs
+
+-- the file ends at most `end` bytes after the volume's start, and the lengths of its header and of its data add up to
+-- its size
+pub record LiesBy (end : ℕ) (f : FileForm) : Type 0 where
+  pub ends : end_of f ≤ end
+  pub agrees : f.head.header_len + length f.payload ≡ f.head.size
+
+-- so does each file of the cells that lie within these bytes
+pub files_lie : (end : ℕ) (cs : List CellForm) → CellsWithin end cs → AllByRecursion (LiesBy end) (files_in cs)
+files_lie end cs within =
+    each_file (λ c. (offset_of c + cell_len c ≤ end) × LengthsAgree c) (LiesBy end)
+    (λ at head payload lies. record { ends = omega (arith, lies.0); agrees = lies.1 }) cs (each cs within)
+  where
+    each : (cs : List CellForm) → CellsWithin end cs → AllByRecursion (λ c. (offset_of c + cell_len c ≤ end) × LengthsAgree c) cs
+    each [] within = tt
+    each (c ∷ cs) (lies, agree, rest) = ((lies, agree), each cs rest)
+
+-- cells that tile the body of a volume lie within the volume
+pub cells_inside : (e : Extent) (volume : List ℕ) (cs : List CellForm) → e.first ≤ length volume
+    → Tiles e.file_system e.polarity e.first cs (drop e.first volume) → CellsWithin (length volume) cs
+cells_inside e volume cs first tiles =
+    let end : e.first + length (drop e.first volume) ≡ length volume = omega (arith, length-drop e.first volume, first) in
+    subst (λ (n : ℕ). CellsWithin n cs) end (all_within e.file_system e.polarity e.first cs (drop e.first volume) tiles)
+
+-- so each file of a volume lies within it
+pub files_inside : (e : Extent) (volume : List ℕ) (fs : List FileForm) → e.first ≤ length volume → AreFilesOf e volume fs
+    → AllByRecursion (LiesBy (length volume)) fs
+files_inside e volume fs first stand =
+    subst (AllByRecursion (LiesBy (length volume))) (sym stand.current.files_are)
+    (of_current (LiesBy (length volume)) (files_in stand.cells)
+    (files_lie (length volume) stand.cells (cells_inside e volume stand.cells first stand.tiles)))
 
 -- ---- the meanings of the files
 
@@ -28,32 +68,34 @@ files_first n I e volume at fs g stand first = grind (arith, common_steps)
 
 -- ---- the bytes of every file lie in some bytes
 
-stored_here : (s : FileSystem) (p : Polarity) (c : CellForm) (x : List ℕ) (base end : ℕ) (cs : List CellForm) → IsBytes x
-    → length x ≤ volume_limit → base + end < 2 ^ 63 → IsCell s p c x
-    → offset_of c + cell_len c ≤ end → LengthsAgree c → AllStored base (files_in cs) → AllStored base (files_in (c ∷ cs))
-stored_here s p (Valid at head payload) x base end cs small short fits is lies made rest = (
-  (
-    (s, p, x, small, short, is),
-    omega
-        (arith, fits, lies, made),
-    omega (arith, short, made, cell_span s p (Valid at head payload) x is),
-  ),
-  rest,
-)
-stored_here s p (Pad at head payload) x base end cs small short fits is lies made rest = rest
-stored_here s p (Dead at len state) x base end cs small short fits is lies made rest = rest
-stored_here s p (Stub at len) x base end cs small short fits is lies made rest = rest
-stored_here s p (Free at len) x base end cs small short fits is lies made rest = rest
+-- some bytes are the cell, which ends at most `end` bytes after the volume's start
+record IsCellBy (s : FileSystem) (p : Polarity) (end : ℕ) (c : CellForm) : Type 0 where
+  pub bytes : List ℕ
+  pub small : IsBytes bytes
+  pub short : length bytes ≤ volume_limit
+  pub is : IsCell s p c bytes
+  pub ends : offset_of c + cell_len c ≤ end
+  pub agrees : LengthsAgree c
+
+cells_stored : (s : FileSystem) (p : Polarity) (at end : ℕ) (cs : List CellForm) (b : List ℕ) → IsBytes b → length b ≤ volume_limit
+    → Tiles s p at cs b → CellsWithin end cs → AllByRecursion (IsCellBy s p end) cs
+cells_stored s p at end [] b small short tiles within = tt
+cells_stored s p at end (c ∷ cs) b small short (x, rest, text, is, o, free, more) (ends, agrees, others) =
+    let long : length b ≡ length x + length rest = ap length text ∙ length-append x rest in
+    let parts : IsBytes (x ++ rest) = subst IsBytes text small in (
+      record { bytes = x; small = bytes_front x rest parts; short = omega (arith, long, short); is = is; ends = ends; agrees = agrees },
+      cells_stored s p (at + length x) end cs rest (bytes_back x rest parts) (omega (arith, long, short)) more others,
+    )
 
 pub stored_in : (s : FileSystem) (p : Polarity) (at base end : ℕ) (cs : List CellForm) (b : List ℕ) → IsBytes b
     → length b ≤ volume_limit → base + end < 2 ^ 63 → Tiles s p at cs b → CellsWithin end cs
     → AllStored base (files_in cs)
-stored_in s p at base end [] b small short fits tiles within = tt
-stored_in s p at base end (c ∷ cs) b small short fits (x, rest, text, is, o, free, more) (lies, made, others) =
-    let long : length b ≡ length x + length rest = ap length text ∙ length-append x rest in
-    let parts : IsBytes (x ++ rest) = subst IsBytes text small in
-    stored_here s p c x base end cs (bytes_front x rest parts) (omega (arith, long, short)) fits is lies made
-    (stored_in s p (at + length x) base end cs rest (bytes_back x rest parts) (omega (arith, long, short)) fits more others)
+stored_in s p at base end cs b small short fits tiles within =
+    each_file (IsCellBy s p end) (IsReadyFile base) (λ head_at head payload cell. (
+      (s, p, cell.bytes, cell.small, cell.short, cell.is),
+      omega (arith, fits, cell.ends, cell.agrees),
+      omega (arith, cell.short, cell.agrees, cell_span s p (Valid head_at head payload) cell.bytes cell.is),
+    )) cs (cells_stored s p at end cs b small short tiles within)
 
 pub files_stored : (e : Extent) (volume : List ℕ) (base : ℕ) (cs : List CellForm) (fs : List FileForm) → IsBytes volume
     → length volume ≤ volume_limit → base + length volume < 2 ^ 63
@@ -63,5 +105,4 @@ files_stored e volume base cs fs small short fits tiles within current =
     let short' : length (drop e.first volume) ≤ volume_limit = omega (arith, length-drop e.first volume, short) in
     let all = stored_in e.file_system e.polarity e.first base (length volume) cs (drop e.first volume)
     (bytes_drop e.first volume small) short' fits tiles within in
-    subst (AllStored base) (sym current.files_are) (all_filter (λ f. not (list_any (replaced_by f) (files_in cs))) (IsReadyFile base)
-    (files_in cs) all)
+    subst (AllStored base) (sym current.files_are) (of_current (IsReadyFile base) (files_in cs) all)

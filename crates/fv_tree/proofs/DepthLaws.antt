@@ -3,18 +3,17 @@
 use Rattle.std.proofs.Common.{◌≡◌, ℕ, zero, suc, List, [], ◌∷◌, refl}
 use Rattle.std.specs.List.{AllByRecursion}
 use Rattle.fv_section.specs.Words.{FrameForm}
-use Rattle.fv_tree.specs.Words.{MeansFile, MeansSection, Pairwise, Stream, Meaning, Volume, FileMeanings, files_list, FileMeaning, File}
-use Rattle.fv_tree.specs.Words.{content_of, Sectioned, SectionMeanings, SectionMeaning, Section, Group, Nested, sections_list, body_of}
-use Rattle.fv_tree.specs.Words.{FileForm, deeper, volumes_in_body, volumes_in_section}
+use Rattle.fv_tree.specs.Words.{MeansFile, MeansSection, Pairwise, Stream, Meaning, Volume, FileMeanings, files_list, FileMeaning, File, content_of}
+use Rattle.fv_tree.specs.Words.{Sectioned, SectionMeanings, SectionMeaning, Section, Group, Nested, sections_list, body_of, FileForm, deeper}
+use Rattle.fv_tree.specs.Words.{volumes_in_body, volumes_in_section}
 use Rattle.fv_head.specs.Words.{HeadFields}
 use Rattle.fv_tree.specs.inner.NestingDepths.{NestsVolume, NestsFiles, NestsContent, NestsSections, NestsBody}
 
 -- each item of the second list is paired with an item of the first list
 each_paired : {A B : Type 0} (R : A → B → Type 0) (xs : List A) (ys : List B) → Pairwise R xs ys → AllByRecursion (λ y. (x : A) × R x y) ys
 each_paired R [] [] h = tt
-each_paired R [] (y ∷ ys) h = absurd h
-each_paired R (x ∷ xs) [] h = absurd h
 each_paired R (x ∷ xs) (y ∷ ys) h = ((x, h.0), each_paired R xs ys h.1)
+each_paired R _ _ h = absurd h
 
 -- the files of a volume nest no deeper than the volume
 pub nests_files : (h : HeadFields) (files : FileMeanings) (n : ℕ) → NestsVolume (Volume h files) n → NestsFiles files n

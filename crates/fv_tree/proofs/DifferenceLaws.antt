@@ -1,14 +1,14 @@
 -- Two meanings have no difference exactly if they are equal. The steps:
--- 1. Two pairs of parts have no difference exactly if neither pair has one (`both_none`, `item_none`, `none_both`,
---    `in_none`).
--- 2. Fields without a difference are equal: bytes, numbers and flags (`bytes_one`, `nat_one`, `bool_one`), the block
---    map (`blocks_one`) and the extended header (`ext_one`). So two headers without a difference are equal
---    (`head_one`).
--- 3. By induction on the meaning, two volumes without a difference are equal (`one_volume`).
--- 4. Conversely, a field does not differ from itself (`bytes_same` and the lemmas after it), and so a meaning does not
---    differ from itself (`no_difference`).
-use Rattle.std.proofs.Common.{◌≡◌, ℕ, ◌+◌, [], ◌∷◌, ◌==◌, ◌&&◌, List, refl, ap, ◌∙◌, Bool, true, false, Option, Some, None, arith}
-use Rattle.fv_base.proofs.Laws.{common_steps, option_or, beq, booleans_Decides, bytes_eq, and_split, Decides-eqb, bytes_eq-Decides, bytes_of}
+-- 1. A test that decides a fact leaves no difference exactly if the fact holds (`by_test`). Two pairs of parts have no
+--    difference exactly if neither pair has one (`both_same`), also if a step leads to a pair (`under_same`).
+-- 2. The fields of a header have tests that decide whether they are equal: the block map (`blocks_decide`), the entries
+--    and the extended header (`entries_decide`, `ext_decides`). So two headers have no difference exactly if they are
+--    equal (`head_same`).
+-- 3. By induction on the meaning, two volumes have no difference exactly if they are equal (`volume_same`).
+use Rattle.std.proofs.Common.{◌≡◌, ℕ, ◌+◌, ◌==◌, ◌&&◌, List, refl, ap, ◌∙◌, Bool, true, false, Option, Some, None}
+use Rattle.fv_base.proofs.Laws.{Decides, option_or, beq, booleans_Decides, bytes_eq, Decides-eqb, bytes_eq-Decides, bytes_of}
+use Rattle.std.proofs.lemmas.Bool.Decides.{Decides-and, Decides-like}
+use Rattle.std.proofs.lemmas.Slice.Eq.{slice_eq-Decides}
 use Rattle.fv_base.specs.declared.flash.FileSystem.{FileSystem}
 use Rattle.fv_base.specs.declared.guid.Guid.{Guid}
 use Rattle.fv_base.specs.declared.flash.FileSystem.TheVariants.{Ffs2, Ffs3}
@@ -20,82 +20,65 @@ use Rattle.fv_tree.specs.Words.{SectionMeaning, Section, BodyMeaning, Leaf, Grou
 use Rattle.fv_tree.specs.declared.difference.Step.{Step}
 use Rattle.fv_tree.specs.declared.difference.DifferenceKind.{DifferenceKind}
 
-both_none : (a b : Differs) → option_or a b ≡ None → (a ≡ None) × (b ≡ None)
-both_none None b e = (refl, e)
-both_none (Some d) b e = cc
+-- there is no difference exactly if P holds
+abbrev IsNoneIf : Differs → Type 0 → Type 0
+IsNoneIf d P = (d ≡ None → P) × (P → d ≡ None)
 
-none_both : (a b : Differs) → a ≡ None → b ≡ None → option_or a b ≡ None
-none_both a b p q = rw p q
+by_test : {P : Type 0} (t : Bool) (word : DifferenceKind) → Decides t P → IsNoneIf (differ_unless t word) P
+by_test true word decides = (λ e. decides.0 refl, λ p. refl)
+by_test false word decides = (λ e. cc, λ p. let bad : false ≡ true = decides.1 p in cc)
 
--- if two lists have no difference, neither their first items nor the rests of the lists have one
-item_none : (s : Step) (a b : Differs) → option_or (under s a) b ≡ None → (a ≡ None) × (b ≡ None)
-item_none s None b e = (refl, e)
-item_none s (Some d) b e = cc
+both_same : {P Q : Type 0} (a b : Differs) → IsNoneIf a P → IsNoneIf b Q → IsNoneIf (option_or a b) (P × Q)
+both_same None b p q = (λ e. (p.0 refl, q.0 e), λ h. q.1 h.1)
+both_same (Some d) b p q = (λ e. cc, λ h. let bad : Some d ≡ None = p.1 h.0 in cc)
 
-in_none : (s : Step) (a : Differs) → a ≡ None → under s a ≡ None
-in_none s a p = rw p refl
+under_same : {P : Type 0} (s : Step) (a : Differs) → IsNoneIf a P → IsNoneIf (under s a) P
+under_same s None p = p
+under_same s (Some d) p = (λ e. cc, λ h. let bad : Some d ≡ None = p.1 h in cc)
 
-held : (t : Bool) (w : DifferenceKind) → differ_unless t w ≡ None → t ≡ true
-held true w e = refl
-held false w e = cc
+-- P can be replaced by a fact that holds exactly if P holds
+if_same : {P Q : Type 0} (d : Differs) → (P → Q) → (Q → P) → IsNoneIf d P → IsNoneIf d Q
+if_same d to back p = (λ e. to (p.0 e), λ h. p.1 (back h))
 
-holds : (t : Bool) (w : DifferenceKind) → t ≡ true → differ_unless t w ≡ None
-holds t w p = rw p refl
+-- ---- the fields of a header
 
-bytes_one : (x y : List ℕ) (w : DifferenceKind) → differ_unless (bytes_eq x y) w ≡ None → x ≡ y
-bytes_one x y w e = (bytes_eq-Decides x y).0 (held (bytes_eq x y) w e)
+guids_decide : (x y : Guid) → Decides (bytes_eq (bytes_of x) (bytes_of y)) (x ≡ y)
+guids_decide x y =
+    Decides-like (bytes_eq (bytes_of x) (bytes_of y)) (ap (λ (b : List ℕ). record { bytes = b })) (ap bytes_of) (bytes_eq-Decides (bytes_of x) (bytes_of y))
 
-nat_one : (x y : ℕ) (w : DifferenceKind) → differ_unless (x == y) w ≡ None → x ≡ y
-nat_one x y w e = (Decides-eqb x y).0 (held (x == y) w e)
+systems_decide : (x y : FileSystem) → Decides (beq (is_ffs3 x) (is_ffs3 y)) (x ≡ y)
+systems_decide Ffs2 Ffs2 = (λ e. refl, λ e. refl)
+systems_decide Ffs3 Ffs3 = (λ e. refl, λ e. refl)
+systems_decide _ _ = (λ e. cc, λ e. cc)
 
-bool_one : (x y : Bool) (w : DifferenceKind) → differ_unless (beq x y) w ≡ None → x ≡ y
-bool_one x y w e = (booleans_Decides x y).0 (held (beq x y) w e)
+pairs_decide : {B : Type 0} (test : B → B → Bool) → ((x y : B) → Decides (test x y) (x ≡ y)) → (p q : ℕ × B)
+    → Decides ((p.0 == q.0) && test p.1 q.1) (p ≡ q)
+pairs_decide {B} test decides p q =
+    Decides-like ((p.0 == q.0) && test p.1 q.1) (λ h. ap (λ (k : ℕ). (k, p.1)) h.0 ∙ ap (λ (x : B). (q.0, x)) h.1)
+    (λ e. (ap (λ (r : ℕ × B). r.0) e, ap (λ (r : ℕ × B). r.1) e))
+    (Decides-and (p.0 == q.0) (test p.1 q.1) (Decides-eqb p.0 q.0) (decides p.1 q.1))
 
-guid_one : (x y : Guid) → bytes_of x ≡ bytes_of y → x ≡ y
-guid_one x y e = ap (λ (b : List ℕ). record { bytes = b }) e
+blocks_decide : (ps qs : List (ℕ × ℕ)) → Decides (blocks_eq ps qs) (ps ≡ qs)
+blocks_decide ps qs = slice_eq-Decides (pairs_decide (λ (x y : ℕ). x == y) Decides-eqb) ps qs (blocks_eq ps qs) refl
 
-system_one : (x y : FileSystem) → is_ffs3 x ≡ is_ffs3 y → x ≡ y
-system_one Ffs2 Ffs2 e = refl
-system_one Ffs3 Ffs3 e = refl
-system_one _ _ e = cc
+entries_decide : (ps qs : List (ℕ × List ℕ)) → Decides (entries_eq ps qs) (ps ≡ qs)
+entries_decide ps qs = slice_eq-Decides (pairs_decide bytes_eq bytes_eq-Decides) ps qs (entries_eq ps qs) refl
 
-blocks_one : (ps qs : List (ℕ × ℕ)) → blocks_eq ps qs ≡ true → ps ≡ qs
-blocks_one [] [] e = refl
-blocks_one [] (q ∷ qs) e = cc
-blocks_one (p ∷ ps) [] e = cc
-blocks_one (p ∷ ps) (q ∷ qs) e =
-    let a = and_split ((p.0 == q.0) && (p.1 == q.1)) (blocks_eq ps qs) e in
-    let b = and_split (p.0 == q.0) (p.1 == q.1) a.0 in
-    let x : p.0 ≡ q.0 = (Decides-eqb p.0 q.0).0 b.0 in
-    let y : p.1 ≡ q.1 = (Decides-eqb p.1 q.1).0 b.1 in
-    let z : ps ≡ qs = blocks_one ps qs a.1 in
-    ap (λ (k : ℕ). (k, p.1) ∷ ps) x ∙ ap (λ (k : ℕ). (q.0, k) ∷ ps) y ∙ ap (λ (l : List (ℕ × ℕ)). q ∷ l) z
+ext_decides : (x y : Option Extension) → Decides (ext_eq x y) (x ≡ y)
+ext_decides None None = (λ e. refl, λ e. refl)
+ext_decides None (Some y) = (λ e. cc, λ e. cc)
+ext_decides (Some x) None = (λ e. cc, λ e. cc)
+ext_decides (Some x) (Some y) =
+    Decides-like (ext_eq (Some x) (Some y)) (λ h. one x.name y.name x.entries y.entries x.tail y.tail h.0.0 h.0.1 h.1)
+    (λ e. let same : x ≡ y = cc in
+    ((ap (λ (z : Extension). z.name) same, ap (λ (z : Extension). z.entries) same), ap (λ (z : Extension). z.tail) same))
+    (Decides-and _ _ (Decides-and _ _ (guids_decide x.name y.name) (entries_decide x.entries y.entries)) (bytes_eq-Decides x.tail y.tail))
+  where
+    ext : Guid → List (ℕ × List ℕ) → List ℕ → Option Extension
+    ext name entries tail = Some (record { name = name; entries = entries; tail = tail })
 
-entries_one : (ps qs : List (ℕ × List ℕ)) → entries_eq ps qs ≡ true → ps ≡ qs
-entries_one [] [] e = refl
-entries_one [] (q ∷ qs) e = cc
-entries_one (p ∷ ps) [] e = cc
-entries_one (p ∷ ps) (q ∷ qs) e =
-    let a = and_split ((p.0 == q.0) && bytes_eq p.1 q.1) (entries_eq ps qs) e in
-    let b = and_split (p.0 == q.0) (bytes_eq p.1 q.1) a.0 in
-    let x : p.0 ≡ q.0 = (Decides-eqb p.0 q.0).0 b.0 in
-    let y : p.1 ≡ q.1 = (bytes_eq-Decides p.1 q.1).0 b.1 in
-    let z : ps ≡ qs = entries_one ps qs a.1 in
-    ap (λ (k : ℕ). (k, p.1) ∷ ps) x ∙ ap (λ (k : List ℕ). (q.0, k) ∷ ps) y ∙ ap (λ (l : List (ℕ × List ℕ)). q ∷ l) z
-
-ext_one : (x y : Option Extension) → ext_eq x y ≡ true → x ≡ y
-ext_one None None e = refl
-ext_one None (Some y) e = cc
-ext_one (Some x) None e = cc
-ext_one (Some x) (Some y) e =
-    let a = and_split (bytes_eq (bytes_of x.name) (bytes_of y.name) && entries_eq x.entries y.entries) (bytes_eq x.tail y.tail) e in
-    let b = and_split (bytes_eq (bytes_of x.name) (bytes_of y.name)) (entries_eq x.entries y.entries) a.0 in
-    let n : x.name ≡ y.name = guid_one x.name y.name ((bytes_eq-Decides (bytes_of x.name) (bytes_of y.name)).0 b.0) in
-    let s : x.entries ≡ y.entries = entries_one x.entries y.entries b.1 in
-    let t : x.tail ≡ y.tail = (bytes_eq-Decides x.tail y.tail).0 a.1 in
-    ap (λ (k : Guid). Some (record { name = k; entries = x.entries; tail = x.tail })) n
-    ∙ ap (λ (k : List (ℕ × List ℕ)). Some (record { name = y.name; entries = k; tail = x.tail })) s
-    ∙ ap (λ (k : List ℕ). Some (record { name = y.name; entries = y.entries; tail = k })) t
+    one : (n m : Guid) (ps qs : List (ℕ × List ℕ)) (t u : List ℕ) → n ≡ m → ps ≡ qs → t ≡ u → ext n ps t ≡ ext m qs u
+    one n m ps qs t u p q r = rw (p, q, r) refl
 
 abbrev made : List ℕ → FileSystem → ℕ → ℕ → ℕ → List (ℕ × ℕ) → Option Extension → HeadFields
 made z s l t r m x = record { zero_vector = z; file_system = s; length = l; attributes = t; reserved = r; blocks = m; ext = x }
@@ -105,119 +88,77 @@ made_one : (z z' : List ℕ) (s s' : FileSystem) (l l' t t' r r' : ℕ) (m m' : 
     → made z s l t r m x ≡ made z' s' l' t' r' m' x'
 made_one z z' s s' l l' t t' r r' m m' x x' p q u v w i j = rw (p, q, u, v, w, i, j) refl
 
-head_one : (h g : HeadFields) → head_differs h g ≡ None → h ≡ g
-head_one h g e =
-    let a = both_none _ _ e in
-    let b = both_none _ _ a.1 in
-    let c = both_none _ _ b.1 in
-    let d = both_none _ _ c.1 in
-    let f = both_none _ _ d.1 in
-    let i = both_none _ _ f.1 in
-    let z : h.zero_vector ≡ g.zero_vector = bytes_one h.zero_vector g.zero_vector _ a.0 in
-    let s : h.file_system ≡ g.file_system =
-    system_one h.file_system g.file_system (bool_one (is_ffs3 h.file_system) (is_ffs3 g.file_system) _ b.0) in
-    let l : h.length ≡ g.length = nat_one h.length g.length _ c.0 in
-    let t : h.attributes ≡ g.attributes = nat_one h.attributes g.attributes _ d.0 in
-    let r : h.reserved ≡ g.reserved = nat_one h.reserved g.reserved _ f.0 in
-    let m : h.blocks ≡ g.blocks = blocks_one h.blocks g.blocks (held (blocks_eq h.blocks g.blocks) _ i.0) in
-    let x : h.ext ≡ g.ext = ext_one h.ext g.ext (held (ext_eq h.ext g.ext) _ i.1) in
-    made_one _ _ _ _ _ _ _ _ _ _ _ _ _ _ z s l t r m x
+head_same : (h g : HeadFields) → IsNoneIf (head_differs h g) (h ≡ g)
+head_same h g =
+    if_same (head_differs h g)
+    (λ e. made_one _ _ _ _ _ _ _ _ _ _ _ _ _ _ e.0 e.1.0 e.1.1.0 e.1.1.1.0 e.1.1.1.1.0 e.1.1.1.1.1.0 e.1.1.1.1.1.1)
+    (λ e. (
+      ap (λ (k : HeadFields). k.zero_vector) e,
+      (
+        ap (λ (k : HeadFields). k.file_system) e,
+        (
+          ap (λ (k : HeadFields). k.length) e,
+          (
+            ap (λ (k : HeadFields). k.attributes) e,
+            (
+              ap (λ (k : HeadFields). k.reserved) e,
+              (
+                ap (λ (k : HeadFields). k.blocks) e,
+                ap (λ (k : HeadFields). k.ext) e,
+              ),
+            ),
+          ),
+        ),
+      ),
+    ))
+    (both_same _ _ (by_test _ _ (bytes_eq-Decides h.zero_vector g.zero_vector))
+    (both_same _ _ (by_test _ _ (systems_decide h.file_system g.file_system))
+    (both_same _ _ (by_test _ _ (Decides-eqb h.length g.length))
+    (both_same _ _ (by_test _ _ (Decides-eqb h.attributes g.attributes))
+    (both_same _ _ (by_test _ _ (Decides-eqb h.reserved g.reserved))
+    (both_same _ _ (by_test _ _ (blocks_decide h.blocks g.blocks)) (by_test _ _ (ext_decides h.ext g.ext))))))))
+
+-- ---- the recursion
 
 mutual
-  pub one_volume : (v w : Meaning) → difference v w ≡ None → v ≡ w
-  one_volume (Volume h fs) (Volume g gs) e =
-      let a = both_none (head_differs h g) (files_differ 0 fs gs) e in
-      let p : h ≡ g = head_one h g a.0 in
-      let q : fs ≡ gs = one_files 0 fs gs a.1 in cc
+  pub volume_same : (v w : Meaning) → IsNoneIf (difference v w) (v ≡ w)
+  volume_same (Volume h fs) (Volume g gs) =
+      if_same _ (λ e. cc (e.0, e.1)) (λ e. (cc, cc)) (both_same (head_differs h g) (files_differ 0 fs gs) (head_same h g) (files_same 0 fs gs))
 
-  one_files : (i : ℕ) (fs gs : FileMeanings) → files_differ i fs gs ≡ None → fs ≡ gs
-  one_files i NoFiles NoFiles e = refl
-  one_files i (MoreFiles f fs) (MoreFiles g gs) e = let a = item_none _ _ _ e in let p = one_file f g a.0 in cc (one_files (i + 1) fs gs a.1)
-  one_files i _ _ e = cc
+  files_same : (i : ℕ) (fs gs : FileMeanings) → IsNoneIf (files_differ i fs gs) (fs ≡ gs)
+  files_same i NoFiles NoFiles = (λ e. refl, λ e. refl)
+  files_same i (MoreFiles f fs) (MoreFiles g gs) =
+      if_same _ (λ e. cc (e.0, e.1)) (λ e. (cc, cc))
+      (both_same _ _ (under_same _ (file_differs f g) (file_same f g)) (files_same (i + 1) fs gs))
+  files_same i _ _ = (λ e. cc, λ e. cc)
 
-  one_file : (f g : FileMeaning) → file_differs f g ≡ None → f ≡ g
-  one_file (File n k a c) (File m l b d) e =
-      let x = both_none _ _ e in
-      let y = both_none _ _ x.1 in
-      let z = both_none _ (content_differs c d) y.1 in
-      let p : n ≡ m = guid_one n m (bytes_one (bytes_of n) (bytes_of m) _ x.0) in
-      let q : k ≡ l = nat_one k l _ y.0 in
-      let r : a ≡ b = nat_one a b _ z.0 in cc (one_content c d z.1)
+  file_same : (f g : FileMeaning) → IsNoneIf (file_differs f g) (f ≡ g)
+  file_same (File n k a c) (File m l b d) =
+      if_same _ (λ e. cc (e.0, e.1.0, e.1.1.0, e.1.1.1)) (λ e. (cc, (cc, (cc, cc))))
+      (both_same _ _ (by_test _ _ (guids_decide n m)) (both_same _ _ (by_test _ _ (Decides-eqb k l))
+      (both_same _ _ (by_test _ _ (Decides-eqb a b)) (content_same c d))))
 
-  one_content : (c d : ContentMeaning) → content_differs c d ≡ None → c ≡ d
-  one_content (Plain b) (Plain c) e = let p : b ≡ c = bytes_one b c _ e in cc
-  one_content (Sectioned ss t) (Sectioned rs u) e = let a = both_none (sections_differ 0 ss rs) _ e in cc (one_sections 0 ss rs a.0, nat_one t u _ a.1)
-  one_content _ _ e = cc
+  content_same : (c d : ContentMeaning) → IsNoneIf (content_differs c d) (c ≡ d)
+  content_same (Plain b) (Plain c) = if_same _ (ap Plain) (λ e. cc) (by_test _ _ (bytes_eq-Decides b c))
+  content_same (Sectioned ss t) (Sectioned rs u) =
+      if_same _ (λ e. cc (e.0, e.1)) (λ e. (cc, cc)) (both_same (sections_differ 0 ss rs) _ (sections_same 0 ss rs) (by_test _ _ (Decides-eqb t u)))
+  content_same _ _ = (λ e. cc, λ e. cc)
 
-  one_sections : (i : ℕ) (ss rs : SectionMeanings) → sections_differ i ss rs ≡ None → ss ≡ rs
-  one_sections i NoSections NoSections e = refl
-  one_sections i (MoreSections s ss) (MoreSections r rs) e = let a = item_none _ _ _ e in let p = one_section s r a.0 in cc (one_sections (i + 1) ss rs a.1)
-  one_sections i _ _ e = cc
+  sections_same : (i : ℕ) (ss rs : SectionMeanings) → IsNoneIf (sections_differ i ss rs) (ss ≡ rs)
+  sections_same i NoSections NoSections = (λ e. refl, λ e. refl)
+  sections_same i (MoreSections s ss) (MoreSections r rs) =
+      if_same _ (λ e. cc (e.0, e.1)) (λ e. (cc, cc))
+      (both_same _ _ (under_same _ (section_differs s r) (section_same s r)) (sections_same (i + 1) ss rs))
+  sections_same i _ _ = (λ e. cc, λ e. cc)
 
-  one_section : (s r : SectionMeaning) → section_differs s r ≡ None → s ≡ r
-  one_section (Section k e b) (Section l f c) h =
-      let x = both_none _ _ h in
-      let y = both_none _ (body_differs b c) x.1 in
-      let p : k ≡ l = nat_one k l _ x.0 in
-      let q : e ≡ f = bool_one e f _ y.0 in cc (one_body b c y.1)
+  section_same : (s r : SectionMeaning) → IsNoneIf (section_differs s r) (s ≡ r)
+  section_same (Section k e b) (Section l f c) =
+      if_same _ (λ h. cc (h.0, h.1.0, h.1.1)) (λ h. (cc, (cc, cc)))
+      (both_same _ _ (by_test _ _ (Decides-eqb k l)) (both_same _ _ (by_test _ _ (booleans_Decides e f)) (body_same b c)))
 
-  one_body : (b c : BodyMeaning) → body_differs b c ≡ None → b ≡ c
-  one_body (Leaf b) (Leaf c) e = let p : b ≡ c = bytes_one b c _ e in cc
-  one_body (Group ss t) (Group rs u) e = let a = both_none (sections_differ 0 ss rs) _ e in cc (one_sections 0 ss rs a.0, nat_one t u _ a.1)
-  one_body (Nested v) (Nested w) e = let p : v ≡ w = one_volume v w e in cc
-  one_body _ _ e = cc
-
--- ---- a field does not differ from itself
-
-bytes_same : (x : List ℕ) → bytes_eq x x ≡ true
-bytes_same x = (bytes_eq-Decides x x).1 refl
-
-nat_same : (x : ℕ) → (x == x) ≡ true
-nat_same x = (Decides-eqb x x).1 refl
-
-bool_same : (x : Bool) → beq x x ≡ true
-bool_same x = (booleans_Decides x x).1 refl
-
-blocks_same : (ps : List (ℕ × ℕ)) → blocks_eq ps ps ≡ true
-blocks_same [] = refl
-blocks_same (p ∷ ps) = rw (nat_same p.0, nat_same p.1) (blocks_same ps)
-
-entries_same : (ps : List (ℕ × List ℕ)) → entries_eq ps ps ≡ true
-entries_same [] = refl
-entries_same (p ∷ ps) = rw (nat_same p.0, bytes_same p.1) (entries_same ps)
-
-ext_same : (x : Option Extension) → ext_eq x x ≡ true
-ext_same None = refl
-ext_same (Some x) = rw (bytes_same (bytes_of x.name), entries_same x.entries) (bytes_same x.tail)
-
-head_same : (h : HeadFields) → head_differs h h ≡ None
-head_same h = grind (arith, common_steps, bytes_same, bool_same, nat_same, blocks_same, ext_same)
-
-mutual
-  pub no_difference : (v : Meaning) → difference v v ≡ None
-  no_difference (Volume h fs) = none_both (head_differs h h) (files_differ 0 fs fs) (head_same h) (files_same 0 fs)
-
-  files_same : (i : ℕ) (fs : FileMeanings) → files_differ i fs fs ≡ None
-  files_same i NoFiles = refl
-  files_same i (MoreFiles f fs) =
-      none_both _ (files_differ (i + 1) fs fs) (in_none _ (file_differs f f) (file_same f)) (files_same (i + 1) fs)
-
-  file_same : (f : FileMeaning) → file_differs f f ≡ None
-  file_same (File n k a c) = rw (bytes_same (bytes_of n), nat_same k, nat_same a) (content_same c)
-
-  content_same : (c : ContentMeaning) → content_differs c c ≡ None
-  content_same (Plain b) = rw (bytes_same b) refl
-  content_same (Sectioned ss t) = none_both (sections_differ 0 ss ss) _ (sections_same 0 ss) (holds (t == t) _ (nat_same t))
-
-  sections_same : (i : ℕ) (ss : SectionMeanings) → sections_differ i ss ss ≡ None
-  sections_same i NoSections = refl
-  sections_same i (MoreSections s ss) =
-      none_both _ (sections_differ (i + 1) ss ss) (in_none _ (section_differs s s) (section_same s)) (sections_same (i + 1) ss)
-
-  section_same : (s : SectionMeaning) → section_differs s s ≡ None
-  section_same (Section k e b) = rw (nat_same k, bool_same e) (body_same b)
-
-  body_same : (b : BodyMeaning) → body_differs b b ≡ None
-  body_same (Leaf b) = rw (bytes_same b) refl
-  body_same (Group ss t) = none_both (sections_differ 0 ss ss) _ (sections_same 0 ss) (holds (t == t) _ (nat_same t))
-  body_same (Nested v) = no_difference v
+  body_same : (b c : BodyMeaning) → IsNoneIf (body_differs b c) (b ≡ c)
+  body_same (Leaf b) (Leaf c) = if_same _ (ap Leaf) (λ e. cc) (by_test _ _ (bytes_eq-Decides b c))
+  body_same (Group ss t) (Group rs u) =
+      if_same _ (λ e. cc (e.0, e.1)) (λ e. (cc, cc)) (both_same (sections_differ 0 ss rs) _ (sections_same 0 ss rs) (by_test _ _ (Decides-eqb t u)))
+  body_same (Nested v) (Nested w) = if_same _ (ap Nested) (λ e. cc) (volume_same v w)
+  body_same _ _ = (λ e. cc, λ e. cc)

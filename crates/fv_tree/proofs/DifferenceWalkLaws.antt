@@ -1,34 +1,20 @@
 -- Facts for the search for the first difference of two volumes: their headers differ, their numbers of entries or of
 -- files differ, or their meanings are equal and there is no difference.
-use Rattle.std.proofs.Common.{◌≡◌, ℕ, ◌≤◌, [], ◌∷◌, ◌==◌, ◌&&◌, zero, suc, List, length, drop, min, refl, sym, ap, ◌∙◌, arith, Bool, true, false}
-use Rattle.fv_base.proofs.Laws.{Option, Some, None, common_steps, option_or, bytes_eq}
+use Rattle.std.proofs.Common.{◌≡◌, ℕ, ◌≤◌, [], ◌∷◌, zero, suc, List, length, drop, min, refl, sym, ap, ◌∙◌, arith, true, false}
+use Rattle.fv_base.proofs.Laws.{Option, Some, None, common_steps, option_or}
 use Rattle.fv_head.specs.Words.{HeadFields}
-use Rattle.fv_tree.specs.Words.{Differs, has_steps, differ_in, entries_eq, head_differs, difference, files_differ, Meaning, Volume}
-use Rattle.fv_tree.specs.Words.{FileMeaning, head_of, files_from}
+use Rattle.fv_tree.specs.Words.{Differs, has_steps, differ_in, head_differs, difference, files_differ, Meaning, Volume, FileMeaning, head_of}
+use Rattle.fv_tree.specs.Words.{files_from}
 use Rattle.fv_tree.specs.declared.difference.Step.{Step}
 use Rattle.fv_tree.specs.declared.difference.DifferenceKind.{DifferenceKind}
 use Rattle.fv_tree.specs.inner.FoundDifferences.{in_kind, reversed_steps}
-use Rattle.fv_tree.proofs.DifferenceLaws.{no_difference}
+use Rattle.fv_tree.proofs.DifferenceLaws.{volume_same}
 use Rattle.fv_tree.specs.declared.difference.DifferenceKind.TheVariants as kinds
 
 -- ---- the first of two differences
 
 ends_first : (a t : Differs) (w : DifferenceKind) → a ≡ differ_in w → option_or a t ≡ differ_in w
 ends_first a t w p = rw p refl
-
--- ---- entries of an extended header
-
-pub entries_long : (ps qs : List (ℕ × List ℕ)) → (length ps ≡ length qs → ⊥) → entries_eq ps qs ≡ false
-entries_long [] [] h = absurd (h refl)
-entries_long [] (q ∷ qs) h = refl
-entries_long (p ∷ ps) [] h = refl
-entries_long (p ∷ ps) (q ∷ qs) h =
-    let e : entries_eq ps qs ≡ false = entries_long ps qs (λ s. h (omega (arith, s))) in
-    rw e (and_false ((p.0 == q.0) && bytes_eq p.1 q.1))
-  where
-    and_false : (b : Bool) → (b && false) ≡ false
-    and_false true = refl
-    and_false false = refl
 
 -- ---- after the last items that both lists have
 
@@ -61,16 +47,11 @@ pub volume_word : (v w : Meaning) (h g : HeadFields) (o : Option DifferenceKind)
     → in_kind o ≡ head_differs h g → o ≡ Some word → difference v w ≡ differ_in word
 volume_word (Volume a fs) (Volume b gs) h g o word x y said is = grind (arith, common_steps, ends_first)
 
-no_other : (v w : Meaning) → v ≡ w → difference v w ≡ None
-no_other v w e = ap (λ x. difference x w) e ∙ no_difference w
-
-none_told : (d : List Step × DifferenceKind) → reversed_steps (Some d) ≡ None → ⊥
-none_told d e = cc
-
 -- if a difference was returned, the meanings are different
 pub differ_told : (v w : Meaning) (o : Differs) (d : List Step × DifferenceKind) → reversed_steps o ≡ difference v w → o ≡ Some d → v ≡ w → ⊥
-differ_told v w o d told is e = none_told d (sym (ap reversed_steps is) ∙ told ∙ no_other v w e)
+differ_told v w o d told is e =
+    let none : reversed_steps (Some d) ≡ None = sym (ap reversed_steps is) ∙ told ∙ (volume_same v w).1 e in cc
 
 -- if the difference has steps, the meanings are different
 pub steps_differ : (v w : Meaning) → has_steps (difference v w) ≡ true → v ≡ w → ⊥
-steps_differ v w some e = let never : true ≡ false = sym some ∙ ap has_steps (no_other v w e) in cc
+steps_differ v w some e = let never : true ≡ false = sym some ∙ ap has_steps ((volume_same v w).1 e) in cc

@@ -1,39 +1,23 @@
 -- The first fault of bytes lies within them or at their end, and no deeper than groups and volumes may nest. The steps:
--- 1. The data of a volume's files end within the volume (`files_end`).
--- 2. The first fault of the names of files, or of the cells of a body and the files in them, lies within the volume
+-- 1. The first fault of the names of files, or of the cells of a body and the files in them, lies within the volume
 --    (`names_within`, `stored_within`).
--- 3. If the first fault of each section lies within the section, then the same is true of the first fault of a stream,
+-- 2. If the first fault of each section lies within the section, then the same is true of the first fault of a stream,
 --    a body and a volume (`stream_by`, `body_by`, `volume_by`).
--- 4. By induction on the nesting depth the first fault of each section lies within the section (`section_lies`), and so
+-- 3. By induction on the nesting depth the first fault of each section lies within the section (`section_lies`), and so
 --    the first fault of bytes lies within them (`first_within`).
-use Rattle.std.proofs.Common.{◌≡◌, ◌≢◌, ◌≤◌, ◌⊎◌, ℕ, ◌+◌, [], ◌∷◌, zero, suc, List, length, take, drop, subst, sym, arith, not, inl, inr, length-drop}
+use Rattle.std.proofs.Common.{◌≡◌, ◌≢◌, ◌≤◌, ◌⊎◌, ℕ, ◌+◌, ◌∷◌, ◌++◌, zero, suc, List, length, take, drop, subst, sym, arith, inl, inr, length-drop}
 use Rattle.std.proofs.Common.{length-take-le}
-use Rattle.fv_base.proofs.Laws.{common_steps, AllByRecursion, list_any, all_filter, in_middle, want_known, First, out_of_memory, depth_limit}
+use Rattle.fv_base.proofs.Laws.{common_steps, AllByRecursion, in_middle, want_known, First, out_of_memory, depth_limit}
 use Rattle.fv_base.specs.declared.fault.Fault.{Fault}
 use Rattle.fv_base.specs.declared.fault.Place.{Place}
-use Rattle.fv_file.specs.Words.{CellForm, Valid, Pad, Dead, Stub, Free, Tiles, CellsWithin}
-use Rattle.fv_file.proofs.Laws.{all_within, body_within}
+use Rattle.fv_file.proofs.Laws.{body_within}
 use Rattle.fv_head.specs.declared.extent.Extent.{Extent}
 use Rattle.fv_head.proofs.Laws.{fault_within, first_lies}
 use Rattle.fv_section.specs.Words.{FrameForm, frame_len, FramesWithin}
 use Rattle.fv_section.proofs.Laws.{frame_within, whole_within}
-use Rattle.fv_tree.specs.Words.{Moved, NamesFault, StoredFault, BodyFault, InSection, InStream, InVolume, IsFirstOfVolume, data_at, data_place}
-use Rattle.fv_tree.specs.Words.{outermost, FileForm, files_in, current_in, replaced_by}
-use Rattle.fv_tree.proofs.NameLaws.{files_within, top_within, twin_within}
-
--- ---- files
-
--- the data of a file end at or before an offset
-abbrev EndsBy : ℕ → FileForm → Type 0
-EndsBy end f = data_place f + length f.payload ≤ end
-
-files_end : (end : ℕ) (cs : List CellForm) → CellsWithin end cs → AllByRecursion (EndsBy end) (files_in cs)
-files_end end [] h = tt
-files_end end (Valid at head payload ∷ cs) (lies, made, rest) = (omega (arith, lies, made), files_end end cs rest)
-files_end end (Pad at head payload ∷ cs) (lies, made, rest) = files_end end cs rest
-files_end end (Dead at len state ∷ cs) (lies, made, rest) = files_end end cs rest
-files_end end (Stub at len ∷ cs) (lies, made, rest) = files_end end cs rest
-files_end end (Free at len ∷ cs) (lies, made, rest) = files_end end cs rest
+use Rattle.fv_tree.specs.Words.{Moved, NamesFault, StoredFault, BodyFault, InSection, InStream, InVolume, IsFirstOfVolume, data_at, outermost}
+use Rattle.fv_tree.specs.Words.{FileForm, files_in, current_in}
+use Rattle.fv_tree.proofs.BodyLaws.{LiesBy, cells_inside, files_lie, of_current}
 
 -- ---- one level of nesting
 
@@ -46,27 +30,35 @@ moved_lies : (P : Fault → Type 0) (at : Place) (len n : ℕ) (e : Fault) → (
     → LiesIn at len n e
 moved_lies P at len n e within (f, first, is) = grind (arith, common_steps)
 
--- a fault of the names of files lies within the bytes in which the files begin
-names_within : (end len : ℕ) (fs : List FileForm) (f : Fault) → AllByRecursion (λ g. g.offset ≤ end) fs → NamesFault First len fs f
+-- a fault of the names of files lies within the bytes in which the files lie
+names_within : (end len : ℕ) (fs : List FileForm) (f : Fault) → AllByRecursion (LiesBy end) fs → NamesFault First len fs f
     → f.place.offset ≤ end
-names_within end len fs f starts (inl (x, twin, is)) =
-    subst (λ (g : Fault). g.place.offset ≤ end) (sym is) (twin_within First end x fs starts twin)
-names_within end len fs f starts (inr (none, x, top, is)) =
-    let current = all_filter (λ f. not (list_any (replaced_by f) fs)) (λ (f : FileForm). f.offset ≤ end) fs starts in
-    subst (λ (g : Fault). g.place.offset ≤ end) (sym is) (top_within end len x (current_in fs) current top)
+names_within end len fs f all fault = go fault where
+  begins : (gs before : List FileForm) (x : FileForm) (after : List FileForm) → AllByRecursion (LiesBy end) gs → gs ≡ before ++ (x ∷ after)
+      → x.offset ≤ end
+  begins gs before x after lie cut =
+      let here = in_middle (LiesBy end) before x after (subst (AllByRecursion (LiesBy end)) cut lie) in omega (arith, here.ends)
 
-module _ (x : Extent) (v : List ℕ) (end : x.first + length (drop x.first v) ≡ length v) where
-  -- the cells that tile a body lie within the volume
-  cells_lie : (cells : List CellForm) → Tiles x.file_system x.polarity x.first cells (drop x.first v) → CellsWithin (length v) cells
-  cells_lie cells tiles =
-      subst (λ (n : ℕ). CellsWithin n cells) end (all_within x.file_system x.polarity x.first cells (drop x.first v) tiles)
+  go : NamesFault First len fs f → f.place.offset ≤ end
+  go (inl (x, (before, after, cut, none, has), is)) =
+      subst (λ (g : Fault). g.place.offset ≤ end) (sym is) (begins fs before x after all cut)
+  go (inr (none, x, (before, after, cut, top, off), is)) =
+      subst (λ (g : Fault). g.place.offset ≤ end) (sym is) (begins (current_in fs) before x after (of_current (LiesBy end) fs all) cut)
 
+module _ (x : Extent) (v : List ℕ) (within : x.first ≤ length v) where
   -- the first fault of the cells of a body and the files in them lies within the volume
   stored_within : (f : Fault) → StoredFault First x v f → f.place.offset ≤ length v
   stored_within f (inl first) =
-      let low = body_within x.file_system x.polarity x.first (drop x.first v) f first in omega (arith, low, end)
+      let low = body_within x.file_system x.polarity x.first (drop x.first v) f first in omega (arith, low, length-drop x.first v, within)
   stored_within f (inr (cells, tiles, names)) =
-      names_within (length v) x.length (files_in cells) f (files_within (length v) cells (cells_lie cells tiles)) names
+      names_within (length v) x.length (files_in cells) f (files_lie (length v) cells (cells_inside x v cells within tiles)) names
+
+  -- and so does out of memory
+  pub stopped_within : (f : Fault) → (f ≢ out_of_memory → StoredFault First x v f) → f.place.offset ≤ length v
+  stopped_within f first = go (want_known f) where
+    go : (f ≡ out_of_memory) ⊎ (f ≢ out_of_memory) → f.place.offset ≤ length v
+    go (inl want) = subst (λ (g : Fault). g.place.offset ≤ length v) (sym want) (omega arith)
+    go (inr other) = stored_within f (first other)
 
 -- ---- a stream and a volume, given the same of their sections
 
@@ -85,15 +77,13 @@ stream_by n low e b at (inr (frames, tail, split, (before, f, behind, is, read, 
 
 module _ (n : ℕ) (low : SectionLies n) (e : Fault) (at : Place) where
   -- the first fault of a body lies within the volume
-  body_by : (x : Extent) (v : List ℕ) → x.first + length (drop x.first v) ≡ length v → BodyFault First n (InStream First n) x e v at
-      → LiesIn at (length v) n e
-  body_by x v end (inl moved) = moved_lies _ at (length v) n e (stored_within x v end) moved
-  body_by x v end (inr (cells, tiles, right, (before, f, behind, is, read, (holds, first)))) =
-      let ends = files_end (length v) cells (cells_lie x v end cells tiles) in
-      let current = all_filter (λ f. not (list_any (replaced_by f) (files_in cells))) (EndsBy (length v)) (files_in cells) ends in
-      let fits = in_middle (EndsBy (length v)) before f behind (subst (AllByRecursion (EndsBy (length v))) is current) in
+  body_by : (x : Extent) (v : List ℕ) → x.first ≤ length v → BodyFault First n (InStream First n) x e v at → LiesIn at (length v) n e
+  body_by x v within (inl moved) = moved_lies _ at (length v) n e (stored_within x v within) moved
+  body_by x v within (inr (cells, tiles, right, (before, f, behind, is, read, (holds, first)))) =
+      let all = of_current (LiesBy (length v)) (files_in cells) (files_lie (length v) cells (cells_inside x v cells within tiles)) in
+      let fits = in_middle (LiesBy (length v)) before f behind (subst (AllByRecursion (LiesBy (length v))) is all) in
       let lies = stream_by n low e f.payload (data_at at f) first in
-      (omega (arith, lies.0, fits), lies.1)
+      (omega (arith, lies.0, fits.ends, fits.agrees), lies.1)
 
   -- the first fault of a volume lies within its bytes
   volume_by : (b : List ℕ) → InVolume First n e b at → LiesIn at (length b) n e
@@ -101,9 +91,7 @@ module _ (n : ℕ) (low : SectionLies n) (e : Fault) (at : Place) where
   volume_by b (inr (h, x, front, first)) =
       let v : List ℕ = take x.length b in
       let long : length v ≡ x.length = length-take-le x.length b front.is_within in
-      let end : x.first + length (drop x.first v) ≡ length v =
-      omega (arith, long, length-drop x.first v, (first_lies b h x front).1) in
-      let lies = body_by x v end first in
+      let lies = body_by x v (omega (arith, long, (first_lies b h x front).1)) first in
       (omega (arith, lies.0, long, front.is_within), lies.1)
 
 -- ---- the recursion

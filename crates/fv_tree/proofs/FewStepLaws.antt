@@ -21,8 +21,7 @@ use Rattle.fv_tree.specs.declared.difference.DifferenceKind.TheVariants as kinds
 
 -- if there is a difference, its path has at most n steps
 abbrev Within : Differs → ℕ → Type 0
-Within None n = Unit {0}
-Within (Some d) n = length d.0 ≤ n
+Within d n = IfSome d (λ p. length p.0 ≤ n)
 
 within_unless : (same : Bool) (word : DifferenceKind) (n : ℕ) → Within (differ_unless same word) n
 within_unless true word n = tt
@@ -54,11 +53,10 @@ mutual
 
   files_few : (i : ℕ) (fs gs : FileMeanings) (n : ℕ) → NestsFiles fs n → Within (files_differ i fs gs) (2 * n + 2)
   files_few i NoFiles NoFiles n deep = tt
-  files_few i NoFiles (MoreFiles g gs) n deep = omega arith
-  files_few i (MoreFiles f fs) NoFiles n deep = omega arith
   files_few i (MoreFiles f fs) (MoreFiles g gs) n ((form, here), behind) =
       within_item (steps.File i) (file_differs f g) (files_differ (i + 1) fs gs) (2 * n + 1) (2 * n + 2) (omega arith)
       (file_few f g n (nests_content f n form here)) (files_few (i + 1) fs gs n behind)
+  files_few i _ _ n deep = omega arith
 
   file_few : (f g : FileMeaning) (n : ℕ) → NestsContent (content_of f) n → Within (file_differs f g) (2 * n + 1)
   file_few (File x k a c) (File y l b d) n deep =
@@ -68,19 +66,17 @@ mutual
 
   content_few : (c d : ContentMeaning) (n : ℕ) → NestsContent c n → Within (content_differs c d) (2 * n + 1)
   content_few (Plain b) (Plain c) n deep = within_unless (bytes_eq b c) kinds.Data (2 * n + 1)
-  content_few (Plain b) (Sectioned ss t) n deep = omega arith
-  content_few (Sectioned ss t) (Plain b) n deep = omega arith
   content_few (Sectioned ss t) (Sectioned rs u) n deep =
       within_or (sections_differ 0 ss rs) _ (2 * n + 1) (sections_few 0 ss rs n (nests_sections ss t n deep))
       (within_unless (t == u) kinds.Tail (2 * n + 1))
+  content_few _ _ n deep = omega arith
 
   sections_few : (i : ℕ) (ss rs : SectionMeanings) (n : ℕ) → NestsSections ss n → Within (sections_differ i ss rs) (2 * n + 1)
   sections_few i NoSections NoSections n deep = tt
-  sections_few i NoSections (MoreSections r rs) n deep = omega arith
-  sections_few i (MoreSections s ss) NoSections n deep = omega arith
   sections_few i (MoreSections s ss) (MoreSections r rs) n ((frame, here), behind) =
       within_item (steps.Section i) (section_differs s r) (sections_differ (i + 1) ss rs) (2 * n) (2 * n + 1) (omega arith)
       (section_few s r n (nests_body s n frame here)) (sections_few (i + 1) ss rs n behind)
+  sections_few i _ _ n deep = omega arith
 
   section_few : (s r : SectionMeaning) (n : ℕ) → NestsBody (body_of s) n → Within (section_differs s r) (2 * n)
   section_few (Section k e b) (Section l f c) n deep =
@@ -89,25 +85,16 @@ mutual
 
   body_few : (b c : BodyMeaning) (n : ℕ) → NestsBody b n → Within (body_differs b c) (2 * n)
   body_few (Leaf b) (Leaf c) n deep = within_unless (bytes_eq b c) kinds.Body (2 * n)
-  body_few (Leaf b) (Group rs u) n deep = omega arith
-  body_few (Leaf b) (Nested w) n deep = omega arith
-  body_few (Group ss t) (Leaf c) n deep = omega arith
   body_few (Group ss t) (Group rs u) n deep = let (k, is, inside) = nests_group ss t n deep in
       within_or (sections_differ 0 ss rs) _ (2 * n)
       (within_more (sections_differ 0 ss rs) (2 * k + 1) (2 * n) (omega (arith, is)) (sections_few 0 ss rs k inside))
       (within_unless (t == u) kinds.Tail (2 * n))
-  body_few (Group ss t) (Nested w) n deep = omega arith
-  body_few (Nested v) (Leaf c) n deep = omega arith
-  body_few (Nested v) (Group rs u) n deep = omega arith
   body_few (Nested v) (Nested w) n deep = let (k, is, inside) = nests_nested v n deep in
       within_more (difference v w) (2 * k + 2) (2 * n) (omega (arith, is)) (volume_few v w k inside)
+  body_few _ _ n deep = omega arith
 
 -- ---- 3. few levels
 
 pub few_steps : (v w : Meaning) → IsMeaning v → IfSome (difference v w) (λ d. length d.0 ≤ 18)
 few_steps v w (n, deep, b, bytes, d) =
-    go (difference v w) (within_more (difference v w) (2 * n + 2) 18 (omega (arith, deep)) (volume_few v w n (b, d)))
-  where
-    go : (o : Differs) → Within o 18 → IfSome o (λ d. length d.0 ≤ 18)
-    go None p = tt
-    go (Some d) p = p
+    within_more (difference v w) (2 * n + 2) 18 (omega (arith, deep)) (volume_few v w n (b, d))

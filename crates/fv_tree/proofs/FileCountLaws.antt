@@ -2,7 +2,7 @@
 use Rattle.std.proofs.Common.{◌≡◌, ◌≤◌, ◌<◌, ℕ, ◌^◌, [], ◌∷◌, List, length, drop, Bool, refl, ap, arith, not, length-drop}
 use Rattle.fv_base.proofs.Laws.{filter, list_any}
 use Rattle.std.proofs.lemmas.List.Sums.{count_by-le-length, length-filter}
-use Rattle.fv_file.specs.Words.{CellForm, Valid, Pad, Dead, Stub, Free}
+use Rattle.fv_file.specs.Words.{CellForm, Valid}
 use Rattle.fv_file.proofs.Laws.{cells_few}
 use Rattle.fv_head.proofs.Laws.{front_lies}
 use Rattle.fv_tree.specs.Words.{Pairwise, Stream, Denotes, MeansFile, IsMeaning, Meaning, files_of, head_of, FileForm, files_in, replaced_by}
@@ -10,19 +10,15 @@ use Rattle.fv_tree.specs.Words.{Pairwise, Stream, Denotes, MeansFile, IsMeaning,
 pub files_few : (cs : List CellForm) → length (files_in cs) ≤ length cs
 files_few [] = omega arith
 files_few (Valid at head payload ∷ cs) = omega (arith, files_few cs)
-files_few (Pad at head payload ∷ cs) = omega (arith, files_few cs)
-files_few (Dead at len state ∷ cs) = omega (arith, files_few cs)
-files_few (Stub at len ∷ cs) = omega (arith, files_few cs)
-files_few (Free at len ∷ cs) = omega (arith, files_few cs)
+files_few (_ ∷ cs) = omega (arith, files_few cs)
 
 pub filter_few : (test : FileForm → Bool) (fs : List FileForm) → length (filter test fs) ≤ length fs
 filter_few test fs = omega (arith, length-filter test fs, count_by-le-length test fs)
 
 pairs_length : {A B : Type 0} (R : A → B → Type 0) (xs : List A) (ys : List B) → Pairwise R xs ys → length ys ≡ length xs
 pairs_length R [] [] p = refl
-pairs_length R [] (y ∷ ys) p = absurd p
-pairs_length R (x ∷ xs) [] p = absurd p
 pairs_length R (x ∷ xs) (y ∷ ys) p = omega (arith, pairs_length R xs ys p.1)
+pairs_length R _ _ p = absurd p
 
 pub few_files : (n : ℕ) (b : List ℕ) (m : Meaning) → Denotes n b m → length (files_of m) ≤ length b
 few_files n b m d =

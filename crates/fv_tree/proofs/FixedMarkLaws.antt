@@ -1,8 +1,8 @@
 -- If the fixed bits of a volume's files are cleared and cells tile the new body, the bytes are the unfixed volume: they
 -- begin with the same header, cells tile their body, and no other bytes are an unfixed volume.
-use Rattle.std.proofs.Common.{◌≡◌, ℕ, ◌+◌, ◌-◌, ◌≤◌, ◌++◌, [], ◌∷◌, ◌≢◌, List, length, take, drop, sym, ap, ◌∙◌, subst, arith, append_assoc, zero}
-use Rattle.std.proofs.Common.{suc, inl, inr, refl, Option, None, Some, length-append, length-take-le, length-drop, take-append-drop, take_all}
-use Rattle.fv_base.proofs.Laws.{drop-drop, take-append-le, drop-take, First, field, le, le_at, take-take_le, field-take, none_faulty, not_first}
+use Rattle.std.proofs.Common.{◌≡◌, ℕ, ◌+◌, ◌-◌, ◌≤◌, ◌++◌, [], ◌≢◌, List, length, take, drop, sym, ap, ◌∙◌, subst, arith, append_assoc, inl, inr}
+use Rattle.std.proofs.Common.{refl, Option, None, Some, length-append, length-take-le, length-drop, take-append-drop}
+use Rattle.fv_base.proofs.Laws.{drop-drop, drop_at, take_at, drop-take, First, field, le, le_at, take-take_le, field-take, none_faulty, not_first}
 use Rattle.fv_base.specs.declared.fault.Fault.{Fault}
 use Rattle.fv_file.specs.Words.{CellForm, Tiles, IsFirstCellFault, Unmarks}
 use Rattle.fv_file.proofs.Laws.{length-unmarks, none_after, NoneFixed, tiled_unfixed, fault_unfixed, one_unmarked}
@@ -11,14 +11,6 @@ use Rattle.fv_head.specs.declared.extent.Extent.{Extent}
 use Rattle.fv_head.proofs.Laws.{first_lies, front_lies, one_front, front_holds}
 use Rattle.fv_tree.specs.Words.{Unfixes, IsUnfixed, UnfixStops, BeginsTiled}
 use Rattle.fv_base.specs.declared.fault.FaultKind.TheVariants as kinds
-
-take-append_all : (xs ys : List ℕ) (n : ℕ) → length xs ≡ n → take n (xs ++ ys) ≡ xs
-take-append_all xs ys n e = take-append-le n xs ys (omega (arith, e)) ∙ take_all n xs (omega (arith, e))
-
-drop-append_all : (xs ys : List ℕ) (n : ℕ) → length xs ≡ n → drop n (xs ++ ys) ≡ ys
-drop-append_all [] ys n e = ap (λ (k : ℕ). drop k ys) (sym e)
-drop-append_all (x ∷ xs) ys zero e = absurd (omega (arith, e))
-drop-append_all (x ∷ xs) ys (suc n) e = drop-append_all xs ys n (omega (arith, e))
 
 module _ (e : Extent) (b o : List ℕ) (same : take e.first o ≡ take e.first b) where
   -- the value of a field before the first file is the same
@@ -37,7 +29,7 @@ module _ (e : Extent) (b o : List ℕ) (same : take e.first o ≡ take e.first b
       let inside : n ≤ e.first = omega (arith, at) in
       let front : take n o ≡ before ++ part =
       front_kept n inside ∙ ap (take n) (text ∙ sym (append_assoc before part behind))
-      ∙ take-append_all (before ++ part) behind n (length-append before part) in
+      ∙ take_at (before ++ part) behind n (length-append before part) in
       let whole : o ≡ before ++ (part ++ drop n o) =
       sym (take-append-drop n o) ∙ ap (λ (c : List ℕ). c ++ drop n o) front ∙ append_assoc before part (drop n o) in
       let fields : le_at 52 2 o ≡ le_at 52 2 b = ap le (field_kept 52 2 (omega (arith, least, low, inside))) in
@@ -74,13 +66,13 @@ kept b o body e u =
     let before : length (take e.first b) ≡ e.first = length-take-le e.first b (omega (arith, u.begins.is_within, lies.1)) in
     let whole : take e.length o ≡ take e.first b ++ body =
     ap (take e.length) (u.text ∙ sym (append_assoc (take e.first b) body (drop e.length b)))
-    ∙ take-append_all (take e.first b ++ body) (drop e.length b) e.length
+    ∙ take_at (take e.first b ++ body) (drop e.length b) e.length
     (length-append (take e.first b) body ∙ omega (arith, before, long, lies.1)) in
     record {
       length_is = ap length u.text ∙ length-append (take e.first b) (body ++ drop e.length b)
           ∙ omega (arith, before, long, length-append body (drop e.length b), length-drop e.length b, u.begins.is_within, lies.1);
-      prefix = ap (take e.first) u.text ∙ take-append_all (take e.first b) (body ++ drop e.length b) e.first before;
-      body_is = ap (drop e.first) whole ∙ drop-append_all (take e.first b) body e.first before;
+      prefix = ap (take e.first) u.text ∙ take_at (take e.first b) (body ++ drop e.length b) e.first before;
+      body_is = ap (drop e.first) whole ∙ drop_at (take e.first b) body e.first before;
     }
 
 -- cells that tile the new body tile the body of the new volume

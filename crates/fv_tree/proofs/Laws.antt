@@ -57,7 +57,5 @@ pub use Rattle.fv_tree.proofs.VolumeCellLaws.{bad_cell, bad_header}
 pub use Rattle.fv_tree.proofs.UnfixedInputLaws.{whole_kept}
 -- ---- the first difference of two meanings
 
--- two meanings have no difference exactly if they are equal
-pub use Rattle.fv_tree.proofs.DifferenceLaws.{one_volume, no_difference}
 -- the path to a first difference has at most 18 steps
 pub use Rattle.fv_tree.proofs.FewStepLaws.{few_steps}

@@ -3,10 +3,10 @@ use Rattle.std.proofs.Common.{◌≡◌, ℕ, ◌+◌, [], ◌∷◌, ◌++◌, 
 use Rattle.fv_base.specs.declared.guid.Guid.{Guid}
 use Rattle.fv_section.specs.Words.{FrameForm, SplitsFrom, frame_len, up_to_4}
 use Rattle.fv_section.proofs.Laws.{length_begun}
-use Rattle.fv_tree.specs.Words.{Pairwise, SectionRelation, StreamRelation, StreamOver, VolumeOver, SectionOver, MeansSection, Stream, MeansFile}
-use Rattle.fv_tree.specs.Words.{Meaning, Volume, File, ContentMeaning, Plain, Sectioned, SectionMeaning, Section, SectionMeanings, NoSections}
-use Rattle.fv_tree.specs.Words.{MoreSections, BodyMeaning, Leaf, Group, Nested, sections_list, body_len, section_len, sections_end, content_len}
-use Rattle.fv_tree.specs.Words.{length_of, FileForm}
+use Rattle.fv_tree.specs.Words.{Pairwise, SectionRelation, StreamRelation, VolumeRelation, StreamOver, VolumeOver, SectionOver, MeansSection, Stream}
+use Rattle.fv_tree.specs.Words.{Denotes, MeansFile, Meaning, Volume, File, ContentMeaning, Plain, Sectioned, SectionMeaning, Section, SectionMeanings}
+use Rattle.fv_tree.specs.Words.{NoSections, MoreSections, BodyMeaning, Leaf, Group, Nested, sections_list, body_len, section_len, sections_end}
+use Rattle.fv_tree.specs.Words.{content_len, length_of, FileForm}
 
 -- a section has the length of its frame
 abbrev pub AsLong : SectionRelation → Type 0
@@ -45,20 +45,16 @@ stream_long R each (MoreSections s ss) tail b (f ∷ fs, split, p) = let z = fro
 volume_long : (S : StreamRelation) (b : List ℕ) (m : Meaning) → VolumeOver S b m → length_of m ≡ length b
 volume_long S b (Volume h fs) d = sym (d.length_is ∙ d.begins.length_is)
 
-section_long_over : (R : SectionRelation) (S : StreamRelation) → AsLong R → (f : FrameForm) (s : SectionMeaning)
-    → SectionOver (StreamOver R) (VolumeOver S) f s → section_len s ≡ frame_len f
-section_long_over R S each f (Section k e (Leaf b)) (p, q, (g, o, same)) = rw (q, same) refl
-section_long_over R S each f (Section k e (Group ss t)) (p, q, (g, h)) = rw (q, stream_long R each ss t f.body h) refl
-section_long_over R S each f (Section k e (Nested v)) (p, q, (g, o, d)) = rw (q, volume_long S f.body v d) refl
-
-section_long_zero : (f : FrameForm) (s : SectionMeaning) → MeansSection zero f s → section_len s ≡ frame_len f
-section_long_zero f (Section k e (Leaf b)) (p, q, (g, o, same)) = rw (q, same) refl
-section_long_zero f (Section k e (Group ss t)) (p, q, (g, h)) = absurd h
-section_long_zero f (Section k e (Nested v)) (p, q, (g, o, d)) = absurd d
+section_long_over : (S : StreamRelation) (V : VolumeRelation)
+    → ((ss : SectionMeanings) (t : ℕ) (b : List ℕ) → S (sections_list ss) t b → sections_end 0 ss + t ≡ length b)
+    → ((b : List ℕ) (v : Meaning) → V b v → length_of v ≡ length b) → AsLong (SectionOver S V)
+section_long_over S V stream volume f (Section k e (Leaf b)) (p, q, (g, o, same)) = rw (q, same) refl
+section_long_over S V stream volume f (Section k e (Group ss t)) (p, q, (g, h)) = rw (q, stream ss t f.body h) refl
+section_long_over S V stream volume f (Section k e (Nested v)) (p, q, (g, o, d)) = rw (q, volume f.body v d) refl
 
 pub section_long : (n : ℕ) → AsLong (MeansSection n)
-section_long zero f s h = section_long_zero f s h
-section_long (suc n) f s h = section_long_over (MeansSection n) (Stream n) (section_long n) f s h
+section_long zero = section_long_over (λ _ _ _. ⊥) (λ _ _. ⊥) (λ ss t b h. absurd h) (λ b v h. absurd h)
+section_long (suc n) = section_long_over (Stream n) (Denotes n) (stream_long (MeansSection n) (section_long n)) (volume_long (Stream n))
 
 -- the body of a section has the length of its frame's body
 pub body_long : (n : ℕ) (f : FrameForm) (k : ℕ) (body : BodyMeaning) → MeansSection n f (Section k f.extended body)

@@ -7,22 +7,16 @@ use Rattle.fv_tree.specs.Words.{Pairwise, OneOf}
 pub pairs_push : {A B : Type 0} (R : A → B → Type 0) (xs : List A) (ys : List B) (x : A) (y : B) → Pairwise R xs ys → R x y
     → Pairwise R (xs ++ x ∷ []) (ys ++ y ∷ [])
 pairs_push R [] [] x y p r = (r, tt)
-pairs_push R [] (b ∷ ys) x y p r = absurd p
-pairs_push R (a ∷ xs) [] x y p r = absurd p
 pairs_push R (a ∷ xs) (b ∷ ys) x y p r = (p.0, pairs_push R xs ys x y p.1 r)
+pairs_push R _ _ x y p r = absurd p
 
 -- ---- the invariants of a loop over items, if each item has a form
 
 module _ {A B X : Type 0} (R : A → B → Type 0) (form : X → A) (items : List X) (i : ℕ) (d : X) where
-  in_items : i < length items → i < length (map form items)
-  in_items l = omega (arith, l, length-map items form)
-
-  item_is : i < length items → get_or (map form items) i (form d) ≡ form (get_or items i d)
-  item_is l = get_or-map form items i d (form d) l
-
   -- a property of each form is a property of the form of item i
   pub of_item : (P : A → Type 0) → AllByRecursion P (map form items) → i < length items → P (form (get_or items i d))
-  of_item P all l = subst P (item_is l) (at_index P (map form items) i (form d) all (in_items l))
+  of_item P all l =
+      subst P (get_or-map form items i d (form d) l) (at_index P (map form items) i (form d) all (omega (arith, l, length-map items form)))
 
   -- if item i is read, the lists agree up to it
   pub kept_pairs : (ys new : List B) (y : B) → i < length items → Pairwise R (take i (map form items)) ys

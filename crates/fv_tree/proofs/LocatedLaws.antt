@@ -1,15 +1,16 @@
 -- The files of a volume as they are stored: the data of each are in the volume at the data's offset, and there are no
 -- other files.
-use Rattle.std.proofs.Common.{◌≡◌, ◌≤◌, ℕ, ◌+◌, ◌-◌, [], ◌∷◌, ◌∙◌, List, length, take, drop, sym, subst, arith, not, length-take-le, length-drop}
-use Rattle.fv_base.proofs.Laws.{take_all, common_steps, AllByRecursion, list_any, all_filter, field-take, up_to_8}
-use Rattle.fv_file.specs.Words.{CellForm, Valid, Pad, Dead, Stub, Free, CellsWithin}
+use Rattle.std.proofs.Common.{◌≡◌, ◌≤◌, ℕ, ◌+◌, ◌-◌, [], ◌∷◌, ◌∙◌, List, length, take, drop, sym, subst, arith, length-take-le}
+use Rattle.fv_base.proofs.Laws.{take_all, common_steps, AllByRecursion, field-take, up_to_8}
+use Rattle.fv_file.specs.Words.{CellForm, Valid, CellsWithin}
 use Rattle.fv_file.specs.declared.head.FileHead.{FileHead}
-use Rattle.fv_file.proofs.Laws.{IsPayloadIn, body_payloads, all_within}
+use Rattle.fv_file.proofs.Laws.{IsPayloadIn, body_payloads}
 use Rattle.fv_head.specs.Words.{HeadFields, BeginsVolume}
 use Rattle.fv_head.specs.declared.extent.Extent.{Extent}
 use Rattle.fv_head.proofs.Laws.{first_lies, one_front}
+use Rattle.fv_tree.proofs.BodyLaws.{cells_inside, of_current}
 use Rattle.fv_tree.proofs.MeaningLaws.{one_stand}
-use Rattle.fv_tree.specs.Words.{FileForm, files_in, replaced_by, Denotes, data_place, AreFilesOf, BeginWithFiles, HasDataIn, Meaning}
+use Rattle.fv_tree.specs.Words.{FileForm, files_in, Denotes, data_place, AreFilesOf, BeginWithFiles, HasDataIn, Meaning}
 
 -- ---- the places of the data
 
@@ -22,10 +23,7 @@ all_files : (volume : List ℕ) (cs : List CellForm) → AllByRecursion (IsPaylo
     → AllByRecursion (HasDataIn volume) (files_in cs)
 all_files volume [] p l = tt
 all_files volume (Valid at head payload ∷ cs) p l = (one_file volume at head payload p.0 l.0 l.1, all_files volume cs p.1 l.2)
-all_files volume (Pad at head payload ∷ cs) p l = all_files volume cs p.1 l.2
-all_files volume (Dead at len state ∷ cs) p l = all_files volume cs p.1 l.2
-all_files volume (Stub at len ∷ cs) p l = all_files volume cs p.1 l.2
-all_files volume (Free at len ∷ cs) p l = all_files volume cs p.1 l.2
+all_files volume (_ ∷ cs) p l = all_files volume cs p.1 l.2
 
 -- data that are in the first n bytes are in all bytes
 in_front : (n : ℕ) (b : List ℕ) (fs : List FileForm) → n ≤ length b → AllByRecursion (HasDataIn (take n b)) fs
@@ -37,20 +35,14 @@ in_front n b (f ∷ fs) w h =
       in_front n b fs w h.1,
     )
 
-pub located_data : (b : List ℕ) (h : HeadFields) (e : Extent) (fs : List FileForm) → BeginsVolume h e b → AreFilesOf e (take e.length b) fs
-    → AllByRecursion (HasDataIn b) fs
-located_data b h e fs front stand =
+pub begun_data : (b : List ℕ) (fs : List FileForm) → BeginWithFiles b fs → AllByRecursion (HasDataIn b) fs
+begun_data b fs (h, e, front, stand) =
     let v : List ℕ = take e.length b in
     let long : length v ≡ e.length = length-take-le e.length b front.is_within in
-    let all : e.first + length (drop e.first v) ≡ length v = omega (arith, length-drop e.first v, long, (first_lies b h e front).1) in
-    let within = subst (λ n. CellsWithin n stand.cells) all
-    (all_within e.file_system e.polarity e.first stand.cells (drop e.first v) stand.tiles) in
+    let within = cells_inside e v stand.cells (omega (arith, long, (first_lies b h e front).1)) stand.tiles in
     let files = all_files v stand.cells (body_payloads e.file_system e.polarity e.first stand.cells v stand.tiles) within in
-    let kept = all_filter (λ f. not (list_any (replaced_by f) (files_in stand.cells))) (HasDataIn v) (files_in stand.cells) files in
-    in_front e.length b fs front.is_within (subst (AllByRecursion (HasDataIn v)) (sym stand.current.files_are) kept)
-
-pub begun_data : (b : List ℕ) (fs : List FileForm) → BeginWithFiles b fs → AllByRecursion (HasDataIn b) fs
-begun_data b fs (h, e, front, stand) = located_data b h e fs front stand
+    in_front e.length b fs front.is_within
+    (subst (AllByRecursion (HasDataIn v)) (sym stand.current.files_are) (of_current (HasDataIn v) (files_in stand.cells) files))
 
 -- ---- the stored files are the only ones
 

@@ -49,13 +49,12 @@ pairs_one : {A B : Type 0} (p q : A → B → Type 0) → ((x : A) (y z : B) →
     → Pairwise p xs ys → Pairwise q xs zs → ys ≡ zs
 pairs_one p q one [] [] [] h k = refl
 pairs_one p q one [] [] (z ∷ zs) h k = absurd k
-pairs_one p q one [] (y ∷ ys) zs h k = absurd h
-pairs_one p q one (x ∷ xs) [] zs h k = absurd h
 pairs_one p q one (x ∷ xs) (y ∷ ys) [] h k = absurd k
 pairs_one p q one (x ∷ xs) (y ∷ ys) (z ∷ zs) h k =
     let a : y ≡ z = one x y z h.0 k.0 in
     let b : ys ≡ zs = pairs_one p q one xs ys zs h.1 k.1 in
     cc
+pairs_one p q one _ _ zs h k = absurd h
 
 stream_one : (p q : SectionRelation) → SectionsOne p q → StreamsOne (StreamOver p) (StreamOver q)
 stream_one p q one ss ts n k b (fs, split, pairs) (gs, split', pairs') = grind (arith, common_steps, one_split, pairs_one)

@@ -1,12 +1,11 @@
 -- Files with a twin, or with a volume top file that is not at the end, are not the files of a volume.
-use Rattle.std.proofs.Common.{◌≡◌, ◌⊎◌, ℕ, [], ◌∷◌, ◌++◌, List, length-append, Bool, true, refl, subst, arith, inl, inr}
+use Rattle.std.proofs.Common.{◌≡◌, ◌∙◌, ◌⊎◌, ℕ, [], ◌∷◌, ◌++◌, List, length-append, Bool, true, refl, subst, arith, inl, inr}
 use Rattle.fv_base.proofs.Laws.{common_steps, list_any, list_any_at, bytes_eq-Decides, Which, and_join, and_split, up_is_not_down}
 use Rattle.std.proofs.lemmas.Bool.{or_cases}
 use Rattle.std.proofs.lemmas.List.{get_or_at}
 use Rattle.fv_base.specs.declared.fault.Fault.{Fault}
 use Rattle.fv_file.specs.Words.{CellForm}
-use Rattle.fv_tree.specs.Words.{HasTwin, TopElsewhere, NamesFault, FileForm, files_in, same_name, is_twin, NoTwins, current_in, is_top, end_of}
-use Rattle.fv_tree.specs.Words.{TopAtEnd, AreCurrent}
+use Rattle.fv_tree.specs.Words.{HasTwin, NamesFault, FileForm, files_in, same_name, is_twin, NoTwins, is_top, end_of, TopAtEnd, AreCurrent}
 
 pub same_name_back : (f g : FileForm) → same_name f g ≡ true → same_name g f ≡ true
 same_name_back f g h = grind (arith, common_steps, bytes_eq-Decides)
@@ -36,12 +35,9 @@ top_not n [] f (g ∷ gs) all top off = up_is_not_down (is_top f) top all.0
 top_not n (x ∷ []) f after all top off = top_not n [] f after all.1 top off
 top_not n (x ∷ y ∷ xs) f after all top off = top_not n (y ∷ xs) f after all.1 top off
 
-top_none : (n : ℕ) (f : FileForm) (fs : List FileForm) → TopElsewhere n f fs → TopAtEnd n fs → ⊥
-top_none n f fs (before, after, is, top, off) all = top_not n before f after (subst (TopAtEnd n) is all) top off
-
 -- if the names of the files in the cells have a fault, no files are current
 pub current_none : (which : Which) (n : ℕ) (cells : List CellForm) (f : Fault) (files : List FileForm)
     → NamesFault which n (files_in cells) f → AreCurrent n (files_in cells) files → ⊥
 current_none which n cells f files (inl (x, twin, is)) all = twin_none which x (files_in cells) twin all.no_twins
-current_none which n cells f files (inr (none, x, top, is)) all = top_none n x (current_in (files_in cells)) top (subst
-    (TopAtEnd n) all.files_are all.top)
+current_none which n cells f files (inr (none, x, (before, after, cut, top, off), is)) all =
+    top_not n before x after (subst (TopAtEnd n) (all.files_are ∙ cut) all.top) top off

@@ -3,7 +3,7 @@
 --    (`stream_by`, `stored_by`, `file_by`, `body_by`, `volume_by`).
 -- 2. By induction on the nesting depth no section with a fault is read (`section_refuses`), so no stream and no volume
 --    with a fault is read (`stream_refuses`, `fault_refuses`).
-use Rattle.std.proofs.Common.{◌≡◌, ◌≤◌, ℕ, zero, suc, List, length, take, drop, ap, ◌∙◌, subst, inl, inr}
+use Rattle.std.proofs.Common.{◌≡◌, ◌≤◌, ℕ, zero, suc, List, length, take, drop, ap, ◌∙◌, subst, sym, inl, inr, arith, take_all}
 use Rattle.fv_base.proofs.Laws.{Which, none_fails}
 use Rattle.fv_base.specs.declared.fault.Fault.{Fault}
 use Rattle.fv_base.specs.declared.fault.Place.{Place}
@@ -19,7 +19,7 @@ use Rattle.fv_tree.specs.Words.{InStream, InVolume, data_at, Meaning, FileMeanin
 use Rattle.fv_tree.specs.Words.{current_in}
 use Rattle.fv_tree.proofs.ListPairs.{one_of_none}
 use Rattle.fv_tree.proofs.NamesFaultLaws.{current_none}
-use Rattle.fv_tree.proofs.SectionShapeLaws.{group_none, nested_none, stream_bad, too_deep}
+use Rattle.fv_tree.proofs.SectionShapeLaws.{group_only, opened_only, stream_bad}
 use Rattle.fv_tree.proofs.VolumePartLaws.{HasFiles, front_of, has_files}
 use Rattle.fv_file.proofs.Laws as cellular
 use Rattle.fv_section.proofs.Laws as framed
@@ -87,13 +87,15 @@ module _ (which : Which) where
 
   -- at every level, a section with a fault is not read
   pub section_refuses : (n : ℕ) → SectionRefuses n
-  section_refuses zero e f at s (inl group, is) h = too_deep f (inl group) s h
-  section_refuses zero e f at s (inr (kind, opens), is) h = too_deep f (inr (record { kind = kind; opens = opens })) s h
+  section_refuses zero e f at s (inl group, is) h = group_only (λ _ _ _. ⊥) (λ _ _. ⊥) f group (λ us u r. r) s h
+  section_refuses zero e f at s (inr (kind, opens), is) h =
+      opened_only (λ _ _ _. ⊥) (λ _ _. ⊥) f (record { kind = kind; opens = opens }) (λ v r. r) s h
   section_refuses (suc n) e f at s (inl (group, bad)) h =
-      group_none n f group (λ us u r. stream_by n (section_refuses n) e f.body _ us u bad r) s h
+      group_only (Stream n) (Denotes n) f group (λ us u r. stream_by n (section_refuses n) e f.body _ us u bad r) s h
   section_refuses (suc n) e f at s (inr (kind, opens, bad)) h =
-      nested_none n f (record { kind = kind; opens = opens })
-      (λ k m within d. volume_by n (stream_by n (section_refuses n)) e f.body _ k m within bad d) s h
+      opened_only (Stream n) (Denotes n) f (record { kind = kind; opens = opens }) (λ v d.
+      volume_by n (stream_by n (section_refuses n)) e f.body _ (length f.body) v (omega arith) bad
+      (subst (λ b. Denotes n b v) (sym (take_all (length f.body) f.body (omega arith))) d)) s h
 
   -- at every level, bytes with a fault are not a stream
   pub stream_refuses : (n : ℕ) → StreamRefuses n

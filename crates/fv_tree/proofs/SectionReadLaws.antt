@@ -9,9 +9,8 @@ use Rattle.std.proofs.Common.{◌≡◌, ◌∙◌, ℕ, suc, ◌+◌, List, [],
 use Rattle.std.proofs.lemmas.List.{append-nil}
 use Rattle.fv_base.specs.Words.{IsBytes}
 use Rattle.fv_section.specs.Words.{FrameForm, Splits}
-use Rattle.fv_tree.specs.Words.{Pairwise, MeansContent, MeansSection, Stream, Denotes, holds_sections, Meaning, SectionMeaning, Section}
-use Rattle.fv_tree.specs.Words.{Leaf, Group, Nested, Sectioned, sections_from}
-use Rattle.fv_tree.specs.Words.{shape_of, Step, each_by, section_by, content_by, frames_of, tail_of}
+use Rattle.fv_tree.specs.Words.{Pairwise, MeansContent, MeansSection, Stream, Denotes, holds_sections, Meaning, SectionMeaning, Section, Leaf, Group}
+use Rattle.fv_tree.specs.Words.{Nested, Sectioned, sections_from, shape_of, Step, each_by, section_by, content_by, frames_of, tail_of}
 use Rattle.fv_tree.specs.inner.SectionReads.{Yields, EachYields, SectionRead, StreamRead, ContentRead}
 use Rattle.fv_tree.specs.declared.shape.Shape.TheVariants as shapes
 use Rattle.fv_tree.proofs.SectionShapeLaws.{leaf_shape, group_shape, volume_shape, leaf_is, group_found, nested_found, stream_reads, suc_is}

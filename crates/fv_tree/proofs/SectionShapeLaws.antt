@@ -1,16 +1,18 @@
 -- A section is read by its shape, and a file by its type. The steps:
--- 1. A test finds whether a body is opened as a volume (`opens_found`, `opens_holds`).
+-- 1. A test decides whether a body is opened as a volume (`opens_decides`).
 -- 2. So the shape of a section determines whether it is a leaf, a group or an opened volume (`leaf_shape`,
 --    `group_shape`, `volume_shape`).
 -- 3. The meaning of a leaf is its bytes (`leaf_is`). The meaning of a group or an opened volume is the meaning that is
 --    read in its body, one level deeper (`group_found`, `nested_found`), and the first fault in its body is its first
 --    fault (`group_first`, `nested_first`).
--- 4. If no level is left, groups and opened volumes are not read (`too_deep`, `deep_fault`).
+-- 4. A group or an opened volume whose body is not read has no meaning (`group_only`, `opened_only`). If no level is
+--    left, it has the fault Depth (`deep_fault`).
 -- 5. The meaning of a file whose type holds sections is its stream (`stream_reads`). If its data are not a stream, the
 --    file has no meaning (`stream_bad`).
-use Rattle.std.proofs.Common.{◌≡◌, ℕ, ◌+◌, ◌≤◌, [], ◌∷◌, ◌≢◌, ◌==◌, ◌&&◌, ◌⊎◌, if◌then◌else◌, zero, suc, List, length, take, Bool, true, false, refl}
-use Rattle.std.proofs.Common.{sym, ap, ◌∙◌, subst, inl, inr, arith, is_some, Some, None, eqb-true, le-leb, leb-true, take_all}
-use Rattle.fv_base.proofs.Laws.{common_steps, bytes_eq, Decides-eqb, bytes_eq-Decides, First, outer_fault, field, and_join, and_split, up_is_not_down}
+use Rattle.std.proofs.Common.{◌≡◌, ℕ, ◌+◌, ◌≤◌, [], ◌∷◌, ◌≢◌, ◌==◌, ◌&&◌, ◌⊎◌, if◌then◌else◌, zero, suc, List, length, Bool, true, false, refl, sym}
+use Rattle.std.proofs.Common.{ap, ◌∙◌, subst, inl, inr, arith, is_some, Some, None, le-leb, leb-true}
+use Rattle.std.proofs.lemmas.Bool.Decides.{Decides-and, Decides-like}
+use Rattle.fv_base.proofs.Laws.{common_steps, Decides, bytes_eq, Decides-eqb, bytes_eq-Decides, First, outer_fault, field, up_is_not_down}
 use Rattle.fv_base.specs.Words.{volume_limit}
 use Rattle.fv_base.specs.declared.fault.Fault.{Fault}
 use Rattle.fv_base.specs.declared.flash.FileSystem.{FileSystem}
@@ -23,8 +25,8 @@ use Rattle.fv_section.proofs.Laws.{stands_within}
 use Rattle.fv_tree.specs.Words.{group_kind, volume_kind, Opens, StreamRelation, VolumeRelation, MeansSection, SectionOver, Stream, Denotes}
 use Rattle.fv_tree.specs.Words.{holds_sections, MeansContent, MeansFile, FileForm, moved_fault, body_place, body_at, InSection, InStream, InVolume}
 use Rattle.fv_tree.specs.Words.{Meaning, FileMeaning, File, Plain, Sectioned, SectionMeaning, Section, Leaf, Group, Nested, sections_list}
-use Rattle.fv_tree.specs.Words.{sections_from, IsStoredFrame}
-use Rattle.fv_tree.specs.Words.{shape_of}
+use Rattle.fv_tree.specs.Words.{sections_from, IsStoredFrame, shape_of}
+use Rattle.fv_tree.specs.declared.shape.Shape.{Shape}
 use Rattle.fv_tree.specs.declared.shape.Shape.TheVariants as shapes
 
 -- `sections_list` undoes `sections_from`
@@ -38,40 +40,25 @@ frame_small f (b, small, short, stands) = omega (arith, short, stands_within f b
 
 -- ---- the test of a body
 
-system_is : (b : List ℕ) (t u : Bool) → bytes_eq (field 16 16 b) (system_guid Ffs2) ≡ t → bytes_eq (field 16 16 b) (system_guid Ffs3) ≡ u
-    → is_some (if t then Some Ffs2 else (if u then Some Ffs3 else None)) ≡ true → (system : FileSystem)
-    × (field 16 16 b ≡ system_guid system)
-system_is b true u two three h = (Ffs2, (bytes_eq-Decides _ _).0 two)
-system_is b false true two three h = (Ffs3, (bytes_eq-Decides _ _).0 three)
-system_is b false false two three h = cc
+system_decides : (b : List ℕ) → Decides (is_some (file_system_at b)) ((system : FileSystem) × (field 16 16 b ≡ system_guid system))
+system_decides b = go (bytes_eq (field 16 16 b) (system_guid Ffs2)) (bytes_eq (field 16 16 b) (system_guid Ffs3)) refl refl where
+  none : (system : FileSystem) → field 16 16 b ≡ system_guid system → bytes_eq (field 16 16 b) (system_guid Ffs2) ≡ false
+      → bytes_eq (field 16 16 b) (system_guid Ffs3) ≡ false → ⊥
+  none Ffs2 is two three = up_is_not_down _ ((bytes_eq-Decides _ _).1 is) two
+  none Ffs3 is two three = up_is_not_down _ ((bytes_eq-Decides _ _).1 is) three
 
-system_some : (b : List ℕ) (system : FileSystem) → field 16 16 b ≡ system_guid system → is_some (file_system_at b) ≡ true
-system_some b Ffs2 is = rw ((bytes_eq-Decides (field 16 16 b) (system_guid Ffs2)).1 is) refl
-system_some b Ffs3 is = go (bytes_eq (field 16 16 b) (system_guid Ffs2)) (bytes_eq (field 16 16 b) (system_guid Ffs3))
-    ((bytes_eq-Decides (field 16 16 b) (system_guid Ffs3)).1 is)
-  where
-    go : (t u : Bool) → u ≡ true → is_some (if t then Some Ffs2 else (if u then Some Ffs3 else None)) ≡ true
-    go true u h = refl
-    go false true h = refl
-    go false false h = cc
+  go : (t u : Bool) → bytes_eq (field 16 16 b) (system_guid Ffs2) ≡ t → bytes_eq (field 16 16 b) (system_guid Ffs3) ≡ u
+      → Decides (is_some (if t then Some Ffs2 else (if u then Some Ffs3 else None))) ((system : FileSystem) × (field 16 16 b ≡ system_guid system))
+  go true u two three = (λ h. (Ffs2, (bytes_eq-Decides _ _).0 two), λ h. refl)
+  go false true two three = (λ h. (Ffs3, (bytes_eq-Decides _ _).0 three), λ h. refl)
+  go false false two three = (λ h. cc, λ h. absurd (none h.0 h.1 two three))
 
-pub opens_found : (b : List ℕ) → is_one_volume b ≡ true → Opens b
-opens_found b h =
-    let p = and_split _ _ h in
-    let q = and_split _ _ p.0 in
-    let r = and_split _ _ q.0 in
-    record {
-      least = leb-true _ _ r.0;
-      signature = (bytes_eq-Decides _ _).0 r.1;
-      file_system = system_is b (bytes_eq (field 16 16 b) (system_guid Ffs2)) (bytes_eq (field 16 16 b) (system_guid Ffs3)) refl refl q.1;
-      length_is = eqb-true _ _ p.1;
-    }
-
-pub opens_holds : (b : List ℕ) → Opens b → is_one_volume b ≡ true
-opens_holds b o =
-    and_join _ _ (and_join _ _ (and_join _ _ (le-leb 56 (length b) o.least) ((bytes_eq-Decides _ _).1 o.signature))
-    (system_some b o.file_system.0 o.file_system.1))
-    ((Decides-eqb _ _).1 o.length_is)
+opens_decides : (b : List ℕ) → Decides (is_one_volume b) (Opens b)
+opens_decides b =
+    Decides-like (is_one_volume b) (λ h. record { least = h.0.0.0; signature = h.0.0.1; file_system = h.0.1; length_is = h.1 })
+    (λ o. (((o.least, o.signature), o.file_system), o.length_is))
+    (Decides-and _ _ (Decides-and _ _ (Decides-and _ _ (leb-true 56 (length b), le-leb 56 (length b)) (bytes_eq-Decides _ _)) (system_decides b))
+    (Decides-eqb _ _))
 
 -- ---- the shapes
 
@@ -83,36 +70,33 @@ pub record IsOpened (f : FrameForm) : Type 0 where
   pub kind : f.kind ≡ volume_kind
   pub opens : Opens f.body
 
-by_tests : (f : FrameForm) (s t : Bool) → (f.kind == group_kind) ≡ s → ((f.kind == volume_kind) && is_one_volume f.body) ≡ t
-    → (shape_of f ≡ shapes.Leaf → IsLeaf f) × (shape_of f ≡ shapes.Group → f.kind ≡ group_kind) × (shape_of f ≡ shapes.Volume → IsOpened f)
-by_tests f true t p q = (
-  λ h. let x : shapes.Group ≡ shapes.Leaf = rw p at h in cc,
-  λ h.
-      (Decides-eqb _ _).0 p,
-  λ h. let x : shapes.Group ≡ shapes.Volume = rw p at h in cc,
-)
-by_tests f false true p q = (
-  λ h. let x : shapes.Volume ≡ shapes.Leaf = rw (p, q) at h in cc,
-  λ h. let x : shapes.Volume ≡ shapes.Group = rw (p, q) at h in cc,
-  λ h. let both = and_split _ _ q in record { kind = (Decides-eqb _ _).0 both.0; opens = opens_found f.body both.1 },
-)
-by_tests f false false p q = (
-  λ h. record {
-    no_group = λ e. let t : false ≡ true = sym p ∙ (Decides-eqb _ _).1 e in cc;
-    not_opened = λ e o. let t : false ≡ true = sym q ∙ and_join _ _ ((Decides-eqb _ _).1 e) (opens_holds f.body o) in cc;
-  },
-  λ h. let x : shapes.Leaf ≡ shapes.Group = rw (p, q) at h in cc,
-  λ h. let x : shapes.Leaf ≡ shapes.Volume = rw (p, q) at h in cc,
-)
+-- what a section of this shape is
+abbrev HasShape : FrameForm → Shape → Type 0
+HasShape f shapes.Leaf = IsLeaf f
+HasShape f shapes.Group = f.kind ≡ group_kind
+HasShape f shapes.Volume = IsOpened f
+
+shape_holds : (f : FrameForm) → HasShape f (shape_of f)
+shape_holds f = go (f.kind == group_kind) ((f.kind == volume_kind) && is_one_volume f.body) refl refl where
+  opened : Decides ((f.kind == volume_kind) && is_one_volume f.body) ((f.kind ≡ volume_kind) × Opens f.body)
+  opened = Decides-and (f.kind == volume_kind) (is_one_volume f.body) (Decides-eqb f.kind volume_kind) (opens_decides f.body)
+
+  go : (s t : Bool) → (f.kind == group_kind) ≡ s → ((f.kind == volume_kind) && is_one_volume f.body) ≡ t → HasShape f (shape_of f)
+  go true t p q = rw p ((Decides-eqb _ _).0 p)
+  go false true p q = let is = opened.0 q in rw (p, q) (record { kind = is.0; opens = is.1 })
+  go false false p q = rw (p, q) (record {
+    no_group = λ e. up_is_not_down _ ((Decides-eqb f.kind group_kind).1 e) p;
+    not_opened = λ e o. up_is_not_down _ (opened.1 (e, o)) q;
+  })
 
 pub leaf_shape : (f : FrameForm) → shape_of f ≡ shapes.Leaf → IsLeaf f
-leaf_shape f h = (by_tests f (f.kind == group_kind) ((f.kind == volume_kind) && is_one_volume f.body) refl refl).0 h
+leaf_shape f is = subst (HasShape f) is (shape_holds f)
 
 pub group_shape : (f : FrameForm) → shape_of f ≡ shapes.Group → f.kind ≡ group_kind
-group_shape f h = (by_tests f (f.kind == group_kind) ((f.kind == volume_kind) && is_one_volume f.body) refl refl).1 h
+group_shape f is = subst (HasShape f) is (shape_holds f)
 
 pub volume_shape : (f : FrameForm) → shape_of f ≡ shapes.Volume → IsOpened f
-volume_shape f h = (by_tests f (f.kind == group_kind) ((f.kind == volume_kind) && is_one_volume f.body) refl refl).2 h
+volume_shape f is = subst (HasShape f) is (shape_holds f)
 
 -- the type of a group is not the type of a volume
 pub group_is_no_volume : (f : FrameForm) → f.kind ≡ group_kind → f.kind ≡ volume_kind → ⊥
@@ -127,33 +111,21 @@ pub leaf_is : (n : ℕ) (f : FrameForm) → IsLeaf f → MeansSection n f (Secti
 leaf_is zero f l = leaf_over (λ _ _ _. ⊥) (λ _ _. ⊥) f l
 leaf_is (suc n) f l = leaf_over (Stream n) (Denotes n) f l
 
--- ---- a group
+-- ---- a group and an opened volume, with any relations for the parts inside
 
-pub group_none : (k : ℕ) (f : FrameForm) → f.kind ≡ group_kind → ((us : List SectionMeaning) (u : ℕ) → Stream k us u f.body → ⊥)
-    → (s : SectionMeaning) → MeansSection (suc k) f s → ⊥
-group_none k f g none (Section x e (Leaf b)) (p, q, (off, _, r)) = off g
-group_none k f g none (Section x e (Group us u)) (p, q, (g', r)) = none (sections_list us) u r
-group_none k f g none (Section x e (Nested v)) (p, q, (k', o, r)) = group_is_no_volume f g k'
+-- a group whose body is not a stream has no meaning
+pub group_only : (S : StreamRelation) (V : VolumeRelation) (f : FrameForm) → f.kind ≡ group_kind
+    → ((us : List SectionMeaning) (u : ℕ) → S us u f.body → ⊥) → (s : SectionMeaning) → SectionOver S V f s → ⊥
+group_only S V f g none (Section x e (Leaf b)) (p, q, (off, _, r)) = off g
+group_only S V f g none (Section x e (Group us u)) (p, q, (g', r)) = none (sections_list us) u r
+group_only S V f g none (Section x e (Nested v)) (p, q, (k', o, r)) = group_is_no_volume f g k'
 
--- ---- an opened volume
-
-pub nested_none : (k : ℕ) (f : FrameForm) → IsOpened f → ((n : ℕ) (m : Meaning) → n ≤ length f.body → Denotes k (take n f.body) m
-    → ⊥) → (s : SectionMeaning) → MeansSection (suc k) f s → ⊥
-nested_none k f o none (Section x e (Leaf b)) (p, q, (off, not, h)) = not o.kind o.opens
-nested_none k f o none (Section x e (Group us u)) (p, q, (g, h)) = group_is_no_volume f g o.kind
-nested_none k f o none (Section x e (Nested w)) (p, q, (k', o', d)) =
-    let P : List ℕ → Type 0 = λ b. Denotes k b w in
-    none (length f.body) w (omega arith) (subst P (sym (take_all (length f.body) f.body (omega arith))) d)
-
--- ---- no level of nesting is left
-
-pub too_deep : (f : FrameForm) → (f.kind ≡ group_kind) ⊎ IsOpened f → (s : SectionMeaning) → MeansSection zero f s → ⊥
-too_deep f (inl g) (Section x e (Leaf b)) (p, q, (off, _, r)) = off g
-too_deep f (inl g) (Section x e (Group us u)) (p, q, (g', r)) = r
-too_deep f (inl g) (Section x e (Nested v)) (p, q, (k', o, r)) = r
-too_deep f (inr o) (Section x e (Leaf b)) (p, q, (off, not, h)) = not o.kind o.opens
-too_deep f (inr o) (Section x e (Group us u)) (p, q, (g', r)) = r
-too_deep f (inr o) (Section x e (Nested v)) (p, q, (k', o', r)) = r
+-- an opened body that is not a volume has no meaning
+pub opened_only : (S : StreamRelation) (V : VolumeRelation) (f : FrameForm) → IsOpened f → ((v : Meaning) → V f.body v → ⊥)
+    → (s : SectionMeaning) → SectionOver S V f s → ⊥
+opened_only S V f o none (Section x e (Leaf b)) (p, q, (off, not, h)) = not o.kind o.opens
+opened_only S V f o none (Section x e (Group us u)) (p, q, (g, h)) = group_is_no_volume f g o.kind
+opened_only S V f o none (Section x e (Nested w)) (p, q, (k', o', d)) = none w d
 
 -- places with equal offsets and equal depths are equal
 pub one_place : (p q : Place) → p.offset ≡ q.offset → p.depth ≡ q.depth → p ≡ q

@@ -1,38 +1,25 @@
 -- The header length, the size and the file checksum of a valid file in a volume follow from its other fields.
 use Rattle.std.proofs.lemmas.Grind.{common_steps}
-use Rattle.std.proofs.Common.{◌≡◌, ◌<◌, ℕ, ◌+◌, ◌^◌, List, [], ◌∷◌, length, true, refl, sym, ap, ◌∙◌, subst}
-use Rattle.std.proofs.Common.{arith, length-append}
+use Rattle.std.proofs.Common.{◌≡◌, ◌<◌, ℕ, ◌+◌, ◌^◌, List, [], ◌∷◌, length, true, sym, ap, ◌∙◌, subst, arith, length-append}
 use Rattle.fv_base.specs.Words.{IsBytes}
 use Rattle.fv_base.specs.declared.flash.FileSystem.{FileSystem}
 use Rattle.fv_base.specs.declared.flash.Polarity.{Polarity}
 use Rattle.fv_base.proofs.Laws.{bytes_back, bytes_front}
 use Rattle.fv_file.proofs.Laws.{cell_span, one_passed}
-use Rattle.fv_file.specs.Words.{CellForm, Valid, Pad, Dead, Stub, Free, CellsLeft, Walked, IsCell, IsFilled, offset_of, cell_len}
-use Rattle.fv_file.specs.Words.{attribute_bits, is_large, IsFile, IsSound, attributes_at, file_header_len, file_sum_right, file_sum_for}
-use Rattle.fv_file.specs.Words.{is_alive}
+use Rattle.fv_file.specs.Words.{CellForm, Valid, CellsLeft, Walked, IsCell, IsFilled, offset_of, cell_len, attribute_bits, is_large, IsFile, IsSound}
+use Rattle.fv_file.specs.Words.{attributes_at, file_header_len, file_sum_right, file_sum_for}
 use Rattle.fv_file.specs.declared.head.FileHead.{FileHead}
-use Rattle.fv_file.specs.declared.state.FileState.{FileState}
-use Rattle.fv_file.specs.declared.state.FileState.TheVariants as states
-use Rattle.fv_tree.specs.Words.{header_len_by, state_by}
-use Rattle.fv_tree.specs.inner.ReadingParts.{FollowsFrom, IsSmallCell, mark_of}
+use Rattle.fv_tree.specs.Words.{header_len_by}
+use Rattle.fv_tree.specs.inner.ReadingParts.{FollowsFrom, IsSmallCell}
 
 -- a right file checksum follows from the attributes and the data
 sum_follows : (attributes file_sum : ℕ) (payload : List ℕ) → file_sum < 256 → file_sum_right attributes file_sum payload ≡ true
     → file_sum ≡ file_sum_for attributes payload
 sum_follows attributes file_sum payload small h = grind (arith, common_steps)
 
-state_follows : (state : FileState) → is_alive state ≡ true → state ≡ state_by (mark_of state)
-state_follows states.DataValid h = refl
-state_follows states.Marked h = refl
-state_follows states.Free h = cc
-state_follows states.Construction h = cc
-state_follows states.HeaderValid h = cc
-state_follows states.Deleted h = cc
-state_follows states.HeaderInvalid h = cc
-
 pub header_follows : (system : FileSystem) (polarity : Polarity) (head : FileHead) (payload b : List ℕ) → IsBytes b
-    → IsFilled system polarity head payload b → is_alive head.state ≡ true → IsSound head payload → FollowsFrom head payload
-header_follows system polarity head payload b small filled alive sound =
+    → IsFilled system polarity head payload b → IsSound head payload → FollowsFrom head payload
+header_follows system polarity head payload b small filled sound =
     let file : IsFile system polarity head payload filled.file = filled.is_file in
     let h : List ℕ = file.header in
     let bits : attribute_bits head.attributes ≡ attributes_at h =
@@ -48,7 +35,6 @@ header_follows system polarity head payload b small filled alive sound =
       header_len = ap (λ (k : FileHead). k.header_len) file.is_header.fields
           ∙ ap (λ (n : ℕ). file_header_len (is_large n)) (sym bits);
       file_sum = sum_follows (attribute_bits head.attributes) head.file_sum payload below sound.file_sum;
-      state = state_follows head.state alive;
     }
 
 -- so each cell that a walk passes in a volume is small
@@ -72,9 +58,6 @@ small_cell start left after cs c small room w v =
   where
     one : (c : CellForm) → IsCell left.system left.polarity c v.passed → offset_of c + cell_len c < 2 ^ 32 → IsBytes v.passed → IsSmallCell c
     one (Valid o head payload) (filled, alive, sound) lies bytes =
-        let follows = header_follows left.system left.polarity head payload v.passed bytes filled alive sound in
+        let follows = header_follows left.system left.polarity head payload v.passed bytes filled sound in
         (omega (arith, lies), omega (arith, lies, follows.size), follows)
-    one (Pad o head payload) is lies bytes = tt
-    one (Dead o len state) is lies bytes = tt
-    one (Stub o len) is lies bytes = tt
-    one (Free o len) is lies bytes = tt
+    one _ is lies bytes = tt

@@ -7,42 +7,43 @@
 --    it split into the other frames (`after_last`, `after_more`). So the frames that are read are the frames of the
 --    split (`starts_meet`).
 -- 3. The same is true of a whole stream (`split_is`).
-use Rattle.std.proofs.Common.{◌≡◌, ℕ, zero, suc, ◌+◌, ◌<◌, ◌≤◌, List, [], ◌∷◌, ◌++◌, length, drop, map, refl, sym, ap, ◌∙◌, subst, arith}
-use Rattle.std.proofs.Common.{Bool, true, false, length-append, append_assoc, length-drop}
+use Rattle.std.proofs.Common.{◌≡◌, ℕ, zero, suc, ◌+◌, ◌<◌, ◌≤◌, List, [], ◌∷◌, ◌++◌, length, drop, map, refl, sym, ap, ◌∙◌, subst, arith, Bool, true}
+use Rattle.std.proofs.Common.{false, length-append, append_assoc, length-drop}
 use Rattle.std.specs.Prelude.{nat_lt}
 use Rattle.std.specs.List.{AllByRecursion}
-use Rattle.std.proofs.lemmas.Bool.{ltb-true, ltb-false}
+use Rattle.std.proofs.lemmas.Bool.{le-ltb, lt-ltb, ltb-true, ltb-false}
 use Rattle.std.proofs.lemmas.List.{drop_at, length-map}
 use Rattle.fv_base.specs.Words.{IsBytes}
 use Rattle.fv_base.proofs.Laws.{bytes_drop}
 use Rattle.fv_section.specs.Words.{BeginsFrame, FrameForm, HasFrameAt, Splits, SplitsFrom, after_first, after_size, frame_in, frame_len, up_to_4}
-use Rattle.fv_section.proofs.Laws.{frame_reads}
-use Rattle.fv_section.proofs.Laws.{from_least, length_begun, size_least}
+use Rattle.fv_section.proofs.Laws.{frame_reads, from_least, length_begun, size_least}
 use Rattle.fv_tree.specs.Words.{BeginsFramed, frames_of, starts_by, starts_of}
 
 -- ---- the number of steps
 
+-- the bytes that are left after a frame of n bytes follow its filler, or the frame if no bytes follow the filler
+by_after : (P : List ℕ → Type 0) (n : ℕ) (r : List ℕ) → (nat_lt (up_to_4 n) (length r) ≡ true → P (drop (up_to_4 n) r))
+    → (nat_lt (up_to_4 n) (length r) ≡ false → P (drop n r)) → P (after_size n r)
+by_after P n r more last = go (nat_lt (up_to_4 n) (length r)) refl where
+  go : (t : Bool) → nat_lt (up_to_4 n) (length r) ≡ t → P (after_size n r)
+  go true e = rw e (more e)
+  go false e = rw e (last e)
+
 -- fewer bytes are left after a frame
 pub fewer : (r : List ℕ) → 4 ≤ length r → length (after_first r) < length r
-fewer r least = go (nat_lt (up_to_4 (frame_len (frame_in 0 r))) (length r)) refl where
-  go : (t : Bool) → nat_lt (up_to_4 (frame_len (frame_in 0 r))) (length r) ≡ t → length (after_first r) < length r
-  go true e = rw e (omega (arith, least, size_least (frame_in 0 r), length-drop (up_to_4 (frame_len (frame_in 0 r))) r))
-  go false e = rw e (omega (arith, least, size_least (frame_in 0 r), length-drop (frame_len (frame_in 0 r)) r))
+fewer r least =
+    let f : FrameForm = frame_in 0 r in
+    by_after (λ s. length s < length r) (frame_len f) r (λ e. omega (arith, least, size_least f, length-drop (up_to_4 (frame_len f)) r))
+    (λ e. omega (arith, least, size_least f, length-drop (frame_len f) r))
 
 -- fewer than 4 bytes contain no frame
 few_starts : (n : ℕ) (r : List ℕ) → length r < 4 → starts_by n r ≡ ([], r)
 few_starts zero r few = refl
-few_starts (suc n) r few = go (nat_lt (length r) 4) refl where
-  go : (t : Bool) → nat_lt (length r) 4 ≡ t → starts_by (suc n) r ≡ ([], r)
-  go true e = rw e refl
-  go false e = absurd (omega (arith, few, ltb-false _ _ e))
+few_starts (suc n) r few = rw (lt-ltb (length r) 4 few) refl
 
 -- at least 4 bytes begin with a frame, which is followed by the frames of the bytes after it
 more_starts : (n : ℕ) (r : List ℕ) → 4 ≤ length r → starts_by (suc n) r ≡ (r ∷ (starts_by n (after_first r)).0, (starts_by n (after_first r)).1)
-more_starts n r least = go (nat_lt (length r) 4) refl where
-  go : (t : Bool) → nat_lt (length r) 4 ≡ t → starts_by (suc n) r ≡ (r ∷ (starts_by n (after_first r)).0, (starts_by n (after_first r)).1)
-  go true e = absurd (omega (arith, least, ltb-true _ _ e))
-  go false e = rw e refl
+more_starts n r least = rw (le-ltb (length r) 4 least) refl
 
 -- the limit of the number of frames does not matter if it is at least the number of bytes
 starts_same : (n m : ℕ) (r : List ℕ) → length r ≤ n → length r ≤ m → starts_by n r ≡ starts_by m r
@@ -119,20 +120,17 @@ cut_filler f r filler rest n begun is =
 
 -- the bytes that are left after the last frame are the tail
 after_last : (f : FrameForm) (r rest : List ℕ) → BeginsFrame f r rest → frame_len f + length rest ≤ up_to_4 (frame_len f) → after_first r ≡ rest
-after_last f r rest begun fit = ap (λ g. after_size (frame_len g) r) (first_is f r rest begun).0 ∙ go (nat_lt (up_to_4 (frame_len f)) (length r)) refl where
-  go : (t : Bool) → nat_lt (up_to_4 (frame_len f)) (length r) ≡ t → after_size (frame_len f) r ≡ rest
-  go true e = absurd (omega (arith, fit, length_begun f r rest begun, ltb-true _ _ e))
-  go false e = rw e (cut f r rest begun)
+after_last f r rest begun fit =
+    ap (λ g. after_size (frame_len g) r) (first_is f r rest begun).0
+    ∙ by_after (λ s. s ≡ rest) (frame_len f) r (λ e. absurd (omega (arith, fit, length_begun f r rest begun, ltb-true _ _ e))) (λ e. cut f r rest begun)
 
 -- the bytes that are left after any other frame begin with the next frame
 after_more : (f : FrameForm) (r filler rest : List ℕ) → BeginsFrame f r (filler ++ rest) → frame_len f + length filler ≡ up_to_4 (frame_len f)
     → 0 < length rest → after_first r ≡ rest
 after_more f r filler rest begun fill some =
-    ap (λ g. after_size (frame_len g) r) (first_is f r (filler ++ rest) begun).0 ∙ go (nat_lt (up_to_4 (frame_len f)) (length r)) refl
-  where
-    go : (t : Bool) → nat_lt (up_to_4 (frame_len f)) (length r) ≡ t → after_size (frame_len f) r ≡ rest
-    go true e = rw e (cut_filler f r filler rest (up_to_4 (frame_len f)) begun (sym fill))
-    go false e = absurd (omega (arith, fill, some, length_begun f r (filler ++ rest) begun, length-append filler rest, ltb-false _ _ e))
+    ap (λ g. after_size (frame_len g) r) (first_is f r (filler ++ rest) begun).0
+    ∙ by_after (λ s. s ≡ rest) (frame_len f) r (λ e. cut_filler f r filler rest (up_to_4 (frame_len f)) begun (sym fill))
+    (λ e. absurd (omega (arith, fill, some, length_begun f r (filler ++ rest) begun, length-append filler rest, ltb-false _ _ e)))
 
 -- the frames that were read are the frames fs, with the offset 0, and t bytes are left after them; and each of these
 -- frames is at the start of the bytes from which it was read
@@ -176,7 +174,6 @@ split_is fs t b split = starts_meet 0 fs t b (omega arith) split
 
 -- if all items of a list are below 256, the items that are left after its first frame are below 256
 pub bytes_after : (r : List ℕ) → IsBytes r → IsBytes (after_first r)
-bytes_after r small = go (nat_lt (up_to_4 (frame_len (frame_in 0 r))) (length r)) refl where
-  go : (t : Bool) → nat_lt (up_to_4 (frame_len (frame_in 0 r))) (length r) ≡ t → IsBytes (after_first r)
-  go true e = rw e (bytes_drop (up_to_4 (frame_len (frame_in 0 r))) r small)
-  go false e = rw e (bytes_drop (frame_len (frame_in 0 r)) r small)
+bytes_after r small =
+    by_after IsBytes (frame_len (frame_in 0 r)) r (λ e. bytes_drop (up_to_4 (frame_len (frame_in 0 r))) r small)
+    (λ e. bytes_drop (frame_len (frame_in 0 r)) r small)

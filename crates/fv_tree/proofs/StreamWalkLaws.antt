@@ -9,8 +9,7 @@ use Rattle.fv_base.specs.declared.fault.Fault.{Fault}
 use Rattle.fv_base.specs.declared.fault.Place.{Place}
 use Rattle.fv_section.specs.Words.{FrameForm, Splits, frame_len, HasFrameAt}
 use Rattle.fv_section.proofs.Laws.{split_stands, stands_within}
-use Rattle.fv_tree.specs.Words.{Pairwise, MeansSection, IsStoredFrame, InSection, InStream, Meaning, SectionMeaning}
-use Rattle.fv_tree.specs.Words.{section_by}
+use Rattle.fv_tree.specs.Words.{Pairwise, MeansSection, IsStoredFrame, InSection, InStream, Meaning, SectionMeaning, section_by}
 use Rattle.fv_tree.specs.inner.SectionReads.{EachYields, SectionRead, StreamRead}
 use Rattle.fv_tree.proofs.ListPairs.{pairs_push}
 use Rattle.fv_tree.proofs.SectionReadLaws.{each_push, stream_read}

@@ -72,8 +72,7 @@ tests_differ true true true true p q twin over under = cc
 tests_differ true true true false p q twin over under = cc
 tests_differ true true false true p q twin over under = cc
 tests_differ true true false false p q twin over under = cc
-tests_differ true false m k p q twin over under = cc
-tests_differ false r m k p q twin over under = cc
+tests_differ _ _ _ _ p q twin over under = cc
 
 -- two current files at different places have different names
 pub names_differ : (fs before : List FileForm) (f : FileForm) (mid : List FileForm) (g : FileForm) (after : List FileForm) → NoTwins fs

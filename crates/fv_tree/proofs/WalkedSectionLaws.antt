@@ -16,10 +16,10 @@ use Rattle.fv_base.specs.declared.guid.Guid.{Guid}
 use Rattle.fv_base.proofs.Laws.{bytes_drop}
 use Rattle.fv_section.specs.Words.{FrameForm, after_first, frame_in}
 use Rattle.fv_section.proofs.Laws.{begun_bytes}
-use Rattle.fv_tree.specs.Words.{Pairwise, StreamRelation, VolumeRelation, SectionOver, IsStoredFrame, MeansFile, MeansSection, Stream, Denotes, File, holds_sections}
-use Rattle.fv_tree.specs.Words.{Meaning, SectionMeaning, Section, BodyMeaning, Leaf, Group, Nested, sections_from}
-use Rattle.fv_tree.specs.Words.{shape_of, Step, each_by, body_by, section_over, unopened, section_by, frames_of, tail_of}
-use Rattle.fv_tree.specs.Words.{AreKept, BeginsFramed, IsKept, IsKeptFile, content_by}
+use Rattle.fv_tree.specs.Words.{Pairwise, StreamRelation, VolumeRelation, SectionOver, IsStoredFrame, MeansFile, MeansSection, Stream, Denotes, File}
+use Rattle.fv_tree.specs.Words.{holds_sections, Meaning, SectionMeaning, Section, BodyMeaning, Leaf, Group, Nested, sections_from, shape_of, Step}
+use Rattle.fv_tree.specs.Words.{each_by, body_by, section_over, unopened, section_by, frames_of, tail_of, AreKept, BeginsFramed, IsKept, IsKeptFile}
+use Rattle.fv_tree.specs.Words.{content_by}
 use Rattle.fv_tree.specs.declared.shape.Shape.{Shape}
 use Rattle.fv_tree.specs.declared.shape.Shape.TheVariants as shapes
 use Rattle.fv_tree.proofs.SectionShapeLaws.{frame_small, list_back, volume_shape}
@@ -64,10 +64,9 @@ none_after n f (v ∷ vs) short = cc
 -- ---- the offset of a frame does not matter
 
 body_unplaced : (shape : Shape) (step : Step) (f : FrameForm) (vs : List Meaning) → body_by shape step (unplaced f) vs ≡ body_by shape step f vs
-body_unplaced shapes.Leaf step f vs = refl
-body_unplaced shapes.Group step f vs = refl
 body_unplaced shapes.Volume step f [] = refl
 body_unplaced shapes.Volume step f (v ∷ vs) = refl
+body_unplaced _ step f vs = refl
 
 over_unplaced : (step : Step) (f : FrameForm) (vs : List Meaning) → section_over step (unplaced f) vs ≡ section_over step f vs
 over_unplaced step f vs =
@@ -89,9 +88,8 @@ unplaced_means (suc n) f s h = over_means (Stream n) (Denotes n) f s h
 pairs_unplaced : (n : ℕ) (fs : List FrameForm) (ss : List SectionMeaning) → Pairwise (MeansSection n) fs ss
     → Pairwise (MeansSection n) (map unplaced fs) ss
 pairs_unplaced n [] [] h = tt
-pairs_unplaced n [] (s ∷ ss) h = h
-pairs_unplaced n (f ∷ fs) [] h = h
 pairs_unplaced n (f ∷ fs) (s ∷ ss) (h, more) = (unplaced_means n f s h, pairs_unplaced n fs ss more)
+pairs_unplaced n _ _ h = absurd h
 
 -- ---- a stream
 

@@ -17,12 +17,14 @@ pub input_prefix : (b : List ℕ) (m : Meaning) → Denotes depth_limit b m → 
 input_prefix b m d = subst (λ (xs : List ℕ). Denotes depth_limit xs m) (sym (take_all (length b) b (omega arith))) d
 
 -- an input that does not begin with a volume is not a volume
+pub first_rejects : (b : List ℕ) (f : Fault) → IsFirstOfVolume b f → NotRead b f
+first_rejects b f first = record {
+  none = λ m d. fault_refuses First depth_limit (length b) f b outermost m (omega arith) first (input_prefix b m d.1);
+  first = inl first;
+}
+
 pub volume_refused : (b : List ℕ) (f : Fault) → (f ≢ out_of_memory → IsFirstOfVolume b f) → (f ≡ out_of_memory) ⊎ NotRead b f
-volume_refused b f first =
-    or_more (want_known f) (λ other. record {
-      none = λ m d. fault_refuses First depth_limit (length b) f b outermost m (omega arith) (first other) (input_prefix b m d.1);
-      first = inl (first other);
-    })
+volume_refused b f first = or_more (want_known f) (λ other. first_rejects b f (first other))
 
 -- an input that goes on after its volume is not a volume
 not_the_end : (b : List ℕ) (n : ℕ) → (n == length b) ≡ false → n ≢ length b

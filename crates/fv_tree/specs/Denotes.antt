@@ -1,6 +1,6 @@
--- Which bytes are a volume with a given meaning (PI specification, volume 3, sections 3.2.1 to 3.2.5). The definitions
--- are recursive: they take the number of levels to which groups and opened volumes may nest, and use themselves with
--- this number less 1.
+-- Which bytes are a volume with a given meaning (PI specification, volume 3, sections 3.2.1 to 3.2.5). `MeansSection`,
+-- `Stream` and `Denotes` take the number of levels to which groups and opened volumes may nest. `MeansSection` is
+-- recursive: it uses itself with this number less 1.
 use Rattle.std.specs.Prelude.{◌≡◌, ◌≢◌, ℕ, zero, suc, ◌≤◌, ◌==◌, ◌&&◌, ◌||◌, Bool, true, false, nat_le, List, [], ◌∷◌}
 use Rattle.std.specs.Prelude.{length, drop}
 use Rattle.fv_base.specs.Words.{depth_limit, IsBytes, field, le_at}
@@ -21,8 +21,9 @@ group_kind = 0x03
 abbrev pub volume_kind : ℕ
 volume_kind = 0x17
 
--- a body is opened as a volume: it has at least 56 bytes, the signature, the GUID of a file system, and its own length
--- as FvLength
+-- the condition under which the body of a section of type 17 is opened as a volume: the body has at least 56 bytes, the
+-- signature, the GUID of a file system, and its own length as FvLength. The condition does not include the type of the
+-- section
 pub record Opens (b : List ℕ) : Type 0 where
   pub least : 56 ≤ length b
   pub signature : field 40 4 b ≡ signature_bytes
@@ -87,8 +88,8 @@ pub record VolumeOver (is_stream : StreamRelation) (b : List ℕ) (m : Meaning) 
   pub current : AreCurrent extent.length (files_in cells) files
   pub meanings : Pairwise (MeansFile is_stream) files (files_of m)
 
--- the body of the frame has this meaning: the body of a group is a stream, a body that is opened is a volume, and any
--- other body is a leaf
+-- the body of the frame has this meaning: the body of a group is a stream; the body of a section of type 17 is a volume
+-- if it `Opens`; and any other body is a leaf
 abbrev pub MeansBody : StreamRelation → VolumeRelation → FrameForm → BodyMeaning → Type 0
 MeansBody is_stream is_volume f (Leaf b) =
     (f.kind ≢ group_kind) × (f.kind ≡ volume_kind → Opens f.body → ⊥) × (b ≡ f.body)

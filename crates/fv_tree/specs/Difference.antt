@@ -5,6 +5,7 @@ use Rattle.fv_base.specs.Words.{bytes_of}
 use Rattle.fv_base.specs.declared.flash.FileSystem.{FileSystem}
 use Rattle.fv_base.specs.declared.flash.FileSystem.TheVariants.{Ffs2, Ffs3}
 use Rattle.std.specs.Bool.{beq}
+use Rattle.std.specs.Cmp.Lexicographic.{pointwise}
 use Rattle.std.specs.Option.{option_eq, option_or}
 use Rattle.std.specs.Str.{bytes_eq}
 use Rattle.fv_head.specs.Words.{Extension, HeadFields}
@@ -25,17 +26,11 @@ is_ffs3 Ffs3 = true
 
 -- whether two block maps are equal
 abbrev pub blocks_eq : List (ℕ × ℕ) → List (ℕ × ℕ) → Bool
-blocks_eq [] [] = true
-blocks_eq [] (q ∷ qs) = false
-blocks_eq (p ∷ ps) [] = false
-blocks_eq (p ∷ ps) (q ∷ qs) = (p.0 == q.0) && (p.1 == q.1) && blocks_eq ps qs
+blocks_eq = pointwise (λ (p q : ℕ × ℕ). (p.0 == q.0) && (p.1 == q.1))
 
 -- whether the entries of two extended headers are equal
 abbrev pub entries_eq : List (ℕ × List ℕ) → List (ℕ × List ℕ) → Bool
-entries_eq [] [] = true
-entries_eq [] (q ∷ qs) = false
-entries_eq (p ∷ ps) [] = false
-entries_eq (p ∷ ps) (q ∷ qs) = (p.0 == q.0) && bytes_eq p.1 q.1 && entries_eq ps qs
+entries_eq = pointwise (λ (p q : ℕ × List ℕ). (p.0 == q.0) && bytes_eq p.1 q.1)
 
 -- whether two extended headers are equal
 abbrev pub ext_eq : Option Extension → Option Extension → Bool
@@ -82,12 +77,12 @@ head_differs h g =
     (differ_unless (ext_eq h.ext g.ext) kinds.ExtendedHeader))))))
 
 abbrev mutual
-  -- where two volumes first differ: in their headers, then in the files that both have, in order, then in the number of
-  -- files
+  -- where two volumes first differ: in their headers; then in a pair of files with the same number, as far as both have
+  -- files; then in the number of files
   pub difference : Meaning → Meaning → Differs
   difference (Volume h fs) (Volume g gs) = option_or (head_differs h g) (files_differ 0 fs gs)
 
-  -- compares two lists of files; i is the number of their first files
+  -- compares two lists of files; i is the number, counted from 0, that the first file of each list has in its volume
   pub files_differ : ℕ → FileMeanings → FileMeanings → Differs
   files_differ i NoFiles NoFiles = None
   files_differ i NoFiles (MoreFiles g gs) = differ_in kinds.FileCount
@@ -102,9 +97,9 @@ abbrev mutual
       (option_or (differ_unless (k == l) kinds.Type)
       (option_or (differ_unless (a == b) kinds.Attributes) (content_differs c d)))
 
-  -- compares the contents of two files: the bytes; or the sections that both have, in order, then the numbers of
-  -- sections, then the numbers of bytes after the last section. Bytes also differ from sections, but two accepted files
-  -- of one type never differ in this way
+  -- compares the contents of two files: the bytes; or the sections in pairs, as far as both have sections, then the
+  -- numbers of sections, then the numbers of bytes after the last section. Bytes also differ from sections, but two
+  -- accepted files of one type never differ in this way
   pub content_differs : ContentMeaning → ContentMeaning → Differs
   content_differs (Plain b) (Plain c) = differ_unless (bytes_eq b c) kinds.Data
   content_differs (Plain b) (Sectioned ss t) = differ_in kinds.Data
@@ -112,7 +107,8 @@ abbrev mutual
   content_differs (Sectioned ss t) (Sectioned rs u) =
       option_or (sections_differ 0 ss rs) (differ_unless (t == u) kinds.Tail)
 
-  -- compares two lists of sections; i is the number of their first sections
+  -- compares two lists of sections; i is the number, counted from 0, that the first section of each list has in its
+  -- stream
   pub sections_differ : ℕ → SectionMeanings → SectionMeanings → Differs
   sections_differ i NoSections NoSections = None
   sections_differ i NoSections (MoreSections r rs) = differ_in kinds.SectionCount

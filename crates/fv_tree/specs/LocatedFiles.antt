@@ -5,15 +5,11 @@ use Rattle.fv_base.specs.Words.{IsFirstFault, First, field}
 use Rattle.fv_base.specs.declared.fault.Fault.{Fault}
 use Rattle.fv_file.specs.Words.{CellForm, Tiles, IsFirstCellFault, attribute_bits, is_large, file_header_len}
 use Rattle.fv_file.specs.Words.{file_sum_for}
-use Rattle.fv_file.specs.declared.state.FileState.{FileState}
 use Rattle.fv_head.specs.Words.{HeadFields, BeginsVolume, head_checks}
 use Rattle.fv_head.specs.declared.extent.Extent.{Extent}
-use Rattle.fv_file.specs.declared.state.FileState.TheVariants as states
 use Rattle.fv_tree.specs.FirstFault.{Moved, StoredFault, data_place, outermost}
 use Rattle.fv_tree.specs.VolumeFiles.{FileForm, AreCurrent, files_in}
 use Rattle.fv_tree.specs.declared.volume_files.LocatedFile.{LocatedFile}
-use Rattle.fv_tree.specs.declared.volume_files.Mark.{Mark}
-use Rattle.fv_tree.specs.declared.volume_files.Mark.TheVariants as marks
 
 -- the bytes begin with a volume of this extent, and these cells tile its body
 pub record BeginsTiled (e : Extent) (cells : List CellForm) (b : List ℕ) : Type 0 where
@@ -33,12 +29,6 @@ pub record NotTiled (b : List ℕ) (f : Fault) : Type 0 where
   pub none : (e : Extent) (cells : List CellForm) → BeginsTiled e cells b → ⊥
   pub first : IsFirstOfCells b f
 
--- the state of a valid file with this mark (section 3.2.3.1, EFI_FFS_FILE_STATE)
-abbrev pub state_by : Mark → FileState
-state_by marks.Unmarked = states.DataValid
-state_by marks.Marked = states.Marked
-state_by marks.Replaced = states.Marked
-
 -- the length of a file header with these attributes (section 3.2.3.1, FFS_ATTRIB_LARGE_FILE)
 abbrev pub header_len_by : ℕ → ℕ
 header_len_by attributes = file_header_len (is_large attributes)
@@ -56,27 +46,15 @@ bare_form s = record {
     header_len = header_len_by (attribute_bits s.attributes);
     header_sum = s.header_sum;
     file_sum = 0;
-    state = state_by s.mark;
+    state = s.state;
   };
   payload = [];
 }
 
 -- the file with these data, and with the file checksum that follows from them
 abbrev pub with_data : List ℕ → FileForm → FileForm
-with_data payload f = record {
-  offset = f.offset;
-  head = record {
-    name = f.head.name;
-    kind = f.head.kind;
-    attributes = f.head.attributes;
-    size = f.head.size;
-    header_len = f.head.header_len;
-    header_sum = f.head.header_sum;
-    file_sum = file_sum_for (attribute_bits f.head.attributes) payload;
-    state = f.head.state;
-  };
-  payload = payload;
-}
+with_data payload f =
+    record f { head = record f.head { file_sum = file_sum_for (attribute_bits f.head.attributes) payload }; payload = payload }
 
 -- the file with its data: the bytes of the volume at the place of the data, as many as the size leaves after the header
 abbrev pub filled : List ℕ → FileForm → FileForm

@@ -45,7 +45,8 @@ pub enum DifferenceKind {
     /// The extended headers of the volumes: their names, their entries, or the bytes after the
     /// entries (section 3.2.1.2).
     ExtendedHeader,
-    /// The numbers of files. The files that both volumes have are the same.
+    /// The numbers of files. As far as both volumes have files, the files with the same number are
+    /// equal.
     FileCount,
     /// The names of the files (section 3.2.3).
     Name,
@@ -55,13 +56,15 @@ pub enum DifferenceKind {
     Attributes,
     /// The data of the files, unless both hold sections.
     Data,
-    /// The numbers of sections. The sections that both streams have are the same.
+    /// The numbers of sections. As far as both streams have sections, the sections with the same
+    /// number are equal.
     SectionCount,
     /// The numbers of bytes after the last section.
     Tail,
     /// The forms of the sections' headers: one is extended, the other is not (section 3.2.4).
     Form,
-    /// The contents of the sections: bytes, sections or a volume (section 3.2.5).
+    /// The kinds of the sections' bodies: one section is a leaf, a group or a volume, and the other
+    /// is something else (section 3.2.5).
     Shape,
     /// The bytes of the sections, if both are leaves.
     Body,
@@ -254,13 +257,14 @@ fn volume_difference(alloc: Global, volume: &VolumeView, other: &VolumeView) -> 
 /// Returns where the meanings of two volumes first differ, or None if the volumes have the same
 /// meaning.
 ///
-/// The headers are compared first, field by field, then the files that both volumes have, in order,
-/// and then the numbers of files. In a file, the name, the type and the attributes are compared,
-/// and then the data. If the data are sections, the sections that both files have are compared in
-/// order, then the numbers of sections, and then the numbers of bytes after the last section. In a
-/// section, the type and the form of the header are compared, then whether it holds bytes, sections
-/// or a volume, and then its bytes, its sections or its volume. The work is linear in the size of
-/// the two volumes. (PI specification, volume 3, section 3.2.)
+/// The headers are compared first, field by field. Then the files are compared in pairs: file 0 with
+/// file 0, file 1 with file 1, as far as both volumes have files. Then the numbers of files are
+/// compared. In a file, the name, the type and the attributes are compared, and then the data. If
+/// the data are sections, they are compared in pairs too, then the numbers of sections, and then
+/// the numbers of bytes after the last section. In a section, the type and the form of the header
+/// are compared, then whether it holds bytes, sections or a volume, and then its bytes, its
+/// sections or its volume. The work is linear in the size of the two volumes. (PI specification,
+/// volume 3, section 3.2.)
 ///
 /// # Errors
 ///

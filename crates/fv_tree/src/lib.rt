@@ -1,8 +1,6 @@
-//! The meaning of a firmware volume, read as a view of its bytes. The definitions of a meaning are
-//! recursive: they take the number of levels to which groups and opened volumes may nest, and use
-//! themselves with this number less 1. `scan`, `volumes`, `Offsets` and `FoundVolume` come from
-//! fv_flash. Only `read_volume`, `whole_volume`, `whole_volume_with_files`, `located_files`,
-//! `volume_cells`, `first_difference`, `scan` and `volumes` take memory.
+//! The meaning of a firmware volume, read as a view of its bytes. `scan`, `volumes`, `Offsets` and
+//! `FoundVolume` come from fv_flash. Only `read_volume`, `whole_volume`, `whole_volume_with_files`,
+//! `located_files`, `volume_cells`, `first_difference`, `scan` and `volumes` take memory.
 //!
 //! A view does not store sections: `Sections` and `SectionWalk` read them from the input each time
 //! they are walked. If the body of a section is a volume, the view of this volume is stored.

@@ -254,12 +254,13 @@ fn read_at(alloc: Global, bytes: &[u8], at: Level) -> Result<(VolumeView<'_>, u6
 /// # Errors
 ///
 /// The first fault, in this order: faults of the header, as for `verify_fv`; faults of the body, as
-/// for `cells`; DuplicateName at the later of two files with the same name and state; TopFile at a
-/// volume top file that is not at the end. After these come the faults of each file in turn: faults
-/// of its sections, as for `frames`; Depth at a group or an opened volume that is nested too deep;
-/// and faults in the content of a group or an opened volume. The offset is in bytes from the start
-/// of `bytes`, and the depth is the number of groups and opened volumes around the fault.
-/// OutOfMemory at 0, only if the bytes begin with a volume header.
+/// for `cells`; DuplicateName at the first valid file that has the name and the state of an earlier
+/// valid file (pads and deleted files are not compared); TopFile at a volume top file that is not
+/// at the end. After these come the faults of each file in turn: faults of its sections, as for
+/// `frames`; Depth at a group or an opened volume that is nested too deep; and faults in the
+/// content of a group or an opened volume. The offset is in bytes from the start of `bytes`, and
+/// the depth is the number of groups and opened volumes around the fault. OutOfMemory at 0, only if
+/// the bytes begin with a volume header.
 pub fn read_volume(alloc: Global, bytes: &[u8]) -> Result<(VolumeView<'_>, u64), Fault>
     // The returned number is FvLength, and this many of the first bytes are a volume with this
     // meaning.

@@ -6,8 +6,8 @@ ghost use Rattle.fv_base.specs.Words.{First, out_of_memory, volume_limit};
 ghost use Rattle.fv_head.specs.Words.{BeginsWithHeader};
 ghost use Rattle.fv_names.specs.Words.{names_in, IsOrder, numbers_of};
 ghost use Rattle.fv_tree.specs.FirstFault.{Moved, StoredFault};
-ghost use Rattle.fv_tree.specs.LocatedFiles.{AreFilesOf, bare_form, file_form, BeginWithFiles, HasDataIn, IsFirstOfFiles};
-ghost use Rattle.fv_tree.specs.VolumeFiles.{FileForm, end_of};
+ghost use Rattle.fv_tree.specs.LocatedFiles.{AreFilesOf, file_form, BeginWithFiles, HasDataIn, IsFirstOfFiles};
+ghost use Rattle.fv_tree.specs.VolumeFiles.{FileForm};
 ghost use Rattle.fv_tree.specs.inner.NameForms.{named_file};
 ghost use Rattle.fv_tree.specs.inner.ReadingParts.{ReadsOrFails, AllStored};
 
@@ -35,7 +35,6 @@ pub(crate) fn files_in_body(
     ensures read { ReadsOrFails (λ r. AreFilesOf extent volume.now (map (file_form volume.now) r.0.items))
         (Moved place (StoredFault First extent volume.now)) result }
     ensures stored { IfOk result (λ r. AllStored place.offset (map (file_form volume.now) r.0.items)) }
-    ensures ends { IfOk result (λ r. AllByRecursion (λ f. end_of f ≤ length volume.now) (map bare_form r.0.items)) }
     ensures order { IfOk result (λ r. IsOrder (names_in (map named_file r.0.items)) (numbers_of r.1)) }
 {
     let files = match files_in(alloc, volume, &extent) {
@@ -59,9 +58,10 @@ pub(crate) fn files_in_body(
 /// # Errors
 ///
 /// The first fault, in this order: faults of the header, as for `verify_fv`; faults of the body, as
-/// for `cells`; DuplicateName at the later of two files with the same name and state; TopFile at a
-/// volume top file that is not at the end. The offset is in bytes from the start of `bytes`, and
-/// the depth is 0. OutOfMemory at 0, only if the bytes begin with a volume header.
+/// for `cells`; DuplicateName at the first valid file that has the name and the state of an earlier
+/// valid file (pads and deleted files are not compared); TopFile at a volume top file that is not
+/// at the end. The offset is in bytes from the start of `bytes`, and the depth is 0. OutOfMemory at
+/// 0, only if the bytes begin with a volume header.
 pub fn located_files(alloc: Global, bytes: &[u8]) -> Result<Vec<LocatedFile>, Fault>
     // The bytes begin with a volume, and these are its files.
     ensures found { IfOk result (λ fs. BeginWithFiles bytes.now (map (file_form bytes.now) fs.items)) }

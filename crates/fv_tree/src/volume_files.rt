@@ -1,16 +1,15 @@
 //! The files of a volume: which of the valid files in its body are part of it.
 
-ghost use Rattle.std.specs.Prelude.{◌≡◌, ◌≢◌, ◌≤◌, ◌<◌, ◌%◌, ◌^◌, ◌==◌, ◌&&◌, ◌||◌, not, List, [], ◌∷◌, drop, map, length as length_of};
-ghost use Rattle.std.specs.Prelude.{IsTrue, IfOk, IfErr, OnOk, IfSome, IfNone, true};
-ghost use Rattle.std.specs.List.{All, AllByRecursion, list_any};
+ghost use Rattle.std.specs.Prelude.{◌≡◌, ◌≢◌, ◌≤◌, ◌<◌, ◌%◌, ◌^◌, ◌==◌, ◌&&◌, ◌||◌, ℕ, not, List, [], ◌∷◌, drop, map};
+ghost use Rattle.std.specs.Prelude.{length as length_of, IfOk, IfErr, OnOk, IfSome, IfNone};
 ghost use Rattle.fv_base.specs.Words.{First, outer_fault, out_of_memory, volume_limit};
 ghost use Rattle.fv_tree.specs.FirstFault.{HasTwin, TopElsewhere, NamesFault};
-ghost use Rattle.fv_tree.specs.VolumeFiles.{FileForm, NoTwins, TopAtEnd, AreCurrent, files_in, current_in, is_marked};
-ghost use Rattle.fv_tree.specs.VolumeFiles.{is_top, end_of, replaced_by};
+ghost use Rattle.fv_tree.specs.VolumeFiles.{FileForm, TopAtEnd, AreCurrent, files_in, current_in, is_top, end_of};
 ghost use Rattle.fv_tree.specs.inner.NameForms.{named_file};
 ghost use Rattle.fv_names.specs.Words.{names_in, IsIndex, entries_of};
-ghost use Rattle.fv_tree.specs.LocatedFiles.{bare_form, file_form, state_by};
-ghost use Rattle.fv_tree.specs.inner.ReadingParts.{IsSmallCell, bare, is_replaced, mark_of};
+ghost use Rattle.fv_names.specs.Words as names;
+ghost use Rattle.fv_tree.specs.LocatedFiles.{bare_form, file_form};
+ghost use Rattle.fv_tree.specs.inner.ReadingParts.{IsSmallCell, bare};
 ghost use Rattle.fv_file.specs.Words as cellular;
 ghost use Rattle.fv_file.specs.Words.{CellForm, Tiles, IsFirstCellFault};
 
@@ -27,63 +26,6 @@ use std::mem::size_of;
 pub const VOLUME_TOP_FILE: [u8; 16] = [
     0x2e, 0x06, 0xa0, 0x1b, 0x79, 0xc7, 0x82, 0x45, 0x85, 0x66, 0x33, 0x6a, 0xe8, 0xf7, 0x8f, 0x09,
 ];
-
-/// Whether a file is marked for update (`EFI_FILE_MARKED_FOR_UPDATE`), and whether another file
-/// replaces it.
-#[derive(Clone, Copy)]
-pub(crate) enum Mark {
-    /// The file is not marked.
-    Unmarked,
-    /// The file is marked.
-    Marked,
-    /// The file is marked, and one of the other files replaces it.
-    Replaced,
-}
-
-impl Mark {
-    // Returns the mark of a valid file in this state.
-    fn of(state: FileState) -> Mark
-        ensures { result ≡ mark_of state }
-    {
-        match state {
-            FileState::Marked => Mark::Marked,
-            _ => Mark::Unmarked,
-        }
-    }
-
-    /// Returns whether the file is marked for update.
-    pub(crate) fn is_marked(self) -> bool
-        ensures { result ≡ is_marked (state_by self) }
-    {
-        matches!(self, Mark::Marked | Mark::Replaced)
-    }
-
-    /// Returns whether one of the other files replaces the file.
-    pub(crate) fn is_replaced(self) -> bool
-        ensures { result ≡ is_replaced self }
-    {
-        matches!(self, Mark::Replaced)
-    }
-
-    /// Returns this mark, with a note of whether one of the other files replaces the file. Only a
-    /// marked file may be replaced.
-    pub(crate) fn with_replaced(self, replaced: bool) -> Mark
-        requires { IsTrue replaced → is_marked (state_by self) ≡ true }
-        ensures same { state_by result ≡ state_by self }
-        ensures replaced { is_replaced result ≡ replaced }
-    {
-        match self {
-            Mark::Unmarked => Mark::Unmarked,
-            Mark::Marked | Mark::Replaced => {
-                if replaced {
-                    Mark::Replaced
-                } else {
-                    Mark::Marked
-                }
-            }
-        }
-    }
-}
 
 /// A valid file as it is stored in its volume. A volume can consist of little more than headers of
 /// files, so a value of this type is small: the data, the length of the header, the size and the
@@ -103,8 +45,8 @@ pub struct LocatedFile {
     pub attributes: FileAttributes,
     /// The header checksum. No call reads it, but clauses mention it.
     pub(crate) header_sum: u8,
-    /// Whether the file is marked for update, and whether another file replaces it.
-    pub(crate) mark: Mark,
+    /// The state of the file, which says whether the file is marked for update.
+    pub(crate) state: FileState,
 }
 
 impl LocatedFile {
@@ -145,8 +87,8 @@ fn is_top(file: &LocatedFile) -> bool
     file.name.to_bytes()[..] == VOLUME_TOP_FILE[..]
 }
 
-// Returns the file of a `Valid` cell, or None for any other cell: pads and dead files are not files of
-// a volume.
+// Returns the file of a `Valid` cell, or None for any other cell: pads and dead files are not files
+// of a volume.
 fn file_of(cell: &Cell) -> Option<LocatedFile>
     requires { IsSmallCell (cellular.cell_form cell.now) }
     ensures some { IfSome result (λ s. map bare (files_in (cellular.cell_form cell.now ∷ [])) ≡ bare_form s ∷ []) }
@@ -164,7 +106,7 @@ fn file_of(cell: &Cell) -> Option<LocatedFile>
             kind: head.kind,
             attributes: head.attributes,
             header_sum: head.header_sum,
-            mark: Mark::of(head.state),
+            state: head.state,
         }),
         _ => None,
     }
@@ -182,10 +124,9 @@ pub(crate) fn files_in(
     requires within { extent.now.first ≤ length_of volume.now }
     ensures found { IfOk result (λ fs. (cs : List CellForm)
         × Tiles extent.now.file_system extent.now.polarity extent.now.first cs (drop extent.now.first volume.now)
-        × (map bare_form fs.items ≡ map bare (files_in cs))) }
+        × (map (file_form volume.now) fs.items ≡ files_in cs)) }
     ensures first { IfErr result (λ f. f ≢ out_of_memory → IsFirstCellFault extent.now.file_system
         extent.now.polarity extent.now.first (drop extent.now.first volume.now) f) }
-    ensures bound { IfErr result (λ f. f.place.offset ≤ length_of volume.now) }
 {
     let mut walk = CellWalk::of(volume, extent.first, extent.file_system, extent.polarity);
     let mut files = Vec::with_capacity(alloc, walk.cell_count())?;
@@ -202,8 +143,8 @@ pub(crate) fn files_in(
 // is marked for update. The fault is DuplicateName at the first file that has an earlier twin.
 fn check_twins(files: &[LocatedFile], index: &NameIndex) -> Result<(), Fault>
     requires { IsIndex (names_in (map named_file files.now)) (entries_of index.now) }
-    ensures found { OnOk result (NoTwins (map bare_form files.now)) }
-    ensures first { IfErr result (λ e. (f : FileForm) × HasTwin First f (map bare_form files.now)
+    ensures found { OnOk result (names.NoTwins (map named_file files.now)) }
+    ensures first { IfErr result (λ e. (b : List ℕ) → (f : FileForm) × HasTwin First f (map (file_form b) files.now)
         × (e ≡ outer_fault FaultKind.DuplicateName f.offset)) }
 {
     let first = index.first_twin(files);
@@ -214,29 +155,13 @@ fn check_twins(files: &[LocatedFile], index: &NameIndex) -> Result<(), Fault>
     Ok(())
 }
 
-// Records in the mark of each file whether another file replaces this file.
-fn set_replaced(files: &mut [LocatedFile], index: &NameIndex)
-    requires index { IsIndex (names_in (map named_file files.old)) (entries_of index.now) }
-    requires no_twins { NoTwins (map bare_form files.old) }
-    ensures same { map bare_form files.new ≡ map bare_form files.old }
-    ensures replaced { All (λ s. is_replaced s.mark ≡ list_any (replaced_by (bare_form s)) (map bare_form files.new))
-        files.new }
-{
-    for place in 0..index.len() {
-        let number = index.number_at(place) as usize;
-        let replaced = index.is_replaced(files, place);
-        files[number].mark = files[number].mark.with_replaced(replaced);
-    }
-}
-
 // Keeps only the files that no other file replaces.
 fn keep_current(files: &mut Vec<LocatedFile>, index: &NameIndex)
     requires index { IsIndex (names_in (map named_file files.old.items)) (entries_of index.now) }
-    requires no_twins { NoTwins (map bare_form files.old.items) }
-    ensures { map bare_form files.new.items ≡ current_in (map bare_form files.old.items) }
+    requires no_twins { names.NoTwins (map named_file files.old.items) }
+    ensures { (b : List ℕ) → map (file_form b) files.new.items ≡ current_in (map (file_form b) files.old.items) }
 {
-    set_replaced(files.as_mut_slice(), index);
-    files.retain(|file| !file.mark.is_replaced());
+    files.retain(|file| !index.is_replaced(file));
 }
 
 // Returns whether a file ends at this offset.
@@ -259,8 +184,8 @@ fn is_placed(file: &LocatedFile, last: bool, length: u64) -> bool
 // Otherwise the fault is TopFile, at the first volume top file that is not the last file or ends
 // elsewhere.
 fn check_top(files: &[LocatedFile], length: u64) -> Result<(), Fault>
-    ensures found { OnOk result (TopAtEnd length (map bare_form files.now)) }
-    ensures first { IfErr result (λ e. (f : FileForm) × TopElsewhere length f (map bare_form files.now)
+    ensures found { OnOk result ((b : List ℕ) → TopAtEnd length (map (file_form b) files.now)) }
+    ensures first { IfErr result (λ e. (b : List ℕ) → (f : FileForm) × TopElsewhere length f (map (file_form b) files.now)
         × (e ≡ outer_fault FaultKind.TopFile f.offset)) }
 {
     let mut left = files.len();
@@ -275,21 +200,20 @@ fn check_top(files: &[LocatedFile], length: u64) -> Result<(), Fault>
     Ok(())
 }
 
-// Returns the same as `current_files`, if some of the files may share a name. `index` is the index
+// Does the work of `current_files` for files of which some may share a name. `index` is the index
 // of the files' names.
 fn files_sharing_names(
     files: Vec<LocatedFile>,
     index: NameIndex,
     length: u64,
 ) -> Result<(Vec<LocatedFile>, NameIndex), Fault>
-    requires within { AllByRecursion (λ f. f.offset ≤ length) (map bare_form files.items) }
     requires few { length_of files.items < 2 ^ 32 }
     requires index { IsIndex (names_in (map named_file files.items)) (entries_of index) }
-    ensures found { IfOk result (λ r. AreCurrent length (map bare_form files.items) (map bare_form r.0.items)) }
+    ensures found { IfOk result (λ r. (b : List ℕ)
+        → AreCurrent length (map (file_form b) files.items) (map (file_form b) r.0.items)) }
     ensures index { IfOk result (λ r. IsIndex (names_in (map named_file r.0.items)) (entries_of r.1)) }
-    ensures first { IfErr result
-        (λ f. f ≢ out_of_memory → NamesFault First length (map bare_form files.items) f) }
-    ensures bound { IfErr result (λ f. f.place.offset ≤ length) }
+    ensures first { IfErr result (λ f. f ≢ out_of_memory → (b : List ℕ)
+        → NamesFault First length (map (file_form b) files.items) f) }
 {
     check_twins(files.as_slice(), &index)?;
     let mut current = files;
@@ -309,13 +233,12 @@ pub(crate) fn current_files(
     files: Vec<LocatedFile>,
     length: u64,
 ) -> Result<(Vec<LocatedFile>, NameIndex), Fault>
-    requires within { AllByRecursion (λ f. f.offset ≤ length) (map bare_form files.items) }
     requires few { length_of files.items < 2 ^ 32 }
-    ensures found { IfOk result (λ r. AreCurrent length (map bare_form files.items) (map bare_form r.0.items)) }
+    ensures found { IfOk result (λ r. (b : List ℕ)
+        → AreCurrent length (map (file_form b) files.items) (map (file_form b) r.0.items)) }
     ensures index { IfOk result (λ r. IsIndex (names_in (map named_file r.0.items)) (entries_of r.1)) }
-    ensures first { IfErr result
-        (λ f. f ≢ out_of_memory → NamesFault First length (map bare_form files.items) f) }
-    ensures bound { IfErr result (λ f. f.place.offset ≤ length) }
+    ensures first { IfErr result (λ f. f ≢ out_of_memory → (b : List ℕ)
+        → NamesFault First length (map (file_form b) files.items) f) }
 {
     let index = NameIndex::of(alloc, files.as_slice())?;
     if !index.are_distinct() {
@@ -336,6 +259,6 @@ impl Named for LocatedFile {
     }
 
     fn is_marked(&self) -> bool {
-        self.mark.is_marked()
+        matches!(self.state, FileState::Marked)
     }
 }

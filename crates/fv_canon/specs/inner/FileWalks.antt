@@ -1,10 +1,10 @@
 -- Where the files of a volume lie, for the walk that puts them.
 use Rattle.std.specs.Prelude.{ℕ, List, ◌≡◌, ◌+◌, ◌≤◌, ◌%◌, [], ◌∷◌, map}
 use Rattle.fv_base.specs.Words.{volume_limit}
-use Rattle.fv_tree.specs.Words.{FileMeaning, data_len_of}
+use Rattle.fv_tree.specs.Words.{FileMeaning}
 use Rattle.fv_canon.specs.Layouts.{placement_item}
 use Rattle.fv_placement.specs.Words.{StartsFollow}
-use Rattle.fv_canon.specs.StoredFiles.{size_for}
+use Rattle.fv_placement.specs.declared.first_placement.PlacementItem.{PlacementItem}
 
 -- the files can be placed at these starts, from the edge e on, in a volume of `total` bytes
 pub record ArePlaced (total e : ℕ) (files : List FileMeaning) (starts : List ℕ) : Type 0 where
@@ -16,7 +16,7 @@ pub record ArePlaced (total e : ℕ) (files : List FileMeaning) (starts : List �
   pub limit : total ≤ volume_limit
 
 -- the offset at which the last file ends, or `end` if there is no file
-abbrev pub used_by : ℕ → List FileMeaning → List ℕ → ℕ
+abbrev pub used_by : ℕ → List PlacementItem → List ℕ → ℕ
 used_by end [] starts = end
 used_by end (f ∷ fs) [] = end
-used_by end (f ∷ fs) (s ∷ ss) = used_by (s + size_for (data_len_of f)) fs ss
+used_by end (f ∷ fs) (s ∷ ss) = used_by (s + f.size) fs ss

@@ -1,7 +1,7 @@
--- Facts that adjacent entries, in the order of names and numbers, show about their files. `d` and `e` are the values of a
--- read past the last file and past the last entry.
-use Rattle.std.specs.Prelude.{◌≡◌, ℕ, ◌+◌, ◌-◌, ◌<◌, ◌⊎◌, Bool, List, length, get_or}
-use Rattle.fv_names.specs.NameIndexes.{Entry}
+-- What an entry of an index and the entries near it show about their files. `d` and `e` are the defaults of `get_or`. All
+-- places that are read exist, except that `IsTwinAt` reads place 0 for `place - 2` at place 1.
+use Rattle.std.specs.Prelude.{◌≡◌, ℕ, ◌-◌, ◌<◌, ◌⊎◌, Bool, List, length, get_or}
+use Rattle.fv_names.specs.NameIndexes.{Entry, Halves}
 use Rattle.fv_names.specs.NamedFiles.{NamedFile}
 
 -- whether the file with this number is marked for update
@@ -17,8 +17,7 @@ abbrev pub IsTwinAt : List NamedFile → NamedFile → List Entry → Entry → 
 IsTwinAt fs d es e place =
     AreTwins fs d (get_or es (place - 1) e) (get_or es place e) ⊎ AreTwins fs d (get_or es (place - 2) e) (get_or es place e)
 
--- an entry next to the entry at a place has the same name
-abbrev pub SharesItsName : List Entry → Entry → ℕ → Type 0
-SharesItsName es e place =
-    ((0 < place) × ((get_or es (place - 1) e).0 ≡ (get_or es place e).0))
-    ⊎ ((place + 1 < length es) × ((get_or es (place + 1) e).0 ≡ (get_or es place e).0))
+-- at least two of the entries have the name with these halves
+abbrev pub IsShared : List Entry → Entry → Halves → Type 0
+IsShared es e key =
+    (p : ℕ) × (q : ℕ) × (p < q) × (q < length es) × ((get_or es p e).0 ≡ key) × ((get_or es q e).0 ≡ key)

@@ -35,7 +35,7 @@ pub record IsReach (total : ℕ) (fs : List PlacementItem) (r : Reach) : Type 0 
   pub eighth : r.greatest % 8 ≡ 0
   pub sound : (e : ℕ) → e % 8 ≡ 0 → IsUsableEdge r e → CanPlace total e fs
 
--- each item i of the list is, by P, a reach of the files after file i. The list may be shorter than the list of files
+-- P holds for the files after file i and item i of the list, for each i. The list may be shorter than the list of files
 abbrev pub AreReaches : (List PlacementItem → Reach → Type 0) → List PlacementItem → List Reach → Type 0
 AreReaches P fs reaches = (i : ℕ) (d : Reach) → i < length reaches → P (drop (i + 1) fs) (get_or reaches i d)
 

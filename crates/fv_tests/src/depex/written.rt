@@ -11,7 +11,8 @@ const BODIES: &[(Phase, Parts)] = &[
     (Phase::Pei, &[&[0x02], &A, &[0x05, 0x08]]),
     (Phase::Dxe, &[&[0x00], &A, &[0x08]]),
     (Phase::Dxe, &[&[0x01], &A, &[0x08]]),
-    // Three bodies with bytes after END: PUSH A; a BEFORE that is cut short; a second expression.
+    // Three bodies. The bytes after END are, in order: PUSH A; a BEFORE that is cut short; a second
+    // expression.
     (Phase::Pei, &[&[0x02], &B, &[0x06, 0x04, 0x08, 0x02], &A]),
     (Phase::Dxe, &[&[0x09, 0x02], &A, &[0x08, 0x00]]),
     (Phase::Dxe, &[&[0x01], &B, &[0x08, 0x09, 0x06, 0x08]]),

@@ -15,7 +15,7 @@ const FILES: &[FileRow] = &[
     // Two files without data. The second is marked for update.
     (A, 0x47aa_0100_1800_00f8, &[], 24, 24, FileState::DataValid),
     (A, 0x47aa_0100_1800_00f0, &[], 24, 24, FileState::Marked),
-    // A file with a file checksum, and without filler.
+    // A file with the checksum attribute, and without filler.
     (
         A,
         0x03f6_0140_1c00_00f8,

@@ -95,8 +95,8 @@ const READ: &[ReadRow] = &[
     (WITHOUT_ROOM, 96, &[], &[], 20),
     // The bytes between the volume header and a misaligned extended header are not read.
     (AT_77, 104, &[], &[], 20),
-    // There is no room for an entry, and then just enough for the header of an entry whose size is
-    // too large.
+    // In the first row there is no room for an entry. In the second row there is only room for the
+    // header of an entry, whose size is too large.
     (&[(88, &[0x14])], 96, &[], &[], 20),
     (&[(88, &[0x18])], 96, &[], &[8, 0, 3, 0], 24),
     // An entry with a size of 3 bytes, and an entry that ends one byte after the extended header.
@@ -143,7 +143,7 @@ fn overwrite_each(bytes: &mut [u8], changes: &[(usize, &[u8])]) {
     }
 }
 
-// Returns whether a header has an extended header with these entries and this tail.
+// Returns whether a header has an extended header with the name NAME, these entries and this tail.
 pub(super) fn has_ext(head: &VolumeHead, entries: &[(u16, &[u8])], tail: &[u8]) -> bool {
     let Some(ext) = head.ext() else {
         return false;
@@ -210,7 +210,8 @@ fn extended_headers_are_read(rt: HostRuntime) {
     assert_rows!(rt; read_rows(), |row| is_row_read(rt.alloc(), row));
 }
 
-// Writes the volume header, or the extended header with a used size of 152, until `full` is full.
+// Writes the volume header or, if `is_ext` is set, the extended header with a used size of 152, into
+// `full`. If there is too little room, the write fails.
 fn write_to(head: &VolumeHead, is_ext: bool, full: &mut [u8]) -> Result<(), Fault> {
     let mut port = Port::new(full);
     match head.ext() {
@@ -219,7 +220,8 @@ fn write_to(head: &VolumeHead, is_ext: bool, full: &mut [u8]) -> Result<(), Faul
     }
 }
 
-// Returns whether as many of these bytes are written as there is room for.
+// Returns whether as many of these bytes are written as there is room for, and whether the result is
+// right: Ok if all bytes fit, and otherwise WriteFault at the offset `room`.
 pub(super) fn is_written_until(head: &VolumeHead, is_ext: bool, whole: &[u8], room: usize) -> bool {
     let mut taken = [0u8; 72];
     let outcome = write_to(head, is_ext, &mut taken[..room.min(72)]);
@@ -231,8 +233,8 @@ pub(super) fn is_written_until(head: &VolumeHead, is_ext: bool, whole: &[u8], ro
     outcome == expected && taken.get(..room) == whole.get(..room)
 }
 
-// Returns whether the header of the bare volume is written until the room ends, with the bytes of
-// `whole`, for each room up to the length of the header.
+// Returns whether the header of the bare volume or, with `is_ext`, its extended header is written
+// until the room ends, with the bytes of `whole`, for each room up to the length of `whole`.
 fn stops_where_room_ends(alloc: Global, is_ext: bool, whole: &[u8]) -> bool {
     match read_head(alloc, &BARE) {
         Ok((head, _)) => {

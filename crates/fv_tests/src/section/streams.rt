@@ -7,8 +7,8 @@ use std::alloc::Global;
 /// The offset of a frame, its type, whether its header is extended, and its body.
 pub(super) type ExpectedFrame<'a> = (u64, u8, bool, &'a [u8]);
 
-/// Two sections with filler of any value between them, and 3 bytes after the last. The tail may have
-/// only 2 bytes here: the first 14, 15 or 16 bytes are a stream, and all 17 are not.
+/// Two sections with filler of 0xEE between them, and 3 such bytes after the last. The tail may have
+/// at most 2 bytes here: the first 14, 15 or 16 bytes are a stream, and all 17 are not.
 pub(super) const PAIR: [u8; 17] = [
     0x05, 0x00, 0x00, 0x19, 0x5a, 0xee, 0xee, 0xee, 0x06, 0x00, 0x00, 0x19, 0x01, 0x02, 0xee, 0xee,
     0xee,
@@ -20,7 +20,8 @@ pub(super) const PAIR_FRAMES: [ExpectedFrame<'static>; 2] = [
     (8, 0x19, false, &[0x01, 0x02]),
 ];
 
-/// A stream, an offset in it, and the frame there, if there is one.
+/// Some bytes, an offset, and the frame of the bytes at this offset, if there is one. The bytes need
+/// not be a stream.
 const PLACES: [(&[u8], u64, Option<ExpectedFrame<'static>>); 7] = [
     (&PAIR, 0, Some((0, 0x19, false, &[0x5a]))),
     (&PAIR, 8, Some((8, 0x19, false, &[0x01, 0x02]))),

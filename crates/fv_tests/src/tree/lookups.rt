@@ -5,8 +5,9 @@ use crate::spelling::spelled_bytes;
 use fv_tree::{FileView, Item, Lookup, VolumeView, file_by_type, next_file, section_by_type};
 use std::alloc::Global;
 
-// Returns the number of the file after the file with this number, or of the first file for None,
-// and the first byte of the name of the returned file.
+// Returns the number of the next file and the first byte of its name, or None if there is no next
+// file. The next file is the one after the file with this number, or the first file if `number` is
+// None.
 fn file_after(view: &VolumeView, number: Option<u32>) -> Option<(u32, u8)> {
     let (number, file) = next_file(view, number)?;
     Some((number, file.name().to_bytes()[0]))

@@ -1,15 +1,11 @@
--- Definitions for the readers of files: the mark of a stored file; a file without its data; the header fields that a
--- stored file does not keep, because they follow from the fields that it keeps; the result of a reader of a part of a
--- volume; and what a reader of files requires of each file.
-use Rattle.std.specs.Prelude.{◌≡◌, ℕ, ◌+◌, ◌<◌, ◌^◌, Bool, true, false, List, [], length, ◌≢◌}
+-- Definitions for the readers of files: a file without its data; the header fields that a stored file does not keep,
+-- because they follow from the fields that it keeps; the result of a reader of a part of a volume; and what a reader of
+-- files requires of each file.
+use Rattle.std.specs.Prelude.{◌≡◌, ℕ, ◌+◌, ◌<◌, ◌^◌, List, [], length, ◌≢◌}
 use Rattle.std.specs.Prelude.{◌≤◌, Result, MatchResult}
 use Rattle.fv_file.specs.Words.{CellForm, Valid, attribute_bits, file_sum_for}
 use Rattle.fv_file.specs.declared.head.FileHead.{FileHead}
-use Rattle.fv_file.specs.declared.state.FileState.{FileState}
-use Rattle.fv_file.specs.declared.state.FileState.TheVariants as states
-use Rattle.fv_tree.specs.LocatedFiles.{state_by, header_len_by}
-use Rattle.fv_tree.specs.declared.volume_files.Mark.{Mark}
-use Rattle.fv_tree.specs.declared.volume_files.Mark.TheVariants as marks
+use Rattle.fv_tree.specs.LocatedFiles.{header_len_by}
 use Rattle.std.specs.List.{AllByRecursion}
 use Rattle.fv_base.specs.Words.{out_of_memory, volume_limit}
 use Rattle.fv_base.specs.declared.fault.Fault.{Fault}
@@ -17,39 +13,15 @@ use Rattle.fv_tree.specs.ReadParts.{IsStoredFile}
 use Rattle.fv_tree.specs.VolumeFiles.{FileForm}
 use Rattle.fv_tree.specs.FirstFault.{data_place}
 
--- the mark of a valid file in this state
-abbrev pub mark_of : FileState → Mark
-mark_of states.Marked = marks.Marked
-mark_of _ = marks.Unmarked
-
--- whether a mark notes that one of the other files replaces the file
-abbrev pub is_replaced : Mark → Bool
-is_replaced marks.Replaced = true
-is_replaced _ = false
-
 -- the fields of a header that a stored file does not keep follow from the fields that it keeps
 pub record FollowsFrom (head : FileHead) (payload : List ℕ) : Type 0 where
   pub size : head.size ≡ header_len_by (attribute_bits head.attributes) + length payload
   pub header_len : head.header_len ≡ header_len_by (attribute_bits head.attributes)
   pub file_sum : head.file_sum ≡ file_sum_for (attribute_bits head.attributes) payload
-  pub state : head.state ≡ state_by (mark_of head.state)
 
 -- the file without its data and its file checksum
 abbrev pub bare : FileForm → FileForm
-bare f = record {
-  offset = f.offset;
-  head = record {
-    name = f.head.name;
-    kind = f.head.kind;
-    attributes = f.head.attributes;
-    size = f.head.size;
-    header_len = f.head.header_len;
-    header_sum = f.head.header_sum;
-    file_sum = 0;
-    state = f.head.state;
-  };
-  payload = [];
-}
+bare f = record f { head = record f.head { file_sum = 0 }; payload = [] }
 
 -- if the cell is a valid file, its header follows from the fields that are kept of it, and its offset and the length of
 -- its data fit in 32 bits

@@ -107,6 +107,7 @@ impl<'a> FileView<'a> {
         // Some bytes are a file with this meaning.
         ensures read { IsReadFile self.now }
     {
+        self.known();
         self.name
     }
 

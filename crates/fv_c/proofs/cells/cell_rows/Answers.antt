@@ -1,15 +1,13 @@
-use Rattle.fv_base.proofs.Laws.{First, arith, ap, length-take-le, err_is}
+use Rattle.fv_base.proofs.Laws.{arith, ap, length-take-le, err_is}
 use Rattle.fv_base.specs.declared.fault.Fault.{Fault}
 use Rattle.fv_head.proofs.Laws.{fault_known, first_lies}
-use Rattle.fv_file.proofs.Laws.{none_after}
 use Rattle.fv_tree.proofs.Laws.{bad_cell, bad_header}
 use Rattle.fv_c.proofs.cells.cell_rows.Goals as goal
 
 pub returns-in_err-extent-clause-err : goal.returns-in_err-extent-clause-err
 returns-in_err-extent-clause-err c =
     rw (err_is c.from_residual.ensures.1)
-    (λ other. bad_header c.args.bytes.now c.in_err-extent.field-0.0 c.verify_fv.result c.verify_fv.ensures.only
-    c.in_err-extent.was c.in_err-extent.ensures.first)
+    (λ other. bad_header c.args.bytes.now c.in_err-extent.field-0.0 c.in_err-extent.ensures.first)
 
 pub returns-in_err-extent-clause-memory : goal.returns-in_err-extent-clause-memory
 returns-in_err-extent-clause-memory c =
@@ -31,9 +29,7 @@ pub returns-in_err-rows-clause-err : goal.returns-in_err-rows-clause-err
 returns-in_err-rows-clause-err c =
     let found = c.in_ok-extent.ensures.found in
     rw (err_is c.from_residual-in_err-rows.ensures.1)
-    (λ other. bad_cell c.args.bytes.now found.0 c.in_ok-extent.extent c.in_err-rows.field-0.0 c.verify_fv.result found.1
-    c.verify_fv.ensures.only c.in_ok-extent.was (λ cs tiled. none_after First _ _ _ _ _ cs (c.in_err-rows.ensures.first other) tiled)
-    (c.in_err-rows.ensures.first other))
+    (λ other. bad_cell c.args.bytes.now found.0 c.in_ok-extent.extent c.in_err-rows.field-0.0 found.1 (c.in_err-rows.ensures.first other))
 
 pub returns-in_err-rows-clause-memory : goal.returns-in_err-rows-clause-memory
 returns-in_err-rows-clause-memory c =

@@ -2,7 +2,7 @@ use Rattle.std.proofs.Common.{◌≡◌, ℕ, ◌++◌, rules, List, sym, subst,
 use denote.Enum.Bare.{same_true, same_false}
 use Rattle.fv_base.specs.contracts.fault.FaultKind.{the_type}
 use Rattle.fv_canon.specs.inner.ImageOf.{image_of}
-use Rattle.fv_canon.proofs.OwnImageLaws.{image_told, none_refused, want_refused}
+use Rattle.fv_canon.proofs.ImageLaws.{image_told, none_refused, want_refused}
 use Rattle.fv_canon.proofs.canonical_input.is_canonical_image.Goals as goal
 
 pub returns-in-Ok-clause-ok : goal.returns-in-Ok-clause-ok

@@ -1,5 +1,5 @@
 use Rattle.fv_tree.proofs.Laws.{input_decided}
-use Rattle.fv_canon.proofs.EveryInputLaws as laws
+use Rattle.fv_canon.proofs.ImageLaws as laws
 use Rattle.fv_canon.proofs.further_laws.every_input.Goals as goal
 
 pub returns-clause-read : goal.returns-clause-read

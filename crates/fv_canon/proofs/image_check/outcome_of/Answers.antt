@@ -2,7 +2,7 @@ use Rattle.std.proofs.Common.{◌≢◌, arith, inl, rules, sym}
 use denote.Enum.Bare.{same_false, same_true}
 use Rattle.fv_base.specs.contracts.fault.FaultKind.{the_type}
 use Rattle.fv_base.specs.declared.fault.FaultKind.TheVariants as kinds
-use Rattle.fv_canon.proofs.FaultPlaces.{refused_within}
+use Rattle.fv_canon.proofs.RejectedInputLaws.{refused_within}
 use Rattle.fv_canon.proofs.ImageCheckLaws.{is_not_read, is_rejected, ran_out_only}
 use Rattle.fv_canon.proofs.image_check.outcome_of.Goals as goal
 

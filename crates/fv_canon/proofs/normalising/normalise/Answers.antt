@@ -6,7 +6,7 @@ use Rattle.fv_head.specs.declared.extent.Extent.{Extent}
 use Rattle.fv_tree.specs.Words.{head_of}
 use Rattle.fv_canon.specs.Words.{MeanSame, NormalisesTo, IsOfLayout, IsUnfit, Fits}
 use Rattle.fv_canon.proofs.ImageLaws.{image_again, image_stays_long}
-use Rattle.fv_canon.proofs.ImageFits.{image_fits as has_image_fits}
+use Rattle.fv_canon.proofs.InsideImageLaws.{image_fits as has_image_fits}
 use Rattle.fv_canon.proofs.RejectedInputLaws.{image_fits, not_placed, not_read, not_read_never, refused_unplaced, unread_refused, unfit_kind_of}
 use Rattle.fv_canon.proofs.normalising.normalise.Goals as goal
 

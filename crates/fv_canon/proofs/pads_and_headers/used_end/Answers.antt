@@ -17,7 +17,7 @@ bounds-own-last c =
 
 -- the last file ends where the used bytes end, within the limit of a volume's length
 last_end : (c : After-data_len) → let end : ℕ = get_or c.args.own.now (length c.args.files.now - 1) 0 + size_for c.data_len.result in
-    (end ≡ used_by c.args.first c.args.files.now c.args.own.now) × (end ≤ volume_limit)
+    (end ≡ used_by c.args.first (map placement_item c.args.files.now) c.args.own.now) × (end ≤ volume_limit)
 last_end c =
     let some : 0 < length c.args.files.now = grind (arith, common_steps, c.is_empty.ensures, c.if-is_empty.false) in
     let n : ℕ = length c.args.files.now - 1 in

@@ -1,7 +1,7 @@
 use Rattle.fv_tree.specs.Words.{content_of}
 use Rattle.fv_canon.specs.inner.ImageOf.{data_of}
 use Rattle.fv_canon.proofs.DataBodyLaws.{data_held, data_image}
-use Rattle.fv_canon.proofs.ImagePieceLaws.{data_is}
+use Rattle.fv_canon.proofs.PartLengthLaws.{data_is}
 use Rattle.fv_canon.proofs.parts.put_laid_data.Goals as goal
 
 pub put_body_image-requires : goal.put_body_image-requires

@@ -1,3 +1,4 @@
+use Rattle.std.proofs.lemmas.Grind.{common_steps}
 use Rattle.std.proofs.Common.{List, [], ◌∷◌, ◌++◌, refl, sym, ◌∙◌, arith}
 use Rattle.fv_depex.specs.declared.op.Op.{Op}
 use Rattle.fv_depex.proofs.OpReadLemmas.{kept_none, kept, ended, first_fault_at, one_more}
@@ -17,10 +18,7 @@ loop-op-preserved c =
     )
 
 pub loop-op-smaller : goal.loop-op-smaller
-loop-op-smaller c =
-    let more = one_more c.args.phase c.args.bytes.now c.loop-op.invariant.0 c.in-Ok.op c.loop-op.at c.op_len-at.result
-    c.loop-op.stage c.loop-op.invariant.1 c.in-Ok.ensures.found c.op_len-at.ensures in
-    omega (arith, more.inside, c.op_len-at.ensures)
+loop-op-smaller c = grind (arith, common_steps, one_more)
 
 pub returns-then-code-eq-END-clause-none : goal.returns-then-code-eq-END-clause-none
 returns-then-code-eq-END-clause-none c = λ none.
@@ -32,6 +30,4 @@ returns-then-code-eq-END-clause-none c = λ none.
     (more, _, spelled.1)
 
 pub returns-in-Err-clause-first : goal.returns-in-Err-clause-first
-returns-in-Err-clause-first c =
-    let e = c.in-Err.ensures in
-    first_fault_at c.args.phase c.args.bytes.now _ _ _ _ c.loop-op.invariant.1 e.place e.first
+returns-in-Err-clause-first c = grind (arith, common_steps, first_fault_at)

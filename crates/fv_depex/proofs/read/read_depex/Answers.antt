@@ -1,16 +1,12 @@
-use Rattle.fv_base.proofs.Laws.{◌∙◌, refl, sym, subst, err_is}
-use Rattle.fv_depex.specs.Words.{Spells}
+use Rattle.std.proofs.lemmas.Grind.{common_steps}
+use Rattle.std.proofs.Common.{arith}
+use Rattle.fv_base.proofs.Laws.{err_is}
 use Rattle.fv_depex.proofs.OpReadLemmas.{none_after, spells_first}
 use Rattle.fv_depex.proofs.PathLemmas.{one_spelling}
 use Rattle.fv_depex.proofs.read.read_depex.Goals as goal
 
 pub returns-clause-found : goal.returns-clause-found
-returns-clause-found c =
-    rw c.from_parts.ensures (
-      refl,
-      subst (λ l. Spells c.args.phase c.in_ok-ops.ops.items l c.args.bytes.now) (sym (c.in_ok-rest.ensures ∙ c.bytes_from.ensures))
-          c.in_ok-ops.ensures.found.1,
-    )
+returns-clause-found c = grind (arith, common_steps)
 
 pub returns-clause-only : goal.returns-clause-only
 returns-clause-only c = λ ops rest spells.

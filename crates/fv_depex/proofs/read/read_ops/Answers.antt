@@ -1,3 +1,4 @@
+use Rattle.std.proofs.lemmas.Grind.{common_steps}
 use Rattle.fv_base.proofs.Laws.{◌∙◌, refl, sym, ap, arith, err_is}
 use Rattle.fv_depex.specs.declared.fault.DepexFault.{DepexFault}
 use Rattle.fv_depex.proofs.OpReadLemmas.{kept_none, kept, ended, first_fault_at, no_want, one_more, stands_first}
@@ -13,10 +14,7 @@ loop-ops-preserved c =
     (λ e. c.if-code-eq-END.false (c.code.ensures ∙ e)) c.in_ok-push.ensures.items c.stage_after-stage.ensures
 
 pub loop-ops-smaller : goal.loop-ops-smaller
-loop-ops-smaller c =
-    let more = one_more c.args.phase c.args.bytes.now c.loop-ops.ops.items c.in_ok-op.op c.loop-ops.at c.op_len-at.result
-    c.loop-ops.stage c.loop-ops.invariant c.in_ok-op.ensures.found c.op_len-at.ensures in
-    omega (arith, more.inside, c.op_len-at.ensures)
+loop-ops-smaller c = grind (arith, common_steps, one_more)
 
 pub returns-then-code-eq-END-clause-found : goal.returns-then-code-eq-END-clause-found
 returns-then-code-eq-END-clause-found c =
@@ -30,16 +28,10 @@ returns-in_err-op-clause-memory c =
     (λ e. absurd (no_want c.args.phase c.loop-ops.stage _ _ c.in_err-op.ensures.first (ap (λ (f : DepexFault). f.kind) e)))
 
 pub returns-in_err-push-clause-memory : goal.returns-in_err-push-clause-memory
-returns-in_err-push-clause-memory c =
-    rw (err_is c.from_residual-in_err-push.ensures.1)
-    (λ e. stands_first c.args.phase c.args.bytes.now c.loop-ops.ops.items c.in_ok-op.op c.loop-ops.at c.loop-ops.stage
-    c.loop-ops.invariant c.in_ok-op.ensures.found)
+returns-in_err-push-clause-memory c = grind (arith, common_steps, err_is, stands_first)
 
 pub returns-in_err-op-clause-first : goal.returns-in_err-op-clause-first
-returns-in_err-op-clause-first c =
-    let e = c.in_err-op.ensures in
-    rw (err_is c.from_residual.ensures.1)
-    (λ other. first_fault_at c.args.phase c.args.bytes.now _ _ _ _ c.loop-ops.invariant e.place e.first)
+returns-in_err-op-clause-first c = grind (arith, common_steps, err_is, first_fault_at)
 
 pub returns-in_err-push-clause-first : goal.returns-in_err-push-clause-first
 returns-in_err-push-clause-first c = rw (err_is c.from_residual-in_err-push.ensures.1) (λ other. absurd (other refl))

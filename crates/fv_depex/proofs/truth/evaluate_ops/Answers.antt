@@ -1,17 +1,11 @@
-use Rattle.std.proofs.Common.{[], if◌then◌else◌, ap, arith, refl, ◌∙◌, sym, get_or, reverse, Some, None}
+use Rattle.std.proofs.lemmas.Grind.{common_steps}
+use Rattle.std.proofs.Common.{arith, refl, ◌∙◌, sym, reverse}
 use Rattle.fv_base.proofs.Laws.{drop_more, err_is}
-use Rattle.fv_depex.specs.declared.op.Op.{Op}
 use Rattle.fv_depex.proofs.TruthLemmas.{run_step, run_none, run_end}
-use Rattle.fv_depex.specs.declared.op.Op.TheVariants as ops
 use Rattle.fv_depex.proofs.truth.evaluate_ops.Goals as goal
 
 pub loop-op-preserved : goal.loop-op-preserved
-loop-op-preserved c =
-    let d : Op = ops.Before (record { bytes = [] }) in
-    run_step c.args.installed.now c.args.ops.now (reverse c.loop-op.stack.items) (reverse c.evaluate_op.new.stack.items)
-    (get_or c.args.ops.now c.loop-op.op-index d) c.loop-op.op-index
-    (drop_more c.args.ops.now c.loop-op.op-index d c.loop-op-test.true) (c.in_ok-evaluate_op.ensures
-    ∙ ap (λ t. if t then Some (reverse c.evaluate_op.new.stack.items) else None) c.if-not-branch.false) c.loop-op.invariant
+loop-op-preserved c = grind (arith, common_steps, run_step, drop_more)
 
 pub returns-clause-value : goal.returns-clause-value
 returns-clause-value c = c.pop.ensures ∙ sym (run_end c.args.installed.now c.args.ops.now (reverse c.loop-op.stack.items) c.loop-op.op-index
@@ -27,8 +21,4 @@ pub returns-in_err-evaluate_op-clause-err : goal.returns-in_err-evaluate_op-clau
 returns-in_err-evaluate_op-clause-err c = rw (err_is c.from_residual.ensures.1) refl
 
 pub returns-then-not-branch-clause-value : goal.returns-then-not-branch-clause-value
-returns-then-not-branch-clause-value c =
-    let d : Op = ops.Before (record { bytes = [] }) in
-    run_none c.args.installed.now c.args.ops.now (reverse c.loop-op.stack.items) (get_or c.args.ops.now c.loop-op.op-index d)
-    c.loop-op.op-index (drop_more c.args.ops.now c.loop-op.op-index d c.loop-op-test.true) (c.in_ok-evaluate_op.ensures
-    ∙ ap (λ t. if t then Some (reverse c.evaluate_op.new.stack.items) else None) c.if-not-branch.true) c.loop-op.invariant
+returns-then-not-branch-clause-value c = grind (arith, common_steps, run_none, drop_more)

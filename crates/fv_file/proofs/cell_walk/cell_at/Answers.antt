@@ -1,4 +1,6 @@
-use Rattle.std.proofs.Common.{inl, inr, rules}
+use Rattle.std.proofs.lemmas.Grind.{common_steps}
+use Rattle.std.proofs.Common.{arith}
+use Rattle.std.proofs.Common.{rules}
 use Rattle.fv_file.proofs.cell_walk.cell_at.Goals as goal
 
 -- erased bytes show no cell
@@ -11,14 +13,4 @@ returns-in_ok-check-in-Construction-clause-found c = search rules fits 100 steps
 
 -- a file of one of the four states
 pub returns-in_ok-head-in-HeaderValid-clause-found : goal.returns-in_ok-head-in-HeaderValid-clause-found
-returns-in_ok-head-in-HeaderValid-clause-found c =
-    elim c.in-HeaderValid.is [
-      | inl is ↦ search rules fits 100 steps 300000
-      | inr more ↦ elim more [
-        | inl is ↦ search rules fits 100 steps 300000
-        | inr more ↦ elim more [
-          | inl is ↦ search rules fits 100 steps 300000
-          | inr is ↦ search rules fits 100 steps 300000
-        ]
-      ]
-    ]
+returns-in_ok-head-in-HeaderValid-clause-found c = grind (arith, common_steps)

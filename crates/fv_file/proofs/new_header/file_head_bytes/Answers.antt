@@ -1,3 +1,5 @@
+use Rattle.std.proofs.lemmas.Grind.{common_steps}
+use Rattle.std.proofs.Common.{arith}
 use Rattle.std.proofs.Common.{◌≡◌, ◌∙◌, ap, length, refl, sym}
 use Rattle.fv_base.specs.Words.{bytes_of}
 use Rattle.fv_file.specs.declared.new_header.NewHeader.{NewHeader}
@@ -5,10 +7,7 @@ use Rattle.fv_file.proofs.NewHeaderLemmas.{file_head_is, file_written, head_of_f
 use Rattle.fv_file.proofs.new_header.file_head_bytes.Goals as goal
 
 pub returns-clause-bytes : goal.returns-clause-bytes
-returns-clause-bytes c =
-    let a = c.args in
-    c.new_header_bytes.ensures.is
-    ∙ file_head_is a.polarity a.name a.kind a.attributes a.data_len a.file_sum c.file_header.result c.requires.short c.file_header.ensures
+returns-clause-bytes c = grind (arith, common_steps, file_head_is)
 
 pub returns-clause-read : goal.returns-clause-read
 returns-clause-read c =

@@ -1,3 +1,4 @@
+use Rattle.std.proofs.lemmas.Grind.{common_steps}
 use Rattle.std.proofs.Common.{◌≡◌, ◌+◌, ◌<◌, ◌≤◌, ◌∙◌, arith, drop, length, subst, sym, Ok}
 use Rattle.fv_file.specs.Words.{CellForm}
 use Rattle.fv_file.specs.inner.CellVerdicts.{cell_verdict}
@@ -44,10 +45,4 @@ pub loop-system-preserved : goal.loop-system-preserved
 loop-system-preserved c = (further c).0
 
 pub returns : goal.returns
-returns c =
-    let k = c.loop-system.invariant in (
-      k.places,
-      k.marks,
-      all_kept _ _ _ _ _ _ k.upto
-          (rest_free _ _ c.loop-system.body c.loop-system.at c.bytes_from.ensures (sym c.is_free.ensures ∙ c.loop-system-test.false)),
-    )
+returns c = grind (arith, common_steps, all_kept, rest_free)

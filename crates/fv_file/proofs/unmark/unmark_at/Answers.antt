@@ -1,4 +1,5 @@
-use Rattle.std.proofs.Common.{◌≡◌, ◌+◌, ◌<◌, rules, drop, sym, ap, ◌∙◌, inr, arith, length, length-drop, Err, get_or-drop}
+use Rattle.std.proofs.lemmas.Grind.{common_steps}
+use Rattle.std.proofs.Common.{◌≡◌, ◌+◌, ◌<◌, rules, drop, sym, ap, ◌∙◌, arith, length, length-drop, Err, get_or-drop}
 use denote.Enum.Bare.{same_true}
 use Rattle.fv_base.specs.contracts.fault.FaultKind.{the_type}
 use Rattle.fv_file.specs.Words.{is_fixed}
@@ -10,26 +11,22 @@ use Rattle.fv_file.proofs.unmark.unmark_at.Goals as goal
 -- the fault of the file is Fixed, at its attributes
 fixed : (c : Then-eq)
     → (cell_verdict c.args.system c.args.polarity (c.args.first + c.args.at) (drop c.args.at c.args.body.now) ≡ Err c.in-Err.fault)
-    × FixedThere c.args.polarity (c.args.first + c.args.at) (drop c.args.at c.args.body.now) c.in-Err.fault
+    × FixedThere c.args.system c.args.polarity (c.args.first + c.args.at) (drop c.args.at c.args.body.now) c.in-Err.fault
 fixed c =
     let is : cell_verdict c.args.system c.args.polarity (c.args.first + c.args.at) (drop c.args.at c.args.body.now) ≡ Err c.in-Err.fault =
     ap (cell_verdict c.args.system c.args.polarity (c.args.first + c.args.at)) (sym c.bytes_from.ensures) ∙ c.in-Err.ensures.rejected in
     (is, fixed_there _ _ _ _ _ is (same_true the_type (search rules) _ _ (sym c.if-eq.ensures)))
 
 pub unmark-requires-clause-marked : goal.unmark-requires-clause-marked
-unmark-requires-clause-marked c =
-    fixed_least _ (ap is_fixed (sym (get_or-drop c.args.at c.args.body.now 19 0))
-    ∙ (fixed (goal.at.unmark-requires-clause-marked c).Then-eq).1.fixed)
+unmark-requires-clause-marked c = grind (arith, common_steps, fixed_least, get_or-drop, fixed, Then-eq)
 
 pub returns-then-eq-clause-plain : goal.returns-then-eq-clause-plain
 returns-then-eq-clause-plain c =
     let there = (fixed (goal.at.returns-then-eq-clause-plain c).Then-eq).1 in
     let long : c.args.at + 19 < length c.args.body.now = omega (arith, there.long, length-drop c.args.at c.args.body.now) in
-    let bit = ap is_fixed (sym (get_or-drop c.args.at c.args.body.now 19 0)) ∙ there.fixed in
+    let bit = ap is_fixed (sym (get_or-drop c.args.at c.args.body.now 19 0)) ∙ there.file.fixed in
     λ f is. not_fixed_again _ _ _ c.args.at c.args.body.now f long bit
     (ap (λ b. cell_verdict c.args.system c.args.polarity (c.args.first + c.args.at) (drop c.args.at b)) (sym c.unmark.ensures) ∙ is)
 
 pub returns-then-eq-clause-step : goal.returns-then-eq-clause-step
-returns-then-eq-clause-step c =
-    let known = fixed (goal.at.returns-then-eq-clause-step c).Then-eq in
-    inr (known.0 ∙ ap Err known.1.fault, c.unmark.ensures)
+returns-then-eq-clause-step c = grind (arith, common_steps, fixed, Then-eq)

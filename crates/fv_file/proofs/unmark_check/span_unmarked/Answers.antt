@@ -10,20 +10,12 @@ use Rattle.fv_file.proofs.unmark_check.span_unmarked.Goals.{Then-eq}
 use Rattle.fv_base.specs.declared.fault.FaultKind.TheVariants as kinds
 use Rattle.fv_file.proofs.unmark_check.span_unmarked.Goals as goal
 
--- the fault of the file is Fixed, at its attributes
-record Known (c : Then-eq) : Type 0 where
-  pub kind : c.in-Err.fault.kind ≡ kinds.Fixed
-  pub there : FixedThere c.args.polarity c.args.at c.args.rest.now c.in-Err.fault
-
-known : (c : Then-eq) → Known c
-known c =
-    let kind : c.in-Err.fault.kind ≡ kinds.Fixed = same_true the_type (search rules) _ _ (sym c.if-eq.ensures) in
-    record { kind = kind; there = fixed_there _ _ _ _ _ c.in-Err.ensures.rejected kind }
+-- the fault is the fault of a fixed file
+known : (c : Then-eq) → FixedThere c.args.system c.args.polarity c.args.at c.args.rest.now c.in-Err.fault
+known c = fixed_there _ _ _ _ _ c.in-Err.ensures.rejected (same_true the_type (search rules) _ _ (sym c.if-eq.ensures))
 
 within : (c : Then-eq) → (file_header_len_at c.args.rest.now ≤ file_size_at c.args.rest.now) × (file_size_at c.args.rest.now ≤ length c.args.rest.now)
-within c =
-    let k = known c in
-    size_within c.args.system c.args.polarity c.args.at c.args.rest.now _ k.there.long c.in-Err.ensures.rejected k.kind k.there.fixed
+within c = size_within _ _ _ _ _ (known c)
 
 pub span_of-requires : goal.span_of-requires
 span_of-requires c =
@@ -34,7 +26,7 @@ span_of-requires c =
     )
 
 pub sound_size-requires-clause-least : goal.sound_size-requires-clause-least
-sound_size-requires-clause-least c = (known (goal.at.sound_size-requires-clause-least c).Then-eq).there.long
+sound_size-requires-clause-least c = (known (goal.at.sound_size-requires-clause-least c).Then-eq).long
 
 pub sound_size-requires-clause-header : goal.sound_size-requires-clause-header
 sound_size-requires-clause-header c = (within (goal.at.sound_size-requires-clause-header c).Then-eq).0
@@ -48,9 +40,8 @@ returns-in_err-size-in-Err-clause-rejected c =
     let found = c.in_err-size-in-Err.ensures.wrong in
     rw (err_is c.from_residual.ensures.1) (
       _,
-      inr (c.in-Err.ensures.rejected ∙ ap Err k.there.fault, refl),
-      wrong_without c.args.system c.args.polarity c.args.at c.args.rest.now _ k.there.long c.in-Err.ensures.rejected k.kind k.there.fixed found.1
-          ∙ ap Err (sym found.0),
+      inr (c.in-Err.ensures.rejected ∙ ap Err k.file.fault, refl),
+      wrong_without _ _ _ _ _ k found.1 ∙ ap Err (sym found.0),
       λ e. let bad : kinds.FileSum ≡ kinds.Fixed = sym (ap (λ f. f.kind) found.0) ∙ e in cc,
     )
 
@@ -63,9 +54,9 @@ pub returns-then-eq-clause-found : goal.returns-then-eq-clause-found
 returns-then-eq-clause-found c =
     let k = known (goal.at.returns-then-eq-clause-found c).Then-eq in
     let right = c.in_ok-size-in-Err.ensures.right in
-    let cell = cell_without c.args.system c.args.polarity c.args.at c.args.rest.now _ k.there.long c.in-Err.ensures.rejected k.kind k.there.fixed right.1 in (
+    let cell = cell_without _ _ _ _ _ k right.1 in (
       _,
-      inr (c.in-Err.ensures.rejected ∙ ap Err k.there.fault, refl),
+      inr (c.in-Err.ensures.rejected ∙ ap Err k.file.fault, refl),
       (cell.0, cell.1, rw (c.up_to_8.ensures, right.0) (sym cell.2)),
       inr (rw (c.up_to_8.ensures, right.0) cell.3),
     )

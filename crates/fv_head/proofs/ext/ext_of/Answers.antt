@@ -1,16 +1,10 @@
-use Rattle.std.proofs.Common.{rules}
+use Rattle.std.proofs.lemmas.Grind.{common_steps}
+use Rattle.std.proofs.Common.{arith}
 use Rattle.fv_head.proofs.ExtLemmas.{ext_from}
 use Rattle.fv_head.proofs.ext.ext_of.Goals as goal
 
 pub invariant_of-result : goal.invariant_of-result
-invariant_of-result c = (
-  c.args.bytes.now,
-  search rules,
-  ext_from c.args.bytes.now c.guid_at.result c.in_ok-entries.entries.items c.in_ok-entries.tail.now c.requires.least c.requires.most
-      c.requires.size c.guid_at.ensures c.in_ok-entries.ensures.ok,
-)
+invariant_of-result c = grind (arith, common_steps, ext_from)
 
 pub returns-clause-ok : goal.returns-clause-ok
-returns-clause-ok c =
-    ext_from c.args.bytes.now c.guid_at.result c.in_ok-entries.entries.items c.in_ok-entries.tail.now c.requires.least c.requires.most
-    c.requires.size c.guid_at.ensures c.in_ok-entries.ensures.ok
+returns-clause-ok c = grind (arith, common_steps, ext_from)

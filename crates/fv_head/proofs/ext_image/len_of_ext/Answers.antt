@@ -1,3 +1,4 @@
+use Rattle.std.proofs.lemmas.Grind.{common_steps}
 use Rattle.std.proofs.Common.{ap, arith, length}
 use Rattle.fv_head.specs.Words.{entries_len}
 use Rattle.fv_head.proofs.ExtImageLemmas.{ext_len_most}
@@ -14,14 +15,7 @@ pub overflow_cast-result : goal.overflow_cast-result
 overflow_cast-result c = omega (arith, ext_len_most c.args.ext.now c.name-name.ensures.read, ap length c.tail.ensures)
 
 pub overflow_add-result-2 : goal.overflow_add-result-2
-overflow_add-result-2 c =
-    omega (
-      arith,
-      ext_len_most c.args.ext.now c.name-name.ensures.read,
-      ap entries_len c.entries.ensures,
-      ap length c.tail.ensures,
-      c.len_of_entries.ensures,
-    )
+overflow_add-result-2 c = grind (arith, common_steps, ext_len_most)
 
 pub returns-clause-most : goal.returns-clause-most
 returns-clause-most c =

@@ -1,4 +1,5 @@
-use Rattle.std.proofs.Common.{◌++◌, arith, List, ℕ, subst}
+use Rattle.std.proofs.lemmas.Grind.{common_steps}
+use Rattle.std.proofs.Common.{◌++◌, arith}
 use Rattle.fv_head.specs.Words.{entry_bytes}
 use Rattle.fv_head.proofs.ExtImageLemmas.{entries_len_step, entries_step, entries_end}
 use Rattle.fv_head.proofs.ext_image.put_entries.Goals as goal
@@ -17,7 +18,4 @@ loop-entry-preserved g c =
     )
 
 pub returns : goal.returns
-returns g c =
-    subst (λ (bytes : List ℕ). g.S.Sink.takes c.args.out.now bytes c.loop-entry.out)
-    (entries_end c.args.used c.loop-entry.invariant.0 c.args.entries.now c.loop-entry.entry-index c.loop-entry-test.false
-    c.loop-entry.invariant.2) c.loop-entry.invariant.1
+returns g c = grind (arith, common_steps, entries_end)

@@ -1,5 +1,5 @@
-use Rattle.std.proofs.Common.{◌∙◌, ap, arith, sym, refl}
-use Rattle.fv_head.specs.Words.{pairs_of}
+use Rattle.std.proofs.lemmas.Grind.{common_steps}
+use Rattle.std.proofs.Common.{arith, sym}
 use Rattle.fv_head.proofs.HeadPlaceLemmas.{front_within, kept_fields}
 use Rattle.fv_head.proofs.head.head_of.Goals as goal
 
@@ -15,16 +15,7 @@ u32_at-requires c =
     omega (arith, front_within c.args.bytes.now c.requires.begins.0 c.args.extent.now c.requires.begins.1)
 
 pub invariant_of-result : goal.invariant_of-result
-invariant_of-result c =
-    let front = kept_fields c.args.bytes.now c.args.extent.now _ _ _ _ _ _ c.requires.begins
-    (c.copy_from_slice.ensures.after ∙ c.field-2.ensures.bytes) c.volume_len_at.ensures
-    (c.from_bits_retain.ensures tt ∙ c.u32_at.ensures) refl
-    (c.in_ok-blocks.ensures.ok ∙ ap pairs_of c.field.ensures.bytes) c.in_ok-ext_at.ensures.ok in
-    (_, front.head)
+invariant_of-result c = grind (arith, common_steps, kept_fields)
 
 pub returns-clause-ok : goal.returns-clause-ok
-returns-clause-ok c =
-    kept_fields c.args.bytes.now c.args.extent.now _ _ _ _ _ _ c.requires.begins
-    (c.copy_from_slice.ensures.after ∙ c.field-2.ensures.bytes) c.volume_len_at.ensures
-    (c.from_bits_retain.ensures tt ∙ c.u32_at.ensures) refl
-    (c.in_ok-blocks.ensures.ok ∙ ap pairs_of c.field.ensures.bytes) c.in_ok-ext_at.ensures.ok
+returns-clause-ok c = grind (arith, common_steps, kept_fields)

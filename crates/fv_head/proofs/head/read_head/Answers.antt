@@ -1,13 +1,13 @@
-use Rattle.fv_base.proofs.Laws.{ap, inl, refl, err_is}
+use Rattle.std.proofs.lemmas.Grind.{common_steps}
+use Rattle.std.proofs.Common.{arith}
+use Rattle.fv_base.proofs.Laws.{ap, err_is}
 use Rattle.fv_base.specs.declared.fault.Fault.{Fault}
 use Rattle.fv_head.proofs.HeadPlaceLemmas.{one_front}
 use Rattle.fv_head.proofs.HeadFaultLemmas.{fault_known}
 use Rattle.fv_head.proofs.head.read_head.Goals as goal
 
 pub returns-clause-only : goal.returns-clause-only
-returns-clause-only c = λ h e front.
-    let same = one_front c.args.bytes.now _ h _ e c.in_ok-head.ensures.ok front in
-    inl (rw (same.0, same.1) refl)
+returns-clause-only c = grind (arith, common_steps, one_front)
 
 -- the fault of a rejected header is not OutOfMemory
 pub returns-in_err-extent-clause-memory : goal.returns-in_err-extent-clause-memory

@@ -1,4 +1,6 @@
-use Rattle.std.proofs.Common.{◌++◌, List, ℕ, get_or, subst}
+use Rattle.std.proofs.lemmas.Grind.{common_steps}
+use Rattle.std.proofs.Common.{arith}
+use Rattle.std.proofs.Common.{◌++◌, get_or}
 use Rattle.fv_base.specs.Words.{le_bytes}
 use Rattle.fv_head.proofs.HeadWalkLemmas.{pairs_step, pairs_end}
 use Rattle.fv_head.proofs.head_image.put_pairs.Goals as goal
@@ -15,7 +17,4 @@ loop-count-preserved g c =
     )
 
 pub returns : goal.returns
-returns g c =
-    subst (λ (bytes : List ℕ). g.S.Sink.takes c.args.out.now bytes c.loop-count.out)
-    (pairs_end c.loop-count.invariant.0 c.args.pairs.now c.loop-count.count-index c.loop-count-test.false c.loop-count.invariant.2)
-    c.loop-count.invariant.1
+returns g c = grind (arith, common_steps, pairs_end)

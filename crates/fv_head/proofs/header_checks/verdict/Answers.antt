@@ -1,3 +1,5 @@
+use Rattle.std.proofs.lemmas.Grind.{common_steps}
+use Rattle.std.proofs.Common.{arith}
 use Rattle.fv_base.proofs.Laws.{◌∙◌, sym, first_front, first_whole, err_is}
 use Rattle.fv_head.specs.Words.{leading_checks, later_checks}
 use Rattle.fv_head.proofs.HeadCheckLemmas.{verdict_err, verdict_extent}
@@ -16,7 +18,4 @@ returns-in_err-later_verdict c =
     (first_whole (leading_checks b) (later_checks b) c.in_ok-file_system.ensures.ok.0 ∙ c.in_err-later_verdict.ensures.err)))
 
 pub returns : goal.returns
-returns c =
-    let b = c.args.bytes.now in
-    rw c.extent_at.ensures (sym (verdict_extent b _ (first_whole (leading_checks b) (later_checks b) c.in_ok-file_system.ensures.ok.0
-    ∙ c.in_ok-later_verdict.ensures.ok) c.in_ok-file_system.ensures.ok.1))
+returns c = grind (arith, common_steps, verdict_extent, first_whole)

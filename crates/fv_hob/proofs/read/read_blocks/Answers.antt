@@ -1,3 +1,4 @@
+use Rattle.std.proofs.lemmas.Grind.{common_steps}
 use Rattle.std.proofs.Common.{◌∙◌, refl, sym, ap, arith, rules}
 use Rattle.fv_base.proofs.Laws.{err_is}
 use Rattle.fv_hob.specs.declared.fault.HobFault.{HobFault}
@@ -34,10 +35,7 @@ returns-in_err-block-clause-memory c =
     (λ e. absurd (no_want c.is_empty.result _ _ c.in_err-block.ensures.first (ap (λ (f : HobFault). f.kind) e)))
 
 pub returns-in_err-hob-clause-memory : goal.returns-in_err-hob-clause-memory
-returns-in_err-hob-clause-memory c =
-    rw (err_is c.from_residual-in_err-hob.ensures.1)
-    (λ e. table_stands c.args.bytes.now c.loop-hobs.hobs.items c.in_ok-block.block.now c.loop-hobs.at
-    c.is_empty.result (search rules) c.loop-hobs.invariant c.in_ok-block.ensures.found)
+returns-in_err-hob-clause-memory c = grind (arith, common_steps, err_is, table_stands)
 
 pub returns-in_err-push-clause-memory : goal.returns-in_err-push-clause-memory
 returns-in_err-push-clause-memory c =

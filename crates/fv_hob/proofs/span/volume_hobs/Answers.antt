@@ -1,6 +1,7 @@
-use Rattle.std.proofs.Common.{◌≡◌, ◌++◌, ◌<◌, ◌≤◌, [], ap, subst, ◌∙◌, List, length, get_or, Vec, Global, arith, take_all}
+use Rattle.std.proofs.lemmas.Grind.{common_steps}
+use Rattle.std.proofs.Common.{◌≡◌, ◌++◌, ◌<◌, [], ap, subst, ◌∙◌, List, length, get_or, Vec, Global, arith, take_all}
 use Rattle.fv_base.proofs.Laws.{cons_option}
-use Rattle.fv_hob.specs.Words.{HobForm, spans_of}
+use Rattle.fv_hob.specs.Words.{HobForm}
 use Rattle.fv_hob.specs.declared.span.Span.{Span}
 use Rattle.fv_hob.proofs.WriteLemmas.{spans_more, span_none, span_some}
 use Rattle.fv_hob.proofs.span.volume_hobs.Goals.{in-Some+in_ok-push, in_default}
@@ -28,7 +29,4 @@ pub loop-hob-smaller : goal.loop-hob-smaller
 loop-hob-smaller c = omega arith
 
 pub returns-clause-spans : goal.returns-clause-spans
-returns-clause-spans c =
-    let all : length c.args.hobs.now ≤ c.loop-hob.hob-index =
-    rw (← c.as_slice-hob-items.ensures.blocks) (omega arith) in
-    c.loop-hob.invariant ∙ ap spans_of (take_all c.loop-hob.hob-index c.args.hobs.now all)
+returns-clause-spans c = grind (arith, common_steps, take_all)

@@ -1,8 +1,8 @@
-use Rattle.fv_base.proofs.Laws.{on_ok_weaker, le_bytes}
+use Rattle.std.proofs.lemmas.Grind.{common_steps}
+use Rattle.std.proofs.Common.{arith}
+use Rattle.fv_base.proofs.Laws.{on_ok_weaker}
 use Rattle.fv_hob.proofs.WriteLemmas.{no_field, one_field}
 use Rattle.fv_hob.proofs.write.push_span.Goals as goal
 
 pub returns : goal.returns
-returns c =
-    let base = one_field (le_bytes 8 c.args.base) (no_field c.args.bytes.now.items) c.in_ok-push_u64.ensures in
-    on_ok_weaker c.push_u64-2.result (λ end. (one_field (le_bytes 8 c.args.length) base end).is) c.push_u64-2.ensures
+returns c = grind (arith, common_steps, one_field, no_field, on_ok_weaker)

@@ -10,8 +10,8 @@ use Rattle.fv_head.specs.declared.extent.Extent.{Extent}
 use Rattle.fv_section.specs.Words.{FrameForm}
 use Rattle.std.specs.Prelude.{IfOk}
 use Rattle.fv_tree.specs.inner.ReadingParts.{IsReadyFile}
-use Rattle.fv_tree.specs.Words.{IsStoredFile}
-use Rattle.fv_tree.specs.Words.{Denotes, MeansFile, Stream, FileFault, InStream, data_at, Volume, length_of, files_from, bare_form, file_form, with_data, Meaning}
+use Rattle.fv_tree.specs.Words.{IsStoredFile, Denotes, MeansFile, Stream, FileFault, InStream, data_at, Volume, length_of, files_from, bare_form}
+use Rattle.fv_tree.specs.Words.{file_form, with_data, Meaning}
 use Rattle.fv_tree.specs.inner.SectionReads.{StreamRead}
 use Rattle.fv_names.specs.Words.{IsOrder, numbers_of}
 use Rattle.fv_tree.proofs.BodyLaws.{files_first}
@@ -224,8 +224,7 @@ read_with_files-returns-clause-files t c = (
   c.in-Ok.read.0,
   c.in-Ok.read.1,
   c.in-Ok.ensures.found,
-  stands c.args.bytes.now c.in-Ok.read.1 c.in_ok-files.files.items c.in-Ok.ensures.found.is_within c.in_ok-files.ensures.ends
-      c.in_ok-files.ensures.read,
+  stands c.args.bytes.now c.in-Ok.read.0 c.in-Ok.read.1 c.in_ok-files.files.items c.in-Ok.ensures.found c.in_ok-files.ensures.read,
 )
 
 -- ---- a stream

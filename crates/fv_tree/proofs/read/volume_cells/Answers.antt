@@ -7,8 +7,7 @@ use Rattle.fv_tree.proofs.read.volume_cells.Goals as goal
 pub returns-in_err-extent-clause-err : goal.returns-in_err-extent-clause-err
 returns-in_err-extent-clause-err c =
     rw (err_is c.from_residual.ensures.1)
-    (λ other. bad_header c.args.bytes.now c.in_err-extent.field-0.0 c.verify_fv.result c.verify_fv.ensures.only
-    c.in_err-extent.was c.in_err-extent.ensures.first)
+    (λ other. bad_header c.args.bytes.now c.in_err-extent.field-0.0 c.in_err-extent.ensures.first)
 
 pub returns-in_err-extent-clause-memory : goal.returns-in_err-extent-clause-memory
 returns-in_err-extent-clause-memory c =
@@ -30,8 +29,7 @@ pub returns-in_err-list-clause-err : goal.returns-in_err-list-clause-err
 returns-in_err-list-clause-err c =
     let found = c.in_ok-extent.ensures.found in
     rw (err_is c.from_residual-in_err-list.ensures.1)
-    (λ other. bad_cell c.args.bytes.now found.0 c.in_ok-extent.extent c.in_err-list.field-0.0 c.verify_fv.result found.1
-    c.verify_fv.ensures.only c.in_ok-extent.was (c.in_err-list.ensures.none other) (c.in_err-list.ensures.first other))
+    (λ other. bad_cell c.args.bytes.now found.0 c.in_ok-extent.extent c.in_err-list.field-0.0 found.1 (c.in_err-list.ensures.first other))
 
 pub returns-in_err-list-clause-memory : goal.returns-in_err-list-clause-memory
 returns-in_err-list-clause-memory c =

@@ -3,8 +3,7 @@ use Rattle.fv_base.specs.declared.fault.Fault.{Fault}
 use Rattle.fv_head.proofs.Laws.{fault_known}
 use Rattle.fv_tree.specs.Words.{file_form}
 use Rattle.fv_tree.proofs.FilledLaws.{stands}
-use Rattle.fv_tree.proofs.LocatedLaws.{located_data, located_stand}
-use Rattle.fv_tree.proofs.MeaningLaws.{one_stand}
+use Rattle.fv_tree.proofs.LocatedLaws.{begun_data, located_stand, one_files}
 use Rattle.fv_tree.proofs.RefusalLaws.{files_refused}
 use Rattle.fv_tree.proofs.stored_files.located_files.Goals as goal
 
@@ -15,7 +14,7 @@ returns-clause-found c =
       front.0,
       c.in_ok-extent.extent,
       front.1,
-      stands c.args.bytes.now c.in_ok-extent.extent c.in_ok-files.files.items (front.1).is_within c.in_ok-files.ensures.ends c.in_ok-files.ensures.read,
+      stands c.args.bytes.now front.0 c.in_ok-extent.extent c.in_ok-files.files.items front.1 c.in_ok-files.ensures.read,
     )
 
 pub returns-in_err-files-clause-none : goal.returns-in_err-files-clause-none
@@ -26,17 +25,11 @@ returns-in_err-files-clause-none c =
     (located_stand c.args.bytes.now front.0 c.in_ok-extent.extent front.1 gs begins))
 
 pub returns-clause-data : goal.returns-clause-data
-returns-clause-data c =
-    let front = c.in_ok-extent.ensures.found in
-    located_data c.args.bytes.now front.0 c.in_ok-extent.extent (map (file_form c.args.bytes.now) c.in_ok-files.files.items) front.1
-    (stands c.args.bytes.now c.in_ok-extent.extent c.in_ok-files.files.items (front.1).is_within c.in_ok-files.ensures.ends c.in_ok-files.ensures.read)
+returns-clause-data c = begun_data c.args.bytes.now (map (file_form c.args.bytes.now) c.in_ok-files.files.items) (returns-clause-found c)
 
 pub returns-clause-only : goal.returns-clause-only
 returns-clause-only c = λ gs begins.
-    let front = c.in_ok-extent.ensures.found in
-    one_stand c.in_ok-extent.extent _ (map (file_form c.args.bytes.now) c.in_ok-files.files.items) gs
-    (stands c.args.bytes.now c.in_ok-extent.extent c.in_ok-files.files.items (front.1).is_within c.in_ok-files.ensures.ends c.in_ok-files.ensures.read)
-    (located_stand c.args.bytes.now front.0 c.in_ok-extent.extent front.1 gs begins)
+    one_files c.args.bytes.now (map (file_form c.args.bytes.now) c.in_ok-files.files.items) gs (returns-clause-found c) begins
 
 pub returns-in_err-extent-clause-memory : goal.returns-in_err-extent-clause-memory
 returns-in_err-extent-clause-memory c =

@@ -2,24 +2,24 @@ use Rattle.std.proofs.Common.{◌+◌, ◌<◌, ℕ, ◌∙◌, ap, get_or, leng
 use Rattle.fv_base.proofs.Laws.{length-map, outer_fault, seam_items}
 use Rattle.fv_names.specs.Words.{NoTwins}
 use Rattle.fv_names.proofs.Laws.{no_named}
-use Rattle.fv_tree.specs.Words.{bare_form, FileForm}
+use Rattle.fv_tree.specs.Words.{file_form, FileForm}
 use Rattle.fv_tree.specs.inner.NameForms.{named_file}
-use Rattle.fv_tree.proofs.NamedLaws.{front_twins, no_file, twin_after, twins_from}
+use Rattle.fv_tree.proofs.NamedLaws.{front_twins, no_file, twin_after}
 use Rattle.fv_base.specs.declared.fault.FaultKind.TheVariants as kinds
 use Rattle.fv_tree.proofs.volume_files.check_twins.Goals as goal
 
 pub returns-then-first-files-clause-first : goal.returns-then-first-files-clause-first
-returns-then-first-files-clause-first c =
+returns-then-first-files-clause-first c = λ b.
     let n : ℕ = c.first_twin-first.result in
-    let all : List FileForm = map bare_form c.args.files.now in
+    let all : List FileForm = map (file_form b) c.args.files.now in
     let l : n < length c.args.files.now = c.if-first-files.true in (
-      bare_form (get_or c.args.files.now n no_file),
+      file_form b (get_or c.args.files.now n no_file),
       (
         take n all,
         drop (n + 1) all,
-        seam_items bare_form c.args.files.now n no_file l,
-        front_twins n c.args.files.now c.first_twin-first.ensures.none,
-        twin_after n c.args.files.now l (c.first_twin-first.ensures.first l no_named),
+        seam_items (file_form b) c.args.files.now n no_file l,
+        front_twins b n c.args.files.now c.first_twin-first.ensures.none,
+        twin_after b n c.args.files.now l (c.first_twin-first.ensures.first l no_named),
       ),
       c.outer.ensures ∙ ap (outer_fault kinds.DuplicateName) c.from-offset.ensures,
     )
@@ -27,5 +27,5 @@ returns-then-first-files-clause-first c =
 pub returns-clause-found : goal.returns-clause-found
 returns-clause-found c =
     let n : ℕ = c.first_twin-first.result in
-    twins_from c.args.files.now (subst NoTwins (take_all n (map named_file c.args.files.now) (omega
-    (arith, c.if-first-files.false, length-map c.args.files.now named_file))) c.first_twin-first.ensures.none)
+    subst NoTwins (take_all n (map named_file c.args.files.now) (omega
+    (arith, c.if-first-files.false, length-map c.args.files.now named_file))) c.first_twin-first.ensures.none

@@ -1,11 +1,13 @@
 use Rattle.std.proofs.Common.{◌≡◌, ◌∙◌, sym, ap, [], ◌∷◌, ◌++◌, append-nil, arith, length-drop, map, refl, rules}
 use Rattle.std.proofs.lemmas.List.{map_push}
 use Rattle.fv_base.specs.Words.{IsBytes}
-use Rattle.fv_base.proofs.Laws.{bytes_drop, err_is, map-append}
+use Rattle.fv_base.proofs.Laws.{bytes_drop, drop, err_is, length, map-append, map-map}
 use Rattle.fv_file.specs.Words.{Walked, cell_form}
-use Rattle.fv_file.proofs.Laws.{body_within, walk_begins, walk_fails, walked_on}
-use Rattle.fv_tree.specs.Words.{bare_form, files_in}
+use Rattle.fv_file.proofs.Laws.{body_payloads, walk_begins, walk_ends, walk_fails, walked_on}
+use Rattle.fv_tree.specs.Words.{bare_form, filled, files_in}
 use Rattle.fv_tree.specs.inner.ReadingParts.{bare}
+use Rattle.fv_tree.proofs.BodyLaws.{cells_inside, stored_in}
+use Rattle.fv_tree.proofs.FilledLaws.{all_back}
 use Rattle.fv_tree.proofs.NameLaws.{files_in_more}
 use Rattle.fv_tree.proofs.SmallCellLaws.{small_cell}
 use Rattle.fv_tree.proofs.volume_files.files_in.Goals as goal
@@ -50,12 +52,21 @@ returns-in_err-cell-clause-first c =
     let (cs, walked, are) = c.loop-files.invariant in
     rw (err_is c.from_residual-in_err-cell.ensures.1) (λ memory. walk_fails _ _ _ _ walked c.in_err-cell.ensures.first.0)
 
-pub returns-in_err-cell-clause-bound : goal.returns-in_err-cell-clause-bound
-returns-in_err-cell-clause-bound c =
+-- the files of the cells have their data in the volume
+pub returns-clause-found : goal.returns-clause-found
+returns-clause-found c =
+    let e = c.args.extent.now in
+    let volume = c.args.volume.now in
     let (cs, walked, are) = c.loop-files.invariant in
-    rw (err_is c.from_residual-in_err-cell.ensures.1) (omega (
-      arith,
-      body_within _ _ _ _ _ (walk_fails _ _ _ _ walked c.in_err-cell.ensures.first.0),
-      length-drop c.args.extent.now.first c.args.volume.now,
-      c.requires.within,
-    ))
+    let bytes : IsBytes volume = search rules in
+    let none : c.loop-files.walk.rest ≡ [] = search rules in
+    let tiles = walk_ends _ _ _ walked none in
+    let rest : IsBytes (drop e.first volume) = bytes_drop e.first volume bytes in
+    let stored = stored_in e.file_system e.polarity e.first 0 (length volume) cs (drop e.first volume) rest
+    (omega (arith, length-drop e.first volume, c.requires.small)) (omega (arith, c.requires.small)) tiles
+    (cells_inside e volume cs c.requires.within tiles) in (
+      cs,
+      tiles,
+      sym (map-map (filled volume) bare_form c.loop-files.files.items) ∙ ap (map (filled volume)) are
+          ∙ all_back volume 0 cs (body_payloads e.file_system e.polarity e.first cs volume tiles) stored,
+    )

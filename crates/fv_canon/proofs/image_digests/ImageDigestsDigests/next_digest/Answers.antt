@@ -1,5 +1,5 @@
 use Rattle.std.proofs.Common.{ap}
-use Rattle.fv_canon.proofs.VolumeListLaws.{begins_first}
+use Rattle.fv_canon.proofs.VolumeListLaws.{begins_split}
 use Rattle.fv_tree.specs.Words.{volumes_in}
 use Rattle.fv_rows.specs.Words.{part_node}
 use Rattle.fv_canon.proofs.DigestLemmas.{file_next, volume_next}
@@ -9,13 +9,13 @@ pub starts_inside-self-requires : goal.starts_inside-self-requires
 starts_inside-self-requires c =
     let (rest, covers) = c.requires in
     let volume = volume_next c.args.row.now.depth c.args.row.now.nesting c.args.row.now.number _ c.in-Volume.volume.now rest _ (ap part_node c.in-Volume.is) covers.0 covers.1 in
-    begins_first (volumes_in c.in-Volume.volume.now) volume.more _ volume.here
+    (begins_split (volumes_in c.in-Volume.volume.now) volume.more _ volume.here).0
 
 pub volume_digest-requires : goal.volume_digest-requires
 volume_digest-requires c =
     let (rest, covers) = c.requires in
     let volume = volume_next c.args.row.now.depth c.args.row.now.nesting c.args.row.now.number _ c.in-Volume.volume.now rest _ (ap part_node c.in-Volume.is) covers.0 covers.1 in
-    begins_first (volumes_in c.in-Volume.volume.now) volume.more _ volume.here
+    (begins_split (volumes_in c.in-Volume.volume.now) volume.more _ volume.here).0
 
 pub file_digest-requires : goal.file_digest-requires
 file_digest-requires c =

@@ -1,26 +1,19 @@
-use Rattle.std.proofs.Common.{◌≡◌, ◌<◌, List, length, map, get_or, ap, ◌∙◌, arith, rules}
-use Rattle.std.proofs.lemmas.List.{get_or_default}
-use Rattle.fv_names.specs.Words.{NamedFile, Entry}
-use Rattle.fv_names.specs.inner.NameOrders.{mark_at}
-use Rattle.fv_names.proofs.NeighbourLaws.{alone_kept, file_within, marked_replaced}
+use Rattle.std.proofs.Common.{List, sym, ◌∙◌, subst}
+use Rattle.fv_base.specs.declared.guid.Guid.{Guid}
+use Rattle.fv_names.specs.Words.{Entry, entries_of, halves_of}
+use Rattle.fv_names.specs.inner.NameOrders.{IsShared}
+use Rattle.fv_names.proofs.IndexLaws.{no_entry, no_named}
+use Rattle.fv_names.proofs.NeighbourLaws.{unmarked_kept, update_shares}
 use Rattle.fv_names.proofs.name_index.NameIndex.is_replaced.Goals as goal
 
-pub is_marked_at-requires : goal.is_marked_at-requires
-is_marked_at-requires g c =
-    file_within g.F.Named.named c.args.files.now c.args.self.now.sorted.items c.requires.index
-    c.index.result.now c.args.place (omega arith) c.index.ensures
+pub returns-then-is_marked : goal.returns-then-is_marked
+returns-then-is_marked g c = λ fs index none has.
+    let es : List Entry = entries_of c.args.self.now in
+    update_shares fs es index no_named no_entry none _ c.is_shared.result has (sym c.is_marked.ensures ∙ c.if-is_marked.true)
+    (λ on. subst (λ (n : Guid). IsShared es no_entry (halves_of n)) c.name.ensures (c.is_shared.ensures.yes index.ordered on no_entry))
+    (λ shared. c.is_shared.ensures.all index.ordered no_entry
+    (subst (λ (n : Guid). IsShared es no_entry (halves_of n)) (sym c.name.ensures) shared))
 
-pub returns-then-shares_its_name : goal.returns-then-shares_its_name
-returns-then-shares_its_name g c = λ d e.
-    let fs : List NamedFile = map g.F.Named.named c.args.files.now in
-    let es : List Entry = c.args.self.now.sorted.items in
-    let inside : c.args.place < length es = omega arith in
-    let number : c.index.result.now.1 ≡ (get_or es c.args.place e).1 =
-    ap (λ (x : Entry). x.1) (c.index.ensures ∙ get_or_default es c.args.place c.index.result.now e inside) in
-    marked_replaced fs es c.requires.index d e c.requires.no_twins c.args.place c.is_marked_at.result inside
-    (c.shares_its_name.ensures.yes (search rules) e) (c.is_marked_at.ensures d ∙ ap (mark_at fs d) number)
-
-pub returns-else-shares_its_name : goal.returns-else-shares_its_name
-returns-else-shares_its_name g c = λ d e.
-    alone_kept (map g.F.Named.named c.args.files.now) c.args.self.now.sorted.items c.requires.index d e c.args.place c.shares_its_name.result
-    (omega arith) (search rules) (λ h. search (rules, c.shares_its_name.ensures.all e h))
+pub returns-else-is_marked : goal.returns-else-is_marked
+returns-else-is_marked g c = λ fs index none has.
+    c.if-is_marked.false ∙ sym (unmarked_kept (g.F.Named.named c.args.file.now) fs (sym c.is_marked.ensures ∙ c.if-is_marked.false))

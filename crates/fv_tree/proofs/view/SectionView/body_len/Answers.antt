@@ -1,7 +1,6 @@
 use Rattle.std.proofs.Common.{◌∙◌, List, refl, sym, ap, subst}
 use Rattle.fv_section.specs.Words.{FrameForm, frame_form}
-use Rattle.fv_tree.specs.Words.{MeansSection, Meaning, SectionMeaning, body_len, body_of}
-use Rattle.fv_tree.specs.Words.{shape_of, body_by}
+use Rattle.fv_tree.specs.Words.{MeansSection, Meaning, SectionMeaning, body_len, body_of, shape_of, body_by}
 use Rattle.fv_tree.proofs.LengthLaws.{body_long}
 use Rattle.fv_tree.proofs.WalkedSectionLaws.{below, section_is}
 use Rattle.fv_tree.proofs.view.SectionView.body_len.Goals as goal

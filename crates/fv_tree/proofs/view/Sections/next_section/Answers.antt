@@ -1,7 +1,6 @@
 use Rattle.std.proofs.Common.{◌≡◌, ◌∙◌, ◌≤◌, List, length, sym, ap, subst, arith}
 use Rattle.fv_section.specs.Words.{FrameForm, frame_in}
-use Rattle.fv_tree.specs.Words.{Meaning, SectionMeaning}
-use Rattle.fv_tree.specs.Words.{section_by, IsKept}
+use Rattle.fv_tree.specs.Words.{Meaning, SectionMeaning, section_by, IsKept}
 use Rattle.fv_tree.proofs.WalkedSectionLaws.{first_kept, rest_kept, each_first, tail_after}
 use Rattle.fv_tree.proofs.view.Sections.next_section.Goals as goal
 

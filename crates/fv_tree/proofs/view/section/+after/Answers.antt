@@ -2,10 +2,8 @@ use Rattle.std.proofs.Common.{◌≡◌, ◌∙◌, ◌-◌, ◌≤◌, ◌∷�
 use Rattle.std.proofs.lemmas.Bool.{eqb-true}
 use Rattle.std.proofs.lemmas.List.{take_all}
 use Rattle.fv_section.specs.Words.{FrameForm, frame_form, frame_in}
-use Rattle.fv_tree.specs.Words.{Meaning, SectionMeaning}
-use Rattle.fv_tree.specs.Words.{section_by, IsKept}
-use Rattle.fv_tree.proofs.WalkedSectionLaws.{none_after, group_kept, group_view, volume_view, first_kept, rest_kept, each_first}
-use Rattle.fv_tree.proofs.WalkedSectionLaws.{no_sections}
+use Rattle.fv_tree.specs.Words.{Meaning, SectionMeaning, section_by, IsKept}
+use Rattle.fv_tree.proofs.WalkedSectionLaws.{none_after, group_kept, group_view, volume_view, first_kept, rest_kept, each_first, no_sections}
 use Rattle.fv_tree.proofs.view.section.+after.Goals as goal
 
 pub after_section-returns-then-is_empty : goal.after_section-returns-then-is_empty
