@@ -16,7 +16,7 @@
  *   Which digest do all volumes of one meaning share?     fv_volume_digest          a volume         5
  *   Do two volumes mean the same? Where do they differ?   fv_volume_compare         two volumes      5, of both
  *   Where are files, pads, deleted files, free bytes?     fv_volume_cells           begins with one  3
- *   What is in a volume, at every level?                  fv_volume_tree            a volume         30
+ *   What is in a volume, at every level?                  fv_volume_tree            a volume         22
  *   Which digest does each of these parts have?           fv_volume_tree_digests    a volume         9
  *   What are the bytes of one of these parts?             fv_volume_extract         a volume         5
  *   Is a dependency expression true?                      fv_depex_evaluate         an expression    18

@@ -1,7 +1,7 @@
 -- A text is read as a number exactly if it spells one.
-use Rattle.std.proofs.Common.{◌≡◌, ◌≢◌, ◌^◌, ◌<◌, ◌++◌, ℕ, ◌∙◌, List, Result, Ok, Err, ap, arith, codes, drop, inl, inr, subst, sym}
+use Rattle.std.proofs.Common.{◌≡◌, ◌≢◌, ◌^◌, ◌<◌, ◌++◌, ℕ, ◌∙◌, List, Result, Ok, Err, Some, ap, arith, codes, drop, inl, inr, subst, sym}
 use Rattle.fv_base.proofs.Laws.{digit_value, IsNumeral, digits_value}
-use Rattle.fv_arguments.specs.Words.{IsNumberWord, IsNumeralOf, IsOffsetWord}
+use Rattle.fv_arguments.specs.Words.{IsAtWord, IsNumberWord, IsNumeralOf}
 use Rattle.fv_arguments.specs.declared.words.WordFault.{WordFault}
 use Rattle.fv_arguments.specs.inner.CommandWords.{ReadsOrFails}
 
@@ -20,7 +20,7 @@ not_decimal digits n h = let second : digit_value 120 < 10 = h.0.1.1.0 in absurd
 
 -- so whether the text begins with `0x` decides how a place is read
 pub hexadecimal_place : (text digits : List ℕ) (r : Result ℕ WordFault) → text ≡ codes "0x" ++ digits
-    → ReadsOrFails (IsNumeralOf 16 64 digits) r → ReadsOrFails (IsOffsetWord text) r
+    → ReadsOrFails (IsNumeralOf 16 64 digits) r → ReadsOrFails (λ n. IsAtWord (Some text) (Some n)) r
 hexadecimal_place text digits (Ok n) is h = inr (digits, is, h)
 hexadecimal_place text digits (Err f) is h = λ words n spells. elim spells [
   | inl number ↦ not_decimal digits n (subst (λ (t : List ℕ). IsNumberWord 64 t n) is number)
@@ -28,7 +28,7 @@ hexadecimal_place text digits (Err f) is h = λ words n spells. elim spells [
 ]
 
 pub decimal_place : (text : List ℕ) (r : Result ℕ WordFault) → ((digits : List ℕ) → text ≢ codes "0x" ++ digits)
-    → ReadsOrFails (IsNumberWord 64 text) r → ReadsOrFails (IsOffsetWord text) r
+    → ReadsOrFails (IsNumberWord 64 text) r → ReadsOrFails (λ n. IsAtWord (Some text) (Some n)) r
 decimal_place text (Ok n) lacks h = inl h
 decimal_place text (Err f) lacks h = λ words n spells. elim spells [
   | inl number ↦ h words n number

@@ -1,6 +1,8 @@
 -- Which plan a command line asks for.
 use Rattle.std.specs.Prelude.{◌≡◌, ◌<◌, ◌≤◌, ◌^◌, ◌++◌, ◌⊎◌, ℕ, true, false, List, [], ◌∷◌, length}
-use Rattle.std.specs.Prelude.{Option, Some, None, IsSomeAnd, String, codes, option_and_then, option_map}
+use Rattle.std.specs.Prelude.{Option, Some, None, IfSome, IsSomeAnd, String, codes, option_and_then, option_map, if◌then◌else◌}
+use Rattle.std.specs.Option.{unwrap_or}
+use Rattle.std.specs.Str.{bytes_eq}
 use Rattle.std.specs.Str.Parse.{IsNumeral, digits_value, without_leading_plus}
 use Rattle.std.specs.Global.{Global}
 use Rattle.std.specs.String.{string_bytes}
@@ -11,7 +13,6 @@ use Rattle.fv_plan.specs.declared.plan.Command.{Command}
 use Rattle.fv_plan.specs.declared.plan.ImageFile.{ImageFile}
 use Rattle.fv_plan.specs.declared.plan.Plan.{Plan}
 use Rattle.fv_plan.specs.declared.plan.VolumeFile.{VolumeFile}
-use Rattle.fv_plan.specs.declared.plan.Task.{Task}
 use Rattle.fv_arguments.specs.Options.{compare_app, extract_app, faults_in, flag_in, hobs_app, list_app, image_app, one_input_app}
 use Rattle.fv_arguments.specs.Options.{text_in, volume_app}
 use Rattle.fv_plan.specs.declared.plan.Command.TheVariants.{Single, Hobs, Compare}
@@ -22,48 +23,31 @@ use Rattle.fv_plan.specs.declared.plan.Task.TheVariants.{CheckAll, Cells, Unfix,
 abbrev pub plan_without_arguments : Plan
 plan_without_arguments = record { hex = true; command = Single Normalise None None }
 
--- the argument that names the task's command
-abbrev pub task_name : Task → List ℕ
-task_name Normalise = codes "normalise"
-task_name NormaliseAll = codes "normalise"
-task_name Listing = codes "list"
-task_name ListSums = codes "list"
-task_name (Extract part) = codes "extract"
-task_name Check = codes "check"
-task_name CheckAll = codes "check"
-task_name Cells = codes "cells"
-task_name Unfix = codes "unfix"
-task_name Scan = codes "scan"
-
 -- the argument that names the command
 abbrev pub command_name : Command → List ℕ
-command_name (Single task at file) = task_name task
+command_name (Single Normalise at file) = codes "normalise"
+command_name (Single NormaliseAll at file) = codes "normalise"
+command_name (Single Listing at file) = codes "list"
+command_name (Single ListSums at file) = codes "list"
+command_name (Single (Extract part) at file) = codes "extract"
+command_name (Single Check at file) = codes "check"
+command_name (Single CheckAll at file) = codes "check"
+command_name (Single Cells at file) = codes "cells"
+command_name (Single Unfix at file) = codes "unfix"
+command_name (Single Scan at file) = codes "scan"
 command_name (Hobs file image) = codes "hobs"
 command_name (Compare first second) = codes "compare"
 
--- the rules of the task's command
-abbrev pub task_app : Task → App
-task_app Normalise = image_app
-task_app NormaliseAll = image_app
-task_app Listing = list_app
-task_app ListSums = list_app
-task_app (Extract part) = extract_app
-task_app Check = image_app
-task_app CheckAll = image_app
-task_app Cells = volume_app
-task_app Unfix = volume_app
-task_app Scan = one_input_app
-
--- the rules of the command
-abbrev pub command_app : Command → App
-command_app (Single task at file) = task_app task
-command_app (Hobs file image) = hobs_app
-command_app (Compare first second) = compare_app
-
--- the section type that one or two hexadecimal digits give, or None if there is no text
-abbrev pub IsSectionTypeWord : Option (List ℕ) → Option ℕ → Type 0
-IsSectionTypeWord None kind = kind ≡ None
-IsSectionTypeWord (Some text) kind = IsNumeral 16 text × (length text ≤ 2) × (kind ≡ Some (digits_value 16 text))
+-- the rules of the command with this name, which is one of the names above
+abbrev pub app_named : List ℕ → App
+app_named name =
+    if bytes_eq name (codes "normalise") then image_app
+    else (if bytes_eq name (codes "check") then image_app
+    else (if bytes_eq name (codes "hobs") then hobs_app
+    else (if bytes_eq name (codes "extract") then extract_app
+    else (if bytes_eq name (codes "compare") then compare_app
+    else (if bytes_eq name (codes "list") then list_app
+    else (if bytes_eq name (codes "scan") then one_input_app else volume_app))))))
 
 -- the digits spell n in this radix, and n has at most `bits` bits
 abbrev pub IsNumeralOf : (radix bits : ℕ) → List ℕ → ℕ → Type 0
@@ -73,17 +57,14 @@ IsNumeralOf radix bits digits n = IsNumeral radix digits × (n ≡ digits_value 
 abbrev pub IsNumberWord : ℕ → List ℕ → ℕ → Type 0
 IsNumberWord bits text n = IsNumeralOf 10 bits (without_leading_plus text) n
 
--- which of the sections with one type is meant: the first if there is no text
-abbrev pub IsInstanceWord : Option (List ℕ) → ℕ → Type 0
-IsInstanceWord None n = n ≡ 1
-IsInstanceWord (Some text) n = IsNumberWord 32 text n
-
--- the part of a volume that three texts name: the GUID of its file, the type of a section, and which of the sections
--- with this type it is
+-- the part of a volume that three texts name: the GUID of its file, which is given; the type of a section, in one or two
+-- hexadecimal digits, or no section if there is no text; and which of the sections with this type it is, the first if
+-- there is no text
 pub record IsPartBy (name section which : Option (List ℕ)) (part : Part) : Type 0 where
   pub name_is : option_and_then guid_read name ≡ Some part.name
-  pub section_is : IsSectionTypeWord section part.section
-  pub instance_is : IsInstanceWord which part.instance
+  pub section_is : (part.section ≡ option_map (digits_value 16) section)
+      × IfSome section (λ text. IsNumeral 16 text × (length text ≤ 2))
+  pub instance_is : IsNumberWord 32 (unwrap_or which (codes "1")) part.instance
 
 -- an image and its base, the address of its first byte: both are given, or neither
 abbrev pub IsImageWords : (path base : Option (List ℕ)) → Option ImageFile → Type 0
@@ -91,57 +72,48 @@ IsImageWords path base None = (path ≡ None) × (base ≡ None)
 IsImageWords path base (Some image) =
     (path ≡ Some (string_bytes image.path)) × IsSomeAnd base (λ text. IsNumberWord 64 text image.base)
 
--- the byte at which a volume begins, below 2 ^ 64: a decimal number, or `0x` and hexadecimal digits
-abbrev pub IsOffsetWord : List ℕ → ℕ → Type 0
-IsOffsetWord text n =
-    IsNumberWord 64 text n ⊎ ((digits : List ℕ) × (text ≡ codes "0x" ++ digits) × IsNumeralOf 16 64 digits n)
-
--- the byte at which a volume begins, or None if there is no text
+-- the byte at which a volume begins, below 2 ^ 64: a decimal number, or `0x` and hexadecimal digits. None if there is no
+-- text
 abbrev pub IsAtWord : Option (List ℕ) → Option ℕ → Type 0
 IsAtWord None at = at ≡ None
 IsAtWord (Some text) None = ⊥
-IsAtWord (Some text) (Some n) = IsOffsetWord text n
+IsAtWord (Some text) (Some n) =
+    IsNumberWord 64 text n ⊎ ((digits : List ℕ) × (text ≡ codes "0x" ++ digits) × IsNumeralOf 16 64 digits n)
 
 -- a file that is named, and the byte at which the volume in it begins
 abbrev pub IsVolumeWords : (path at : Option (List ℕ)) → VolumeFile → Type 0
 IsVolumeWords path at volume = (Some (string_bytes volume.path) ≡ path) × IsAtWord at volume.at
 
--- a file that is named, or None if there is no text
-abbrev pub IsFileWord : Option (List ℕ) → Option (String Global) → Type 0
-IsFileWord text file = option_map string_bytes file ≡ text
-
 -- the input of a command: its file, and the byte at which the volume begins, each if it is given
 abbrev pub HasInput : App → List (List ℕ) → Option ℕ → Option (String Global) → Type 0
-HasInput app rest at file = IsAtWord (text_in app (codes "at") rest) at × IsFileWord (text_in app (codes "file") rest) file
+HasInput app rest at file =
+    IsAtWord (text_in app (codes "at") rest) at × (option_map string_bytes file ≡ text_in app (codes "file") rest)
 
--- the arguments give this task, this byte and this file. A flag (`--all`, `--sums`) distinguishes two tasks with one
+-- the arguments after the command's name give this command. A flag (`--all`, `--sums`) distinguishes two tasks with one
 -- name. With `--all` no byte is given
-abbrev pub HasTaskTexts : List (List ℕ) → Task → Option ℕ → Option (String Global) → Type 0
-HasTaskTexts rest Normalise at file =
+abbrev pub HasTexts : List (List ℕ) → Command → Type 0
+HasTexts rest (Single Normalise at file) =
     (flag_in image_app (codes "all") rest ≡ false) × HasInput image_app rest at file
-HasTaskTexts rest NormaliseAll at file =
+HasTexts rest (Single NormaliseAll at file) =
     (flag_in image_app (codes "all") rest ≡ true) × (at ≡ None) × HasInput image_app rest at file
-HasTaskTexts rest Listing at file =
+HasTexts rest (Single Listing at file) =
     (flag_in list_app (codes "sums") rest ≡ false) × HasInput list_app rest at file
-HasTaskTexts rest ListSums at file =
+HasTexts rest (Single ListSums at file) =
     (flag_in list_app (codes "sums") rest ≡ true) × HasInput list_app rest at file
-HasTaskTexts rest (Extract part) at file =
+HasTexts rest (Single (Extract part) at file) =
     HasInput extract_app rest at file
     × IsPartBy (text_in extract_app (codes "name") rest) (text_in extract_app (codes "section") rest)
     (text_in extract_app (codes "instance") rest) part
-HasTaskTexts rest Check at file =
+HasTexts rest (Single Check at file) =
     (flag_in image_app (codes "all") rest ≡ false) × HasInput image_app rest at file
-HasTaskTexts rest CheckAll at file =
+HasTexts rest (Single CheckAll at file) =
     (flag_in image_app (codes "all") rest ≡ true) × (at ≡ None) × HasInput image_app rest at file
-HasTaskTexts rest Cells at file = HasInput volume_app rest at file
-HasTaskTexts rest Unfix at file = HasInput volume_app rest at file
-HasTaskTexts rest Scan at file = (at ≡ None) × IsFileWord (text_in one_input_app (codes "file") rest) file
-
--- the arguments after the command's name give this command
-abbrev pub HasTexts : List (List ℕ) → Command → Type 0
-HasTexts rest (Single task at file) = HasTaskTexts rest task at file
+HasTexts rest (Single Cells at file) = HasInput volume_app rest at file
+HasTexts rest (Single Unfix at file) = HasInput volume_app rest at file
+HasTexts rest (Single Scan at file) =
+    (at ≡ None) × (option_map string_bytes file ≡ text_in one_input_app (codes "file") rest)
 HasTexts rest (Hobs file image) =
-    IsFileWord (text_in hobs_app (codes "file") rest) file
+    (option_map string_bytes file ≡ text_in hobs_app (codes "file") rest)
     × IsImageWords (text_in hobs_app (codes "image") rest) (text_in hobs_app (codes "base") rest) image
 HasTexts rest (Compare first second) =
     IsVolumeWords (text_in compare_app (codes "first") rest) (text_in compare_app (codes "at") rest) first
@@ -151,8 +123,8 @@ HasTexts rest (Compare first second) =
 -- plan's command, and inputs and outputs are hexadecimal text exactly if the flag `--hex` is given
 pub record AsksBy (name : List ℕ) (rest : List (List ℕ)) (plan : Plan) : Type 0 where
   pub command : name ≡ command_name plan.command
-  pub taken : faults_in (command_app plan.command) rest ≡ []
-  pub hex : plan.hex ≡ flag_in (command_app plan.command) (codes "hex") rest
+  pub taken : faults_in (app_named name) rest ≡ []
+  pub hex : plan.hex ≡ flag_in (app_named name) (codes "hex") rest
   pub texts : HasTexts rest plan.command
 
 -- a complete command line asks for this plan. The argument after the program's name names the command (`AsksBy`).

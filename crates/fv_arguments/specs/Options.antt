@@ -17,14 +17,6 @@ flag_rule name = record (new_rule name) { long = Some name; action = Some SetTru
 abbrev pub option_rule : List ℕ → Rule
 option_rule name = record (new_rule name) { long = Some name }
 
--- the option `--at`: the byte of an input at which the volume begins
-abbrev pub at_rule : Rule
-at_rule = option_rule (codes "at")
-
--- the option `--other-at`: the byte of the second input at which the volume begins
-abbrev pub other_at_rule : Rule
-other_at_rule = option_rule (codes "other-at")
-
 -- the rules that all commands share: `--hex`, which says that inputs and outputs are hexadecimal text
 abbrev pub flag_app : App
 flag_app = with_rule (new_app (codes "fvtool")) (flag_rule (codes "hex"))
@@ -33,17 +25,17 @@ flag_app = with_rule (new_app (codes "fvtool")) (flag_rule (codes "hex"))
 abbrev pub one_input_app : App
 one_input_app = with_rule flag_app (new_rule (codes "file"))
 
--- the rules of a command with a volume in an input
+-- the rules of a command with a volume in an input: `--at` is the byte of the input at which the volume begins
 abbrev pub volume_app : App
-volume_app = with_rule (with_rule flag_app at_rule) (new_rule (codes "file"))
+volume_app = with_rule (with_rule flag_app (option_rule (codes "at"))) (new_rule (codes "file"))
 
 -- the rules of a command with a volume in an input, or with `--all` an image with all its volumes
 abbrev pub image_app : App
-image_app = with_rule (with_rule (with_rule flag_app (flag_rule (codes "all"))) at_rule) (new_rule (codes "file"))
+image_app = with_rule (with_rule (with_rule flag_app (flag_rule (codes "all"))) (option_rule (codes "at"))) (new_rule (codes "file"))
 
 -- the rules of `list`: a volume in an input, and `--sums`, which shows digests
 abbrev pub list_app : App
-list_app = with_rule (with_rule (with_rule flag_app (flag_rule (codes "sums"))) at_rule) (new_rule (codes "file"))
+list_app = with_rule (with_rule (with_rule flag_app (flag_rule (codes "sums"))) (option_rule (codes "at"))) (new_rule (codes "file"))
 
 -- the rules of `hobs`: a hand-off list, and an image with its address `--base`, which has 64 bits
 abbrev pub hobs_app : App
@@ -53,12 +45,12 @@ hobs_app = with_rule (with_rule (with_rule flag_app (option_rule (codes "image")
 abbrev pub extract_app : App
 extract_app =
     with_rule (with_rule (with_rule (with_rule (with_rule flag_app (option_rule (codes "name"))) (option_rule (codes "section")))
-    (option_rule (codes "instance"))) at_rule) (new_rule (codes "file"))
+    (option_rule (codes "instance"))) (option_rule (codes "at"))) (new_rule (codes "file"))
 
--- the rules of `compare`: two inputs, each with the byte at which its volume begins
+-- the rules of `compare`: two inputs, each with the byte at which its volume begins (`--at`, `--other-at`)
 abbrev pub compare_app : App
 compare_app =
-    with_rule (with_rule (with_rule (with_rule flag_app at_rule) other_at_rule)
+    with_rule (with_rule (with_rule (with_rule flag_app (option_rule (codes "at"))) (option_rule (codes "other-at")))
     (new_rule (codes "first"))) (new_rule (codes "second"))
 
 -- the values that the parser finds in the arguments after the command's name

@@ -3,12 +3,13 @@
 ghost use Rattle.clap.specs.Words.{App, first_value, found_of};
 ghost use Rattle.fv_arguments.specs.Options.{flag_in};
 ghost use Rattle.fv_arguments.specs.inner.CommandWords.{AreRightFor, AsksOrFails, IsRead, ReadsOrFails};
-ghost use Rattle.fv_arguments.specs.CommandLines.{AsksBy, HasInput, IsAtWord, IsImageWords, IsInstanceWord, IsNumberWord};
-ghost use Rattle.fv_arguments.specs.CommandLines.{IsNumeralOf, IsPartBy, IsOffsetWord, IsSectionTypeWord, IsVolumeWords};
+ghost use Rattle.fv_arguments.specs.CommandLines.{AsksBy, HasInput, IsAtWord, IsImageWords, IsNumberWord};
+ghost use Rattle.fv_arguments.specs.CommandLines.{IsNumeralOf, IsPartBy, IsVolumeWords};
 ghost use Rattle.fv_base.specs.Words.{guid_read};
 ghost use Rattle.std.specs.String.{string_bytes};
 ghost use Rattle.std.specs.Prelude.{◌≡◌, ◌≤◌, ℕ, List, Some, codes, drop, length, map, if◌then◌else◌};
-ghost use Rattle.std.specs.Prelude.{option_and_then, option_map, IfErr, IfOk, SomeIff};
+ghost use Rattle.std.specs.Prelude.{option_and_then, option_map, IfErr, IfOk, IfSome, SomeIff};
+ghost use Rattle.std.specs.Option.{unwrap_or};
 ghost use Rattle.std.specs.Str.Parse.{IsNumeral, digits_value};
 
 use crate::rules::rules_of;
@@ -73,7 +74,7 @@ fn hexadecimal(digits: &str) -> Result<u64, WordFault>
 
 // Reads the byte at which a volume begins: a decimal number, or `0x` and hexadecimal digits.
 pub(crate) fn volume_offset(text: &str) -> Result<u64, WordFault>
-    ensures { ReadsOrFails (IsOffsetWord text.now) result }
+    ensures { ReadsOrFails (λ n. IsAtWord (Some text.now) (Some n)) result }
 {
     match text.strip_prefix("0x") {
         Some(digits) => hexadecimal(digits),
@@ -195,7 +196,8 @@ pub(crate) fn section_type(text: &str) -> Option<u8>
 
 // Reads a section type, or returns None if there is no text.
 fn section_of(text: Option<&str>) -> Result<Option<u8>, WordFault>
-    ensures { ReadsOrFails (IsSectionTypeWord (option_map (λ s. s.now) text.entry)) result }
+    ensures { ReadsOrFails (λ kind. (kind ≡ option_map (digits_value 16) (option_map (λ s. s.now) text.entry))
+        × IfSome (option_map (λ s. s.now) text.entry) (λ s. IsNumeral 16 s × (length s ≤ 2))) result }
 {
     let Some(text) = text else {
         return Ok(None);
@@ -221,7 +223,7 @@ pub(crate) fn name_of(text: Option<&str>) -> Result<Guid, WordFault>
 
 // Reads which of the sections with the same type is meant: the first if no number is given.
 pub(crate) fn instance_of(text: Option<&str>) -> Result<u32, WordFault>
-    ensures { ReadsOrFails (IsInstanceWord (option_map (λ s. s.now) text.entry)) result }
+    ensures { ReadsOrFails (IsNumberWord 32 (unwrap_or (option_map (λ s. s.now) text.entry) (codes "1"))) result }
 {
     let Some(text) = text else {
         return Ok(1);

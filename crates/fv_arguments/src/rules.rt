@@ -1,8 +1,8 @@
 //! The rules of the commands: the flags, options and files that each command takes.
 
 ghost use Rattle.clap.specs.Words.{App, Rule, app_of, new_rule, rule_of, with_rule};
-ghost use Rattle.fv_arguments.specs.Options.{at_rule, compare_app, extract_app, flag_app, flag_rule, hobs_app, option_rule};
-ghost use Rattle.fv_arguments.specs.inner.CommandWords.{app_named};
+ghost use Rattle.fv_arguments.specs.Options.{compare_app, extract_app, flag_app, flag_rule, hobs_app, option_rule};
+ghost use Rattle.fv_arguments.specs.CommandLines.{app_named};
 ghost use Rattle.std.specs.Prelude.{◌≡◌, codes, false, IfOk};
 
 use clap::{Arg, ArgAction, Command};
@@ -38,7 +38,7 @@ fn add_volume<'a>(
     rules: Result<Command<'a>, AllocError>,
 ) -> Result<Command<'a>, AllocError>
     ensures { (app : App) → IfOk rules.entry (λ c. app_of c ≡ app)
-        → IfOk result (λ c. app_of c ≡ with_rule (with_rule app at_rule) (new_rule (codes "file"))) }
+        → IfOk result (λ c. app_of c ≡ with_rule (with_rule app (option_rule (codes "at"))) (new_rule (codes "file"))) }
 {
     let at = add(rules, option(alloc, "at"));
     add(at, Arg::new(alloc, "file"))
@@ -55,7 +55,7 @@ fn text_rules<'a>(alloc: Global) -> Result<Command<'a>, AllocError>
 // Makes the rules of a command that takes a volume and a flag with this name.
 fn flag_rules<'a>(alloc: Global, name: &'static str) -> Result<Command<'a>, AllocError>
     ensures { IfOk result (λ c. app_of c
-        ≡ with_rule (with_rule (with_rule flag_app (flag_rule name.now)) at_rule) (new_rule (codes "file"))) }
+        ≡ with_rule (with_rule (with_rule flag_app (flag_rule name.now)) (option_rule (codes "at"))) (new_rule (codes "file"))) }
 {
     add_volume(alloc, add(text_rules(alloc), flag(alloc, name)))
 }

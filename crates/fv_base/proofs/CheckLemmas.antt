@@ -7,6 +7,8 @@
 --    `fails_among`). If all checks hold, no fault is the fault of a check that fails (`none_fails`). A table has at
 --    most one first fault (`one_fault`), and it is a fault whose check fails (`any_fails`).
 -- 4. A verdict is the first fault or, if all checks hold, a value (`verdict_ok`, `verdict_err`, `verdict_none`).
+use Rattle.std.proofs.lemmas.Grind.{common_steps}
+use Rattle.std.proofs.Common.{arith}
 use Rattle.std.proofs.Common.{◌≡◌, List, [], ◌∷◌, ◌++◌, refl, ap, subst, sym, ◌∙◌, inl, inr, Bool, true, false}
 use Rattle.std.specs.Prelude.{◌&&◌, Option, None, Some, Ok, Err, if◌then◌else◌}
 use Rattle.std.specs.List.{AllByRecursion}
@@ -17,12 +19,10 @@ use Rattle.fv_base.proofs.ListLaws.{TwoCuts, in_middle, two_cuts}
 use Rattle.fv_base.proofs.TestLemmas.{up_is_not_down}
 
 pub and_split : (a b : Bool) → (a && b) ≡ true → (a ≡ true) × (b ≡ true)
-and_split true b h = (refl, h)
-and_split false b h = cc
+and_split a b h = grind (arith, common_steps)
 
 pub and_join : (a b : Bool) → a ≡ true → b ≡ true → (a && b) ≡ true
-and_join true b h k = k
-and_join false b h k = cc
+and_join a b h k = grind (arith, common_steps)
 
 -- if there is no first fault, every check holds
 pub all_hold : {F : Type 0} → (cs : List (Check F)) → first_fault cs ≡ None → AllHold cs
@@ -120,13 +120,10 @@ any_fails cs f (before, c, after, is, held, bad, fault) = (before, c, after, is,
 -- ---- a fault, or else the value
 
 pub verdict_ok : {A F : Type 0} → (o : Option F) (a b : A) → verdict_by o a ≡ Ok b → (o ≡ None) × (a ≡ b)
-verdict_ok None a b e = (refl, cc)
-verdict_ok (Some f) a b e = cc
+verdict_ok o a b e = grind (arith, common_steps)
 
 pub verdict_err : {A F : Type 0} → (o : Option F) (a : A) (f : F) → verdict_by o a ≡ Err f → o ≡ Some f
-verdict_err None a f e = cc
-verdict_err (Some g) a f e = cc
+verdict_err o a f e = grind (arith, common_steps)
 
 pub verdict_none : {A F : Type 0} → (o : Option F) (a : A) → o ≡ None → verdict_by o a ≡ Ok a
-verdict_none None a e = refl
-verdict_none (Some f) a e = cc
+verdict_none o a e = grind (arith, common_steps)

@@ -47,10 +47,7 @@ xor_none a b h = same_from_bits a b (λ i.
     same_bit x y l m e = omega arith
 
 pub xor_same : (a : ℕ) → bit_xor a a ≡ 0
-xor_same a = same_from_bits (bit_xor a a) 0 (λ i. bit_at_xor a a i ∙ twice (bit_at a i) ∙ sym (bit_at-zero i))
-  where
-    twice : (x : ℕ) → (x + x) % 2 ≡ 0
-    twice x = omega arith
+xor_same a = grind (arith, common_steps, bit_at-zero)
 
 -- after one more byte is compared, `seen` is still 0 exactly if all bytes up to here are `e`
 pub looked_at : (e seen : ℕ) (x : List ℕ) (i : ℕ) → i < length x → ((seen ≡ 0) ↔ AllAre e (take i x))

@@ -4,14 +4,12 @@
 -- 2. The second of two alternatives can be replaced by one that follows from it (`or_more`). If the second is
 --    impossible, the first holds (`first_only`). The first alternative is mostly out of memory.
 -- 3. A fault is out of memory, or it is not (`want_known`).
-use Rattle.std.proofs.Common.{◌≡◌, ◌≢◌, ◌⊎◌, ℕ, rules, Bool, true, false, refl, inl, inr, ap, arith, Result, Ok, Err, IsErrAnd}
+use Rattle.std.proofs.Common.{◌≡◌, ◌≢◌, ◌⊎◌, ℕ, inl, inr, ap, arith, Result, Ok, Err, IsErrAnd}
 use Rattle.std.proofs.lemmas.Grind.{common_steps}
 use Rattle.std.proofs.lemmas.Bool.{cases_eq}
-use denote.Enum.Bare.{sameb, same_false, same_true}
 use Rattle.fv_base.specs.Words.{out_of_memory}
 use Rattle.fv_base.specs.declared.fault.Fault.{Fault}
 use Rattle.fv_base.specs.declared.fault.FaultKind.{FaultKind}
-use Rattle.fv_base.specs.contracts.fault.FaultKind.{the_type}
 use Rattle.fv_base.specs.declared.fault.FaultKind.TheVariants as kinds
 
 pub err_is : {A F : Type 0} {r : Result A F} {f : F} → IsErrAnd r (λ g. g ≡ f) → r ≡ Err f
@@ -23,16 +21,12 @@ or_more (inl p) more = inl p
 or_more (inr u) more = inr (more u)
 
 pub first_only : {P U : Type 0} → P ⊎ U → (U → ⊥) → P
-first_only (inl p) none = p
-first_only (inr u) none = absurd (none u)
+first_only either none = grind (arith, common_steps)
 
 -- ---- out of memory
 
 kind_known : (k : FaultKind) → (k ≡ kinds.OutOfMemory) ⊎ (k ≢ kinds.OutOfMemory)
-kind_known k = go (sameb the_type k kinds.OutOfMemory) refl where
-  go : (t : Bool) → sameb the_type k kinds.OutOfMemory ≡ t → (k ≡ kinds.OutOfMemory) ⊎ (k ≢ kinds.OutOfMemory)
-  go true same = inl (same_true the_type (search rules) _ _ same)
-  go false other = inr (same_false the_type _ _ other)
+kind_known k = grind (arith, common_steps)
 
 number_known : (n : ℕ) → (n ≡ 0) ⊎ (n ≢ 0)
 number_known n = cases_eq n 0

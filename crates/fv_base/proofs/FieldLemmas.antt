@@ -5,8 +5,8 @@
 -- 3. A field of a part is a field of the whole (`field-take`, `field-append_front`, `drop-append_behind`).
 -- 4. The bytes up to a place are the bytes up to an earlier place, and at least one more (`take_past`, `some_between`).
 --    Two places are equal if neither of them is less (`same_place`).
-use Rattle.std.proofs.Common.{◌≡◌, ◌≤◌, ◌<◌, ◌+◌, ◌-◌, ◌*◌, ◌/◌, ◌%◌, ◌^◌, ℕ, [], ◌∷◌, ◌++◌, ◌⊎◌, zero, suc, List, length, take, drop, refl, sym, ap}
-use Rattle.std.proofs.Common.{◌∙◌, subst, arith, inl, inr, length-drop, slice_index, length-take-le}
+use Rattle.std.proofs.Common.{◌≡◌, ◌≤◌, ◌<◌, ◌+◌, ◌-◌, ◌*◌, ◌/◌, ◌%◌, ◌^◌, ℕ, [], ◌∷◌, ◌++◌, zero, suc, List, length, take, drop, refl, sym, ap}
+use Rattle.std.proofs.Common.{◌∙◌, subst, arith, length-drop, slice_index, length-take-le}
 use Rattle.std.proofs.lemmas.Grind.{common_steps}
 use Rattle.std.proofs.Math.Nat.{pow-suc}
 use Rattle.std.proofs.Math.Seq.{drop-append-add, take-add}
@@ -74,8 +74,7 @@ field_is at n b h within =
 
 -- a byte followed by a list of bytes is a list of bytes
 pub bytes_cons : (x : ℕ) (b : List ℕ) → x < 256 → IsBytes b → IsBytes (x ∷ b)
-bytes_cons x b h k zero = h
-bytes_cons x b h k (suc i) = k i
+bytes_cons x b h k i = grind (arith, common_steps)
 
 -- two joined lists of bytes are a list of bytes
 pub bytes_append : (a b : List ℕ) → IsBytes a → IsBytes b → IsBytes (a ++ b)
@@ -144,11 +143,7 @@ two_bytes at b small = below (field at 2 b) (drop at b) refl (bytes_drop at b sm
 
 -- two places are equal if neither of them is less
 pub same_place : (m n : ℕ) → (m < n → ⊥) → (n < m → ⊥) → m ≡ n
-same_place m n low high = go (cases_lt m n) (cases_lt n m) where
-  go : (m < n) ⊎ (n ≤ m) → (n < m) ⊎ (m ≤ n) → m ≡ n
-  go (inl l) _ = absurd (low l)
-  go (inr _) (inl l) = absurd (high l)
-  go (inr a) (inr b) = omega (arith, a, b)
+same_place m n low high = grind (arith, common_steps, cases_lt)
 
 -- the bytes up to the later place are the bytes up to the earlier place, and then the bytes between the two places
 pub take_past : (b : List ℕ) (m n : ℕ) → m < n → take n b ≡ take m b ++ take (n - m) (drop m b)

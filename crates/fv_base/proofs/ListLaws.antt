@@ -42,8 +42,7 @@ all_filter {X} test P (x ∷ xs) h = go (test x) refl (all_filter test P xs h.1)
 
 -- an item of a list is its first or one after it
 pub first_or_behind : {X : Type 0} (x : X) (xs : List X) (y : X) → Contains (x ∷ xs) y → (x ≡ y) ⊎ Contains xs y
-first_or_behind x xs y (zero, l, e) = inl e
-first_or_behind x xs y (suc k, l, e) = inr (k, omega (arith, l), e)
+first_or_behind x xs y has = grind (arith, common_steps)
 
 pub one_behind : {X : Type 0} (x : X) (xs : List X) (y : X) → Contains xs y → Contains (x ∷ xs) y
 one_behind x xs y (k, l, e) = (suc k, omega (arith, l), e)

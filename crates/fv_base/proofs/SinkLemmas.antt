@@ -1,6 +1,7 @@
 -- After one walk or several, a sink holds the bytes of all of them.
-use Rattle.std.proofs.Common.{◌≡◌, ℕ, ◌+◌, ◌<◌, [], ◌++◌, ◌||◌, ◌&&◌, ◌==◌, List, take, drop, length, replicate, refl, sym, ◌∙◌, ap, subst, arith}
-use Rattle.std.proofs.Common.{not, eqb-true, Bool, true, false, Option, Result, Ok, Err, IfOk}
+use Rattle.std.proofs.lemmas.Grind.{common_steps}
+use Rattle.std.proofs.Common.{◌≡◌, ℕ, ◌+◌, ◌<◌, [], ◌||◌, ◌&&◌, ◌==◌, List, take, drop, length, replicate, sym, ◌∙◌, ap, subst, arith}
+use Rattle.std.proofs.Common.{not, eqb-true, Bool, true, Option, Result, IfOk}
 use Rattle.std.proofs.lemmas.List.{replicate-append-replicate}
 use Rattle.std.proofs.Math.Seq.{take-add}
 use Rattle.std.proofs.KnownBytes.{Appends-trans}
@@ -22,17 +23,9 @@ more_written a b c m n bytes first next = subst (Appends a c) (sym (take-add m n
 
 -- a write that took at least one byte did not fail
 pub some_taken : (erred : Bool) (n : ℕ) (buf : List ℕ) → 0 < n → (erred || ((n == 0) && not (length buf == 0))) ≡ erred
-some_taken true n buf some = refl
-some_taken false n buf some = go (n == 0) refl
-  where
-    go : (b : Bool) → (n == 0) ≡ b → ((n == 0) && not (length buf == 0)) ≡ false
-    go true e = absurd (omega (arith, some, eqb-true n 0 e))
-    go false e = ap (λ b. b && not (length buf == 0)) e
+some_taken erred n buf some = grind (arith, common_steps, eqb-true)
 
 -- a list sink that was empty, and took bytes without stopping, holds these bytes
 pub kept_whole : (s k bytes : List ℕ) (a b : Bool) (r : Result (List ℕ) Fault) → s ≡ [] → a ≡ true → KeptLatched s a bytes k b
     → IfOk r (λ o. (b ≡ true) × (o ≡ k)) → IfOk r (λ o. o ≡ bytes)
-kept_whole s k bytes true true (Ok o) none on taken got = got.1 ∙ taken ∙ ap (λ (xs : List ℕ). xs ++ bytes) none
-kept_whole s k bytes true false (Ok o) none on taken got = let never : false ≡ true = got.0 in cc
-kept_whole s k bytes false b (Ok o) none on taken got = cc
-kept_whole s k bytes a b (Err f) none on taken got = tt
+kept_whole s k bytes a b r none on taken got = grind (arith, common_steps)

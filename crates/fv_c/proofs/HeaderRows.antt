@@ -1,12 +1,16 @@
 -- Proves that a loop which writes the header of each volume in turn into a buffer (`header_put`) writes the headers of
 -- all volumes (`headers_put`), and that there are these headers also if none is written (`headers_of`).
-use Rattle.std.proofs.Common.{◌≡◌, ◌<◌, ◌≤◌, ◌+◌, ℕ, [], ◌∷◌, ◌++◌, ◌∙◌, List, length, take, drop, get_or, refl, sym, ap, ap₂, arith, drop-drop}
+use Rattle.std.proofs.Common.{◌≡◌, ◌<◌, ◌≤◌, ◌+◌, ℕ, [], ◌∷◌, ◌++◌, ◌∙◌, List, length, map, take, drop, get_or, refl, sym, ap, ap₂, arith, drop-drop}
 use Rattle.std.proofs.Common.{subst, drop-set-lt, length-set, length-take-le, take-append-drop, take_all}
 use Rattle.fv_base.proofs.Laws.{set, AllByRecursion, map-append, take_more, take_more_set}
 use Rattle.fv_flash.specs.Words.{AreFound, Found, VolumeAt, offsets_of}
 use Rattle.fv_flash.specs.declared.scanner.FoundVolume.{FoundVolume}
-use Rattle.fv_c.specs.ReportedHeaders.{AreHeaders, IsHeaderIn, header_offsets, reported_header}
+use Rattle.fv_c.specs.ReportedHeaders.{AreHeaders, IsHeaderIn, reported_header}
 use Rattle.fv_c.specs.declared.header.FvHeader.{FvHeader}
+
+-- the offsets of these rows
+abbrev header_offsets : List FvHeader → List ℕ
+header_offsets rows = map (λ (r : FvHeader). r.offset) rows
 
 -- the first i elements of the buffer are the headers of the first i volumes, and the others are unchanged
 pub record ArePut (b : List ℕ) (volumes : List FoundVolume) (i : ℕ) (old now : List FvHeader) : Type 0 where

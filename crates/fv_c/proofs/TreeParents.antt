@@ -3,22 +3,20 @@
 -- 1. `Good` states this for the rows of consecutive parts, in a form that its proof by recursion needs. It holds for no
 --    parts (`good_none`), and after one more part is put in front (`good_more`).
 -- 2. The parents of the rows of a part are found among these rows and the row of the part (`Under`, `under_more`).
--- 3. By recursion this holds for the rows of a volume (`under_volume`), of files, of sections and of bodies.
-use Rattle.std.proofs.Common.{◌≡◌, ◌∙◌, ◌⊎◌, ℕ, ◌+◌, ◌≤◌, List, [], ◌∷◌, ◌++◌, length, Some, true, false, cond, map, refl, sym, ap}
-use Rattle.std.proofs.Common.{append-nil, arith, inl, inr, subst}
+-- 3. By recursion this holds for the rows of any parts (`under_nodes`).
+use Rattle.std.proofs.Common.{◌≡◌, ◌∙◌, ◌⊎◌, ℕ, ◌+◌, ◌≤◌, List, [], ◌∷◌, ◌++◌, length, Some, true, false, cond, refl, sym, ap}
+use Rattle.std.proofs.Common.{append-nil, arith, inl, inr, length-append, subst, suc, zero}
 use Rattle.std.proofs.lemmas.Bool.{eq-eqb, eqb-true, eqb-false, ne_eqb}
 use Rattle.std.proofs.lemmas.List.Elements.{filter-append}
 use Rattle.std.specs.List.{AllByRecursion, filter}
 use Rattle.std.specs.Prelude.{◌==◌, ◌≢◌, ◌&&◌, Bool, not, Option, slice_get}
-use Rattle.fv_tree.specs.Words.{Meaning, Volume, FileMeanings, NoFiles, MoreFiles, File, ContentMeaning, Plain, Sectioned, SectionMeanings}
-use Rattle.fv_tree.specs.Words.{NoSections, MoreSections, Section, BodyMeaning, Leaf, Group, Nested, files_list, sections_list}
-use Rattle.fv_tree.specs.Words.{sections_in_data}
+use Rattle.fv_tree.specs.Words.{Meaning}
 use Rattle.fv_c.proofs.RowNumbers.{in_either, none_before, row_at, row_is_at}
-use Rattle.fv_rows.specs.Words.{NodeMeaning, VolumeNode, FileNode, SectionNode, parts_in, parts_in_body}
-use Rattle.fv_rows.specs.Words.{TreeRow as Row, tree_rows as rows_of}
-use Rattle.fv_rows.specs.Words.{rows_in_body, rows_in_content, rows_of_files, rows_of_sections, rows_of_volume}
+use Rattle.fv_rows.specs.Words.{NodeMeaning, VolumeNode, parts_in, TreeRow as Row, tree_rows as rows_of, nesting_inside, rows_inside, rows_of_nodes}
+use Rattle.fv_rows.proofs.Laws.{inside_rows, volume_rows}
 use Rattle.fv_c.specs.TreeParts.{TreeRow, is_first, is_held_by, last_above, no_parent, parent_of, rows_held, rows_of_parts, tree_rows}
 use Rattle.fv_c.specs.TreeParts.{with_parents}
+use Rattle.fv_c.specs.inner.Trees.{depths_after}
 
 -- ---- a row
 
@@ -116,16 +114,11 @@ module _ (n parent depth number : ℕ) (node : NodeMeaning) (nodes : List NodeMe
 
 -- ---- the parents
 
--- the depths of these rows, and then of the rows before them, the last row first
-abbrev depths_after : List Row → List ℕ → List ℕ
-depths_after [] before = before
-depths_after (r ∷ rows) before = depths_after rows (r.depth ∷ before)
-
 after_long : (rows : List Row) (before : List ℕ) → length (depths_after rows before) ≡ length before + length (with_parents before rows)
 after_long [] before = omega arith
 after_long (r ∷ rows) before = omega (arith, after_long rows (r.depth ∷ before))
 
-parents_joined : (before : List ℕ) (a b : List Row)
+pub parents_joined : (before : List ℕ) (a b : List Row)
     → with_parents before (a ++ b) ≡ with_parents before a ++ with_parents (depths_after a before) b
 parents_joined before [] b = refl
 parents_joined before (r ∷ a) b =
@@ -141,15 +134,15 @@ deep_joined depth [] b x y = y
 deep_joined depth (r ∷ a) b x y = (omega (arith, x.0), deep_joined depth a b x.1 y)
 
 -- deeper rows do not change the parent of a later row
-pub same_above : (depth d : ℕ) (before : List ℕ) → depth ≤ d → parent_of depth (d ∷ before) ≡ parent_of depth before
+same_above : (depth d : ℕ) (before : List ℕ) → depth ≤ d → parent_of depth (d ∷ before) ≡ parent_of depth before
 same_above depth d before l =
     ap (λ (t : Bool). cond (depth == 0) no_parent (cond t (length before) (last_above depth before))) (ne_eqb (d + 1) depth (λ e. omega arith))
 
-same_parent : (depth : ℕ) (rows : List Row) (before : List ℕ) → AreDeep (depth + 1) rows
+same_parent : (depth least : ℕ) (rows : List Row) (before : List ℕ) → depth ≤ least → AreDeep least rows
     → parent_of depth (depths_after rows before) ≡ parent_of depth before
-same_parent depth [] before deep = refl
-same_parent depth (r ∷ rows) before deep =
-    same_parent depth rows (r.depth ∷ before) deep.1 ∙ same_above depth r.depth before (omega (arith, deep.0))
+same_parent depth least [] before l deep = refl
+same_parent depth least (r ∷ rows) before l deep =
+    same_parent depth least rows (r.depth ∷ before) l deep.1 ∙ same_above depth r.depth before (omega (arith, l, deep.0))
 
 -- the parent of a row right after a row that is one less deep
 pub next_parent : (depth : ℕ) (before : List ℕ) → parent_of (depth + 1) (depth ∷ before) ≡ length before
@@ -168,7 +161,7 @@ under_none before parent depth number = record { deep = tt; good = good_none (le
 later_parent : (before : List ℕ) (parent depth : ℕ) (inside : List Row) → parent_of depth before ≡ parent → AreDeep (depth + 1) inside
     → parent_of depth (depths_after inside (depth ∷ before)) ≡ parent
 later_parent before parent depth inside is deep =
-    same_parent depth inside (depth ∷ before) deep ∙ same_above depth depth before (omega arith) ∙ is
+    same_parent depth (depth + 1) inside (depth ∷ before) (omega arith) deep ∙ same_above depth depth before (omega arith) ∙ is
 
 under_more : {before : List ℕ} {parent depth nesting number : ℕ} {node : NodeMeaning} {nodes : List NodeMeaning} {inside rest : List Row}
     → parent_of depth before ≡ parent → Under (depth ∷ before) (length before) (depth + 1) 0 (parts_in node) inside
@@ -195,51 +188,39 @@ under_more {before} {parent} {depth} {nesting} {number} {node} {nodes} {inside} 
 
 -- ---- a tree
 
-mutual
-  under_volume : (depth nesting : ℕ) (before : List ℕ) (parent : ℕ) (m : Meaning) → parent_of depth before ≡ parent
-      → Under before parent depth 0 (VolumeNode m ∷ []) (rows_of_volume depth nesting m)
-  under_volume depth nesting before parent (Volume h files) is =
-      let inside : List Row = rows_of_files (depth + 1) nesting 0 files in
-      let first = under_files (depth + 1) nesting 0 (depth ∷ before) (length before) files (next_parent depth before) in
-      subst (λ (l : List Row). Under before parent depth 0 (VolumeNode (Volume h files) ∷ [])
-      (record { depth = depth; nesting = nesting; number = 0; node = VolumeNode (Volume h files) } ∷ l)) (append-nil inside)
-      (under_more is first (under_none (depths_after inside (depth ∷ before)) parent depth 1))
+-- `most` is at least the number of the rows
+under_nodes : (most depth nesting number : ℕ) (before : List ℕ) (parent : ℕ) (nodes : List NodeMeaning)
+    → length (rows_of_nodes depth nesting number nodes) ≤ most → parent_of depth before ≡ parent
+    → Under before parent depth number nodes (rows_of_nodes depth nesting number nodes)
+under_nodes most depth nesting number before parent [] few is = under_none before parent depth number
+under_nodes zero depth nesting number before parent (node ∷ nodes) few is = absurd (omega (arith, few))
+under_nodes (suc most) depth nesting number before parent (node ∷ nodes) few is =
+    let deeper : ℕ = nesting_inside nesting node in
+    let inside : List Row = rows_inside (depth + 1) deeper node in
+    let own = inside_rows (depth + 1) deeper node in
+    let long = length-append inside (rows_of_nodes depth nesting (number + 1) nodes) in
+    let first : Under (depth ∷ before) (length before) (depth + 1) 0 (parts_in node) inside =
+    subst (Under (depth ∷ before) (length before) (depth + 1) 0 (parts_in node)) (sym own)
+    (under_nodes most (depth + 1) deeper 0 (depth ∷ before) (length before) (parts_in node) (omega (arith, few, long, ap length own))
+    (next_parent depth before)) in
+    under_more is first
+    (under_nodes most depth nesting (number + 1) (depths_after inside (depth ∷ before)) parent nodes (omega (arith, few, long))
+    (later_parent before parent depth inside is first.deep))
 
-  under_files : (depth nesting number : ℕ) (before : List ℕ) (parent : ℕ) (files : FileMeanings) → parent_of depth before ≡ parent
-      → Under before parent depth number (map FileNode (files_list files)) (rows_of_files depth nesting number files)
-  under_files depth nesting number before parent NoFiles is = under_none before parent depth number
-  under_files depth nesting number before parent (MoreFiles (File name kind attributes content) fs) is =
-      let inside : List Row = rows_in_content (depth + 1) nesting content in
-      let first = under_content (depth + 1) nesting (depth ∷ before) (length before) content (next_parent depth before) in
-      under_more is first
-      (under_files depth nesting (number + 1) (depths_after inside (depth ∷ before)) parent fs
-      (later_parent before parent depth inside is first.deep))
-
-  under_content : (depth nesting : ℕ) (before : List ℕ) (parent : ℕ) (content : ContentMeaning) → parent_of depth before ≡ parent
-      → Under before parent depth 0 (map SectionNode (sections_list (sections_in_data content))) (rows_in_content depth nesting content)
-  under_content depth nesting before parent (Plain b) is = under_none before parent depth 0
-  under_content depth nesting before parent (Sectioned ss tail) is = under_sections depth nesting 0 before parent ss is
-
-  under_sections : (depth nesting number : ℕ) (before : List ℕ) (parent : ℕ) (ss : SectionMeanings) → parent_of depth before ≡ parent
-      → Under before parent depth number (map SectionNode (sections_list ss)) (rows_of_sections depth nesting number ss)
-  under_sections depth nesting number before parent NoSections is = under_none before parent depth number
-  under_sections depth nesting number before parent (MoreSections (Section kind extended body) ss) is =
-      let inside : List Row = rows_in_body (depth + 1) (nesting + 1) body in
-      let first = under_body (depth + 1) (nesting + 1) (depth ∷ before) (length before) body (next_parent depth before) in
-      under_more is first
-      (under_sections depth nesting (number + 1) (depths_after inside (depth ∷ before)) parent ss
-      (later_parent before parent depth inside is first.deep))
-
-  under_body : (depth nesting : ℕ) (before : List ℕ) (parent : ℕ) (body : BodyMeaning) → parent_of depth before ≡ parent
-      → Under before parent depth 0 (parts_in_body body) (rows_in_body depth nesting body)
-  under_body depth nesting before parent (Leaf b) is = under_none before parent depth 0
-  under_body depth nesting before parent (Group ss tail) is = under_sections depth nesting 0 before parent ss is
-  under_body depth nesting before parent (Nested volume) is = under_volume depth nesting before parent volume is
+-- the parent of a row is also the parent of a row at the same depth after the rows of these parts
+pub later_parts : (depth nesting number : ℕ) (before : List ℕ) (nodes : List NodeMeaning)
+    → parent_of depth (depths_after (rows_of_nodes depth nesting number nodes) before) ≡ parent_of depth before
+later_parts depth nesting number before nodes =
+    let rows : List Row = rows_of_nodes depth nesting number nodes in
+    same_parent depth depth rows before (omega arith) (under_nodes (length rows) depth nesting number before (parent_of depth before) nodes (omega arith) refl).deep
 
 -- ---- the rows of a volume
 
 under_tree : (m : Meaning) → Under [] no_parent 0 0 (VolumeNode m ∷ []) (rows_of m)
-under_tree m = under_volume 0 0 [] no_parent m refl
+under_tree m =
+    let rows : List Row = rows_of_nodes 0 0 0 (VolumeNode m ∷ []) in
+    subst (Under [] no_parent 0 0 (VolumeNode m ∷ [])) (sym (volume_rows 0 0 m))
+    (under_nodes (length rows) 0 0 0 [] no_parent (VolumeNode m ∷ []) (omega arith) refl)
 
 pub first_is : (m : Meaning) → filter is_first (tree_rows m) ≡ rows_of_parts no_parent 0 0 (VolumeNode m ∷ [])
 first_is m = (under_tree m).good.own is_first (λ number node. refl) (λ r p d. ne_eqb r.depth 0 (λ e. omega arith))

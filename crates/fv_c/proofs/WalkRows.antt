@@ -5,7 +5,7 @@ use Rattle.std.proofs.lemmas.Option.{slice_get-map}
 use Rattle.fv_tree.specs.Words.{Meaning, Pairwise}
 use Rattle.fv_rows.specs.Words.{NodeMeaning, TreeRow as Row, tree_rows as rows_of}
 use Rattle.fv_c.specs.TreeParts.{TreeRow, tree_rows, with_parents}
-use Rattle.fv_c.specs.ReportedDigests.{AreDigests, IsReportedDigest}
+use Rattle.fv_c.specs.ReportedDigests.{IsReportedDigest}
 use Rattle.fv_c.specs.ExtractedParts.{part_at}
 use Rattle.fv_c.specs.declared.canonical.FvSha256.{FvSha256}
 
@@ -29,6 +29,9 @@ part_found m row o is =
 -- ---- the digests
 
 -- the digests of these rows, in the same order
+abbrev AreDigests : List FvSha256 → List TreeRow → Type 0
+AreDigests digests rows = Pairwise (λ (d : FvSha256) (r : TreeRow). IsReportedDigest r.node d.bytes) digests rows
+
 abbrev pub AreRowDigests : List FvSha256 → List Row → Type 0
 AreRowDigests digests rows = Pairwise (λ (d : FvSha256) (r : Row). IsReportedDigest r.node d.bytes) digests rows
 

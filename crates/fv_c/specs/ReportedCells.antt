@@ -3,7 +3,6 @@ use Rattle.std.specs.Prelude.{ℕ, replicate}
 use Rattle.fv_base.specs.Words.{bytes_of}
 use Rattle.fv_file.specs.Words.{CellForm, Valid, Pad, Dead, Stub, Free, attribute_bits, file_header_len, is_large}
 use Rattle.fv_file.specs.declared.head.FileHead.{FileHead}
-use Rattle.fv_file.specs.declared.state.FileState.{FileState}
 use Rattle.fv_file.specs.declared.state.FileState.TheVariants as states
 use Rattle.fv_c.specs.declared.cells.FvCell.{FvCell}
 
@@ -34,15 +33,12 @@ of_bytes at kind len = record {
   reserved = 0;
 }
 
--- the number for a dead file: 3 if it was deleted, and otherwise 4, because its data were never finished
-abbrev pub dead_number : FileState → ℕ
-dead_number states.Deleted = 3
-dead_number _ = 4
-
--- the report of a cell
+-- the report of a cell, with the number of its kind: 1 for a valid file, 2 for a pad, 3 for a deleted file, 4 for a file
+-- whose data or header were never finished, and 5 for free space
 abbrev pub reported_cell : CellForm → FvCell
 reported_cell (Valid at head payload) = of_file at 1 head
 reported_cell (Pad at head payload) = of_file at 2 head
-reported_cell (Dead at len state) = of_bytes at (dead_number state) len
+reported_cell (Dead at len states.Deleted) = of_bytes at 3 len
+reported_cell (Dead at len _) = of_bytes at 4 len
 reported_cell (Stub at len) = of_bytes at 4 len
 reported_cell (Free at len) = of_bytes at 5 len

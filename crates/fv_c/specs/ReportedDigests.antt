@@ -12,12 +12,8 @@ abbrev pub IsReportedDigest : NodeMeaning → List ℕ → Type 0
 IsReportedDigest node bytes =
     (digest : Option (List ℕ)) × NodeDigest node digest × (bytes ≡ unwrap_or digest (replicate 32 0))
 
--- there is one digest for each row, in the order of the rows
-abbrev pub AreDigests : List FvSha256 → List TreeRow → Type 0
-AreDigests digests rows = Pairwise (λ (d : FvSha256) (r : TreeRow). IsReportedDigest r.node d.bytes) digests rows
-
--- the input is a volume, and these are the digests of the rows of its tree
+-- the input is a volume, and these are the digests of the rows of its tree: one for each row, in the order of the rows
 pub record HasTreeDigests (input : List ℕ) (digests : List FvSha256) : Type 0 where
   pub meaning : Meaning
   pub volume : Accepted input meaning
-  pub are : AreDigests digests (tree_rows meaning)
+  pub are : Pairwise (λ (d : FvSha256) (r : TreeRow). IsReportedDigest r.node d.bytes) digests (tree_rows meaning)

@@ -32,12 +32,8 @@ abbrev pub IsHeaderIn : List ℕ → FvHeader → Type 0
 IsHeaderIn b row =
     (h : HeadFields) × (e : Extent) × BeginsVolume h e (drop row.offset b) × (row ≡ reported_header row.offset h e)
 
--- the offsets of these rows
-abbrev pub header_offsets : List FvHeader → List ℕ
-header_offsets rows = map (λ (r : FvHeader). r.offset) rows
-
 -- there is one row for each volume that is found in b, in the order of their offsets, and each row describes the header
 -- of its volume
 pub record AreHeaders (b : List ℕ) (rows : List FvHeader) : Type 0 where
-  pub found : Found b (header_offsets rows)
+  pub found : Found b (map (λ (r : FvHeader). r.offset) rows)
   pub headers : AllByRecursion (IsHeaderIn b) rows

@@ -10,17 +10,16 @@ use Rattle.fv_c.specs.declared.hobs.FvHob.{FvHob}
 use Rattle.fv_c.specs.declared.reports.FvFault.{FvFault}
 
 -- the row for a block: its type, its length, and the base and length of the volume that it describes, or zeros
-abbrev pub with_span : Span → HobForm → FvHob
-with_span s h = record {
-  volume_base = s.base;
-  volume_length = s.length;
-  hob_type = hob_type h.kind;
-  hob_length = hob_len h.kind;
-  reserved = 0;
-}
-
 abbrev pub reported_hob : HobForm → FvHob
-reported_hob h = with_span (unwrap_or (span_of h.kind) (record { base = 0; length = 0 })) h
+reported_hob h =
+    let span : Span = unwrap_or (span_of h.kind) (record { base = 0; length = 0 }) in
+    record {
+      volume_base = span.base;
+      volume_length = span.length;
+      hob_type = hob_type h.kind;
+      hob_length = hob_len h.kind;
+      reserved = 0;
+    }
 
 -- the result of a call that stops at a fault of a list: 24 if memory ran out, and otherwise 768 plus the number of the
 -- fault's kind

@@ -17,12 +17,6 @@ use Rattle.fv_c.specs.declared.tree.FvNode.{FvNode}
 
 -- ---- a row
 
--- the number for the kind of a part: 1 for a volume, 2 for a file, 3 for a section
-abbrev pub kind_number : NodeMeaning → ℕ
-kind_number (VolumeNode m) = 1
-kind_number (FileNode f) = 2
-kind_number (SectionNode s) = 3
-
 -- the number for the content of a file: 1 for plain bytes, 2 for sections
 abbrev pub content_number : ContentMeaning → ℕ
 content_number (Plain _) = 1
@@ -34,65 +28,55 @@ body_number (Leaf _) = 1
 body_number (Group _ _) = 2
 body_number (Nested _) = 3
 
--- the number for the contents of a part: 0 for files, 1 for bytes, 2 for sections, 3 for a volume
-abbrev pub node_content : NodeMeaning → ℕ
-node_content (VolumeNode m) = 0
-node_content (FileNode f) = content_number (content_of f)
-node_content (SectionNode s) = body_number (body_of s)
-
--- Type of a file or a section; 0 for a volume
-abbrev pub node_type : NodeMeaning → ℕ
-node_type (VolumeNode m) = 0
-node_type (FileNode f) = file_kind_of f
-node_type (SectionNode s) = section_kind_of s
-
--- Attributes of a volume, with all bits; Attributes of a file, without FFS_ATTRIB_LARGE_FILE; 0 for a section
-abbrev pub node_attributes : NodeMeaning → ℕ
-node_attributes (VolumeNode m) = (head_of m).attributes
-node_attributes (FileNode f) = attributes_of f
-node_attributes (SectionNode s) = 0
-
--- the length of a part's header in bytes. For a file it is an argument (`stored`), because the meaning of a file does
--- not contain the form of its header
-abbrev pub node_header_length : (stored : ℕ) → NodeMeaning → ℕ
-node_header_length stored (VolumeNode m) = header_len_of (head_of m)
-node_header_length stored (FileNode f) = stored
-node_header_length stored (SectionNode s) = section_header_len (section_is_extended s)
-
--- the length of a volume, of the data of a file, or of the body of a section
-abbrev pub node_length : NodeMeaning → ℕ
-node_length (VolumeNode m) = length_of m
-node_length (FileNode f) = data_len_of f
-node_length (SectionNode s) = body_len (body_of s)
-
--- FvName of a volume, or Name of a file; 16 zero bytes for a section
-abbrev pub node_guid : NodeMeaning → List ℕ
-node_guid (VolumeNode m) = volume_name (head_of m).ext
-node_guid (FileNode f) = bytes_of (file_name_of f)
-node_guid (SectionNode s) = replicate 16 0
-
--- the number of a volume's file system; 0 for a file or a section
-abbrev pub node_file_system : NodeMeaning → ℕ
-node_file_system (VolumeNode m) = system_number (head_of m).file_system
-node_file_system (FileNode f) = 0
-node_file_system (SectionNode s) = 0
-
--- the row for C: its offset and the length of a file's header are arguments, and all other fields follow from the
--- part's row in the tree
-abbrev pub reported_node : (offset stored : ℕ) → TreeRow → FvNode
-reported_node offset stored r = record {
+-- the row for C of a part. Three arguments are not in the meaning of a part: the offset, the length of a file's header
+-- (`stored`), and r, the row of the part in the tree. A volume is reported by all bits of Attributes, by FvName (16 zero
+-- bytes without an extended header) and by its file system; a file by Type, by Attributes without
+-- FFS_ATTRIB_LARGE_FILE and by Name; a section by Type. `length` is that of a volume, of a file's data, or of a
+-- section's body. `content` is 0 for files, 1 for bytes, 2 for sections, 3 for a volume
+abbrev pub reported_node : (offset stored : ℕ) → TreeRow → NodeMeaning → FvNode
+reported_node offset stored r (VolumeNode m) = record {
   offset = offset;
-  length = node_length r.node;
+  length = length_of m;
   parent = r.parent;
   index = r.number;
   depth = r.depth;
-  kind = kind_number r.node;
-  content = node_content r.node;
-  efi_type = node_type r.node;
-  attributes = node_attributes r.node;
-  header_length = node_header_length stored r.node;
-  guid = node_guid r.node;
-  file_system = node_file_system r.node;
+  kind = 1;
+  content = 0;
+  efi_type = 0;
+  attributes = (head_of m).attributes;
+  header_length = header_len_of (head_of m);
+  guid = volume_name (head_of m).ext;
+  file_system = system_number (head_of m).file_system;
+  reserved = replicate 3 0;
+}
+reported_node offset stored r (FileNode f) = record {
+  offset = offset;
+  length = data_len_of f;
+  parent = r.parent;
+  index = r.number;
+  depth = r.depth;
+  kind = 2;
+  content = content_number (content_of f);
+  efi_type = file_kind_of f;
+  attributes = attributes_of f;
+  header_length = stored;
+  guid = bytes_of (file_name_of f);
+  file_system = 0;
+  reserved = replicate 3 0;
+}
+reported_node offset stored r (SectionNode s) = record {
+  offset = offset;
+  length = body_len (body_of s);
+  parent = r.parent;
+  index = r.number;
+  depth = r.depth;
+  kind = 3;
+  content = body_number (body_of s);
+  efi_type = section_kind_of s;
+  attributes = 0;
+  header_length = section_header_len (section_is_extended s);
+  guid = replicate 16 0;
+  file_system = 0;
   reserved = replicate 3 0;
 }
 
@@ -130,23 +114,20 @@ pub record IsSectionIn (input : List ℕ) (holder row : FvNode) (s : SectionMean
 abbrev pub Held : List FvNode → FvNode → (FvNode → Type 0) → Type 0
 Held rows row P = (holder : FvNode) × (slice_get rows row.parent ≡ Some holder) × P holder
 
--- a volume that no row holds begins at offset 0 of the input. Any other volume begins where the body of its section
--- begins
-abbrev pub BeginsThere : List FvNode → FvNode → Type 0
-BeginsThere rows row =
-    (row.depth ≡ 0 → row.offset ≡ 0) × (row.depth ≢ 0 → Held rows row (λ holder. row.offset ≡ holder.offset))
-
 -- the part lies in the input at the row's offset, inside the part that holds it. If it is a volume, the bytes there are
--- a volume with this meaning
+-- a volume with this meaning: a volume that no row holds begins at offset 0 of the input, and any other volume begins
+-- where the body of its section begins
 abbrev pub IsPlaced : (input : List ℕ) (rows : List FvNode) (row : FvNode) → NodeMeaning → Type 0
-IsPlaced input rows row (VolumeNode m) = Accepted (bytes_at input row) m × BeginsThere rows row
+IsPlaced input rows row (VolumeNode m) =
+    Accepted (bytes_at input row) m × (row.depth ≡ 0 → row.offset ≡ 0)
+    × (row.depth ≢ 0 → Held rows row (λ holder. row.offset ≡ holder.offset))
 IsPlaced input rows row (FileNode f) = Held rows row (λ holder. IsFileIn input holder row f)
 IsPlaced input rows row (SectionNode s) = Held rows row (λ holder. IsSectionIn input holder row s)
 
 -- `row` reports the row r of the tree: it has the fields of r, its bytes are within the input, and its part lies there
 -- (`IsPlaced`)
 pub record IsNodeIn (input : List ℕ) (rows : List FvNode) (row : FvNode) (r : TreeRow) : Type 0 where
-  pub is : row ≡ reported_node row.offset row.header_length r
+  pub is : row ≡ reported_node row.offset row.header_length r r.node
   pub within : row.offset + row.length ≤ length input
   pub placed : IsPlaced input rows row r.node
 

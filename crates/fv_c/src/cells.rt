@@ -1,14 +1,14 @@
 //! The cells of a volume's body, with their offsets: its valid files, pads, deleted files, unfinished
 //! files and headers, and free bytes.
 
-ghost use Rattle.std.specs.Prelude.{◌≡◌, ◌≢◌, ◌<◌, ◌≤◌, ◌%◌, ◌++◌, List, length, drop, map, IfErr, IfOk};
+ghost use Rattle.std.specs.Prelude.{◌≡◌, ◌≢◌, ◌<◌, ◌≤◌, ◌%◌, ◌++◌, ℕ, List, length, drop, map, IfErr, IfOk};
 ghost use Rattle.fv_base.specs.Words.{fault_number, out_of_memory};
 ghost use Rattle.fv_base.specs.declared.fault.Fault.{Fault};
-ghost use Rattle.fv_file.specs.Words.{attribute_bits, cell_form, CellForm, file_header_len, is_large};
+ghost use Rattle.fv_file.specs.Words.{attribute_bits, cell_form, CellForm, Dead, file_header_len, is_large};
 ghost use Rattle.fv_file.specs.Words.{IsFirstCellFault, Tiles};
 ghost use Rattle.fv_head.specs.declared.extent.Extent.{Extent};
 ghost use Rattle.fv_tree.specs.Words.{BeginsTiled, NotTiled};
-ghost use Rattle.fv_c.specs.ReportedCells.{dead_number, of_bytes, of_file, reported_cell};
+ghost use Rattle.fv_c.specs.ReportedCells.{of_bytes, of_file, reported_cell};
 ghost use Rattle.fv_c.specs.Reports.{BeginsWithHeader, reported_fault, no_fault};
 
 use crate::buffer::put_result;
@@ -90,7 +90,7 @@ fn of_bytes(offset: u64, kind: u32, length: u64) -> FvCell
 
 // Returns the number for a dead file, which depends on its state.
 fn dead_number(state: FileState) -> u32
-    ensures { result ≡ dead_number state }
+    ensures { (at len : ℕ) → reported_cell (Dead at len state) ≡ of_bytes at result len }
 {
     match state {
         FileState::Deleted => 3,

@@ -6,7 +6,7 @@ ghost use Rattle.fv_base.specs.declared.fault.Fault.{Fault};
 ghost use Rattle.fv_canon.specs.Words.{ChecksImage, IsAboveLimit};
 ghost use Rattle.fv_canon.specs.declared.image_check.VolumeCheck.{VolumeCheck};
 ghost use Rattle.fv_flash.specs.Words.{IsPlace};
-ghost use Rattle.fv_c.specs.ReportedChecks.{canonical_flag, fault_in, reported_check};
+ghost use Rattle.fv_c.specs.ReportedChecks.{reported_check, reported_outcome};
 ghost use Rattle.fv_c.specs.Reports.{no_fault, reported_fault};
 
 use crate::buffer::put_translated;
@@ -35,7 +35,7 @@ pub struct FvVolumeCheck {
 
 // Returns 1 if a volume is its own canonical image, and otherwise 0.
 fn canonical_flag(outcome: VolumeOutcome) -> u32
-    ensures { result ≡ canonical_flag outcome }
+    ensures { result ≡ (reported_outcome outcome).1 }
 {
     match outcome {
         VolumeOutcome::Canonical => 1,
@@ -46,7 +46,7 @@ fn canonical_flag(outcome: VolumeOutcome) -> u32
 // Returns the report for C of the fault with which a volume is rejected, or zeros if it is not
 // rejected.
 fn fault_in(outcome: VolumeOutcome) -> FvFault
-    ensures { result ≡ fault_in outcome }
+    ensures { result ≡ (reported_outcome outcome).0 }
 {
     match outcome {
         VolumeOutcome::Rejected(fault) => reported_fault(fault),

@@ -1,26 +1,26 @@
 //! Lists the tree of a volume: all parts at every level, with their places in the input.
 
-ghost use Rattle.std.specs.Prelude.{◌≡◌, ◌≢◌, ◌<◌, ◌≤◌, ◌+◌, ◌^◌, [], ◌∷◌, ◌++◌, ℕ, List, length, drop, map};
-ghost use Rattle.std.specs.Prelude.{reverse, IfOk, IfErr, OnOk};
+ghost use Rattle.std.specs.Prelude.{◌≡◌, ◌≢◌, ◌<◌, ◌≤◌, ◌+◌, ◌^◌, ◌++◌, ℕ, List, length, drop, map};
+ghost use Rattle.std.specs.Prelude.{IfOk, IfErr, OnOk};
+ghost use Rattle.std.specs.List.{AllByRecursion};
 ghost use Rattle.fv_base.specs.Words.{OrMemory, fault_number, out_of_memory, volume_limit};
 ghost use Rattle.fv_base.specs.declared.fault.Fault.{Fault};
-ghost use Rattle.fv_section.specs.Words.{FrameForm, Splits};
-ghost use Rattle.fv_tree.specs.Words.{Accepted, BeginWithFiles, NotRead, bare_form, body_of, content_of, file_form};
+ghost use Rattle.fv_tree.specs.Words.{Accepted, BeginWithFiles, NotRead, body_of, content_of, file_form};
 ghost use Rattle.fv_c.specs.Reports.{BeginsWithHeader, reported_fault, no_fault};
-ghost use Rattle.fv_rows.specs.Words.{part_node};
+ghost use Rattle.fv_rows.specs.Words.{NestsAt, nodes_of, part_node};
 ghost use Rattle.fv_c.specs.TreeParts.{TreeRow};
-ghost use Rattle.fv_c.specs.ReportedTree.{HasTreeRows, reported_node, bytes_at};
+ghost use Rattle.fv_c.specs.ReportedTree.{HasTreeRows, IsNodeIn, bytes_at};
 ghost use Rattle.fv_c.specs.ReportedTree.{body_number, content_number};
 ghost use Rattle.fv_c.specs.ReportedHeaders.{volume_name};
-ghost use Rattle.fv_c.specs.inner.Trees.{HasPlaces, IsFound, file_place, section_place, whole_node};
+ghost use Rattle.fv_c.specs.inner.Trees.{AreAdded, HasFiles, HoldsParts, IsStored, IsWithin, node_in};
 
 use crate::buffer::put_result;
 use crate::reports::{FvFault, system_number};
 use bitflags::Flags;
 use fv_base::Fault;
 use fv_head::VolumeHead;
-use fv_rows::{Part, Row, TreeWalk};
-use fv_section::{FrameWalk, section_header_len};
+use fv_rows::{Part, Parts, known, next_part, parts_in};
+use fv_section::section_header_len;
 use fv_tree::{
     Body, Content, FileView, LocatedFile, SectionView, VolumeView, located_files,
     whole_volume_with_files,
@@ -93,23 +93,18 @@ const NO_NODE: FvNode = FvNode {
     reserved: [0; 3],
 };
 
-// Where a part lies in the input, and which row holds it.
-#[derive(Clone, Copy)]
-struct PartPlace {
-    // The number of the row that holds the part.
-    parent: u64,
-    // The offset of the part, as in `FvNode`.
+// A row that holds parts.
+#[derive(Drop)]
+struct Holder {
+    // The number of the row.
+    row: u64,
+    // The depth of the parts.
+    depth: u32,
+    // The offset of the row, as in `FvNode`.
     offset: u64,
-    // The length of the header of a file, 0 for other parts.
-    header_len: u32,
+    // The files that are stored in the part of the row, if it is a volume.
+    files: Vec<LocatedFile>,
 }
-
-// The place of the volume that the input is.
-const WHOLE: PartPlace = PartPlace {
-    parent: NO_PARENT,
-    offset: 0,
-    header_len: 0,
-};
 
 // Returns `FvName` of a volume, or zeros if it has no extended header.
 fn volume_name(head: &VolumeHead<'_>) -> [u8; 16]
@@ -142,21 +137,22 @@ fn body_number(section: &SectionView<'_, '_>) -> u32
     }
 }
 
-// Returns the row of a part at this place, for C.
+// Returns the row of part number `number` that a row holds, for C. `next` is the number of bytes
+// before the part, if it is a section.
 #[inline(always)]
-fn node_of(row: &Row<'_, '_>, place: PartPlace) -> FvNode
-    requires { row.now.depth < 2 ^ 32 }
-    ensures { result ≡ reported_node place.offset place.header_len
-        (record { parent = place.parent; depth = row.now.depth; number = row.now.number; node = part_node row.now.part }) }
+fn node_in(holder: &Holder, part: &Part<'_, '_>, number: u64, next: u64) -> FvNode
+    requires file { IsStored holder.now number (part_node part.now) }
+    requires within { IsWithin (2 ^ 63) (node_in holder.now number next (part_node part.now)) }
+    ensures { result ≡ node_in holder.now number next (part_node part.now) }
 {
     let placed = FvNode {
-        offset: place.offset,
-        parent: place.parent,
-        index: row.number,
-        depth: row.depth as u32,
+        offset: holder.offset,
+        parent: holder.row,
+        index: number,
+        depth: holder.depth,
         ..NO_NODE
     };
-    match &row.part {
+    match part {
         Part::Volume(volume) => {
             let head = volume.head();
             FvNode {
@@ -169,24 +165,33 @@ fn node_of(row: &Row<'_, '_>, place: PartPlace) -> FvNode
                 ..placed
             }
         }
-        Part::File(file) => FvNode {
-            length: file.data_len(),
-            kind: 2,
-            content: content_number(file),
-            efi_type: u32::from(file.kind()),
-            attributes: u32::from(file.attributes().byte()),
-            header_length: place.header_len,
-            guid: file.name().to_bytes(),
-            ..placed
-        },
-        Part::Section(section) => FvNode {
-            length: section.body_len(),
-            kind: 3,
-            content: body_number(section),
-            efi_type: u32::from(section.kind()),
-            header_length: section_header_len(section.extended()) as u32,
-            ..placed
-        },
+        Part::File(file) => {
+            let stored = holder.files[number as usize];
+            let header_len = stored.header_len();
+            FvNode {
+                offset: holder.offset + (u64::from(stored.offset) + header_len),
+                length: file.data_len(),
+                kind: 2,
+                content: content_number(file),
+                efi_type: u32::from(file.kind()),
+                attributes: u32::from(file.attributes().byte()),
+                header_length: header_len as u32,
+                guid: file.name().to_bytes(),
+                ..placed
+            }
+        }
+        Part::Section(section) => {
+            let header_len = section_header_len(section.extended());
+            FvNode {
+                offset: holder.offset + (next + header_len),
+                length: section.body_len(),
+                kind: 3,
+                content: body_number(section),
+                efi_type: u32::from(section.kind()),
+                header_length: header_len as u32,
+                ..placed
+            }
+        }
     }
 }
 
@@ -199,136 +204,86 @@ fn bytes_of_row<'a>(input: &'a [u8], node: &FvNode) -> &'a [u8]
     &input[start..start + node.length as usize]
 }
 
-// Returns the places of the files that are stored in the volume at this place.
-fn file_places(
-    alloc: Global,
-    stored: &[LocatedFile],
-    start: PartPlace,
-) -> Result<Vec<PartPlace>, AllocError>
-    requires { start.offset < 2 ^ 63 }
-    ensures { IfOk result (λ v. v.items ≡ map (file_place start) (map bare_form stored.now)) }
-{
-    let mut places = Vec::with_capacity(alloc, stored.len())?;
-    for file in stored {
-        let header_len = file.header_len();
-        places.push(PartPlace {
-            offset: start.offset + (u64::from(file.offset) + header_len),
-            header_len: header_len as u32,
-            ..start
-        })?;
-    }
-    Ok(places)
-}
-
-// Returns the places of the sections of the stream at this place.
-fn section_places(
-    alloc: Global,
-    stream: &[u8],
-    start: PartPlace,
-) -> Result<Vec<PartPlace>, AllocError>
-    requires { start.offset + length stream.now < 2 ^ 63 }
-    ensures { IfOk result (λ v. (frames : List FrameForm) (tail : ℕ) → Splits frames tail stream.now
-        → v.items ≡ map (section_place start) frames) }
-{
-    let Ok(mut walk) = FrameWalk::of(stream) else {
-        return Ok(Vec::new(alloc));
-    };
-    let mut places = Vec::with_capacity(alloc, walk.frames_left())?;
-    while let Some(frame) = walk.next_frame() {
-        places.push(PartPlace {
-            offset: start.offset + (frame.offset + section_header_len(frame.extended)),
-            header_len: 0,
-            ..start
-        })?;
-    }
-    Ok(places)
-}
-
-// Returns the places of the parts that row `number` holds.
-fn places_in(
-    alloc: Global,
-    input: &[u8],
-    node: &FvNode,
-    number: u64,
-) -> Result<Vec<PartPlace>, Fault>
-    requires row { (rows : List FvNode) × (r : TreeRow) × IsFound input.now rows node.now r }
-    requires short { length input.now ≤ volume_limit }
-    ensures places { IfOk result (λ v. (rows : List FvNode) (r : TreeRow) → IsFound input.now rows node.now r
-        → HasPlaces input.now node.now number r.node v.items) }
+// Returns the files that are stored in the part of a row, if it is a volume.
+fn files_in(alloc: Global, input: &[u8], node: &FvNode) -> Result<Vec<LocatedFile>, Fault>
+    requires row { (rows : List FvNode) × (r : TreeRow) × IsNodeIn input.now rows node.now r }
+    ensures files { IfOk result (λ v. HasFiles input.now node.now v.items) }
     ensures err { IfErr result (λ f. f ≡ out_of_memory) }
 {
-    let bytes = bytes_of_row(input, node);
-    let start = PartPlace {
-        parent: number,
-        offset: node.offset,
-        header_len: 0,
-    };
-    match node.content {
-        FILES => {
-            let stored = located_files(alloc, bytes)?;
-            Ok(file_places(alloc, stored.as_slice(), start)?)
-        }
-        SECTIONS => Ok(section_places(alloc, bytes, start)?),
-        VOLUME => {
-            let mut places = Vec::new(alloc);
-            places.push(start)?;
-            Ok(places)
-        }
-        _ => Ok(Vec::new(alloc)),
+    if node.content != FILES {
+        return Ok(Vec::new(alloc));
     }
+    located_files(alloc, bytes_of_row(input, node))
 }
 
-// Moves places to the end of those that wait, the last of them first, and makes room for their
-// rows.
-fn wait_for(
-    mut places: Vec<PartPlace>,
-    waiting: &mut Vec<PartPlace>,
-    rows: &mut Vec<FvNode>,
-) -> Result<(), AllocError>
-    ensures waiting { OnOk result (reverse waiting.new.items ≡ places.items ++ reverse waiting.old.items) }
-    ensures rows { rows.new.items ≡ rows.old.items }
-{
-    if places.is_empty() {
-        return Ok(());
-    }
-    rows.reserve(places.len())?;
-    places.reverse();
-    waiting.append(&mut places)?;
-    Ok(())
-}
-
-// Adds the rows of the parts inside a volume, which is the input and stores these files, after the
-// volume's own row.
-fn put_inside(
+// Adds the rows of parts that a row holds, each followed by the rows of the parts inside it.
+fn put_parts(
     alloc: Global,
     input: &[u8],
-    volume: &VolumeView<'_>,
-    stored: &[LocatedFile],
+    mut parts: Parts<'_, '_>,
+    holder: &Holder,
     rows: &mut Vec<FvNode>,
 ) -> Result<(), Fault>
-    requires read { Accepted input.now volume.now }
-    requires files { BeginWithFiles input.now (map (file_form input.now) stored.now) }
-    requires own { rows.old.items ≡ whole_node volume.now ∷ [] }
-    ensures ok { OnOk result (HasTreeRows input.now rows.new.items) }
+    requires short { length input.now ≤ volume_limit }
+    requires nest { AllByRecursion (NestsAt holder.now.depth) (nodes_of parts) }
+    requires few { length (nodes_of parts) < 2 ^ 63 }
+    requires inner { 1 ≤ holder.now.depth }
+    requires held { HoldsParts input.now rows.old.items holder.now (nodes_of parts) }
+    ensures ok { OnOk result (AreAdded input.now holder.now (nodes_of parts.entry) rows.old.items rows.new.items) }
     ensures err { IfErr result (λ f. f ≡ out_of_memory) }
 {
-    let start = PartPlace { parent: 0, ..WHOLE };
-
-    // The places of the parts of the rows that are left. The place of the next row is the last.
-    let mut waiting = file_places(alloc, stored, start)?;
-    waiting.reverse();
-    let mut walk = TreeWalk::of(volume);
-    walk.next();
-    for row in walk {
-        let Some(place) = waiting.pop() else {
-            return Ok(());
-        };
-        let node = node_of(&row, place);
-        let parts = places_in(alloc, input, &node, rows.len() as u64)?;
+    let mut number = 0;
+    let mut next = 0;
+    while let Some(part) = next_part(&mut parts) {
+        let node = node_in(holder, &part, number, next);
+        let row = rows.len() as u64;
+        number += 1;
+        next = (node.offset - holder.offset + node.length + 3) / 4 * 4;
         rows.push(node)?;
-        wait_for(parts, &mut waiting, rows)?;
+        if node.content == BYTES {
+            continue;
+        }
+        let inside = Holder {
+            row,
+            depth: holder.depth + 1,
+            offset: node.offset,
+            files: files_in(alloc, input, &node)?,
+        };
+        put_parts(alloc, input, parts_in(&part), &inside, rows)?;
     }
     Ok(())
+}
+
+// Returns the number of rows of parts at this depth, and of the parts inside them.
+fn part_count(mut parts: Parts<'_, '_>, depth: u32) -> usize
+    requires { AllByRecursion (NestsAt depth) (nodes_of parts) }
+{
+    let mut count: usize = 0;
+    while let Some(part) = next_part(&mut parts) {
+        count = count.saturating_add(1);
+        let held = parts_in(&part);
+        if let Parts::Nothing = held {
+            continue;
+        }
+        count = count.saturating_add(part_count(held, depth + 1));
+    }
+    count
+}
+
+// Returns the number of rows of the tree of a volume.
+fn row_count(volume: &VolumeView<'_>) -> usize {
+    let mut count: usize = 1;
+    for file in volume.files() {
+        count = count.saturating_add(1);
+        let part = Part::File(file);
+        let held = parts_in(&part);
+        if let Parts::Nothing = held {
+            continue;
+        }
+        known(&part);
+        count = count.saturating_add(part_count(held, 1));
+    }
+    count
 }
 
 // Returns the rows of a volume, which is the input and stores these files, for C.
@@ -336,25 +291,33 @@ fn rows_of(
     alloc: Global,
     input: &[u8],
     volume: &VolumeView<'_>,
-    stored: &[LocatedFile],
+    stored: Vec<LocatedFile>,
 ) -> Result<Vec<FvNode>, Fault>
     requires read { Accepted input.now volume.now }
-    requires files { BeginWithFiles input.now (map (file_form input.now) stored.now) }
+    requires files { BeginWithFiles input.now (map (file_form input.now) stored.items) }
     ensures ok { IfOk result (λ v. HasTreeRows input.now v.items) }
     ensures err { IfErr result (λ f. f ≡ out_of_memory) }
 {
-    let whole = Row {
+    let whole = Part::Volume(volume);
+    let around = Holder {
+        row: NO_PARENT,
         depth: 0,
-        nesting: 0,
-        number: 0,
-        part: Part::Volume(volume),
+        offset: 0,
+        files: Vec::new(alloc),
     };
-    let mut rows = Vec::with_capacity(alloc, stored.len() + 1)?;
-    rows.push(node_of(&whole, WHOLE))?;
+    let mut rows = Vec::with_capacity(alloc, row_count(volume))?;
+    rows.push(node_in(&around, &whole, 0, 0))?;
     if volume.file_count() == 0 {
         return Ok(rows);
     }
-    put_inside(alloc, input, volume, stored, &mut rows)?;
+    known(&whole);
+    let holder = Holder {
+        row: 0,
+        depth: 1,
+        offset: 0,
+        files: stored,
+    };
+    put_parts(alloc, input, parts_in(&whole), &holder, &mut rows)?;
     Ok(rows)
 }
 
@@ -365,7 +328,7 @@ fn rows_in(alloc: Global, volume: &[u8]) -> Result<Vec<FvNode>, Fault>
     ensures memory { IfErr result (λ f. f ≡ out_of_memory → BeginsWithHeader volume.now) }
 {
     let (view, stored) = whole_volume_with_files(alloc, volume)?;
-    rows_of(alloc, volume, &view, stored.as_slice())
+    rows_of(alloc, volume, &view, stored)
 }
 
 /// Writes the rows of the tree of a volume, which is the whole input, to the start of `rows`: the

@@ -2,7 +2,7 @@
 -- 1. The bytes of an image have at most one header and one tiling by cells, so the cells that are read are the cells
 --    that were written.
 -- 2. Written files have aligned data, and written pads have erased data.
-use Rattle.std.proofs.Common.{◌≡◌, ℕ, List, drop, subst, sym}
+use Rattle.std.proofs.Common.{◌≡◌, ℕ, List, drop}
 use Rattle.std.specs.List.{AllByRecursion}
 use Rattle.fv_base.specs.declared.flash.Polarity.{Polarity}
 use Rattle.fv_file.specs.Words.{CellForm, Tiles}
@@ -23,18 +23,11 @@ cells_are : (m : Meaning) (image : List ℕ) (e : Extent) (cells : List CellForm
 cells_are (Volume h files) image e cells (n, most, b, small, d) (stored, starts, are, placed, shows) front tiles =
     let first : ℕ = first_edge h h.ext in
     let k = (known n (streams_again n) h files b small d stored starts are placed).writable in
-    let own : BeginsVolume h (extent_of h first) image = image_front h stored starts image k shows in
-    let extents : e ≡ extent_of h first = (one_front image h h e (extent_of h first) front own).1 in
+    let extents : e ≡ extent_of h first = (one_front image h h e (extent_of h first) front (image_front h stored starts image k shows)).1 in
     let tiled = image_tiled h stored starts image k shows in
     let p : Polarity = polarity_of h.attributes in
-    let body : List ℕ = drop first image in
-    let here : Tiles h.file_system p first cells body =
-    subst (λ (x : Extent). Tiles x.file_system x.polarity x.first cells (drop x.first image)) extents tiles in
-    let same : tiled.cells ≡ cells = only_one h.file_system p first body cells tiled.cells here tiled.tiles in (
-      subst DataAligned same tiled.aligned,
-      subst (λ (x : Extent). AllByRecursion (PadErased x.polarity) cells) (sym extents)
-          (subst (AllByRecursion (PadErased p)) same tiled.erased),
-    )
+    let same : tiled.cells ≡ cells = only_one h.file_system p first (drop first image) cells tiled.cells (rw extents at tiles) tiled.tiles in
+    (rw (← same) tiled.aligned, rw (extents, ← same) tiled.erased)
 
 -- ---- 2. the bytes that were written
 

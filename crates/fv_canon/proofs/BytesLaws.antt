@@ -1,14 +1,14 @@
 -- Everything that is written for a volume is a list of bytes.
 use Rattle.std.proofs.Common.{◌≡◌, ◌-◌, ◌+◌, ℕ, [], ◌∷◌, ◌++◌, if◌then◌else◌, ◌==◌, zero, suc, Bool, true, false, List, length, replicate, sym, subst}
-use Rattle.fv_base.proofs.Laws.{nat_le, Option, None, Some, AllByRecursion, erased_byte, bytes_of, IsBytes, le_bytes, up_to_8, bytes_append}
-use Rattle.fv_base.proofs.Laws.{bytes_back, bytes_front, bytes_le_bytes, none_at}
+use Rattle.fv_base.proofs.Laws.{common_steps, arith, Option, None, Some, AllByRecursion, erased_byte, bytes_of, IsBytes, le_bytes, up_to_8}
+use Rattle.fv_base.proofs.Laws.{bytes_append, bytes_back, bytes_front, bytes_le_bytes, none_at}
 use Rattle.fv_base.specs.declared.flash.FileSystem.{FileSystem}
 use Rattle.fv_base.specs.declared.flash.Polarity.{Polarity}
 use Rattle.fv_file.specs.Words.{pad_head_of}
 use Rattle.fv_head.specs.Words.{Extension, SplitsEntries, kept_payload, is_used_size, zero_used_size, IsReadExt, IfRead, HeadFields, canonical_head}
 use Rattle.fv_head.specs.Words.{canonical_end, first_edge, payload_with, entry_bytes, entries_bytes, ext_len, ext_spelled, polarity_of}
 use Rattle.fv_head.proofs.Laws.{canonical_is}
-use Rattle.fv_canon.specs.Words.{StoredFile, stored_len, stored_bytes, pad_bytes, pads, long_pad, gap_bytes, ext_pad, used_size}
+use Rattle.fv_canon.specs.Words.{StoredFile, stored_len, stored_bytes, pads, long_pad, gap_bytes, ext_pad, used_size}
 use Rattle.fv_canon.specs.inner.ImageOf.{files_bytes, volume_bytes}
 use Rattle.fv_canon.proofs.CellLaws.{Storable, bytes_stored, bytes_pad_head, bytes_erased, bytes_pad}
 use Rattle.fv_canon.proofs.PlacedBytesLaws.{Writable}
@@ -21,9 +21,7 @@ bytes_either false a b h k = k
 
 bytes_pads : (p : Polarity) (n gap : ℕ) → IsBytes (pads p n gap)
 bytes_pads p zero gap = bytes_pad p gap
-bytes_pads p (suc n) gap =
-    bytes_either (nat_le gap 0xfffff8) (pad_bytes p gap) (pad_bytes p long_pad ++ pads p n (gap - long_pad)) (bytes_pad p gap)
-    (bytes_append (pad_bytes p long_pad) (pads p n (gap - long_pad)) (bytes_pad p long_pad) (bytes_pads p n (gap - long_pad)))
+bytes_pads p (suc n) gap = grind (arith, common_steps, bytes_either, bytes_pad, bytes_append, bytes_pads p n (gap - long_pad)) steps 400000
 
 bytes_gap : (p : Polarity) (gap : ℕ) → IsBytes (gap_bytes p gap)
 unfolding gap_bytes
@@ -31,8 +29,6 @@ bytes_gap p gap = bytes_either (gap == 0) [] (pads p gap gap) none_at (bytes_pad
 
 bytes_files : (system : FileSystem) (p : Polarity) (total e : ℕ) (fs : List StoredFile) (ss : List ℕ) → AllByRecursion (Storable system) fs
     → IsBytes (files_bytes p total e fs ss)
-bytes_files system p total e [] ss all = bytes_erased p (total - e)
-bytes_files system p total e (f ∷ fs) [] all = bytes_erased p (total - e)
 bytes_files system p total e (f ∷ fs) (s ∷ ss) all =
     let x : ℕ = s + stored_len f in
     let filler : List ℕ = replicate (up_to_8 x - x) (erased_byte p) in
@@ -40,6 +36,7 @@ bytes_files system p total e (f ∷ fs) (s ∷ ss) all =
     bytes_append (gap_bytes p (s - e)) (stored_bytes p f ++ (filler ++ rest)) (bytes_gap p (s - e))
     (bytes_append (stored_bytes p f) (filler ++ rest) (bytes_stored system p f all.0)
     (bytes_append filler rest (bytes_erased p (up_to_8 x - x)) (bytes_files system p total (up_to_8 x) fs ss all.1)))
+bytes_files system p total e fs ss all = bytes_erased p (total - e)
 
 -- ---- the extended header
 
@@ -59,16 +56,14 @@ bytes_entries used [] tail b small is = (none_at, subst IsBytes is.0 small)
 bytes_entries used (e ∷ es) tail b small (head, payload, rest, text, four, size, kind, kept, more) =
     let behind : IsBytes (payload ++ rest) = bytes_back head (payload ++ rest) (subst IsBytes text small) in
     let later = bytes_entries used es tail rest (bytes_back payload rest behind) more in
-    let here = bytes_entry used e payload (bytes_front payload rest behind) kept in
-    (bytes_append (entry_bytes used e) (entries_bytes used es) here later.0, later.1)
+    (bytes_append (entry_bytes used e) (entries_bytes used es) (bytes_entry used e payload (bytes_front payload rest behind) kept) later.0, later.1)
 
 bytes_ext : (x : Extension) (used : ℕ) → IsReadExt x → IsBytes (ext_spelled x used)
 unfolding ext_spelled
 bytes_ext x used (b, small, is) =
     let name : List ℕ = bytes_of x.name in
     let items : IsBytes (name ++ (is.head ++ is.rest)) = subst IsBytes is.text small in
-    let rest : IsBytes is.rest = bytes_back is.head is.rest (bytes_back name (is.head ++ is.rest) items) in
-    let entries = bytes_entries used x.entries x.tail is.rest rest is.entries in
+    let entries = bytes_entries used x.entries x.tail is.rest (bytes_back is.head is.rest (bytes_back name (is.head ++ is.rest) items)) is.entries in
     bytes_append (name ++ le_bytes 4 (ext_len x) ++ entries_bytes used x.entries) x.tail
     (bytes_append (name ++ le_bytes 4 (ext_len x)) (entries_bytes used x.entries)
     (bytes_append name (le_bytes 4 (ext_len x)) (bytes_front name (is.head ++ is.rest) items) (bytes_le_bytes 4 (ext_len x)))

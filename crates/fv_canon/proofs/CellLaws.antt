@@ -2,15 +2,15 @@
 -- 1. A storable file has a header that is read again, and the right file checksum (`sum_is_right`). So with its filler
 --    it is a cell (`file_cell`), of a known length (`length-stored`).
 -- 2. A pad is a cell too (`pad_cell`, `length-pad`).
-use Rattle.std.proofs.Common.{◌≡◌, ◌≢◌, ◌≤◌, ◌<◌, ◌+◌, ◌-◌, ◌%◌, ℕ, [], ◌++◌, ◌==◌, if◌then◌else◌, Bool, true, false, List, length, replicate, refl}
-use Rattle.std.proofs.Common.{sym, ap, ◌∙◌, subst, arith, length-append, append_assoc, append-nil, slice_index, sum, eq-eqb}
+use Rattle.std.proofs.Common.{◌≡◌, ◌≢◌, ◌≤◌, ◌<◌, ◌+◌, ◌-◌, ◌%◌, ℕ, ◌++◌, Bool, true, false, List, length, replicate, refl, sym, ap, ◌∙◌, subst}
+use Rattle.std.proofs.Common.{arith, length-append, append_assoc, slice_index, eq-eqb}
 use Rattle.fv_base.proofs.Laws.{common_steps, length-replicate, erased_byte, bytes_of, data_limit, IsBytes, bytes_append, bytes_replicate}
 use Rattle.fv_base.specs.declared.flash.FileSystem.{FileSystem}
 use Rattle.fv_base.specs.declared.flash.Polarity.{Polarity}
 use Rattle.fv_base.specs.declared.flash.FileSystem.TheVariants.{Ffs3}
 use Rattle.fv_base.specs.declared.flash.Polarity.TheVariants.{Ones, Zeros}
-use Rattle.fv_file.specs.Words.{Valid, Pad, IsCell, is_large, is_fixed, is_summed, pad_kind, file_sum_right, fixed_checksum, file_sum_for}
-use Rattle.fv_file.specs.Words.{needs_large, with_large, complement, pad_name, state_byte, file_fields, pad_fields, file_head_of, pad_head_of}
+use Rattle.fv_file.specs.Words.{Valid, Pad, IsCell, is_large, is_fixed, pad_kind, file_sum_right, fixed_checksum, file_sum_for, needs_large}
+use Rattle.fv_file.specs.Words.{with_large, pad_name, state_byte, file_fields, pad_fields, file_head_of, pad_head_of}
 use Rattle.fv_file.specs.declared.head.FileHead.{FileHead}
 use Rattle.fv_file.proofs.Laws.{bytes_header, complement_small, file_written, fixed_with, head_of_file, head_of_pad, length-header, pad_written}
 use Rattle.fv_file.proofs.Laws.{set_large, state_small, summed_with, with_large_small}
@@ -43,19 +43,10 @@ large_back : (l : Bool) (a : ℕ) → is_large a ≡ false → is_large (with_la
 large_back true a h = set_large a h
 large_back false a h = h
 
-sums_up : (n : ℕ) → (n + complement n) % 256 ≡ 0
-sums_up n = omega arith
-
 -- the written file checksum is right
 sum_is_right : (l : Bool) (a : ℕ) (payload : List ℕ) → is_large a ≡ false
     → file_sum_right (with_large l a) (file_sum_for a payload) payload ≡ true
-sum_is_right l a payload h = ap (λ (b : Bool). if b then (sum payload + file_sum_for a payload) % 256 == 0
-    else file_sum_for a payload == 0xaa) (summed_with l a h) ∙ go (is_summed a)
-  where
-    go : (b : Bool) → (if b then (sum payload + (if b then complement (sum payload) else fixed_checksum)) % 256 == 0
-        else (if b then complement (sum payload) else fixed_checksum) == 0xaa) ≡ true
-    go true = eq-eqb ((sum payload + complement (sum payload)) % 256) 0 (sums_up (sum payload))
-    go false = refl
+sum_is_right l a payload h = grind (arith, common_steps, summed_with, eq-eqb)
 
 sum_small : (a : ℕ) (payload : List ℕ) → file_sum_for a payload < 256
 sum_small a payload = grind (arith, common_steps, complement_small)
@@ -80,11 +71,9 @@ file_cell system p f k at filler few multiple =
     let fs : ℕ = file_sum_for f.attributes f.payload in
     let h : List ℕ = stored_header p f in
     let large : Bool = needs_large n in
-    let small : IsBytes h = bytes_stored_header system p f k in
-    let written = file_written p f.name f.kind (record { 0 = f.attributes }) n fs h k.name k.short k.most small refl in
-    let cell = head_of_file p (stored_head p f) h written refl in
+    let written = file_written p f.name f.kind (record { 0 = f.attributes }) n fs h k.name k.short k.most (bytes_stored_header system p f k) refl in
     subst (λ (x : List ℕ). IsCell system p (Valid at (stored_head p f) f.payload) x) (sym (append_assoc h f.payload filler))
-    (cell system at f.payload filler (λ e. k.large (sym (large_back large f.attributes k.short) ∙ e))
+    ((head_of_file p (stored_head p f) h written refl) system at f.payload filler (λ e. k.large (sym (large_back large f.attributes k.short) ∙ e))
     (ap (λ (m : ℕ). m + n) (sym (length-stored_header system p f k))) (record {
       kind = k.kind;
       moves = fixed_with large f.attributes k.short ∙ k.moves;
@@ -93,25 +82,18 @@ file_cell system p f k at filler few multiple =
 
 pub length-stored : (system : FileSystem) (p : Polarity) (f : StoredFile) → Storable system f → length (stored_bytes p f) ≡ stored_len f
 unfolding stored_bytes
-length-stored system p f k =
-    length-append (stored_header p f) f.payload ∙ ap (λ (m : ℕ). m + length f.payload) (length-stored_header system p f k)
+length-stored system p f k = length-append (stored_header p f) f.payload ∙ ap (λ (m : ℕ). m + length f.payload) (length-stored_header system p f k)
 
 -- ---- a pad
 
-bytes_name : IsBytes pad_name
-bytes_name = bytes_replicate 16 255 (omega arith)
-
 pub bytes_pad_head : (size : ℕ) (p : Polarity) → IsBytes (pad_head_of size p)
 bytes_pad_head size p =
-    bytes_header fixed_checksum pad_name pad_kind 0 size false (state_byte p) bytes_name (omega arith) (omega arith)
-    (omega arith) (state_small p)
+    bytes_header fixed_checksum pad_name pad_kind 0 size false (state_byte p) (bytes_replicate 16 255 (omega arith)) (omega arith)
+    (omega arith) (omega arith) (state_small p)
 
 pub bytes_erased : (p : Polarity) (n : ℕ) → IsBytes (replicate n (erased_byte p))
-bytes_erased p n = bytes_replicate n (erased_byte p) (small p)
-  where
-    small : (p : Polarity) → erased_byte p < 256
-    small Ones = omega arith
-    small Zeros = omega arith
+bytes_erased Ones n = bytes_replicate n (erased_byte Ones) (omega arith)
+bytes_erased Zeros n = bytes_replicate n (erased_byte Zeros) (omega arith)
 
 pub bytes_pad : (p : Polarity) (size : ℕ) → IsBytes (pad_bytes p size)
 unfolding pad_bytes
@@ -122,20 +104,15 @@ length-pad_head size p = length-header fixed_checksum pad_name pad_kind 0 size f
 
 pub length-pad : (p : Polarity) (size : ℕ) → 24 ≤ size → length (pad_bytes p size) ≡ size
 unfolding pad_bytes
-length-pad p size l =
-    length-append (pad_head_of size p) (replicate (size - 24) (erased_byte p))
-    ∙ omega (arith, l, length-pad_head size p, length-replicate (size - 24) (erased_byte p))
+length-pad p size l = grind (arith, common_steps, length-append, length-pad_head, length-replicate)
 
-pub pad_cell : (system : FileSystem) (p : Polarity) (size : ℕ) → 24 ≤ size → size ≤ 0xffffff → size % 8 ≡ 0 → (at : ℕ)
-    → IsCell system p
-    (Pad at (pad_fields size (slice_index (pad_head_of size p) 16)) (replicate (size - 24) (erased_byte p))) (pad_bytes p size)
-unfolding pad_bytes
-pad_cell system p size least most multiple at =
+-- a pad with any data is a cell with its filler
+pub pad_cell : (system : FileSystem) (p : Polarity) (size : ℕ) (payload filler : List ℕ) → size ≤ 0xffffff → 24 + length payload ≡ size
+    → length filler < 8 → (size + length filler) % 8 ≡ 0 → (at : ℕ)
+    → IsCell system p (Pad at (pad_fields size (slice_index (pad_head_of size p) 16)) payload) ((pad_head_of size p ++ payload) ++ filler)
+pad_cell system p size payload filler most long few multiple at =
     let h : List ℕ = pad_head_of size p in
-    let payload : List ℕ = replicate (size - 24) (erased_byte p) in
-    let written = pad_written p size h most (bytes_pad_head size p) refl in
     let head : FileHead = pad_fields size (slice_index h 16) in
-    let cell = head_of_pad p head h written refl refl refl in
-    subst (λ (x : List ℕ). IsCell system p (Pad at head payload) (h ++ x)) (append-nil payload)
-    (cell system at payload [] (omega (arith, length-pad_head size p, length-replicate (size - 24) (erased_byte p), least))
-    (omega arith) (omega (arith, multiple)))
+    let cell = head_of_pad p head h (pad_written p size h most (bytes_pad_head size p) refl) refl refl refl in
+    subst (IsCell system p (Pad at head payload)) (sym (append_assoc h payload filler))
+    (cell system at payload filler (omega (arith, length-pad_head size p, long)) few multiple)

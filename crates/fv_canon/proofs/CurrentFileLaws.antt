@@ -1,7 +1,7 @@
 -- No two current files of a body have the same name, and all files of a written body are current.
-use Rattle.std.proofs.Common.{◌≡◌, ◌+◌, ℕ, [], ◌∷◌, ◌++◌, ◌&&◌, Bool, true, false, List, refl, ap, map, not}
-use Rattle.fv_base.proofs.Laws.{filter, list_any, bytes_eq, bytes_of, up_to_8, or_both, or_parts}
-use Rattle.std.proofs.lemmas.Bool.{false_from_ne_true}
+use Rattle.std.proofs.Common.{◌≡◌, ◌+◌, ℕ, [], ◌∷◌, ◌++◌, true, false, List, refl, ap, map, not, arith}
+use Rattle.fv_base.proofs.Laws.{common_steps, filter, list_any, bytes_eq, bytes_of, up_to_8, or_both, or_parts}
+use Rattle.std.proofs.lemmas.Bool.{and_right, false_from_ne_true}
 use Rattle.fv_base.specs.declared.flash.Polarity.{Polarity}
 use Rattle.fv_placement.specs.Words.{StartsFollow}
 use Rattle.fv_tree.specs.Words.{FileForm, is_marked, same_name, is_twin, NoTwins, replaced_by, current_in, top_name, TopAtEnd}
@@ -53,17 +53,12 @@ NoneMarked [] = Unit {0}
 NoneMarked (f ∷ fs) = (is_marked f.head.state ≡ false) × NoneMarked fs
 
 pub forms_unmarked : (p : Polarity) (fs : List StoredFile) (ss : List ℕ) → NoneMarked (forms_of p fs ss)
-forms_unmarked p [] ss = tt
-forms_unmarked p (f ∷ fs) [] = tt
 forms_unmarked p (f ∷ fs) (s ∷ ss) = (refl, forms_unmarked p fs ss)
-
-no_and : (a : Bool) → (a && false) ≡ false
-no_and true = refl
-no_and false = refl
+forms_unmarked p fs ss = tt
 
 replaces_none : (f : FileForm) → is_marked f.head.state ≡ false → (all : List FileForm) → list_any (replaced_by f) all ≡ false
 replaces_none f e [] = refl
-replaces_none f e (g ∷ gs) = rw e (rw (no_and (same_name f g)) (replaces_none f e gs))
+replaces_none f e (g ∷ gs) = rw e (rw (and_right (same_name f g) false refl) (replaces_none f e gs))
 
 all_kept : (all xs : List FileForm) → NoneMarked xs → filter (λ f. not (list_any (replaced_by f) all)) xs ≡ xs
 all_kept all [] none = refl
@@ -76,8 +71,7 @@ twins_none : (f : FileForm) (xs : List FileForm) → list_any (bytes_eq (bytes_o
     → list_any (is_twin f) xs ≡ false
 twins_none f [] e = refl
 twins_none f (x ∷ xs) e =
-    let n = or_parts (same_name f x) (list_any (bytes_eq (bytes_of f.head.name)) (names_in xs)) e in
-    rw n.0 (twins_none f xs n.1)
+    grind (arith, common_steps, or_parts, twins_none f xs (or_parts (same_name f x) (list_any (bytes_eq (bytes_of f.head.name)) (names_in xs)) e).1) steps 400000
 
 pub no_twins : (xs : List FileForm) → NamesApart (names_in xs) → NoTwins xs
 no_twins [] h = tt
@@ -85,24 +79,19 @@ no_twins (f ∷ fs) h = (twins_none f fs h.0, no_twins fs h.1)
 
 -- ---- the volume top file
 abbrev pub TopLast : List (List ℕ) → Type 0
-TopLast [] = Unit {0}
-TopLast (n ∷ []) = Unit {0}
 TopLast (n ∷ k ∷ ns) = (bytes_eq n top_name ≡ false) × TopLast (k ∷ ns)
+TopLast ns = Unit {0}
 
 pub top_last : (length : ℕ) (xs : List FileForm) → TopAtEnd length xs → TopLast (names_in xs)
-top_last length [] h = tt
-top_last length (f ∷ []) h = tt
 top_last length (f ∷ g ∷ fs) h = (h.0, top_last length (g ∷ fs) h.1)
+top_last length fs h = tt
 
 pub forms_top : (p : Polarity) (total e : ℕ) (fs : List StoredFile) (ss : List ℕ) → TopLast (names_of fs)
     → StartsFollow total e (map stored_item fs) ss → TopAtEnd total (forms_of p fs ss)
-forms_top p total e [] ss h follow = tt
-forms_top p total e (f ∷ fs) [] h follow = tt
 forms_top p total e (f ∷ []) (s ∷ []) h follow = λ top. follow.0.at_end top
-forms_top p total e (f ∷ []) (s ∷ t ∷ ss) h follow = absurd follow.1
-forms_top p total e (f ∷ g ∷ fs) (s ∷ []) h follow = absurd follow.1
-forms_top p total e (f ∷ g ∷ fs) (s ∷ t ∷ ss) h follow =
-    (h.0, forms_top p total (up_to_8 (s + stored_len f)) (g ∷ fs) (t ∷ ss) h.1 follow.1)
+forms_top p total e (f ∷ g ∷ fs) (s ∷ t ∷ ss) h follow = (h.0, forms_top p total (up_to_8 (s + stored_len f)) (g ∷ fs) (t ∷ ss) h.1 follow.1)
+forms_top p total e (f ∷ fs) (s ∷ ss) h follow = absurd follow.1
+forms_top p total e fs ss h follow = tt
 
 pub form_names : (p : Polarity) (total e : ℕ) (fs : List StoredFile) (ss : List ℕ) → StartsFollow total e (map stored_item fs) ss
     → names_in (forms_of p fs ss) ≡ names_of fs

@@ -72,8 +72,4 @@ file_next d n i node (File name kind attributes content) rest starts is followed
 -- if the starts are a layout of a volume, the digests with these starts cover all rows of the volume
 pub layout_covers : (m : Meaning) (starts : List ℕ) (d : ImageDigests) → d.starts.now ≡ starts → AreAllStarts m starts
     → Covers (λ (e : ImageDigests). e.starts.now) d (tree_rows m)
-layout_covers m starts d is laid = (
-  rows_followed m,
-  subst (λ xs. BeginsWithStarts (volumes_of (tree_rows m)) xs) (sym is)
-      (subst (λ vs. BeginsWithStarts vs starts) (sym (tree_volumes m)) (begin_all (volumes_in m) starts laid)),
-)
+layout_covers m starts d is laid = (rows_followed m, rw (is, tree_volumes m) (begin_all (volumes_in m) starts laid))

@@ -1,6 +1,7 @@
 -- A volume fits exactly if it has a layout, which places its files and the files of each volume inside. It is rejected
 -- exactly if it does not fit, with a fault of the layout at offset 0.
 use Rattle.std.proofs.Common.{◌≡◌, ◌≢◌, ◌⊎◌, inl, inr, ◌+◌, ℕ, List, [], ◌∷◌, refl, subst, sym, ◌∙◌}
+use Rattle.fv_base.proofs.Laws.{arith, common_steps}
 use Rattle.fv_base.specs.declared.fault.Fault.{Fault}
 use Rattle.fv_base.specs.declared.fault.FaultKind.{FaultKind}
 use Rattle.fv_base.specs.declared.fault.FaultKind.TheVariants as kinds
@@ -88,12 +89,7 @@ here_or m depth = elim (placed_or_not (length_of m) (first_edge (head_of m) (hea
 
 all_or : (vs : List Inside) (depth : ℕ) → AllFit vs ⊎ ((f : Fault) × FirstUnplaced vs depth f)
 all_or [] depth = inl tt
-all_or (v ∷ vs) depth = go (here_or v.volume (depth + v.depth)) (all_or vs depth) where
-  go : IsPlaced v ⊎ ((f : Fault) × UnfitHere v.volume (depth + v.depth) f) → AllFit vs ⊎ ((f : Fault) × FirstUnplaced vs depth f)
-      → AllFit (v ∷ vs) ⊎ ((f : Fault) × FirstUnplaced (v ∷ vs) depth f)
-  go (inr (f, here)) h = inr (f, inl here)
-  go (inl placed) (inl all) = inl (placed, all)
-  go (inl placed) (inr (f, behind)) = inr (f, inr (placed, behind))
+all_or (v ∷ vs) depth = grind (arith, common_steps, here_or v.volume (depth + v.depth), all_or vs depth) steps 400000
 
 -- a volume either fits or has a fault of the layout
 pub fits_or : (m : Meaning) → Fits m ⊎ ((f : Fault) × Unfit m 0 f)

@@ -8,12 +8,12 @@
 --    (`only_want`).
 use Rattle.std.proofs.Common.{◌≡◌, ◌⊎◌, ◌≤◌, ◌<◌, ◌+◌, ◌-◌, ◌^◌, ℕ, [], ◌∷◌, ◌++◌, List, length, drop, get_or, refl, sym, ap, ◌∙◌, subst, arith, inl}
 use Rattle.std.proofs.Common.{inr, append_assoc, ext_get_or, get_or-drop, get_or-take}
-use Rattle.fv_base.proofs.Laws.{common_steps, AllByRecursion, Contains, cases_lt, drop-append_seam}
-use Rattle.fv_base.proofs.Laws.{take-append_seam, out_of_memory, field, depth_limit, first_or_behind, in_middle, one_behind, first_only}
+use Rattle.fv_base.proofs.Laws.{common_steps, AllByRecursion, Contains, cases_lt, drop_at, take-append_seam, out_of_memory, field, first_or_behind}
+use Rattle.fv_base.proofs.Laws.{in_middle, one_behind, first_only}
 use Rattle.fv_base.specs.declared.fault.Fault.{Fault}
 use Rattle.fv_flash.specs.Words.{Found, IsCovered, VolumeAt}
 use Rattle.fv_flash.proofs.Laws.{at_within, one_found, one_length}
-use Rattle.fv_canon.specs.Words.{IsImage, NormalisesTo, Rejects, FirstRejected, IsNormalisedAt, NormalisesAll, NormalisesEach}
+use Rattle.fv_canon.specs.Words.{NormalisesTo, Rejects, FirstRejected, IsNormalisedAt, NormalisesAll, NormalisesEach}
 use Rattle.fv_canon.proofs.RejectedInputLaws.{refused_within}
 use Rattle.fv_canon.proofs.ImageLaws.{never_both}
 use Rattle.fv_canon.proofs.HeadlineLaws.{same_meaning_iff_same_image}
@@ -28,12 +28,9 @@ rest_at b from k low = grind (arith, common_steps, get_or-drop)
 field_at : (b : List ℕ) (from n k : ℕ) → from ≤ k → k < from + n → get_or (field from n b) (k - from) 0 ≡ get_or b k 0
 field_at b from n k low high = get_or-take n (drop from b) (k - from) 0 (omega (arith, low, high)) ∙ rest_at b from k low
 
--- dropping the first of two joined lists leaves the second, and the middle one of three joined lists is a field
-pub drop_joined : (xs ys : List ℕ) (n : ℕ) → length xs ≡ n → drop n (xs ++ ys) ≡ ys
-drop_joined xs ys n long = ap (λ (i : ℕ). drop i (xs ++ ys)) (sym long) ∙ drop-append_seam xs ys
-
+-- the middle one of three joined lists is a field
 field_joined : (xs ys zs : List ℕ) (at n : ℕ) → length xs ≡ at → length ys ≡ n → field at n (xs ++ (ys ++ zs)) ≡ ys
-field_joined xs ys zs at n long size = grind (arith, common_steps, drop_joined, take-append_seam)
+field_joined xs ys zs at n long size = grind (arith, common_steps, drop_at, take-append_seam)
 
 -- ---- images
 
@@ -46,9 +43,7 @@ one_image_of b image other to to' = (same_meaning_iff_same_image b b image other
 -- the offset of a volume's fault in the flash image is less than 2 ^ 64
 pub place_fits : (b x : List ℕ) (p n : ℕ) (f : Fault) → VolumeAt b p n → length x ≡ n → length b < 2 ^ 63 → (f ≡ out_of_memory) ⊎ Rejects x f
     → p + f.place.offset < 2 ^ 64
-place_fits b x p n f v long small (inl want) =
-    let none : f.place.offset ≡ 0 = ap (λ (g : Fault). g.place.offset) want in
-    omega (arith, none, at_within b p n v, small)
+place_fits b x p n f v long small (inl want) = grind (arith, common_steps, at_within) steps 400000
 place_fits b x p n f v long small (inr rejected) = omega (arith, refused_within x f rejected, long, at_within b p n v, small)
 
 -- ---- 1. the walk
@@ -69,19 +64,17 @@ renewed_each from b (p ∷ ps) o (n, low, v, same, to, more) = ((n, v, to), rene
 -- the bytes outside the volumes are unchanged
 renewed_others : (from : ℕ) (b ps o : List ℕ) → RenewsFrom from b ps o → (k : ℕ) → from ≤ k → (IsCovered b ps k → ⊥)
     → get_or o k 0 ≡ get_or b k 0
-renewed_others from b [] o same k low none =
-    sym (rest_at o from k low) ∙ (ap (λ (l : List ℕ). get_or l (k - from) 0) same ∙ rest_at b from k low)
-renewed_others from b (p ∷ ps) o (n, least, v, same, to, more) k low none =
-    go (cases_lt k p) (cases_lt k (p + n))
-    (λ past. renewed_others (p + n) b ps o more k past (λ c. none (c.0, c.1, one_behind p ps c.0 c.2, c.3, c.4, c.5)))
-  where
-    go : (k < p) ⊎ (p ≤ k) → (k < p + n) ⊎ (p + n ≤ k) → (p + n ≤ k → get_or o k 0 ≡ get_or b k 0) → get_or o k 0 ≡ get_or b k 0
-    go (inl before) _ _ =
-        let inside : k < from + (p - from) = omega (arith, before, least) in
-        sym (field_at o from (p - from) k low inside)
-        ∙ (ap (λ (l : List ℕ). get_or l (k - from) 0) same ∙ field_at b from (p - from) k low inside)
-    go (inr at) (inl inside) _ = absurd (none (p, n, (0, omega arith, refl), v, at, inside))
-    go (inr at) (inr past) later = later past
+renewed_others from b [] o same k low none = sym (rest_at o from k low) ∙ (ap (λ (l : List ℕ). get_or l (k - from) 0) same ∙ rest_at b from k low)
+renewed_others from b (p ∷ ps) o (n, least, v, same, to, more) k low none = elim (cases_lt k p) [
+  | inl before ↦
+      let inside : k < from + (p - from) = omega (arith, before, least) in
+      sym (field_at o from (p - from) k low inside)
+      ∙ (ap (λ (l : List ℕ). get_or l (k - from) 0) same ∙ field_at b from (p - from) k low inside)
+  | inr at ↦ elim (cases_lt k (p + n)) [
+    | inl inside ↦ absurd (none (p, n, (0, omega arith, refl), v, at, inside))
+    | inr past ↦ renewed_others (p + n) b ps o more k past (λ c. none (c.0, c.1, one_behind p ps c.0 c.2, c.3, c.4, c.5))
+  ]
+]
 
 pub renewed_is : (b places o : List ℕ) → RenewsFrom 0 b places o → length o ≡ length b → NormalisesEach b places o
 renewed_is b places o walk long = record {
@@ -100,9 +93,8 @@ renews_more b ps bytes x image rest from p n least v same long gap_long front_lo
     let o : List ℕ = bytes ++ (x ++ (image ++ rest)) in
     let gap : field from (p - from) o ≡ field from (p - from) b =
     field_joined bytes x (image ++ rest) from (p - from) long gap_long ∙ same in
-    let flat : o ≡ (bytes ++ x) ++ (image ++ rest) = sym (append_assoc bytes x (image ++ rest)) in
     let there : field p n o ≡ image =
-    ap (λ (l : List ℕ). field p n l) flat ∙ field_joined (bytes ++ x) image rest p n front_long image_long in
+    ap (λ (l : List ℕ). field p n l) (sym (append_assoc bytes x (image ++ rest))) ∙ field_joined (bytes ++ x) image rest p n front_long image_long in
     (n, least, v, gap, subst (NormalisesTo (field p n b)) (sym there) to, more)
 
 -- ---- 3. the renewed image is unique
@@ -111,9 +103,7 @@ renews_more b ps bytes x image rest from p n least v same long gap_long front_lo
 -- these volumes, have the same byte at any offset
 same_byte : (b o other places : List ℕ) (k : ℕ) → AllByRecursion (IsNormalisedAt b o) places → AllByRecursion (IsNormalisedAt b other) places
     → ((IsCovered b places k → ⊥) → get_or o k 0 ≡ get_or other k 0) → get_or o k 0 ≡ get_or other k 0
-same_byte b o other [] k all all' outside = outside none where
-  none : IsCovered b [] k → ⊥
-  none (p, m, (j, l, e), w, low, high) = omega (arith, l)
+same_byte b o other [] k all all' outside = outside (λ covered. omega (arith, covered.2.1))
 same_byte b o other (p ∷ ps) k ((n, v, to), all) ((m, w, to'), all') outside = elim (cases_lt k p) [
   | inl before ↦ same_byte b o other ps k all all' (λ none. outside (beyond (inl before) none))
   | inr low ↦ elim (cases_lt k (p + n)) [
@@ -144,10 +134,8 @@ normalised_one b o other (short, places, found, r) (short', places', found', s) 
 
 renewed_never : (b places other : List ℕ) (f : Fault) → Found b places → FirstRejected b places f → NormalisesAll b other → ⊥
 renewed_never b places other f found stops (short, places', found', s) =
-    let same : places ≡ places' = one_found b places places' found found' in
-    let split : places' ≡ stops.before ++ (stops.place ∷ stops.after) = sym same ∙ stops.split in
     let is = in_middle (IsNormalisedAt b other) stops.before stops.place stops.after
-    (subst (λ (l : List ℕ). AllByRecursion (IsNormalisedAt b other) l) split s.volumes) in
+    (subst (λ (l : List ℕ). AllByRecursion (IsNormalisedAt b other) l) (sym (one_found b places places' found found') ∙ stops.split) s.volumes) in
     let long : is.0 ≡ stops.rejected.0 = one_length b stops.place is.0 stops.rejected.0 is.1 stops.rejected.1 in
     let to = subst (λ (k : ℕ). NormalisesTo (field stops.place k b) (field stops.place k other)) long is.2 in
     never_both (field stops.place stops.rejected.0 b) (field stops.place stops.rejected.0 other) stops.rejected.2 to stops.rejected.3

@@ -15,45 +15,37 @@ use Rattle.fv_canon.proofs.VolumeImageLaws.{image_denotes, volume_of}
 pairs_more : {A B : Type 0} (p q : A → B → Type 0) → ((x : A) (y : B) → p x y → q x y) → (xs : List A) (ys : List B) → Pairwise p xs ys
     → Pairwise q xs ys
 pairs_more p q more [] [] h = tt
-pairs_more p q more [] (y ∷ ys) h = absurd h
-pairs_more p q more (x ∷ xs) [] h = absurd h
 pairs_more p q more (x ∷ xs) (y ∷ ys) h = (more x y h.0, pairs_more p q more xs ys h.1)
+pairs_more p q more xs ys h = absurd h
 
 stream_more : (p q : SectionRelation) → ((f : FrameForm) (s : SectionMeaning) → p f s → q f s) → (ss : List SectionMeaning) (n : ℕ) (b : List ℕ)
     → StreamOver p ss n b → StreamOver q ss n b
 stream_more p q more ss n b (fs, split, pairs) = (fs, split, pairs_more p q more fs ss pairs)
 
-content_more : (p q : StreamRelation) → ((ss : List SectionMeaning) (n : ℕ) (b : List ℕ) → p ss n b → q ss n b)
-    → (kind : ℕ) (payload : List ℕ) (c : ContentMeaning) → MeansContent p kind payload c → MeansContent q kind payload c
-content_more p q more kind payload (Plain b) h = h
-content_more p q more kind payload (Sectioned ss n) h = (h.0, more (sections_list ss) n payload h.1)
+module _ (p q : StreamRelation) (more : (ss : List SectionMeaning) (n : ℕ) (b : List ℕ) → p ss n b → q ss n b) where
+  content_more : (kind : ℕ) (payload : List ℕ) (c : ContentMeaning) → MeansContent p kind payload c → MeansContent q kind payload c
+  content_more kind payload (Plain b) h = h
+  content_more kind payload (Sectioned ss n) h = (h.0, more (sections_list ss) n payload h.1)
 
-file_more : (p q : StreamRelation) → ((ss : List SectionMeaning) (n : ℕ) (b : List ℕ) → p ss n b → q ss n b) → (f : FileForm) (m : FileMeaning)
-    → MeansFile p f m → MeansFile q f m
-file_more p q more f (File name kind attributes content) (a, b, c, d) = (a, b, c, content_more p q more kind f.payload content d)
+  file_more : (f : FileForm) (m : FileMeaning) → MeansFile p f m → MeansFile q f m
+  file_more f (File name kind attributes content) (a, b, c, d) = (a, b, c, content_more kind f.payload content d)
 
-volume_more : (p q : StreamRelation) → ((ss : List SectionMeaning) (n : ℕ) (b : List ℕ) → p ss n b → q ss n b) → (b : List ℕ) (m : Meaning)
-    → VolumeOver p b m → VolumeOver q b m
-volume_more p q more b m d =
-    volume_of q b m d.extent d.files d.begins d.length_is (record { cells = d.cells; tiles = d.tiles; current = d.current })
-    (pairs_more (MeansFile p) (MeansFile q) (file_more p q more) d.files (files_of m) d.meanings)
+  volume_more : (b : List ℕ) (m : Meaning) → VolumeOver p b m → VolumeOver q b m
+  volume_more b m d =
+      volume_of q b m d.extent d.files d.begins d.length_is (record { cells = d.cells; tiles = d.tiles; current = d.current })
+      (pairs_more (MeansFile p) (MeansFile q) file_more d.files (files_of m) d.meanings)
 
-section_more : (p q : StreamRelation) (v w : VolumeRelation) → ((ss : List SectionMeaning) (n : ℕ) (b : List ℕ) → p ss n b → q ss n b)
-    → ((b : List ℕ) (m : Meaning) → v b m → w b m) → (f : FrameForm) (s : SectionMeaning)
-    → SectionOver p v f s → SectionOver q w f s
-section_more p q v w streams volumes f (Section kind extended (Leaf b)) h = h
-section_more p q v w streams volumes f (Section kind extended (Group ss n)) (a, b, (c, d)) =
-    (a, b, (c, streams (sections_list ss) n f.body d))
-section_more p q v w streams volumes f (Section kind extended (Nested m)) (a, b, (c, d, e)) = (a, b, (c, d, volumes f.body m e))
+  section_more : (v w : VolumeRelation) → ((b : List ℕ) (m : Meaning) → v b m → w b m) → (f : FrameForm) (s : SectionMeaning)
+      → SectionOver p v f s → SectionOver q w f s
+  section_more v w volumes f (Section kind extended (Leaf b)) h = h
+  section_more v w volumes f (Section kind extended (Group ss n)) (a, b, (c, d)) = (a, b, (c, more (sections_list ss) n f.body d))
+  section_more v w volumes f (Section kind extended (Nested m)) (a, b, (c, d, e)) = (a, b, (c, d, volumes f.body m e))
 
 sections_more : (n : ℕ) (f : FrameForm) (s : SectionMeaning) → MeansSection n f s → MeansSection (suc n) f s
-sections_more zero = section_more (λ _ _ _. ⊥) (StreamOver (MeansSection zero)) (λ _ _. ⊥) (VolumeOver (StreamOver (MeansSection zero)))
-    (λ ss n b h. absurd h) (λ b m h. absurd h)
+sections_more zero = section_more (λ _ _ _. ⊥) (Stream zero) (λ ss n b h. absurd h) (λ _ _. ⊥) (Denotes zero) (λ b m h. absurd h)
 sections_more (suc n) =
     let streams = stream_more (MeansSection n) (MeansSection (suc n)) (sections_more n) in
-    section_more (StreamOver (MeansSection n)) (StreamOver (MeansSection (suc n))) (VolumeOver (StreamOver (MeansSection n)))
-    (VolumeOver (StreamOver (MeansSection (suc n)))) streams
-    (volume_more (StreamOver (MeansSection n)) (StreamOver (MeansSection (suc n))) streams)
+    section_more (Stream n) (Stream (suc n)) streams (Denotes n) (Denotes (suc n)) (volume_more (Stream n) (Stream (suc n)) streams)
 
 one_deeper : (n : ℕ) (b : List ℕ) (m : Meaning) → Denotes n b m → Denotes (suc n) b m
 one_deeper n b m d = volume_more (Stream n) (Stream (suc n)) (stream_more (MeansSection n) (MeansSection (suc n)) (sections_more n)) b m d
@@ -70,9 +62,8 @@ accepted n b m small l d = (small, to_limit (depth_limit - n) n b m (omega (arit
 pub same_meaning_iff_same_image : SameMeaningIffSameImage
 same_meaning_iff_same_image a b image other (m, (small, means), is) (k, (little, means'), is') = (
   λ (same : MeanSame a b).
-      let of_a : same.0 ≡ m = one_meaning 8 8 a same.0 m same.1.1 means in
       let of_b : same.0 ≡ k = one_meaning 8 8 b same.0 k same.2.1 means' in
-      image_one k image other (subst (λ (j : Meaning). IsImage j image) (sym of_a ∙ of_b) is) is',
+      image_one k image other (subst (λ (j : Meaning). IsImage j image) (sym (one_meaning 8 8 a same.0 m same.1.1 means) ∙ of_b) is) is',
   λ (same : image ≡ other).
       let first = (image_denotes 8 m a image small means is).0 in
       let second = (image_denotes 8 k b other little means' is').0 in

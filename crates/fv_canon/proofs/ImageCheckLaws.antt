@@ -4,16 +4,15 @@
 -- 2. If a volume is not read, either it is rejected or memory ran out (`ran_out_only`, `is_rejected`).
 -- 3. All volumes are canonical exactly if `normalise --all` does not change the image (`canonical_images_stay`).
 use Rattle.std.proofs.Common.{◌≡◌, ◌≢◌, ◌⊎◌, ℕ, [], ◌∷◌, List, map, refl, sym, ap, ◌∙◌, subst, arith, inl, inr}
-use Rattle.fv_base.proofs.Laws.{AllByRecursion, out_of_memory, outer_fault, depth_limit, field, first_only, First}
+use Rattle.fv_base.proofs.Laws.{common_steps, AllByRecursion, out_of_memory, outer_fault, depth_limit, field, first_only, First}
 use Rattle.fv_base.specs.declared.fault.Fault.{Fault}
 use Rattle.fv_flash.specs.Words.{VolumeAt}
 use Rattle.fv_flash.proofs.Laws.{one_found, one_length}
 use Rattle.fv_head.proofs.Laws.{one_front}
 use Rattle.fv_head.specs.declared.extent.Extent.{Extent}
-use Rattle.fv_tree.specs.Words.{moved_fault, BytesFollowVolume, IsFirstOfInput, IsFirstOfVolume, Meaning, NotRead, head_of, length_of, outermost}
+use Rattle.fv_tree.specs.Words.{moved_fault, BytesFollowVolume, IsFirstOfInput, IsFirstOfVolume, NotRead, head_of, length_of, outermost}
 use Rattle.fv_tree.proofs.Laws.{fault_refuses, fault_stands, first_once, front_of, one_meaning, stands_other}
-use Rattle.fv_canon.specs.Words.{AreCanonical, CanonicalImagesStay, ChecksImage, HasOutcome, IsChecked}
-use Rattle.fv_canon.specs.Words.{IsImage, IsNormalisedAt, NormalisesTo}
+use Rattle.fv_canon.specs.Words.{AreCanonical, CanonicalImagesStay, ChecksImage, HasOutcome, IsChecked, IsNormalisedAt, NormalisesTo}
 use Rattle.fv_canon.specs.declared.image_check.VolumeCheck.{VolumeCheck}
 use Rattle.fv_canon.specs.declared.image_check.VolumeOutcome.{VolumeOutcome}
 use Rattle.fv_canon.specs.declared.image_check.VolumeOutcome.TheVariants.{Canonical, NotCanonical, Rejected}
@@ -23,8 +22,7 @@ use Rattle.fv_base.specs.declared.fault.FaultKind.TheVariants as kinds
 
 -- bytes with a first fault do not begin with a volume
 first_or_on : (b : List ℕ) (f g : Fault) → IsFirstOfVolume b f → BytesFollowVolume b g → ⊥
-first_or_on b f g first (m, d, less, is) =
-    fault_refuses First depth_limit (length_of m) f b outermost m (omega (arith, less)) first d.1
+first_or_on b f g first (m, d, less, is) = fault_refuses First depth_limit (length_of m) f b outermost m (omega (arith, less)) first d.1
 
 -- bytes that go on after a volume have one fault, at the end of the volume
 one_end : (b : List ℕ) (f g : Fault) → BytesFollowVolume b f → BytesFollowVolume b g → f ≡ g
@@ -32,8 +30,7 @@ one_end b f g (m, d, less, is) (k, d', less', is') =
     let front = front_of depth_limit (length_of m) b m (omega (arith, less)) d.1 in
     let front' = front_of depth_limit (length_of k) b k (omega (arith, less')) d'.1 in
     let same = one_front b (head_of m) (head_of k) d.1.extent d'.1.extent front.0 front'.0 in
-    let long : length_of m ≡ length_of k = sym front.1 ∙ (ap (λ (e : Extent). e.length) same.1 ∙ front'.1) in
-    is ∙ (ap (outer_fault kinds.Length) long ∙ sym is')
+    is ∙ (ap (outer_fault kinds.Length) (sym front.1 ∙ (ap (λ (e : Extent). e.length) same.1 ∙ front'.1)) ∙ sym is')
 
 -- an input has at most one first fault
 one_first : (b : List ℕ) (f g : Fault) → IsFirstOfInput b f → IsFirstOfInput b g → f ≡ g
@@ -45,28 +42,20 @@ one_first b f g (inr on) (inr on') = one_end b f g on on'
 -- bytes have at most one outcome
 one_outcome : (at : ℕ) (b : List ℕ) (x y : VolumeOutcome) → HasOutcome at b x → HasOutcome at b y → x ≡ y
 one_outcome at b Canonical Canonical has has' = refl
-one_outcome at b Canonical NotCanonical (m, a, is) (k, c, none) =
-    absurd (none (subst (λ (n : Meaning). IsImage n b) (one_meaning depth_limit depth_limit b m k a.1 c.1) is))
-one_outcome at b Canonical (Rejected f) (m, a, is) (own, bad, e) = absurd (bad.none m a)
-one_outcome at b NotCanonical Canonical (k, c, none) (m, a, is) =
-    absurd (none (subst (λ (n : Meaning). IsImage n b) (one_meaning depth_limit depth_limit b m k a.1 c.1) is))
+one_outcome at b Canonical NotCanonical (m, a, is) (k, c, none) = absurd (none (rw (one_meaning depth_limit depth_limit b m k a.1 c.1) at is))
+one_outcome at b NotCanonical Canonical (k, c, none) (m, a, is) = absurd (none (rw (one_meaning depth_limit depth_limit b m k a.1 c.1) at is))
 one_outcome at b NotCanonical NotCanonical has has' = refl
-one_outcome at b NotCanonical (Rejected f) (m, a, none) (own, bad, e) = absurd (bad.none m a)
-one_outcome at b (Rejected f) Canonical (own, bad, e) (m, a, is) = absurd (bad.none m a)
-one_outcome at b (Rejected f) NotCanonical (own, bad, e) (m, a, none) = absurd (bad.none m a)
 one_outcome at b (Rejected f) (Rejected g) (own, bad, e) (own', bad', e') =
-    let same : own ≡ own' = one_first b own own' bad.first bad'.first in
-    ap Rejected (e ∙ (ap (λ (o : Fault). moved_fault at o.place.depth o) same ∙ sym e'))
+    ap Rejected (e ∙ (ap (λ (o : Fault). moved_fault at o.place.depth o) (one_first b own own' bad.first bad'.first) ∙ sym e'))
+one_outcome at b x (Rejected f) has has' = absurd (has'.1.none has.0 has.1)
+one_outcome at b (Rejected f) x has has' = absurd (has.1.none has'.0 has'.1)
 
 -- a volume at a place has at most one check
 one_check : (b : List ℕ) (c d : VolumeCheck) → c.offset ≡ d.offset → IsChecked b c → IsChecked b d → c ≡ d
 one_check b c d same (v, has) (w, has') =
     let long : c.length ≡ d.length = one_length b d.offset c.length d.length (subst (λ (k : ℕ). VolumeAt b k c.length) same v) w in
-    let has_it : HasOutcome d.offset (field d.offset d.length b) c.outcome = rw (← same, ← long) has in
-    let out : c.outcome ≡ d.outcome = one_outcome d.offset (field d.offset d.length b) c.outcome d.outcome has_it has' in
-    let made : ℕ → ℕ → VolumeOutcome → VolumeCheck = λ o n x. record { offset = o; length = n; outcome = x } in
-    ap (λ (o : ℕ). made o c.length c.outcome) same ∙ (ap (λ (n : ℕ). made d.offset n c.outcome) long
-    ∙ ap (λ (x : VolumeOutcome). made d.offset d.length x) out)
+    let out : c.outcome ≡ d.outcome = one_outcome d.offset (field d.offset d.length b) c.outcome d.outcome (rw (← same, ← long) has) has' in
+    λ i. record { offset = same i; length = long i; outcome = out i }
 
 -- the offsets of some checks
 abbrev offsets_in : List VolumeCheck → List ℕ
@@ -81,7 +70,7 @@ each_one b (x ∷ xs) [] at all all' = let bad : x.offset ∷ offsets_in xs ≡ 
 each_one b (x ∷ xs) (y ∷ ys) at (is, all) (is', all') =
     let first : x.offset ≡ y.offset = cc in
     let rest : offsets_in xs ≡ offsets_in ys = cc in
-    ap (λ (c : VolumeCheck). c ∷ xs) (one_check b x y first is is') ∙ ap (λ (l : List VolumeCheck). y ∷ l) (each_one b xs ys rest all all')
+    λ i. one_check b x y first is is' i ∷ each_one b xs ys rest all all' i
 
 -- so the volumes of an image have at most one list of checks
 pub checks_one : (b : List ℕ) (xs ys : List VolumeCheck) → ChecksImage b xs → ChecksImage b ys → xs ≡ ys
@@ -109,9 +98,7 @@ is_not_read b f (inr bad) other = bad
 pub is_rejected : (at : ℕ) (b : List ℕ) (own f : Fault) → (own ≡ out_of_memory) ⊎ NotRead b own → own.kind ≢ kinds.OutOfMemory
     → (f ≢ out_of_memory → (own ≢ out_of_memory) × (f ≡ moved_fault at own.place.depth own)) → f.kind ≡ own.kind
     → HasOutcome at b (Rejected f)
-is_rejected at b own f why other moved kind =
-    let memory : f ≢ out_of_memory = λ want. other (sym kind ∙ ap (λ (g : Fault). g.kind) want) in
-    (own, is_not_read b own why other, (moved memory).1)
+is_rejected at b own f why other moved kind = grind (arith, common_steps, is_not_read b own why other) steps 400000
 
 -- ---- 3. an image whose volumes are all canonical
 
@@ -119,26 +106,15 @@ is_rejected at b own f why other moved kind =
 renewed_own : (b : List ℕ) (checks : List VolumeCheck) → AllByRecursion (IsChecked b) checks → AreCanonical checks
     → AllByRecursion (IsNormalisedAt b b) (offsets_in checks)
 renewed_own b [] all own = tt
-renewed_own b (c ∷ cs) ((v, has), all) (is, own) =
-    let to : NormalisesTo (field c.offset c.length b) (field c.offset c.length b) =
-    subst (HasOutcome c.offset (field c.offset c.length b)) is has in
-    ((c.length, v, to), renewed_own b cs all own)
+renewed_own b (c ∷ cs) ((v, has), all) (is, own) = ((c.length, v, rw is at has), renewed_own b cs all own)
 
 -- if each volume is its own canonical image, all checks are Canonical
 own_renewed : (b : List ℕ) (checks : List VolumeCheck) → AllByRecursion (IsChecked b) checks
     → AllByRecursion (IsNormalisedAt b b) (offsets_in checks) → AreCanonical checks
 own_renewed b [] all renewed = tt
 own_renewed b (c ∷ cs) ((v, has), all) ((n, w, to), renewed) =
-    let own : NormalisesTo (field c.offset c.length b) (field c.offset c.length b) =
-    subst (λ (k : ℕ). NormalisesTo (field c.offset k b) (field c.offset k b)) (one_length b c.offset n c.length w v) to in
+    let own : NormalisesTo (field c.offset c.length b) (field c.offset c.length b) = rw (one_length b c.offset n c.length w v) at to in
     (one_outcome c.offset (field c.offset c.length b) c.outcome Canonical has own, own_renewed b cs all renewed)
 
 pub canonical_images_stay : CanonicalImagesStay
-canonical_images_stay b checks (short, offsets, found, (at, all)) = (
-  λ own.
-      let each = subst (AllByRecursion (IsNormalisedAt b b)) at (renewed_own b checks all own) in
-      (short, offsets, found, record { length_is = refl; volumes = each; others = λ k inside none. refl }),
-  λ (short', places, found', renewed).
-      own_renewed b checks all
-      (subst (AllByRecursion (IsNormalisedAt b b)) (one_found b places offsets found' found ∙ sym at) renewed.volumes),
-)
+canonical_images_stay b checks (short, offsets, found, (at, all)) = grind (arith, common_steps, renewed_own, own_renewed, one_found)

@@ -1,6 +1,6 @@
 -- The laws of the image that is written for a layout. Every input has an image or is rejected.
-use Rattle.std.proofs.Common.{◌≡◌, ◌≢◌, ◌⊎◌, ◌≤◌, ℕ, inl, inr, List, [], length, append-nil, ap, subst, sym, ◌∙◌, arith, Bool, true, IsTrue}
-use Rattle.fv_base.proofs.Laws.{IsBytes, depth_limit, first_only, out_of_memory}
+use Rattle.std.proofs.Common.{◌≡◌, ◌≢◌, ◌⊎◌, ◌≤◌, ℕ, inl, inr, List, [], length, append-nil, ap, subst, sym, arith, Bool, true, IsTrue}
+use Rattle.fv_base.proofs.Laws.{common_steps, IsBytes, depth_limit, first_only, out_of_memory}
 use Rattle.fv_base.specs.declared.fault.Fault.{Fault}
 use Rattle.fv_base.specs.declared.fault.FaultKind.TheVariants as kinds
 use Rattle.fv_base.specs.Words.{volume_limit}
@@ -25,14 +25,9 @@ image_begun m starts (n, l, b, small, d) begins = image_made n m b starts small 
 pub image_is : (m : Meaning) (starts : List ℕ) → IsMeaning m → AreAllStarts m starts → IsImage m (image_of m starts)
 image_is m starts is laid = image_begun m starts is (starts, [], sym (append-nil starts), laid)
 
--- a meaning that some bytes have has no other image
-pub image_only : (m : Meaning) (starts image : List ℕ) → IsMeaning m → AreAllStarts m starts → IsImage m image → image ≡ image_of m starts
-image_only m starts image is laid other = image_one m image (image_of m starts) other (image_is m starts is laid)
-
 -- the image of a meaning that some bytes have is a volume of this meaning
 pub image_accepted : (m : Meaning) (image : List ℕ) → IsMeaning m → IsImage m image → Accepted image m
-image_accepted m image (n, l, b, small, d) is =
-    let again = image_denotes n m b image small d is in accepted n image m again.1 l again.0
+image_accepted m image (n, l, b, small, d) is = let again = image_denotes n m b image small d is in accepted n image m again.1 l again.0
 
 -- the length that a header states is within the limit
 pub length_limit : (m : Meaning) → IsMeaning m → (head_of m).length ≤ volume_limit
@@ -57,8 +52,7 @@ what_fits_has_an_image m is = (
 -- bytes are the image of a volume that is laid out exactly if they are the bytes that the walk writes
 pub image_told : (m : Meaning) (b starts : List ℕ) (t : Bool) → IsMeaning m → AreAllStarts m starts
     → (IsTrue t → b ≡ image_of m starts) × (b ≡ image_of m starts → IsTrue t) → (t ≡ true → IsImage m b) × (IsImage m b → t ≡ true)
-image_told m b starts t is laid (there, back) =
-    (λ e. subst (IsImage m) (sym (there e)) (image_is m starts is laid), λ image. back (image_only m starts b is laid image))
+image_told m b starts t is laid (there, back) = grind (arith, common_steps, image_is m starts is laid, image_one) steps 400000
 
 -- if the layout of a volume is rejected, and not because memory ran out, no bytes are its image
 pub none_refused : (m : Meaning) (b : List ℕ) (f : Fault) → (f ≡ out_of_memory) ⊎ Unfit m 0 f → f.kind ≢ kinds.OutOfMemory
@@ -77,8 +71,7 @@ pub every_input : (input : List ℕ) → IsBytes input → ((image : List ℕ) �
 every_input input small = elim (input_decided input small) [
   | inl read ↦ elim (fits_or read.0) [
     | inl fits ↦
-        let meant : IsMeaning read.0 = (depth_limit, omega arith, input, read.1.0, read.1.1) in
-        let made = (what_fits_has_an_image read.0 meant).0 fits in
+        let made = (what_fits_has_an_image read.0 (depth_limit, omega arith, input, read.1.0, read.1.1)).0 fits in
         inl (made.0, (read.0, read.1, made.1))
     | inr w ↦ inr (w.0, inr (read.0, read.1, w.1))
   ]

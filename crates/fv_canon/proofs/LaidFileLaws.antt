@@ -4,18 +4,17 @@
 --    (`here_is`). The same is true of the file at each place of the walk (`at_file`).
 -- 3. The bytes that are left to write are the gap before the file, the file, its filler, and then the files after it
 --    (`walk_goes`). At the end only erased bytes are left (`files_end`).
-use Rattle.std.proofs.Common.{◌≡◌, ◌≤◌, ◌<◌, ◌⊎◌, ◌+◌, ◌-◌, ◌%◌, ℕ, ◌∷◌, ◌++◌, inl, inr, List, length, drop, replicate, get_or, refl, ap, ◌∙◌, subst}
-use Rattle.std.proofs.Common.{arith, append_assoc, length-drop}
+use Rattle.std.proofs.Common.{◌≡◌, ◌≤◌, ◌<◌, ◌⊎◌, ◌+◌, ◌-◌, ◌%◌, ℕ, ◌∷◌, ◌++◌, List, length, drop, replicate, get_or, ap, arith, append_assoc}
+use Rattle.std.proofs.Common.{length-drop}
 use Rattle.fv_base.proofs.Laws.{common_steps, drop_all, drop_more, length-map, erased_byte, data_limit, up_to_8, WalkLaws, item_at}
 use Rattle.fv_base.specs.declared.flash.Polarity.{Polarity}
-use Rattle.fv_file.specs.Words.{file_sum_for, file_head_of, needs_large}
+use Rattle.fv_file.specs.Words.{file_sum_for, file_head_of}
 use Rattle.fv_file.proofs.Laws.{cell_read, header_least}
 use Rattle.fv_tree.specs.Words.{FileMeaning, File, file_name_of, attributes_of, content_of, data_len_of, files_from, file_kind_of, IsReadFile}
 use Rattle.fv_tree.specs.Words.{Stream, volumes_in_files, volumes_in_file}
 use Rattle.fv_canon.specs.inner.ImageOf.{stored_of, stored_file, data_of, starts_in, files_bytes}
-use Rattle.fv_canon.specs.Words.{BeginsWithStarts, placement_item, stored_len, size_for, stored_bytes, gap_bytes}
+use Rattle.fv_canon.specs.Words.{BeginsWithStarts, stored_len, size_for, stored_bytes, gap_bytes}
 use Rattle.fv_canon.proofs.ImageParts.{ComesTo, TakesFront}
-use Rattle.fv_canon.proofs.StoredTilingLaws.{apart as gap_is}
 use Rattle.fv_canon.proofs.VolumeListLaws.{passed_on}
 use Rattle.fv_canon.proofs.WrittenImageLaws.{data_made, streams_made}
 use Rattle.fv_placement.proofs.Laws.{follow_length}
@@ -58,18 +57,7 @@ own_length total e fs own i l placed = grind (arith, common_steps, follow_length
 
 pub here_is : (total e : ℕ) (f : FileMeaning) (fs : List FileMeaning) (s : ℕ) (ss : List ℕ) → ArePlaced total e (f ∷ fs) (s ∷ ss)
     → Here total e f s
-here_is total e f fs s ss placed =
-    let st = placed.follow.0 in
-    let a = gap_is e s placed.eighth st.lawful.eighth st.lawful.gap in
-    let low : e ≤ s = omega (arith, a.2) in
-    record {
-      low = low;
-      apart = a.0;
-      multiple = a.1;
-      most = omega (arith, header_least (needs_large (data_len_of f)), low, st.within, placed.after_header, placed.limit);
-      ends = st.within;
-      next = omega (arith, st.within, placed.multiple);
-    }
+here_is total e f fs s ss placed = grind (arith, common_steps, header_least) steps 400000
 
 pub placed_on : (total e : ℕ) (f : FileMeaning) (fs : List FileMeaning) (s : ℕ) (ss : List ℕ) → ArePlaced total e (f ∷ fs) (s ∷ ss)
     → ArePlaced total (up_to_8 (s + size_for (data_len_of f))) fs ss
@@ -98,8 +86,7 @@ pub at_file : (total e : ℕ) (fs : List FileMeaning) (own : List ℕ) (i : ℕ)
 at_file total e fs own i f l is placed =
     let files = item_at fs i f l is in
     let starts = drop_more own i 0 (own_length total e fs own i l placed) in
-    let both = subst (λ (xs : List ℕ). ArePlaced total e (f ∷ drop (i + 1) fs) xs) starts
-    (subst (λ (xs : List FileMeaning). ArePlaced total e xs (drop i own)) files placed) in
+    let both = rw (files, starts) at placed in
     record {
       files = files;
       starts = starts;
@@ -113,9 +100,8 @@ pub file_passed : (fs : List FileMeaning) (i : ℕ) (f : FileMeaning) (starts la
     → ComesTo (volumes_in_files (files_from (drop i fs))) starts last
     → BeginsWithStarts (volumes_in_file f) starts
     × ComesTo (volumes_in_files (files_from (drop (i + 1) fs))) (drop (starts_in (volumes_in_file f)) starts) last
-file_passed fs i f starts last l is at =
-    passed_on (volumes_in_file f) (volumes_in_files (files_from (drop (i + 1) fs))) starts last
-    (subst (λ (xs : List FileMeaning). ComesTo (volumes_in_files (files_from xs)) starts last) (item_at fs i f l is) at)
+file_passed fs i f starts last l is comes =
+    passed_on (volumes_in_file f) (volumes_in_files (files_from (drop (i + 1) fs))) starts last (rw (item_at fs i f l is) at comes)
 
 -- the bytes that are left at a file are its gap, the file and its filler, and then the files after it
 pub walk_goes : (p : Polarity) (total e : ℕ) (fs : List FileMeaning) (own : List ℕ) (i : ℕ) (f : FileMeaning) (starts : List ℕ)

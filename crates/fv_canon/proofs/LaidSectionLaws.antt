@@ -6,14 +6,14 @@
 --    (`goes_on`, `front_more`).
 -- 4. At the end the walk puts the tail (`front_end`), or nothing if there are no sections (`front_none`), and all
 --    starts of the stream are taken (`walk_ended`).
-use Rattle.std.proofs.Common.{◌≡◌, ◌<◌, ◌+◌, ◌-◌, ◌^◌, ℕ, [], ◌∷◌, ◌++◌, zero, suc, Bool, List, length, drop, replicate, sym, ap, ◌∙◌, subst, arith}
-use Rattle.std.proofs.Common.{append_assoc, append-nil, length-drop}
+use Rattle.std.proofs.Common.{◌≡◌, ◌<◌, ◌+◌, ◌-◌, ◌^◌, ℕ, [], ◌∷◌, ◌++◌, List, length, drop, replicate, sym, ap, ◌∙◌, subst, arith, append_assoc}
+use Rattle.std.proofs.Common.{append-nil, length-drop}
 use Rattle.fv_base.proofs.Laws.{common_steps, IsBytes, WalkLaws, bytes_drop}
-use Rattle.fv_section.specs.Words.{FrameForm, section_header_len, frame_len, up_to_4, FitsForm, section_head_of, stream_of}
+use Rattle.fv_section.specs.Words.{section_header_len, frame_len, up_to_4, FitsForm, section_head_of, stream_of}
 use Rattle.fv_section.proofs.Laws.{begun_bytes, length_begun}
 use Rattle.fv_tree.specs.Words.{SectionMeanings, NoSections, MoreSections, SectionMeaning, Section, body_len, sections_from, body_of}
-use Rattle.fv_tree.specs.Words.{section_is_extended, section_kind_of, section_len, MeansSection, IsReadSection, volumes_in_section}
-use Rattle.fv_tree.specs.Words.{volumes_in_sections, volumes_in_body}
+use Rattle.fv_tree.specs.Words.{section_is_extended, section_kind_of, section_len, IsReadSection, volumes_in_section, volumes_in_sections}
+use Rattle.fv_tree.specs.Words.{volumes_in_body}
 use Rattle.fv_canon.specs.inner.ImageOf.{frames_of, frame_of, body_image, starts_in}
 use Rattle.fv_canon.proofs.ImageParts.{frame_bytes, sections_bytes, ComesTo, TakesFront}
 use Rattle.fv_canon.specs.Words.{BeginsWithStarts}
@@ -50,22 +50,11 @@ stream_goes : (at : ℕ) (s : SectionMeaning) (ss : SectionMeanings) (starts : L
     → stream_of (frames_of at (MoreSections s ss) starts) tail
     ≡ frame_bytes (frame_of 0 s starts) ++ (sections_bytes (up_to_4 (frame_len (frame_of 0 s starts)) - frame_len (frame_of 0 s starts)) ss
     (drop (starts_in (volumes_in_section s)) starts) ++ replicate tail 0)
-stream_goes at (Section k e b) NoSections starts tail =
-    sym (append_assoc (section_head_of k e (length (body_image b starts))) (body_image b starts) (replicate tail 0))
+stream_goes at (Section k e b) NoSections starts tail = simp append_assoc
 stream_goes at (Section k e b) (MoreSections t ss) starts tail =
-    let f : FrameForm = frame_of 0 (Section k e b) starts in
-    let head : List ℕ = section_head_of k e (length (body_image b starts)) in
-    let fill : List ℕ = replicate (up_to_4 (frame_len f) - frame_len f) 0 in
-    let later : List ℕ = drop (starts_in (volumes_in_section (Section k e b))) starts in
-    let next : List ℕ = frame_bytes (frame_of 0 t later) in
-    let rest : List ℕ =
-    sections_bytes (up_to_4 (frame_len (frame_of 0 t later)) - frame_len (frame_of 0 t later)) ss (drop (starts_in (volumes_in_section
-    t)) later) in
-    let goes = stream_goes (up_to_4 (at + frame_len f)) t ss later tail in
-    ap (λ (xs : List ℕ). head ++ (f.body ++ (fill ++ xs))) goes
-    ∙ sym (append_assoc head f.body (fill ++ (next ++ (rest ++ replicate tail 0))))
-    ∙ ap (λ (xs : List ℕ). (head ++ f.body) ++ xs)
-    (sym (append_assoc fill next (rest ++ replicate tail 0)) ∙ sym (append_assoc (fill ++ next) rest (replicate tail 0)))
+    let goes = stream_goes (up_to_4 (at + frame_len (frame_of 0 (Section k e b) starts))) t ss
+    (drop (starts_in (volumes_in_section (Section k e b))) starts) tail in
+    rw goes (simp append_assoc)
 
 -- all sections and the tail are the stream
 pub stream_whole : (s : SectionMeaning) (ss : SectionMeanings) (starts : List ℕ) (tail : ℕ)
@@ -81,8 +70,7 @@ pub section_passed : (left rest : List SectionMeaning) (s : SectionMeaning) (sta
     → BeginsWithStarts (volumes_in_section s) starts
     × ComesTo (volumes_in_sections (sections_from rest)) (drop (starts_in (volumes_in_section s)) starts) last
 section_passed left rest s starts last is comes =
-    passed_on (volumes_in_section s) (volumes_in_sections (sections_from rest)) starts last
-    (subst (λ ss. ComesTo (volumes_in_sections (sections_from ss)) starts last) is comes)
+    passed_on (volumes_in_section s) (volumes_in_sections (sections_from rest)) starts last (rw is at comes)
 
 pub in_body : (s : SectionMeaning) → starts_in (volumes_in_section s) ≡ starts_in (volumes_in_body (body_of s))
 in_body s = ap starts_in (in_section s) ∙ count_deeper (volumes_in_body (body_of s))
@@ -103,22 +91,13 @@ pub goes_on : (left rest : List SectionMeaning) (s : SectionMeaning) (starts : L
     ≡ (replicate gap 0
     ++ (section_head_of (section_kind_of s) (section_is_extended s) (body_len (body_of s)) ++ body_image (body_of s) starts))
     ++ sections_bytes (up_to_4 (section_len s) - section_len s) (sections_from rest) (drop (starts_in (volumes_in_section s)) starts)
-goes_on left rest s starts gap is k =
-    let later : ℕ → List ℕ = λ n. sections_bytes (up_to_4 n - n) (sections_from rest) (drop (starts_in (volumes_in_section s)) starts) in
-    ap (λ ss. sections_bytes gap (sections_from ss) starts) is
-    ∙ ap (λ (xs : List ℕ). (replicate gap 0 ++ xs) ++ later (frame_len (frame_of 0 s starts))) (framed s starts k)
-    ∙ ap (λ (n : ℕ). (replicate gap 0 ++ (section_head_of (section_kind_of s) (section_is_extended s) (body_len (body_of s))
-    ++ body_image (body_of s) starts)) ++ later n) (sized s starts k)
+goes_on left rest s starts gap is k = grind (arith, common_steps, sized, framed) steps 400000
 
 -- after three pieces are put, the bytes after these pieces are left
 pub front_more : {S : Type 0} (takes : S → List ℕ → S → Type 0) → WalkLaws takes → (s t u v w : S) (whole rest a b c left : List ℕ)
     → TakesFront takes s t whole rest → rest ≡ (a ++ (b ++ c)) ++ left → takes t a u → takes u b v → takes v c w
     → TakesFront takes s w whole left
-front_more takes laws s t u v w whole rest a b c left f e p q r = record {
-  front = f.front ++ (a ++ (b ++ c));
-  taken = laws.joined f.taken (laws.joined p (laws.joined q r));
-  whole_is = append_assoc f.front (a ++ (b ++ c)) left ∙ ap (λ (xs : List ℕ). f.front ++ xs) (sym e) ∙ f.whole_is;
-}
+front_more takes laws s t u v w whole rest a b c left f e p q r = grind (arith, common_steps, append_assoc f.front (a ++ (b ++ c)) left) steps 400000
 
 -- after the last section the bytes of the tail are put
 pub front_end : {S : Type 0} (takes : S → List ℕ → S → Type 0) → WalkLaws takes
@@ -126,32 +105,21 @@ pub front_end : {S : Type 0} (takes : S → List ℕ → S → Type 0) → WalkL
     → TakesFront takes s t (sections_bytes 0 (sections_from ss) starts) (sections_bytes gap (sections_from left) rest)
     → takes t (replicate tail 0) u → takes s (stream_of (frames_of 0 (sections_from ss) starts) tail) u
 front_end takes laws [] left s t u gap starts rest tail none some f p = absurd (omega (arith, some))
-front_end takes laws (x ∷ xs) left s t u gap starts rest tail none some f p =
-    let ended : sections_bytes gap (sections_from left) rest ≡ [] =
-    ap (λ (ys : List SectionMeaning). sections_bytes gap (sections_from ys) rest) none in
-    let whole : f.front ≡ sections_bytes 0 (sections_from (x ∷ xs)) starts =
-    sym (append-nil f.front) ∙ ap (λ (ys : List ℕ). f.front ++ ys) (sym ended) ∙ f.whole_is in
-    subst (λ (ys : List ℕ). takes s ys u) (ap (λ (ys : List ℕ). ys ++ replicate tail 0) whole
+front_end takes laws (x ∷ xs) [] s t u gap starts rest tail none some f p =
+    subst (λ (ys : List ℕ). takes s ys u) (ap (λ (ys : List ℕ). ys ++ replicate tail 0) (sym (append-nil f.front) ∙ f.whole_is)
     ∙ stream_whole x (sections_from xs) starts tail) (laws.joined f.taken p)
+front_end takes laws (x ∷ xs) (y ∷ ys) s t u gap starts rest tail none some f p = let bad : y ∷ ys ≡ [] = none in cc
 
 -- if the stream has no sections, nothing is put
 pub front_none : {S : Type 0} (takes : S → List ℕ → S → Type 0) (ss left : List SectionMeaning) (s t : S) (gap : ℕ)
     (starts rest : List ℕ) (tail : ℕ) → left ≡ [] → left ≡ ss
     → TakesFront takes s t (sections_bytes 0 (sections_from ss) starts) (sections_bytes gap (sections_from left) rest)
     → takes s (stream_of (frames_of 0 (sections_from ss) starts) tail) t
-front_none takes ss left s t gap starts rest tail none same f =
-    let empty : ss ≡ [] = sym same ∙ none in
-    let ended : sections_bytes gap (sections_from left) rest ≡ [] =
-    ap (λ (ys : List SectionMeaning). sections_bytes gap (sections_from ys) rest) none in
-    let whole : sections_bytes 0 (sections_from ss) starts ≡ [] =
-    ap (λ (ys : List SectionMeaning). sections_bytes 0 (sections_from ys) starts) empty in
-    let front : f.front ≡ [] = sym (append-nil f.front) ∙ ap (λ (ys : List ℕ). f.front ++ ys) (sym ended) ∙ f.whole_is ∙ whole in
-    let stream : stream_of (frames_of 0 (sections_from ss) starts) tail ≡ [] =
-    ap (λ (ys : List SectionMeaning). stream_of (frames_of 0 (sections_from ys) starts) tail) empty in
-    subst (λ (ys : List ℕ). takes s ys t) (front ∙ sym stream) f.taken
+front_none takes [] [] s t gap starts rest tail none same f = subst (λ ys. takes s ys t) (sym (append-nil f.front) ∙ f.whole_is) f.taken
+front_none takes (x ∷ xs) [] s t gap starts rest tail none same f = let bad : [] ≡ x ∷ xs = same in cc
+front_none takes ss (y ∷ ys) s t gap starts rest tail none same f = let bad : y ∷ ys ≡ [] = none in cc
 
 -- after the last section, the starts that are left are the starts that follow the stream
 pub walk_ended : (left : List SectionMeaning) (rest last : List ℕ) → left ≡ []
     → ComesTo (volumes_in_sections (sections_from left)) rest last → rest ≡ last
-walk_ended left rest last none walk =
-    (subst (λ ss. ComesTo (volumes_in_sections (sections_from ss)) rest last) none walk).left
+walk_ended left rest last none walk = (subst (λ ss. ComesTo (volumes_in_sections (sections_from ss)) rest last) none walk).left

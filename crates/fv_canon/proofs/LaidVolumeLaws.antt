@@ -9,7 +9,7 @@
 -- 4. So a flash image whose volumes are laid out has a renewed image (`laid_renewed`).
 use Rattle.std.proofs.Common.{◌≡◌, ◌≢◌, ◌⊎◌, ◌≤◌, ◌<◌, ◌+◌, ◌-◌, ℕ, [], ◌∷◌, ◌++◌, List, length, take, drop, get_or, refl, sym, ap, ◌∙◌, subst, arith}
 use Rattle.fv_base.proofs.Laws.{inl, inr, append_assoc, length-append, length-drop, length-take-le, take-append-drop, common_steps, AllByRecursion}
-use Rattle.fv_base.proofs.Laws.{drop_more, map-append, out_of_memory, volume_limit, WalkLaws, field, at_index, or_more, want_known}
+use Rattle.fv_base.proofs.Laws.{drop_at, drop_more, map-append, out_of_memory, volume_limit, WalkLaws, field, at_index, or_more, want_known}
 use Rattle.fv_base.specs.declared.fault.Fault.{Fault}
 use Rattle.fv_flash.proofs.Laws.{at_within, found_walk, one_length}
 use Rattle.fv_flash.specs.inner.FoundWalks.{FoundFrom}
@@ -19,7 +19,7 @@ use Rattle.fv_flash.specs.declared.scanner.FoundVolume.{FoundVolume}
 use Rattle.fv_canon.specs.Words.{IsImage, NormalisesTo, Rejects, FirstRejected, HasImageAt, NormalisesAll, RejectedAt, AreLaid, IsLaid, IsLaidOut}
 use Rattle.fv_canon.specs.Words.{starts_of}
 use Rattle.fv_canon.specs.declared.flash_image.LocatedVolume.{LocatedVolume}
-use Rattle.fv_canon.proofs.FlashImageLaws.{RenewsFrom, drop_joined, renewed_is, renews_more}
+use Rattle.fv_canon.proofs.FlashImageLaws.{RenewsFrom, renewed_is, renews_more}
 use Rattle.fv_canon.proofs.ImageLaws.{image_stays_long}
 
 -- ---- one volume
@@ -87,22 +87,12 @@ pub record Puts {S : Type 0} (takes : S → List ℕ → S → Type 0) (s t : S)
 module _ {S : Type 0} (takes : S → List ℕ → S → Type 0) (laws : WalkLaws takes) (s : S) (b : List ℕ) (volumes : List LocatedVolume) where
   -- at first nothing is put
   pub laid_none : IsLaidOut b volumes → Puts takes s s b volumes volumes 0
-  laid_none (short, places, found, (same, all)) = record {
-    bytes = [];
-    taken = laws.none s;
-    long = refl;
-    inside = omega arith;
-    found = found_walk b (starts_of volumes) (subst (Found b) (sym same) found);
-    laid = all;
-    whole = λ rest all. all;
-  }
+  laid_none (short, places, found, (same, all)) = grind (arith, common_steps, found_walk) steps 400000
 
   -- the next volume begins after the bytes that were put, and lies within the flash image
   pub laid_next : {t : S} (left : List LocatedVolume) (from : ℕ) (v : LocatedVolume) (vs : List LocatedVolume)
       → Puts takes s t b volumes left from → left ≡ v ∷ vs → (from ≤ v.start) × (v.start ≤ length b)
-  laid_next {t} left from v vs puts' now =
-      let puts = subst (λ (xs : List LocatedVolume). Puts takes s t b volumes xs from) now puts' in
-      (puts.found.1.0, omega (arith, at_within b v.start puts.laid.0.0 puts.laid.0.1))
+  laid_next {t} left from v vs puts' now = grind (arith, common_steps, at_within) steps 400000
 
   -- the bytes up to the volume and its image are put
   pub laid_more : {t u w : S} (left : List LocatedVolume) (from : ℕ) (v : LocatedVolume) (vs : List LocatedVolume) (gap image : List ℕ)
@@ -116,7 +106,6 @@ module _ {S : Type 0} (takes : S → List ℕ → S → Type 0) (laws : WalkLaws
       let to : NormalisesTo (field p n b) image = (v.laid, puts.laid.0.2, is_image) in
       let low : from ≤ p = puts.found.1.0 in
       let within : p + n ≤ length b = at_within b p n volume in
-      let same : puts.found.0 ≡ n = one_length b p puts.found.0 n puts.found.1.3 volume in
       let gap_long : length gap ≡ p - from =
       ap length is ∙ length-take-le (p - from) (drop from b) (omega (arith, length-drop from b, low, within)) in
       let image_long : length image ≡ n =
@@ -128,7 +117,7 @@ module _ {S : Type 0} (takes : S → List ℕ → S → Type 0) (laws : WalkLaws
         taken = laws.joined (laws.joined puts.taken put) put';
         long = omega (arith, length-append (puts.bytes ++ gap) image, front_long, image_long);
         inside = within;
-        found = subst (λ (k : ℕ). FoundFrom (p + k) b (starts_of vs)) same puts.found.2;
+        found = subst (λ (k : ℕ). FoundFrom (p + k) b (starts_of vs)) (one_length b p puts.found.0 n puts.found.1.3 volume) puts.found.2;
         laid = puts.laid.1;
         whole = λ rest after. subst (RenewsFrom 0 b (starts_of volumes)) (sym (flat rest)) (puts.whole (gap ++ (image ++ rest))
             (renews_more b (starts_of vs) puts.bytes gap image rest from p n low volume is puts.long gap_long front_long image_long to
@@ -142,7 +131,7 @@ module _ {S : Type 0} (takes : S → List ℕ → S → Type 0) (laws : WalkLaws
   laid_all {t} left from rest (short, places, found, (same, all)) puts' none is put =
       let puts = subst (λ (xs : List LocatedVolume). Puts takes s t b volumes xs from) none puts' in
       let o : List ℕ = puts.bytes ++ rest in
-      let walk : RenewsFrom 0 b (starts_of volumes) o = puts.whole rest (drop_joined puts.bytes rest from puts.long ∙ is) in
+      let walk : RenewsFrom 0 b (starts_of volumes) o = puts.whole rest (drop_at puts.bytes rest from puts.long ∙ is) in
       let long : length o ≡ length b =
       omega (arith, length-append puts.bytes rest, ap length is, puts.long, length-drop from b, puts.inside) in (
         o,

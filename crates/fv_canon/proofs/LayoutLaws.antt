@@ -10,8 +10,7 @@ use Rattle.fv_canon.proofs.VolumeListLaws.{begins_own}
 starts_same : (vs : List Inside) (a b : List ℕ) → StartsOfEach AreStarts vs a → StartsOfEach AreStarts vs b → a ≡ b
 starts_same [] a b p q = p ∙ sym q
 starts_same (v ∷ vs) a b (own, inner, p, placed, laid) (own', inner', q, placed', laid') =
-    p ∙ ap (λ (xs : List ℕ). xs ++ inner) (starts_one _ _ (placement_items v.volume) own own' placed placed')
-    ∙ ap (λ (xs : List ℕ). own' ++ xs) (starts_same vs inner inner' laid laid') ∙ sym q
+    p ∙ (λ i. starts_one _ _ (placement_items v.volume) own own' placed placed' i ++ starts_same vs inner inner' laid laid' i) ∙ sym q
 
 pub one_layout : (m : Meaning) (a b : List ℕ) → AreAllStarts m a → AreAllStarts m b → a ≡ b
 one_layout m a b p q = starts_same (volumes_in m) a b p q
@@ -24,12 +23,9 @@ pub layout_is : (m : Meaning) (fs : List FileMeaning) (new : List ℕ) (l : Layo
     → AreAllStarts m new → l.own ≡ take (length fs) new → l.inner ≡ drop (length fs) new → IsLayout m l
 layout_is (Volume h files) fs new l e lays own inner =
     let count : length (files_list files) ≡ length fs = ap length (ap files_of e ∙ files_list_back fs) in
-    let whole : l.own ++ l.inner ≡ new =
-    ap (λ (xs : List ℕ). xs ++ l.inner) own ∙ ap (λ (xs : List ℕ). take (length fs) new ++ xs) inner
-    ∙ take-append-drop (length fs) new in
     let enough = (begins_own (record { depth = 0; volume = Volume h files }) (volumes_in_files files) (length fs) new count
     (new, [], sym (append-nil new), lays)).0 in (
-      subst (λ (xs : List ℕ). AreAllStarts (Volume h files) xs) (sym whole) lays,
+      subst (λ (xs : List ℕ). AreAllStarts (Volume h files) xs) (sym ((λ i. own i ++ inner i) ∙ take-append-drop (length fs) new)) lays,
       ap length own ∙ length-take-le (length fs) new enough ∙ sym count,
     )
 

@@ -1,8 +1,9 @@
 -- The two loops over the rows of a part of a volume: one adds the starts of the files of each volume among the rows,
 -- the other skips these starts.
-use Rattle.std.proofs.Common.{◌≡◌, ◌≢◌, ◌<◌, ◌≤◌, ◌+◌, ℕ, [], ◌∷◌, ◌++◌, inl, inr, ◌∙◌, suc, List, append_assoc, append-nil, length, drop, refl, sym}
-use Rattle.std.proofs.Common.{ap, subst, arith, true, false, true≢false, drop-drop}
+use Rattle.std.proofs.Common.{◌≡◌, ◌≢◌, ◌<◌, ◌≤◌, ◌+◌, ℕ, [], ◌∷◌, ◌++◌, inr, ◌∙◌, suc, List, append_assoc, append-nil, length, drop, refl, sym, ap}
+use Rattle.std.proofs.Common.{subst, arith, true, false, true≢false, drop-drop}
 use Rattle.std.specs.List.{Any}
+use Rattle.fv_base.proofs.Laws.{common_steps}
 use Rattle.fv_base.specs.declared.fault.Fault.{Fault}
 use Rattle.fv_rows.proofs.Laws.{file_inside}
 use Rattle.fv_rows.specs.Words.{VolumeNode, FileNode, TreeRow, part_node, row_of, rows_inside}
@@ -27,8 +28,7 @@ volume_first left rest r v steps is = ap volumes_of steps ∙ ap (λ n. volume_a
 -- a row that is not a volume adds no volume
 other_part : (nesting : ℕ) (p : Part) → ((v : _) → p ≡ kinds.Volume v → ⊥) → volume_at nesting (part_node p) ≡ []
 other_part nesting (kinds.Volume v) not = absurd (not v refl)
-other_part nesting (kinds.File f) not = refl
-other_part nesting (kinds.Section s) not = refl
+other_part nesting p not = refl
 
 pub other_first : (left rest : List TreeRow) (r : Row) → left ≡ row_of r ∷ rest → ((v : _) → r.part ≡ kinds.Volume v → ⊥)
     → volumes_of left ≡ volumes_of rest
@@ -44,25 +44,15 @@ pub record Collects (rows left : List TreeRow) (starts : List ℕ) : Type 0 wher
   pub count : starts_in (volumes_of left) ≤ starts_in (volumes_of rows)
 
 pub collects_begun : (rows left : List TreeRow) (starts : List ℕ) → left ≡ rows → starts ≡ [] → Collects rows left starts
-collects_begun rows left starts same none =
-    subst (λ l. Collects rows l starts) (sym same)
-    (subst (Collects rows rows) (sym none) (record { all = λ laid lays. lays; unfit = λ f un. un; count = omega arith }))
+collects_begun rows left starts same none = rw (same, none) (record { all = λ laid lays. lays; unfit = λ f un. un; count = omega arith })
 
 pub collects_done : (rows left : List TreeRow) (starts : List ℕ) → left ≡ [] → Collects rows left starts
     → StartsOfEach AreStarts (volumes_of rows) starts
-collects_done rows left starts none before =
-    subst (StartsOfEach AreStarts (volumes_of rows)) (append-nil starts)
-    (before.all [] (subst (λ l. StartsOfEach AreStarts (volumes_of l) []) (sym none) refl))
+collects_done rows left starts none before = rw append-nil at (before.all [] (rw none refl))
 
 pub collects_other : (rows left rest : List TreeRow) (starts : List ℕ) (r : Row) → left ≡ row_of r ∷ rest
     → ((v : _) → r.part ≡ kinds.Volume v → ⊥) → Collects rows left starts → Collects rows rest starts
-collects_other rows left rest starts r steps not before =
-    let is = other_first left rest r steps not in
-    record {
-      all = λ laid lays. before.all laid (subst (λ vs. StartsOfEach AreStarts vs laid) (sym is) lays);
-      unfit = λ f un. before.unfit f (subst (λ vs. FirstUnplaced vs 0 f) (sym is) un);
-      count = omega (arith, ap starts_in is, before.count);
-    }
+collects_other rows left rest starts r steps not before = grind (arith, common_steps, other_first)
 
 module _ (rows left rest : List TreeRow) (starts : List ℕ) (r : Row) (v : Meaning) (steps : left ≡ row_of r ∷ rest)
     (node : part_node r.part ≡ VolumeNode v) (before : Collects rows left starts) where
@@ -71,16 +61,13 @@ module _ (rows left rest : List TreeRow) (starts : List ℕ) (r : Row) (v : Mean
 
   pub collects_volume : (own next : List ℕ) → AreStarts v own → next ≡ starts ++ own → Collects rows rest next
   collects_volume own next placed joined = record {
-    all = λ laid lays. subst (StartsOfEach AreStarts (volumes_of rows)) (sym (ap (λ s. s ++ laid) joined ∙ append_assoc starts own laid))
-        (before.all (own ++ laid) (subst (λ vs. StartsOfEach AreStarts vs (own ++ laid)) (sym is) (own, laid, refl, placed, lays)));
+    all = λ laid lays. rw (joined, append_assoc) (before.all (own ++ laid) (rw is (own, laid, refl, placed, lays)));
     unfit = λ f un. before.unfit f (subst (λ vs. FirstUnplaced vs 0 f) (sym is) (inr ((own, placed), un)));
     count = omega (arith, ap starts_in is, before.count);
   }
 
   pub collects_unfit : (f : Fault) → UnfitHere v r.nesting f → FirstUnplaced (volumes_of rows) 0 f
-  collects_unfit f here =
-      let same : r.nesting ≡ 0 + r.nesting = omega arith in
-      before.unfit f (subst (λ vs. FirstUnplaced vs 0 f) (sym is) (inl (subst (λ d. UnfitHere v d f) same here)))
+  collects_unfit f here = grind (arith, common_steps)
 
   pub collects_some : 0 < length (files_of v) → 0 < starts_in (volumes_of rows)
   collects_some some = omega (arith, ap starts_in is, before.count, some)

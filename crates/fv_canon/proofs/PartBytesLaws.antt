@@ -1,5 +1,6 @@
 -- The facts that the layout uses about the files of a volume that was read.
 use Rattle.std.proofs.Common.{◌≡◌, ◌≤◌, ◌<◌, ◌+◌, ◌-◌, ◌*◌, ◌/◌, ◌%◌, ◌^◌, ℕ, [], ◌∷◌, zero, suc, Bool, true, false, List, length, drop, refl, ◌∙◌, arith}
+use Rattle.fv_base.proofs.Laws.{common_steps}
 use Rattle.fv_base.proofs.Laws.{length-drop, All, All-from_recursion, map, nat_le, slice_index, AllByRecursion, alignment_of, and_split, volume_limit}
 use Rattle.std.proofs.lemmas.Bool.{leb-true}
 use Rattle.std.specs.List.{list_all}
@@ -19,9 +20,7 @@ use Rattle.fv_canon.proofs.VolumeImageLaws.{files_read, first_behind}
 -- the data of a file that was read, with a short header, are within the limit of a volume's length
 pub data_short : (m : FileMeaning) → IsReadFile m → 24 + data_len_of m ≤ volume_limit
 data_short (File name kind attributes content) (n, few, f, (system, p, b, small, most, cell), is) =
-    let r = cell_read system p f.offset f.head f.payload b small cell in
-    let long = content_long n f name kind attributes content is in
-    omega (arith, r.within, long, most)
+    omega (arith, (cell_read system p f.offset f.head f.payload b small cell).within, content_long n f name kind attributes content is, most)
 
 -- ---- the alignment of a file is a power of two
 
@@ -48,36 +47,25 @@ head_most true = omega arith
 head_most false = omega arith
 
 part_is : (total : ℕ) (m : FileMeaning) → 32 + data_len_of m ≤ total → IsLawfulItem total (placement_item m)
-part_is total m l = record {
-  header = head_eighth (needs_large (data_len_of m));
-  holds = omega arith;
-  within = within (file_header_len (needs_large (data_len_of m))) (data_len_of m) (head_most (needs_large (data_len_of m))) l;
-  alignment = alignment_power (attributes_of m);
-}
-  where
-    within : (h n : ℕ) → h ≤ 32 → 32 + n ≤ total → h + n ≤ total
-    within h n p q = omega (arith, p, q)
+part_is total m l =
+    grind (arith, common_steps, head_eighth (needs_large (data_len_of m)), head_most (needs_large (data_len_of m)), alignment_power (attributes_of m)) steps 400000
 
 -- files that were read from at most `limit` bytes are lawful items of a volume that has at least 8 bytes more
 are_parts : (n : ℕ) (system : FileSystem) (limit total : ℕ) (fs : List FileForm) (ms : List FileMeaning)
     → ((k : ℕ) → 24 + k ≤ limit → 32 + k ≤ total) → AllByRecursion (FileIsAccepted system limit) fs → Pairwise (MeansFile (Stream n)) fs ms
     → AllByRecursion (IsLawfulItem total) (map placement_item ms)
 are_parts n system limit total [] [] room reads pairs = tt
-are_parts n system limit total [] (m ∷ ms) room reads pairs = absurd pairs
-are_parts n system limit total (f ∷ fs) [] room reads pairs = absurd pairs
 are_parts n system limit total (f ∷ fs) (File name kind attributes content ∷ ms) room reads pairs =
     let long = content_long n f name kind attributes content pairs.0 in
     let m : FileMeaning = File name kind attributes content in
     (part_is total m (room (data_len_of m) (omega (arith, reads.0.within, long))), are_parts n system limit total fs ms room reads.1 pairs.1)
+are_parts n system limit total fs ms room reads pairs = absurd pairs
 
 -- the files of a volume that was read are lawful items of this volume
 pub parts_fit : (m : Meaning) → IsMeaning m → All (IsLawfulItem (head_of m).length) (map placement_item (files_of m))
 parts_fit (Volume h files) (n, few, b, small, d) =
-    let body : ℕ = length (drop d.extent.first b) in
-    let lies = front_lies b h d.extent d.begins in
     let behind = first_behind h.ext d.extent b d.begins.ext in
-    let whole : length b ≡ h.length = d.length_is ∙ d.begins.length_is in
     All-from_recursion (IsLawfulItem h.length) (map placement_item (files_list files))
-    (are_parts n h.file_system body h.length d.files (files_list files)
-    (λ k l. omega (arith, length-drop d.extent.first b, whole, lies.least, behind, l))
+    (are_parts n h.file_system (length (drop d.extent.first b)) h.length d.files (files_list files)
+    (λ k l. omega (arith, length-drop d.extent.first b, d.length_is ∙ d.begins.length_is, (front_lies b h d.extent d.begins).least, behind, l))
     (files_read n h files b small d) d.meanings)

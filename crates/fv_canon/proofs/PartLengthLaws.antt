@@ -1,6 +1,6 @@
 -- If a volume is laid out, the bytes that a walk writes for each of its parts are the part in the image, and have the
 -- length of the part.
-use Rattle.std.proofs.Common.{◌≡◌, ◌∙◌, ℕ, List, [], append-nil, drop, length, sym}
+use Rattle.std.proofs.Common.{◌≡◌, ℕ, List, [], append-nil, drop, length, sym}
 use Rattle.fv_base.proofs.Laws.{bytes_drop}
 use Rattle.fv_file.proofs.Laws.{cell_read}
 use Rattle.fv_section.proofs.Laws.{begun_bytes}

@@ -4,8 +4,8 @@
 -- 2. So the files are in order, and the walk writes them (`files_placed`).
 -- 3. With the header and the extended header the same is true of the volume (`volume_in_order`, `volume_painted`).
 -- 4. So the bytes that show the volume are the bytes that the walk writes (`volume_shows`, `volume_written`).
-use Rattle.std.proofs.Common.{◌≡◌, ◌≤◌, ◌+◌, ◌-◌, ◌*◌, ◌%◌, ℕ, [], ◌∷◌, ◌++◌, List, length, replicate, refl, sym, ap, ◌∙◌, subst, arith}
-use Rattle.fv_base.proofs.Laws.{length-append, append_assoc, map, Option, None, Some, AllByRecursion, erased_byte, up_to_8}
+use Rattle.std.proofs.Common.{◌≡◌, ◌≤◌, ◌+◌, ◌-◌, ◌%◌, ℕ, [], ◌∷◌, ◌++◌, List, length, replicate, refl, sym, ap, ◌∙◌, subst, arith}
+use Rattle.fv_base.proofs.Laws.{common_steps, length-append, append_assoc, map, Option, None, Some, AllByRecursion, erased_byte, up_to_8}
 use Rattle.std.proofs.lemmas.List.{replicate-append-replicate}
 use Rattle.fv_base.specs.declared.flash.FileSystem.{FileSystem}
 use Rattle.fv_base.specs.declared.flash.Polarity.{Polarity}
@@ -32,28 +32,18 @@ lower total x y (q ∷ qs) l o = (omega (arith, l, o.0), o.1)
 
 -- erased bytes are written in one piece or in two
 two_fills : (erased x y z : ℕ) → x ≤ y → y ≤ z → replicate (z - x) erased ≡ replicate (y - x) erased ++ replicate (z - y) erased
-two_fills erased x y z l g =
-    let whole : (y - x) + (z - y) ≡ z - x = omega arith in
-    sym (replicate-append-replicate (y - x) (z - y) erased ∙ ap (λ (n : ℕ). replicate n erased) whole)
+two_fills erased x y z l g = grind (arith, common_steps, replicate-append-replicate) steps 400000
 
 -- so the erased bytes before the first span are written in one piece or in two
 painted_later : (erased total x y : ℕ) (ps : List PlacedBytes) → x ≤ y → InOrder total y ps
     → painted erased total x ps ≡ replicate (y - x) erased ++ painted erased total y ps
 painted_later erased total x y [] l o = two_fills erased x y total l o
-painted_later erased total x y (p ∷ ps) l o =
-    let rest : List ℕ = painted erased total (p.at + length p.bytes) ps in
-    let gap : List ℕ = replicate (p.at - y) erased in
-    ap (λ (xs : List ℕ). (xs ++ p.bytes) ++ rest) (two_fills erased x y p.at l o.0)
-    ∙ (ap (λ (xs : List ℕ). xs ++ rest) (append_assoc (replicate (y - x) erased) gap p.bytes)
-    ∙ append_assoc (replicate (y - x) erased) (gap ++ p.bytes) rest)
+painted_later erased total x y (p ∷ ps) l o = rw (two_fills erased x y p.at l o.0) (simp append_assoc)
 
 -- a span that begins where the walk is comes next
 painted_here : (erased total e at : ℕ) (bytes : List ℕ) (ps : List PlacedBytes) → at ≡ e
     → painted erased total e (record { at = at; bytes = bytes } ∷ ps) ≡ bytes ++ painted erased total (e + length bytes) ps
-painted_here erased total e at bytes ps same =
-    let none : at - e ≡ 0 = omega arith in
-    ap (λ (n : ℕ). (replicate n erased ++ bytes) ++ painted erased total (at + length bytes) ps) none
-    ∙ ap (λ (n : ℕ). bytes ++ painted erased total (n + length bytes) ps) same
+painted_here erased total e at bytes ps same = grind (arith, common_steps) steps 400000
 
 -- ---- the files
 
@@ -63,8 +53,6 @@ pub files_placed : (system : FileSystem) (p : Polarity) (total e : ℕ) (fs : Li
     → InOrder total e (placed_files p e fs ss)
     × (painted (erased_byte p) total e (placed_files p e fs ss) ≡ files_bytes p total e fs ss)
 files_placed system p total e [] [] h m r all follow = (r, refl)
-files_placed system p total e [] (s ∷ ss) h m r all follow = absurd follow
-files_placed system p total e (f ∷ fs) [] h m r all follow = absurd follow
 files_placed system p total e (f ∷ fs) (s ∷ ss) h m r all follow =
     let a = apart e s m follow.0.lawful.eighth follow.0.lawful.gap in
     let x : ℕ = s + stored_len f in
@@ -73,23 +61,18 @@ files_placed system p total e (f ∷ fs) (s ∷ ss) h m r all follow =
     let gap : List ℕ = gap_bytes p (s - e) in
     let file : List ℕ = stored_bytes p f in
     let later : List PlacedBytes = placed_files p (up_to_8 x) fs ss in
-    let filler : List ℕ = replicate (up_to_8 x - x) erased in
     let rest = files_placed system p total (up_to_8 x) fs ss h (filler_is x).2 b.1 all.1 follow.1 in
     let place : s ≡ e + length gap = sym (ap (λ (n : ℕ). e + n) (length-gap p (s - e) a.0 a.1) ∙ a.2) in
     let ended : (e + length gap) + length file ≡ x =
-    ap (λ (n : ℕ). n + length file) (sym place) ∙ ap (λ (n : ℕ). s + n) (length-stored system p f all.0) in (
-      (
-        omega arith,
-        (
-          omega (arith, place),
-          lower total (s + length file) (up_to_8 x) later (omega (arith, length-stored system p f all.0, b.0)) rest.0,
-        ),
-      ),
+    ap (λ (n : ℕ). n + length file) (sym place) ∙ ap (λ (n : ℕ). s + n) (length-stored system p f all.0) in
+    let behind = lower total (s + length file) (up_to_8 x) later (omega (arith, length-stored system p f all.0, b.0)) rest.0 in (
+      (omega arith, (omega (arith, place), behind)),
       painted_here erased total e e gap (record { at = s; bytes = file } ∷ later) refl
           ∙ ap (λ (xs : List ℕ). gap ++ xs) (painted_here erased total (e + length gap) s file later place
           ∙ ap (λ (xs : List ℕ). file ++ xs) (ap (λ (n : ℕ). painted erased total n later) ended
-          ∙ painted_later erased total x (up_to_8 x) later b.0 rest.0 ∙ ap (λ (xs : List ℕ). filler ++ xs) rest.1)),
+          ∙ painted_later erased total x (up_to_8 x) later b.0 rest.0 ∙ ap (λ (xs : List ℕ). (replicate (up_to_8 x - x) erased) ++ xs) rest.1)),
     )
+files_placed system p total e fs ss h m r all follow = absurd follow
 
 -- ---- the volume
 
@@ -119,15 +102,10 @@ volume_in_order h fs ss k =
     let first : ℕ = first_edge h h.ext in
     let used : ℕ = used_size first fs ss in
     let f = first_is h h.ext in
-    let pad : List ℕ = ext_pad p h.ext used in (
-      omega arith,
-      (
-        (omega (arith, length-canonical h k.read)),
-        lower h.length (header_len_of h + length pad) first (placed_files p first fs ss)
-            (subst (λ (n : ℕ). n ≤ first) (sym (length-ext_pad p h h.ext used k.ext)) f.0)
-            (files_placed h.file_system p h.length first fs ss k.multiple f.1 k.room k.files k.follow).0,
-      ),
-    )
+    let behind = lower h.length (header_len_of h + length (ext_pad p h.ext used)) first (placed_files p first fs ss)
+    (omega (arith, length-ext_pad p h h.ext used k.ext, f.0))
+    (files_placed h.file_system p h.length first fs ss k.multiple f.1 k.room k.files k.follow).0 in
+    (omega arith, (omega (arith, length-canonical h k.read), behind))
 
 pub volume_painted : (h : HeadFields) (fs : List StoredFile) (ss : List ℕ) → Writable h fs ss
     → painted (erased_byte (polarity_of h.attributes)) h.length 0 (placed_in_volume h fs ss) ≡ volume_bytes h fs ss

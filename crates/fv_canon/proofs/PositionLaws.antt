@@ -6,7 +6,7 @@
 --    that the walk writes (`one_image`).
 use Rattle.std.proofs.Common.{◌≡◌, ℕ, ◌+◌, ◌-◌, ◌<◌, ◌≤◌, [], ◌∷◌, ◌++◌, inl, inr, List, length, take, drop, get_or, replicate, refl, sym, ◌∙◌, ap}
 use Rattle.std.proofs.Common.{subst, arith, append_assoc, length-append, zero-add, take_at, drop_at}
-use Rattle.fv_base.proofs.Laws.{get_or-take, get_or-drop, ext_get_or, AllByRecursion, cases_lt, length-replicate}
+use Rattle.fv_base.proofs.Laws.{common_steps, get_or-take, get_or-drop, ext_get_or, AllByRecursion, cases_lt, length-replicate}
 use Rattle.std.proofs.lemmas.List.{get_or_append_left, get_or-append_right, get_or-replicate}
 use Rattle.fv_canon.specs.Words.{PlacedBytes, IsIn, ContainsSpan, ShowsPlaced, painted, InOrder}
 
@@ -23,19 +23,13 @@ record ShowsFrom (erased total e : ℕ) (ps : List PlacedBytes) (b : List ℕ) :
 
 walk_shows : (erased total e : ℕ) (ps : List PlacedBytes) (front : List ℕ) → length front ≡ e → InOrder total e ps
     → ShowsFrom erased total e ps (front ++ painted erased total e ps)
-walk_shows erased total e [] front l o = record {
-  contained = tt;
-  rest = λ k a b n. get_behind front (replicate (total - e) erased) k (omega arith)
-      ∙ get_or-replicate (total - e) (k - length front) erased 0 (omega arith);
-}
+walk_shows erased total e [] front l o = grind (arith, common_steps, get_behind, get_or-replicate) steps 400000
 walk_shows erased total e (p ∷ ps) front l o =
     let gap = replicate (p.at - e) erased in
     let behind = painted erased total (p.at + length p.bytes) ps in
     let there : length (front ++ gap) ≡ p.at = length-append front gap ∙ there_is (length gap) (length-replicate (p.at - e) erased) in
-    let moved : front ++ ((gap ++ p.bytes) ++ behind) ≡ ((front ++ gap) ++ p.bytes) ++ behind =
-    sym (append_assoc front (gap ++ p.bytes) behind) ∙ ap (λ xs. xs ++ behind) (sym (append_assoc front gap p.bytes)) in
-    let apart : front ++ ((gap ++ p.bytes) ++ behind) ≡ (front ++ gap) ++ (p.bytes ++ behind) =
-    moved ∙ append_assoc (front ++ gap) p.bytes behind in
+    let moved : front ++ ((gap ++ p.bytes) ++ behind) ≡ ((front ++ gap) ++ p.bytes) ++ behind = simp append_assoc in
+    let apart : front ++ ((gap ++ p.bytes) ++ behind) ≡ (front ++ gap) ++ (p.bytes ++ behind) = simp append_assoc in
     let far : length ((front ++ gap) ++ p.bytes) ≡ p.at + length p.bytes =
     length-append (front ++ gap) p.bytes ∙ ap (λ n. n + length p.bytes) there in
     let later = walk_shows erased total (p.at + length p.bytes) ps ((front ++ gap) ++ p.bytes) far o.1 in
@@ -67,32 +61,18 @@ walk_shows erased total e (p ∷ ps) front l o =
 pub walk_length : (erased total e : ℕ) (ps : List PlacedBytes) → InOrder total e ps → e + length (painted erased total e ps) ≡ total
 walk_length erased total e [] o = let g = length-replicate (total - e) erased in omega arith
 walk_length erased total e (p ∷ ps) o =
-    let gap = replicate (p.at - e) erased in
-    let behind = painted erased total (p.at + length p.bytes) ps in
-    let all = walk_length erased total (p.at + length p.bytes) ps o.1 in
-    omega (arith, length-replicate (p.at - e) erased, length-append gap p.bytes, length-append (gap ++ p.bytes) behind, all, o.0)
+    grind (arith, common_steps, walk_length erased total (p.at + length p.bytes) ps o.1, length-replicate, length-append) steps 400000
 
 pub shows_walk : (erased total : ℕ) (ps : List PlacedBytes) → InOrder total 0 ps → ShowsPlaced total erased ps (painted erased total 0 ps)
 shows_walk erased total ps o =
-    let shows = walk_shows erased total 0 ps [] refl o in
-    record {
-      length_is = sym (zero-add (length (painted erased total 0 ps))) ∙ walk_length erased total 0 ps o;
-      contained = shows.contained;
-      rest = λ k l n. shows.rest k (omega arith) l n;
-    }
+    grind (arith, common_steps, walk_shows erased total 0 ps [] refl o, zero-add (length (painted erased total 0 ps)), walk_length erased total 0 ps o) steps 400000
 
 -- ---- only one list of bytes shows the spans
 
 -- a byte at an offset within a span is the byte of the span
 byte_in : (b : List ℕ) (p : PlacedBytes) (k : ℕ) → ContainsSpan b p → p.at ≤ k → k < p.at + length p.bytes
     → get_or b k 0 ≡ get_or p.bytes (k - p.at) 0
-byte_in b p k stands low high =
-    ap (λ (n : ℕ). get_or b n 0) (back p.at k low) ∙ sym (get_or-drop p.at b (k - p.at) 0)
-    ∙ sym (get_or-take (length p.bytes) (drop p.at b) (k - p.at) 0 (omega (arith, low, high)))
-    ∙ ap (λ (xs : List ℕ). get_or xs (k - p.at) 0) stands.1
-  where
-    back : (a k : ℕ) → a ≤ k → k ≡ a + (k - a)
-    back a k l = omega arith
+byte_in b p k stands low high = grind (arith, common_steps, get_or-drop, get_or-take) steps 400000
 
 same_byte : (ps : List PlacedBytes) (b c : List ℕ) (k e : ℕ) → AllByRecursion (ContainsSpan b) ps
     → AllByRecursion (ContainsSpan c) ps → (AllByRecursion (λ p. IsIn k p → ⊥) ps → get_or b k 0 ≡ e)

@@ -1,11 +1,11 @@
 -- The laws of inputs that are rejected.
 use Rattle.std.proofs.Common.{◌≡◌, ◌≢◌, ◌≤◌, ℕ, ◌⊎◌, List, arith, length, refl, sym, ap, subst, inl, inr}
-use Rattle.fv_base.proofs.Laws.{or_more, first_only, out_of_memory}
+use Rattle.fv_base.proofs.Laws.{common_steps, or_more, first_only, out_of_memory}
 use Rattle.fv_base.specs.declared.fault.Fault.{Fault}
-use Rattle.fv_tree.specs.Words.{Accepted, IsFirstOfInput, NotRead, Meaning}
+use Rattle.fv_tree.specs.Words.{Accepted, IsFirstOfInput, NotRead, Meaning, volumes_in}
 use Rattle.fv_tree.proofs.Laws.{IsOfInput, fault_stands, first_within, stands_other}
 use Rattle.fv_canon.specs.Words.{NormalisesTo, IsNotVolume, IsOfLayout, IsUnfit, NotPlaced, Rejects, OnlyWhatDoesNotFitIsRejected, Fits, Unfit}
-use Rattle.fv_canon.proofs.FitLaws.{not_layout, unfit_is, unfit_none, unfit_place}
+use Rattle.fv_canon.proofs.FitLaws.{not_layout, unfit_has, unfit_is, unfit_none, unfit_place}
 use Rattle.fv_canon.proofs.InsideImageLaws.{image_fits as has_image_fits}
 use Rattle.fv_base.specs.declared.fault.FaultKind.TheVariants as kinds
 
@@ -32,10 +32,7 @@ not_read b f why = or_more why (λ bad. inl bad)
 -- if a layout fails, the kind of the fault is neither ReadFault nor WriteFault
 pub unfit_kind : (v : Meaning) (f : Fault) → (f ≡ out_of_memory) ⊎ Unfit v 0 f → IsOfInput f.kind
 unfit_kind v f (inl want) = subst (λ (g : Fault). IsOfInput g.kind) (sym want) (λ e. cc, λ e. cc)
-unfit_kind v f (inr unfit) = go (unfit_is v 0 f unfit) where
-  go : IsOfLayout f.kind → IsOfInput f.kind
-  go (inl is) = subst IsOfInput (sym is) (λ e. cc, λ e. cc)
-  go (inr is) = subst IsOfInput (sym is) (λ e. cc, λ e. cc)
+unfit_kind v f (inr unfit) = unfit_has (λ g. IsOfInput g.kind) (λ d. (λ e. cc, λ e. cc)) (λ d. (λ e. cc, λ e. cc)) (volumes_in v) 0 f unfit
 
 -- ---- the place of a fault
 
@@ -53,10 +50,7 @@ refused_within b e (inr (m, accepted, unfit)) = omega (arith, unfit_place m 0 e 
 first_kind : (b : List ℕ) (f : Fault) → IsFirstOfInput b f → IsOfLayout f.kind → ⊥
 first_kind b f (inl first) (inl top) = stands_other b f kinds.TopAlignment refl (fault_stands b f first) top
 first_kind b f (inl first) (inr room) = stands_other b f kinds.NoRoom refl (fault_stands b f first) room
-first_kind b f (inr (m, d, less, is)) layout = go (subst (λ (g : Fault). IsOfLayout g.kind) is layout) where
-  go : IsOfLayout kinds.Length → ⊥
-  go (inl top) = cc
-  go (inr room) = cc
+first_kind b f (inr (m, d, less, is)) layout = grind (arith, common_steps) steps 400000
 
 -- an input that is rejected with a fault of the layout does not fit; an input that is rejected with another fault is
 -- not a volume

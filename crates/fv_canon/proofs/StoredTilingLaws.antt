@@ -6,7 +6,7 @@ use Rattle.std.proofs.Common.{sym, ap, ◌∙◌, subst, arith, length-append, a
 use Rattle.fv_base.proofs.Laws.{common_steps, AllByRecursion, length-replicate, alignment_of, AllAre, erased_byte, up_to_8, all-of_replicate}
 use Rattle.fv_base.specs.declared.flash.FileSystem.{FileSystem}
 use Rattle.fv_base.specs.declared.flash.Polarity.{Polarity}
-use Rattle.fv_file.specs.Words.{CellForm, Valid, Pad, Free, Tiles, attribute_bits, is_large, fixed_checksum, pad_fields, pad_head_of}
+use Rattle.fv_file.specs.Words.{CellForm, Valid, Pad, Free, IsCell, Tiles, attribute_bits, is_large, fixed_checksum, pad_fields, pad_head_of}
 use Rattle.fv_file.proofs.Laws.{alignment_with}
 use Rattle.fv_placement.specs.Words.{StartsFollow}
 use Rattle.fv_tree.specs.Words.{FileForm, files_in}
@@ -18,9 +18,8 @@ use Rattle.fv_canon.proofs.CellLaws.{Storable, stored_head, file_cell, length-st
 
 -- the files as they are stored in the image
 abbrev pub forms_of : Polarity → List StoredFile → List ℕ → List FileForm
-forms_of p [] starts = []
-forms_of p (f ∷ fs) [] = []
 forms_of p (f ∷ fs) (s ∷ ss) = record { offset = s; head = stored_head p f; payload = f.payload } ∷ forms_of p fs ss
+forms_of p fs starts = []
 
 -- if the cell is a pad, its data are erased
 abbrev pub PadErased : Polarity → CellForm → Type 0
@@ -49,19 +48,17 @@ never e = absurd cc
 pad_tiles : (system : FileSystem) (p : Polarity) (size at : ℕ) (rest : List ℕ) (forms : List FileForm) → 24 ≤ size → size ≤ 0xffffff
     → size % 8 ≡ 0
     → Tiled system p (at + size) rest forms → Tiled system p at (pad_bytes p size ++ rest) forms
+unfolding pad_bytes
 pad_tiles system p size at rest forms least most multiple behind =
-    let cell : CellForm = Pad at (pad_fields size (slice_index (pad_head_of size p) 16)) (replicate (size - 24) (erased_byte p)) in
+    let payload : List ℕ = replicate (size - 24) (erased_byte p) in
+    let cell : CellForm = Pad at (pad_fields size (slice_index (pad_head_of size p) 16)) payload in
+    let long : 24 + length payload ≡ size = omega (arith, least, length-replicate (size - 24) (erased_byte p)) in
+    let is = subst (IsCell system p cell) (append-nil (pad_bytes p size)) (pad_cell system p size payload [] most long (omega arith)
+    (omega (arith, multiple)) at) in
+    let later = subst (λ (n : ℕ). Tiles system p (at + n) behind.cells rest) (sym (length-pad p size least)) behind.tiles in
     record {
       cells = cell ∷ behind.cells;
-      tiles = (
-        pad_bytes p size,
-        rest,
-        refl,
-        pad_cell system p size least most multiple at,
-        refl,
-        λ e. never e,
-        subst (λ (n : ℕ). Tiles system p (at + n) behind.cells rest) (sym (length-pad p size least)) behind.tiles,
-      );
+      tiles = (pad_bytes p size, rest, refl, is, refl, λ e. never e, later);
       files_are = behind.files_are;
       aligned = behind.aligned;
       erased = (all-of_replicate (erased_byte p) (size - 24), behind.erased);
@@ -71,8 +68,7 @@ pad_tiles system p size at rest forms least most multiple behind =
 gap_tiles : (system : FileSystem) (p : Polarity) (gap at : ℕ) (rest : List ℕ) (forms : List FileForm) → (gap ≡ 0) ⊎ (24 ≤ gap) → gap % 8 ≡ 0
     → Tiled system p (at + gap) rest forms → Tiled system p at (gap_bytes p gap ++ rest) forms
 gap_tiles system p gap at rest forms (inl z) multiple behind =
-    subst (λ (xs : List ℕ). Tiled system p at (xs ++ rest) forms) (sym (gap_none p gap z))
-    (subst (λ (k : ℕ). Tiled system p k rest forms) (omega (arith, z)) behind)
+    rw (gap_none p gap z) (subst (λ (k : ℕ). Tiled system p k rest forms) (omega (arith, z)) behind)
 gap_tiles system p gap at rest forms (inr l) multiple behind =
     gap_has p (λ n xs. (at : ℕ) (rest : List ℕ) → Tiled system p (at + n) rest forms → Tiled system p at (xs ++ rest) forms)
     (λ n least most eighth at rest behind. pad_tiles system p n at rest forms least (omega (arith, most)) eighth behind)
@@ -90,22 +86,17 @@ length-gap p gap (inr l) multiple =
 
 free_tiles : (system : FileSystem) (p : Polarity) (at n : ℕ) → Tiled system p at (replicate n (erased_byte p)) []
 free_tiles system p at zero = record { cells = []; tiles = refl; files_are = refl; aligned = tt; erased = tt; fixed = tt }
-free_tiles system p at (suc n) = record {
-  cells = Free at (suc n) ∷ [];
-  tiles = (
-    replicate (suc n) (erased_byte p),
-    [],
-    sym (append-nil (replicate (suc n) (erased_byte p))),
-    (omega arith, all-of_replicate (erased_byte p) (suc n), sym (length-replicate (suc n) (erased_byte p))),
-    refl,
-    λ e. refl,
-    refl,
-  );
-  files_are = refl;
-  aligned = tt;
-  erased = (tt, tt);
-  fixed = (tt, tt);
-}
+free_tiles system p at (suc n) =
+    let free : List ℕ = replicate (suc n) (erased_byte p) in
+    let all = all-of_replicate (erased_byte p) (suc n) in
+    record {
+      cells = Free at (suc n) ∷ [];
+      tiles = (free, [], sym (append-nil free), (omega arith, all, sym (length-replicate (suc n) (erased_byte p))), refl, λ e. refl, refl);
+      files_are = refl;
+      aligned = tt;
+      erased = (tt, tt);
+      fixed = (tt, tt);
+    }
 
 -- ---- file by file
 
@@ -128,36 +119,26 @@ pub body_tiles : (system : FileSystem) (p : Polarity) (total e : ℕ) (fs : List
     → AllByRecursion (Storable system) fs → StartsFollow total e (map stored_item fs) ss
     → Tiled system p e (files_bytes p total e fs ss) (forms_of p fs ss)
 body_tiles system p total e [] [] h m all follow = free_tiles system p e (total - e)
-body_tiles system p total e [] (s ∷ ss) h m all follow = absurd follow
-body_tiles system p total e (f ∷ fs) [] h m all follow = absurd follow
 body_tiles system p total e (f ∷ fs) (s ∷ ss) h m all follow =
     let a = apart e s m follow.0.lawful.eighth follow.0.lawful.gap in
     let x : ℕ = s + stored_len f in
     let filler : List ℕ = replicate (up_to_8 x - x) (erased_byte p) in
     let fill = filler_is x in
     let short : length filler ≡ up_to_8 x - x = length-replicate (up_to_8 x - x) (erased_byte p) in
-    let long = length-stored system p f all.0 in
     let behind = body_tiles system p total (up_to_8 x) fs ss h fill.2 all.1 follow.1 in
     let rest : List ℕ = files_bytes p total (up_to_8 x) fs ss in
-    let few : length filler < 8 = subst (λ (n : ℕ). n < 8) (sym short) fill.0 in
-    let cell = file_cell system p f all.0 s filler few
+    let cell = file_cell system p f all.0 s filler (subst (λ (n : ℕ). n < 8) (sym short) fill.0)
     (omega (arith, follow.0.lawful.eighth, fill.2, ap (λ (n : ℕ). x + n) short ∙ fill.1)) in
     let place : s + length (stored_bytes p f ++ filler) ≡ up_to_8 x =
-    omega (arith, length-append (stored_bytes p f) filler, long, ap (λ (n : ℕ). x + n) short ∙ fill.1) in
+    omega (arith, length-append (stored_bytes p f) filler, length-stored system p f all.0, ap (λ (n : ℕ). x + n) short ∙ fill.1) in
+    let later = subst (λ (n : ℕ). Tiles system p n behind.cells rest) (sym place) behind.tiles in
     gap_tiles system p (s - e) e (stored_bytes p f ++ (filler ++ rest)) (forms_of p (f ∷ fs) (s ∷ ss)) a.0 a.1
     (subst (λ (k : ℕ). Tiled system p k (stored_bytes p f ++ (filler ++ rest)) (forms_of p (f ∷ fs) (s ∷ ss))) (sym a.2) (record {
       cells = Valid s (stored_head p f) f.payload ∷ behind.cells;
-      tiles = (
-        stored_bytes p f ++ filler,
-        rest,
-        sym (append_assoc (stored_bytes p f) filler rest),
-        cell,
-        refl,
-        λ e. never e,
-        subst (λ (n : ℕ). Tiles system p n behind.cells rest) (sym place) behind.tiles,
-      );
+      tiles = (stored_bytes p f ++ filler, rest, sym (append_assoc (stored_bytes p f) filler rest), cell, refl, λ e. never e, later);
       files_are = ap (λ (xs : List FileForm). record { offset = s; head = stored_head p f; payload = f.payload } ∷ xs) behind.files_are;
       aligned = (data_aligned p f s all.0.short follow.0.lawful.aligned, behind.aligned);
       erased = (tt, behind.erased);
       fixed = (tt, behind.fixed);
     }))
+body_tiles system p total e fs ss h m all follow = absurd follow

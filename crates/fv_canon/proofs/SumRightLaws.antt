@@ -2,24 +2,23 @@
 -- it. The steps:
 -- 1. If cells tile bytes, and the file checksum of each pad is 0xAA, each checksum in the cells is right (`cell_sums`,
 --    `tiles_sums`).
--- 2. The pad that contains the extended header is such a cell (`ext_cell`), so such cells tile the bytes after the
---    header (`rest_summed`).
+-- 2. The pad that contains the extended header is such a cell, so such cells tile the bytes after the header
+--    (`rest_summed`).
 -- 3. So all checksums of an image are right (`sums_are_right`).
-use Rattle.std.proofs.Common.{◌≡◌, ◌≤◌, ◌<◌, ◌+◌, ◌-◌, ◌%◌, ℕ, [], ◌∷◌, ◌++◌, true, false, List, length, take, drop, replicate, refl, sym, ap, ◌∙◌}
-use Rattle.std.proofs.Common.{subst, arith, length-append, append_assoc, slice_index, Option, None, Some, drop-drop, drop_at, take_at}
+use Rattle.std.proofs.Common.{◌≡◌, ◌<◌, ◌+◌, ◌-◌, ℕ, [], ◌∷◌, ◌++◌, List, length, take, drop, replicate, refl, sym, ap, ◌∙◌, subst, arith}
+use Rattle.std.proofs.Common.{length-append, append_assoc, slice_index, Option, None, Some, drop-drop, drop_at, take_at}
 use Rattle.fv_base.proofs.Laws.{common_steps, AllByRecursion, length-replicate, erased_byte, up_to_8}
 use Rattle.fv_base.specs.declared.flash.FileSystem.{FileSystem}
 use Rattle.fv_base.specs.declared.flash.Polarity.{Polarity}
-use Rattle.fv_file.specs.Words.{CellForm, Valid, Pad, Dead, Stub, Free, IsCell, IsFilled, Tiles, offset_of, header_sum_of, pad_fields, pad_head_of}
+use Rattle.fv_file.specs.Words.{CellForm, Valid, Pad, IsCell, IsFilled, Tiles, offset_of, header_sum_of, pad_fields, pad_head_of}
 use Rattle.fv_file.specs.declared.head.FileHead.{FileHead}
-use Rattle.fv_file.proofs.Laws.{head_of_pad, pad_written}
 use Rattle.fv_head.specs.Words.{Extension, IfRead, extent_of, canonical_end, first_edge, ext_len, ext_spelled, HeadFields, BeginsVolume}
 use Rattle.fv_head.specs.Words.{header_len_of, canonical_head, polarity_of}
 use Rattle.fv_head.proofs.Laws.{ext_again, ext_len_most, length-canonical}
 use Rattle.fv_tree.specs.Words.{Volume}
 use Rattle.fv_canon.specs.Words.{CellSums, SumsAreRight, ext_pad, used_size}
 use Rattle.fv_canon.specs.inner.ImageOf.{files_bytes}
-use Rattle.fv_canon.proofs.CellLaws.{bytes_pad_head, length-pad_head}
+use Rattle.fv_canon.proofs.CellLaws.{pad_cell}
 use Rattle.fv_canon.proofs.PlacedBytesLaws.{first_is, length-ext_pad, volume_shows}
 use Rattle.fv_canon.proofs.StoredTilingLaws.{PadFixed, body_tiles, filler_is, never}
 use Rattle.fv_canon.proofs.VolumeImageLaws.{known, image_front, streams_again}
@@ -36,9 +35,7 @@ cell_sums system p (Valid at head payload) x rest image (filled, alive, sound) f
     (header_sum system p head payload x (drop at image) rest filled is, sound.file_sum)
 cell_sums system p (Pad at head payload) x rest image (filled, alive, kind) fixed is =
     (header_sum system p head payload x (drop at image) rest filled is, fixed)
-cell_sums system p (Dead at len state) x rest image cell fixed is = tt
-cell_sums system p (Stub at len) x rest image cell fixed is = tt
-cell_sums system p (Free at len) x rest image cell fixed is = tt
+cell_sums system p c x rest image cell fixed is = tt
 
 tiles_sums : (system : FileSystem) (p : Polarity) (at : ℕ) (cells : List CellForm) (b image : List ℕ) → Tiles system p at cells b
     → AllByRecursion PadFixed cells → drop at image ≡ b → AllByRecursion (CellSums image) cells
@@ -57,33 +54,13 @@ record Summed (system : FileSystem) (p : Polarity) (at : ℕ) (b : List ℕ) : T
   pub tiles : Tiles system p at cells b
   pub fixed : AllByRecursion PadFixed cells
 
-ext_cell : (system : FileSystem) (p : Polarity) (x : Extension) (used : ℕ) (filler : List ℕ) → IfRead (Some x) → length filler < 8
-    → (24 + ext_len x + length filler) % 8 ≡ 0 → (at : ℕ)
-    → IsCell system p (Pad at (pad_fields (24 + ext_len x) (slice_index (pad_head_of (24 + ext_len x) p) 16)) (ext_spelled x used))
-    (ext_pad p (Some x) used ++ filler)
-unfolding ext_pad
-ext_cell system p x used filler read few multiple at =
-    let size : ℕ = 24 + ext_len x in
-    let h : List ℕ = pad_head_of size p in
-    let payload : List ℕ = ext_spelled x used in
-    let head : FileHead = pad_fields size (slice_index h 16) in
-    let written = pad_written p size h (omega (arith, ext_len_most x read)) (bytes_pad_head size p) refl in
-    let cell = head_of_pad p head h written refl refl refl in
-    subst (λ (y : List ℕ). IsCell system p (Pad at head payload) y) (sym (append_assoc h payload filler))
-    (cell system at payload filler (omega (arith, length-pad_head size p, (ext_again x used read).1)) few
-    multiple)
-
 -- after the header come the pad with the extended header, if there is one, and then the files; cells with right
 -- checksums tile these bytes
 rest_summed : (system : FileSystem) (p : Polarity) (h : HeadFields) (x : Option Extension) (used : ℕ) (files : List ℕ) → IfRead x
     → Summed system p (first_edge h x) files
     → Summed system p (header_len_of h) (ext_pad p x used ++ (replicate (first_edge h x - canonical_end h x) (erased_byte p) ++ files))
 unfolding ext_pad
-rest_summed system p h None used files read behind =
-    subst (λ (n : ℕ). Summed system p (header_len_of h) (replicate n (erased_byte p) ++ files)) (none (header_len_of h)) behind
-  where
-    none : (n : ℕ) → 0 ≡ n - n
-    none n = omega arith
+rest_summed system p h None used files read behind = grind (arith, common_steps) steps 400000
 rest_summed system p h (Some x) used files read behind =
     let end : ℕ = canonical_end h (Some x) in
     let filler : List ℕ = replicate (up_to_8 end - end) (erased_byte p) in
@@ -92,20 +69,14 @@ rest_summed system p h (Some x) used files read behind =
     let short : length filler ≡ up_to_8 end - end = length-replicate (up_to_8 end - end) (erased_byte p) in
     let few : length filler < 8 = subst (λ (n : ℕ). n < 8) (sym short) fill.0 in
     let edge : end + length filler ≡ up_to_8 end = ap (λ (n : ℕ). end + n) short ∙ fill.1 in
-    let cell = ext_cell system p x used filler read few (omega (arith, (first_is h None).1, fill.2, edge)) (header_len_of h) in
+    let cell = pad_cell system p (24 + ext_len x) (ext_spelled x used) filler (omega (arith, ext_len_most x read))
+    (omega (arith, (ext_again x used read).1)) few (omega (arith, (first_is h None).1, fill.2, edge)) (header_len_of h) in
     let place : header_len_of h + length (pad ++ filler) ≡ up_to_8 end =
     omega (arith, length-append pad filler, length-ext_pad p h (Some x) used read, edge) in
+    let later = subst (λ (n : ℕ). Tiles system p n behind.cells files) (sym place) behind.tiles in
     record {
       cells = Pad (header_len_of h) (pad_fields (24 + ext_len x) (slice_index (pad_head_of (24 + ext_len x) p) 16)) (ext_spelled x used) ∷ behind.cells;
-      tiles = (
-        pad ++ filler,
-        files,
-        sym (append_assoc pad filler files),
-        cell,
-        refl,
-        λ e. never e,
-        subst (λ (n : ℕ). Tiles system p n behind.cells files) (sym place) behind.tiles,
-      );
+      tiles = (pad ++ filler, files, sym (append_assoc pad filler files), cell, refl, λ e. never e, later);
       fixed = (refl, behind.fixed);
     }
 

@@ -1,6 +1,6 @@
 -- The number that a walk over a file adds to the sum of the file's bytes.
-use Rattle.std.proofs.Common.{◌≡◌, ◌+◌, ◌%◌, ℕ, [], ◌∷◌, if◌then◌else◌, Bool, true, false, List, ap, ◌∙◌, arith, sum, ◌++◌, length, sym}
-use Rattle.fv_base.proofs.Laws.{sum_by-append, bytes_of, le_bytes}
+use Rattle.std.proofs.Common.{◌≡◌, ◌+◌, ◌%◌, ℕ, [], ◌∷◌, if◌then◌else◌, Bool, true, false, List, ap, ◌∙◌, arith, sum, ◌++◌, length}
+use Rattle.fv_base.proofs.Laws.{common_steps, sum_by-append, bytes_of, le_bytes}
 use Rattle.fv_base.specs.declared.flash.Polarity.{Polarity}
 use Rattle.fv_file.specs.Words.{is_summed, state_byte, fixed_checksum, file_sum_for, complement, header_with, header_bytes, needs_large, with_large}
 use Rattle.fv_tree.specs.Words.{FileMeaning, File, attributes_of}
@@ -29,13 +29,7 @@ header_sum c file_sum name kind attributes size large state =
 header_adds : (file_sum : ℕ) (name : List ℕ) (kind attributes size : ℕ) (large : Bool) (state : ℕ)
     → sum (header_bytes file_sum name kind attributes size large state) % 256 ≡ (file_sum + state) % 256
 unfolding header_bytes
-header_adds file_sum name kind attributes size large state =
-    ap (λ (n : ℕ). n % 256)
-    (header_sum (complement (sum (header_with 0 0 name kind attributes size large 0))) file_sum name kind attributes size large state)
-    ∙ off (sum (header_with 0 0 name kind attributes size large 0)) file_sum state
-  where
-    off : (n f s : ℕ) → (n + (complement n + f + s)) % 256 ≡ (f + s) % 256
-    off n f s = omega arith
+header_adds file_sum name kind attributes size large state = grind (arith, common_steps, header_sum)
 
 -- a file with the checksum attribute adds only its State, because its data and its file checksum sum to zero; any other
 -- file adds 0xAA, its State and its data
@@ -45,14 +39,13 @@ file_adds p f = if is_summed f.attributes then state_byte p else (fixed_checksum
 stored_adds : (p : Polarity) (f : StoredFile) → sum (stored_bytes p f) % 256 ≡ file_adds p f % 256
 unfolding stored_bytes
 stored_adds p f =
-    ap (λ (n : ℕ). n % 256) (sum_by-append (λ (x : ℕ). x)
-    (header_bytes (file_sum_for f.attributes f.payload) (bytes_of f.name) f.kind (with_large (needs_large (length f.payload)) f.attributes)
-    (head_len_for (length f.payload) + length f.payload) (needs_large (length f.payload)) (state_byte p)) f.payload)
-    ∙ joined (sum (header_bytes (file_sum_for f.attributes f.payload) (bytes_of f.name) f.kind (with_large (needs_large (length f.payload))
-    f.attributes) (head_len_for (length f.payload) + length f.payload) (needs_large (length f.payload)) (state_byte p)))
-    (sum f.payload) (state_byte p) (is_summed f.attributes)
-    (header_adds (file_sum_for f.attributes f.payload) (bytes_of f.name) f.kind (with_large (needs_large (length f.payload)) f.attributes)
-    (head_len_for (length f.payload) + length f.payload) (needs_large (length f.payload)) (state_byte p))
+    let large : Bool = needs_large (length f.payload) in
+    let attributes : ℕ = with_large large f.attributes in
+    let file_sum : ℕ = file_sum_for f.attributes f.payload in
+    let size : ℕ = head_len_for (length f.payload) + length f.payload in
+    let head : List ℕ = header_bytes file_sum (bytes_of f.name) f.kind attributes size large (state_byte p) in
+    ap (λ (n : ℕ). n % 256) (sum-joined head f.payload) ∙ joined (sum head) (sum f.payload) (state_byte p) (is_summed f.attributes)
+    (header_adds file_sum (bytes_of f.name) f.kind attributes size large (state_byte p))
   where
     joined : (h d s : ℕ) (b : Bool) → h % 256 ≡ ((if b then complement d else fixed_checksum) + s) % 256
         → (h + d) % 256 ≡ (if b then s else (fixed_checksum + s + d)) % 256

@@ -7,9 +7,9 @@
 -- 5. By induction on the nesting depth it is true at every level (`sections_again`), and so of each stream and each
 --    image (`streams_again`, `image_denotes`).
 use Rattle.std.proofs.Common.{◌≡◌, ◌≢◌, ◌≤◌, ◌<◌, ◌+◌, ◌-◌, ◌*◌, ◌/◌, ◌%◌, ℕ, [], ◌∷◌, ◌++◌, zero, suc, Bool, true, false, List, length, take, drop}
-use Rattle.std.proofs.Common.{replicate, refl, sym, ap, ◌∙◌, subst, arith, append_assoc, length-append, length-drop, map, nat_lt, Option, None, Some}
-use Rattle.fv_base.proofs.Laws.{ne_eqb, drop_at, common_steps, AllByRecursion, bytes_eq, nat_tests, length-replicate, alignment_of, erased_byte}
-use Rattle.fv_base.proofs.Laws.{bytes_of, data_limit, IsBytes, le, bytes_back, bytes_drop, bytes_front, field-take}
+use Rattle.std.proofs.Common.{replicate, refl, sym, ap, ◌∙◌, subst, arith, append_assoc, length-append, length-drop, map, Option, None, Some}
+use Rattle.fv_base.proofs.Laws.{ne_eqb, drop_at, common_steps, AllByRecursion, bytes_eq, length-replicate, alignment_of, erased_byte, bytes_of}
+use Rattle.fv_base.proofs.Laws.{data_limit, IsBytes, le, bytes_back, bytes_drop, bytes_front, field-take}
 use Rattle.fv_base.specs.declared.flash.FileSystem.{FileSystem}
 use Rattle.fv_base.specs.declared.flash.Polarity.{Polarity}
 use Rattle.fv_base.specs.declared.guid.Guid.{Guid}
@@ -20,10 +20,10 @@ use Rattle.fv_head.specs.Words.{canonical_head, canonical_end, first_edge, ext_l
 use Rattle.fv_head.specs.declared.extent.Extent.{Extent}
 use Rattle.fv_head.proofs.Laws.{canonical_front, front_lies, length-canonical}
 use Rattle.fv_placement.specs.Words.{StartsFollow, IsFirstPlacement}
-use Rattle.fv_placement.specs.declared.first_placement.PlacementItem.{PlacementItem}
 use Rattle.fv_tree.specs.Words.{Meaning, Volume, FileMeanings, NoFiles, MoreFiles, FileMeaning, File, ContentMeaning, Plain, Sectioned, AreFilesOf}
 use Rattle.fv_tree.specs.Words.{files_list, files_of, head_of, content_len, StreamRelation, Pairwise, MeansContent, MeansFile, VolumeOver}
-use Rattle.fv_tree.specs.Words.{Opens, MeansSection, Stream, Denotes, FileForm, files_in, NoTwins, current_in, top_name}
+use Rattle.fv_tree.specs.Words.{Opens, MeansSection, Stream, Denotes, FileForm, files_in, NoTwins, current_in, top_name, volumes_in_files}
+use Rattle.fv_tree.specs.Words.{volumes_in_file, volumes_in_content}
 use Rattle.fv_tree.proofs.Laws.{section_long, stream_long}
 use Rattle.fv_canon.specs.Words.{AreStored, IsStored, IsData, AreStarts, placement_item, ShowsPlaced, StoredFile, size_for, head_len_for}
 use Rattle.fv_canon.specs.Words.{ext_pad, placed_in_volume, used_size}
@@ -34,7 +34,8 @@ use Rattle.fv_canon.proofs.CurrentFileLaws.{forms_top, form_names}
 use Rattle.fv_canon.proofs.CellLaws.{Storable, stored_head, length-pad_head}
 use Rattle.fv_canon.proofs.ReadLaws.{FileIsAccepted, body_read, current_read}
 use Rattle.fv_canon.proofs.PlacedBytesLaws.{Writable, first_is, volume_shows, length-ext_pad}
-use Rattle.fv_canon.proofs.StreamImageLaws.{SectionsAgain, section_again, stream_again, StreamsAgain, VolumesAgain}
+use Rattle.fv_canon.proofs.StreamImageLaws.{MeantBelow, SectionsAgain, section_again, stream_again, StreamsAgain, VolumesAgain}
+use Rattle.fv_canon.proofs.VolumeListLaws.{each_joined}
 use Rattle.fv_canon.proofs.BytesLaws.{bytes_volume}
 use Rattle.fv_canon.proofs.StoredTilingLaws.{forms_of, Tiled, body_tiles}
 
@@ -46,13 +47,16 @@ record FileAgain (n : ℕ) (system : FileSystem) (m : FileMeaning) (f : FileForm
   pub part : stored_item x ≡ placement_item m
   pub name : bytes_of x.name ≡ bytes_of f.head.name
   pub form : (p : Polarity) (at : ℕ) → MeansFile (Stream n) (record { offset = at; head = stored_head p x; payload = x.payload }) m
+  pub meant : AllByRecursion (MeantBelow (suc n)) (volumes_in_file m)
 
--- the data d that are written for data that were read have the same content
-pub data_again : (n kind : ℕ) → StreamsAgain (Stream n) → (content : ContentMeaning) (payload d : List ℕ) → IsBytes payload
-    → MeansContent (Stream n) kind payload content → IsData content d → MeansContent (Stream n) kind d content × IsBytes d
-data_again n kind streams (Plain b) payload d small (plain, same) image = ((plain, sym image), subst IsBytes (sym (image ∙ same)) small)
+-- the data d that are written for data that were read have the same content, and each volume inside is the meaning of
+-- some bytes
+pub data_again : (n kind : ℕ) → StreamsAgain (suc n) (Stream n) → (content : ContentMeaning) (payload d : List ℕ) → IsBytes payload
+    → MeansContent (Stream n) kind payload content → IsData content d
+    → MeansContent (Stream n) kind d content × IsBytes d × AllByRecursion (MeantBelow (suc n)) (volumes_in_content content)
+data_again n kind streams (Plain b) payload d small (plain, same) image = ((plain, sym image), subst IsBytes (sym (image ∙ same)) small, tt)
 data_again n kind streams (Sectioned ss tail) payload d small (sectioned, is) image =
-    let a = streams ss tail payload d small is image in ((sectioned, a.0), a.1)
+    let a = streams ss tail payload d small is image in ((sectioned, a.0), a.1, a.2)
 
 -- data have the length that their content states
 pub content_is_long : (n kind : ℕ) (content : ContentMeaning) (payload : List ℕ) → MeansContent (Stream n) kind payload content
@@ -60,40 +64,21 @@ pub content_is_long : (n kind : ℕ) (content : ContentMeaning) (payload : List 
 content_is_long n kind (Plain b) payload is = ap length (sym is.1)
 content_is_long n kind (Sectioned ss tail) payload is = sym (stream_long (MeansSection n) (section_long n) ss tail payload is.1)
 
-half_even : (a : ℕ) → is_large (a / 2 * 2) ≡ false
-half_even a = ne_eqb (a / 2 * 2 % 2) 1 (λ e. omega (arith, e))
-
 half_moves : (a : ℕ) → is_fixed a ≡ false → is_fixed (a / 2 * 2) ≡ false
 half_moves a f = grind (arith, common_steps)
-
-half_small : (a : ℕ) → a < 256 → a / 2 * 2 < 256
-half_small a l = omega (arith, l)
-
-half_back : (l : Bool) (a : ℕ) → a / 2 * 2 ≡ with_large l (a / 2 * 2) / 2 * 2
-half_back true a = omega arith
-half_back false a = omega arith
 
 large_system : (system : FileSystem) (l : Bool) (n : ℕ) → (l ≡ true → system ≡ Ffs3) → (l ≡ false → 24 + n < 16777216)
     → needs_large n ≡ true → system ≡ Ffs3
 large_system system true n h k needs = h refl
-large_system system false n h k needs = absurd (both n needs (k refl))
-  where
-    both : (n : ℕ) → nat_lt 0xffffff (24 + n) ≡ true → 24 + n < 16777216 → ⊥
-    both n e l = grind (arith, nat_tests)
+large_system system false n h k needs = grind (arith, common_steps) steps 400000
 
-same_part : (n k a b : ℕ) (g h : Guid) → n ≡ k → a ≡ b → g ≡ h → let made : PlacementItem =
-    record { header = head_len_for n; size = size_for n; alignment = alignment_of a; top = bytes_eq (bytes_of g) top_name } in
-    made ≡ record { header = head_len_for k; size = size_for k; alignment = alignment_of b; top = bytes_eq (bytes_of h) top_name }
-same_part n k a b g h p q r = rw (p, q, r) refl
-
-file_again : (n : ℕ) → StreamsAgain (Stream n) → (system : FileSystem) (limit : ℕ) (m : FileMeaning) (f : FileForm) (x : StoredFile)
+file_again : (n : ℕ) → StreamsAgain (suc n) (Stream n) → (system : FileSystem) (limit : ℕ) (m : FileMeaning) (f : FileForm) (x : StoredFile)
     → limit ≤ 24 + data_limit → FileIsAccepted system limit f → MeansFile (Stream n) f m → IsStored m x → FileAgain n system m f x
 file_again n streams system limit (File name kind attributes content) f x most r (named, kinds, bits, is) (xn, xk, xa, image) =
     let d = data_again n kind streams content f.payload x.payload r.payload is image in
     let len = content_is_long n kind content x.payload d.0 in
     let long : length x.payload ≡ length f.payload = len ∙ sym (content_is_long n kind content f.payload is) in
-    let guid : x.name ≡ f.head.name = xn ∙ named in
-    let names : bytes_of x.name ≡ bytes_of f.head.name = ap bytes_of guid in
+    let names : bytes_of x.name ≡ bytes_of f.head.name = ap bytes_of (xn ∙ named) in
     let kind_is : x.kind ≡ f.head.kind = xk ∙ kinds in
     let bits_are : x.attributes ≡ without_large (attribute_bits f.head.attributes) = xa ∙ bits in
     let a : ℕ = attribute_bits f.head.attributes in
@@ -101,23 +86,25 @@ file_again n streams system limit (File name kind attributes content) f x most r
       storable = record {
         name = ap length names ∙ r.name;
         name_bytes = subst IsBytes (sym names) r.name_bytes;
-        kind_small = subst (λ (n : ℕ). n < 256) (sym kind_is) r.kind_small;
-        attributes_small = subst (λ (n : ℕ). n < 256) (sym bits_are) (half_small a r.attributes_small);
+        kind_small = omega (arith, kind_is, r.kind_small);
+        attributes_small = omega (arith, bits_are, r.attributes_small);
         kind = subst (λ (n : ℕ). n ≢ pad_kind) (sym kind_is) r.kind;
-        short = ap is_large bits_are ∙ half_even a;
+        short = ap is_large bits_are ∙ ne_eqb (a / 2 * 2 % 2) 1 (λ e. omega (arith, e));
         moves = ap is_fixed bits_are ∙ half_moves a r.moves;
         large = λ e. large_system system (is_large a) (length f.payload) r.large r.short (ap needs_large (sym long) ∙ e);
         most = omega (arith, long, r.within, most);
         payload = d.1;
       };
-      part = same_part (length x.payload) (content_len content) x.attributes attributes x.name name len xa xn;
+      part = λ i. record { header = head_len_for (len i); size = size_for (len i); alignment = alignment_of (xa i); top = bytes_eq (bytes_of (xn i)) top_name };
       name = names;
       form = λ p at.
           (ap (λ (g : Guid). g) (sym xn) ∙ refl, sym xk, sym xa ∙ back (needs_large (length x.payload)) a x.attributes bits_are, d.0);
+      meant = d.2;
     }
   where
     back : (l : Bool) (a y : ℕ) → y ≡ a / 2 * 2 → y ≡ without_large (with_large l y)
-    back l a y e = rw e (half_back l a)
+    back true a y e = omega (arith, e)
+    back false a y e = omega (arith, e)
 
 -- ---- 2. file by file
 
@@ -128,28 +115,24 @@ pub record FilesAgain (n : ℕ) (system : FileSystem) (files : FileMeanings) (fo
   pub names : names_of stored ≡ names_in forms
   pub are : (p : Polarity) (total e : ℕ) (ss : List ℕ) → StartsFollow total e (map stored_item stored) ss
       → Pairwise (MeansFile (Stream n)) (forms_of p stored ss) (files_list files)
+  pub meant : AllByRecursion (MeantBelow (suc n)) (volumes_in_files files)
 
-no_file : {A : Type 0} (x : A) (xs : List A) → x ∷ xs ≡ [] → ⊥
-no_file x xs e = cc
-
-files_again : (n : ℕ) → StreamsAgain (Stream n)
+files_again : (n : ℕ) → StreamsAgain (suc n) (Stream n)
     → (system : FileSystem) (limit : ℕ) (files : FileMeanings) (forms : List FileForm) (stored : List StoredFile) → limit ≤ 24 + data_limit
     → AllByRecursion (FileIsAccepted system limit) forms → Pairwise (MeansFile (Stream n)) forms (files_list files) → AreStored files stored
     → FilesAgain n system files forms stored
 files_again n streams system limit NoFiles [] [] most reads pairs are =
-    record { storable = tt; items = refl; names = refl; are = λ p total e ss follow. tt }
-files_again n streams system limit NoFiles [] (x ∷ xs) most reads pairs are = absurd (no_file x xs are)
-files_again n streams system limit NoFiles (f ∷ fs) stored most reads pairs are = absurd pairs
-files_again n streams system limit (MoreFiles m ms) [] stored most reads pairs are = absurd pairs
-files_again n streams system limit (MoreFiles m ms) (f ∷ fs) [] most reads pairs are = absurd are
+    record { storable = tt; items = refl; names = refl; are = λ p total e ss follow. tt; meant = tt }
+files_again n streams system limit NoFiles [] (x ∷ xs) most reads pairs are = let bad : x ∷ xs ≡ [] = are in cc
 files_again n streams system limit (MoreFiles m ms) (f ∷ fs) (x ∷ xs) most reads pairs are =
     let here = file_again n streams system limit m f x most reads.0 pairs.0 are.0 in
     let behind = files_again n streams system limit ms fs xs most reads.1 pairs.1 are.1 in
     record {
       storable = (here.storable, behind.storable);
-      items = ap (λ (q : PlacementItem). q ∷ map stored_item xs) here.part ∙ ap (λ (qs : List PlacementItem). placement_item m ∷ qs) behind.items;
-      names = ap (λ (name : List ℕ). name ∷ names_of xs) here.name ∙ ap (λ (ns : List (List ℕ)). bytes_of f.head.name ∷ ns) behind.names;
+      items = λ i. here.part i ∷ behind.items i;
+      names = λ i. here.name i ∷ behind.names i;
       are = λ p total e ss follow. step p total e ss follow here.form behind.are;
+      meant = each_joined (MeantBelow (suc n)) (volumes_in_file m) (volumes_in_files ms) here.meant behind.meant;
     }
   where
     step : (p : Polarity) (total e : ℕ) (ss : List ℕ) → StartsFollow total e (map stored_item (x ∷ xs)) ss
@@ -158,6 +141,7 @@ files_again n streams system limit (MoreFiles m ms) (f ∷ fs) (x ∷ xs) most r
         (forms_of q xs ts) (files_list ms)) → Pairwise (MeansFile (Stream n)) (forms_of p (x ∷ xs) ss) (files_list (MoreFiles m ms))
     step p total e [] follow form behind = absurd follow
     step p total e (s ∷ ss) follow form behind = (form p s, behind p total _ ss follow.1)
+files_again n streams system limit files forms stored most reads pairs are = absurd assumption
 
 -- ---- 3. the head, the files and the pads of a volume
 
@@ -176,13 +160,8 @@ first_behind (Some x) e b (before, part, behind, text, at, least, within, is, fi
 rest_is : (p : Polarity) (h : HeadFields) (x : Option Extension) (used : ℕ) (behind : List ℕ) → CanonicalRest x (ext_pad p x used ++ behind)
 unfolding ext_pad
 rest_is p h None used behind = tt
-rest_is p h (Some x) used behind = (
-  pad_head_of (24 + ext_len x) p,
-  used,
-  behind,
-  append_assoc (pad_head_of (24 + ext_len x) p) (ext_spelled x used) behind,
-  length-pad_head (24 + ext_len x) p,
-)
+rest_is p h (Some x) used behind =
+    grind (arith, common_steps, append_assoc (pad_head_of (24 + ext_len x) p) (ext_spelled x used) behind, length-pad_head (24 + ext_len x) p) steps 400000
 
 -- the body of an image
 body_is : (h : HeadFields) (fs : List StoredFile) (ss : List ℕ) → IsReadHead h → IfRead h.ext
@@ -196,8 +175,7 @@ body_is h fs ss read ext =
     let pad : List ℕ = ext_pad p h.ext used in
     let fill : List ℕ = replicate (first - canonical_end h h.ext) (erased_byte p) in
     let files : List ℕ = files_bytes p h.length first fs ss in
-    let joined : volume_bytes h fs ss ≡ ((head ++ pad) ++ fill) ++ files =
-    sym (append_assoc (head ++ pad) fill files ∙ append_assoc head pad (fill ++ files)) in
+    let joined : volume_bytes h fs ss ≡ ((head ++ pad) ++ fill) ++ files = simp append_assoc in
     let long : length ((head ++ pad) ++ fill) ≡ first = omega (arith, length-canonical h read, length-ext_pad p h h.ext used ext, length-replicate (first - canonical_end h h.ext) (erased_byte p), (first_is h h.ext).0, length-append head pad, length-append (head ++ pad) fill) in
     ap (drop first) joined ∙ drop_at ((head ++ pad) ++ fill) files first long
 
@@ -205,8 +183,7 @@ body_is h fs ss read ext =
 opened : (h : HeadFields) (e : Extent) (o : List ℕ) → BeginsVolume h e o → length o ≡ h.length → Opens o
 opened h e o front whole =
     let n : ℕ = e.header_len in
-    let lies = front_lies o h e front in
-    let long : 64 ≤ n = lies.least in
+    let long : 64 ≤ n = (front_lies o h e front).least in
     record {
       least = omega (arith, long, front.long_enough);
       signature = sym (field-take 40 4 n o (omega (arith, long))) ∙ front.head.signature;
@@ -231,19 +208,16 @@ files_read n h files b small d =
     (subst (AllByRecursion (FileIsAccepted e.file_system (length body))) (sym d.current.files_are)
     (current_read e.file_system (length body) (files_in d.cells) reads))
 
-pub known : (n : ℕ) → StreamsAgain (Stream n) → (h : HeadFields) (files : FileMeanings) (b : List ℕ) → IsBytes b
+pub known : (n : ℕ) → StreamsAgain (suc n) (Stream n) → (h : HeadFields) (files : FileMeanings) (b : List ℕ) → IsBytes b
     → (d : Denotes n b (Volume h files)) (stored : List StoredFile) (starts : List ℕ)
     → AreStored files stored → AreStarts (Volume h files) starts → Known n h files d.files stored starts
 known n streams h files b small d stored starts are placed =
     let e : Extent = d.extent in
-    let first : ℕ = first_edge h h.ext in
     let lies = front_lies b h e d.begins in
     let body : List ℕ = drop e.first b in
-    let current = files_read n h files b small d in
     let limit : length body ≤ 24 + data_limit = omega (arith, length-drop e.first b, d.length_is, lies.limit, lies.least, first_behind h.ext e b d.begins.ext) in
-    let a = files_again n streams h.file_system (length body) files d.files stored limit current d.meanings are in
-    let place : IsFirstPlacement h.length first (map stored_item stored) starts =
-    subst (λ (qs : List PlacementItem). IsFirstPlacement h.length first qs starts) (sym a.items) placed in
+    let a = files_again n streams h.file_system (length body) files d.files stored limit (files_read n h files b small d) d.meanings are in
+    let place : IsFirstPlacement h.length (first_edge h h.ext) (map stored_item stored) starts = rw a.items placed in
     record {
       writable = record {
         read = (take e.header_len b, d.begins.head);
@@ -266,8 +240,7 @@ image_front h fs ss o k shows =
     let text : o ≡ volume_bytes h fs ss = volume_shows h fs ss o k shows in
     let fill : List ℕ = replicate (first - canonical_end h h.ext) (erased_byte p) ++ files_bytes p h.length first fs ss in
     let rest : List ℕ = ext_pad p h.ext (used_size first fs ss) ++ fill in
-    let all : List ℕ = canonical_head h ++ rest in
-    let long : h.length ≤ length all = omega (arith, ap length text, shows.length_is) in
+    let long : h.length ≤ length (canonical_head h ++ rest) = omega (arith, ap length text, shows.length_is) in
     subst (BeginsVolume h (extent_of h first)) (sym text)
     (canonical_front h rest k.read k.ext (rest_is p h h.ext (used_size first fs ss) fill)
     (omega (arith, (first_is h h.ext).0, k.room)) long)
@@ -280,10 +253,8 @@ pub image_tiled : (h : HeadFields) (fs : List StoredFile) (ss o : List ℕ) → 
 image_tiled h fs ss o k shows =
     let p : Polarity = polarity_of h.attributes in
     let first : ℕ = first_edge h h.ext in
-    let text : o ≡ volume_bytes h fs ss = volume_shows h fs ss o k shows in
-    let body : drop first o ≡ files_bytes p h.length first fs ss = ap (drop first) text ∙ body_is h fs ss k.read k.ext in
-    subst (λ (xs : List ℕ). Tiled h.file_system p first xs (forms_of p fs ss)) (sym body)
-    (body_tiles h.file_system p h.length first fs ss k.multiple (first_is h h.ext).1 k.files k.follow)
+    let body : drop first o ≡ files_bytes p h.length first fs ss = ap (drop first) (volume_shows h fs ss o k shows) ∙ body_is h fs ss k.read k.ext in
+    rw body (body_tiles h.file_system p h.length first fs ss k.multiple (first_is h h.ext).1 k.files k.follow)
 
 -- ---- 4. a volume is read again if the streams in it are
 
@@ -292,7 +263,7 @@ pub volume_of : (is_stream : StreamRelation) (b : List ℕ) (m : Meaning) (e : E
     → length b ≡ e.length → AreFilesOf e b files → Pairwise (MeansFile is_stream) files (files_of m) → VolumeOver is_stream b m
 volume_of is_stream b m e files front whole contained meanings = grind (arith, common_steps)
 
-pub volume_again : (n : ℕ) → StreamsAgain (Stream n) → VolumesAgain (Denotes n)
+pub volume_again : (n : ℕ) → StreamsAgain (suc n) (Stream n) → VolumesAgain (suc n) (Denotes n)
 volume_again n streams (Volume h files) b o small d (stored, starts, are, placed, shows) =
     let p : Polarity = polarity_of h.attributes in
     let first : ℕ = first_edge h h.ext in
@@ -301,11 +272,8 @@ volume_again n streams (Volume h files) b o small d (stored, starts, are, placed
     let a = known_of.again in
     let front = image_front h stored starts o k shows in
     let tiled = image_tiled h stored starts o k shows in
-    let names : names_in (forms_of p stored starts) ≡ names_in d.files = form_names p h.length first stored starts k.follow ∙ a.names in
-    let apart : NamesApart (names_in (forms_of p stored starts)) = subst NamesApart (sym names)
-    (subst (λ (xs : List FileForm). NamesApart (names_in xs)) (sym d.current.files_are) (current_apart (files_in d.cells)
-    d.current.no_twins)) in
-    let last : TopLast (names_of stored) = subst TopLast (sym a.names) (top_last d.extent.length d.files d.current.top) in
+    let apart : NamesApart (names_in (forms_of p stored starts)) =
+    rw (form_names p h.length first stored starts k.follow ∙ a.names, d.current.files_are) (current_apart (files_in d.cells) d.current.no_twins) in
     let means : Denotes n o (Volume h files) =
     volume_of (Stream n) o (Volume h files) (extent_of h first) (forms_of p stored starts) front shows.length_is (record {
       cells = tiled.cells;
@@ -313,30 +281,31 @@ volume_again n streams (Volume h files) b o small d (stored, starts, are, placed
       current = record {
         no_twins = subst NoTwins (sym tiled.files_are) (no_twins (forms_of p stored starts) apart);
         files_are = sym (all_current (forms_of p stored starts) (forms_unmarked p stored starts)) ∙ ap current_in (sym tiled.files_are);
-        top = forms_top p h.length first stored starts last k.follow;
+        top = forms_top p h.length first stored starts (subst TopLast (sym a.names) (top_last d.extent.length d.files d.current.top)) k.follow;
       };
     }) (a.are p h.length first starts k.follow) in (
       means,
       subst IsBytes (sym (volume_shows h stored starts o k shows)) (bytes_volume h stored starts k),
       opened h (extent_of h first) o front shows.length_is,
+      ((n, omega arith, b, small, d), a.meant),
     )
 
 -- ---- 5. all volumes, by induction on the nesting depth
 
-no_stream : StreamsAgain (λ _ _ _. ⊥)
+no_stream : StreamsAgain 0 (λ _ _ _. ⊥)
 no_stream ss tail b o small none image = absurd none
 
-no_volume : VolumesAgain (λ _ _. ⊥)
+no_volume : VolumesAgain 0 (λ _ _. ⊥)
 no_volume m b o small none image = absurd none
 
-pub sections_again : (n : ℕ) → SectionsAgain (MeansSection n)
-sections_again zero = section_again (λ _ _ _. ⊥) (λ _ _. ⊥) no_stream no_volume
+pub sections_again : (n : ℕ) → SectionsAgain (suc n) (MeansSection n)
+sections_again zero = section_again 0 (λ _ _ _. ⊥) (λ _ _. ⊥) no_stream no_volume
 sections_again (suc n) =
-    let streams = stream_again n (sections_again n) in section_again (Stream n) (Denotes n) streams (volume_again n streams)
+    let streams = stream_again n (sections_again n) in section_again (suc n) (Stream n) (Denotes n) streams (volume_again n streams)
 
-pub streams_again : (n : ℕ) → StreamsAgain (Stream n)
+pub streams_again : (n : ℕ) → StreamsAgain (suc n) (Stream n)
 streams_again n = stream_again n (sections_again n)
 
--- an image of a meaning is a volume of this meaning, and a list of bytes
-pub image_denotes : (n : ℕ) → VolumesAgain (Denotes n)
+-- an image of a meaning is a volume of this meaning, and a list of bytes; each volume inside is the meaning of some bytes
+pub image_denotes : (n : ℕ) → VolumesAgain (suc n) (Denotes n)
 image_denotes n = volume_again n (streams_again n)

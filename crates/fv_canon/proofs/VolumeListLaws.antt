@@ -4,8 +4,8 @@
 -- 2. A fact about each volume of two lists is a fact about each volume of the joined list (`each_joined`), and does not
 --    depend on the depth (`each_deeper`).
 -- 3. A walk that takes starts goes from one list to the next (`passed_on`).
-use Rattle.std.proofs.Common.{◌≡◌, ◌≤◌, ◌+◌, ℕ, [], ◌∷◌, ◌++◌, List, length, take, drop, refl, sym, ap, ◌∙◌, subst, arith, append_assoc}
-use Rattle.fv_base.proofs.Laws.{length-append, drop-drop, drop_at, take_at, AllByRecursion, length-map}
+use Rattle.std.proofs.Common.{◌≡◌, ◌≤◌, ◌+◌, ℕ, [], ◌∷◌, ◌++◌, List, length, take, drop, refl, ap, ◌∙◌, arith, append_assoc}
+use Rattle.fv_base.proofs.Laws.{common_steps, length-append, drop-drop, drop_at, take_at, AllByRecursion, length-map}
 use Rattle.fv_tree.specs.Words.{Meaning, Volume, FileMeaning, files_of, head_of, files_from, Inside, deeper, volumes_in, volumes_in_files}
 use Rattle.fv_canon.specs.inner.ImageOf.{starts_in}
 use Rattle.fv_canon.proofs.ImageParts.{ComesTo}
@@ -19,13 +19,7 @@ pub laid_split : (own : Meaning → List ℕ → Type 0) (vs ws : List Inside) (
     → (here : List ℕ) × (behind : List ℕ) × (starts ≡ here ++ behind) × StartsOfEach own vs here × StartsOfEach own ws behind
 laid_split own [] ws starts laid = ([], starts, refl, refl, laid)
 laid_split own (v ∷ vs) ws starts (first, inner, text, p, r) =
-    let l = laid_split own vs ws inner r in (
-      first ++ l.0,
-      l.1,
-      text ∙ ap (λ (xs : List ℕ). first ++ xs) l.2 ∙ sym (append_assoc first l.0 l.1),
-      (first, l.0, refl, p, l.3),
-      l.4,
-    )
+    grind (arith, common_steps, laid_split own vs ws inner r, append_assoc first (laid_split own vs ws inner r).0 (laid_split own vs ws inner r).1) steps 400000
 
 pub laid_deeper : (own : Meaning → List ℕ → Type 0) (vs : List Inside) (starts : List ℕ) → StartsOfEach own vs starts → StartsOfEach own (deeper vs) starts
 laid_deeper own [] starts laid = laid
@@ -41,10 +35,7 @@ own_count m own placed = follow_length _ _ (placement_items m) own placed.placem
 
 pub laid_count : (vs : List Inside) (starts : List ℕ) → StartsOfEach AreStarts vs starts → length starts ≡ starts_in vs
 laid_count [] starts laid = ap length laid
-laid_count (v ∷ vs) starts (own, inner, text, placed, laid) =
-    let here = own_count v.volume own placed in
-    let behind = laid_count vs inner laid in
-    omega (arith, ap length text, length-append own inner, here, behind)
+laid_count (v ∷ vs) starts (own, inner, text, placed, laid) = grind (arith, common_steps, own_count, laid_count vs inner laid, length-append)
 
 pub count_joined : (vs ws : List Inside) → starts_in (vs ++ ws) ≡ starts_in vs + starts_in ws
 count_joined [] ws = omega arith
@@ -60,12 +51,7 @@ count_deeper (v ∷ vs) = ap (λ n. length (files_of v.volume) + n) (count_deepe
 pub begins_own : (v : Inside) (vs : List Inside) (n : ℕ) (starts : List ℕ) → length (files_of v.volume) ≡ n → BeginsWithStarts (v ∷ vs) starts
     → (n ≤ length starts) × AreStarts v.volume (take n starts) × BeginsWithStarts vs (drop n starts)
 begins_own v vs n starts many (laid, more, whole, (own, inner, text, placed, lays)) =
-    let count : length own ≡ n = own_count v.volume own placed ∙ many in
-    let here : starts ≡ own ++ (inner ++ more) = whole ∙ ap (λ (xs : List ℕ). xs ++ more) text ∙ append_assoc own inner more in (
-      omega (arith, count, ap length here, length-append own (inner ++ more)),
-      subst (AreStarts v.volume) (sym (ap (take n) here ∙ take_at own (inner ++ more) n count)) placed,
-      (inner, more, ap (drop n) here ∙ drop_at own (inner ++ more) n count, lays),
-    )
+    grind (arith, common_steps, own_count, append_assoc, length-append, take_at, drop_at)
 
 -- the starts of a volume's own files are followed by the starts of the files of the volumes inside it
 pub inside_begins : (m : Meaning) (fs : List FileMeaning) (more : List Inside) (starts : List ℕ) → m ≡ Volume (head_of m) (files_from fs)
@@ -80,13 +66,7 @@ inside_begins (Volume h files) fs more starts is begins =
 -- first list, and go on with the starts of the files of the second list
 pub begins_split : (vs ws : List Inside) (starts : List ℕ) → BeginsWithStarts (vs ++ ws) starts
     → BeginsWithStarts vs starts × BeginsWithStarts ws (drop (starts_in vs) starts)
-begins_split vs ws starts (whole, rest, text, laid) =
-    let items = laid_split AreStarts vs ws whole laid in
-    let here : starts ≡ items.0 ++ (items.1 ++ rest) =
-    text ∙ ap (λ (ys : List ℕ). ys ++ rest) items.2 ∙ append_assoc items.0 items.1 rest in
-    let behind : drop (starts_in vs) starts ≡ items.1 ++ rest =
-    ap (drop (starts_in vs)) here ∙ drop_at items.0 (items.1 ++ rest) (starts_in vs) (laid_count vs items.0 items.3) in
-    ((items.0, items.1 ++ rest, here, items.3), (items.1, rest, behind, items.4))
+begins_split vs ws starts (whole, rest, text, laid) = grind (arith, common_steps, laid_split, append_assoc, drop_at, laid_count)
 
 -- the depth of the volumes does not matter
 pub begins_higher : (vs : List Inside) (starts : List ℕ) → BeginsWithStarts (deeper vs) starts → BeginsWithStarts vs starts
@@ -122,10 +102,4 @@ fit_laid (v ∷ vs) (own, fit) = let l = fit_laid vs fit in (own.0 ++ l.0, (own.
 pub passed_on : (vs ws : List Inside) (starts last : List ℕ) → ComesTo (vs ++ ws) starts last
     → BeginsWithStarts vs starts × ComesTo ws (drop (starts_in vs) starts) last
 passed_on vs ws starts last at =
-    let parts = begins_split vs ws starts at.laid in (
-      parts.0,
-      record {
-        laid = parts.1;
-        left = drop-drop (starts_in ws) (starts_in vs) starts ∙ ap (λ n. drop n starts) (sym (count_joined vs ws)) ∙ at.left;
-      },
-    )
+    grind (arith, common_steps, begins_split vs ws starts at.laid, drop-drop (starts_in ws) (starts_in vs) starts, count_joined vs ws) steps 400000

@@ -19,23 +19,18 @@ use Rattle.fv_tree.proofs.Laws.{files_list_back}
 
 -- ---- the used size
 used_stored : (end : ℕ) (fs : List StoredFile) (ss : List ℕ) → used_size end fs ss ≡ used_by end (map stored_item fs) ss
-used_stored end [] ss = refl
-used_stored end (f ∷ fs) [] = refl
 used_stored end (f ∷ fs) (s ∷ ss) = used_stored (s + stored_len f) fs ss
+used_stored end fs ss = refl
 
 pub used_last : (total e end : ℕ) (fs : List FileMeaning) (ss : List ℕ) (n : ℕ) (d : FileMeaning) → length fs ≡ suc n
     → StartsFollow total e (map placement_item fs) ss
     → (used_by end (map placement_item fs) ss ≡ get_or ss n 0 + size_for (data_len_of (get_or fs n d)))
     × (get_or ss n 0 + size_for (data_len_of (get_or fs n d)) ≤ total) × (n < length ss)
-used_last total e end [] ss n d l follow = absurd (omega (arith, l))
 used_last total e end (f ∷ fs) [] n d l follow = absurd follow
 used_last total e end (f ∷ []) (s ∷ ss) zero d l follow = (refl, follow.0.within, omega arith)
-used_last total e end (f ∷ []) (s ∷ ss) (suc n) d l follow = absurd (omega (arith, l))
-used_last total e end (f ∷ g ∷ fs) (s ∷ ss) zero d l follow = absurd (omega (arith, l))
 used_last total e end (f ∷ g ∷ fs) (s ∷ ss) (suc n) d l follow =
-    let r =
-    used_last total (up_to_8 (s + size_for (data_len_of f))) (s + size_for (data_len_of f)) (g ∷ fs) ss n d (omega (arith, l)) follow.1 in
-    (r.0, r.1, omega (arith, r.2))
+    grind (arith, common_steps, used_last total (up_to_8 (s + size_for (data_len_of f))) (s + size_for (data_len_of f)) (g ∷ fs) ss n d (omega (arith, l)) follow.1) steps 400000
+used_last total e end fs ss n d l follow = absurd (omega (arith, l))
 
 -- ---- the volume
 pub record VolumeLaid (h : HeadFields) (fs : List FileMeaning) (starts : List ℕ) : Type 0 where
@@ -99,9 +94,7 @@ volume_is m h fs e f = e ∙ ap (λ (x : HeadFields). Volume x (files_from fs)) 
 
 pub volume_seen : (m : Meaning) (h : HeadFields) (fs : List FileMeaning) (starts : List ℕ) → m ≡ Volume (head_of m) (files_from fs)
     → h ≡ head_of m → IsMeaning m → BeginsWithStarts (volumes_in m) starts → VolumeLaid h fs starts
-volume_seen m h fs starts e f read laid =
-    let is = volume_is m h fs e f in
-    volume_laid h fs starts (subst IsMeaning is read) (subst (λ (x : Meaning). BeginsWithStarts (volumes_in x) starts) is laid)
+volume_seen m h fs starts e f read laid = let is = volume_is m h fs e f in volume_laid h fs starts (rw is at read) (rw is at laid)
 
 -- dropping the starts of the files of a volume and of the volumes inside it is dropping the starts of its own files,
 -- and then the starts of the files of the volumes inside it
@@ -109,6 +102,4 @@ pub volume_rest : (m : Meaning) (fs : List FileMeaning) (starts inner rest : Lis
     → inner ≡ drop (length fs) starts → rest ≡ drop (starts_in (volumes_in_files (files_from fs))) inner
     → rest ≡ drop (starts_in (volumes_in m)) starts
 volume_rest m fs starts inner rest is behind left =
-    let k : ℕ = starts_in (volumes_in_files (files_from fs)) in
-    left ∙ ap (drop k) behind ∙ drop-drop k (length fs) starts
-    ∙ ap (λ (j : ℕ). drop j starts) (sym (volume_left (head_of m) fs) ∙ ap (λ x. starts_in (volumes_in x)) (sym is))
+    grind (arith, common_steps, drop-drop (starts_in (volumes_in_files (files_from fs))) (length fs) starts, volume_left (head_of m) fs) steps 400000

@@ -71,8 +71,7 @@ section_made : (is_stream : StreamRelation) (is_volume : VolumeRelation) → Str
     → SectionsMade (SectionOver is_stream is_volume)
 section_made is_stream is_volume streams volumes (Section kind extended (Leaf body)) f at starts small is begins = (refl, refl, refl)
 section_made is_stream is_volume streams volumes (Section kind extended (Group sections tail)) f at starts small is begins =
-    let higher = begins_higher (volumes_in_sections sections) starts begins in
-    (refl, refl, (frames_of 0 sections starts, streams sections tail f.body starts small is.2.1 higher, refl))
+    grind (arith, common_steps, begins_higher) steps 400000
 section_made is_stream is_volume streams volumes (Section kind extended (Nested volume)) f at starts small is begins =
     (refl, refl, volumes volume f.body starts small is.2.2 (begins_higher (volumes_in volume) starts begins))
 

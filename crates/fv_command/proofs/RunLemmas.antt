@@ -3,17 +3,19 @@ use Rattle.std.proofs.Common.{◌≡◌, ◌≢◌, ◌≤◌, ◌⊎◌, ℕ, r
 use Rattle.fv_base.proofs.Laws.{common_steps, or_more, want_known, out_of_memory, depth_limit}
 use Rattle.fv_base.specs.declared.fault.Fault.{Fault}
 use Rattle.fv_canon.specs.Words.{Unfit}
+use Rattle.fv_compare.specs.Words.{VolumeStops}
 use Rattle.fv_compare.specs.declared.side.Side.{Side}
 use Rattle.fv_tree.specs.Words.{Accepted, Denotes, IsFirstOfVolume, Meaning, files_of, file_named}
 use Rattle.fv_hob.specs.Words.{IsFirstHobFault, hob_out_of_memory}
 use Rattle.fv_hob.specs.declared.fault.HobFault.{HobFault}
-use Rattle.fv_command.specs.Words.{StopsPart, GivesVolume, IsVerdict, SideStops, VolumeInputStops, Gives, GivesAt, TakenAt, BeginsNone, BeginsWith}
+use Rattle.fv_command.specs.Words.{StopsPart, GivesVolume, SideStops, InputStops, Gives, GivesAt, TakenAt, BeginsNone, BeginsWith}
 use Rattle.fv_command.specs.Words.{TaskRefusal}
 use Rattle.fv_command.specs.inner.RunSteps.{verdict_of}
 use Rattle.fv_plan.specs.declared.plan.Part.{Part}
 use Rattle.fv_plan.specs.declared.plan.Task.TheVariants.{Extract, ListSums}
 use Rattle.fv_text.specs.Words.{Change, PortView}
 use Rattle.fv_compare.specs.declared.side.Side.TheVariants as sides
+use Rattle.fv_command.specs.declared.status.Status.TheVariants.{Done, Different}
 
 -- ---- an input that does not begin with a volume
 
@@ -27,7 +29,7 @@ not_begun input f none first =
 
 -- why a part of a volume is not extracted
 pub part_stopped : (input : List ℕ) (m : Meaning) (part : Part) (f : Fault) → BeginsWith input m
-    → (f ≡ out_of_memory) ⊎ StopsPart (file_named part.name (files_of m)) part f → TaskRefusal (Extract part) input f
+    → (f ≡ out_of_memory) ⊎ StopsPart (file_named part.name (files_of m)) part.section part.instance f → TaskRefusal (Extract part) input f
 part_stopped input m part f b why = or_more why (λ stops. inr (m, b, stops))
 
 -- why a list with digests is not written
@@ -59,17 +61,18 @@ pub given : (hex : Bool) (at : Option ℕ) (r s : PortView) (taken : List ℕ) (
 given hex at r s taken m gives accepted = (taken, gives, accepted)
 
 pub first_stopped : (side : Side) (hex : Bool) (at other : Option ℕ) (first : Change) (s : PortView) (f : Fault) → side ≡ sides.First
-    → VolumeInputStops hex at first f → SideStops side hex at other first (turn s s) f
+    → InputStops VolumeStops hex at first f → SideStops side hex at other first (turn s s) f
 first_stopped side hex at other first s f is stops =
     subst (λ (x : Side). SideStops x hex at other first (turn s s) f) (sym is) (inl (refl, stops))
 
 pub second_stopped : (side : Side) (hex : Bool) (at other : Option ℕ) (first second : Change) (m : Meaning) (f : Fault)
-    → side ≡ sides.Second → GivesVolume hex at first m → VolumeInputStops hex other second f
+    → side ≡ sides.Second → GivesVolume hex at first m → InputStops VolumeStops hex other second f
     → SideStops side hex at other first second f
 second_stopped side hex at other first second m f is gives stops =
     subst (λ (x : Side). SideStops x hex at other first second f) (sym is) ((m, gives), stops)
 
 -- the status of a comparison
-pub verdict_is : (m k : Meaning) (same : Bool) → ((same ≡ true) ↔ (m ≡ k)) → IsVerdict m k (verdict_of same)
+pub verdict_is : (m k : Meaning) (same : Bool) → ((same ≡ true) ↔ (m ≡ k))
+    → ((verdict_of same ≡ Done) × (m ≡ k)) ⊎ ((verdict_of same ≡ Different) × (m ≢ k))
 verdict_is m k true is = inl (refl, is.0 refl)
 verdict_is m k false is = inr (refl, λ e. let bad : false ≡ true = is.1 e in cc)

@@ -3,15 +3,13 @@ use Rattle.std.specs.Io.KnownBytes.{Appends}
 use Rattle.std.specs.Prelude.{◌≡◌, ◌⊎◌, ◌++◌, ℕ, true, List, codes, decimal}
 use Rattle.fv_base.specs.Words.{fault_number}
 use Rattle.fv_base.specs.declared.fault.Fault.{Fault}
-use Rattle.fv_compare.specs.declared.side.Side.{Side}
 use Rattle.fv_compare.specs.declared.side.Side.TheVariants as sides
 use Rattle.fv_command.specs.declared.ending.Refusal.{Refusal}
 use Rattle.fv_command.specs.declared.ending.Refusal.TheVariants.{Input, OneOfTwo, Hobs}
 use Rattle.fv_command.specs.declared.status.Status.{Status}
 use Rattle.fv_command.specs.declared.status.Status.TheVariants as statuses
 use Rattle.fv_hob.specs.Words.{hob_fault_number}
-use Rattle.fv_hob.specs.declared.fault.HobFault.{HobFault}
-use Rattle.fv_text.specs.Words.{line_feed, Change, PortView, StopsIn, Writes}
+use Rattle.fv_text.specs.Words.{line_feed, Change, StopsIn, Writes}
 
 -- the exit status for each status of a run: 0 Done, 1 Different, 2 Faulty and Refused, 3 WrongArguments
 abbrev pub exit_code : Status → ℕ
@@ -21,16 +19,13 @@ exit_code statuses.Faulty = 2
 exit_code statuses.Refused = 2
 exit_code statuses.WrongArguments = 3
 
--- all of the text was written, and the flush after it failed
-abbrev pub FlushFails : PortView → PortView → List ℕ → Type 0
-FlushFails old new text = Appends old.bytes new.bytes text × (new.erred ≡ true)
-
 -- a run has this text and the status `ran`. Either all of the text was written, and the run ends with `ran`; or a write
 -- of the text or the flush after it failed, and the run ends with Refused
 abbrev pub Ends : Status → List ℕ → Change → Status → Type 0
 Ends ran text output status =
     ((status ≡ ran) × Writes output.old output.new text)
-    ⊎ ((status ≡ statuses.Refused) × (StopsIn output.old output.new text ⊎ FlushFails output.old output.new text))
+    ⊎ ((status ≡ statuses.Refused) × (StopsIn output.old output.new text
+    ⊎ (Appends output.old.bytes output.new.bytes text × (output.new.erred ≡ true))))
 
 -- the line `fault N at M` with a number and an offset in bytes
 abbrev pub numbered_line : ℕ → ℕ → List ℕ
@@ -40,18 +35,10 @@ numbered_line number at = codes "fault " ++ (decimal number ++ (codes " at " ++ 
 abbrev pub fault_line : Fault → List ℕ
 fault_line f = numbered_line (fault_number f.kind) f.place.offset
 
--- the line of a fault of a hand-off list
-abbrev pub hob_fault_line : HobFault → List ℕ
-hob_fault_line f = codes "hob " ++ numbered_line (hob_fault_number f.kind) f.offset
-
--- the line of a fault of one of two inputs
-abbrev pub side_fault_line : Side → Fault → List ℕ
-side_fault_line sides.First f = codes "first " ++ fault_line f
-side_fault_line sides.Second f = codes "second " ++ fault_line f
-side_fault_line sides.Output f = fault_line f
-
 -- the line of a refusal: it begins with `hob` for a hand-off list, and with `first` or `second` for one of two inputs
 abbrev pub refusal_line : Refusal → List ℕ
 refusal_line (Input f) = fault_line f
-refusal_line (OneOfTwo side f) = side_fault_line side f
-refusal_line (Hobs f) = hob_fault_line f
+refusal_line (OneOfTwo sides.First f) = codes "first " ++ fault_line f
+refusal_line (OneOfTwo sides.Second f) = codes "second " ++ fault_line f
+refusal_line (OneOfTwo sides.Output f) = fault_line f
+refusal_line (Hobs f) = codes "hob " ++ numbered_line (hob_fault_number f.kind) f.offset

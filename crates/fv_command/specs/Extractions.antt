@@ -8,7 +8,6 @@ use Rattle.fv_tree.specs.Words.{file_kind_of}
 use Rattle.fv_section.specs.Words.{FrameForm, Splits}
 use Rattle.fv_command.specs.declared.extracting.Extraction.{Extraction}
 use Rattle.fv_command.specs.declared.extracting.Extraction.TheVariants.{Made, Stored, NotFound, NotSectioned}
-use Rattle.fv_plan.specs.declared.plan.Part.{Part}
 
 -- the extracted bytes are the body of this section, as it is in the canonical image; NotFound, if there is no section
 abbrev pub IsSectionPart : Option SectionMeaning → Extraction → Type 0
@@ -34,29 +33,20 @@ pub record IsSectionOf (f : FileMeaning) (kind instance : ℕ) (answer : Extract
   pub plain : (b : List ℕ) → content_of f ≡ Plain b
       → (file_kind_of f ≡ security_core → (fs : List FrameForm) (t : ℕ) → Splits fs t b → ⊥) → answer ≡ NotSectioned
 
--- the result is the data of the file, as they are in the canonical image; or, if a type is given, a section of the file
-abbrev pub IsFilePart : FileMeaning → Option ℕ → ℕ → Extraction → Type 0
-IsFilePart f None instance (Made bytes) = IsData (content_of f) bytes
-IsFilePart f None instance _ = ⊥
-IsFilePart f (Some kind) instance answer = IsSectionOf f kind instance answer
+-- the result of extracting a part of the file with the part's name, or NotFound if no file has the name. The part is the
+-- data of the file, as they are in the canonical image; or, if a type is given, a section of the file
+abbrev pub IsPart : Option FileMeaning → (section : Option ℕ) (instance : ℕ) → Extraction → Type 0
+IsPart None section instance answer = answer ≡ NotFound
+IsPart (Some f) None instance (Made bytes) = IsData (content_of f) bytes
+IsPart (Some f) None instance _ = ⊥
+IsPart (Some f) (Some kind) instance answer = IsSectionOf f kind instance answer
 
--- the result of extracting a part: the data of the file with the part's name, or a section of this file; NotFound, if
--- no file has the name
-abbrev pub IsPart : Option FileMeaning → Part → Extraction → Type 0
-IsPart None part answer = answer ≡ NotFound
-IsPart (Some f) part answer = IsFilePart f part.section part.instance answer
-
--- why the data of the file, or the body of the section, cannot be extracted: the fault of the first volume in these
--- bytes whose own files cannot be placed
-abbrev pub StopsFilePart : FileMeaning → Option ℕ → ℕ → Fault → Type 0
-StopsFilePart f None instance fault = FirstUnplaced (volumes_in_content (content_of f)) 0 fault
-StopsFilePart f (Some kind) instance fault =
+-- why the data of the file, or the body of its section, cannot be extracted: the fault of the first volume in these
+-- bytes whose own files cannot be placed, with the depth of that volume in the part
+abbrev pub StopsPart : Option FileMeaning → (section : Option ℕ) (instance : ℕ) → Fault → Type 0
+StopsPart None section instance fault = ⊥
+StopsPart (Some f) None instance fault = FirstUnplaced (volumes_in_content (content_of f)) 0 fault
+StopsPart (Some f) (Some kind) instance fault =
     (ss : SectionMeanings) × (t : ℕ) × (s : SectionMeaning) × (content_of f ≡ Sectioned ss t)
     × (section_of_type kind instance ss ≡ Some s)
     × FirstUnplaced (volumes_in_body (body_of s)) 0 fault
-
--- why a part cannot be extracted: the fault of the first volume in it whose own files cannot be placed, with the depth
--- of that volume in the part
-abbrev pub StopsPart : Option FileMeaning → Part → Fault → Type 0
-StopsPart None part fault = ⊥
-StopsPart (Some f) part fault = StopsFilePart f part.section part.instance fault

@@ -1,7 +1,6 @@
 -- The lines and the status of `check --all`.
-use Rattle.std.specs.Prelude.{◌≡◌, ℕ, Bool, true, false, List, ◌++◌, codes, if◌then◌else◌}
-use Rattle.std.specs.List.{flat_map, list_any}
-use Rattle.fv_canon.specs.Words.{ChecksImage}
+use Rattle.std.specs.Prelude.{ℕ, Bool, true, false, List, ◌++◌, codes, if◌then◌else◌}
+use Rattle.std.specs.List.{list_any}
 use Rattle.fv_canon.specs.declared.image_check.VolumeCheck.{VolumeCheck}
 use Rattle.fv_canon.specs.declared.image_check.VolumeOutcome.{VolumeOutcome}
 use Rattle.fv_canon.specs.declared.image_check.VolumeOutcome.TheVariants.{Canonical, NotCanonical, Rejected}
@@ -36,10 +35,3 @@ abbrev pub checks_status : List VolumeCheck → Status
 checks_status checks =
     if list_any (λ c. is_rejected c.outcome) checks then Faulty
     else (if list_any (λ c. is_not_canonical c.outcome) checks then Different else Done)
-
--- the text has a line for each volume that is found in the input, in order, and the worst of these checks determines
--- the status
-abbrev pub ChecksText : List ℕ → Status → List ℕ → Type 0
-ChecksText input status text =
-    (checks : List VolumeCheck) × ChecksImage input checks × (status ≡ checks_status checks)
-    × (text ≡ flat_map checked_line checks)

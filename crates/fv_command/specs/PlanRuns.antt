@@ -5,18 +5,19 @@ use Rattle.std.specs.String.{string_bytes}
 use Rattle.fv_command.specs.declared.source.Source.{Source}
 use Rattle.fv_command.specs.declared.source.Source.TheVariants.{Standard, File, Missing, NoInput}
 use Rattle.fv_command.specs.Endings.{Ends, refusal_line}
-use Rattle.fv_command.specs.PairRuns.{HobsRunText, StopsHobs, ComparisonRunText, SideStops}
+use Rattle.fv_command.specs.PairRuns.{ListsHobs, StopsHobs, ComparisonRunText, SideStops}
 use Rattle.fv_plan.specs.Words.{first_file, second_file}
 use Rattle.fv_plan.specs.declared.plan.Command.{Command}
 use Rattle.fv_plan.specs.declared.plan.Plan.{Plan}
-use Rattle.fv_text.specs.Words.{Change, Ports, PortView, port_view}
-use Rattle.fv_command.specs.Tasks.{TaskRunText, StopsTask}
+use Rattle.fv_text.specs.Words.{Change, PortView, port_view}
+use Rattle.fv_command.specs.RunInputs.{GivesAt, InputStops}
+use Rattle.fv_command.specs.Tasks.{TaskText, TaskRefusal}
 use Rattle.fv_plan.specs.declared.plan.Command.TheVariants.{Single, Hobs, Compare}
 use Rattle.fv_command.specs.declared.ending.Ending.{Ending}
 use Rattle.fv_command.specs.declared.ending.Refusal.{Refusal}
 use Rattle.fv_command.specs.declared.ending.Refusal.TheVariants.{Input, OneOfTwo}
 use Rattle.fv_command.specs.declared.status.Status.{Status}
-use Rattle.fv_command.specs.declared.status.Status.TheVariants.{Refused}
+use Rattle.fv_command.specs.declared.status.Status.TheVariants.{Done, Refused}
 
 -- the unread bytes of a source, given the unread bytes of standard input and of a file; a file that could not be opened
 -- has none, and neither has an input that does not exist
@@ -43,20 +44,22 @@ abbrev pub IsSecondSource : {S F : Type 0} → (List ℕ → Option F → Type 0
 IsSecondSource opens None source = source ≡ NoInput
 IsSecondSource opens (Some path) source = IsOpened opens (string_bytes path) source
 
--- the text and the status of a command that is not refused, for these reads of its inputs. A task reads nothing of the
--- second input
+-- the text and the status of a command that is not refused, for these reads of its inputs. A task has its text for the
+-- bytes that are taken from its input (`TaskText`), and reads nothing of the second input. A hand-off list has the
+-- status Done
 abbrev pub CommandRunText : Command → Bool → (first second : Change) → Status → List ℕ → Type 0
 CommandRunText (Single task at file) hex first second status text =
-    (second.new ≡ second.old) × TaskRunText task hex at first status text
+    (second.new ≡ second.old)
+    × ((bytes : List ℕ) × GivesAt hex at first.old first.new bytes × TaskText task hex bytes status text)
 CommandRunText (Hobs file image) hex first second status text =
-    HobsRunText (option_map (λ i. i.base) image) hex first second status text
+    (status ≡ Done) × ListsHobs hex (option_map (λ i. i.base) image) first second text
 CommandRunText (Compare a b) hex first second status text = ComparisonRunText hex a.at b.at first second status text
 
 -- why a command is refused, for these reads of its inputs: a fault of an input, of one of two volumes with its side, or
 -- of a hand-off list. A task reads nothing of the second input
 abbrev pub StopsCommand : Command → Bool → (first second : Change) → Refusal → Type 0
 StopsCommand (Single task at file) hex first second (Input fault) =
-    (second.new ≡ second.old) × StopsTask task hex at first fault
+    (second.new ≡ second.old) × InputStops (TaskRefusal task) hex at first fault
 StopsCommand (Single task at file) hex first second refusal = ⊥
 StopsCommand (Hobs file image) hex first second refusal =
     StopsHobs (option_map (λ i. i.base) image) hex first second refusal
@@ -70,25 +73,19 @@ HasText command hex first second None status text = CommandRunText command hex f
 HasText command hex first second (Some refusal) status text =
     StopsCommand command hex first second refusal × (status ≡ Refused) × (text ≡ refusal_line refusal)
 
--- a run of a plan, and how it ended: its text was written, or a write of the text or the flush after it failed
-abbrev pub Runs : Plan → Ending → Ports → Type 0
-Runs p ended ports =
-    (ran : Status) × (text : List ℕ) × HasText p.command p.hex ports.first ports.second ended.refusal ran text
-    × Ends ran text ports.output ended.status
-
--- the view of the port over a source before anything is read: the unread bytes, and no failed call
-abbrev pub fresh : {S F : Type 0} → (S → Option (List ℕ)) → (F → Option (List ℕ)) → Source S F → PortView
-fresh of_input of_file source = port_view (unread of_input of_file source) false
+-- a run of a plan over its two inputs and its output, and how it ended: its text was written, or a write of the text or
+-- the flush after it failed
+abbrev pub Runs : Plan → Ending → (first second output : Change) → Type 0
+Runs p ended first second output =
+    (ran : Status) × (text : List ℕ) × HasText p.command p.hex first second ended.refusal ran text
+    × Ends ran text output ended.status
 
 -- a run of the plan over the sources that the plan names: the files that opening the plan's paths returns, and standard
--- input
+-- input. Before anything is read, the port over a source has all unread bytes, and no failed call
 abbrev pub RunsOver : {S F : Type 0} → (S → Option (List ℕ)) → (F → Option (List ℕ)) → (List ℕ → Option F → Type 0)
     → (S → Type 0) → Plan → Ending → Change → Type 0
 RunsOver {S} {F} of_input of_file opens is_standard p ended output =
     (first : Source S F) × (second : Source S F) × IsFirstSource opens is_standard (first_file p.command) first
     × IsSecondSource opens (second_file p.command) second × (s : PortView) × (s' : PortView)
-    × Runs p ended (record {
-      first = record { old = fresh of_input of_file first; new = s };
-      second = record { old = fresh of_input of_file second; new = s' };
-      output = output;
-    })
+    × Runs p ended (record { old = port_view (unread of_input of_file first) false; new = s })
+    (record { old = port_view (unread of_input of_file second) false; new = s' }) output

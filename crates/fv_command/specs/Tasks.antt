@@ -5,6 +5,8 @@ use Rattle.fv_base.specs.Words.{OrMemory, out_of_memory}
 use Rattle.fv_base.specs.declared.flash.Polarity.{Polarity}
 use Rattle.fv_base.specs.declared.fault.Fault.{Fault}
 use Rattle.fv_canon.specs.Words.{IsImage, NodeDigest, NormalisesTo, Unfit, Rejects, NormalisesAll, RejectsAll, IsAboveLimit}
+use Rattle.fv_canon.specs.Words.{ChecksImage}
+use Rattle.fv_canon.specs.declared.image_check.VolumeCheck.{VolumeCheck}
 use Rattle.fv_file.specs.Words.{CellForm, Tiles}
 use Rattle.fv_head.specs.Words.{BeginsVolume}
 use Rattle.fv_head.specs.declared.extent.Extent.{Extent}
@@ -16,10 +18,10 @@ use Rattle.fv_lines.specs.Words.{CellsText, volume_line}
 use Rattle.fv_lines.specs.declared.depex_notes.DepexNote.{DepexNote}
 use Rattle.fv_flash.specs.Words.{AreFound}
 use Rattle.fv_flash.specs.declared.scanner.FoundVolume.{FoundVolume}
-use Rattle.fv_text.specs.Words.{ShowsBytes, Change}
-use Rattle.fv_command.specs.RunInputs.{BeginsWith, BeginsNone, GivesAt, GivingStops}
+use Rattle.fv_text.specs.Words.{ShowsBytes}
+use Rattle.fv_command.specs.RunInputs.{BeginsWith, BeginsNone}
 use Rattle.fv_command.specs.Extractions.{IsPart, StopsPart}
-use Rattle.fv_command.specs.ImageChecks.{ChecksText}
+use Rattle.fv_command.specs.ImageChecks.{checked_line, checks_status}
 use Rattle.fv_command.specs.declared.status.Status.{Status}
 use Rattle.fv_command.specs.declared.status.Status.TheVariants.{Done, Different}
 use Rattle.fv_command.specs.declared.extracting.Extraction.{Extraction}
@@ -50,10 +52,6 @@ pub record CheckText (input : List ℕ) (same : Bool) (text : List ℕ) : Type 0
   pub text_is : text ≡ pad_notes polarity cells ++ (depex_lines notes ++ verdict_line same)
   pub same_is : (same ≡ true) ↔ IsImage meaning input
 
--- the text of `list --sums`: the text of `list`, with these digests
-abbrev pub SumsText : Meaning → List ℕ → Type 0
-SumsText m text = RowsText NodeDigest (tree_rows m) text
-
 -- the text and the status of an extraction: the bytes of the part, and Done; or `not found` or `not sectioned`, and
 -- Different
 abbrev pub PartText : Bool → Extraction → Status → List ℕ → Type 0
@@ -63,13 +61,14 @@ PartText hex NotFound Different text = text ≡ codes "not found\n"
 PartText hex NotSectioned Different text = text ≡ codes "not sectioned\n"
 PartText hex x status text = ⊥
 
--- the text and the status of a task for its input; a task has no text with any other status:
+-- the text and the status of a task for its input. A task has no text with any other status:
 -- - `Normalise`: the canonical image of the input, which is a volume
 -- - `NormaliseAll`: the input, with each volume in it replaced by its canonical image
--- - `Listing`, `ListSums`: the lines of the volume with which the input begins
+-- - `Listing`, `ListSums`: the lines of the volume with which the input begins, without or with digests
 -- - `Extract`: the result of extracting the part from that volume
 -- - `Check`: the notes and the verdict
--- - `CheckAll`: a line for each volume in the input
+-- - `CheckAll`: a line for each volume that is found in the input, in order; the worst of these checks determines the
+--   status
 -- - `Cells`: the lines of the cells of the volume with which the input begins
 -- - `Unfix`: the input, which is a volume, with none of its files marked as fixed
 -- - `Scan`: the lines of the volumes in the input
@@ -77,19 +76,21 @@ abbrev pub TaskText : Task → Bool → List ℕ → Status → List ℕ → Typ
 TaskText Normalise hex input Done text = (image : List ℕ) × NormalisesTo input image × ShowsBytes hex image text
 TaskText NormaliseAll hex input Done text = (image : List ℕ) × NormalisesAll input image × ShowsBytes hex image text
 TaskText Listing hex input Done text = (m : Meaning) × BeginsWith input m × ListText m text
-TaskText ListSums hex input Done text = (m : Meaning) × BeginsWith input m × SumsText m text
+TaskText ListSums hex input Done text = (m : Meaning) × BeginsWith input m × RowsText NodeDigest (tree_rows m) text
 TaskText (Extract part) hex input status text =
-    (m : Meaning) × (x : Extraction) × BeginsWith input m × IsPart (file_named part.name (files_of m)) part x
-    × PartText hex x status text
+    (m : Meaning) × (x : Extraction) × BeginsWith input m
+    × IsPart (file_named part.name (files_of m)) part.section part.instance x × PartText hex x status text
 TaskText Check hex input Done text = CheckText input true text
 TaskText Check hex input Different text = CheckText input false text
-TaskText CheckAll hex input status text = ChecksText input status text
+TaskText CheckAll hex input status text =
+    (checks : List VolumeCheck) × ChecksImage input checks × (status ≡ checks_status checks)
+    × (text ≡ flat_map checked_line checks)
 TaskText Cells hex input Done text = CellsText input text
 TaskText Unfix hex input Done text = (o : List ℕ) × UnfixesTo input o × ShowsBytes hex o text
 TaskText Scan hex input Done text = (volumes : List FoundVolume) × AreFound input volumes × (text ≡ flat_map volume_line volumes)
 TaskText task hex input status text = ⊥
 
--- why a task writes nothing for its input: memory ran out, or one of these reasons:
+-- why a task writes nothing for its input. Memory ran out, or this is the reason:
 -- - `Normalise`: the input is not a volume, or does not fit
 -- - `NormaliseAll`: a volume in the input is not accepted or does not fit, or the input is longer than the limit
 -- - `Listing`: the input does not begin with a volume
@@ -109,21 +110,9 @@ TaskRefusal ListSums input fault =
     (fault ≡ out_of_memory) ⊎ (BeginsNone input fault ⊎ ((m : Meaning) × BeginsWith input m × Unfit m 0 fault))
 TaskRefusal (Extract part) input fault =
     (fault ≡ out_of_memory) ⊎ (BeginsNone input fault
-    ⊎ ((m : Meaning) × BeginsWith input m × StopsPart (file_named part.name (files_of m)) part fault))
+    ⊎ ((m : Meaning) × BeginsWith input m × StopsPart (file_named part.name (files_of m)) part.section part.instance fault))
 TaskRefusal Check input fault = OrMemory (NotRead input) fault
 TaskRefusal CheckAll input fault = OrMemory (IsAboveLimit input) fault
 TaskRefusal Cells input fault = OrMemory (NotTiled input) fault
 TaskRefusal Unfix input fault = OrMemory (NotUnfixed input) fault
 TaskRefusal Scan input fault = fault ≡ out_of_memory
-
--- the input stops the task: reading it stopped with this fault; or it was read to its end, and the bytes taken from it
--- are rejected, or memory ran out (`TaskRefusal`)
-abbrev pub StopsTask : Task → Bool → Option ℕ → Change → Fault → Type 0
-StopsTask task hex at input fault =
-    GivingStops hex input.old input.new fault
-    ⊎ ((bytes : List ℕ) × GivesAt hex at input.old input.new bytes × TaskRefusal task bytes fault)
-
--- the input was read to its end, and the task has this text and this status for the bytes taken from it (`TaskText`)
-abbrev pub TaskRunText : Task → Bool → Option ℕ → Change → Status → List ℕ → Type 0
-TaskRunText task hex at input status text =
-    (bytes : List ℕ) × GivesAt hex at input.old input.new bytes × TaskText task hex bytes status text

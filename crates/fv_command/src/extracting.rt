@@ -1,8 +1,8 @@
 //! Extracting the data of a file, or the body of one of its sections.
 
-ghost use Rattle.std.specs.Prelude.{◌≡◌, ◌⊎◌, IfOk, IfErr};
+ghost use Rattle.std.specs.Prelude.{◌≡◌, ◌⊎◌, Some, IfOk, IfErr};
 ghost use Rattle.fv_base.specs.Words.{out_of_memory};
-ghost use Rattle.fv_command.specs.Extractions.{IsFilePart, IsPart, StopsFilePart, StopsPart};
+ghost use Rattle.fv_command.specs.Extractions.{IsPart, StopsPart};
 ghost use Rattle.fv_tree.specs.Words.{files_of, file_named};
 
 use fv_base::{ByteList, Fault};
@@ -26,9 +26,9 @@ pub enum Extraction<'a> {
 
 // Returns the part of the file: its data, or the body of one of its sections.
 fn file_part<'a>(alloc: Global, file: &FileView<'a>, part: &Part) -> Result<Extraction<'a>, Fault>
-    ensures ok { IfOk result (IsFilePart file.now part.now.section part.now.instance) }
+    ensures ok { IfOk result (IsPart (Some file.now) part.now.section part.now.instance) }
     ensures err { IfErr result (λ f. (f ≡ out_of_memory)
-        ⊎ StopsFilePart file.now part.now.section part.now.instance f) }
+        ⊎ StopsPart (Some file.now) part.now.section part.now.instance f) }
 {
     let Some(kind) = part.section else {
         return Ok(Extraction::Made(file_bytes(alloc, file)?));
@@ -53,9 +53,9 @@ pub fn extract<'a>(
     volume: &VolumeView<'a>,
     part: &Part,
 ) -> Result<Extraction<'a>, Fault>
-    ensures ok { IfOk result (IsPart (file_named part.now.name (files_of volume.now)) part.now) }
+    ensures ok { IfOk result (IsPart (file_named part.now.name (files_of volume.now)) part.now.section part.now.instance) }
     ensures err { IfErr result (λ f. (f ≡ out_of_memory)
-        ⊎ StopsPart (file_named part.now.name (files_of volume.now)) part.now f) }
+        ⊎ StopsPart (file_named part.now.name (files_of volume.now)) part.now.section part.now.instance f) }
 {
     match file_by_name(volume, &part.name) {
         Some(file) => file_part(alloc, file, part),

@@ -2,7 +2,7 @@
 
 ghost use Rattle.std.specs.Prelude.{◌≡◌, ◌≢◌, ◌⊎◌, ◌++◌, true, false};
 ghost use Rattle.fv_base.specs.Words.{has_erred, is_flushed};
-ghost use Rattle.fv_command.specs.Endings.{Ends, numbered_line, refusal_line, side_fault_line};
+ghost use Rattle.fv_command.specs.Endings.{Ends, numbered_line, refusal_line};
 ghost use Rattle.fv_command.specs.inner.RunSteps.{Written};
 ghost use Rattle.fv_text.specs.Words.{StopsIn, change, view_of};
 
@@ -28,7 +28,7 @@ pub(crate) fn put_fault<S: Sink>(out: &mut S, words: &[u8], number: u8, offset: 
 
 // Puts the line of a fault of one of two inputs, which begins with the name of the side.
 fn put_side_fault<S: Sink>(out: &mut S, side: Side, fault: Fault)
-    ensures { S.takes out.old (side_fault_line side fault) out.new }
+    ensures { S.takes out.old (refusal_line (Refusal.OneOfTwo side fault)) out.new }
 {
     let words: &[u8] = match side {
         Side::First => b"first ",

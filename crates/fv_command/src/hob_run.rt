@@ -1,10 +1,10 @@
 //! The command `hobs`: the blocks of a hand-off list, whose volumes are looked up in an image.
 
-ghost use Rattle.std.specs.Prelude.{◌≡◌, ℕ, List, IfOk, IfErr};
-ghost use Rattle.fv_command.specs.PairRuns.{GivesImage, HobImageStops, HobInputStops, HobsRunText, StopsHobs};
-ghost use Rattle.fv_command.specs.RunInputs.{Gives};
+ghost use Rattle.std.specs.Prelude.{◌≡◌, ◌≢◌, ℕ, List, None, IfOk, IfErr, option_map};
+ghost use Rattle.fv_command.specs.PairRuns.{GivesImage, ListsHobs, StopsHobs};
+ghost use Rattle.fv_command.specs.RunInputs.{Gives, GivingStops};
 ghost use Rattle.fv_command.specs.inner.RunSteps.{Puts};
-ghost use Rattle.fv_lines.specs.Words.{held_image, image_form};
+ghost use Rattle.fv_lines.specs.Words.{held_image};
 ghost use Rattle.fv_text.specs.Words.{change, view_of};
 
 use crate::ending::Refusal;
@@ -25,7 +25,8 @@ fn read_image<R: Read>(
     reader: &mut Port<R>,
 ) -> Result<Vec<u8>, Fault>
     ensures ok { IfOk result (λ v. GivesImage hex base (change R.remaining reader.old reader.new) v.items) }
-    ensures err { IfErr result (HobImageStops hex base (change R.remaining reader.old reader.new)) }
+    ensures err { IfErr result (λ f. (base ≢ None)
+        × GivingStops hex (view_of R.remaining reader.old) (view_of R.remaining reader.new) f) }
 {
     match base {
         Some(_) => read_bytes(alloc, hex, reader),
@@ -35,7 +36,7 @@ fn read_image<R: Read>(
 
 // Returns the bytes as an image at the address `base`, or None if there is no base.
 fn image_of(bytes: &[u8], base: Option<u64>) -> Option<MappedImage<'_>>
-    ensures { held_image result ≡ image_form base bytes.now }
+    ensures { held_image result ≡ option_map (λ b. record { bytes = bytes.now; base = b }) base }
 {
     match base {
         Some(base) => Some(MappedImage { bytes, base }),
@@ -54,8 +55,8 @@ fn read_inputs<First: Read, Second: Read>(
 ) -> Result<(Vec<u8>, Vec<u8>), Fault>
     ensures ok { IfOk result (λ r. Gives hex (view_of First.remaining first.old) (view_of First.remaining first.new) r.0.items
         × GivesImage hex base (change Second.remaining second.old second.new) r.1.items) }
-    ensures err { IfErr result (HobInputStops hex base (change First.remaining first.old first.new)
-        (change Second.remaining second.old second.new)) }
+    ensures err { IfErr result (λ f. StopsHobs base hex (change First.remaining first.old first.new)
+        (change Second.remaining second.old second.new) (Refusal.Input f)) }
 {
     let list = read_bytes(alloc, hex, first)?;
     let image = read_image(alloc, hex, base, second)?;
@@ -77,7 +78,8 @@ pub fn put_hob_list<First: Read, Second: Read, S: Sink>(
     out: &mut S,
 ) -> Result<Status, Refusal>
     ensures { Puts S.takes
-        (HobsRunText base hex (change First.remaining first.old first.new) (change Second.remaining second.old second.new))
+        (λ status text. (status ≡ Status.Done) × ListsHobs hex base (change First.remaining first.old first.new)
+        (change Second.remaining second.old second.new) text)
         (StopsHobs base hex (change First.remaining first.old first.new) (change Second.remaining second.old second.new))
         out.old out.new result }
 {

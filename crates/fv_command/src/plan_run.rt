@@ -120,11 +120,8 @@ pub fn run_plan<First: Read, Second: Read, W: Write>(
     // the command is refused, the line of the refusal and Refused. Either all of the text was
     // written, and the run ends with this status; or a write of the text or the flush after it
     // failed, and the run ends with Refused.
-    ensures runs { Runs plan.now result (record {
-      first = change First.remaining first.old first.new;
-      second = change Second.remaining second.old second.new;
-      output = change W.contents writer.old writer.new;
-    }) }
+    ensures runs { Runs plan.now result (change First.remaining first.old first.new)
+        (change Second.remaining second.old second.new) (change W.contents writer.old writer.new) }
 
     // The last call to the writer was a flush, unless the status is Refused and a call to the
     // writer has failed.

@@ -2,11 +2,11 @@
 
 ghost use Rattle.std.specs.Prelude.{◌≡◌, ◌⊎◌, ℕ, Bool, List, IfOk, IfErr};
 ghost use Rattle.fv_base.specs.Words.{OrMemory, out_of_memory};
-ghost use Rattle.fv_text.specs.Words.{change};
+ghost use Rattle.fv_text.specs.Words.{change, view_of};
 ghost use Rattle.fv_tree.specs.Words.{file_named, Meaning, files_of};
 ghost use Rattle.fv_command.specs.Extractions.{IsPart};
-ghost use Rattle.fv_command.specs.RunInputs.{BeginsNone, BeginsWith};
-ghost use Rattle.fv_command.specs.Tasks.{TaskRefusal, PartText, TaskRunText, StopsTask};
+ghost use Rattle.fv_command.specs.RunInputs.{BeginsNone, BeginsWith, GivesAt, InputStops};
+ghost use Rattle.fv_command.specs.Tasks.{PartText, TaskRefusal, TaskText};
 ghost use Rattle.fv_command.specs.inner.RunSteps.{Performs, Puts};
 
 use crate::check_run::put_check;
@@ -62,7 +62,7 @@ fn put_part<S: Sink>(out: &mut S, hex: bool, extraction: &Extraction<'_>) -> Sta
 // Extracts a part of the volume at the start of the input.
 fn part_at_start<'a>(alloc: Global, input: &'a [u8], part: &Part) -> Result<Extraction<'a>, Fault>
     ensures ok { IfOk result (λ x. (m : Meaning) × BeginsWith input.now m
-        × IsPart (file_named part.now.name (files_of m)) part.now x) }
+        × IsPart (file_named part.now.name (files_of m)) part.now.section part.now.instance x) }
     ensures err { IfErr result (TaskRefusal (Task.Extract part.now) input.now) }
 {
     let volume = volume_at_start(alloc, input)?;
@@ -165,8 +165,11 @@ pub fn put_task<R: Read, S: Sink>(
     reader: &mut Port<R>,
     out: &mut S,
 ) -> Result<Status, Fault>
-    ensures { Puts S.takes (TaskRunText task.now hex at (change R.remaining reader.old reader.new))
-        (StopsTask task.now hex at (change R.remaining reader.old reader.new)) out.old out.new result }
+    ensures { Puts S.takes
+        (λ status text. (bytes : List ℕ)
+        × GivesAt hex at (view_of R.remaining reader.old) (view_of R.remaining reader.new) bytes
+        × TaskText task.now hex bytes status text)
+        (InputStops (TaskRefusal task.now) hex at (change R.remaining reader.old reader.new)) out.old out.new result }
 {
     let input = read_bytes(alloc, hex, reader)?;
     perform(alloc, task, hex, taken_at(&input, at), out)

@@ -2,7 +2,7 @@
 -- 1. An op is determined by its code and its GUID (`op_of_code`, `op_back`).
 -- 2. If the checks hold, an op is there (`op_stands`), and if an op is there, they hold (`checks_hold`).
 -- 3. Bytes begin with at most one op (`same_op`).
-use Rattle.std.proofs.Common.{◌≡◌, ◌≤◌, ℕ, [], ◌∷◌, ◌++◌, ◌||◌, if◌then◌else◌, zero, suc, List, length, drop, refl, sym, ap, ◌∙◌, arith, Bool, true}
+use Rattle.std.proofs.Common.{◌≡◌, ◌≤◌, ℕ, [], ◌∷◌, ◌++◌, ◌||◌, if◌then◌else◌, List, length, drop, refl, sym, ap, ◌∙◌, arith, Bool, true}
 use Rattle.std.proofs.Common.{false, length-append, length-drop, not, nat_le, slice_index, None, leb-true, le-leb, take-append-drop, length-take-le}
 use Rattle.fv_base.proofs.Laws.{common_steps, AllHold, bytes_of, field, all_hold, and_split, same_cut}
 use Rattle.fv_base.specs.declared.guid.Guid.{Guid}
@@ -24,17 +24,7 @@ pub record IsOpOf (code : ℕ) (g : Guid) (o : Op) : Type 0 where
   pub operand_is : op_operand o ≡ (if carries code then bytes_of g else [])
 
 below_10 : (P : ℕ → Type 0) → P 0 → P 1 → P 2 → P 3 → P 4 → P 5 → P 6 → P 7 → P 8 → P 9 → (n : ℕ) → n ≤ 9 → P n
-below_10 P a b c d e f g h i j zero l = a
-below_10 P a b c d e f g h i j (suc zero) l = b
-below_10 P a b c d e f g h i j (suc (suc zero)) l = c
-below_10 P a b c d e f g h i j (suc (suc (suc zero))) l = d
-below_10 P a b c d e f g h i j (suc (suc (suc (suc zero)))) l = e
-below_10 P a b c d e f g h i j (suc (suc (suc (suc (suc zero))))) l = f
-below_10 P a b c d e f g h i j (suc (suc (suc (suc (suc (suc zero)))))) l = g
-below_10 P a b c d e f g h i j (suc (suc (suc (suc (suc (suc (suc zero))))))) l = h
-below_10 P a b c d e f g h i j (suc (suc (suc (suc (suc (suc (suc (suc zero)))))))) l = i
-below_10 P a b c d e f g h i j (suc (suc (suc (suc (suc (suc (suc (suc (suc zero))))))))) l = j
-below_10 P a b c d e f g h i j (suc (suc (suc (suc (suc (suc (suc (suc (suc (suc n)))))))))) l = absurd (omega (arith, l))
+below_10 P a b c d e f g h i j n l = grind (arith, common_steps)
 
 pub op_of_code : (g : Guid) (code : ℕ) → code ≤ 9 → IsOpOf code g (op_by code g)
 op_of_code g = grind (arith, common_steps, below_10)
@@ -42,16 +32,7 @@ op_of_code g = grind (arith, common_steps, below_10)
 -- a property that the ops with each code have is a property of every op
 pub each_op : (P : Op → Type 0) → ((g : Guid) → P (ops.Before g)) → ((g : Guid) → P (ops.After g)) → ((g : Guid) → P (ops.Push g))
     → P ops.And → P ops.Or → P ops.Not → P ops.True → P ops.False → P ops.End → P ops.Sor → (o : Op) → P o
-each_op P a b c d e f g h i j (ops.Before x) = a x
-each_op P a b c d e f g h i j (ops.After x) = b x
-each_op P a b c d e f g h i j (ops.Push x) = c x
-each_op P a b c d e f g h i j ops.And = d
-each_op P a b c d e f g h i j ops.Or = e
-each_op P a b c d e f g h i j ops.Not = f
-each_op P a b c d e f g h i j ops.True = g
-each_op P a b c d e f g h i j ops.False = h
-each_op P a b c d e f g h i j ops.End = i
-each_op P a b c d e f g h i j ops.Sor = j
+each_op P a b c d e f g h i j op = grind (arith, common_steps)
 
 -- an op is the op of its code and its GUID
 op_back : (o : Op) → op_by (op_code o) (record { bytes = op_operand o }) ≡ o

@@ -38,8 +38,7 @@ module _ (s : FileSystem) (p : Polarity) (first : ℕ) (body : List ℕ) where
     -- the cell that is read at the place begins there
     pub stands_here : (c : CellForm) → length body % 8 ≡ 0 → cell_verdict s p (first + at) (drop at body) ≡ Ok c
         → CellStandsAt s p (first + at) c (drop at body)
-    stands_here c in_eights is =
-        verdict_stands s p (first + at) (drop at body) c (eighth (length body) (length (drop at body)) in_eights (length-drop at body)) is
+    stands_here c in_eights is = verdict_stands s p (first + at) (drop at body) c (eighth (length body) _ in_eights (length-drop at body)) is
       where
         eighth : (a b : ℕ) → a % 8 ≡ 0 → b ≡ a - at → b % 8 ≡ 0
         eighth a b h e = omega (arith, before.multiple, before.inside)
@@ -95,8 +94,7 @@ goes_on : (s : FileSystem) (p : Polarity) (first : ℕ) (body : List ℕ) (cs ds
     → Tiles s p first ds body → (more : List CellForm) × Tiles s p (first + at) more (drop at body)
 goes_on s p first body cs ds at t free l t' =
     let long : length (take at body) ≡ at = length-take-le at body (omega (arith, l)) in
-    let k = cut s p (one_cell s p) (not_empty s p) first cs ds (take at body) (drop at body) t free
-    (subst (λ b. Tiles s p first ds b) (sym (take-append-drop at body)) t') in
+    let k = cut s p (one_cell s p) (not_empty s p) first cs ds _ _ t free (subst (λ b. Tiles s p first ds b) (sym (take-append-drop at body)) t') in
     (k.0, subst (λ n. Tiles s p (first + n) k.0 (drop at body)) long k.2)
 
 -- a body is tiled in one way
@@ -113,8 +111,7 @@ none_after which s p first body f ds here t =
   where
     go : (more : List CellForm) → Tiles s p (first + here.at) more (drop here.at body) → ⊥
     go [] e = omega (arith, ap length e, length-drop here.at body, here.inside)
-    go (c ∷ cs) (u, w, e, is, o, last, more) = no_cell which s p (first + here.at) (drop here.at body) f c u w here.fails here.not_erased is
-        o e (λ fr. no_rest s p _ cs w (last fr) more)
+    go (c ∷ cs) (u, w, e, is, o, last, more) = no_cell _ s p _ _ f c u w here.fails here.not_erased is o e (λ fr. no_rest s p _ cs w (last fr) more)
 
 -- each cell of a body lies within it
 pub all_within : (s : FileSystem) (p : Polarity) (at : ℕ) (cs : List CellForm) (b : List ℕ) → Tiles s p at cs b
@@ -122,6 +119,5 @@ pub all_within : (s : FileSystem) (p : Polarity) (at : ℕ) (cs : List CellForm)
 all_within s p at [] b t = tt
 all_within s p at (c ∷ cs) b (x, rest, e, is, o, last, more) =
     let n : length b ≡ length x + length rest = ap length e ∙ length-append x rest in
-    let behind =
-    subst (λ (k : ℕ). CellsWithin k cs) (omega (arith, n)) (all_within s p (at + length x) cs rest more) in
+    let behind = subst (λ (k : ℕ). CellsWithin k cs) (omega (arith, n)) (all_within s p (at + length x) cs rest more) in
     (omega (arith, o, cell_span s p c x is, n), made_up s p c x is, behind)

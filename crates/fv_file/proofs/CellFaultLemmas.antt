@@ -1,16 +1,16 @@
 -- The first fault of a body is within the body, or at its end.
 use Rattle.std.proofs.Common.{◌≡◌, ◌≤◌, ℕ, suc, ◌+◌, List, [], ◌∷◌, length, drop, ap, refl, sym, ◌∙◌, arith, not, Bool, true, false}
-use Rattle.std.specs.Prelude.{Option, Some, None, nat_le, ◌&&◌, ◌==◌, slice_index}
+use Rattle.std.specs.Prelude.{Option, nat_le, ◌&&◌, ◌==◌, slice_index}
 use Rattle.std.specs.List.{AllByRecursion}
 use Rattle.std.proofs.lemmas.List.{length-drop}
 use Rattle.std.proofs.lemmas.Bool.{leb-true}
-use Rattle.fv_base.proofs.Laws.{and_split, first_among}
+use Rattle.fv_base.proofs.Laws.{and_split, first_among, common_steps}
 use Rattle.fv_base.specs.Words.{Check, check, IsFirstFault, erased_byte}
 use Rattle.fv_base.specs.declared.fault.Fault.{Fault}
 use Rattle.fv_base.specs.declared.flash.FileSystem.{FileSystem}
 use Rattle.fv_base.specs.declared.flash.Polarity.{Polarity}
 use Rattle.fv_base.specs.declared.fault.FaultKind.TheVariants as kinds
-use Rattle.fv_file.specs.Words.{IsFirstCellFault, cell_checks, file_checks, leading_count, state_checks, bits_of, state_of}
+use Rattle.fv_file.specs.Words.{IsFirstCellFault, cell_checks, file_checks, leading_count, state_checks, bits_of}
 use Rattle.fv_file.specs.declared.state.FileState.{FileState}
 use Rattle.fv_file.specs.declared.state.FileState.TheVariants as states
 
@@ -34,21 +34,13 @@ module _ (at : ℕ) (r : List ℕ) where
 
   -- the checks for the state of a cell have their faults there too
   state_within : (o : Option FileState) (s : FileSystem) → 24 ≤ length r → AllByRecursion Low (state_checks o s at r)
-  state_within None s long = (omega (arith, long), tt)
-  state_within (Some states.Free) s long = tt
-  state_within (Some states.Construction) s long = (omega (arith, long), tt)
-  state_within (Some states.HeaderInvalid) s long = (omega (arith, long), tt)
-  state_within (Some states.HeaderValid) s long = file_within s false long
-  state_within (Some states.DataValid) s long = file_within s true long
-  state_within (Some states.Marked) s long = file_within s true long
-  state_within (Some states.Deleted) s long = file_within s false long
+  state_within o s long = grind (arith, common_steps, file_within) steps 150000
 
   -- the first fault of a cell is within the bytes from its place on, or at their end
   cell_within : (s : FileSystem) (p : Polarity) (f : Fault) → IsFirstFault (cell_checks s p at r) f → f.place.offset ≤ at + length r
   cell_within s p f ([], c, after, is, held, fails, fault) =
       let e : ℕ = erased_byte p in
-      let first : c ≡ check (nat_le 24 (length r) && not (bits_of p (slice_index r 23) == 0)) kinds.FreeSpace (at + leading_count e r) =
-      cc in
+      let first : c ≡ check (nat_le 24 (length r) && not (bits_of p (slice_index r 23) == 0)) kinds.FreeSpace (at + leading_count e r) = cc in
       let place : f.place.offset ≡ at + leading_count e r =
       ap (λ (g : Fault). g.place.offset) fault ∙ ap (λ (d : Check Fault). d.fault.place.offset) first in
       omega (arith, place, run_within e r)
@@ -59,8 +51,7 @@ module _ (at : ℕ) (r : List ℕ) where
       let holds : (nat_le 24 (length r) && used) ≡ true = ap (λ (g : Check Fault). g.holds) (sym first) ∙ held.0 in
       let long : 24 ≤ length r = leb-true _ _ (and_split (nat_le 24 (length r)) used holds).0 in
       let low : at + leading_count e r ≤ at + length r = omega (arith, run_within e r) in
-      first_among (λ (g : Fault). g.place.offset ≤ at + length r) (cell_checks s p at r) f
-      (low, state_within (state_of p (slice_index r 23)) s long) (d ∷ ds, c, after, is, held, fails, fault)
+      first_among (λ (g : Fault). g.place.offset ≤ at + length r) _ f (low, state_within _ s long) (d ∷ ds, c, after, is, held, fails, fault)
 
 -- the first fault of the cells of a body is within the body, or at its end
 pub body_within : (s : FileSystem) (p : Polarity) (from : ℕ) (body : List ℕ) (f : Fault) → IsFirstCellFault s p from body f

@@ -1,7 +1,6 @@
 -- If the checks of a cell hold, the bytes begin with the cell that State and the header describe. A file and its filler
 -- lie within the bytes, because the number of bytes is a multiple of 8. A header under construction or an invalid
 -- header lies within the bytes, because the only check of such a cell says so.
-use Rattle.std.proofs.lemmas.Grind.{common_steps}
 use Rattle.std.proofs.Common.{◌≡◌, ◌≤◌, ◌<◌, ℕ, ◌+◌, ◌-◌, ◌*◌, ◌/◌, ◌%◌, List, length, take, drop, inl, inr, refl, sym, ap, ◌∙◌}
 use Rattle.std.proofs.Common.{subst, arith, Bool, true, false, length-drop}
 use Rattle.std.specs.Prelude.{◌==◌, ◌⊎◌, not, nat_le, slice_index, Option, None, Some, if◌then◌else◌}
@@ -13,7 +12,7 @@ use Rattle.fv_base.specs.declared.fault.Fault.{Fault}
 use Rattle.fv_base.specs.declared.flash.FileSystem.{FileSystem}
 use Rattle.fv_base.specs.declared.flash.Polarity.{Polarity}
 use Rattle.fv_base.specs.inner.Verdicts.{first_fault}
-use Rattle.fv_base.proofs.Laws.{all_hold, and_split}
+use Rattle.fv_base.proofs.Laws.{all_hold, and_split, common_steps}
 use Rattle.fv_file.specs.Words.{CellForm, Valid, Pad, Dead, Stub, offset_of, is_free, IsFilled, IsCell, cell_len, is_large}
 use Rattle.fv_file.specs.Words.{file_header_len_at, file_size_at, payload_at, state_checks, cell_checks, attributes_at}
 use Rattle.fv_file.specs.Words.{head_in, pad_kind, StateOf, bits_of, state_of, is_alive}
@@ -97,12 +96,8 @@ sort_stands s p st at r in_eights long state used sorts.Valid alive all = kind (
 
   kind : (t : Bool) → (slice_index r 18 == pad_kind) ≡ t
       → CellStandsAt s p at (if t then Pad at (head_in st r) (payload_at r) else Valid at (head_in st r) (payload_at r)) r
-  kind true e =
-      filled_stands s p st at r (Pad at (head_in st r) (payload_at r)) in_eights file refl refl refl
-      (λ filled len. (filled, alive, eqb-true _ _ e))
-  kind false e =
-      filled_stands s p st at r (Valid at (head_in st r) (payload_at r)) in_eights file refl refl refl
-      (λ filled len. (filled, alive, file.sound alive e))
+  kind true e = filled_stands s p st at r _ in_eights file refl refl refl (λ filled len. (filled, alive, eqb-true _ _ e))
+  kind false e = filled_stands s p st at r _ in_eights file refl refl refl (λ filled len. (filled, alive, file.sound alive e))
 
 pub cell_stands : (s : FileSystem) (p : Polarity) (at : ℕ) (r : List ℕ) → length r % 8 ≡ 0 → first_fault (cell_checks s p at r) ≡ None
     → CellStandsAt s p at (cell_in (state_of p (slice_index r 23)) at r) r

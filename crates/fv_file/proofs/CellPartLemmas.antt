@@ -1,12 +1,11 @@
 -- A file with its filler ends at a multiple of 8, the header and the data of a file make up its size, and every cell
 -- has bytes.
 use Rattle.std.proofs.lemmas.Grind.{common_steps}
-use Rattle.std.proofs.Common.{◌≡◌, ◌≤◌, ◌+◌, ℕ, List, length, ap, arith, true, length-append}
-use Rattle.std.specs.Prelude.{slice_index}
+use Rattle.std.proofs.Common.{◌≡◌, ◌≤◌, ◌+◌, ℕ, List, length, arith, true, length-append}
 use Rattle.fv_base.specs.Words.{AllAre, erased_byte, up_to_8}
 use Rattle.fv_base.specs.declared.flash.FileSystem.{FileSystem}
 use Rattle.fv_base.specs.declared.flash.Polarity.{Polarity}
-use Rattle.fv_file.specs.Words.{CellForm, Valid, Pad, Dead, Stub, Free, offset_of, is_free, IsFilled, IsCell, cell_len, LengthsAgree, is_large}
+use Rattle.fv_file.specs.Words.{CellForm, Free, offset_of, is_free, IsFilled, IsCell, cell_len, LengthsAgree}
 use Rattle.fv_file.specs.declared.head.FileHead.{FileHead}
 use Rattle.fv_file.proofs.FileLemmas.{header_least}
 use Rattle.fv_file.proofs.TilingLemmas.{NotEmpty}
@@ -18,22 +17,14 @@ pub filled_span : (s : FileSystem) (p : Polarity) (head : FileHead) (payload b :
 filled_span s p head payload b filled = grind (arith, common_steps, length-append)
 
 pub cell_span : (s : FileSystem) (p : Polarity) (c : CellForm) (u : List ℕ) → IsCell s p c u → cell_len c ≡ length u
-cell_span s p (Valid at head payload) u is = filled_span s p head payload u is.0
-cell_span s p (Pad at head payload) u is = filled_span s p head payload u is.0
-cell_span s p (Dead at len state) u is = is.5
-cell_span s p (Stub at len) u is = is.2
-cell_span s p (Free at len) u is = is.2
+cell_span s p c u is = grind (arith, common_steps, filled_span) steps 150000
 
 -- a file has at least the 24 bytes of a header
 pub file_least : (s : FileSystem) (p : Polarity) (head : FileHead) (payload b : List ℕ) → IsFilled s p head payload b → 24 ≤ length b
 file_least s p head payload b filled = grind (arith, common_steps, length-append, header_least)
 
 pub not_empty : (s : FileSystem) (p : Polarity) → NotEmpty s p
-not_empty s p (Valid at head payload) u is = omega (arith, file_least s p head payload u is.0)
-not_empty s p (Pad at head payload) u is = omega (arith, file_least s p head payload u is.0)
-not_empty s p (Dead at len state) u is = omega (arith, file_least s p is.0 is.1 u is.2)
-not_empty s p (Stub at len) u is = omega (arith, header_least (is_large (slice_index u 19)), is.1)
-not_empty s p (Free at len) u is = omega (arith, is.0, is.2)
+not_empty s p given u is = grind (arith, common_steps, file_least, header_least) steps 150000
 
 -- ---- the parts of a cell
 
@@ -42,17 +33,9 @@ pub file_made_up : (s : FileSystem) (p : Polarity) (head : FileHead) (payload b 
 file_made_up s p head payload b filled = grind (arith, common_steps, length-append)
 
 pub made_up : (s : FileSystem) (p : Polarity) (c : CellForm) (u : List ℕ) → IsCell s p c u → LengthsAgree c
-made_up s p (Valid at head payload) u is = file_made_up s p head payload u is.0
-made_up s p (Pad at head payload) u is = file_made_up s p head payload u is.0
-made_up s p (Dead at len state) u is = tt
-made_up s p (Stub at len) u is = tt
-made_up s p (Free at len) u is = tt
+made_up s p c u is = grind (arith, common_steps, file_made_up) steps 150000
 
 -- a free cell has the length of its bytes, and all of them are erased
 pub free_all : (s : FileSystem) (p : Polarity) (c : CellForm) (u : List ℕ) → IsCell s p c u → is_free c ≡ true
     → (c ≡ Free (offset_of c) (length u)) × AllAre (erased_byte p) u
-free_all s p (Valid at head payload) u is f = cc
-free_all s p (Pad at head payload) u is f = cc
-free_all s p (Dead at len state) u is f = cc
-free_all s p (Stub at len) u is f = cc
-free_all s p (Free at len) u is f = (ap (λ (k : ℕ). Free at k) is.2, is.1)
+free_all s p c u is f = grind (arith, common_steps) steps 150000

@@ -45,8 +45,7 @@ shown s p at c r st k long state sort used all form =
         and_join _ _ (le-leb 24 (length r) long) (rw bits refl),
         subst (λ (cs : List (Check Fault)). AllHold cs) (sym checks) all,
       );
-      read = ap (λ (o : Option FileState). cell_in o at r) is
-          ∙ ap (λ (j : StateSort). cell_of j at (head_in st r) (payload_at r)) sort ∙ form;
+      read = ap (λ (o : Option FileState). cell_in o at r) is ∙ ap (λ (j : StateSort). cell_of j at (head_in st r) (payload_at r)) sort ∙ form;
     }
 
 -- a file with its filler is read, if its state has one of the two sorts of files
@@ -93,8 +92,7 @@ cell_reads s p (Dead at len st) u w (head, payload, filled, is, state, long) f =
 
     never : {A : Type 0} → sort_of head.state ≡ sorts.Dead → is_alive head.state ≡ true → A
     never e alive = cc (e, (sorted head.state).valid alive)
-cell_reads s p (Stub at len) u w (state, whole, long) f =
-    subst (λ (n : ℕ). CellIsRead s p at (Stub at n) (u ++ w)) (sym long) (go state)
+cell_reads s p (Stub at len) u w (state, whole, long) f = subst (λ (n : ℕ). CellIsRead s p at (Stub at n) (u ++ w)) (sym long) (go state)
   where
     go : StateOf (slice_index u 23) p states.Construction ⊎ StateOf (slice_index u 23) p states.HeaderInvalid
         → CellIsRead s p at (Stub at (length u)) (u ++ w)

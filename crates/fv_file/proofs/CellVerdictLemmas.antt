@@ -2,9 +2,7 @@
 -- checks of a cell. So a cell that is read begins at its place, and a fault is the fault of the first check that does
 -- not hold. Conversely, every cell that begins at a place is read. So two cells at one place are equal, and if a check
 -- does not hold, no cell begins there.
-use Rattle.std.proofs.lemmas.Grind.{common_steps}
-use Rattle.std.proofs.Common.{◌≡◌, ℕ, ◌%◌, List, [], ◌++◌, length, refl, sym, ap, ◌∙◌}
-use Rattle.std.proofs.Common.{subst, arith, Bool, true, false, length-append, append-nil}
+use Rattle.std.proofs.Common.{◌≡◌, ℕ, ◌%◌, List, [], ◌++◌, length, refl, sym, ap, ◌∙◌, subst, arith, Bool, true, false, length-append, append-nil}
 use Rattle.std.specs.Prelude.{◌==◌, ◌≢◌, nat_lt, slice_index, Option, None, Some, Ok, Err}
 use Rattle.std.proofs.lemmas.Bool.{leb-true, le-leb, ltb-true, ltb-false, eqb-true, eq-eqb}
 use Rattle.fv_base.specs.inner.Verdicts.{first_fault, verdict_by}
@@ -13,12 +11,12 @@ use Rattle.fv_base.specs.declared.fault.Fault.{Fault}
 use Rattle.fv_base.specs.declared.flash.FileSystem.{FileSystem}
 use Rattle.fv_base.specs.declared.flash.Polarity.{Polarity}
 use Rattle.fv_base.specs.declared.flash.Polarity.TheVariants.{Ones, Zeros}
-use Rattle.fv_base.proofs.Laws.{all_hold, and_split, first_is, none_fails, not_at_most, verdict_err, verdict_ok}
-use Rattle.fv_file.specs.Words.{CellForm, Free, offset_of, is_free, IsCell, cell_len, payload_at, file_checks, state_checks, cell_checks}
-use Rattle.fv_file.specs.Words.{head_in, bits_of, state_of, is_alive}
+use Rattle.fv_base.proofs.Laws.{all_hold, and_split, first_is, none_fails, not_at_most, verdict_err, verdict_ok, common_steps}
+use Rattle.fv_file.specs.Words.{CellForm, Free, offset_of, is_free, IsCell, cell_len, payload_at, file_checks, state_checks, cell_checks, head_in}
+use Rattle.fv_file.specs.Words.{bits_of, state_of, is_alive}
 use Rattle.fv_file.specs.declared.state.FileState.{FileState}
-use Rattle.fv_file.specs.inner.CellVerdicts.{file_verdict, cell_in, cell_of, cell_with, sort_verdict, state_verdict}
-use Rattle.fv_file.specs.inner.CellVerdicts.{cell_verdict, StateSort, sort_of, sort_checks}
+use Rattle.fv_file.specs.inner.CellVerdicts.{file_verdict, cell_in, cell_of, cell_with, sort_verdict, state_verdict, cell_verdict, StateSort, sort_of}
+use Rattle.fv_file.specs.inner.CellVerdicts.{sort_checks}
 use Rattle.fv_file.specs.inner.CellVerdicts as sorts
 use Rattle.fv_file.specs.declared.state.FileState.TheVariants as states
 use Rattle.fv_file.proofs.CellFoundLemmas.{CellStandsAt, cell_stands}
@@ -79,8 +77,7 @@ verdict_stands s p at r c in_eights is =
 
 pub verdict_fails : (s : FileSystem) (p : Polarity) (at : ℕ) (r : List ℕ) (f : Fault) → cell_verdict s p at r ≡ Err f
     → first_fault (cell_checks s p at r) ≡ Some f
-verdict_fails s p at r f is =
-    verdict_err (first_fault (cell_checks s p at r)) (cell_in (state_of p (slice_index r 23)) at r) f (sym (verdict_is s p at r) ∙ is)
+verdict_fails s p at r f is = verdict_err (first_fault (cell_checks s p at r)) _ f (sym (verdict_is s p at r) ∙ is)
 
 pub verdict_first : (s : FileSystem) (p : Polarity) (at : ℕ) (r : List ℕ) (f : Fault) → cell_verdict s p at r ≡ Err f
     → IsFirstFault (cell_checks s p at r) f
@@ -118,8 +115,7 @@ one_cell s p c d u v w z is is' o last last' e = go (is_free c) refl (is_free d)
         let all = subst (λ (l : List ℕ). AllAre (erased_byte p) l) (sym e) (erased_at s p d v z is' g (last' g)) in
         absurd (erased_refused s p (offset_of c) (u ++ w) c all (cell_reads s p c u w is f))
     go true f true g =
-        let n : length u ≡ length v =
-        omega (arith, ap length e, length-append u w, length-append v z, ap length (last f), ap length (last' g)) in
+        let n : length u ≡ length v = omega (arith, ap length e, length-append u w, length-append v z, ap length (last f), ap length (last' g)) in
         ((free_all s p c u is f).0 ∙ ap (λ k. Free k (length u)) o ∙ ap (λ k. Free (offset_of d) k) n ∙ sym (free_all s p d v is' g).0, n)
 
 -- if a check fails, no cell begins there

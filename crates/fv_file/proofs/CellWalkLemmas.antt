@@ -55,8 +55,7 @@ walk_begins a = record {
 }
 
 pub walked_some : (a b : CellsLeft) (c : CellForm) → Walked a (c ∷ []) b → 0 < length a.rest
-walked_some a b c w =
-    omega (arith, not_empty a.system a.polarity c w.passed (one_passed a b c w).0, ap length w.text, length-append w.passed b.rest)
+walked_some a b c w = omega (arith, not_empty a.system a.polarity c w.passed (one_passed a b c w).0, ap length w.text, length-append w.passed b.rest)
 
 pub walked_on : (a b d : CellsLeft) (cs : List CellForm) (c : CellForm) → Walked a cs b → Walked b (c ∷ []) d → Walked a (cs ++ c ∷ []) d
 walked_on a b d cs c w v =

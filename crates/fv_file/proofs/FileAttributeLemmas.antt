@@ -27,16 +27,10 @@ set_large n small = grind (arith, common_steps, small_even, nat_tests)
 -- ---- with bit 0x01 set for a large header
 
 pub fixed_with : (l : Bool) (a : ℕ) → is_large a ≡ false → is_fixed (with_large l a) ≡ is_fixed a
-fixed_with false a h = refl
-fixed_with true a h = ap (λ n. n % 2 == 1) (same a (small_even a h)) where
-  same : (a : ℕ) → a % 2 ≡ 0 → (a + 1) / 4 ≡ a / 4
-  same a e = omega arith
+fixed_with l a h = grind (arith, common_steps, small_even) steps 150000
 
 pub summed_with : (l : Bool) (a : ℕ) → is_large a ≡ false → is_summed (with_large l a) ≡ is_summed a
-summed_with false a h = refl
-summed_with true a h = ap (λ n. n % 2 == 1) (same a (small_even a h)) where
-  same : (a : ℕ) → a % 2 ≡ 0 → (a + 1) / 64 ≡ a / 64
-  same a e = omega arith
+summed_with l a h = grind (arith, common_steps, small_even) steps 150000
 
 pub alignment_with : (l : Bool) (a : ℕ) → is_large a ≡ false → alignment_of (with_large l a) ≡ alignment_of a
 alignment_with false a h = refl

@@ -4,11 +4,11 @@
 use Rattle.std.proofs.Common.{◌≡◌, ◌≤◌, ◌<◌, ℕ, ◌+◌, ◌-◌, ◌++◌, ◌==◌, ◌⊎◌, ◌||◌, List, length, take, drop, inl, inr, refl, sym, ap, ◌∙◌, subst, arith}
 use Rattle.std.proofs.Common.{Bool, true, false, length-append, append_assoc, not, slice_index, leb-true, le-leb, eqb-true, eq-eqb, take-append-drop}
 use Rattle.fv_base.proofs.Laws.{take_at, drop_at, length-take-le, get_or-take, eqb-false, not-true, take-append-le, get_or-append, take-add, AllHold}
-use Rattle.fv_base.proofs.Laws.{le, le_at, and_join, and_split, field-append_front, field-take, or_parts}
+use Rattle.fv_base.proofs.Laws.{le, le_at, and_join, and_split, field-append_front, field-take, or_parts, common_steps}
 use Rattle.std.proofs.lemmas.Bool.{not-false, not_from_false}
 use Rattle.fv_base.specs.declared.flash.FileSystem.{FileSystem}
 use Rattle.fv_base.specs.declared.flash.Polarity.{Polarity}
-use Rattle.fv_base.specs.declared.flash.FileSystem.TheVariants.{Ffs2, Ffs3}
+use Rattle.fv_base.specs.declared.flash.FileSystem.TheVariants.{Ffs3}
 use Rattle.fv_file.specs.Words.{attribute_bits, is_large, is_fixed, allows_large, file_checks, file_header_len_at, file_size_at, has_file_size}
 use Rattle.fv_file.specs.Words.{has_file_sum, payload_at, skips_data, attributes_at, file_header_len, file_size_in, file_sum_right, head_in}
 use Rattle.fv_file.specs.Words.{header_sum_of, pad_kind, IsFile, IsSound, StateOf, is_alive}
@@ -35,8 +35,7 @@ front_head st h y l =
     let e18 = front_byte 18 h y (omega (arith, n, l)) in
     let e19 = front_byte 19 h y (omega (arith, n, l)) in
     let name : take 16 (h ++ y) ≡ take 16 h = take-append-le 16 h y (omega (arith, n, l)) in
-    let size : file_size_in (is_large (slice_index h 19)) (h ++ y) ≡ file_size_in (is_large (slice_index h 19)) h =
-    front_size (is_large (slice_index h 19)) h y l in
+    let size : file_size_in (is_large (slice_index h 19)) (h ++ y) ≡ file_size_in (is_large (slice_index h 19)) h = front_size _ h y l in
     rw (e19, e16, e17, e18, name, size) refl
 
 -- ---- from the checks to the file
@@ -49,18 +48,14 @@ pub record FileAt (system : FileSystem) (polarity : Polarity) (state : FileState
   pub sound : is_alive state ≡ true → (slice_index r 18 == pad_kind) ≡ false → IsSound (head_in state r) (payload_at r)
 
 large_is : (system : FileSystem) (large : Bool) → (not large || allows_large system) ≡ true → large ≡ true → system ≡ Ffs3
-large_is Ffs2 true h k = cc
-large_is Ffs2 false h k = cc
-large_is Ffs3 large h k = refl
+large_is system large h k = grind (arith, common_steps) steps 150000
 
 zero_size : (large : Bool) (n : ℕ) → (not large || (n == 0)) ≡ true → large ≡ true → n ≡ 0
 zero_size true n h k = eqb-true n 0 h
 zero_size false n h k = cc
 
 looked_at : (alive pad t : Bool) → (not alive || pad || t) ≡ true → alive ≡ true → pad ≡ false → t ≡ true
-looked_at true false t h a p = h
-looked_at true true t h a p = cc
-looked_at false pad t h a p = cc
+looked_at alive pad t h a p = grind (arith, common_steps) steps 150000
 
 pub file_at : (s : FileSystem) (p : Polarity) (st : FileState) (at : ℕ) (r : List ℕ) → 24 ≤ length r → StateOf (slice_index r 23) p st
     → AllHold (file_checks s (is_alive st) at r) → FileAt s p st r
@@ -80,8 +75,7 @@ file_at s p st at r long state (allowed, (header_within, (header_zero, (size_fit
     let joined : h ++ drop n r ≡ r = take-append-drop n r in
     let fields : head_in st r ≡ head_in st h = ap (head_in st) (sym joined) ∙ front_head st h (drop n r) header_len in
     let size_field : le_at 20 3 h ≡ le_at 20 3 r = ap le (field-take 20 3 n r (omega (arith, low))) in
-    let split : take (file_size_at r) r ≡ h ++ payload_at r =
-    ap (λ (k : ℕ). take k r) (parts (file_size_at r) n least) ∙ take-add n (file_size_at r - n) r in
+    let split : take (file_size_at r) r ≡ h ++ payload_at r = ap (λ (k : ℕ). take k r) (parts _ n least) ∙ take-add n (file_size_at r - n) r in
     record {
       least = least;
       within = within;
@@ -103,8 +97,7 @@ file_at s p st at r long state (allowed, (header_within, (header_zero, (size_fit
       };
       sound = λ alive pad. record {
         kind = eqb-false (slice_index r 18) pad_kind pad;
-        moves = not-true _
-            (looked_at (is_alive st) (slice_index r 18 == pad_kind) (not (is_fixed (attributes_at r))) may_move alive pad);
+        moves = not-true _ (looked_at (is_alive st) (slice_index r 18 == pad_kind) (not (is_fixed (attributes_at r))) may_move alive pad);
         file_sum = looked_at (is_alive st) (slice_index r 18 == pad_kind) (has_file_sum r) data_zero alive pad;
       };
     }

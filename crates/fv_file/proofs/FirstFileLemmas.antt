@@ -1,11 +1,9 @@
 -- The bytes begin with a file exactly if one is read. The verdict on the bytes is the verdict of their checks. If all
 -- of them hold, the header at the start is the header of a file, and if a file begins the bytes, all of them hold.
-use Rattle.std.proofs.lemmas.Grind.{common_steps}
-use Rattle.std.proofs.Common.{arith}
-use Rattle.std.proofs.Common.{◌≡◌, ℕ, ◌∷◌, ◌++◌, ◌==◌, ◌⊎◌, if◌then◌else◌, List, length, take, drop, inl, inr, refl, sym, ap, ◌∙◌, subst, Bool, true}
-use Rattle.std.proofs.Common.{false, nat_le, slice_index, Option, None, Some, Result, Ok, Err, IfOk, IfErr, leb-true, le-leb, ltb-true}
+use Rattle.std.proofs.Common.{arith, ◌≡◌, ℕ, ◌∷◌, ◌++◌, ◌==◌, ◌⊎◌, if◌then◌else◌, List, length, take, drop, inl, inr, refl, sym, ap, ◌∙◌, subst, Bool}
+use Rattle.std.proofs.Common.{true, false, nat_le, slice_index, Option, None, Some, Result, Ok, Err, IfOk, IfErr, leb-true, le-leb, ltb-true}
 use Rattle.fv_base.proofs.Laws.{ltb-false, eqb-true, take-append-drop, AllHold, IsFirstFault, check, outer_fault, all_hold, first_is, none_faulty}
-use Rattle.fv_base.proofs.Laws.{not_at_most, not_less, verdict_err, verdict_none, verdict_ok}
+use Rattle.fv_base.proofs.Laws.{not_at_most, not_less, verdict_err, verdict_none, verdict_ok, common_steps}
 use Rattle.fv_base.specs.inner.Verdicts.{first_fault, verdict_by}
 use Rattle.fv_base.specs.declared.fault.Fault.{Fault}
 use Rattle.fv_base.specs.declared.flash.FileSystem.{FileSystem}
@@ -85,9 +83,8 @@ begins_only s p b head begins =
         subst (λ (t : Bool). AllHold (file_checks s t 0 r)) begins.alive (reads.checks 0 (λ alive. begins.content)),
       ),
     ) in
-    subst (λ (x : List ℕ). verify_verdict s p x ≡ Ok head) (sym begins.text)
-    (verify_is s p r ∙ verdict_none (first_fault (verify_checks s p r)) _ (none_faulty (verify_checks s p r) checks)
-    ∙ ap (λ (o : Option FileState). Ok (head_of o r)) state ∙ ap Ok reads.fields)
+    subst (λ (x : List ℕ). verify_verdict s p x ≡ Ok head) (sym begins.text) (verify_is s p r ∙ verdict_none (first_fault (verify_checks s p r)) _
+    (none_faulty (verify_checks s p r) checks) ∙ ap (λ (o : Option FileState). Ok (head_of o r)) state ∙ ap Ok reads.fields)
 
 -- ---- the result of the call
 
@@ -101,6 +98,4 @@ ok_found s p b (Err f) is = tt
 pub err_first : (s : FileSystem) (p : Polarity) (b : List ℕ) (r : Result FileHead Fault) → r ≡ verify_verdict s p b
     → IfErr r (IsFirstFault (verify_checks s p b))
 err_first s p b (Ok head) is = tt
-err_first s p b (Err f) is =
-    first_is (verify_checks s p b) f
-    (verdict_err (first_fault (verify_checks s p b)) (head_of (state_of p (slice_index b 23)) b) f (sym (is ∙ verify_is s p b)))
+err_first s p b (Err f) is = first_is (verify_checks s p b) f (verdict_err (first_fault (verify_checks s p b)) _ f (sym (is ∙ verify_is s p b)))

@@ -2,21 +2,20 @@
 -- 1. Without the mark, all bytes but two are the same, and they have the same sum.
 -- 2. So the header is right as before, and the data are checked as before.
 -- 3. So if the fault of a file is Fixed, the file without its mark is a cell, or its fault is FileSum.
-use Rattle.std.proofs.lemmas.Grind.{common_steps}
-use Rattle.std.proofs.Common.{◌≡◌, ◌≤◌, ◌<◌, ℕ, ◌+◌, ◌-◌, ◌%◌, [], ◌∷◌, ◌++◌, ◌≢◌, ◌||◌, ◌==◌, List, length, take, drop, refl, sym, ap}
-use Rattle.std.proofs.Common.{◌∙◌, subst, arith, Bool, true, false, not, slice_index, slice_set, sum, Some, Ok, Err}
-use Rattle.std.proofs.Common.{ltb-true, get_or-drop, get_or-set_same, get_or-set_other, drop-set-lt, length-set, length-drop}
-use Rattle.fv_base.proofs.Laws.{nat_tests, take-set-le, take_more, take_more_set, drop-take, sum_by-cons, sum_by_push, field, le}
-use Rattle.fv_base.proofs.Laws.{outer_fault, up_to_8, field-take, take-take_le}
+use Rattle.std.proofs.Common.{◌≡◌, ◌≤◌, ◌<◌, ℕ, ◌+◌, ◌-◌, ◌%◌, [], ◌∷◌, ◌++◌, ◌≢◌, ◌||◌, ◌==◌, List, length, take, drop, refl, sym, ap, ◌∙◌, subst}
+use Rattle.std.proofs.Common.{arith, Bool, true, false, not, slice_index, slice_set, sum, Some, Ok, Err, ltb-true, get_or-drop, get_or-set_same}
+use Rattle.std.proofs.Common.{get_or-set_other, drop-set-lt, length-set, length-drop}
+use Rattle.fv_base.proofs.Laws.{nat_tests, take-set-le, take_more, take_more_set, drop-take, sum_by-cons, sum_by_push, field, le, outer_fault}
+use Rattle.fv_base.proofs.Laws.{up_to_8, field-take, take-take_le, common_steps}
 use Rattle.std.proofs.lemmas.List.{drop-set-add}
 use Rattle.fv_base.specs.declared.fault.Fault.{Fault}
 use Rattle.fv_base.specs.declared.flash.FileSystem.{FileSystem}
 use Rattle.fv_base.specs.declared.flash.Polarity.{Polarity}
-use Rattle.fv_file.specs.Words.{CellForm, cell_len, attributes_at, state_at, is_fixed, is_large, is_summed, is_alive, file_header_len}
-use Rattle.fv_file.specs.Words.{file_size_in, file_header_len_at, file_size_at, payload_at, header_sum_of, allows_large, state_of}
-use Rattle.fv_file.specs.Words.{has_file_sum, skips_data, unmarked, pad_kind}
+use Rattle.fv_file.specs.Words.{CellForm, cell_len, attributes_at, state_at, is_fixed, is_large, is_summed, is_alive, file_header_len, file_size_in}
+use Rattle.fv_file.specs.Words.{file_header_len_at, file_size_at, payload_at, header_sum_of, allows_large, state_of, has_file_sum, skips_data}
+use Rattle.fv_file.specs.Words.{unmarked, pad_kind}
 use Rattle.fv_file.specs.declared.state.FileState.{FileState}
-use Rattle.fv_file.specs.inner.CellVerdicts.{file_verdict, cell_verdict, cell_with, cell_of, sort_of, stray, state_verdict, StateSort}
+use Rattle.fv_file.specs.inner.CellVerdicts.{file_verdict, cell_verdict, cell_with, sort_of}
 use Rattle.fv_file.proofs.FileVerdictLemmas.{IsHeaderRight, data_right, data_wrong, sizes}
 use Rattle.fv_file.proofs.UnmarkLemmas.{FixedThere, length-unmarked, fixed_least}
 use Rattle.fv_base.specs.declared.fault.FaultKind.TheVariants as kinds
@@ -29,16 +28,7 @@ drop-unmarked at b = grind (arith, common_steps, get_or-drop, drop-set-add)
 
 -- the five bytes from Type on sum to 4 less if the attributes are less by 4
 less_four : (d : List ℕ) → 2 ≤ length d → 4 ≤ slice_index d 1 → sum (take 5 (slice_set d 1 (slice_index d 1 - 4))) + 4 ≡ sum (take 5 d)
-less_four [] l h = absurd (omega (arith, l))
-less_four (x ∷ []) l h = absurd (omega (arith, l))
-less_four (x ∷ y ∷ ds) l h =
-    ap (λ (n : ℕ). n + 4) (two x (y - 4) (take 3 ds)) ∙ sums x y (sum (take 3 ds)) h ∙ sym (two x y (take 3 ds))
-  where
-    two : (x y : ℕ) (l : List ℕ) → sum (x ∷ y ∷ l) ≡ x + (y + sum l)
-    two x y l = sum_by-cons (λ (n : ℕ). n) x (y ∷ l) ∙ ap (λ (n : ℕ). x + n) (sum_by-cons (λ (n : ℕ). n) y l)
-
-    sums : (x y n : ℕ) → 4 ≤ y → x + (y - 4 + n) + 4 ≡ x + (y + n)
-    sums x y n h = omega (arith, h)
+less_four d l h = grind (arith, common_steps, sum_by-cons) steps 150000
 
 even_less : (a : ℕ) → 4 ≤ a → (a - 4) % 2 ≡ a % 2
 even_less a l = omega (arith, l)
@@ -57,8 +47,7 @@ module _ (r : List ℕ) (long : 24 ≤ length r) (fixed : is_fixed (attributes_a
   least = fixed_least (slice_index r 19) fixed
 
   other : (i : ℕ) → i ≢ 16 → i ≢ 19 → slice_index (unmarked 0 r) i ≡ slice_index r i
-  other i n m =
-      get_or-set_other (slice_set r 16 value) 19 i (slice_index r 19 - 4) 0 m ∙ get_or-set_other r 16 i value 0 n
+  other i n m = get_or-set_other (slice_set r 16 value) 19 i (slice_index r 19 - 4) 0 m ∙ get_or-set_other r 16 i value 0 n
 
   behind : (n : ℕ) → 19 < n → drop n (unmarked 0 r) ≡ drop n r
   behind n l = drop-set-lt n (slice_set r 16 value) 19 (slice_index r 19 - 4) l ∙ drop-set-lt n r 16 value (omega (arith, l))
@@ -81,9 +70,8 @@ module _ (r : List ℕ) (long : 24 ≤ length r) (fixed : is_fixed (attributes_a
 
   middle_sum : sum (field 18 5 (unmarked 0 r)) + 4 ≡ sum (field 18 5 r)
   middle_sum =
-      let around : drop 18 (unmarked 0 r) ≡ slice_set (drop 18 r) 1 (slice_index (drop 18 r) 1 - 4) =
-      rw (get_or-drop 18 r 1 0) (drop-set-add 18 (slice_set r 16 value) 1 (slice_index r 19 - 4)
-      ∙ ap (λ (l : List ℕ). slice_set l 1 (slice_index r 19 - 4)) (drop-set-lt 18 r 16 value (omega arith))) in
+      let around : drop 18 (unmarked 0 r) ≡ slice_set (drop 18 r) 1 (slice_index (drop 18 r) 1 - 4) = rw (get_or-drop 18 r 1 0) (drop-set-add 18
+      (slice_set r 16 _) 1 (slice_index r 19 - 4) ∙ ap (λ (l : List ℕ). slice_set l 1 (slice_index r 19 - 4)) (drop-set-lt 18 r _ _ (omega arith))) in
       ap (λ (l : List ℕ). sum (take 5 l) + 4) around
       ∙ less_four (drop 18 r) (omega (arith, long, length-drop 18 r)) (subst (λ (n : ℕ). 4 ≤ n) (sym (get_or-drop 18 r 1 0)) least)
 
@@ -100,9 +88,7 @@ module _ (r : List ℕ) (long : 24 ≤ length r) (fixed : is_fixed (attributes_a
   around_sum n =
       let part : (l : List ℕ) → header_sum_of (take (24 + n) l) ≡ (sum (take 17 l) + sum (field 18 5 l) + sum (take n (drop 24 l))) % 256 =
       λ l. rw (take-take_le 17 (24 + n) l (omega arith), field-take 18 5 (24 + n) l (omega arith), drop-take 24 n l) refl in
-      part (unmarked 0 r)
-      ∙ omega (arith, front_sum, middle_sum, ap (λ (l : List ℕ). sum (take n l)) (behind 24 (omega arith)))
-      ∙ sym (part r)
+      part (unmarked 0 r) ∙ omega (arith, front_sum, middle_sum, ap (λ (l : List ℕ). sum (take n l)) (behind 24 (omega arith))) ∙ sym (part r)
 
   sum_kept : (t : Bool) → header_sum_of (take (file_header_len t) (unmarked 0 r)) ≡ header_sum_of (take (file_header_len t) r)
   sum_kept false = around_sum 0
@@ -119,8 +105,7 @@ module _ (r : List ℕ) (long : 24 ≤ length r) (fixed : is_fixed (attributes_a
   right_still s h = record {
     form = ap (λ (t : Bool). not t || allows_large s) large ∙ h.form;
     whole = rw (large, length_same) h.whole;
-    sum = ap (λ (t : Bool). header_sum_of (take (file_header_len t) (unmarked 0 r)) == 0) large
-        ∙ ap (λ (n : ℕ). n == 0) (sum_kept (is_large (attributes_at r))) ∙ h.sum;
+    sum = ap (λ (t : Bool). header_sum_of (take (file_header_len t) (unmarked 0 r)) == 0) large ∙ ap (λ (n : ℕ). n == 0) (sum_kept _) ∙ h.sum;
     size = rw (large, size_kept (is_large (attributes_at r)), length_same, size_kept false) h.size;
   }
 

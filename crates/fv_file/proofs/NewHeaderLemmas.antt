@@ -72,11 +72,7 @@ rejoined : (a b c d e : List ℕ) → a ++ b ++ c ++ d ++ e ≡ a ++ (b ++ (c ++
 rejoined a b c d e = simp append_assoc
 
 header_parts : (h : FileHead) (large : Bool) (state : ℕ) → spelled h large state ≡ bytes_of h.name ++ rest_of h large state
-header_parts h true state =
-    rejoined (bytes_of h.name) (h.header_sum ∷ h.file_sum ∷ h.kind ∷ attribute_bits h.attributes ∷ []) (le_bytes 3 0) (state ∷ [])
-    (le_bytes 8 h.size)
-header_parts h false state =
-    rejoined (bytes_of h.name) (h.header_sum ∷ h.file_sum ∷ h.kind ∷ attribute_bits h.attributes ∷ []) (le_bytes 3 h.size) (state ∷ []) []
+header_parts h large state = grind (arith, common_steps, rejoined) steps 150000
 
 -- byte 16 + k after a name of 16 bytes is byte k of the bytes after the name
 at_behind : (k : ℕ) (name rest : List ℕ) → length name ≡ 16 → slice_index (name ++ rest) (16 + k) ≡ slice_index rest k
@@ -129,10 +125,8 @@ complement_small n = omega arith
 -- the size of a written header is read again
 size_is : (h : FileHead) (large : Bool) (state : ℕ) → length (bytes_of h.name) ≡ 16 → h.size < size_limit large
     → file_size_in large (bytes_of h.name ++ rest_of h large state) ≡ h.size
-size_is h true state long small =
-    ap (λ (xs : List ℕ). le (take 8 xs)) (drop_behind 8 (bytes_of h.name) (rest_of h true state) long) ∙ le-le_bytes 8 h.size small
-size_is h false state long small =
-    ap (λ (xs : List ℕ). le (take 3 xs)) (drop_behind 4 (bytes_of h.name) (rest_of h false state) long) ∙ le-le_bytes 3 h.size small
+size_is h true state long small = ap (λ (xs : List ℕ). le (take 8 xs)) (drop_behind 8 (bytes_of h.name) _ long) ∙ le-le_bytes 8 h.size small
+size_is h false state long small = ap (λ (xs : List ℕ). le (take 3 xs)) (drop_behind 4 (bytes_of h.name) _ long) ∙ le-le_bytes 3 h.size small
 
 zero_size : (h : FileHead) (large : Bool) (state : ℕ) → length (bytes_of h.name) ≡ 16 → large ≡ true
     → le_at 20 3 (bytes_of h.name ++ rest_of h large state) ≡ 0
@@ -173,8 +167,7 @@ written_with polarity h large long is small right bytes = grind (arith, common_s
 
 -- the header checksum of a header is byte 16
 sum_at : (h : FileHead) (large : Bool) (state : ℕ) → length (bytes_of h.name) ≡ 16 → slice_index (spelled h large state) 16 ≡ h.header_sum
-sum_at h large state long =
-    ap (λ (b : List ℕ). slice_index b 16) (header_parts h large state) ∙ at_behind 0 (bytes_of h.name) (rest_of h large state) long
+sum_at h large state long = ap (λ (b : List ℕ). slice_index b 16) (header_parts h large state) ∙ at_behind 0 (bytes_of h.name) _ long
 
 -- the bytes of a header with the right header checksum, which are read again as its fields
 abbrev right_bytes : FileHead → Bool → ℕ → List ℕ
@@ -262,9 +255,8 @@ parts_of : (b : List ℕ) → IsBytes b → 24 ≤ length b
     → b ≡ take 16 b
     ++ behind_name (slice_index b 16) (slice_index b 17) (slice_index b 18) (slice_index b 19) (le_at 20 3 b) (slice_index b 23) (drop 24 b)
 parts_of b small least =
-    let size : drop 20 b ≡ le_bytes 3 (le_at 20 3 b) ++ drop 23 b =
-    sym (take-append-drop 3 (drop 20 b)) ∙ (ap (λ (xs : List ℕ). field 20 3 b ++ xs) (drop-drop 3 20 b)
-    ∙ ap (λ (xs : List ℕ). xs ++ drop 23 b) (sym (field_is 20 3 b small (omega (arith, least))))) in
+    let size : drop 20 b ≡ le_bytes 3 (le_at 20 3 b) ++ drop 23 b = sym (take-append-drop 3 (drop 20 b)) ∙ (ap (λ (xs : List ℕ). field 20 3 b ++ xs)
+    (drop-drop 3 20 b) ∙ ap (λ (xs : List ℕ). xs ++ drop 23 b) (sym (field_is 20 3 b small (omega (arith, least))))) in
     let more : (i : ℕ) → i ≤ 23 → drop i b ≡ slice_index b i ∷ drop (i + 1) b = λ i low. drop_more b i 0 (omega (arith, least, low)) in
     rw (more 16 (omega arith), more 17 (omega arith), more 18 (omega arith), more 19 (omega arith), size, more 23 (omega arith))
     at (sym (take-append-drop 16 b))

@@ -51,5 +51,4 @@ module _ (s : FileSystem) (p : Polarity) (first : ℕ) (body : List ℕ) where
   pub one_cell_fault : (f g : Fault) → IsFirstCellFault s p first body f → IsFirstCellFault s p first body g → f ≡ g
   one_cell_fault f g x y =
       let at : x.at ≡ y.at = same_place x.at y.at (cell_later f g x y) (cell_later g f y x) in
-      one_fault (cell_checks s p (first + y.at) (drop y.at body)) f g
-      (subst (λ (k : ℕ). IsFirstFault (cell_checks s p (first + k) (drop k body)) f) at x.fails) y.fails
+      one_fault _ f g (subst (λ (k : ℕ). IsFirstFault (cell_checks s p (first + k) (drop k body)) f) at x.fails) y.fails

@@ -1,6 +1,7 @@
 -- The sort of a state decides which checks a cell has, whether a file of this state is valid, and whether its header is
 -- complete. Most other modules distinguish only the four sorts, not the seven states.
-use Rattle.std.proofs.Common.{◌≡◌, ℕ, ◌⊎◌, List, inl, inr, refl, false, true, Some}
+use Rattle.std.proofs.lemmas.Grind.{common_steps}
+use Rattle.std.proofs.Common.{arith, ◌≡◌, ℕ, ◌⊎◌, List, false, true, Some}
 use Rattle.fv_base.specs.declared.flash.FileSystem.{FileSystem}
 use Rattle.fv_file.specs.Words.{state_checks, is_alive}
 use Rattle.fv_file.specs.declared.state.FileState.{FileState}
@@ -20,10 +21,4 @@ pub record Sorted (st : FileState) : Type 0 where
   pub checks : (s : FileSystem) (at : ℕ) (r : List ℕ) → state_checks (Some st) s at r ≡ sort_checks (sort_of st) s (is_alive st) at r
 
 pub sorted : (st : FileState) → Sorted st
-sorted states.Free = record { states = refl; valid = λ e. cc; finished = λ e. cc; checks = λ s at r. refl }
-sorted states.Construction = record { states = inl refl; valid = λ e. cc; finished = λ e. cc; checks = λ s at r. refl }
-sorted states.HeaderInvalid = record { states = inr refl; valid = λ e. cc; finished = λ e. cc; checks = λ s at r. refl }
-sorted states.HeaderValid = record { states = inl refl; valid = λ e. cc; finished = λ e. cc; checks = λ s at r. refl }
-sorted states.Deleted = record { states = inr refl; valid = λ e. cc; finished = λ e. cc; checks = λ s at r. refl }
-sorted states.DataValid = record { states = refl; valid = λ e. refl; finished = λ e. refl; checks = λ s at r. refl }
-sorted states.Marked = record { states = refl; valid = λ e. refl; finished = λ e. refl; checks = λ s at r. refl }
+sorted st = grind (arith, common_steps) steps 150000

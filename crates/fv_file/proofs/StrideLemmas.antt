@@ -4,10 +4,9 @@
 --    (`file_stride`, `stub_stride`, `cell_stride`).
 -- 2. So one step is one cell (`one_less`), and the count goes up by one (`one_counted`).
 -- 3. At the end one free cell is left if any bytes are left (`free_left`), so all cells are counted (`all_counted`).
-use Rattle.std.proofs.lemmas.Grind.{common_steps}
 use Rattle.std.proofs.Common.{◌≡◌, ◌≤◌, ◌<◌, ℕ, ◌+◌, [], ◌∷◌, ◌++◌, ◌==◌, ◌≢◌, ◌⊎◌, List, length, drop, inl, inr, refl, sym, ap, ◌∙◌, subst, arith}
 use Rattle.std.proofs.Common.{Bool, true, false, length-append, append_assoc, append-nil, not, nat_le, slice_index, Option, Some, leb-true, eq-eqb}
-use Rattle.fv_base.proofs.Laws.{eqb-true, drop_at, eqb-false, all_hold, and_split, erased_byte, up_to_8}
+use Rattle.fv_base.proofs.Laws.{eqb-true, drop_at, eqb-false, all_hold, and_split, erased_byte, up_to_8, common_steps}
 use Rattle.fv_base.specs.declared.flash.FileSystem.{FileSystem}
 use Rattle.fv_base.specs.declared.flash.Polarity.{Polarity}
 use Rattle.fv_file.specs.Words.{CellForm, Valid, Pad, Dead, Stub, Free, offset_of, is_free, IsFilled, IsCell, Tiles, is_large, cell_checks}

@@ -33,10 +33,8 @@ filled_payload : (s : FileSystem) (p : Polarity) (head : FileHead) (payload x re
 filled_payload s p head payload x rest volume at place e filled o cell_len made =
     let n : ℕ = head.size - head.header_len in
     let inside : head.header_len + n ≤ length x = omega (arith, made, cell_len) in
-    payload_behind s p head payload x filled
-    ∙ (sym (field-append_front head.header_len n x rest inside)
-    ∙ ap (take n) (ap (drop head.header_len) (sym e)
-    ∙ (drop-drop head.header_len at volume ∙ ap (λ k. drop (k + head.header_len) volume) (sym o))))
+    payload_behind s p head payload x filled ∙ (sym (field-append_front head.header_len n x rest inside) ∙ ap (take n)
+    (ap (drop head.header_len) (sym e) ∙ (drop-drop head.header_len at volume ∙ ap (λ k. drop (k + head.header_len) volume) (sym o))))
 
 cell_payload : (s : FileSystem) (p : Polarity) (c : CellForm) (x rest volume : List ℕ) (at : ℕ) → drop at volume ≡ x ++ rest
     → IsCell s p c x → offset_of c ≡ at → IsPayloadIn volume c
@@ -76,8 +74,7 @@ IsRead system limit _ = Unit {0}
 
 one_read : (system : FileSystem) (p : Polarity) (limit : ℕ) (c : CellForm) (x : List ℕ) → IsBytes x → length x ≤ limit
     → IsCell system p c x → IsRead system limit c
-one_read system p limit (Valid at head payload) x small most is =
-    cell_read_in system p limit at head payload x small most is
+one_read system p limit (Valid at head payload) x small most is = cell_read_in system p limit at head payload x small most is
 one_read system p limit (Pad at head payload) x small most is = tt
 one_read system p limit (Dead at len state) x small most is = tt
 one_read system p limit (Stub at len) x small most is = tt

@@ -5,11 +5,10 @@
 -- 3. The marks are removed one after another, and cells tile the body up to each place.
 -- 4. There is one way to remove all marks (`one_unmarked`).
 -- 5. If all marks can be removed, a cell begins at each place after the mark there was removed (`unmarked_cell`).
-use Rattle.std.proofs.lemmas.Grind.{common_steps}
 use Rattle.std.proofs.Common.{◌≡◌, ◌≤◌, ◌<◌, ℕ, ◌+◌, ◌-◌, ◌%◌, [], ◌∷◌, ◌++◌, ◌≢◌, ◌⊎◌, ◌&&◌, ◌==◌, List, length, take, drop, refl, sym, ap}
 use Rattle.std.proofs.Common.{◌∙◌, subst, arith, Bool, true, false, length-drop, inl, inr, not, nat_le, slice_index, slice_set, Option, None}
 use Rattle.std.proofs.Common.{Some, Ok, Err, Result, leb-true, ltb-false, eq-eqb, get_or-drop, get_or-set_same, get_or-set_other, length-set}
-use Rattle.fv_base.proofs.Laws.{length-take-le, take-append-drop, nat_tests, take-set-le, First, outer_fault}
+use Rattle.fv_base.proofs.Laws.{length-take-le, take-append-drop, nat_tests, take-set-le, First, outer_fault, common_steps}
 use Rattle.fv_base.proofs.Laws.{AllAre, erased_byte, and_split, up_is_not_down}
 use Rattle.fv_base.specs.inner.Verdicts.{first_fault}
 use Rattle.fv_base.specs.declared.fault.Fault.{Fault}
@@ -43,8 +42,7 @@ pub record FixedThere (s : FileSystem) (p : Polarity) (at : ℕ) (r : List ℕ) 
 pub fixed_there : (s : FileSystem) (p : Polarity) (at : ℕ) (r : List ℕ) (f : Fault) → cell_verdict s p at r ≡ Err f → f.kind ≡ kinds.Fixed
     → FixedThere s p at r f
 fixed_there s p at r f is kind =
-    let front = held (nat_le 24 (length r) && not (bits_of p (state_at r) == 0)) (stray p at r)
-    (first_fault (state_checks (state_of p (state_at r)) s at r)) f (verdict_fails s p at r f is) kind (λ k. cc) in
+    let front = held (nat_le 24 (length r) && not (bits_of p (state_at r) == 0)) (stray p at r) _ f (verdict_fails s p at r f is) kind (λ k. cc) in
     let both = and_split (nat_le 24 (length r)) (not (bits_of p (state_at r) == 0)) front.0 in
     in_state (leb-true 24 (length r) both.0) both.1 (state_of p (state_at r)) refl front.1
   where
@@ -120,8 +118,7 @@ pub record Unmarked (s : FileSystem) (p : Polarity) (first : ℕ) (old body : Li
 
 -- at the start, no mark is removed
 pub unmarked_begins : (s : FileSystem) (p : Polarity) (first : ℕ) (body : List ℕ) → Unmarked s p first body body 0
-unmarked_begins s p first body =
-    record { places = []; marks = refl; same_length = refl; cells = []; upto = upto_begins s p first body }
+unmarked_begins s p first body = record { places = []; marks = refl; same_length = refl; cells = []; upto = upto_begins s p first body }
 
 -- the body is unchanged, or the file at the place is fixed, and its mark is removed
 abbrev pub MarkStep : FileSystem → Polarity → ℕ → List ℕ → List ℕ → ℕ → Type 0
@@ -135,19 +132,18 @@ pub one_less : (s : FileSystem) (p : Polarity) (first : ℕ) (old body new : Lis
     → MarkStep s p first body new at
     → Unmarked s p first old new at
 one_less s p first old body new at k used (inl same) = subst (λ (b : List ℕ). Unmarked s p first old b at) (sym same) k
-one_less s p first old body new at k used (inr (is, less)) =
-    subst (λ (b : List ℕ). Unmarked s p first old b at) (sym less) (record {
-      places = k.places ++ at ∷ [];
-      marks = marks_more s p first k.places at old body k.marks (first_here s p first body k.cells at k.upto _ used is);
-      same_length = length-unmarked at body ∙ k.same_length;
-      cells = k.cells;
-      upto = record {
-        tiled = subst (λ (b : List ℕ). Tiles s p first k.cells b) (sym (front_unmarked at body)) k.upto.tiled;
-        none_free = k.upto.none_free;
-        multiple = k.upto.multiple;
-        inside = subst (λ (n : ℕ). at ≤ n) (sym (length-unmarked at body)) k.upto.inside;
-      };
-    })
+one_less s p first old body new at k used (inr (is, less)) = subst (λ (b : List ℕ). Unmarked s p first old b at) (sym less) (record {
+  places = k.places ++ at ∷ [];
+  marks = marks_more s p first k.places at old body k.marks (first_here s p first body k.cells at k.upto _ used is);
+  same_length = length-unmarked at body ∙ k.same_length;
+  cells = k.cells;
+  upto = record {
+    tiled = subst (λ (b : List ℕ). Tiles s p first k.cells b) (sym (front_unmarked at body)) k.upto.tiled;
+    none_free = k.upto.none_free;
+    multiple = k.upto.multiple;
+    inside = subst (λ (n : ℕ). at ≤ n) (sym (length-unmarked at body)) k.upto.inside;
+  };
+})
 
 -- the fault at the place, after its mark was removed, is the first fault of the body
 pub stopped : (s : FileSystem) (p : Polarity) (first : ℕ) (old body new : List ℕ) (at : ℕ) (f : Fault) → Unmarked s p first old body at
@@ -193,8 +189,7 @@ tiled_unfixed s p first b cs tiles f here kind = none_after First s p first b f 
 -- a body has only one first fault: if it is not Fixed, no first fault of the body is Fixed
 pub fault_unfixed : (s : FileSystem) (p : Polarity) (first : ℕ) (b : List ℕ) (f : Fault) → IsFirstCellFault s p first b f
     → f.kind ≢ kinds.Fixed → NoneFixed s p first b
-fault_unfixed s p first b f here other g there kind =
-    other (ap (λ (x : Fault). x.kind) (one_cell_fault s p first b f g here there) ∙ kind)
+fault_unfixed s p first b f here other g there kind = other (ap (λ (x : Fault). x.kind) (one_cell_fault s p first b f g here there) ∙ kind)
 
 one_place : (first p q : ℕ) → outer_fault kinds.Fixed (first + p + 19) ≡ outer_fault kinds.Fixed (first + q + 19) → p ≡ q
 one_place first p q e = omega (arith, ap (λ (f : Fault). f.place.offset) e)
@@ -211,8 +206,7 @@ one_unmarked s p first (q ∷ qs) [] b o x marks end same end_x =
     (subst (λ (y : List ℕ). IsFirstCellFault s p first y (outer_fault kinds.Fixed (first + q + 19))) (sym same) marks.0) refl)
 one_unmarked s p first (q ∷ qs) (r ∷ rs) b o x marks end other end_x =
     let same : r ≡ q = one_place first r q (one_cell_fault s p first b _ _ other.0 marks.0) in
-    one_unmarked s p first qs rs (unmarked q b) o x marks.1 end
-    (subst (λ (n : ℕ). Unmarks s p first rs (unmarked n b) x) same other.1) end_x
+    one_unmarked s p first qs rs (unmarked q b) o x marks.1 end (subst (λ (n : ℕ). Unmarks s p first rs (unmarked n b) x) same other.1) end_x
 
 -- ---- 5. a body whose marks can be taken away
 

@@ -9,7 +9,7 @@
 -- 4. A reader counts the entries (`entry_counted`, `entries_counted`) and takes them one by one (`more_entries`,
 --    `end_entries`), and the extended header that it has read is an extended header (`ext_from`).
 use Rattle.std.proofs.Common.{◌≡◌, ◌≤◌, ◌<◌, ℕ, ◌+◌, ◌-◌, [], ◌∷◌, ◌++◌, rules, ◌==◌, ◌&&◌, ◌||◌, if◌then◌else◌, zero, suc, List, length, take, drop}
-use Rattle.std.proofs.Common.{refl, sym, ap, ◌∙◌, subst, arith, inl, inr, Bool, true, false, length-append, length-drop, append_assoc, append-nil}
+use Rattle.std.proofs.Common.{refl, sym, ap, ◌∙◌, subst, arith, inl, Bool, true, false, length-append, length-drop, append_assoc, append-nil}
 use Rattle.std.proofs.Common.{drop-drop, nat_le, Option, Some, None, take_at, drop_at, take-append-drop, length-take-le, take_all, leb-true, le-leb}
 use Rattle.fv_base.proofs.Laws.{eqb-true, common_steps, drop-take, nat_tests, bytes_of, ext_limit, le, field, le_at, up_to_8, and_join, and_split}
 use Rattle.fv_base.proofs.Laws.{field-append_front, field-take}
@@ -50,9 +50,7 @@ begins b head payload rest text four size =
 
 -- bytes that begin with an entry are not bytes that begin with no entry
 no_entry : (b head payload rest : List ℕ) → Begins b head payload rest → BeginNoEntry b → ⊥
-no_entry b head payload rest is (inl short) = absurd (omega (arith, short, is.long))
-no_entry b head payload rest is (inr (inl low)) = absurd (omega (arith, low, is.size))
-no_entry b head payload rest is (inr (inr high)) = absurd (omega (arith, high, is.size, is.long))
+no_entry b head payload rest is none = grind (arith, common_steps)
 
 pair_is : (e f : ℕ × List ℕ) → e.0 ≡ f.0 → e.1 ≡ f.1 → e ≡ f
 pair_is e f p q = ap (λ (n : ℕ). (n, e.1)) p ∙ ap (λ (xs : List ℕ). (f.0, xs)) q

@@ -6,14 +6,13 @@
 -- 3. If bytes begin with a volume, the checks hold, and the verdict is its extent (`front_only`).
 -- 4. The fields of the volume's header have the values that are read at their offsets (`front_fields`).
 use Rattle.std.proofs.Common.{◌≡◌, ◌≤◌, ℕ, ◌+◌, ◌-◌, ◌%◌, [], ◌∷◌, ◌++◌, rules, ◌==◌, if◌then◌else◌, List, length, take, refl, sym, ap, ◌∙◌, subst}
-use Rattle.std.proofs.Common.{arith, true, false, nat_le, is_some, Option, None, Some, Ok, Err, slice_index, length-take-le, get_or-take, leb-true}
-use Rattle.fv_base.proofs.Laws.{le-leb, eqb-true, eq-eqb, common_steps, bytes_eq-Decides, bytes_eq, AllHold, outer_fault, header_limit, IsBytes, le}
+use Rattle.std.proofs.Common.{arith, true, nat_le, is_some, Option, None, Some, Ok, Err, slice_index, length-take-le, get_or-take, leb-true}
+use Rattle.fv_base.proofs.Laws.{le-leb, eqb-true, eq-eqb, common_steps, bytes_eq-Decides, AllHold, outer_fault, header_limit, IsBytes, le}
 use Rattle.fv_base.proofs.Laws.{field, le_at, up_to_8, all_hold, and_join, and_split, bytes_take, field-take, none_faulty}
 use Rattle.fv_base.specs.declared.fault.Fault.{Fault}
 use Rattle.fv_base.specs.declared.flash.FileSystem.{FileSystem}
 use Rattle.fv_base.specs.declared.flash.Polarity.{Polarity}
 use Rattle.fv_base.specs.inner.Verdicts.{first_fault}
-use Rattle.fv_base.specs.declared.flash.FileSystem.TheVariants.{Ffs2, Ffs3}
 use Rattle.fv_head.specs.Words.{Extension, HeadFields, IsHead, BeginsVolume, system_guid, has_signature, is_header_len, has_sum, has_block_map}
 use Rattle.fv_head.specs.Words.{is_volume_len, head_checks, is_zero_pair, blocks_at, makes_up, file_system_at, header_len_at, volume_len_at}
 use Rattle.fv_head.specs.Words.{ext_offset_at, ext_size_at, has_ext, polarity_of}
@@ -37,8 +36,7 @@ fields_of fs x b = record {
 
 pub verdict_ok : (f : Option Fault) (b : List ℕ) (e : Extent) → extent_verdict f b ≡ Ok e
     → (f ≡ None) × (extent_or (file_system_at b) (outer_fault kinds.FileSystem 16) b ≡ Ok e)
-verdict_ok None b e h = (refl, h)
-verdict_ok (Some f) b e h = cc
+verdict_ok f b e h = grind (arith, common_steps)
 
 pub extent_ok : (o : Option FileSystem) (f : Fault) (b : List ℕ) (e : Extent) → extent_or o f b ≡ Ok e
     → (fs : FileSystem) × (o ≡ Some fs) × (extent_at fs b ≡ e)
@@ -47,8 +45,7 @@ extent_ok (Some fs) f b e h = (fs, refl, cc)
 
 -- the verdict is the first fault or, if all checks hold, the extent for the file system that is found
 pub verdict_err : (o : Option Fault) (b : List ℕ) (f : Fault) → o ≡ Some f → extent_verdict o b ≡ Err f
-verdict_err None b f is = cc
-verdict_err (Some g) b f is = cc
+verdict_err o b f is = grind (arith, common_steps)
 
 pub verdict_extent : (b : List ℕ) (fs : FileSystem) → first_fault (head_checks b) ≡ None → file_system_at b ≡ Some fs
     → head_verdict b ≡ Ok (extent_at fs b)
@@ -132,10 +129,7 @@ guid_found b fs is = search (rules, bytes_eq-Decides)
 
 -- a file system whose GUID is at offset 16 is found
 guid_finds : (b : List ℕ) (fs : FileSystem) → field 16 16 b ≡ system_guid fs → file_system_at b ≡ Some fs
-guid_finds b Ffs2 is = rw ((bytes_eq-Decides (field 16 16 b) (system_guid Ffs2)).1 is) refl
-guid_finds b Ffs3 is =
-    let two : bytes_eq (field 16 16 b) (system_guid Ffs2) ≡ false = rw is refl in
-    rw (two, (bytes_eq-Decides (field 16 16 b) (system_guid Ffs3)).1 is) refl
+guid_finds b fs is = grind (arith, common_steps, bytes_eq-Decides)
 
 -- bytes without a fault begin with a volume
 pub front_found : (b : List ℕ) (e : Extent) → IsBytes b → head_verdict b ≡ Ok e

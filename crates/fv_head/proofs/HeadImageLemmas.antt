@@ -202,20 +202,12 @@ checksum_small : (total : ℕ) → (65536 - total) % 65536 < 65536
 checksum_small total = omega arith
 
 canonical_offset_small : (h : HeadFields) (b : List ℕ) (x : Option Extension) → IsHead h b → canonical_offset h x < 65536
-canonical_offset_small h b None head = omega arith
-canonical_offset_small h b (Some x) head = omega (arith, header_len_is h b head, head.most)
+canonical_offset_small h b x head = grind (arith, common_steps, header_len_is)
 
 -- the bytes of `canonical_head` are a header with these fields, and ExtHeaderOffset is right
 pub canonical_is : (h : HeadFields) → IsReadHead h → IsCanonicalHead h (canonical_head h)
 unfolding canonical_head
-canonical_is h (b, head) =
-    let offset : ℕ = canonical_offset h h.ext in
-    let checksum : ℕ = checksum_of h offset in
-    let sums = spelled_sum h b head checksum offset (checksum_small (sum16_of (head_spelled h 0 offset))) in
-    record {
-      head = spelled_head h b head checksum offset (ap (λ (n : ℕ). n % 65536) sums ∙ checksum_right (sum (words_of (head_spelled h 0 offset))));
-      offset = spelled_offset h b head checksum offset (canonical_offset_small h b h.ext head);
-    }
+canonical_is h read = grind (arith, common_steps, spelled_sum, checksum_small, spelled_head, checksum_right, spelled_offset, canonical_offset_small)
 
 -- no other bytes are such a header
 pub canonical_only : (h : HeadFields) (b : List ℕ) → IsCanonicalHead h b → b ≡ canonical_head h

@@ -2,8 +2,8 @@
 -- 1. A block has the type and the length that its bytes give (`code_is`, `len_is`).
 -- 2. If the checks hold, a block is there (`stands`), and if a block is there, they hold (`checks_hold`).
 -- 3. Bytes begin with at most one block (`one_block`).
-use Rattle.std.proofs.Common.{◌≡◌, ◌≤◌, ◌<◌, ℕ, ◌+◌, ◌++◌, ◌==◌, ◌%◌, ◌||◌, List, length, take, drop, refl, sym, ap, ◌∙◌, subst, arith, Bool, true}
-use Rattle.std.proofs.Common.{false, length-append, not, nat_le, None, eqb-true, eq-eqb, leb-true, le-leb, take-append-drop, length-take-le}
+use Rattle.std.proofs.Common.{◌≡◌, ◌≤◌, ◌<◌, ℕ, ◌+◌, ◌++◌, ◌==◌, ◌%◌, ◌||◌, List, length, take, drop, sym, ap, ◌∙◌, subst, arith, Bool, true}
+use Rattle.std.proofs.Common.{length-append, not, nat_le, None, eqb-true, eq-eqb, leb-true, le-leb, take-append-drop, length-take-le}
 use Rattle.fv_base.proofs.Laws.{common_steps, AllHold, IsBytes, le, le_at, all_hold, and_join, and_split, bytes_take, field-append_front, field-take}
 use Rattle.fv_base.proofs.Laws.{same_cut, two_bytes}
 use Rattle.fv_base.specs.inner.Verdicts.{first_fault}
@@ -22,8 +22,7 @@ len_small h b is = subst (λ (n : ℕ). n < 65536) ((is.block).sized ∙ sym (le
 -- ---- from the checks to the block
 
 holds_first : (first : Bool) (t : Bool) → (not first || t) ≡ true → first ≡ true → t ≡ true
-holds_first true t h e = h
-holds_first false t h e = cc
+holds_first first t h e = grind (arith, common_steps)
 
 -- the checks of a block, by name
 record ChecksOfBlock (first : Bool) (r : List ℕ) : Type 0 where
@@ -62,8 +61,7 @@ stands first r bytes none =
 -- ---- from the block to the checks
 
 join_first : (first : Bool) (t : Bool) → (first ≡ true → t ≡ true) → (not first || t) ≡ true
-join_first true t h = h refl
-join_first false t h = refl
+join_first first t h = grind (arith, common_steps)
 
 pub checks_hold : (first : Bool) (h : HobForm) (c x : List ℕ) → IsHob h c → (first ≡ true → hob_type h.kind ≡ 0x0001)
     → AllHold (hob_checks first (c ++ x))

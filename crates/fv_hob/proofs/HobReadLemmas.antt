@@ -27,8 +27,7 @@ pub record HobsKept (b : List ℕ) (items : List HobForm) (at : ℕ) : Type 0 wh
 
 begins_more : (items : List HobForm) (h : HobForm) → BeginWithTable items → ((length items == 0) ≡ true → hob_type h.kind ≡ 0x0001)
     → BeginWithTable (items ++ h ∷ [])
-begins_more [] h begins first = first refl
-begins_more (g ∷ gs) h begins first = begins
+begins_more gs h begins first = grind (arith, common_steps)
 
 -- the blocks with one more block make up the bytes up to its end
 pub record OneMoreHob (b : List ℕ) (items : List HobForm) (h : HobForm) (at n : ℕ) : Type 0 where

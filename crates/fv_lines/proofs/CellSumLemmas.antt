@@ -1,8 +1,8 @@
 -- The cells of a volume fit into it, each of their bytes is counted once, and an input that is rejected has no cells.
-use Rattle.std.proofs.Common.{◌≡◌, ◌≤◌, ◌<◌, ◌+◌, ◌^◌, ℕ, [], ◌∷◌, ◌++◌, ◌⊎◌, ◌≢◌, ◌∙◌, zero, suc, List, length, take, drop, get_or, refl, sym, ap}
+use Rattle.std.proofs.Common.{◌≡◌, ◌≤◌, ◌<◌, ◌+◌, ◌^◌, ℕ, [], ◌∷◌, ◌++◌, ◌⊎◌, ◌≢◌, ◌∙◌, zero, suc, List, length, take, drop, get_or, refl, sym, ap, codes}
 use Rattle.fv_base.proofs.Laws.{subst, arith, length-append, length-drop, map, length-take-le, take-append-drop, AllByRecursion, map-append, map_more}
 use Rattle.fv_base.proofs.Laws.{sum_by-append, sum_by-cons, sum_by_push, or_more, want_known, out_of_memory, volume_limit}
-use Rattle.std.specs.List.{sum_by}
+use Rattle.std.specs.List.{flat_map, sum_by}
 use Rattle.fv_base.specs.declared.fault.Fault.{Fault}
 use Rattle.fv_base.specs.declared.flash.FileSystem.{FileSystem}
 use Rattle.fv_base.specs.declared.flash.Polarity.{Polarity}
@@ -10,7 +10,7 @@ use Rattle.fv_file.proofs.Laws.{cell_span}
 use Rattle.fv_file.specs.Words.{CellForm, Valid, Pad, Dead, Stub, Free, Tiles, CellsWithin, cell_len}
 use Rattle.fv_head.specs.declared.extent.Extent.{Extent}
 use Rattle.fv_tree.specs.Words.{BeginsTiled, NotTiled}
-use Rattle.fv_lines.specs.Words.{CellsText, cell_lines, dead_length, file_length, filler_length, free_length, pad_length, sums_of}
+use Rattle.fv_lines.specs.Words.{CellsText, cell_line, lengths_of, span_line, sums_line, sums_of}
 use Rattle.fv_lines.specs.inner.LineRuns.{FitTogether, Fits, counted, sums_with}
 
 -- ---- sums
@@ -18,11 +18,11 @@ use Rattle.fv_lines.specs.inner.LineRuns.{FitTogether, Fits, counted, sums_with}
 pushed : (cs : List CellForm) (c : CellForm) → sums_of (cs ++ c ∷ []) ≡ sums_with (sums_of cs) c
 pushed cs c =
     rw (
-      sum_by_push file_length cs c,
-      sum_by_push pad_length cs c,
-      sum_by_push dead_length cs c,
-      sum_by_push filler_length cs c,
-      sum_by_push free_length cs c,
+      sum_by_push (λ x. (lengths_of x).files) cs c,
+      sum_by_push (λ x. (lengths_of x).pads) cs c,
+      sum_by_push (λ x. (lengths_of x).deleted) cs c,
+      sum_by_push (λ x. (lengths_of x).filler) cs c,
+      sum_by_push (λ x. (lengths_of x).free) cs c,
     ) refl
 
 -- the sums of the first cells and one more cell, if each item has the form of a cell
@@ -30,7 +30,7 @@ pub sums_next : {X : Type 0} (see : X → CellForm) (xs : List X) (i : ℕ) (d :
     → sums_of (map see (take (i + 1) xs)) ≡ sums_with (sums_of (map see (take i xs))) (see (get_or xs i d))
 sums_next see xs i d l = ap sums_of (map_more see xs i d l) ∙ pushed (map see (take i xs)) (see (get_or xs i d))
 
-one : (c : CellForm) → file_length c + pad_length c + dead_length c + filler_length c + free_length c ≡ cell_len c
+one : (c : CellForm) → counted (lengths_of c) ≡ cell_len c
 one (Valid at head payload) = omega arith
 one (Pad at head payload) = omega arith
 one (Dead at n state) = omega arith
@@ -43,11 +43,11 @@ counted_is [] = refl
 counted_is (c ∷ cs) =
     omega (
       arith,
-      sum_by-cons file_length c cs,
-      sum_by-cons pad_length c cs,
-      sum_by-cons dead_length c cs,
-      sum_by-cons filler_length c cs,
-      sum_by-cons free_length c cs,
+      sum_by-cons (λ x. (lengths_of x).files) c cs,
+      sum_by-cons (λ x. (lengths_of x).pads) c cs,
+      sum_by-cons (λ x. (lengths_of x).deleted) c cs,
+      sum_by-cons (λ x. (lengths_of x).filler) c cs,
+      sum_by-cons (λ x. (lengths_of x).free) c cs,
       sum_by-cons cell_len c cs,
       counted_is cs,
       one c,
@@ -107,7 +107,7 @@ fit_together input e cs b within =
 
 -- the lines of the cells that the code found are the text of the input
 pub cells_told : (input : List ℕ) (e : Extent) (cs ds : List CellForm) → BeginsTiled e cs input → ds ≡ cs
-    → CellsText input (cell_lines e.first ds)
+    → CellsText input (span_line (codes "header") 0 e.first ++ (flat_map cell_line ds ++ sums_line (sums_of ds)))
 cells_told input e cs ds b is = (e, ds, subst (λ (xs : List CellForm). BeginsTiled e xs input) (sym is) b, refl)
 
 -- either memory ran out, or the input has no cells

@@ -4,10 +4,12 @@ use Rattle.fv_base.proofs.Laws.{append-nil, flat_map, common_steps, flat_map-app
 use Rattle.fv_base.specs.declared.guid.Guid.{Guid}
 use Rattle.fv_tree.specs.Words.{preorder, FileMeaning, File, Plain, Sectioned, SectionMeaning, Section, Leaf, Group, Nested, content_of, file_name_of}
 use Rattle.fv_tree.specs.Words.{body_of, leaf_of, section_kind_of, sections_in_data}
-use Rattle.fv_lines.specs.Words.{phase_of, read_by, section_depex, sections_depexes, file_depexes, HeldDepex, IsSpelled, IsNoted, AreNotes}
+use Rattle.fv_lines.specs.Words.{phase_of, read_by, section_depex, file_depexes, HeldDepex, IsNoted, AreNotes}
 use Rattle.fv_lines.specs.Words.{depex_line}
 use Rattle.fv_lines.specs.declared.depex_notes.DepexNote.{DepexNote}
 use Rattle.fv_lines.specs.inner.LineRuns.{PutsNotes}
+use Rattle.fv_depex.specs.Words.{Spells}
+use Rattle.fv_depex.specs.declared.op.Op.{Op}
 use Rattle.fv_text.proofs.Laws.{texts_next}
 
 -- ---- notes
@@ -21,8 +23,8 @@ notes_join (x ∷ xs) ys ms ns (inr (note, rest, is, e, p)) q =
 pub puts_none : {S : Type 0} {takes : S → List ℕ → S → Type 0} → WalkLaws takes → (s : S) → PutsNotes takes [] s s
 puts_none laws s = ([], refl, laws.none s)
 
-pub puts_spelled : {S : Type 0} {takes : S → List ℕ → S → Type 0} → WalkLaws takes → (x : HeldDepex) (s : S) → IsSpelled x
-    → PutsNotes takes (x ∷ []) s s
+pub puts_spelled : {S : Type 0} {takes : S → List ℕ → S → Type 0} → WalkLaws takes → (x : HeldDepex) (s : S)
+    → (ops : List Op) × (rest : List ℕ) × Spells x.phase ops rest x.bytes → PutsNotes takes (x ∷ []) s s
 puts_spelled laws x s spelled = ([], inl (spelled, refl), laws.none s)
 
 pub puts_one : {S : Type 0} (takes : S → List ℕ → S → Type 0) (x : HeldDepex) (note : DepexNote) (s t : S) → IsNoted x note
@@ -55,10 +57,10 @@ pub of_plain : (f : FileMeaning) (b : List ℕ) → content_of f ≡ Plain b →
 of_plain (File name kind attributes content) b is = ap (λ x. file_depexes (File name kind attributes x)) (sym is)
 
 pub of_file : (f : FileMeaning) (name : Guid) (ss : List SectionMeaning) → name ≡ file_name_of f
-    → ss ≡ preorder (sections_in_data (content_of f)) → sections_depexes name ss ≡ file_depexes f
-of_file (File own kind attributes (Plain b)) name ss e is = ap (sections_depexes name) is
+    → ss ≡ preorder (sections_in_data (content_of f)) → flat_map (section_depex name) ss ≡ file_depexes f
+of_file (File own kind attributes (Plain b)) name ss e is = ap (flat_map (section_depex name)) is
 of_file (File own kind attributes (Sectioned us tail)) name ss e is =
-    ap (sections_depexes name) is ∙ ap (λ (n : Guid). sections_depexes n (preorder us)) e
+    ap (flat_map (section_depex name)) is ∙ ap (λ (n : Guid). flat_map (section_depex n) (preorder us)) e
 
 pub files_next : (fs : List FileMeaning) (i : ℕ) (f : FileMeaning) → i < length fs → f ≡ get_or fs i f
     → flat_map file_depexes (take i fs) ++ file_depexes f ≡ flat_map file_depexes (take (i + 1) fs)

@@ -1,9 +1,9 @@
 -- The text of `list`: the pieces that the code puts are the parts of the text.
 use Rattle.std.proofs.Common.{◌≡◌, ℕ, ◌≤◌, [], ◌∷◌, ◌++◌, List, length, drop, refl, subst, arith, Option, None, Some}
 use Rattle.fv_base.proofs.Laws.{flat_map, WalkLaws, words_of, le_at}
-use Rattle.fv_rows.specs.Words.{TreeRow}
+use Rattle.fv_rows.specs.Words.{NodeMeaning, TreeRow}
 use Rattle.fv_tree.specs.Words.{BodyMeaning, Leaf, Group, Nested, leaf_of}
-use Rattle.fv_lines.specs.Words.{unit_text, LeafText, BodyShown, DigestOf, NodeText}
+use Rattle.fv_lines.specs.Words.{unit_text, LeafText, BodyShown, NodeText}
 use Rattle.fv_lines.specs.inner.LineRuns.{PutsRows}
 
 -- ---- units
@@ -36,10 +36,10 @@ begun laws p q r more = laws.joined p (laws.joined q (laws.joined r more))
 
 -- ---- one row more
 
-pub puts_none : {S : Type 0} {takes : S → List ℕ → S → Type 0} → WalkLaws takes → (of_node : DigestOf) (s : S) → PutsRows takes of_node [] s s
+pub puts_none : {S : Type 0} {takes : S → List ℕ → S → Type 0} → WalkLaws takes → (of_node : NodeMeaning → Option (List ℕ) → Type 0) (s : S) → PutsRows takes of_node [] s s
 puts_none laws of_node s = ([], refl, laws.none s)
 
-pub puts_next : {S : Type 0} {takes : S → List ℕ → S → Type 0} {s t u : S} → WalkLaws takes → (of_node : DigestOf) (r : TreeRow)
+pub puts_next : {S : Type 0} {takes : S → List ℕ → S → Type 0} {s t u : S} → WalkLaws takes → (of_node : NodeMeaning → Option (List ℕ) → Type 0) (r : TreeRow)
     (rows : List TreeRow) (digest : Option (List ℕ)) → of_node r.node digest
     → ((text : List ℕ) × NodeText r.depth r.number r.node digest text × takes s text t) → PutsRows takes of_node rows t u
     → PutsRows takes of_node (r ∷ rows) s u

@@ -40,18 +40,9 @@ abbrev pub held_image : Option MappedImage → Option MappedForm
 held_image None = None
 held_image (Some i) = Some (record { bytes = i.bytes.now; base = i.base })
 
--- the image with these bytes at the address `base`, or None if there is no base
-abbrev pub image_form : Option ℕ → List ℕ → Option MappedForm
-image_form None bytes = None
-image_form (Some base) bytes = Some (record { bytes = bytes; base = base })
-
 -- the line of a block of this type and length, which ends with the text `word`
 abbrev pub hob_line : ℕ → ℕ → List ℕ → List ℕ
 hob_line code n word = codes "hob " ++ (four_digits code ++ (codes " length " ++ (decimal n ++ (word ++ line_feed))))
-
--- the last line, which shows how many bytes the list has
-abbrev pub consumed_line : ℕ → List ℕ
-consumed_line n = codes "consumed " ++ (decimal n ++ line_feed)
 
 -- the word for the content of an image in a span, with a space before it: `outside`, `volume` or `absent`
 abbrev pub span_content_word : SpanContent → List ℕ
@@ -66,17 +57,13 @@ IsSpanWord (Some image) None word = word ≡ []
 IsSpanWord (Some image) (Some span) word =
     (s : SpanContent) × IsSpanContent image.bytes image.base span s × (word ≡ span_content_word s)
 
--- the word for the volume that a block describes
-abbrev pub IsWord : Option MappedForm → HobForm → List ℕ → Type 0
-IsWord image h word = IsSpanWord image (span_of h.kind) word
-
--- a line for each block, in order
+-- a line for each block, in order, with the word for the volume that the block describes
 abbrev pub HobLines : Option MappedForm → List HobForm → List ℕ → Type 0
 HobLines image [] text = text ≡ []
-HobLines image (h ∷ hs) text = (word : List ℕ) × (rest : List ℕ) × IsWord image h word
+HobLines image (h ∷ hs) text = (word : List ℕ) × (rest : List ℕ) × IsSpanWord image (span_of h.kind) word
     × (text ≡ hob_line (hob_type h.kind) (hob_len h.kind) word ++ rest) × HobLines image hs rest
 
 -- the text of `hobs`: a line for each block, in order, and a last line that shows how many bytes the list has
 abbrev pub HobsText : Option MappedForm → List HobForm → ℕ → List ℕ → Type 0
 HobsText image hobs consumed text =
-    (lines : List ℕ) × HobLines image hobs lines × (text ≡ lines ++ consumed_line consumed)
+    (lines : List ℕ) × HobLines image hobs lines × (text ≡ lines ++ (codes "consumed " ++ (decimal consumed ++ line_feed)))

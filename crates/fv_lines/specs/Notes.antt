@@ -23,14 +23,11 @@ use Rattle.fv_lines.specs.declared.depex_notes.DepexNote.{DepexNote}
 abbrev pub written_in : Polarity → List ℕ → ℕ
 written_in polarity bytes = count_by (λ x. not (x == erased_byte polarity)) bytes
 
--- the note on a pad at an offset, if n of its data bytes are not erased
-abbrev pub pad_text : ℕ → ℕ → List ℕ
-pad_text at n =
-    codes "note pad at " ++ (decimal at ++ (codes " holds " ++ (decimal n ++ (codes " bytes" ++ line_feed))))
-
--- the same note, or no text if n is 0: all data bytes of the pad are erased
+-- the note on a pad at an offset, if n of its data bytes are not erased, or no text if n is 0
 abbrev pub pad_line : ℕ → ℕ → List ℕ
-pad_line at n = if n == 0 then [] else pad_text at n
+pad_line at n =
+    if n == 0 then []
+    else codes "note pad at " ++ (decimal at ++ (codes " holds " ++ (decimal n ++ (codes " bytes" ++ line_feed))))
 
 -- the note on a cell: only a pad whose data bytes are not all erased has one
 abbrev pub pad_note : Polarity → CellForm → List ℕ
@@ -66,38 +63,28 @@ section_depex name (Section kind extended (Leaf b)) = read_by name b (phase_of k
 section_depex name (Section kind extended (Group _ _)) = []
 section_depex name (Section kind extended (Nested _)) = []
 
-abbrev pub sections_depexes : Guid → List SectionMeaning → List HeldDepex
-sections_depexes name ss = flat_map (section_depex name) ss
-
 -- the expressions in the data of a file, in preorder: groups are searched, nested volumes are not, and plain data
 -- contain none
 abbrev pub file_depexes : FileMeaning → List HeldDepex
 file_depexes (File name kind attributes (Plain b)) = []
-file_depexes (File name kind attributes (Sectioned ss tail)) = sections_depexes name (preorder ss)
+file_depexes (File name kind attributes (Sectioned ss tail)) = flat_map (section_depex name) (preorder ss)
 
 -- the dependency expressions in some files, in order
 abbrev pub depexes_in : List FileMeaning → List HeldDepex
 depexes_in fs = flat_map file_depexes fs
 
--- the bytes spell an expression; more bytes may follow it
-abbrev pub IsSpelled : HeldDepex → Type 0
-IsSpelled x = (ops : List Op) × (rest : List ℕ) × Spells x.phase ops rest x.bytes
-
--- the note on a fault of an expression in the file with this name
-abbrev pub note_of : Guid → DepexFault → DepexNote
-note_of name fault = record { name = name; number = depex_fault_number fault.kind; offset = fault.offset }
-
 -- the bytes do not spell an expression, and the note describes their first fault
 pub record IsNoted (x : HeldDepex) (note : DepexNote) : Type 0 where
   pub fault : DepexFault
   pub first : IsFirstOpFault x.phase x.bytes fault
-  pub note_is : note ≡ note_of x.name fault
+  pub note_is : note ≡ record { name = x.name; number = depex_fault_number fault.kind; offset = fault.offset }
 
--- the notes on some dependency expressions, in order: a note for each of them whose bytes do not spell an expression
+-- the notes on some dependency expressions, in order: a note for each of them whose bytes do not spell an expression,
+-- after which more bytes may follow
 abbrev pub AreNotes : List HeldDepex → List DepexNote → Type 0
 AreNotes [] notes = notes ≡ []
 AreNotes (x ∷ xs) notes =
-    (IsSpelled x × AreNotes xs notes)
+    (((ops : List Op) × (rest : List ℕ) × Spells x.phase ops rest x.bytes) × AreNotes xs notes)
     ⊎ ((note : DepexNote) × (rest : List DepexNote) × IsNoted x note × (notes ≡ note ∷ rest) × AreNotes xs rest)
 
 -- the line of a note on a dependency expression, and the lines of some notes

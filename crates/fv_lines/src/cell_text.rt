@@ -1,12 +1,11 @@
 //! The command `cells`: a line for the header of a volume, a line for each cell, and a last line
 //! with the sums of the cells' lengths.
 
-ghost use Rattle.std.specs.Prelude.{◌≡◌, ◌≤◌, ◌+◌, ◌-◌, ◌<◌, ◌^◌, length, map, ℕ, List, IfErr, OnErr, OnOk};
+ghost use Rattle.std.specs.Prelude.{◌≡◌, ◌≤◌, ◌+◌, ◌-◌, ◌<◌, ◌^◌, ◌++◌, length, map, ℕ, List, codes, IfErr, OnErr, OnOk};
 ghost use Rattle.std.specs.List.{flat_map, sum_by};
 ghost use Rattle.fv_base.specs.Words.{up_to_8, OrMemory};
-ghost use Rattle.fv_file.specs.Words.{cell_form, cell_len};
-ghost use Rattle.fv_lines.specs.CellTexts.{cell_line, cell_lines, dead_name, file_line, span_line, span_text};
-ghost use Rattle.fv_lines.specs.CellTexts.{sums_line, sums_of, CellsText};
+ghost use Rattle.fv_file.specs.Words.{Dead, Valid, cell_form, cell_len};
+ghost use Rattle.fv_lines.specs.CellTexts.{CellsText, cell_line, span_line, span_text, sums_line, sums_of};
 ghost use Rattle.fv_lines.specs.inner.LineRuns.{FitTogether, Fits, counted, sums_with};
 ghost use Rattle.fv_tree.specs.Words.{NotTiled};
 
@@ -55,7 +54,7 @@ fn put_span_line<S: Sink>(out: &mut S, name: &[u8], offset: u64, length: u64)
 fn put_file<S: Sink>(out: &mut S, offset: u64, head: &FileHead, payload: &[u8])
     requires within { offset + up_to_8 head.now.size < 2 ^ 63 }
     requires header { head.now.header_len ≤ head.now.size }
-    ensures { S.takes out.old (file_line offset head.now payload.now) out.new }
+    ensures { S.takes out.old (cell_line (Valid offset head.now payload.now)) out.new }
 {
     put_span(out, b"file", offset, up_to_8(head.size));
     out.put(b" ");
@@ -75,7 +74,7 @@ fn put_file<S: Sink>(out: &mut S, offset: u64, head: &FileHead, payload: &[u8])
 
 // Returns the word for a file that is not valid, by its state.
 fn dead_name(state: FileState) -> &'static [u8]
-    ensures { result.now ≡ dead_name state }
+    ensures { (at n : ℕ) → cell_line (Dead at n state) ≡ span_line result.now at n }
 {
     match state {
         FileState::Deleted => b"deleted",
@@ -181,7 +180,8 @@ fn put_sums<S: Sink>(out: &mut S, sums: LengthSums)
 // `first`, so also an extended header. The cells must fit into a volume.
 fn put_cell_lines<S: Sink>(out: &mut S, first: u64, list: &[Cell<'_>])
     requires { FitTogether (map cell_form list.now) }
-    ensures { S.takes out.old (cell_lines first (map cell_form list.now)) out.new }
+    ensures { S.takes out.old (span_line (codes "header") 0 first ++ (flat_map cell_line (map cell_form list.now)
+        ++ sums_line (sums_of (map cell_form list.now)))) out.new }
 {
     put_span_line(out, b"header", 0, first);
     put_list(out, list);

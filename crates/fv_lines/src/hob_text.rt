@@ -1,7 +1,9 @@
 //! The lines of `hobs`, and the content of an image where a volume should be.
 
-ghost use Rattle.std.specs.Prelude.{◌≡◌, ℕ, List, MatchOption, length};
-ghost use Rattle.fv_lines.specs.HobLines.{HobsText, IsWord, consumed_line, hob_line, span_content_word, held_image};
+ghost use Rattle.std.specs.Prelude.{◌≡◌, ◌++◌, ℕ, List, MatchOption, codes, decimal, length};
+ghost use Rattle.fv_hob.specs.Words.{span_of};
+ghost use Rattle.fv_text.specs.Words.{line_feed};
+ghost use Rattle.fv_lines.specs.HobLines.{HobsText, IsSpanWord, hob_line, span_content_word, held_image};
 ghost use Rattle.fv_lines.specs.HobLines.{IsMapped, IsSpanContent, bytes_in_span};
 
 use fv_base::Sink;
@@ -74,7 +76,7 @@ pub fn span_content(image: &[u8], base: u64, span: Span) -> SpanContent
 // Returns the word for the volume that a block describes, or an empty text if the block describes
 // no volume or there is no image.
 fn word_of(hob: &Hob, image: Option<MappedImage<'_>>) -> &'static str
-    ensures { IsWord (held_image image.entry) hob.now result.now }
+    ensures { IsSpanWord (held_image image.entry) (span_of hob.now.kind) result.now }
 {
     match (hob.span(), image) {
         (Some(span), Some(image)) => span_content(image.bytes, image.base, span).word(),
@@ -96,7 +98,7 @@ fn put_hob<S: Sink>(out: &mut S, code: u16, length: u16, word: &str)
 
 // Puts the last line, which shows how many bytes the list has.
 fn put_consumed<S: Sink>(out: &mut S, consumed: u64)
-    ensures { S.takes out.old (consumed_line consumed) out.new }
+    ensures { S.takes out.old (codes "consumed " ++ (decimal consumed ++ line_feed)) out.new }
 {
     out.put(b"consumed ");
     put_decimal(out, consumed);

@@ -1,11 +1,12 @@
 //! The part of a leaf section that `list` shows: a build number, a text or a GUID.
 
-ghost use Rattle.std.specs.Prelude.{◌≡◌, ℕ, List};
+ghost use Rattle.std.specs.Prelude.{◌≡◌, ◌++◌, ◌==◌, ◌&&◌, ℕ, List, codes, decimal, nat_le, not};
 ghost use Rattle.std.specs.List.{flat_map};
-ghost use Rattle.fv_base.specs.Words.{words_of};
+ghost use Rattle.fv_base.specs.Words.{bytes_of, guid_text, words_of};
+ghost use Rattle.fv_base.specs.declared.guid.Guid.{Guid};
+ghost use Rattle.fv_section.specs.Words.{IsFreeform, IsText, IsVersion};
 ghost use Rattle.fv_tree.specs.Words.{body_of, section_kind_of};
-ghost use Rattle.fv_lines.specs.ListTexts.{is_plain, unit_text};
-ghost use Rattle.fv_lines.specs.ListTexts.{VersionText, InterfaceText, SubtypeText, LeafText, BodyShown};
+ghost use Rattle.fv_lines.specs.ListTexts.{BodyShown, LeafText, Shows, unit_text};
 
 use fv_base::Sink;
 use fv_base::field::u16_at;
@@ -17,7 +18,7 @@ use fv_tree::SectionView;
 // Returns whether a 16-bit unit is shown as a character: printable ASCII, except the quote and the
 // backslash.
 fn is_plain(unit: u16) -> bool
-    ensures { result ≡ is_plain unit }
+    ensures { result ≡ (nat_le 0x20 unit && (nat_le unit 0x7e && (not (unit == 0x22) && not (unit == 0x5c)))) }
 {
     0x20 <= unit && unit <= 0x7e && unit != 0x22 && unit != 0x5c
 }
@@ -47,7 +48,9 @@ fn put_units<S: Sink>(out: &mut S, units: &[u8])
 
 // Puts the build number of a version section, if the body has the format of a version section.
 fn put_version<S: Sink>(out: &mut S, body: &[u8])
-    ensures { (text : List ℕ) × VersionText body.now text × S.takes out.old text out.new }
+    ensures { (text : List ℕ) × Shows (λ (build : ℕ). (units : List ℕ) × IsVersion body.now build units)
+        (λ build. codes " version " ++ decimal build) text
+        × S.takes out.old text out.new }
 {
     match version(body) {
         Some((build, _)) => {
@@ -61,7 +64,9 @@ fn put_version<S: Sink>(out: &mut S, body: &[u8])
 // Puts the text of a user interface section, if the body has the format of a user interface
 // section.
 fn put_interface<S: Sink>(out: &mut S, body: &[u8])
-    ensures { (text : List ℕ) × InterfaceText body.now text × S.takes out.old text out.new }
+    ensures { (text : List ℕ) × Shows (λ (units : List ℕ). IsText body.now units)
+        (λ units. codes " ui \"" ++ (flat_map unit_text (words_of units) ++ codes "\"")) text
+        × S.takes out.old text out.new }
 {
     match ui_text(body) {
         Some(units) => {
@@ -76,7 +81,9 @@ fn put_interface<S: Sink>(out: &mut S, body: &[u8])
 // Puts the GUID of a freeform subtype section, if the body has the format of a freeform subtype
 // section.
 fn put_subtype<S: Sink>(out: &mut S, body: &[u8])
-    ensures { (text : List ℕ) × SubtypeText body.now text × S.takes out.old text out.new }
+    ensures { (text : List ℕ) × Shows (λ (guid : Guid). (rest : List ℕ) × IsFreeform body.now guid rest)
+        (λ guid. codes " subtype " ++ guid_text (bytes_of guid)) text
+        × S.takes out.old text out.new }
 {
     match freeform(body) {
         Some((guid, _)) => {

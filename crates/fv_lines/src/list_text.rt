@@ -1,10 +1,10 @@
 //! The lines of `list`: one for each volume, file and section.
 
-ghost use Rattle.std.specs.Prelude.{◌≡◌, ℕ, List, Option};
+ghost use Rattle.std.specs.Prelude.{◌≡◌, ℕ, [], List, None, Option};
 ghost use Rattle.fv_tree.specs.Words.{section_kind_of, body_of};
-ghost use Rattle.fv_rows.specs.Words.{part_node, tree_rows};
-ghost use Rattle.fv_lines.specs.ListTexts.{form_text, system_text, name_text, volume_text, file_text, section_text};
-ghost use Rattle.fv_lines.specs.ListTexts.{BodyShown, NodeText, NoDigest, RowsText, ListText, spaces};
+ghost use Rattle.fv_rows.specs.Words.{FileNode, SectionNode, VolumeNode, part_node, tree_rows};
+ghost use Rattle.fv_lines.specs.ListTexts.{form_text, system_text, name_text, node_text};
+ghost use Rattle.fv_lines.specs.ListTexts.{BodyShown, NodeText, RowsText, ListText, spaces};
 
 use crate::digest_text::put_digest;
 use crate::leaf_text::put_section_body;
@@ -45,7 +45,7 @@ fn put_section_line<S: Sink>(
     digest: Option<[u8; 32]>,
 )
     ensures { (shown : List ℕ) × BodyShown (section_kind_of section.now) (body_of section.now) shown
-        × S.takes out.old (section_text depth number section.now shown digest) out.new }
+        × S.takes out.old (node_text depth number (SectionNode section.now) shown digest) out.new }
 {
     put_indent(out, depth);
     out.put(b"section ");
@@ -67,7 +67,7 @@ fn put_file_line<S: Sink>(
     depth: usize,
     digest: Option<[u8; 32]>,
 )
-    ensures { S.takes out.old (file_text depth number file.now digest) out.new }
+    ensures { S.takes out.old (node_text depth number (FileNode file.now) [] digest) out.new }
 {
     put_indent(out, depth);
     out.put(b"file ");
@@ -114,7 +114,7 @@ fn put_volume_line<S: Sink>(
     depth: usize,
     digest: Option<[u8; 32]>,
 )
-    ensures { S.takes out.old (volume_text depth volume.now digest) out.new }
+    ensures { S.takes out.old (node_text depth 0 (VolumeNode volume.now) [] digest) out.new }
 {
     let head = volume.head();
     put_indent(out, depth);
@@ -162,7 +162,7 @@ struct NoDigests;
 impl Digests for NoDigests {
     ghost covers = { λ _ _. Unit {0} };
 
-    ghost of_node = { NoDigest };
+    ghost of_node = { λ _ digest. digest ≡ None };
 
     fn next_digest(&mut self, _row: &Row<'_, '_>) -> Option<[u8; 32]> {
         None

@@ -1,10 +1,10 @@
 -- The entries of an index are totally ordered: first by name, and then by file number.
-use Rattle.std.proofs.Common.{◌≡◌, ◌≤◌, ◌⊎◌, ℕ, ◌==◌, ◌&&◌, true, false, refl, sym, ap, ◌∙◌, arith, inl, inr}
+use Rattle.std.proofs.Common.{◌≡◌, ◌≤◌, ◌⊎◌, ℕ, ◌==◌, ◌&&◌, true, false, sym, ap, ◌∙◌, arith, inl, inr}
 use Rattle.fv_base.proofs.Laws.{common_steps, Decides, is_lt}
 use Rattle.std.specs.Cmp.{IsTotalOrder, IsStrictWeakOrder}
 use Rattle.std.specs.Ordering.{nat_cmp, ordering_then}
 use Rattle.std.specs.declared.cmp.Ordering.{Ordering}
-use Rattle.std.specs.declared.cmp.Ordering.TheVariants.{Less, Equal, Greater}
+use Rattle.std.specs.declared.cmp.Ordering.TheVariants.{Less, Equal}
 use Rattle.std.proofs.lemmas.Cmp.{nat_cmp_total, on_total, ranked, then_total, tied_itself}
 use Rattle.std.proofs.lemmas.List.MinMax.{ranks_by}
 use Rattle.fv_names.specs.Words.{Entry, Halves, entry_cmp, halves_cmp}
@@ -75,9 +75,7 @@ one_name_between a b c low high same = go (upto a b low) (upto b c high) where
 -- ---- names in their order
 
 front_not_less : (x y : Ordering) → is_lt (ordering_then x y) ≡ false → is_lt x ≡ false
-front_not_less Less y h = h
-front_not_less Equal y h = refl
-front_not_less Greater y h = refl
+front_not_less x y h = grind (arith, common_steps) steps 150000
 
 -- an entry that is not less than another has a name that does not precede the other's
 pub name_upto : (a b : Entry) → is_lt (entry_cmp b a) ≡ false → is_lt (halves_cmp b.0 a.0) ≡ false

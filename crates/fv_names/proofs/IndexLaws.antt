@@ -39,8 +39,7 @@ below n k d l = grind (arith, common_steps, length-range_with_len, get_or-range_
 all_differ : (n : ℕ) → IsDistinct (λ (a b : ℕ). a == b) (range_with_len 0 n)
 all_differ n = IsDistinct-from_apart (λ (a b : ℕ). a == b) (range_with_len 0 n) (λ i j d lt l.
     let inside : j < n = omega (arith, l, length-range_with_len 0 n) in
-    not_equal (get_or (range_with_len 0 n) i d) (get_or (range_with_len 0 n) j d) (λ same. omega
-    (arith, get_or-range_with_len 0 n i d (omega (arith, lt, inside)), get_or-range_with_len 0 n j d inside, same, lt)))
+    not_equal _ _ (λ same. omega (arith, get_or-range_with_len 0 n i d (omega (arith, lt, inside)), get_or-range_with_len 0 n j d inside, same, lt)))
 
 -- ---- entries and names
 
@@ -83,10 +82,8 @@ module _ (names : List Guid) (es : List Entry) (index : IsIndex names es) (g : G
   pub apart : (p q : ℕ) → p < q → q < length es → (get_or es p e).1 ≡ (get_or es q e).1 → ⊥
   apart p q lt l same =
       let number : Entry → ℕ = λ x. x.1 in
-      let differ : IsDistinct (λ (a b : ℕ). a == b) (map number es) =
-      IsDistinct-IsPermutation (λ (a b : ℕ). a == b) nat_eq_equiv.symm (map number (numbered 0 names)) (map number es)
-      (IsPermutation-map number (numbered 0 names) es index.all)
-      (subst (IsDistinct (λ (a b : ℕ). a == b)) (sym (numbers_are 0 names)) (all_differ (length names))) in
+      let differ : IsDistinct (λ (a b : ℕ). a == b) (map number es) = IsDistinct-IsPermutation (λ (a b : ℕ). a == b) nat_eq_equiv.symm _ _
+      (IsPermutation-map number _ es index.all) (subst (IsDistinct (λ (a b : ℕ). a == b)) (sym (numbers_are 0 names)) (all_differ (length names))) in
       not_from_Decides (get_or (map number es) p e.1 == get_or (map number es) q e.1) (Decides-eqb (get_or (map number es) p e.1)
       (get_or (map number es) q e.1))
       (apart_from_distinct (λ (a b : ℕ). a == b) (map number es) p q e.1 differ lt (omega (arith, l, length-map es number)))
@@ -100,14 +97,12 @@ module _ (names : List Guid) (es : List Entry) (index : IsIndex names es) (g : G
   upward p q le l same = numbers_rise (at p) (at q) (in_order p q le l) same
 
   pub beyond : (p q : ℕ) → p < q → q < length es → (get_or es p e).0 ≡ (get_or es q e).0 → (get_or es p e).1 < (get_or es q e).1
-  beyond p q lt l same = first_only (cases_lt (at p).1 (at q).1)
-      (λ most. apart p q lt l (omega (arith, upward p q (omega (arith, lt)) l same, most)))
+  beyond p q lt l same = first_only (cases_lt (at p).1 (at q).1) (λ most. apart p q lt l (omega (arith, upward p q (omega (arith, lt)) l same, most)))
 
   -- an entry between two entries with the same name has this name too
   pub between : (p r q : ℕ) → p ≤ r → r ≤ q → q < length es → (get_or es p e).0 ≡ (get_or es q e).0
       → (get_or es r e).0 ≡ (get_or es q e).0
-  between p r q low high l same =
-      one_name_between (at p) (at r) (at q) (in_order p r low (omega (arith, high, l))) (in_order r q high l) same
+  between p r q low high l same = one_name_between (at p) (at r) (at q) (in_order p r low (omega (arith, high, l))) (in_order r q high l) same
 
 -- ---- a look-up
 
@@ -156,9 +151,8 @@ module _ (es : List Entry) (name : Guid) (names : List Guid) (whole : IsName nam
     pub found_none : (place < length es → is_lt (halves_cmp (entry place).0 (halves_of name)) ≡ false)
         → (place < length es → (entry place).0 ≡ halves_of name → ⊥) → None ≡ position (is_name name) names
     found_none more not_there =
-        let all : position_or_len (is_name name) names ≡ length names =
-        position_or_len_is (is_name name) names (length names) g (omega arith) (λ k l.
-        other k l (λ same. never k l (place_of names es index g e k l) same)) (λ l. absurd (omega (arith, l))) in
+        let all : position_or_len (is_name name) names ≡ length names = position_or_len_is (is_name name) names (length names) g (omega arith)
+        (λ k l. other k l (λ same. never k l (place_of names es index g e k l) same)) (λ l. absurd (omega (arith, l))) in
         rw (all, le-ltb (length names) (length names) (omega arith))
       where
         never : (k : ℕ) → k < length names → (p : ℕ) × (p < length es) × (entry p ≡ (halves_of (get_or names k g), k))
@@ -167,9 +161,8 @@ module _ (es : List Entry) (name : Guid) (names : List Guid) (whole : IsName nam
             let key : (entry q).0 ≡ halves_of name = ap (λ (x : Entry). x.0) is ∙ sym same in
             let le : place ≤ q = from_place q key in
             let inside : place < length es = omega (arith, le, within) in
-            let upto : is_lt (halves_cmp (halves_of name) (entry place).0) ≡ false =
-            ap (λ (h : Halves). is_lt (halves_cmp h (entry place).0)) (sym key)
-            ∙ name_upto (entry place) (entry q) (in_order names es index g e place q le within) in
+            let upto : is_lt (halves_cmp (halves_of name) (entry place).0) ≡ false = ap (λ (h : Halves). is_lt (halves_cmp h (entry place).0))
+            (sym key) ∙ name_upto (entry place) (entry q) (in_order names es index g e place q le within) in
             not_there inside (neither_before (entry place).0 (halves_of name) (more inside) upto)
 
 -- ---- the entries with a name
@@ -210,14 +203,6 @@ pub record Searched (es : List Entry) (key : Halves) (first end : ℕ) : Type 0 
   pub above : (e : Entry) (p : ℕ) → end ≤ p → p < length es → is_lt (halves_cmp (get_or es p e).0 key) ≡ false
 
 module _ (names : List Guid) (es : List Entry) (index : IsIndex names es) (key : Halves) where
-  pub search_begins : (n : ℕ) → n ≡ length es → Searched es key 0 n
-  search_begins n is = record {
-    in_order = omega arith;
-    inside = omega (arith, is);
-    below = λ e p l. absurd (omega (arith, l));
-    above = λ e p ge l. absurd (omega (arith, ge, l, is));
-  }
-
   rising : (e : Entry) (p q : ℕ) → p ≤ q → q < length es → is_lt (halves_cmp (get_or es q e).0 (get_or es p e).0) ≡ false
   rising e p q le l = name_upto (get_or es p e) (get_or es q e) (in_order names es index no_named.name e p q le l)
 
@@ -250,14 +235,11 @@ module _ (names : List Guid) (numbers : List ℕ) (order : IsOrder names numbers
 
   -- the number at a place is the number of the entry at this place
   pub number_there : (e : Entry) → n ≡ (get_or order.entries p e).1
-  number_there e =
-      is ∙ ap (λ (ns : List ℕ). get_or ns p n) order.are_numbers ∙ get_or-map number order.entries p e n place_inside
+  number_there e = is ∙ ap (λ (ns : List ℕ). get_or ns p n) order.are_numbers ∙ get_or-map number order.entries p e n place_inside
 
   -- so it is the number of a name, and the entry has the halves of this name
   pub number_inside : n < length names
   number_inside = omega (arith, (of_name names order.entries order.index no_named.name no_entry p place_inside).0, number_there no_entry)
 
   pub halves_there : (g : Guid) (e : Entry) → halves_of (get_or names n g) ≡ (get_or order.entries p e).0
-  halves_there g e =
-      ap (λ (k : ℕ). halves_of (get_or names k g)) (number_there e)
-      ∙ sym (of_name names order.entries order.index g e p place_inside).1
+  halves_there g e = ap (λ (k : ℕ). halves_of (get_or names k g)) (number_there e) ∙ sym (of_name names _ order.index g e p place_inside).1

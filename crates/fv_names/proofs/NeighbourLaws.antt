@@ -9,17 +9,16 @@
 -- 4. If no entry shares its name, there are no twins, and no file is replaced (`apart_twins`, `none_replaced`).
 use Rattle.std.proofs.Common.{◌≡◌, ◌≤◌, ◌<◌, ◌⊎◌, ℕ, ◌+◌, ◌-◌, [], ◌∷◌, ◌&&◌, zero, suc, List, length, take, get_or, map, Bool, true, false, refl}
 use Rattle.std.proofs.Common.{sym, ap, ◌∙◌, subst, arith, inl, inr, not, get_or-take, length-take-le, take_all}
-use Rattle.fv_base.proofs.Laws.{common_steps, Decides, beq, booleans_Decides, AllByRecursion, list_any, cases_lt, not_from_Decides, get_or_default}
-use Rattle.fv_base.proofs.Laws.{get_or-map, length-map, recursion_from_All, Any-from_list_any, list_any_at, at_index}
+use Rattle.fv_base.proofs.Laws.{common_steps, Decides, booleans_Decides, AllByRecursion, list_any, cases_lt, not_from_Decides, get_or_default}
+use Rattle.fv_base.proofs.Laws.{get_or-map, length-map, recursion_from_All, Any-from_list_any, list_any_at, at_index, or_both}
 use Rattle.std.proofs.lemmas.Bool.Decides.{Decides-and, same_from_decides}
 use Rattle.std.specs.List.{Contains}
-use Rattle.fv_base.proofs.Laws.{or_both}
 use Rattle.std.proofs.lemmas.List.Elements.{All-from_get_or}
 use Rattle.std.proofs.lemmas.List.Folds.{list_any_none}
 use Rattle.fv_base.specs.declared.guid.Guid.{Guid}
 use Rattle.fv_names.specs.Words.{NamedFile, NoTwins, is_twin, names_in, replaced_by, same_name, NeighboursDiffer, Entry, IsIndex, IsName, halves_of}
 use Rattle.fv_names.specs.inner.NameOrders.{AreTwins, IsShared, IsTwinAt, mark_at}
-use Rattle.fv_names.proofs.IndexLaws.{between, beyond, no_named, of_name, place_of, upward}
+use Rattle.fv_names.proofs.IndexLaws.{between, beyond, of_name, place_of, upward}
 use Rattle.fv_names.proofs.NumberedLaws.{names_decide}
 
 -- ---- twins among some files
@@ -46,12 +45,7 @@ no_twins_from (f ∷ fs) d h = (
 
 -- of three marks, two are the same
 two_same : (a b c : Bool) → (a ≡ b) ⊎ ((b ≡ c) ⊎ (a ≡ c))
-two_same true true c = inl refl
-two_same false false c = inl refl
-two_same true false true = inr (inr refl)
-two_same true false false = inr (inl refl)
-two_same false true false = inr (inr refl)
-two_same false true true = inr (inl refl)
+two_same a b c = grind (arith, common_steps) steps 150000
 
 -- a file that is not marked is not replaced
 pub unmarked_kept : (f : NamedFile) (fs : List NamedFile) → f.marked ≡ false → list_any (replaced_by f) fs ≡ false
@@ -105,9 +99,7 @@ module _ (fs : List NamedFile) (es : List Entry) (index : IsIndex (names_in fs) 
       )
 
   twins : (p q : ℕ) → p < length es → q < length es → Decides (is_twin (file p) (file q)) (AreTwins fs d (at p) (at q))
-  twins p q k l =
-      Decides-and (same_name (file p) (file q)) (beq (file p).marked (file q).marked) (one_name p q k l)
-      (booleans_Decides (file p).marked (file q).marked)
+  twins p q k l = Decides-and (same_name (file p) (file q)) _ (one_name p q k l) (booleans_Decides (file p).marked (file q).marked)
 
   -- ---- the first file with an earlier twin
 
@@ -197,8 +189,7 @@ module _ (fs : List NamedFile) (es : List Entry) (index : IsIndex (names_in fs) 
   replaces_at p q k l =
       let m : Bool = (file p).marked in
       let n : Bool = not (file q).marked in
-      Decides-and (same_name (file p) (file q)) (m && n) (one_name p q k l)
-      (Decides-and m n ((λ h. h), (λ h. h)) ((λ h. h), (λ h. h)))
+      Decides-and (same_name (file p) (file q)) (m && n) (one_name p q k l) (Decides-and m n ((λ h. h), (λ h. h)) ((λ h. h), (λ h. h)))
 
   -- if two files have the same name and are not twins, the marked one is replaced
   beside : (p q : ℕ) → p < length es → q < length es → (p < q) ⊎ (q < p) → NoTwins fs → (at q).0 ≡ (at p).0
@@ -274,8 +265,7 @@ module _ (fs : List NamedFile) (es : List Entry) (index : IsIndex (names_in fs) 
   module _ (apart : NeighboursDiffer es) where
     no_twin_at : (r : ℕ) → 0 < r → r < length es → IsTwinAt fs d es e r → ⊥
     no_twin_at r above l (inl h) = apart e r above l h.0
-    no_twin_at r above l (inr h) =
-        apart e r above l (between (names_in fs) es index d.name e (r - 2) (r - 1) r (omega arith) (omega arith) l h.0)
+    no_twin_at r above l (inr h) = apart e r above l (between (names_in fs) es index d.name e (r - 2) (r - 1) r (omega arith) (omega arith) l h.0)
 
     -- if no entry shares its name, there are no twins
     pub apart_twins : NoTwins fs
@@ -285,8 +275,7 @@ module _ (fs : List NamedFile) (es : List Entry) (index : IsIndex (names_in fs) 
 
     alone : (p : ℕ) → IsShared es e (at p).0 → ⊥
     alone p (i, j, lt, m, first, second) =
-        apart e j (omega (arith, lt)) m
-        (between (names_in fs) es index d.name e i (j - 1) j (omega (arith, lt)) (omega arith) m (first ∙ sym second))
+        apart e j (omega (arith, lt)) m (between (names_in fs) es index d.name e i (j - 1) j (omega (arith, lt)) (omega arith) m (first ∙ sym second))
 
     not_replaced : (n : ℕ) → n < length fs → (t : Bool) → list_any (replaced_by (get_or fs n d)) fs ≡ t → t ≡ false
     not_replaced n l false h = refl
@@ -296,18 +285,11 @@ module _ (fs : List NamedFile) (es : List Entry) (index : IsIndex (names_in fs) 
 
     -- if no entry shares its name, no file is replaced
     pub none_replaced : AllByRecursion (λ f. list_any (replaced_by f) fs ≡ false) fs
-    none_replaced = recursion_from_All _ fs
-        (All-from_get_or (λ f. list_any (replaced_by f) fs ≡ false) fs d (λ n l. not_replaced n l _ refl))
+    none_replaced = recursion_from_All _ fs (All-from_get_or (λ f. list_any (replaced_by f) fs ≡ false) fs d (λ n l. not_replaced n l _ refl))
 
 -- ---- the files of the code
 
 -- the number of an entry is the number of a file
 pub file_within : {X : Type 0} (form : X → NamedFile) (files : List X) (es : List Entry) → IsIndex (names_in (map form files)) es
     → (x : Entry) (p : ℕ) → p < length es → x ≡ get_or es p x → x.1 < length files
-file_within form files es index x p l is =
-    omega (
-      arith,
-      number_within (map form files) es index no_named x p l,
-      ap (λ (y : Entry). y.1) is,
-      length-map files form,
-    )
+file_within form files es index x p l is = grind (arith, common_steps, number_within, length-map) steps 150000

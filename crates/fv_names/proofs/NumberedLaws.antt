@@ -30,9 +30,8 @@ halves_back name whole =
 -- so two names are equal exactly if their halves are
 pub names_decide : (a b : Guid) → IsName a → IsName b → Decides (bytes_eq (bytes_of a) (bytes_of b)) (halves_of a ≡ halves_of b)
 names_decide a b p q =
-    Decides-like (bytes_eq (bytes_of a) (bytes_of b)) (λ e. ap halves_in e)
-    (λ e. sym (halves_back a p) ∙ ap (λ (h : Halves). to_le_bytes w64 h.0 ++ to_le_bytes w64 h.1) e ∙ halves_back b q)
-    (bytes_eq-Decides (bytes_of a) (bytes_of b))
+    Decides-like _ (λ e. ap halves_in e)
+    (λ e. sym (halves_back a p) ∙ ap (λ (h : Halves). to_le_bytes w64 h.0 ++ to_le_bytes w64 h.1) e ∙ halves_back b q) (bytes_eq-Decides _ _)
 
 -- ---- names with their numbers
 

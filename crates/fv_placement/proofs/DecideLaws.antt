@@ -4,7 +4,8 @@
 --    can begin at a start (`stands_dec`).
 -- 2. Among the numbers below a limit, there is a least one for which a decided statement is true, or none (`least_of`).
 -- 3. So files have first starts after an edge, or none (`follows`), and a first placement, or none (`placed_or_none`).
-use Rattle.std.proofs.Common.{◌≡◌, ◌≤◌, ◌<◌, ◌+◌, ◌-◌, ◌%◌, ◌⊎◌, ℕ, [], ◌∷◌, zero, suc, List, take, Bool, true, false, refl, ap, subst, inl, inr}
+use Rattle.std.proofs.lemmas.Grind.{common_steps}
+use Rattle.std.proofs.Common.{◌≡◌, ◌≤◌, ◌<◌, ◌+◌, ◌⊎◌, ℕ, [], ◌∷◌, zero, suc, List, take, Bool, ap, subst, inl, inr}
 use Rattle.fv_base.proofs.Laws.{arith, get_or, IsTrue, cases_lt, up_to_8}
 use Rattle.fv_placement.specs.Words.{HasNoRoom, IsMisaligned, TopMisaligned, IsFirstPlacement, Lawful, Placement, IsStartInVolume, StartsFollow}
 use Rattle.fv_placement.specs.declared.first_placement.PlacementItem.{PlacementItem}
@@ -13,54 +14,30 @@ abbrev Decided : Type 0 → Type 0
 Decided P = P ⊎ (P → ⊥)
 
 both : {P Q : Type 0} → Decided P → Decided Q → Decided (P × Q)
-both (inl p) (inl q) = inl (p, q)
-both (inl p) (inr nay) = inr (λ h. nay h.1)
-both (inr nay) q = inr (λ h. nay h.0)
+both first second = grind (arith, common_steps)
 
 either : {P Q : Type 0} → Decided P → Decided Q → Decided (P ⊎ Q)
-either (inl p) q = inl (inl p)
-either (inr nay) (inl q) = inl (inr q)
-either {P = P} {Q = Q} (inr nay) (inr none) = inr go where
-  go : P ⊎ Q → ⊥
-  go (inl p) = nay p
-  go (inr q) = none q
+either first second = grind (arith, common_steps)
 
 not_so : {P : Type 0} → Decided P → Decided (P → ⊥)
-not_so (inl p) = inr (λ nay. nay p)
-not_so (inr nay) = inl nay
+not_so decided = grind (arith, common_steps)
 
 le_dec : (a b : ℕ) → Decided (a ≤ b)
-le_dec a b = elim (cases_lt b a) [
-  | inl less ↦ inr (λ h. omega (arith, less, h))
-  | inr at_most ↦ inl at_most
-]
+le_dec a b = grind (arith, common_steps, cases_lt)
 
 eq_dec : (a b : ℕ) → Decided (a ≡ b)
-eq_dec a b = elim (cases_lt a b) [
-  | inl less ↦ inr (λ h. omega (arith, less, h))
-  | inr more ↦ elim (cases_lt b a) [
-    | inl less ↦ inr (λ h. omega (arith, less, h))
-    | inr at_most ↦ inl (omega (arith, more, at_most))
-  ]
-]
+eq_dec a b = grind (arith, common_steps, cases_lt)
 
 true_dec : (t : Bool) → Decided (IsTrue t)
-true_dec true = inl refl
-true_dec false = inr (λ h. cc)
+true_dec t = grind (arith, common_steps)
 
 if_dec : {P Q : Type 0} → Decided P → Decided Q → Decided (P → Q)
-if_dec p (inl q) = inl (λ h. q)
-if_dec (inl p) (inr nay) = inr (λ h. nay (h p))
-if_dec (inr none) (inr nay) = inl (λ p. absurd (none p))
+if_dec first second = grind (arith, common_steps)
 
 -- ---- one start
 
 lawful_dec : (e : ℕ) (f : PlacementItem) (s : ℕ) → Decided (Lawful e f s)
-lawful_dec e f s = go (both (eq_dec (s % 8) 0) (both (either (eq_dec s e) (le_dec (e + 24) s)) (eq_dec ((s + f.header) % f.alignment) 0)))
-  where
-    go : Decided ((s % 8 ≡ 0) × (((s ≡ e) ⊎ (e + 24 ≤ s)) × ((s + f.header) % f.alignment ≡ 0))) → Decided (Lawful e f s)
-    go (inl (a, (b, c))) = inl (record { eighth = a; gap = b; aligned = c })
-    go (inr nay) = inr (λ h. nay (h.eighth, (h.gap, h.aligned)))
+lawful_dec e f s = grind (arith, common_steps, both, eq_dec, either, le_dec)
 
 stands_dec : (total e : ℕ) (f : PlacementItem) (s : ℕ) → Decided (IsStartInVolume total e f s)
 stands_dec total e f s =
@@ -144,8 +121,7 @@ module _ (total : ℕ) (f : PlacementItem) (fs : List PlacementItem) (rest : (e 
     go (inr none) = inr (none_at none)
 
 first_none : (total e : ℕ) (others : List ℕ) (i : ℕ) → StartsFollow total e [] others → get_or {A = ℕ} [] i 0 ≤ get_or others i 0
-first_none total e [] i follow = omega arith
-first_none total e (s ∷ ss) i follow = absurd follow
+first_none total e others i follow = grind (arith, common_steps)
 
 follows : (total : ℕ) (fs : List PlacementItem) (e : ℕ) → Follows total fs e
 follows total [] e = inl ([], (tt, λ others i follow same. first_none total e others i follow))
@@ -170,8 +146,7 @@ placed_or_none total first fs = go (le_dec first total) (follows total fs first)
 -- ---- the volume top file
 
 off_dec : (total : ℕ) (f : PlacementItem) → Decided (IsMisaligned total f)
-off_dec total f =
-    either (not_so (eq_dec ((total - f.size + f.header) % f.alignment) 0)) (not_so (eq_dec ((total - f.size) % 8) 0))
+off_dec total f = grind (arith, common_steps, either, not_so, eq_dec)
 
 top_dec : (total : ℕ) (fs : List PlacementItem) → Decided (TopMisaligned total fs)
 top_dec total [] = inr (λ h. h)

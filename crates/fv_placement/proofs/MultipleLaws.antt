@@ -4,10 +4,10 @@
 -- 2. The multiples of the step (the alignment, but at least 8) are the common multiples of 8 and of the alignment.
 -- 3. Sums and differences of multiples of 8 are multiples of 8.
 -- 4. An edge is the next multiple of 8.
-use Rattle.std.proofs.Common.{◌≡◌, ℕ, ◌+◌, ◌-◌, ◌*◌, ◌/◌, ◌%◌, ◌^◌, ◌<◌, ◌≤◌, inl, inr, sym, ◌∙◌, ap, subst, arith}
+use Rattle.std.proofs.Common.{◌≡◌, ℕ, ◌+◌, ◌-◌, ◌*◌, ◌/◌, ◌%◌, ◌^◌, ◌<◌, ◌≤◌, sym, ◌∙◌, ap, subst, arith}
 use Rattle.fv_base.proofs.Laws.{common_steps, up_to_8, cases_lt}
 use Rattle.fv_placement.specs.inner.Reaches.{Widens}
-use Rattle.std.proofs.lemmas.Nat.{pow_below, div_below, mod-pow-add}
+use Rattle.std.proofs.lemmas.Nat.{pow_below, mod-pow-add}
 use Rattle.std.proofs.Math.Nat.{mul-le-mul_left, mul-mod_right, mul-mod_left, mul_comm, div-add-mod, add-zero, add_right_cancel}
 
 -- ---- 1. apart
@@ -22,9 +22,7 @@ is_multiple d x a e = grind (arith, common_steps, add_right_cancel, div-add-mod,
 
 -- the smaller of two multiples is smaller by at least the alignment
 pub multiples_apart : (a x y : ℕ) → 0 < a → x % a ≡ 0 → y % a ≡ 0 → x < y → x + a ≤ y
-multiples_apart a x y h p q l =
-    let less : x / a < y / a = div_below x a (y / a) h (subst (λ n. x < n) (multiple_is a y q ∙ mul_comm a (y / a)) l) in
-    omega (arith, mul-le-mul_left a less, multiple_is a x p, multiple_is a y q)
+multiples_apart a x y h p q l = grind (arith, common_steps, multiple_is, mul_comm, mul-le-mul_left)
 
 -- there is no multiple between a multiple and the next one
 pub none_between : (a d y : ℕ) → 0 < a → d % a ≡ 0 → y % a ≡ 0 → y < d + a → y ≤ d
@@ -40,32 +38,22 @@ coarser_at : (j k x : ℕ) → k ≤ j → x % 2 ^ j ≡ 0 → x % 2 ^ k ≡ 0
 coarser_at j k x l h = let e : j ≡ (j - k) + k = omega arith in coarser (j - k) k x (subst (λ n. x % 2 ^ n ≡ 0) e h)
 
 pub widens_8 : (b k : ℕ) → b ≡ 2 ^ k → b < 8 → Widens 8 b
-widens_8 b k e l = elim (cases_lt k 4) [
-  | inl h ↦ record {
-    wide = omega arith;
-    small = omega arith;
-    both = λ x p. (p, subst (λ n. x % n ≡ 0) (sym e) (coarser_at 3 k x (omega arith) p));
-    joined = λ x p q. p;
-  }
-  | inr h ↦ absurd (far b (2 ^ k) e l (pow_below 3 k (omega arith)))
-]
-  where
-    far : (b p : ℕ) → b ≡ p → b < 8 → 8 < p → ⊥
-    far b p e l h = omega arith
+widens_8 b k e l =
+    let low : k ≤ 3 = grind (arith, pow_below 3 k) in record {
+      wide = omega arith;
+      small = omega arith;
+      both = λ x p. (p, subst (λ n. x % n ≡ 0) (sym e) (coarser_at 3 k x low p));
+      joined = λ x p q. p;
+    }
 
 pub widens_self : (b k : ℕ) → k ≤ 24 → b ≡ 2 ^ k → 8 ≤ b → Widens b b
-widens_self b k h e l = elim (cases_lt k 3) [
-  | inl m ↦ absurd (near b (2 ^ k) e l (pow_below k 3 m))
-  | inr m ↦ record {
-    wide = l;
-    small = subst (λ n. n < 2 ^ 25) (sym e) (pow_below k 25 (omega arith));
-    both = λ x p. (coarser_at k 3 x m (subst (λ n. x % n ≡ 0) e p), p);
-    joined = λ x p q. q;
-  }
-]
-  where
-    near : (b p : ℕ) → b ≡ p → 8 ≤ b → p < 8 → ⊥
-    near b p e l h = omega arith
+widens_self b k h e l =
+    let high : 3 ≤ k = grind (arith, pow_below k 3) in record {
+      wide = l;
+      small = omega (arith, pow_below k 25);
+      both = λ x p. (coarser_at k 3 x high (subst (λ n. x % n ≡ 0) e p), p);
+      joined = λ x p q. q;
+    }
 
 -- ---- 3. multiples of 8
 

@@ -5,6 +5,7 @@
 -- 3. Two first placements are equal.
 -- 4. If each file in turn is placed at its first start, the starts meet this condition.
 -- 5. If a volume top file cannot begin at its only possible start, there is no placement.
+use Rattle.std.proofs.lemmas.Grind.{common_steps}
 use Rattle.std.proofs.Common.{◌≡◌, ℕ, ◌+◌, ◌-◌, ◌%◌, ◌<◌, ◌≤◌, [], ◌∷◌, ◌++◌, inl, inr, refl, sym, ◌∙◌, ap, subst, arith, List, Bool, true, false}
 use Rattle.std.proofs.Common.{append_assoc, append-nil, length, get_or, take, drop, zero, suc, add-one, IsTrue, MatchBool, take_all}
 use Rattle.fv_base.proofs.Laws.{up_to_8, drop_more, drop_all, take_more}
@@ -71,8 +72,7 @@ agree total first fs ss l p = first_from total first fs ss p (least_firsts total
 
 first_same : (total first : ℕ) (fs : List PlacementItem) (ss ts : List ℕ) → IsFirstPlacement total first fs ss
     → IsFirstPlacement total first fs ts → (i : ℕ) → take i ss ≡ take i ts → get_or ss i 0 ≡ get_or ts i 0
-first_same total first fs ss ts p q i e = let a = p.least ts i q.placement (sym e) in let b = q.least ss i p.placement e in
-    omega (arith, a, b)
+first_same total first fs ss ts p q i e = grind (arith, common_steps)
 
 -- a placement has one start for each file
 pub follow_length : (total e : ℕ) (fs : List PlacementItem) (ss : List ℕ) → StartsFollow total e fs ss → length ss ≡ length fs
@@ -137,11 +137,7 @@ placed_end total first fs e i done l room o =
 -- ---- 5. no placement
 
 off_none : (total e : ℕ) (f : PlacementItem) (s : ℕ) → s + f.size ≡ total → (s + f.header) % f.alignment ≡ 0 → s % 8 ≡ 0 → IsMisaligned total f → ⊥
-off_none total e f s at aligned eighth (inl a) = a (ap (λ (n : ℕ). (n + f.header) % f.alignment) (omega (arith, at)) ∙ aligned)
-off_none total e f s at aligned eighth (inr b) = b (ap (λ (n : ℕ). n % 8) (start total f.size at) ∙ eighth)
-  where
-    start : (total n : ℕ) → s + n ≡ total → total - n ≡ s
-    start total n e = omega (arith, e)
+off_none total e f s at aligned eighth off = grind (arith, common_steps)
 
 -- files cannot be placed if the volume top file cannot begin at its only possible start
 pub top_none : (total e : ℕ) (fs : List PlacementItem) (ss : List ℕ) → TopMisaligned total fs → StartsFollow total e fs ss → ⊥

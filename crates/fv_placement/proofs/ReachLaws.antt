@@ -23,24 +23,14 @@ far_enough e t p q l = grind (arith, common_steps, cases_lt)
 
 -- a usable edge is at most the greatest usable edge
 pub usable_most : (r : Reach) (e : ℕ) → IsUsableEdge r e → e ≤ r.greatest
-usable_most r e (inl (inl a)) = omega arith
-usable_most r e (inl (inr a)) = omega arith
-usable_most r e (inr (inl (a, b))) = omega arith
-usable_most r e (inr (inr (a, b))) = omega arith
+usable_most r e usable = grind (arith, common_steps)
 
 -- ---- 2. the start with which a placement begins
 
 -- a lawful start that is usable is within the volume
 pub stands : (total e : ℕ) (f : PlacementItem) (r : Reach) (s : ℕ) → r.greatest ≤ total → Lawful e f s → IsUsableStart total f r s
     → IsStartInVolume total e f s
-stands total e f r s g l v = record {
-  lawful = l;
-  within = before (up_to_8 (s + f.size)) (edge_above (s + f.size)) (usable_most r (up_to_8 (s + f.size)) v.edge);
-  at_end = v.at_end;
-}
-  where
-    before : (x : ℕ) → s + f.size ≤ x → x ≤ r.greatest → s + f.size ≤ total
-    before x p q = omega arith
+stands total e f r s g l v = grind (arith, common_steps, edge_above, usable_most)
 
 placed_by : (total e : ℕ) (f : PlacementItem) (fs : List PlacementItem) (r : Reach) (s : ℕ) → IsReach total fs r → Lawful e f s
     → IsUsableStart total f r s
@@ -48,11 +38,7 @@ placed_by : (total e : ℕ) (f : PlacementItem) (fs : List PlacementItem) (r : R
 placed_by total e f fs r s h l v =
     let c = h.sound (up_to_8 (s + f.size)) (edge_eighth (s + f.size)) v.edge in
     let inside = stands total e f r s h.bound.greatest l v in
-    record { room = room l.gap inside.within; starts = s ∷ c.starts; follow = (inside, c.follow) }
-  where
-    room : (s ≡ e) ⊎ (e + 24 ≤ s) → s + f.size ≤ total → e ≤ total
-    room (inl a) p = omega arith
-    room (inr a) p = omega arith
+    record { room = grind arith; starts = s ∷ c.starts; follow = (inside, c.follow) }
 
 pub begins : (total e : ℕ) (f : PlacementItem) (fs : List PlacementItem) (r : Reach) (s : ℕ) (ss : List ℕ) → total % 8 ≡ 0 → IsBound total fs r
     → StartsFollow total e (f ∷ fs) (s ∷ ss) → IsUsableStart total f r s
@@ -79,17 +65,13 @@ pub reach_more : (total : ℕ) (f : PlacementItem) (fs : List PlacementItem) (af
     → IsGreatest total f after r → IsReach total (f ∷ fs) r
 reach_more total f fs after r h w g = record {
   bound = record {
-    greatest = within (up_to_8 (r.greatest + f.size)) (edge_above (r.greatest + f.size))
-        (usable_most after (up_to_8 (r.greatest + f.size)) g.usable.edge);
+    greatest = omega (arith, usable_most after (up_to_8 (r.greatest + f.size)) g.usable.edge, w.bound.greatest);
     complete = λ e p c. let b = begins_some total e f fs after h w.bound c in complete e p b.0 b.1 b.2;
   };
   eighth = g.usable.eighth;
   sound = sound;
 }
   where
-    within : (x : ℕ) → r.greatest + f.size ≤ x → x ≤ after.greatest → r.greatest ≤ total
-    within x p q = omega (arith, w.bound.greatest)
-
     at : (e : ℕ) → IsUsableStart total f after e → CanPlace total e (f ∷ fs)
     at e v = placed_by total e f fs after e w (record { eighth = v.eighth; gap = inl refl; aligned = v.aligned }) v
 
@@ -109,19 +91,13 @@ reach_more total f fs after r h w g = record {
     complete : (e : ℕ) → e % 8 ≡ 0 → (s : ℕ) → Lawful e f s → IsUsableStart total f after s → IsUsableEdge r e
     complete e p s l v = elim l.gap [
       | inl same ↦ at_edge e (subst (λ n. IsUsableStart total f after n) same v)
-      | inr a ↦ inl (inl (beyond (g.most s v) a))
+      | inr a ↦ inl (inl (omega (arith, g.most s v)))
     ]
-      where
-        beyond : s ≤ r.greatest → e + 24 ≤ s → e + 24 ≤ r.greatest
-        beyond p q = omega arith
 
 -- ---- 4. backwards: file n - 1, with the reach of the files after it
 
 drop_step : (fs : List PlacementItem) (n : ℕ) (d : PlacementItem) → 0 < n → n ≤ length fs → drop (n - 1) fs ≡ get_or fs (n - 1) d ∷ drop n fs
-drop_step fs n d p l = drop_more fs (n - 1) d (omega arith) ∙ ap (λ k. get_or fs (n - 1) d ∷ drop k fs) (back n p)
-  where
-    back : (n : ℕ) → 0 < n → n - 1 + 1 ≡ n
-    back n p = omega arith
+drop_step fs n d p l = grind (arith, common_steps, drop_more)
 
 pub reach_back : (total : ℕ) (fs : List PlacementItem) (n : ℕ) (d : PlacementItem) (after r : Reach) → 0 < n → n ≤ length fs → total % 8 ≡ 0
     → IsReach total (drop n fs) after → IsGreatest total (get_or fs (n - 1) d) after r → IsReach total (drop (n - 1) fs) r
@@ -141,11 +117,8 @@ kept_set total fs reaches n r p l len here each i d low lt = elim (cases_lt i n)
       (sym (ap (λ k. get_or (slice_set reaches (n - 1) r) k d) at ∙ get_or-set_same reaches (n - 1) r d (omega arith)))
       (subst (λ k. IsReach total (drop k fs) r) next here)
   | inr more ↦
-      subst (λ x. IsReach total (drop (i + 1) fs) x) (sym (get_or-set_other reaches (n - 1) i r d (λ e. apart n more p e))) (each i d more lt)
+      subst (λ x. IsReach total (drop (i + 1) fs) x) (sym (get_or-set_other reaches (n - 1) i r d (λ e. omega arith))) (each i d more lt)
 ]
-  where
-    apart : (n : ℕ) → n ≤ i → 0 < n → i ≡ n - 1 → ⊥
-    apart n more p e = omega arith
 
 -- if the files can be placed, the files from each file on can be placed
 rest_can : (total e : ℕ) (fs : List PlacementItem) (i : ℕ) → i ≤ length fs → total % 8 ≡ 0 → CanPlace total e fs

@@ -6,7 +6,7 @@
 --    step after it.
 -- 3. Downwards: if the greatest aligned start with which the file ends at most at the greatest usable edge is not
 --    usable, the next lower aligned start is.
-use Rattle.std.proofs.Common.{◌≡◌, ℕ, ◌+◌, ◌-◌, ◌%◌, ◌<◌, ◌≤◌, inl, inr, sym, ◌∙◌, ap, subst, arith, Bool, true, false, IsTrue}
+use Rattle.std.proofs.Common.{◌≡◌, ℕ, ◌+◌, ◌-◌, ◌%◌, ◌<◌, ◌≤◌, inl, inr, subst, arith, Bool, false, IsTrue}
 use Rattle.fv_base.proofs.Laws.{common_steps, up_to_8, cases_lt}
 use Rattle.std.proofs.Math.Nat.{mod_self, mod-eq-sub-mod}
 use Rattle.fv_placement.specs.Words.{Lawful}
@@ -17,8 +17,7 @@ use Rattle.fv_placement.proofs.MultipleLaws.{multiples_apart, eighth_sum, eighth
 use Rattle.fv_placement.proofs.ReachLaws.{usable_most}
 
 pub not_true : (b : Bool) → b ≡ false → IsTrue b → ⊥
-not_true true e h = cc
-not_true false e h = cc
+not_true b e h = grind (arith, common_steps)
 
 pub never_true : IsTrue false → ⊥
 never_true h = cc
@@ -36,9 +35,7 @@ data_at : (total : ℕ) (f : PlacementItem) (r : Reach) (a t : ℕ) → Widens a
 data_at total f r a t w h v = w.joined (t + f.header) (eighth_sum t f.header v.eighth h) v.aligned
 
 step_apart : (f : PlacementItem) (a s t : ℕ) → Widens a f.alignment → (s + f.header) % a ≡ 0 → (t + f.header) % a ≡ 0 → s < t → s + a ≤ t
-step_apart f a s t w p q l =
-    let far : (s + f.header) + a ≤ t + f.header = multiples_apart a (s + f.header) (t + f.header) (omega (arith, w.wide)) p q (omega (arith, l)) in
-    omega (arith, far)
+step_apart f a s t w p q l = grind (arith, common_steps, multiples_apart)
 
 -- if s is not usable, a usable start is at least a step after it or at least a step before it
 pub after_missed : (total : ℕ) (f : PlacementItem) (r : Reach) (a s t : ℕ) → Widens a f.alignment → f.header % 8 ≡ 0
@@ -65,31 +62,21 @@ pub from_pad : (total e : ℕ) (f : PlacementItem) (r : Reach) (a d t : ℕ) →
 from_pad total e f r a d t w h least not l v = grind (arith, common_steps, data_at)
 
 pub multiple_next : (s h a : ℕ) → (s + h) % a ≡ 0 → ((s + a) + h) % a ≡ 0
-multiple_next s h a p = mod-eq-sub-mod (omega arith) ∙ (ap (λ n. n % a) (turned s h a) ∙ p)
-  where
-    turned : (s h a : ℕ) → ((s + a) + h) - a ≡ s + h
-    turned s h a = omega arith
+multiple_next s h a p = grind (arith, common_steps, mod-eq-sub-mod)
 
 -- ---- 3. down
 
 multiple_back : (s h a : ℕ) → (s + h) % a ≡ 0 → a ≤ s → ((s - a) + h) % a ≡ 0
-multiple_back s h a p l = ap (λ n. n % a) (turned s h a l) ∙ (sym (mod-eq-sub-mod (omega (arith, l))) ∙ p)
-  where
-    turned : (s h a : ℕ) → a ≤ s → (s - a) + h ≡ (s + h) - a
-    turned s h a l = omega arith
+multiple_back s h a p l = grind (arith, common_steps, mod-eq-sub-mod)
 
 pub data_back : (d h a : ℕ) → h ≤ d → d % a ≡ 0 → ((d - h) + h) % a ≡ 0
-data_back d h a l p = ap (λ n. n % a) (back d h l) ∙ p
-  where
-    back : (d h : ℕ) → h ≤ d → (d - h) + h ≡ d
-    back d h l = omega arith
+data_back d h a l p = grind (arith, common_steps)
 
 -- d is the greatest multiple of the step with which the file ends at most at the greatest usable edge: no usable start
 -- has its data above d
 pub data_most : (total : ℕ) (f : PlacementItem) (r : Reach) (a d t : ℕ) → Widens a f.alignment → f.header % 8 ≡ 0
     → ((y : ℕ) → y % a ≡ 0 → y ≤ r.greatest - up_to_8 f.size + f.header → y ≤ d) → IsUsableStart total f r t → t + f.header ≤ d
-data_most total f r a d t w h most v =
-    most (t + f.header) (data_at total f r a t w h v) (omega (arith, v.eighth, usable_most r (up_to_8 (t + f.size)) v.edge))
+data_most total f r a d t w h most v = grind (arith, common_steps, data_at, usable_most)
 
 -- if the start with its data at d is not usable, a usable start is at least a step before it
 pub below_missed : (total : ℕ) (f : PlacementItem) (r : Reach) (a d t : ℕ) → Widens a f.alignment → f.header % 8 ≡ 0 → d % a ≡ 0

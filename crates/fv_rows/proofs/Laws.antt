@@ -3,5 +3,7 @@
 pub use Rattle.fv_rows.proofs.RowVolumeLaws.{rows_followed}
 -- the volumes among the rows of a volume, of some files and of a file's data are the volumes in them
 pub use Rattle.fv_rows.proofs.RowVolumeLaws.{files_volumes, content_volumes, tree_volumes, file_inside, section_inside}
--- the rows in a part are the rows of the parts that it contains
-pub use Rattle.fv_rows.proofs.RowWalkLaws.{inside_rows}
+-- the rows in a part are the rows of the parts that it contains, and the rows of a volume are the rows of one part
+pub use Rattle.fv_rows.proofs.RowWalkLaws.{inside_rows, volume_rows}
+-- the parts in a part nest only as deep as their depth allows, and the depth of a part is at most 26
+pub use Rattle.fv_rows.proofs.RowWalkLaws.{inside_nests, deep}

@@ -1,49 +1,39 @@
 -- Each row of a volume is followed by the rows of its contents. The volumes among the rows of a part are the volumes in
 -- this part.
-use Rattle.std.proofs.Common.{◌≡◌, ◌∙◌, ◌+◌, ℕ, List, [], ◌∷◌, ◌++◌, refl, sym, ap, subst, arith, append_assoc, append-nil}
+use Rattle.std.proofs.Common.{◌≡◌, ◌≤◌, ◌∙◌, ◌+◌, ℕ, zero, suc, List, [], ◌∷◌, ◌++◌, length, refl, sym, ap, subst, arith, append_assoc, append-nil}
+use Rattle.fv_base.proofs.Laws.{length-append}
 use Rattle.fv_tree.specs.Words.{Meaning, Volume, FileMeanings, NoFiles, MoreFiles, FileMeaning, File, ContentMeaning, Plain, Sectioned}
 use Rattle.fv_tree.specs.Words.{SectionMeanings, NoSections, MoreSections, SectionMeaning, Section, BodyMeaning, Leaf, Group, Nested}
 use Rattle.fv_tree.specs.Words.{Inside, deeper, volumes_in, volumes_in_files, volumes_in_file, volumes_in_content, volumes_in_sections}
 use Rattle.fv_tree.specs.Words.{volumes_in_section, volumes_in_body, body_of, content_of}
 use Rattle.fv_rows.specs.Words.{FileNode, SectionNode, TreeRow, rows_of_volume, rows_of_files, rows_of_file, rows_in_content, rows_of_sections, rows_of_section}
-use Rattle.fv_rows.specs.Words.{rows_in_body, tree_rows, rows_inside}
+use Rattle.fv_rows.specs.Words.{rows_in_body, tree_rows, rows_inside, NodeMeaning, VolumeNode, nesting_inside, parts_in, rows_of_nodes}
+use Rattle.fv_rows.proofs.RowWalkLaws.{inside_rows, volume_rows}
 use Rattle.fv_rows.specs.inner.RowVolumes.{Followed, deeper_by, volumes_of}
 
 -- ---- the rows that follow a row
 
-mutual
-  followed_volume : (d n : ℕ) (v : Meaning) (more : List TreeRow) → Followed more → Followed (rows_of_volume d n v ++ more)
-  followed_volume d n (Volume h files) more next = ((more, refl), followed_files (d + 1) n 0 files more next)
-
-  followed_files : (d n i : ℕ) (fs : FileMeanings) (more : List TreeRow) → Followed more → Followed (rows_of_files d n i fs ++ more)
-  followed_files d n i NoFiles more next = next
-  followed_files d n i (MoreFiles f fs) more next =
-      subst Followed (sym (append_assoc (rows_of_file d n i f) (rows_of_files d n (i + 1) fs) more))
-      (followed_file d n i f (rows_of_files d n (i + 1) fs ++ more) (followed_files d n (i + 1) fs more next))
-
-  followed_file : (d n i : ℕ) (f : FileMeaning) (more : List TreeRow) → Followed more → Followed (rows_of_file d n i f ++ more)
-  followed_file d n i (File name kind attributes content) more next = ((more, refl), followed_content (d + 1) n content more next)
-
-  followed_content : (d n : ℕ) (c : ContentMeaning) (more : List TreeRow) → Followed more → Followed (rows_in_content d n c ++ more)
-  followed_content d n (Plain b) more next = next
-  followed_content d n (Sectioned ss tail) more next = followed_sections d n 0 ss more next
-
-  followed_sections : (d n j : ℕ) (ss : SectionMeanings) (more : List TreeRow) → Followed more → Followed (rows_of_sections d n j ss ++ more)
-  followed_sections d n j NoSections more next = next
-  followed_sections d n j (MoreSections s ss) more next =
-      subst Followed (sym (append_assoc (rows_of_section d n j s) (rows_of_sections d n (j + 1) ss) more))
-      (followed_section d n j s (rows_of_sections d n (j + 1) ss ++ more) (followed_sections d n (j + 1) ss more next))
-
-  followed_section : (d n j : ℕ) (s : SectionMeaning) (more : List TreeRow) → Followed more → Followed (rows_of_section d n j s ++ more)
-  followed_section d n j (Section kind extended body) more next = ((more, refl), followed_body (d + 1) (n + 1) body more next)
-
-  followed_body : (d n : ℕ) (b : BodyMeaning) (more : List TreeRow) → Followed more → Followed (rows_in_body d n b ++ more)
-  followed_body d n (Leaf b) more next = next
-  followed_body d n (Group ss tail) more next = followed_sections d n 0 ss more next
-  followed_body d n (Nested v) more next = followed_volume d n v more next
+-- `most` is at least the number of the rows
+followed_nodes : (most d n i : ℕ) (nodes : List NodeMeaning) (more : List TreeRow) → length (rows_of_nodes d n i nodes) ≤ most → Followed more
+    → Followed (rows_of_nodes d n i nodes ++ more)
+followed_nodes most d n i [] more few next = next
+followed_nodes zero d n i (node ∷ nodes) more few next = absurd (omega (arith, few))
+followed_nodes (suc most) d n i (node ∷ nodes) more few next =
+    let inside : List TreeRow = rows_inside (d + 1) (nesting_inside n node) node in
+    let rest : List TreeRow = rows_of_nodes d n (i + 1) nodes in
+    let own = inside_rows (d + 1) (nesting_inside n node) node in
+    let long = length-append inside rest in
+    let joined : inside ++ (rest ++ more) ≡ (inside ++ rest) ++ more = sym (append_assoc inside rest more) in (
+      (rest ++ more, sym joined),
+      subst Followed (ap (λ (l : List TreeRow). l ++ (rest ++ more)) (sym own) ∙ joined)
+          (followed_nodes most (d + 1) (nesting_inside n node) 0 (parts_in node) (rest ++ more) (omega (arith, few, long, ap length own))
+          (followed_nodes most d n (i + 1) nodes more (omega (arith, few, long)) next)),
+    )
 
 pub rows_followed : (m : Meaning) → Followed (tree_rows m)
-rows_followed m = subst Followed (append-nil (tree_rows m)) (followed_volume 0 0 m [] tt)
+rows_followed m =
+    let rows : List TreeRow = rows_of_nodes 0 0 0 (VolumeNode m ∷ []) in
+    subst Followed (append-nil rows ∙ sym (volume_rows 0 0 m)) (followed_nodes (length rows) 0 0 0 (VolumeNode m ∷ []) [] (omega arith) tt)
 
 -- ---- the volumes among the rows
 

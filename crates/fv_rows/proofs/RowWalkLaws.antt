@@ -65,7 +65,7 @@ sections_nest : (depth n : ℕ) (ss : List SectionMeaning) → depth + 3 * n ≤
 sections_nest depth n [] fits h = tt
 sections_nest depth n (s ∷ ss) fits ((f, means), more) = ((n, fits, f, means), sections_nest depth n ss fits more)
 
-inside_nests : (depth : ℕ) (node : NodeMeaning) → NestsAt depth node → AllByRecursion (NestsAt (depth + 1)) (parts_in node)
+pub inside_nests : (depth : ℕ) (node : NodeMeaning) → NestsAt depth node → AllByRecursion (NestsAt (depth + 1)) (parts_in node)
 inside_nests depth (VolumeNode (Volume h files)) (n, fits, b, d) =
     files_nest (depth + 1) n (files_list files) (omega (arith, fits)) (nests_files h files n (b, d))
 inside_nests depth (FileNode (File name kind attributes (Plain b))) nests = tt
@@ -114,7 +114,7 @@ none_left levels l is =
     ∙ ap (λ nodes. rows_of_nodes (length levels) l.nesting l.number nodes ++ left_in 0 levels) is
 
 -- every part leaves room for one more level
-deep : (depth : ℕ) (node : NodeMeaning) → NestsAt depth node → depth ≤ 26
+pub deep : (depth : ℕ) (node : NodeMeaning) → NestsAt depth node → depth ≤ 26
 deep depth (VolumeNode v) (n, fits, what, more) = omega (arith, fits)
 deep depth (FileNode f) (n, fits, what, more) = omega (arith, fits)
 deep depth (SectionNode s) (n, fits, what, more) = omega (arith, fits)

@@ -6,4 +6,4 @@ mod digests;
 mod tree_walk;
 
 pub use digests::Digests;
-pub use tree_walk::{Part, Row, TreeWalk};
+pub use tree_walk::{Part, Parts, Row, TreeWalk, known, next_part, parts_in};

@@ -35,13 +35,17 @@ pub struct Row<'v, 'a> {
     pub part: Part<'v, 'a>,
 }
 
-// The contents of one part that a walk has not returned yet.
+/// Parts in the same part that are left, in order.
 #[derive(Default, Drop)]
-enum Parts<'v, 'a> {
+pub enum Parts<'v, 'a> {
+    /// No part.
     #[default]
     Nothing,
+    /// The volume of a section.
     Volume(&'v VolumeView<'a>),
+    /// Files of a volume.
     Files(&'v [FileView<'a>]),
+    /// Sections of a file or of a group.
     Sections(Sections<'v, 'a>),
 }
 
@@ -54,9 +58,10 @@ struct Level<'v, 'a> {
     parts: Parts<'v, 'a>,
 }
 
-// Returns the first of some parts, and leaves the others; returns None if there is no part.
+/// Returns the first of some parts, and leaves the others; returns None if there is no part.
+/// Allocates no memory.
 #[inline(always)]
-fn next_part<'v, 'a>(parts: &mut Parts<'v, 'a>) -> Option<Part<'v, 'a>>
+pub fn next_part<'v, 'a>(parts: &mut Parts<'v, 'a>) -> Option<Part<'v, 'a>>
     ensures some { IfSome result (λ p. nodes_of parts.old ≡ part_node p ∷ nodes_of parts.new) }
     ensures none { IfNone result (nodes_of parts.old ≡ []) }
 {
@@ -78,9 +83,10 @@ fn next_part<'v, 'a>(parts: &mut Parts<'v, 'a>) -> Option<Part<'v, 'a>>
     }
 }
 
-// Returns the parts that a part contains.
+/// Returns the parts that a part contains. Allocates no memory. (PI specification, volume 3, section
+/// 3.2.)
 #[inline(always)]
-fn parts_in<'v, 'a>(part: &Part<'v, 'a>) -> Parts<'v, 'a>
+pub fn parts_in<'v, 'a>(part: &Part<'v, 'a>) -> Parts<'v, 'a>
     ensures nodes { nodes_of result ≡ parts_in (part_node part.now) }
     ensures few { length (nodes_of result) < 2 ^ 63 }
 {
@@ -107,9 +113,9 @@ fn parts_in<'v, 'a>(part: &Part<'v, 'a>) -> Parts<'v, 'a>
     }
 }
 
-// Computes nothing. After the call, a proof knows that groups and volumes in this part, which was
-// read, nest only so deep that `TreeWalk` has room for a walk over it.
-fn known(part: &Part<'_, '_>)
+/// Computes nothing. After the call, a proof knows that groups and volumes in this part, which was
+/// read, nest only so deep that `TreeWalk` has room for a walk over it.
+pub fn known(part: &Part<'_, '_>)
     ensures { NestsAt 0 (part_node part.now) }
 {
     match part {

@@ -4,7 +4,7 @@
 --    the bytes (`one_frame`).
 -- 3. The verdict is the frame (`verdict_stands`, `stands_verdict`), or the first fault of the checks (`verdict_first`).
 -- 4. If a check does not hold, no frame begins the bytes (`none_stands`).
-use Rattle.std.proofs.Common.{◌≡◌, ◌≤◌, ◌<◌, ℕ, ◌+◌, ◌-◌, ◌++◌, ◌==◌, List, length, take, drop, refl, sym, ap, ◌∙◌, subst, arith, Bool, true, false}
+use Rattle.std.proofs.Common.{◌≡◌, ◌≤◌, ◌<◌, ℕ, ◌+◌, ◌-◌, ◌++◌, ◌==◌, List, length, take, drop, refl, sym, ap, ◌∙◌, subst, arith, Bool, true}
 use Rattle.std.proofs.Common.{length-append, length-drop, append_assoc, drop-drop, slice_index, Result, Ok, Err, leb-true, le-leb, eqb-true, eq-eqb}
 use Rattle.std.proofs.Common.{take-append-drop, take_at, drop_at, length-take-le, get_or-take}
 use Rattle.fv_base.proofs.Laws.{common_steps, eqb-false, get_or-append, AllHold, IsFirstFault, Which, Fails, le, le_at, all_hold, and_join, and_split}
@@ -17,8 +17,7 @@ use Rattle.fv_section.specs.Words.{FrameForm, BeginsFrame, StatesSize, section_h
 use Rattle.fv_section.specs.inner.FrameVerdicts.{frame_verdict}
 
 pub head_least : (extended : Bool) → 4 ≤ section_header_len extended
-head_least false = omega arith
-head_least true = omega arith
+head_least extended = grind (arith, common_steps)
 
 pub size_least : (f : FrameForm) → 4 ≤ frame_len f
 size_least f = omega (arith, head_least f.extended)
@@ -27,8 +26,7 @@ size_least f = omega (arith, head_least f.extended)
 
 says_size : (t : Bool) (n : ℕ) (r h : List ℕ) → has_extended_size r ≡ t → le_at 0 3 h ≡ le_at 0 3 r → (t ≡ true → le_at 4 4 h ≡ le_at 4 4 r)
     → n ≡ section_size_in t r → StatesSize t n h
-says_size false n r h is short long e = (short ∙ sym e, λ full. eqb-false (le_at 0 3 r) 0xffffff is (sym e ∙ full))
-says_size true n r h is short long e = (short ∙ eqb-true (le_at 0 3 r) 0xffffff is, long refl ∙ sym e)
+says_size t n r h is short long e = grind (arith, common_steps, eqb-false, eqb-true)
 
 pub begins_in : (at : ℕ) (r : List ℕ) → AllHold (frame_checks at r) → BeginsFrame (frame_in at r) r (drop (section_size_at r) r)
 begins_in at r all =
@@ -71,13 +69,11 @@ pub record ReadsFrame (f : FrameForm) (r rest : List ℕ) : Type 0 where
   pub whole : length r ≡ frame_len f + length rest
 
 shown : (extended : Bool) (n : ℕ) (h : List ℕ) → StatesSize extended n h → (le_at 0 3 h == 0xffffff) ≡ extended
-shown false n h (is, ne) = not_equal (le_at 0 3 h) 0xffffff (λ e. ne (sym is ∙ e))
-shown true n h (is, e) = eq-eqb (le_at 0 3 h) 0xffffff is
+shown extended n h states = grind (arith, common_steps, not_equal, eq-eqb)
 
 sized : (extended : Bool) (n : ℕ) (h y : List ℕ) → length h ≡ section_header_len extended → StatesSize extended n h
     → section_size_in extended (h ++ y) ≡ n
-sized false n h y l (is, ne) = ap le (field-append_front 0 3 h y (omega (arith, l))) ∙ is
-sized true n h y l (is, e) = ap le (field-append_front 4 4 h y (omega (arith, l))) ∙ e
+sized extended n h y l states = grind (arith, common_steps, field-append_front)
 
 abbrev frame_by : ℕ → ℕ → Bool → List ℕ → FrameForm
 frame_by at kind extended body = record { offset = at; kind = kind; extended = extended; body = body }

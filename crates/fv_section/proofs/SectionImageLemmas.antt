@@ -1,13 +1,11 @@
 -- Frames that are written one after another are read again as the same frames.
-use Rattle.std.proofs.Common.{◌≡◌, ℕ, ◌+◌, ◌-◌, ◌*◌, ◌/◌, ◌%◌, [], ◌∷◌, ◌++◌, List, length, refl, arith, Bool, true, false, replicate}
+use Rattle.std.proofs.Common.{◌≡◌, ℕ, ◌+◌, ◌-◌, ◌*◌, ◌/◌, ◌%◌, [], ◌∷◌, ◌++◌, List, length, refl, arith, Bool, replicate}
 use Rattle.fv_base.proofs.Laws.{common_steps, length-replicate, le-le_bytes}
 use Rattle.fv_section.specs.Words.{FrameForm, BeginsFrame, IsSectionHeader, frame_len, up_to_4, FitsForm, StreamsAreRead, section_head_of, stream_of}
 
 -- a header that is written has its form, its type and its size
 pub head_is : (kind : ℕ) (extended : Bool) (n : ℕ) → FitsForm extended n → IsSectionHeader extended kind n (section_head_of kind extended n)
-head_is kind false n fits =
-    record { header_length = refl; kind_is = refl; states = (le-le_bytes 3 (4 + n) (omega (arith, fits)), λ e. omega (arith, fits, e)) }
-head_is kind true n fits = record { header_length = refl; kind_is = refl; states = (refl, le-le_bytes 4 (8 + n) (omega (arith, fits))) }
+head_is kind extended n fits = grind (arith, common_steps, le-le_bytes)
 
 begins_with : (f : FrameForm) (rest : List ℕ) → FitsForm f.extended (length f.body)
     → BeginsFrame f (section_head_of f.kind f.extended (length f.body) ++ (f.body ++ rest)) rest

@@ -47,15 +47,7 @@ text_found b h =
 
 -- if bytes are a text and its zero unit, the test holds
 pub text_holds : (b text : List ℕ) → IsText b text → is_text b ≡ true
-text_holds b text is =
-    let n : length b ≡ length text + 2 = ap length is.joined ∙ length-append text (0 ∷ 0 ∷ []) in
-    let k : length text ≡ length b - 2 = omega (arith, n) in
-    let front : take (length b - 2) b ≡ text = ap (take (length b - 2)) is.joined ∙ take_at text (0 ∷ 0 ∷ []) (length b - 2) k in
-    let end : drop (length b - 2) b ≡ 0 ∷ 0 ∷ [] = ap (drop (length b - 2)) is.joined ∙ drop_at text (0 ∷ 0 ∷ []) (length b - 2) k in
-    and_join _ _
-    (and_join _ _ (and_join _ _ (le-leb 2 (length b) (omega (arith, n)))
-    (eq-eqb (length b % 2) 0 (omega (arith, n, is.whole_units)))) (eq-eqb (le (drop (length b - 2) b)) 0 (ap le end)))
-    (ap (λ (u : List ℕ). none_zero (words_of u)) front ∙ all-none_zero (words_of text) is.none_zero)
+text_holds b text is = grind (arith, common_steps, length-append, take_at, drop_at, and_join, le-leb, eq-eqb, none_zero, all-none_zero)
 
 pub text_none : (b text : List ℕ) → is_text b ≡ false → IsText b text → ⊥
 text_none b text h is = grind (arith, common_steps, text_holds)

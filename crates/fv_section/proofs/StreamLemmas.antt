@@ -7,7 +7,8 @@
 -- 5. The tail of a stream has at most 3 bytes (`tail_small`).
 -- 6. If a list of bytes (`IsBytes`) begins with a frame, the frame's body and the rest are lists of bytes
 --    (`begun_bytes`), and the body fits the form of the header (`fits`).
-use Rattle.std.proofs.Common.{◌≡◌, ℕ, ◌+◌, ◌<◌, ◌≤◌, [], ◌∷◌, ◌++◌, ◌≢◌, List, length, refl, sym, ap, ◌∙◌, subst, arith, length-append, append_assoc}
+use Rattle.std.proofs.lemmas.Grind.{common_steps}
+use Rattle.std.proofs.Common.{◌≡◌, ℕ, ◌+◌, ◌<◌, ◌≤◌, [], ◌∷◌, ◌++◌, List, length, refl, sym, ap, ◌∙◌, subst, arith, length-append, append_assoc}
 use Rattle.std.proofs.Common.{Bool, true, false, drop, length-drop, length-take-le}
 use Rattle.fv_base.proofs.Laws.{IsBytes, field, same_cut, bytes_back, bytes_drop, bytes_front, bytes_take, le_below}
 use Rattle.fv_section.specs.Words.{FrameForm, BeginsFrame, SplitsFrom, frame_len, up_to_4, IsSectionHeader, StatesSize, section_header_len, FitsForm}
@@ -15,8 +16,7 @@ use Rattle.fv_section.proofs.FrameLemmas.{length_begun, size_least, one_frame, b
 
 -- a stream with a frame has at least 4 bytes
 pub from_least : (at : ℕ) (f : FrameForm) (fs : List FrameForm) (t : ℕ) (b : List ℕ) → SplitsFrom at (f ∷ fs) t b → 4 ≤ length b
-from_least at f [] t b (rest, begun, o, l, fit) = omega (arith, length_begun f b rest begun, size_least f)
-from_least at f (g ∷ fs) t b (filler, rest, begun, o, fill, more) = omega (arith, length_begun f b (filler ++ rest) begun, size_least f)
+from_least at f fs t b split = grind (arith, common_steps, length_begun, size_least)
 
 -- if frames split the bytes up to an offset that is a multiple of 4, every split of these bytes and more begins with
 -- these frames

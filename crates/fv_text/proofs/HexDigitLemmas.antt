@@ -8,19 +8,19 @@ use Rattle.std.proofs.Math.Seq.{drop-length}
 use Rattle.std.proofs.lemmas.List.Elements.{All-cons, All-nil, All-pop, All-push}
 use Rattle.hex.specs.Hex.{hex_digit_value}
 use Rattle.fv_text.specs.inner.HexDecoding.{IsNibble, SpellsNothing, joined_pairs, value_or_16}
-use Rattle.fv_text.specs.Words.{IsPair, DigitsSpell}
+use Rattle.fv_text.specs.Words.{DigitsSpell}
 
 pub reads_joined : (a b x y : List ℕ) → DigitsSpell a x → DigitsSpell b y → DigitsSpell (a ++ b) (x ++ y)
 reads_joined [] b x y p q = subst (λ (l : List ℕ). DigitsSpell b (l ++ y)) (sym p) q
 reads_joined (h ∷ []) b x y p q = absurd p
-reads_joined (h ∷ l ∷ a) b x y (byte, rest, pair, is, more) q =
-    (byte, rest ++ y, pair, ap (λ (k : List ℕ). k ++ y) is, reads_joined a b rest y more q)
+reads_joined (h ∷ l ∷ a) b x y (high, low, rest, is_high, is_low, is, more) q =
+    (high, low, rest ++ y, is_high, is_low, ap (λ (k : List ℕ). k ++ y) is, reads_joined a b rest y more q)
 
 -- the digits are twice as many as the bytes that they spell
 pub reads_count : (digits bytes : List ℕ) → DigitsSpell digits bytes → length digits ≡ 2 * length bytes
 reads_count [] bytes p = let none = ap length p in omega (arith, none)
 reads_count (h ∷ []) bytes p = absurd p
-reads_count (h ∷ l ∷ digits) bytes (byte, rest, pair, is, more) =
+reads_count (h ∷ l ∷ digits) bytes (high, low, rest, is_high, is_low, is, more) =
     let count = reads_count digits rest more in
     let long = ap length is in
     omega (arith, count, long)
@@ -29,7 +29,7 @@ reads_count (h ∷ l ∷ digits) bytes (byte, rest, pair, is, more) =
 pub reads_rest : (a b x y : List ℕ) → DigitsSpell a x → DigitsSpell (a ++ b) y → (z : List ℕ) × DigitsSpell b z
 reads_rest [] b x y p q = (y, q)
 reads_rest (h ∷ []) b x y p q = absurd p
-reads_rest (h ∷ l ∷ a) b x y (byte, rest, pair, is, more) (other, behind, twin, same, all) = reads_rest a b rest behind more all
+reads_rest (h ∷ l ∷ a) b x y p q = reads_rest a b p.2 q.2 p.6 q.6
 
 -- digits that cannot begin a text of bytes cannot do so with more digits after them
 pub spoilt_more : (a b : List ℕ) → SpellsNothing a → SpellsNothing (a ++ b)
@@ -54,11 +54,11 @@ nibble d v is = subst (λ (o : Option ℕ). unwrap_or o 16 < 16) (sym is) (value
 pub all_digits : (a b bytes : List ℕ) → DigitsSpell (a ++ b) bytes → All IsNibble (map value_or_16 a)
 all_digits [] b bytes all = All-nil IsNibble
 all_digits (h ∷ []) [] bytes all = absurd all
-all_digits (h ∷ []) (l ∷ b) bytes (byte, rest, pair, is, more) =
-    All-cons IsNibble (value_or_16 h) [] (nibble h pair.high pair.high_is) (All-nil IsNibble)
-all_digits (h ∷ l ∷ a) b bytes (byte, rest, pair, is, more) =
-    All-cons IsNibble (value_or_16 h) (value_or_16 l ∷ map value_or_16 a) (nibble h pair.high pair.high_is)
-    (All-cons IsNibble (value_or_16 l) (map value_or_16 a) (nibble l pair.low pair.low_is) (all_digits a b rest more))
+all_digits (h ∷ []) (l ∷ b) bytes (high, low, rest, is_high, is_low, is, more) =
+    All-cons IsNibble (value_or_16 h) [] (nibble h high is_high) (All-nil IsNibble)
+all_digits (h ∷ l ∷ a) b bytes (high, low, rest, is_high, is_low, is, more) =
+    All-cons IsNibble (value_or_16 h) (value_or_16 l ∷ map value_or_16 a) (nibble h high is_high)
+    (All-cons IsNibble (value_or_16 l) (map value_or_16 a) (nibble l low is_low) (all_digits a b rest more))
 
 -- the greatest value so far says whether all characters so far are digits
 abbrev pub Judges : ℕ → List ℕ → Type 0
@@ -116,17 +116,12 @@ pub joined_spell : (digits : List ℕ) → length digits % 2 ≡ 0 → All IsNib
 joined_spell [] even small = refl
 joined_spell (h ∷ []) even small = absurd (omega (arith, even))
 joined_spell (h ∷ l ∷ digits) even small =
-    let rest = All-tail IsNibble (value_or_16 h) (value_or_16 l ∷ map value_or_16 digits) small in
-    let pair : IsPair h l (value_or_16 h * 16 + value_or_16 l) = record {
-      high = value_or_16 h;
-      low = value_or_16 l;
-      high_is = value_known h (All-head IsNibble (value_or_16 h) (value_or_16 l ∷ map value_or_16 digits) small);
-      low_is = value_known l (All-head IsNibble (value_or_16 l) (map value_or_16 digits) rest);
-      byte_is = refl;
-    } in (
-      value_or_16 h * 16 + value_or_16 l,
+    let rest = All-tail IsNibble (value_or_16 h) (value_or_16 l ∷ map value_or_16 digits) small in (
+      value_or_16 h,
+      value_or_16 l,
       joined_pairs (map value_or_16 digits),
-      pair,
+      value_known h (All-head IsNibble (value_or_16 h) (value_or_16 l ∷ map value_or_16 digits) small),
+      value_known l (All-head IsNibble (value_or_16 l) (map value_or_16 digits) rest),
       refl,
       joined_spell digits (omega (arith, even)) (All-tail IsNibble (value_or_16 l) (map value_or_16 digits) rest),
     )

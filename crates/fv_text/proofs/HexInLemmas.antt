@@ -1,9 +1,9 @@
 -- After each piece of text, a decoder holds the bytes that the text so far spells and at most one digit that waits,
 -- unless the text is wrong or spells too many bytes. At the end, this decides whether the text is accepted.
-use Rattle.std.proofs.Common.{◌≡◌, ◌<◌, ◌≤◌, ◌⊎◌, [], ◌∷◌, ℕ, ◌+◌, ◌/◌, ◌++◌, ◌==◌, inl, inr, List, Bool, true, false, not, refl, sym, ap, subst, ◌∙◌}
+use Rattle.std.proofs.Common.{◌≡◌, ◌<◌, ◌≤◌, ◌⊎◌, [], ℕ, ◌+◌, ◌/◌, ◌++◌, ◌==◌, List, Bool, true, false, not, refl, sym, ap, subst, ◌∙◌}
 use Rattle.std.proofs.Common.{append_assoc, append-nil, length-append, arith, length}
 use Rattle.fv_base.proofs.Laws.{common_steps, Decides-eqb, nat_tests, volume_limit, up_is_not_down}
-use Rattle.fv_text.specs.Words.{IsNotDigitPairs, DigitsSpell, squeezed}
+use Rattle.fv_text.specs.Words.{DigitsSpell, squeezed}
 use Rattle.fv_text.specs.declared.hex_text.Decoder.{Decoder}
 use Rattle.fv_text.specs.inner.HexDecoding.{AddsDigits, Decodes, DecodesPairs, HoldsDigits, SpellsNothing}
 use Rattle.fv_text.proofs.HexDigitLemmas.{odd_reads_nothing, reads_count, reads_joined, spoilt_behind, spoilt_more}
@@ -55,26 +55,11 @@ MakesRoom old room =
 -- the bytes of the pairs are put after the bytes that were kept
 adds_pairs : (old room : Decoder) (holds more : List ℕ) → MakesRoom old room → DigitsSpell old.digits.items more
     → holds ≡ room.bytes.items ++ more → AddsDigits old.is_long room.is_long old.bytes.items holds old.digits.items
-adds_pairs old room holds more (digits, inl (flag, same)) reads is = record {
-  more = more;
-  reads = reads;
-  kept = λ down. (sym flag ∙ down, is ∙ ap (λ (l : List ℕ). l ++ more) same);
-  many = λ up was. absurd (up_is_not_down room.is_long up (flag ∙ was));
-}
-adds_pairs old room holds more (digits, inr (flag, much)) reads is = record {
-  more = more;
-  reads = reads;
-  kept = λ down. absurd (up_is_not_down room.is_long flag down);
-  many = λ up was.
-      let count = reads_count old.digits.items more reads in
-      let long : length (old.bytes.items ++ more) ≡ length old.bytes.items + length more = length-append old.bytes.items more in
-      omega (arith, count, long, much);
-}
+adds_pairs old room holds more made reads is = grind (arith, common_steps, up_is_not_down, reads_count, length-append)
 
 -- a flag that is the contrary of another flag
 turned : (flag all : Bool) → flag ≡ not all → (flag ≡ true → all ≡ false) × (flag ≡ false → all ≡ true)
-turned flag true is = (λ up. absurd (up_is_not_down flag up is), λ down. refl)
-turned flag false is = (λ up. refl, λ down. absurd (up_is_not_down flag is down))
+turned flag all is = grind (arith, common_steps, up_is_not_down)
 
 -- all pairs were decoded, or one of them is not a byte
 pub pairs_decoded : (old room new : Decoder) (seen : List ℕ) (all : Bool) → MakesRoom old room → seen ≡ room.digits.items
@@ -96,10 +81,7 @@ one_waits value empty n len up is empty_is count few = grind (arith, common_step
 
 -- a list that is said to be empty is empty
 pub none_waits : (value empty : Bool) (n : ℕ) (l : List ℕ) → value ≡ false → value ≡ not empty → empty ≡ (n == 0) → n ≡ length l → l ≡ []
-none_waits value empty n [] down is empty_is count = refl
-none_waits value empty n (x ∷ l) down is empty_is count =
-    let none : n ≡ 0 = (Decides-eqb n 0).0 (sym empty_is ∙ (turned value empty is).1 down) in
-    absurd (omega (arith, none, count))
+none_waits value empty n l down is empty_is count = grind (arith, common_steps, Decides-eqb, turned)
 
 -- a text that was wrong is still wrong with the next piece
 pub stays_wrong : (d : Decoder) (before text : List ℕ) → d.is_wrong ≡ true → Decodes d before → Decodes d (before ++ text)
@@ -111,14 +93,14 @@ stays_wrong d before text wrong so_far = record {
 }
 
 -- a text that is wrong does not spell bytes
-pub spoilt_is_no_text : (text : List ℕ) → SpellsNothing (squeezed text) → IsNotDigitPairs text
+pub spoilt_is_no_text : (text : List ℕ) → SpellsNothing (squeezed text) → (bytes : List ℕ) → DigitsSpell (squeezed text) bytes → ⊥
 spoilt_is_no_text text spoilt = λ bytes reads.
     spoilt [] bytes (subst (λ (l : List ℕ). DigitsSpell l bytes) (sym (append-nil (squeezed text))) reads)
 
 -- a text after which a digit waits does not spell bytes
 pub odd_is_no_text : (text waiting held : List ℕ) (is_long : Bool) → length waiting ≡ 1 → HoldsDigits is_long held waiting (squeezed text)
-    → IsNotDigitPairs text
-odd_is_no_text text waiting held is_long one h = grind (arith, common_steps, odd_reads_nothing)
+    → (bytes : List ℕ) → DigitsSpell (squeezed text) bytes → ⊥
+odd_is_no_text text waiting held is_long one h bytes reads = grind (arith, common_steps, odd_reads_nothing)
 
 -- a text after which no digit waits spells the bytes that are held
 pub whole_reads : (text waiting held : List ℕ) (is_long : Bool) → waiting ≡ [] → (h : HoldsDigits is_long held waiting (squeezed text))

@@ -39,8 +39,7 @@ dense (c ∷ text) least lt all =
     ∙ ap (λ (l : List ℕ). c ∷ l) (dense text least lt (All-tail (λ b. least ≤ b) c text all))
 
 pub count_small : (s : Bool) (count : ℕ) → count ≡ (if s then 0 else 1) → count ≤ 1
-count_small true count is = omega (arith, is)
-count_small false count is = omega (arith, is)
+count_small s count is = grind (arith, common_steps)
 
 -- one more character is put after the others, or it is white space
 pub put_next : (base room text : List ℕ) (end at d count : ℕ) → at < length text → end < length room

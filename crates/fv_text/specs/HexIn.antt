@@ -16,20 +16,13 @@ abbrev pub squeezed : List ℕ → List ℕ
 squeezed [] = []
 squeezed (c ∷ cs) = if is_space c then squeezed cs else (c ∷ squeezed cs)
 
--- two digits, in upper or lower case, spell a byte: the first digit is the high one
-pub record IsPair (h l byte : ℕ) : Type 0 where
-  pub high : ℕ
-  pub low : ℕ
-  pub high_is : hex_digit_value h ≡ Some high
-  pub low_is : hex_digit_value l ≡ Some low
-  pub byte_is : byte ≡ high * 16 + low
-
--- the digits spell the bytes, two digits for each byte
+-- the digits, in upper or lower case, spell the bytes: two digits for each byte, the high digit first
 abbrev pub DigitsSpell : List ℕ → List ℕ → Type 0
 DigitsSpell [] bytes = bytes ≡ []
 DigitsSpell (h ∷ []) bytes = ⊥
 DigitsSpell (h ∷ l ∷ ds) bytes =
-    (byte : ℕ) × (rest : List ℕ) × IsPair h l byte × (bytes ≡ byte ∷ rest) × DigitsSpell ds rest
+    (high : ℕ) × (low : ℕ) × (rest : List ℕ) × (hex_digit_value h ≡ Some high) × (hex_digit_value l ≡ Some low)
+    × (bytes ≡ (high * 16 + low) ∷ rest) × DigitsSpell ds rest
 
 -- the maximum length of the hexadecimal text that a run reads, in bytes: two digits, and as much white space, for each
 -- byte of a volume
@@ -45,20 +38,13 @@ pub record SpellsWhole (old new : Option (List ℕ)) (input : List ℕ) : Type 0
   pub spells : DigitsSpell (squeezed text) input
   pub small : length input ≤ volume_limit
 
--- the text, without its white space, is not an even number of digits
-abbrev pub IsNotDigitPairs : List ℕ → Type 0
-IsNotDigitPairs text = (bytes : List ℕ) → DigitsSpell (squeezed text) bytes → ⊥
-
--- the text spells more bytes than a volume may have
-abbrev pub IsLongText : List ℕ → Type 0
-IsLongText text = (bytes : List ℕ) × DigitsSpell (squeezed text) bytes × (volume_limit < length bytes)
-
--- why a complete text is rejected: ReadFault at 0, if it is not an even number of digits; Length at the limit of a
--- volume, if it spells more bytes than that
+-- why a complete text is rejected: ReadFault at 0, if the text, without its white space, is not an even number of
+-- digits; Length at the limit of a volume, if it spells more bytes than that
 abbrev pub TextFault : List ℕ → Fault → Type 0
 TextFault text fault =
-    (IsNotDigitPairs text × (fault ≡ outer_fault kinds.ReadFault 0))
-    ⊎ (IsLongText text × (fault ≡ outer_fault kinds.Length volume_limit))
+    (((bytes : List ℕ) → DigitsSpell (squeezed text) bytes → ⊥) × (fault ≡ outer_fault kinds.ReadFault 0))
+    ⊎ ((bytes : List ℕ) × DigitsSpell (squeezed text) bytes × (volume_limit < length bytes)
+    × (fault ≡ outer_fault kinds.Length volume_limit))
 
 -- reading hexadecimal text stopped with this fault, and if the fault is ReadFault, the port's error flag is set; or the
 -- text was read to its end, and is rejected with this fault

@@ -20,18 +20,10 @@ four_digits n = encode_lower (n / 256 ∷ n % 256 ∷ [])
 abbrev pub line_text : List ℕ → List ℕ
 line_text b = encode_lower b ++ line_feed
 
--- the lines for several lists of bytes, one after the other
-abbrev pub lines_text : List (List ℕ) → List ℕ
-lines_text lines = flat_map line_text lines
-
 -- the last line, or nothing if it would be empty
 abbrev pub last_text : List ℕ → List ℕ
 last_text [] = []
 last_text (x ∷ b) = line_text (x ∷ b)
-
--- a whole line shows 32 bytes
-abbrev pub IsWholeLine : List ℕ → Type 0
-IsWholeLine b = length b ≡ 32
 
 -- the text has a line of lower-case digits for every 32 bytes, and a last line for the remaining bytes if there are
 -- any; each line ends with a line feed
@@ -39,9 +31,9 @@ pub record IsHexText (bytes text : List ℕ) : Type 0 where
   pub lines : List (List ℕ)
   pub last : List ℕ
   pub joined : bytes ≡ concat lines ++ last
-  pub whole_lines : AllByRecursion IsWholeLine lines
+  pub whole_lines : AllByRecursion (λ b. length b ≡ 32) lines
   pub short : length last < 32
-  pub text_is : text ≡ lines_text lines ++ last_text last
+  pub text_is : text ≡ flat_map line_text lines ++ last_text last
 
 -- the text is the bytes themselves (`false`), or lines of their digits (`true`)
 abbrev pub ShowsBytes : Bool → List ℕ → List ℕ → Type 0

@@ -27,12 +27,6 @@ pub record Change : Type 0 where
 abbrev pub change : {T : Type 0} → (T → Option (List ℕ)) → Port T → Port T → Change
 change known_bytes old new = record { old = view_of known_bytes old; new = view_of known_bytes new }
 
--- the ports of a run: two for its inputs, and one for its output
-pub record Ports : Type 0 where
-  pub first : Change
-  pub second : Change
-  pub output : Change
-
 -- the text was written, and the error flag is as it was
 abbrev pub Writes : PortView → PortView → List ℕ → Type 0
 Writes old new text = Appends old.bytes new.bytes text × (new.erred ≡ old.erred)

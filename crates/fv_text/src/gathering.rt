@@ -1,7 +1,7 @@
 //! A sink that gathers small pieces.
 
 ghost use Rattle.std.specs.Prelude.{◌≡◌, ◌≤◌, ◌+◌, [], length, take};
-ghost use Rattle.fv_text.specs.SinkAdapters.{GatheringTakes};
+ghost use Rattle.fv_text.specs.SinkAdapters.{Gathered};
 ghost use Rattle.fv_text.specs.inner.SinkAdapterLaws.{gathered_by};
 
 use crate::copying::copy_to;
@@ -40,7 +40,8 @@ impl<S: Sink> GatheringSink<S> {
     // compiler inlines `put`: a small piece is then copied right where `put` is called.
     #[inline(never)]
     fn pass(&mut self)
-        ensures takes { GatheringTakes S.takes (λ s. s.below) (λ s. take s.filled s.room) self.old [] self.new }
+        ensures takes { Gathered S.takes self.old.below (take self.old.filled self.old.room) []
+            self.new.below (take self.new.filled self.new.room) }
         ensures filled { self.new.filled ≡ 0 }
     {
         self.below.put(&self.room[..self.filled]);
@@ -50,7 +51,8 @@ impl<S: Sink> GatheringSink<S> {
     // Puts the waiting bytes into the sink below, unless there is room for `count` more.
     fn make_room(&mut self, count: usize)
         requires { count ≤ 8192 }
-        ensures takes { GatheringTakes S.takes (λ s. s.below) (λ s. take s.filled s.room) self.old [] self.new }
+        ensures takes { Gathered S.takes self.old.below (take self.old.filled self.old.room) []
+            self.new.below (take self.new.filled self.new.room) }
         ensures room { self.new.filled + count ≤ 8192 }
     {
         if count > ROOM - self.filled {
@@ -62,7 +64,8 @@ impl<S: Sink> GatheringSink<S> {
     #[inline(never)]
     #[tactic(auto, using(crate::proofs::GatheringLemmas::passed_on))]
     fn pass_on(&mut self, bytes: &[u8])
-        ensures { GatheringTakes S.takes (λ s. s.below) (λ s. take s.filled s.room) self.old bytes.now self.new }
+        ensures { Gathered S.takes self.old.below (take self.old.filled self.old.room) bytes.now
+            self.new.below (take self.new.filled self.new.room) }
     {
         self.pass();
         self.below.put(bytes);
@@ -71,7 +74,8 @@ impl<S: Sink> GatheringSink<S> {
     // Adds the bytes to the waiting bytes. There must be room for them.
     fn keep(&mut self, bytes: &[u8])
         requires { self.old.filled + length bytes.now ≤ 8192 }
-        ensures { GatheringTakes S.takes (λ s. s.below) (λ s. take s.filled s.room) self.old bytes.now self.new }
+        ensures { Gathered S.takes self.old.below (take self.old.filled self.old.room) bytes.now
+            self.new.below (take self.new.filled self.new.room) }
     {
         copy_to(&mut self.room, self.filled, bytes);
         self.filled += bytes.len();
@@ -94,7 +98,7 @@ impl<S: Sink> GatheringSink<S> {
 
 /// The bytes put into the sink below, followed by the bytes that wait, are all that this sink took.
 impl<S: Sink> Sink for GatheringSink<S> {
-    ghost takes = { GatheringTakes S.takes (λ s. s.below) (λ s. take s.filled s.room) };
+    ghost takes = { λ s bytes t. Gathered S.takes s.below (take s.filled s.room) bytes t.below (take t.filled t.room) };
 
     ghost laws = { gathered_by S.takes (λ s. s.below) (λ s. take s.filled s.room) S.laws };
 

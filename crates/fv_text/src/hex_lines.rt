@@ -2,7 +2,7 @@
 
 ghost use Rattle.std.specs.Prelude.{◌≡◌, ◌≤◌, ◌<◌, ℕ, List, length, take};
 ghost use Rattle.fv_text.specs.inner.SinkAdapterLaws.{hex_by};
-ghost use Rattle.fv_text.specs.SinkAdapters.{HexTakes};
+ghost use Rattle.fv_text.specs.SinkAdapters.{Lined};
 ghost use Rattle.fv_text.specs.HexText.{IsHexText, ShowsBytes, last_text, line_text};
 
 use crate::copying::copy_to;
@@ -69,8 +69,8 @@ impl<S: Sink> HexSink<S> {
         requires { 0 < length bytes.now }
         ensures some { 0 < result }
         ensures bound { result ≤ length bytes.now }
-        ensures takes { HexTakes S.takes (λ s. s.below) (λ s. take s.filled s.line)
-            self.old (take result bytes.now) self.new }
+        ensures takes { Lined S.takes self.old.below (take self.old.filled self.old.line)
+            (take result bytes.now) self.new.below (take self.new.filled self.new.line) }
     {
         let count = bytes.len().min(LINE - self.filled);
         let end = self.filled + count;
@@ -103,7 +103,7 @@ impl<S: Sink> HexSink<S> {
 /// For every 32 bytes that it has, the sink puts a line into the sink below. The remaining bytes
 /// wait.
 impl<S: Sink> Sink for HexSink<S> {
-    ghost takes = { HexTakes S.takes (λ s. s.below) (λ s. take s.filled s.line) };
+    ghost takes = { λ s bytes t. Lined S.takes s.below (take s.filled s.line) bytes t.below (take t.filled t.line) };
 
     ghost laws = { hex_by S.takes (λ s. s.below) (λ s. take s.filled s.line) S.laws };
 

@@ -1,7 +1,7 @@
 -- The run of a plan does not end with the status of wrong arguments (`never_wrong`).
 use Rattle.std.proofs.Common.{◌≡◌, ℕ, ◌∙◌, List, Bool, true, false, cond, inl, inr, subst, sym, Option, None, Some}
-use Rattle.fv_text.specs.Words.{Change, Ports}
-use Rattle.fv_command.specs.Words.{HasText, Runs, RunsOver, CommandRunText, fresh, PartText, TaskText}
+use Rattle.fv_text.specs.Words.{Change}
+use Rattle.fv_command.specs.Words.{HasText, Runs, RunsOver, CommandRunText, PartText, TaskText}
 use Rattle.fv_command.specs.declared.ending.Ending.{Ending}
 use Rattle.fv_command.specs.declared.ending.Refusal.{Refusal}
 use Rattle.fv_command.specs.declared.extracting.Extraction.{Extraction}
@@ -50,19 +50,16 @@ text_not_wrong : (c : Command) (hex : Bool) (first second : Change) (refusal : O
 text_not_wrong c hex first second None text said = command_not_wrong c hex first second text said
 text_not_wrong c hex first second (Some refusal) text (stops, is, line) = let bad : WrongArguments ≡ Refused = is in cc
 
-run_not_wrong : (p : Plan) (ended : Ending) (ports : Ports) → Runs p ended ports → ended.status ≡ WrongArguments → ⊥
-run_not_wrong p ended ports (ran, text, has, inl (is, wrote)) wrong =
-    text_not_wrong p.command p.hex ports.first ports.second ended.refusal text
-    (subst (λ (s : Status). HasText p.command p.hex ports.first ports.second ended.refusal s text) (sym is ∙ wrong) has)
-run_not_wrong p ended ports (ran, text, has, inr (is, stops)) wrong = let bad : WrongArguments ≡ Refused = sym wrong ∙ is in cc
+run_not_wrong : (p : Plan) (ended : Ending) (first second output : Change) → Runs p ended first second output
+    → ended.status ≡ WrongArguments → ⊥
+run_not_wrong p ended first second output (ran, text, has, inl (is, wrote)) wrong =
+    text_not_wrong p.command p.hex first second ended.refusal text
+    (subst (λ (s : Status). HasText p.command p.hex first second ended.refusal s text) (sym is ∙ wrong) has)
+run_not_wrong p ended first second output (ran, text, has, inr (is, stops)) wrong = let bad : WrongArguments ≡ Refused = sym wrong ∙ is in cc
 
 -- the run of a plan does not end with the status WrongArguments
 pub never_wrong : {S F : Type 0} (of_input : S → Option (List ℕ)) (of_file : F → Option (List ℕ))
     (opens : List ℕ → Option F → Type 0) (is_standard : S → Type 0) (p : Plan) (ended : Ending) (output : Change)
     → RunsOver of_input of_file opens is_standard p ended output → ended.status ≡ WrongArguments → ⊥
 never_wrong of_input of_file opens is_standard p ended output (first, second, is_first, is_second, s, s', ran) is =
-    run_not_wrong p ended (record {
-      first = record { old = fresh of_input of_file first; new = s };
-      second = record { old = fresh of_input of_file second; new = s' };
-      output = output;
-    }) ran is
+    run_not_wrong p ended _ _ output ran is

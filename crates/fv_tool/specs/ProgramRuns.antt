@@ -13,37 +13,26 @@ use Rattle.fv_arguments.specs.Words.{AreRight, Asks}
 use Rattle.fv_arguments.specs.declared.words.WordFault.{WordFault}
 use Rattle.fv_arguments.specs.declared.words.WordFault.TheVariants.{Words, OutOfMemory}
 
--- a rejection of arguments: there is at least one argument after the program's name, and arguments that are right are
--- not rejected as wrong
-abbrev pub MayReject : List (List ℕ) → WordFault → Type 0
-MayReject words fault = (1 < length words) × (fault ≡ Words → AreRight words → ⊥)
-
--- the arguments are rejected, and the rejection was reported
-abbrev pub ReportsArguments : List (List ℕ) → Ending → Change → Type 0
-ReportsArguments words ended output = (fault : WordFault) × MayReject words fault × EndsRejected fault ended output
-
--- the arguments are right, and the plan that they ask for was run; or they are rejected. Arguments that are not right
--- are rejected as wrong or because memory ran out, and arguments that are right only because memory ran out
-abbrev pub RunsPlanOrRejects : {S F : Type 0} → (S → Option (List ℕ)) → (F → Option (List ℕ)) → (List ℕ → Option F → Type 0)
-    → (S → Type 0) → List (List ℕ) → Ending → Change → Type 0
-RunsPlanOrRejects of_input of_file opens is_standard words ended output =
-    ((p : Plan) × Asks words p × RunsOver of_input of_file opens is_standard p ended output) ⊎ ReportsArguments words ended output
-
--- the fault of arguments that cannot be read: OutOfMemory if the error is of that kind, otherwise Words
-abbrev pub IsFaultOf : ErrorKind → WordFault → Type 0
-IsFaultOf kind fault = (kind ≡ kinds.OutOfMemory → fault ≡ OutOfMemory) × (kind ≢ kinds.OutOfMemory → fault ≡ Words)
-
--- the arguments of a process, or why they are not available: memory ran out, or they cannot be read
+-- the arguments of a process, or why they are not available: memory ran out, or they cannot be read. The fault of
+-- arguments that cannot be read is OutOfMemory if the error is of that kind, otherwise Words
 abbrev pub IsGiven : (List (String Global) → Type 0) → (ErrorKind → Type 0) → Result (Vec (String Global) Global) WordFault
     → Type 0
 IsGiven has fails_with (Ok words) = has words.items
-IsGiven has fails_with (Err fault) = (fault ≡ OutOfMemory) ⊎ ((kind : ErrorKind) × fails_with kind × IsFaultOf kind fault)
+IsGiven has fails_with (Err fault) =
+    (fault ≡ OutOfMemory)
+    ⊎ ((kind : ErrorKind) × fails_with kind × (kind ≡ kinds.OutOfMemory → fault ≡ OutOfMemory)
+    × (kind ≢ kinds.OutOfMemory → fault ≡ Words))
 
--- a run of the program with these arguments, or the report that they are not available
+-- a run of the program with these arguments: they are right, and the plan that they ask for was run; or they are
+-- rejected, and the rejection was reported. Only arguments after the program's name are rejected. Arguments that are not
+-- right are rejected as wrong or because memory ran out, and arguments that are right only because memory ran out. Or
+-- the report that the arguments are not available
 abbrev pub RunsArguments : {S F : Type 0} → (S → Option (List ℕ)) → (F → Option (List ℕ)) → (List ℕ → Option F → Type 0)
     → (S → Type 0) → Result (Vec (String Global) Global) WordFault → Ending → Change → Type 0
 RunsArguments of_input of_file opens is_standard (Ok words) ended output =
-    RunsPlanOrRejects of_input of_file opens is_standard (map string_bytes words.items) ended output
+    ((p : Plan) × Asks (map string_bytes words.items) p × RunsOver of_input of_file opens is_standard p ended output)
+    ⊎ ((fault : WordFault) × (1 < length words.items)
+    × (fault ≡ Words → AreRight (map string_bytes words.items) → ⊥) × EndsRejected fault ended output)
 RunsArguments of_input of_file opens is_standard (Err fault) ended output =
     EndsRejected fault ended output
 

@@ -47,17 +47,12 @@ files_lie end cs within =
 -- cells that tile the body of a volume lie within the volume
 pub cells_inside : (e : Extent) (volume : List ℕ) (cs : List CellForm) → e.first ≤ length volume
     → Tiles e.file_system e.polarity e.first cs (drop e.first volume) → CellsWithin (length volume) cs
-cells_inside e volume cs first tiles =
-    let end : e.first + length (drop e.first volume) ≡ length volume = omega (arith, length-drop e.first volume, first) in
-    subst (λ (n : ℕ). CellsWithin n cs) end (all_within e.file_system e.polarity e.first cs (drop e.first volume) tiles)
+cells_inside e volume cs first tiles = grind (arith, common_steps, length-drop, all_within) steps 150000
 
 -- so each file of a volume lies within it
 pub files_inside : (e : Extent) (volume : List ℕ) (fs : List FileForm) → e.first ≤ length volume → AreFilesOf e volume fs
     → AllByRecursion (LiesBy (length volume)) fs
-files_inside e volume fs first stand =
-    subst (AllByRecursion (LiesBy (length volume))) (sym stand.current.files_are)
-    (of_current (LiesBy (length volume)) (files_in stand.cells)
-    (files_lie (length volume) stand.cells (cells_inside e volume stand.cells first stand.tiles)))
+files_inside e volume fs first stand = grind (arith, common_steps, of_current, files_lie, cells_inside) steps 150000
 
 -- ---- the meanings of the files
 
@@ -90,12 +85,11 @@ cells_stored s p at end (c ∷ cs) b small short (x, rest, text, is, o, free, mo
 pub stored_in : (s : FileSystem) (p : Polarity) (at base end : ℕ) (cs : List CellForm) (b : List ℕ) → IsBytes b
     → length b ≤ volume_limit → base + end < 2 ^ 63 → Tiles s p at cs b → CellsWithin end cs
     → AllStored base (files_in cs)
-stored_in s p at base end cs b small short fits tiles within =
-    each_file (IsCellBy s p end) (IsReadyFile base) (λ head_at head payload cell. (
-      (s, p, cell.bytes, cell.small, cell.short, cell.is),
-      omega (arith, fits, cell.ends, cell.agrees),
-      omega (arith, cell.short, cell.agrees, cell_span s p (Valid head_at head payload) cell.bytes cell.is),
-    )) cs (cells_stored s p at end cs b small short tiles within)
+stored_in s p at base end cs b small short fits tiles within = each_file (IsCellBy s p end) (IsReadyFile base) (λ head_at head payload cell. (
+  (s, p, cell.bytes, cell.small, cell.short, cell.is),
+  omega (arith, fits, cell.ends, cell.agrees),
+  omega (arith, cell.short, cell.agrees, cell_span s p (Valid head_at head payload) cell.bytes cell.is),
+)) cs (cells_stored s p at end cs b small short tiles within)
 
 pub files_stored : (e : Extent) (volume : List ℕ) (base : ℕ) (cs : List CellForm) (fs : List FileForm) → IsBytes volume
     → length volume ≤ volume_limit → base + length volume < 2 ^ 63
@@ -103,6 +97,5 @@ pub files_stored : (e : Extent) (volume : List ℕ) (base : ℕ) (cs : List Cell
     → AllStored base fs
 files_stored e volume base cs fs small short fits tiles within current =
     let short' : length (drop e.first volume) ≤ volume_limit = omega (arith, length-drop e.first volume, short) in
-    let all = stored_in e.file_system e.polarity e.first base (length volume) cs (drop e.first volume)
-    (bytes_drop e.first volume small) short' fits tiles within in
+    let all = stored_in e.file_system e.polarity e.first base (length volume) cs _ (bytes_drop e.first volume small) short' fits tiles within in
     subst (AllStored base) (sym current.files_are) (of_current (IsReadyFile base) (files_in cs) all)

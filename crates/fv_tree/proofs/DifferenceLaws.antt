@@ -5,13 +5,12 @@
 --    and the extended header (`entries_decide`, `ext_decides`). So two headers have no difference exactly if they are
 --    equal (`head_same`).
 -- 3. By induction on the meaning, two volumes have no difference exactly if they are equal (`volume_same`).
-use Rattle.std.proofs.Common.{◌≡◌, ℕ, ◌+◌, ◌==◌, ◌&&◌, List, refl, ap, ◌∙◌, Bool, true, false, Option, Some, None}
-use Rattle.fv_base.proofs.Laws.{Decides, option_or, beq, booleans_Decides, bytes_eq, Decides-eqb, bytes_eq-Decides, bytes_of}
+use Rattle.std.proofs.Common.{arith, ◌≡◌, ℕ, ◌+◌, ◌==◌, ◌&&◌, List, refl, ap, Bool, true, false, Option, Some, None}
+use Rattle.fv_base.proofs.Laws.{Decides, option_or, beq, booleans_Decides, bytes_eq, Decides-eqb, bytes_eq-Decides, bytes_of, common_steps}
 use Rattle.std.proofs.lemmas.Bool.Decides.{Decides-and, Decides-like}
 use Rattle.std.proofs.lemmas.Slice.Eq.{slice_eq-Decides}
 use Rattle.fv_base.specs.declared.flash.FileSystem.{FileSystem}
 use Rattle.fv_base.specs.declared.guid.Guid.{Guid}
-use Rattle.fv_base.specs.declared.flash.FileSystem.TheVariants.{Ffs2, Ffs3}
 use Rattle.fv_head.specs.Words.{Extension, HeadFields}
 use Rattle.fv_tree.specs.Words.{is_ffs3, Differs, differ_unless, under, blocks_eq, entries_eq, ext_eq, head_differs, difference, files_differ}
 use Rattle.fv_tree.specs.Words.{file_differs, content_differs, sections_differ, section_differs, body_differs, Meaning, Volume, FileMeanings, NoFiles}
@@ -43,20 +42,14 @@ if_same d to back p = (λ e. to (p.0 e), λ h. p.1 (back h))
 -- ---- the fields of a header
 
 guids_decide : (x y : Guid) → Decides (bytes_eq (bytes_of x) (bytes_of y)) (x ≡ y)
-guids_decide x y =
-    Decides-like (bytes_eq (bytes_of x) (bytes_of y)) (ap (λ (b : List ℕ). record { bytes = b })) (ap bytes_of) (bytes_eq-Decides (bytes_of x) (bytes_of y))
+guids_decide x y = Decides-like _ (ap (λ (b : List ℕ). record { bytes = b })) (ap bytes_of) (bytes_eq-Decides (bytes_of x) (bytes_of y))
 
 systems_decide : (x y : FileSystem) → Decides (beq (is_ffs3 x) (is_ffs3 y)) (x ≡ y)
-systems_decide Ffs2 Ffs2 = (λ e. refl, λ e. refl)
-systems_decide Ffs3 Ffs3 = (λ e. refl, λ e. refl)
-systems_decide _ _ = (λ e. cc, λ e. cc)
+systems_decide x y = grind (arith, common_steps) steps 150000
 
 pairs_decide : {B : Type 0} (test : B → B → Bool) → ((x y : B) → Decides (test x y) (x ≡ y)) → (p q : ℕ × B)
     → Decides ((p.0 == q.0) && test p.1 q.1) (p ≡ q)
-pairs_decide {B} test decides p q =
-    Decides-like ((p.0 == q.0) && test p.1 q.1) (λ h. ap (λ (k : ℕ). (k, p.1)) h.0 ∙ ap (λ (x : B). (q.0, x)) h.1)
-    (λ e. (ap (λ (r : ℕ × B). r.0) e, ap (λ (r : ℕ × B). r.1) e))
-    (Decides-and (p.0 == q.0) (test p.1 q.1) (Decides-eqb p.0 q.0) (decides p.1 q.1))
+pairs_decide {B} test decides p q = grind (arith, common_steps, Decides-like, Decides-and, Decides-eqb) steps 150000
 
 blocks_decide : (ps qs : List (ℕ × ℕ)) → Decides (blocks_eq ps qs) (ps ≡ qs)
 blocks_decide ps qs = slice_eq-Decides (pairs_decide (λ (x y : ℕ). x == y) Decides-eqb) ps qs (blocks_eq ps qs) refl
@@ -65,20 +58,7 @@ entries_decide : (ps qs : List (ℕ × List ℕ)) → Decides (entries_eq ps qs)
 entries_decide ps qs = slice_eq-Decides (pairs_decide bytes_eq bytes_eq-Decides) ps qs (entries_eq ps qs) refl
 
 ext_decides : (x y : Option Extension) → Decides (ext_eq x y) (x ≡ y)
-ext_decides None None = (λ e. refl, λ e. refl)
-ext_decides None (Some y) = (λ e. cc, λ e. cc)
-ext_decides (Some x) None = (λ e. cc, λ e. cc)
-ext_decides (Some x) (Some y) =
-    Decides-like (ext_eq (Some x) (Some y)) (λ h. one x.name y.name x.entries y.entries x.tail y.tail h.0.0 h.0.1 h.1)
-    (λ e. let same : x ≡ y = cc in
-    ((ap (λ (z : Extension). z.name) same, ap (λ (z : Extension). z.entries) same), ap (λ (z : Extension). z.tail) same))
-    (Decides-and _ _ (Decides-and _ _ (guids_decide x.name y.name) (entries_decide x.entries y.entries)) (bytes_eq-Decides x.tail y.tail))
-  where
-    ext : Guid → List (ℕ × List ℕ) → List ℕ → Option Extension
-    ext name entries tail = Some (record { name = name; entries = entries; tail = tail })
-
-    one : (n m : Guid) (ps qs : List (ℕ × List ℕ)) (t u : List ℕ) → n ≡ m → ps ≡ qs → t ≡ u → ext n ps t ≡ ext m qs u
-    one n m ps qs t u p q r = rw (p, q, r) refl
+ext_decides x y = grind (arith, common_steps, Decides-like, Decides-and, guids_decide, entries_decide, bytes_eq-Decides) steps 150000
 
 abbrev made : List ℕ → FileSystem → ℕ → ℕ → ℕ → List (ℕ × ℕ) → Option Extension → HeadFields
 made z s l t r m x = record { zero_vector = z; file_system = s; length = l; attributes = t; reserved = r; blocks = m; ext = x }
@@ -92,25 +72,7 @@ head_same : (h g : HeadFields) → IsNoneIf (head_differs h g) (h ≡ g)
 head_same h g =
     if_same (head_differs h g)
     (λ e. made_one _ _ _ _ _ _ _ _ _ _ _ _ _ _ e.0 e.1.0 e.1.1.0 e.1.1.1.0 e.1.1.1.1.0 e.1.1.1.1.1.0 e.1.1.1.1.1.1)
-    (λ e. (
-      ap (λ (k : HeadFields). k.zero_vector) e,
-      (
-        ap (λ (k : HeadFields). k.file_system) e,
-        (
-          ap (λ (k : HeadFields). k.length) e,
-          (
-            ap (λ (k : HeadFields). k.attributes) e,
-            (
-              ap (λ (k : HeadFields). k.reserved) e,
-              (
-                ap (λ (k : HeadFields). k.blocks) e,
-                ap (λ (k : HeadFields). k.ext) e,
-              ),
-            ),
-          ),
-        ),
-      ),
-    ))
+    (λ e. (cc, (cc, (cc, (cc, (cc, (cc, cc)))))))
     (both_same _ _ (by_test _ _ (bytes_eq-Decides h.zero_vector g.zero_vector))
     (both_same _ _ (by_test _ _ (systems_decide h.file_system g.file_system))
     (both_same _ _ (by_test _ _ (Decides-eqb h.length g.length))
@@ -122,21 +84,18 @@ head_same h g =
 
 mutual
   pub volume_same : (v w : Meaning) → IsNoneIf (difference v w) (v ≡ w)
-  volume_same (Volume h fs) (Volume g gs) =
-      if_same _ (λ e. cc (e.0, e.1)) (λ e. (cc, cc)) (both_same (head_differs h g) (files_differ 0 fs gs) (head_same h g) (files_same 0 fs gs))
+  volume_same (Volume h fs) (Volume g gs) = if_same _ (λ e. cc (e.0, e.1)) (λ e. (cc, cc)) (both_same _ _ (head_same h g) (files_same 0 fs gs))
 
   files_same : (i : ℕ) (fs gs : FileMeanings) → IsNoneIf (files_differ i fs gs) (fs ≡ gs)
   files_same i NoFiles NoFiles = (λ e. refl, λ e. refl)
   files_same i (MoreFiles f fs) (MoreFiles g gs) =
-      if_same _ (λ e. cc (e.0, e.1)) (λ e. (cc, cc))
-      (both_same _ _ (under_same _ (file_differs f g) (file_same f g)) (files_same (i + 1) fs gs))
+      if_same _ (λ e. cc (e.0, e.1)) (λ e. (cc, cc)) (both_same _ _ (under_same _ (file_differs f g) (file_same f g)) (files_same (i + 1) fs gs))
   files_same i _ _ = (λ e. cc, λ e. cc)
 
   file_same : (f g : FileMeaning) → IsNoneIf (file_differs f g) (f ≡ g)
   file_same (File n k a c) (File m l b d) =
-      if_same _ (λ e. cc (e.0, e.1.0, e.1.1.0, e.1.1.1)) (λ e. (cc, (cc, (cc, cc))))
-      (both_same _ _ (by_test _ _ (guids_decide n m)) (both_same _ _ (by_test _ _ (Decides-eqb k l))
-      (both_same _ _ (by_test _ _ (Decides-eqb a b)) (content_same c d))))
+      if_same _ (λ e. cc (e.0, e.1.0, e.1.1.0, e.1.1.1)) (λ e. (cc, (cc, (cc, cc)))) (both_same _ _ (by_test _ _ (guids_decide n m))
+      (both_same _ _ (by_test _ _ (Decides-eqb k l)) (both_same _ _ (by_test _ _ (Decides-eqb a b)) (content_same c d))))
 
   content_same : (c d : ContentMeaning) → IsNoneIf (content_differs c d) (c ≡ d)
   content_same (Plain b) (Plain c) = if_same _ (ap Plain) (λ e. cc) (by_test _ _ (bytes_eq-Decides b c))
@@ -147,8 +106,7 @@ mutual
   sections_same : (i : ℕ) (ss rs : SectionMeanings) → IsNoneIf (sections_differ i ss rs) (ss ≡ rs)
   sections_same i NoSections NoSections = (λ e. refl, λ e. refl)
   sections_same i (MoreSections s ss) (MoreSections r rs) =
-      if_same _ (λ e. cc (e.0, e.1)) (λ e. (cc, cc))
-      (both_same _ _ (under_same _ (section_differs s r) (section_same s r)) (sections_same (i + 1) ss rs))
+      if_same _ (λ e. cc (e.0, e.1)) (λ e. (cc, cc)) (both_same _ _ (under_same _ _ (section_same s r)) (sections_same (i + 1) ss rs))
   sections_same i _ _ = (λ e. cc, λ e. cc)
 
   section_same : (s r : SectionMeaning) → IsNoneIf (section_differs s r) (s ≡ r)

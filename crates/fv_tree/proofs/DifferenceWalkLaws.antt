@@ -48,9 +48,9 @@ pub volume_word : (v w : Meaning) (h g : HeadFields) (o : Option DifferenceKind)
 volume_word (Volume a fs) (Volume b gs) h g o word x y said is = grind (arith, common_steps, ends_first)
 
 -- if a difference was returned, the meanings are different
-pub differ_told : (v w : Meaning) (o : Differs) (d : List Step × DifferenceKind) → reversed_steps o ≡ difference v w → o ≡ Some d → v ≡ w → ⊥
-differ_told v w o d told is e =
-    let none : reversed_steps (Some d) ≡ None = sym (ap reversed_steps is) ∙ told ∙ (volume_same v w).1 e in cc
+pub differ_found : (v w : Meaning) (o : Differs) (d : List Step × DifferenceKind) → reversed_steps o ≡ difference v w → o ≡ Some d → v ≡ w → ⊥
+differ_found v w o d same_kept is e =
+    let none : reversed_steps (Some d) ≡ None = sym (ap reversed_steps is) ∙ same_kept ∙ (volume_same v w).1 e in cc
 
 -- if the difference has steps, the meanings are different
 pub steps_differ : (v w : Meaning) → has_steps (difference v w) ≡ true → v ≡ w → ⊥

@@ -5,8 +5,8 @@
 --    (`stored_kind`, `stream_kind`, `volume_kind`).
 -- 3. By induction on the nesting depth each fault in a section has one of these kinds (`section_kind`), and so has each
 --    fault of bytes (`stands_reading`).
-use Rattle.std.proofs.Common.{◌≡◌, ◌≢◌, ℕ, ◌+◌, zero, suc, Bool, true, false, List, take, drop, refl, sym, ap, ◌∙◌, subst, inl, inr, nat_le}
-use Rattle.fv_base.proofs.Laws.{slice_index, Option, Some, None, AllByRecursion, Check, Any, fault_number, depth_limit, fails_among, up_is_not_down}
+use Rattle.std.proofs.Common.{arith, ◌≡◌, ◌≢◌, ℕ, ◌+◌, zero, suc, Bool, true, false, List, take, drop, refl, sym, ap, ◌∙◌, subst, inl, inr, nat_le}
+use Rattle.fv_base.proofs.Laws.{slice_index, Option, AllByRecursion, Check, Any, fault_number, depth_limit, fails_among, up_is_not_down, common_steps}
 use Rattle.fv_base.specs.declared.fault.Fault.{Fault}
 use Rattle.fv_base.specs.declared.fault.FaultKind.{FaultKind}
 use Rattle.fv_base.specs.declared.flash.FileSystem.{FileSystem}
@@ -16,7 +16,7 @@ use Rattle.fv_file.specs.Words.{file_checks, state_checks, cell_checks, state_of
 use Rattle.fv_file.specs.declared.state.FileState.{FileState}
 use Rattle.fv_head.specs.Words.{head_checks}
 use Rattle.fv_head.specs.declared.extent.Extent.{Extent}
-use Rattle.fv_section.specs.Words.{frame_checks, FrameForm}
+use Rattle.fv_section.specs.Words.{FrameForm}
 use Rattle.fv_tree.specs.Words.{Moved, StoredFault, InSection, InStream, InVolume, FaultHolds, outermost}
 use Rattle.fv_file.specs.declared.state.FileState.TheVariants as states
 
@@ -43,14 +43,7 @@ file_kinds s current at r = (refl, (refl, (refl, (refl, (refl, (refl, tt))))))
 
 -- the checks of a cell that depend on its state
 state_kinds : (o : Option FileState) (s : FileSystem) (at : ℕ) (r : List ℕ) → AllByRecursion Kind (state_checks o s at r)
-state_kinds None s at r = (refl, tt)
-state_kinds (Some states.Free) s at r = tt
-state_kinds (Some states.Construction) s at r = (refl, tt)
-state_kinds (Some states.HeaderInvalid) s at r = (refl, tt)
-state_kinds (Some states.HeaderValid) s at r = file_kinds s false at r
-state_kinds (Some states.DataValid) s at r = file_kinds s true at r
-state_kinds (Some states.Marked) s at r = file_kinds s true at r
-state_kinds (Some states.Deleted) s at r = file_kinds s false at r
+state_kinds o s at r = grind (arith, common_steps, file_kinds) steps 150000
 
 -- all checks of a cell
 cell_kinds : (s : FileSystem) (p : Polarity) (at : ℕ) (r : List ℕ) → AllByRecursion Kind (cell_checks s p at r)
@@ -66,8 +59,7 @@ moved_kind Q at e kind (f, bad, is) = subst IsReading (sym is) (kind f bad)
 stored_kind : (x : Extent) (volume : List ℕ) (f : Fault) → StoredFault Any x volume f → IsReading f
 stored_kind x volume f (inl bad) =
     let r : List ℕ = drop bad.at (drop x.first volume) in
-    fails_among Any IsReading (cell_checks x.file_system x.polarity (x.first + bad.at) r) f
-    (cell_kinds x.file_system x.polarity (x.first + bad.at) r) bad.fails
+    fails_among Any IsReading _ f (cell_kinds x.file_system x.polarity (x.first + bad.at) r) bad.fails
 stored_kind x volume f (inr (cells, tiles, inl (g, twin, is))) = subst IsReading (sym is) refl
 stored_kind x volume f (inr (cells, tiles, inr (none, g, top, is))) = subst IsReading (sym is) refl
 
@@ -77,15 +69,12 @@ SectionKind n = (e : Fault) (f : FrameForm) (at : Place) → InSection Any n e f
 
 -- a stream, given the same of its sections
 stream_kind : (n : ℕ) → SectionKind n → (e : Fault) (b : List ℕ) (at : Place) → InStream Any n e b at → IsReading e
-stream_kind n inside e b at (inl moved) =
-    moved_kind _ at e
-    (λ f bad. fails_among Any IsReading (frame_checks bad.at (drop bad.at b)) f (refl, (refl, tt)) bad.fails) moved
+stream_kind n inside e b at (inl moved) = moved_kind _ at e (λ f bad. fails_among Any IsReading _ f (refl, (refl, tt)) bad.fails) moved
 stream_kind n inside e b at (inr (frames, tail, split, (before, f, after, is, read, here))) = inside e f at here
 
 -- a volume, given the same of its sections
 volume_kind : (n : ℕ) → SectionKind n → (e : Fault) (b : List ℕ) (at : Place) → InVolume Any n e b at → IsReading e
-volume_kind n inside e b at (inl moved) =
-    moved_kind _ at e (λ f bad. fails_among Any IsReading (head_checks b) f (head_kinds b) bad) moved
+volume_kind n inside e b at (inl moved) = moved_kind _ at e (λ f bad. fails_among Any IsReading (head_checks b) f (head_kinds b) bad) moved
 volume_kind n inside e b at (inr (h, x, front, inl moved)) = moved_kind _ at e (stored_kind x (take x.length b)) moved
 volume_kind n inside e b at (inr (h, x, front, inr (cells, tiles, right, (before, f, after, is, read, (holds, here))))) =
     stream_kind n inside e f.payload _ here

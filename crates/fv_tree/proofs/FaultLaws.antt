@@ -39,15 +39,12 @@ SectionStands n = (e : Fault) (f : FrameForm) (at : Place) → InSection First n
 
 stream_by : (n : ℕ) → SectionStands n → (e : Fault) (b : List ℕ) (at : Place) → InStream First n e b at → InStream Any n e b at
 stream_by n stands e b at (inl moved) = inl (moved_stands _ _ at e (frame_fails b) moved)
-stream_by n stands e b at (inr (frames, tail, split, first)) =
-    inr (frames, tail, split, one_of _ _ _ frames (λ f h. stands e f at h) first)
+stream_by n stands e b at (inr (frames, tail, split, first)) = inr (frames, tail, split, one_of _ _ _ frames (λ f h. stands e f at h) first)
 
 volume_by : (n : ℕ) → SectionStands n → (e : Fault) (b : List ℕ) (at : Place) → InVolume First n e b at → InVolume Any n e b at
 volume_by n stands e b at (inl moved) = inl (moved_stands _ _ at e (any_fails _) moved)
-volume_by n stands e b at (inr (h, x, front, inl moved)) =
-    inr (h, x, front, inl (moved_stands _ _ at e (stored_stands x (take x.length b)) moved))
-volume_by n stands e b at (inr (h, x, front, inr (cells, tiles, right, first))) =
-    inr (h, x, front, inr (cells, tiles, tt, one_of _ _ _ _ file first))
+volume_by n stands e b at (inr (h, x, front, inl moved)) = inr (h, x, front, inl (moved_stands _ _ at e (stored_stands x (take x.length b)) moved))
+volume_by n stands e b at (inr (h, x, front, inr (cells, tiles, right, first))) = inr (h, x, front, inr (cells, tiles, tt, one_of _ _ _ _ file first))
   where
     file : (f : FileForm) → FileFault (InStream First n) e f at → FileFault (InStream Any n) e f at
     file f (holds, inside) = (holds, stream_by n stands e f.payload (data_at at f) inside)

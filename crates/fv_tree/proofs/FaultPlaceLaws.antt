@@ -50,15 +50,11 @@ module _ (x : Extent) (v : List ℕ) (within : x.first ≤ length v) where
   stored_within : (f : Fault) → StoredFault First x v f → f.place.offset ≤ length v
   stored_within f (inl first) =
       let low = body_within x.file_system x.polarity x.first (drop x.first v) f first in omega (arith, low, length-drop x.first v, within)
-  stored_within f (inr (cells, tiles, names)) =
-      names_within (length v) x.length (files_in cells) f (files_lie (length v) cells (cells_inside x v cells within tiles)) names
+  stored_within f (inr (cells, tiles, names)) = names_within (length v) x.length _ f (files_lie _ cells (cells_inside x v cells within tiles)) names
 
   -- and so does out of memory
   pub stopped_within : (f : Fault) → (f ≢ out_of_memory → StoredFault First x v f) → f.place.offset ≤ length v
-  stopped_within f first = go (want_known f) where
-    go : (f ≡ out_of_memory) ⊎ (f ≢ out_of_memory) → f.place.offset ≤ length v
-    go (inl want) = subst (λ (g : Fault). g.place.offset ≤ length v) (sym want) (omega arith)
-    go (inr other) = stored_within f (first other)
+  stopped_within f first = grind (arith, common_steps, want_known, stored_within) steps 150000
 
 -- ---- a stream and a volume, given the same of their sections
 

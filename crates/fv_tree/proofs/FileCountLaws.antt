@@ -31,8 +31,7 @@ few_files n b m d =
       files_few d.cells,
       all,
       ap length d.current.files_are,
-      pairs_length (MeansFile
-          (Stream n)) d.files (files_of m) d.meanings,
+      pairs_length (MeansFile (Stream n)) d.files (files_of m) d.meanings,
     )
 
 pub few_of : (m : Meaning) → IsMeaning m → length (files_of m) < 2 ^ 32

@@ -1,6 +1,6 @@
 -- Each file of a volume has the data that are at its place.
-use Rattle.std.proofs.Common.{◌≡◌, ℕ, ◌+◌, ◌-◌, [], ◌∷◌, ◌∙◌, List, length, take, drop, map, refl, sym, ap, subst, arith, length-take-le}
-use Rattle.fv_base.proofs.Laws.{AllByRecursion, field-take}
+use Rattle.std.proofs.Common.{◌≡◌, ℕ, ◌+◌, ◌-◌, [], ◌∷◌, ◌∙◌, List, length, take, drop, map, refl, ap, subst, arith, length-take-le}
+use Rattle.fv_base.proofs.Laws.{AllByRecursion, field-take, common_steps}
 use Rattle.fv_file.specs.Words.{CellForm, Valid, attribute_bits, file_sum_for}
 use Rattle.fv_file.specs.declared.head.FileHead.{FileHead}
 use Rattle.fv_file.proofs.Laws.{IsPayloadIn}
@@ -20,9 +20,7 @@ one_back : (volume : List ℕ) (at : ℕ) (head : FileHead) (payload : List ℕ)
     → payload ≡ take (head.size - head.header_len) (drop (at + head.header_len) volume)
     → head.file_sum ≡ file_sum_for (attribute_bits head.attributes) payload
     → filled volume (bare (record { offset = at; head = head; payload = payload })) ≡ record { offset = at; head = head; payload = payload }
-one_back volume at head payload is sum =
-    let f : FileForm = record { offset = at; head = head; payload = payload } in
-    ap (λ (p : List ℕ). with_data p (bare f)) (sym is) ∙ ap (λ (s : ℕ). record f { head = record head { file_sum = s } }) (sym sum)
+one_back volume at head payload is sum = grind (arith, common_steps) steps 150000
 
 pub all_back : (volume : List ℕ) (base : ℕ) (cs : List CellForm) → AllByRecursion (IsPayloadIn volume) cs → AllStored base (files_in cs)
     → map (filled volume) (map bare (files_in cs)) ≡ files_in cs

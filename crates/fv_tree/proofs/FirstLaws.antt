@@ -48,12 +48,9 @@ names_once len fs e g (inr (none, f, top, is)) (inr (_, f', top', is')) =
 
 -- the cells of a body and the files in them have at most one first fault
 stored_once : (x : Extent) (volume : List ℕ) (e g : Fault) → StoredFault First x volume e → StoredFault First x volume g → e ≡ g
-stored_once x volume e g (inl first) (inl first') =
-    one_cell_fault x.file_system x.polarity x.first (drop x.first volume) e g first first'
-stored_once x volume e g (inl first) (inr (cells, tiles, _)) =
-    absurd (cellular.none_after First x.file_system x.polarity x.first (drop x.first volume) e cells first tiles)
-stored_once x volume e g (inr (cells, tiles, _)) (inl first) =
-    absurd (cellular.none_after First x.file_system x.polarity x.first (drop x.first volume) g cells first tiles)
+stored_once x volume e g (inl first) (inl first') = one_cell_fault x.file_system x.polarity x.first (drop x.first volume) e g first first'
+stored_once x volume e g (inl first) (inr (cells, tiles, _)) = absurd (cellular.none_after First _ x.polarity x.first _ e cells first tiles)
+stored_once x volume e g (inr (cells, tiles, _)) (inl first) = absurd (cellular.none_after First _ x.polarity x.first _ g cells first tiles)
 stored_once x volume e g (inr (cells, tiles, names)) (inr (others, tiles', names')) =
     let same = only_one x.file_system x.polarity x.first (drop x.first volume) cells others tiles tiles' in
     let P : List CellForm → Type 0 = λ cs. NamesFault First x.length (files_in cs) g in
@@ -81,8 +78,7 @@ stream_once n once e g b at (inr (frames, tail, split, _)) (inl (f, first, is)) 
 stream_once n once e g b at (inr (frames, tail, split, first)) (inr (others, tail', split', first')) =
     let P : List FrameForm → Type 0 = λ l. OneOf First (MeansSection n) (λ f. InSection First n g f at) l in
     let here = subst P (one_split 0 others frames tail' tail b split' split).0 first' in
-    let one =
-    first_of_once (MeansSection n) (λ f. InSection First n e f at) (λ f. InSection First n g f at) frames
+    let one = first_of_once (MeansSection n) (λ f. InSection First n e f at) (λ f. InSection First n g f at) frames
     (λ f s. section_refuses First n e f at s) (λ f s. section_refuses First n g f at s) first here in
     once e g one.0 at one.1 one.2
 
@@ -99,8 +95,7 @@ module _ (n : ℕ) (rejected : StreamRefuses First n) (once : StreamOnce n) (e g
       let same : others ≡ cells = only_one x.file_system x.polarity x.first (drop x.first volume) cells others tiles tiles' in
       let Q : List CellForm → Type 0 =
       λ cs. OneOf First (MeansFile (Stream n)) (λ f. FileFault (InStream First n) g f at) (current_in (files_in cs)) in
-      let one =
-      first_of_once (MeansFile (Stream n)) (λ f. FileFault (InStream First n) e f at) (λ f. FileFault (InStream First n) g f at)
+      let one = first_of_once (MeansFile (Stream n)) (λ f. FileFault (InStream First n) e f at) (λ f. FileFault (InStream First n) g f at)
       (current_in (files_in cells)) (file_by First n rejected e at) (file_by First n rejected g at) first (subst Q same first') in
       once e g (one.0).payload (data_at at one.0) one.1.1 one.2.1
 
@@ -109,8 +104,7 @@ module _ (n : ℕ) (rejected : StreamRefuses First n) (once : StreamOnce n) (e g
   volume_once b (inl moved) (inl moved') = moved_once _ (one_fault (head_checks b)) at e g moved moved'
   volume_once b (inl (f, first, is)) (inr (h, x, front, _)) =
       absurd (none_fails First (head_checks b) f first (front_holds b h x front))
-  volume_once b (inr (h, x, front, _)) (inl (f, first, is)) =
-      absurd (none_fails First (head_checks b) f first (front_holds b h x front))
+  volume_once b (inr (h, x, front, _)) (inl (f, first, is)) = absurd (none_fails First (head_checks b) f first (front_holds b h x front))
   volume_once b (inr (h, x, front, first)) (inr (h', x', front', first')) =
       let P : Extent → Type 0 = λ y. BodyFault First n (InStream First n) y g (take y.length b) at in
       body_once x (take x.length b) first (subst P (one_front b h' h x' x front' front).1 first')

@@ -27,9 +27,8 @@ module _ (e : Extent) (b o : List ℕ) (same : take e.first o ≡ take e.first b
   ext_kept (Some x) least (before, part, behind, text, offset, low, within, is, at) =
       let n : ℕ = length before + length part in
       let inside : n ≤ e.first = omega (arith, at) in
-      let front : take n o ≡ before ++ part =
-      front_kept n inside ∙ ap (take n) (text ∙ sym (append_assoc before part behind))
-      ∙ take_at (before ++ part) behind n (length-append before part) in
+      let front : take n o ≡ before ++ part = front_kept n inside ∙ ap (take n) (text ∙ sym (append_assoc before part behind)) ∙ take_at
+      (before ++ part) behind n (length-append before part) in
       let whole : o ≡ before ++ (part ++ drop n o) =
       sym (take-append-drop n o) ∙ ap (λ (c : List ℕ). c ++ drop n o) front ∙ append_assoc before part (drop n o) in
       let fields : le_at 52 2 o ≡ le_at 52 2 b = ap le (field_kept 52 2 (omega (arith, least, low, inside))) in
@@ -64,10 +63,8 @@ kept b o body e u =
     length-take-le (e.length - e.first) (drop e.first b) (omega (arith, length-drop e.first b, u.begins.is_within, lies.1)) in
     let long : length body ≡ e.length - e.first = length-unmarks _ _ _ _ _ _ u.marks ∙ size in
     let before : length (take e.first b) ≡ e.first = length-take-le e.first b (omega (arith, u.begins.is_within, lies.1)) in
-    let whole : take e.length o ≡ take e.first b ++ body =
-    ap (take e.length) (u.text ∙ sym (append_assoc (take e.first b) body (drop e.length b)))
-    ∙ take_at (take e.first b ++ body) (drop e.length b) e.length
-    (length-append (take e.first b) body ∙ omega (arith, before, long, lies.1)) in
+    let whole : take e.length o ≡ take e.first b ++ body = ap (take e.length) (u.text ∙ sym (append_assoc (take e.first b) body (drop e.length b)))
+    ∙ take_at (take e.first b ++ body) (drop e.length b) e.length (length-append (take e.first b) body ∙ omega (arith, before, long, lies.1)) in
     record {
       length_is = ap length u.text ∙ length-append (take e.first b) (body ++ drop e.length b)
           ∙ omega (arith, before, long, length-append body (drop e.length b), length-drop e.length b, u.begins.is_within, lies.1);
@@ -131,8 +128,7 @@ module _ (b : List ℕ) (h : HeadFields) (e : Extent) (front : BeginsVolume h e 
 
   -- the bytes with their own body are unchanged
   pub same_body : with_body (field e.first (e.length - e.first) b) ≡ b
-  same_body =
-      ap (λ (y : List ℕ). take e.first b ++ y) (take-append-drop (e.length - e.first) (drop e.first b)) ∙ take-append-drop e.first b
+  same_body = ap (λ (y : List ℕ). take e.first b ++ y) (take-append-drop (e.length - e.first) (drop e.first b)) ∙ take-append-drop e.first b
 
   module _ (body places : List ℕ) (marks : Unmarks e.file_system e.polarity e.first places (field e.first (e.length - e.first) b) body) where
     in_place : Unfixes e b (with_body body) body

@@ -1,12 +1,13 @@
 -- A stream, a section, a body and a content have the length of the bytes that they were read from.
+use Rattle.std.proofs.lemmas.Grind.{common_steps}
 use Rattle.std.proofs.Common.{◌≡◌, ℕ, ◌+◌, [], ◌∷◌, ◌++◌, zero, suc, List, length, refl, sym, ap, ◌∙◌, subst, arith, length-append}
 use Rattle.fv_base.specs.declared.guid.Guid.{Guid}
 use Rattle.fv_section.specs.Words.{FrameForm, SplitsFrom, frame_len, up_to_4}
 use Rattle.fv_section.proofs.Laws.{length_begun}
 use Rattle.fv_tree.specs.Words.{Pairwise, SectionRelation, StreamRelation, VolumeRelation, StreamOver, VolumeOver, SectionOver, MeansSection, Stream}
 use Rattle.fv_tree.specs.Words.{Denotes, MeansFile, Meaning, Volume, File, ContentMeaning, Plain, Sectioned, SectionMeaning, Section, SectionMeanings}
-use Rattle.fv_tree.specs.Words.{NoSections, MoreSections, BodyMeaning, Leaf, Group, Nested, sections_list, body_len, section_len, sections_end}
-use Rattle.fv_tree.specs.Words.{content_len, length_of, FileForm}
+use Rattle.fv_tree.specs.Words.{NoSections, MoreSections, BodyMeaning, sections_list, body_len, section_len, sections_end, content_len, length_of}
+use Rattle.fv_tree.specs.Words.{FileForm}
 
 -- a section has the length of its frame
 abbrev pub AsLong : SectionRelation → Type 0
@@ -35,12 +36,10 @@ from_long R each at end f (g ∷ gs) s (MoreSections u us) tail b e (filler, res
 -- the sections of a stream and its tail have the length of the stream
 pub stream_long : (R : SectionRelation) → AsLong R → (ss : SectionMeanings) (tail : ℕ) (b : List ℕ) → StreamOver R (sections_list ss) tail b
     → sections_end 0 ss + tail ≡ length b
-stream_long R each NoSections tail b ([], split, p) = let e : b ≡ [] = split.0 in (let t : tail ≡ 0 = split.1 in omega
-    (arith, t, ap length e))
+stream_long R each NoSections tail b ([], split, p) = let e : b ≡ [] = split.0 in (let t : tail ≡ 0 = split.1 in omega (arith, t, ap length e))
 stream_long R each NoSections tail b (f ∷ fs, split, p) = absurd p
 stream_long R each (MoreSections s ss) tail b ([], split, p) = absurd p
-stream_long R each (MoreSections s ss) tail b (f ∷ fs, split, p) = let z = from_long R each 0 0 f fs s ss tail b refl split p in omega
-    (arith, z)
+stream_long R each (MoreSections s ss) tail b (f ∷ fs, split, p) = let z = from_long R each 0 0 f fs s ss tail b refl split p in omega (arith, z)
 
 volume_long : (S : StreamRelation) (b : List ℕ) (m : Meaning) → VolumeOver S b m → length_of m ≡ length b
 volume_long S b (Volume h fs) d = sym (d.length_is ∙ d.begins.length_is)
@@ -48,9 +47,7 @@ volume_long S b (Volume h fs) d = sym (d.length_is ∙ d.begins.length_is)
 section_long_over : (S : StreamRelation) (V : VolumeRelation)
     → ((ss : SectionMeanings) (t : ℕ) (b : List ℕ) → S (sections_list ss) t b → sections_end 0 ss + t ≡ length b)
     → ((b : List ℕ) (v : Meaning) → V b v → length_of v ≡ length b) → AsLong (SectionOver S V)
-section_long_over S V stream volume f (Section k e (Leaf b)) (p, q, (g, o, same)) = rw (q, same) refl
-section_long_over S V stream volume f (Section k e (Group ss t)) (p, q, (g, h)) = rw (q, stream ss t f.body h) refl
-section_long_over S V stream volume f (Section k e (Nested v)) (p, q, (g, o, d)) = rw (q, volume f.body v d) refl
+section_long_over S V stream volume f s means = grind (arith, common_steps) steps 150000
 
 pub section_long : (n : ℕ) → AsLong (MeansSection n)
 section_long zero = section_long_over (λ _ _ _. ⊥) (λ _ _. ⊥) (λ ss t b h. absurd h) (λ b v h. absurd h)

@@ -1,6 +1,6 @@
 -- Two lists that agree item by item, and the first item that is rejected.
-use Rattle.std.proofs.Common.{◌≡◌, ℕ, ◌+◌, ◌<◌, ◌≤◌, [], ◌∷◌, ◌++◌, List, length, take, drop, get_or, map, sym, ◌∙◌, subst, arith, inl, inr, take_all}
-use Rattle.fv_base.proofs.Laws.{length-map, get_or-map, AllByRecursion, Which, First, TwoCuts, at_index, more_items, seam_items, two_cuts}
+use Rattle.std.proofs.Common.{◌≡◌, ℕ, ◌+◌, ◌<◌, ◌≤◌, [], ◌∷◌, ◌++◌, List, length, take, drop, get_or, map, sym, subst, arith, take_all}
+use Rattle.fv_base.proofs.Laws.{length-map, get_or-map, AllByRecursion, Which, First, at_index, more_items, seam_items, two_cuts, common_steps}
 use Rattle.fv_tree.specs.Words.{Pairwise, OneOf}
 
 -- two lists that agree still agree if a pair of items that agree is appended
@@ -15,8 +15,7 @@ pairs_push R _ _ x y p r = absurd p
 module _ {A B X : Type 0} (R : A → B → Type 0) (form : X → A) (items : List X) (i : ℕ) (d : X) where
   -- a property of each form is a property of the form of item i
   pub of_item : (P : A → Type 0) → AllByRecursion P (map form items) → i < length items → P (form (get_or items i d))
-  of_item P all l =
-      subst P (get_or-map form items i d (form d) l) (at_index P (map form items) i (form d) all (omega (arith, l, length-map items form)))
+  of_item P all l = subst P (get_or-map form items i d (form d) l) (at_index P _ i (form d) all (omega (arith, l, length-map items form)))
 
   -- if item i is read, the lists agree up to it
   pub kept_pairs : (ys new : List B) (y : B) → i < length items → Pairwise R (take i (map form items)) ys
@@ -62,12 +61,4 @@ one_of_none {A} which R fault xs ys bad (before, x, after, is, read, here) all =
 -- if the first item that is rejected has two faults, they are faults of the same item
 pub first_of_once : {A B : Type 0} (R : A → B → Type 0) (P Q : A → Type 0) (xs : List A) → ((x : A) (y : B) → P x → R x y → ⊥)
     → ((x : A) (y : B) → Q x → R x y → ⊥) → OneOf First R P xs → OneOf First R Q xs → (x : A) × P x × Q x
-first_of_once {A} R P Q xs no_p no_q (before, x, after, is, (read, pairs), p) (before', y, after', is', (read', pairs'), q) =
-    go (two_cuts before x after before' y after' (sym is ∙ is'))
-  where
-    go : TwoCuts before x after before' y after' → (z : A) × P z × Q z
-    go (inl (same, item)) = (x, p, subst Q (sym item) q)
-    go (inr (inl (mid, late, rest))) =
-        absurd (not_paired R before x mid read' (λ z r. no_p x z p r) (subst (λ (l : List A). Pairwise R l read') late pairs'))
-    go (inr (inr (mid, late, rest))) =
-        absurd (not_paired R before' y mid read (λ z r. no_q y z q r) (subst (λ (l : List A). Pairwise R l read) late pairs))
+first_of_once {A} R P Q xs no_p no_q one_of other_one_of = grind (arith, common_steps, two_cuts, not_paired) steps 150000

@@ -41,15 +41,13 @@ begun_data b fs (h, e, front, stand) =
     let long : length v ≡ e.length = length-take-le e.length b front.is_within in
     let within = cells_inside e v stand.cells (omega (arith, long, (first_lies b h e front).1)) stand.tiles in
     let files = all_files v stand.cells (body_payloads e.file_system e.polarity e.first stand.cells v stand.tiles) within in
-    in_front e.length b fs front.is_within
-    (subst (AllByRecursion (HasDataIn v)) (sym stand.current.files_are) (of_current (HasDataIn v) (files_in stand.cells) files))
+    in_front e.length b fs front.is_within (subst (AllByRecursion (HasDataIn v)) (sym stand.current.files_are) (of_current (HasDataIn v) _ files))
 
 -- ---- the stored files are the only ones
 
 module _ (b : List ℕ) (h : HeadFields) (e : Extent) (front : BeginsVolume h e b) where
   pub located_stand : (gs : List FileForm) → BeginWithFiles b gs → AreFilesOf e (take e.length b) gs
-  located_stand gs (k, x, other, stand) =
-      subst (λ (y : Extent). AreFilesOf y (take y.length b) gs) (one_front b k h x e other front).1 stand
+  located_stand gs (k, x, other, stand) = subst (λ (y : Extent). AreFilesOf y (take y.length b) gs) (one_front b k h x e other front).1 stand
 
 pub one_files : (b : List ℕ) (fs gs : List FileForm) → BeginWithFiles b fs → BeginWithFiles b gs → gs ≡ fs
 one_files b fs gs (h, e, front, stand) other = one_stand e (take e.length b) fs gs stand (located_stand b h e front gs other)

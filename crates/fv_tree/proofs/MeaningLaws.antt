@@ -12,8 +12,8 @@ use Rattle.fv_head.specs.declared.extent.Extent.{Extent}
 use Rattle.fv_head.proofs.Laws.{one_front}
 use Rattle.fv_section.specs.Words.{FrameForm}
 use Rattle.fv_section.proofs.Laws.{one_split}
-use Rattle.fv_tree.specs.Words.{AreFilesOf, FileForm, Meaning, Volume, FileMeanings, NoFiles, MoreFiles, FileMeaning, File, ContentMeaning, Plain}
-use Rattle.fv_tree.specs.Words.{Sectioned, files_from, sections_from, files_list, SectionMeanings, NoSections, MoreSections, SectionMeaning, Section}
+use Rattle.fv_tree.specs.Words.{AreFilesOf, FileForm, Meaning, Volume, FileMeanings, NoFiles, MoreFiles, FileMeaning, ContentMeaning, Plain}
+use Rattle.fv_tree.specs.Words.{Sectioned, files_from, sections_from, files_list, SectionMeanings, NoSections, MoreSections, SectionMeaning}
 use Rattle.fv_tree.specs.Words.{BodyMeaning, Leaf, Group, Nested, sections_list, SectionRelation, StreamRelation, VolumeRelation, Pairwise}
 use Rattle.fv_tree.specs.Words.{StreamOver, SectionOver, VolumeOver, MeansBody, MeansContent, MeansFile, MeansSection, Stream, Denotes}
 use Rattle.fv_tree.proofs.SectionShapeLaws.{group_is_no_volume}
@@ -73,13 +73,7 @@ module _ (s s' : StreamRelation) (streams : StreamsOne s s') where
       cc
 
   file_one : (f : FileForm) (m k : FileMeaning) → MeansFile s f m → MeansFile s' f k → m ≡ k
-  file_one f (File n k a c) (File n' k' a' c') (p, q, r, t) (p', q', r', t') =
-      let names : n ≡ n' = p ∙ sym p' in
-      let kinds : k ≡ k' = q ∙ sym q' in
-      let bits : a ≡ a' = r ∙ sym r' in
-      let contents : c ≡ c' =
-      content_one k f.payload c c' t (subst (λ (i : ℕ). MeansContent s' i f.payload c') (sym kinds) t') in
-      cc
+  file_one f m k means_file other_means_file = grind (arith, common_steps, content_one) steps 150000
 
   volume_one : VolumesOne (VolumeOver s) (VolumeOver s')
   volume_one b (Volume h fs) (Volume k gs) d d' =
@@ -110,20 +104,14 @@ module _ (s s' : StreamRelation) (streams : StreamsOne s s') where
     body_one f (Nested m) (Nested k) (_, _, d) (_, _, d') = ap Nested (volumes f.body m k d d')
 
     section_one : SectionsOne (SectionOver s v) (SectionOver s' v')
-    section_one f (Section n x b) (Section k y c) (p, q, inside) (p', q', inside') =
-        let kinds : n ≡ k = p ∙ sym p' in
-        let forms : x ≡ y = q ∙ sym q' in
-        let bodies : b ≡ c = body_one f b c inside inside' in
-        cc
+    section_one f s t means other_means = grind (arith, common_steps, body_one) steps 150000
 
 -- ---- the recursion
 
 sections_one : (n k : ℕ) → SectionsOne (MeansSection n) (MeansSection k)
 sections_one zero zero = section_one (λ _ _ _. ⊥) (λ _ _ _. ⊥) (λ _ _ _ _ _ h _. absurd h) (λ _ _. ⊥) (λ _ _. ⊥) (λ _ _ _ h _. absurd h)
-sections_one zero (suc k) =
-    section_one (λ _ _ _. ⊥) (Stream k) (λ _ _ _ _ _ h _. absurd h) (λ _ _. ⊥) (Denotes k) (λ _ _ _ h _. absurd h)
-sections_one (suc n) zero =
-    section_one (Stream n) (λ _ _ _. ⊥) (λ _ _ _ _ _ _ h. absurd h) (Denotes n) (λ _ _. ⊥) (λ _ _ _ _ h. absurd h)
+sections_one zero (suc k) = section_one (λ _ _ _. ⊥) (Stream k) (λ _ _ _ _ _ h _. absurd h) (λ _ _. ⊥) (Denotes k) (λ _ _ _ h _. absurd h)
+sections_one (suc n) zero = section_one (Stream n) (λ _ _ _. ⊥) (λ _ _ _ _ _ _ h. absurd h) (Denotes n) (λ _ _. ⊥) (λ _ _ _ _ h. absurd h)
 sections_one (suc n) (suc k) =
     let streams = stream_one (MeansSection n) (MeansSection k) (sections_one n k) in
     section_one (Stream n) (Stream k) streams (Denotes n) (Denotes k) (volume_one (Stream n) (Stream k) streams)

@@ -1,8 +1,8 @@
 -- Files as they are stored, and the index of their names: the names and marks in the index are the names and marks of
 -- the files.
-use Rattle.std.proofs.Common.{◌≡◌, ◌<◌, ℕ, ◌+◌, [], ◌∷◌, ◌≤◌, ◌⊎◌, ◌||◌, List, length, take, get_or, map, Bool, true, false, cond, refl, sym}
-use Rattle.fv_base.proofs.Laws.{ap, ◌∙◌, subst, arith, inl, inr, not, lt-ltb, le-ltb, AllByRecursion, Contains, filter, list_any, position}
-use Rattle.fv_base.proofs.Laws.{position_or_len, option_and_then, cases_lt, get_or-map, length-map, slice_get_past, kept_noted, one_behind}
+use Rattle.std.proofs.Common.{◌≡◌, ◌<◌, ℕ, ◌+◌, [], ◌∷◌, ◌||◌, List, length, take, get_or, map, Bool, true, false, cond, refl, sym}
+use Rattle.fv_base.proofs.Laws.{ap, ◌∙◌, subst, arith, not, lt-ltb, le-ltb, AllByRecursion, Contains, filter, list_any, position, position_or_len}
+use Rattle.fv_base.proofs.Laws.{option_and_then, get_or-map, length-map, slice_get_past, kept_noted, one_behind, common_steps}
 use Rattle.std.specs.List.{find, items_where_true, slice_get}
 use Rattle.std.specs.List.Retain.{IsFiltered, ReturnsInTurn}
 use Rattle.std.proofs.lemmas.List.{take-map}
@@ -52,26 +52,20 @@ looked_up name fs = rw (place_named name fs, length-map fs file_name_of)
 
 -- the file with this number is the first file with the name
 pub file_there : (test : FileMeaning → Bool) (fs : List FileMeaning) → option_and_then (slice_get fs) (position test fs) ≡ find test fs
-file_there test fs = go (cases_lt (position_or_len test fs) (length fs)) where
-  at : ℕ
-  at = position_or_len test fs
-
-  go : (at < length fs) ⊎ (length fs ≤ at) → option_and_then (slice_get fs) (position test fs) ≡ find test fs
-  go (inl inside) = rw (lt-ltb at (length fs) inside) (sym (find_at test fs))
-  go (inr past) = rw (le-ltb at (length fs) past) (sym (find_at test fs ∙ slice_get_past fs at past))
+file_there test fs = grind (arith, common_steps, lt-ltb, find_at, le-ltb, slice_get_past) steps 150000
 
 -- ---- twins and updates
 
 -- if a closure that does not change returns a test of each item of a list, `retain` keeps the items of a filter
 module _ {X F : Type 0} (R : F → X → Bool → F → Type 0) (test : X → Bool) (f : F) where
-  told : (bs : List Bool) (xs : List X) (g : F) → ((x : X) (t : Bool) (f' : F) → Contains xs x → R f x t f' → (t ≡ test x) × (f' ≡ f))
+  same_kept : (bs : List Bool) (xs : List X) (g : F) → ((x : X) (t : Bool) (f' : F) → Contains xs x → R f x t f' → (t ≡ test x) × (f' ≡ f))
       → length bs ≡ length xs → ReturnsInTurn R f bs xs g → items_where_true bs xs ≡ filter test xs
-  told [] [] g says long turn = refl
-  told [] (x ∷ xs) g says long turn = absurd (omega (arith, long))
-  told (t ∷ bs) [] g says long turn = absurd turn
-  told (t ∷ bs) (x ∷ xs) g says long (f', here, turn) =
+  same_kept [] [] g says long turn = refl
+  same_kept [] (x ∷ xs) g says long turn = absurd (omega (arith, long))
+  same_kept (t ∷ bs) [] g says long turn = absurd turn
+  same_kept (t ∷ bs) (x ∷ xs) g says long (f', here, turn) =
       let one = says x t f' (0, omega arith, refl) here in
-      kept t one.0 (told bs xs g (λ y u h has. says y u h (one_behind x xs y has)) (omega (arith, long))
+      kept t one.0 (same_kept bs xs g (λ y u h has. says y u h (one_behind x xs y has)) (omega (arith, long))
       (subst (λ (h : F). ReturnsInTurn R h bs xs g) one.1 turn))
     where
       kept : (u : Bool) → u ≡ test x → items_where_true bs xs ≡ filter test xs → items_where_true (u ∷ bs) (x ∷ xs) ≡ filter test (x ∷ xs)
@@ -80,7 +74,7 @@ module _ {X F : Type 0} (R : F → X → Bool → F → Type 0) (test : X → Bo
 
   pub retained : (xs : List X) → ((x : X) (t : Bool) (f' : F) → Contains xs x → R f x t f' → (t ≡ test x) × (f' ≡ f))
       → (ys : List X) → IsFiltered R f xs ys → ys ≡ filter test xs
-  retained xs says ys (bs, g, long, turn, is) = is ∙ told bs xs g says long turn
+  retained xs says ys (bs, g, long, turn, is) = is ∙ same_kept bs xs g says long turn
 
 -- a filter that drops the files for which a test is true keeps all files if the test is false of each
 all_kept : (test : LocatedFile → Bool) (ss : List LocatedFile) → AllByRecursion (λ s. test s ≡ false) ss → filter (λ s. not (test s)) ss ≡ ss
@@ -114,18 +108,16 @@ module _ (b : List ℕ) where
   -- the same is true of the first n files. If the name and mark of the next file have a twin among them, that file has
   -- one
   pub front_twins : (n : ℕ) (ss : List LocatedFile) → names.NoTwins (take n (map named_file ss)) → NoTwins (take n (map (file_form b) ss))
-  front_twins n ss h =
-      subst NoTwins (sym (take-map form n ss)) (twins_from (take n ss) (subst names.NoTwins (take-map named_file n ss) h))
+  front_twins n ss h = subst NoTwins (sym (take-map form n ss)) (twins_from (take n ss) (subst names.NoTwins (take-map named_file n ss) h))
 
   pub twin_after : (n : ℕ) (ss : List LocatedFile) → n < length ss
       → list_any (names.is_twin (get_or (map named_file ss) n no_named)) (take n (map named_file ss)) ≡ true
       → list_any (is_twin (file_form b (get_or ss n no_file))) (take n (map (file_form b) ss)) ≡ true
   twin_after n ss l h =
       let s : LocatedFile = get_or ss n no_file in
-      ap (list_any (is_twin (form s))) (take-map form n ss) ∙ twins_any s (take n ss)
-      ∙ ap (list_any (names.is_twin (named_file s))) (sym (take-map named_file n ss))
-      ∙ ap (λ (f : NamedFile). list_any (names.is_twin f) (take n (map named_file ss))) (sym (get_or-map named_file ss n no_file no_named l))
-      ∙ h
+      ap (list_any (is_twin (form s))) (take-map form n ss) ∙ twins_any s (take n ss) ∙ ap (list_any (names.is_twin (named_file s)))
+      (sym (take-map named_file n ss)) ∙ ap (λ (f : NamedFile). list_any (names.is_twin f) (take n (map named_file ss)))
+      (sym (get_or-map named_file ss n no_file no_named l)) ∙ h
 
   -- ---- the files that are kept
 

@@ -48,8 +48,7 @@ module _ (which : Which) where
       cellular.none_after which x.file_system x.polarity x.first (drop x.first volume) f cells bad tiles
   stored_by x volume f cells files (inr (others, tiles', names)) tiles current =
       let same = only_one x.file_system x.polarity x.first (drop x.first volume) others cells tiles' tiles in
-      current_none which x.length others f files names
-      (subst (λ (l : List CellForm). AreCurrent x.length (files_in l) files) same current)
+      current_none which x.length others f files names (subst (λ (l : List CellForm). AreCurrent x.length (files_in l) files) same current)
 
   -- the same if the fault is moved to where the volume begins
   pub files_refused : (x : Extent) (volume : List ℕ) (at : Place) (e : Fault) (files : List FileForm)
@@ -60,18 +59,15 @@ module _ (which : Which) where
     -- a file with a fault is not read
     pub file_by : (e : Fault) (at : Place) (f : FileForm) (m : FileMeaning) → FileFault (InStream which n) e f at → MeansFile (Stream n) f m
         → ⊥
-    file_by e at f m (holds, inside) is =
-        stream_bad n f holds (λ us u s. rejected e f.payload (data_at at f) us u inside s) m is
+    file_by e at f m (holds, inside) is = stream_bad n f holds (λ us u s. rejected e f.payload (data_at at f) us u inside s) m is
 
     -- a body with a fault has no files
     body_by : (x : Extent) (volume : List ℕ) (e : Fault) (at : Place) (ms : List FileMeaning)
         → BodyFault which n (InStream which n) x e volume at → HasFiles (Stream n) x volume ms → ⊥
     body_by x volume e at ms (inl moved) (files, stand, pairs) = files_refused x volume at e files moved stand
     body_by x volume e at ms (inr (cells, tiles, right, bad)) (files, stand, pairs) =
-        let same : stand.cells ≡ cells =
-        only_one x.file_system x.polarity x.first (drop x.first volume) cells stand.cells tiles stand.tiles in
-        let current : files ≡ current_in (files_in cells) =
-        stand.current.files_are ∙ ap (λ (l : List CellForm). current_in (files_in l)) same in
+        let same : stand.cells ≡ cells = only_one x.file_system x.polarity x.first (drop x.first volume) cells stand.cells tiles stand.tiles in
+        let current : files ≡ current_in (files_in cells) = stand.current.files_are ∙ ap (λ (l : List CellForm). current_in (files_in l)) same in
         one_of_none which (MeansFile (Stream n)) (λ f. FileFault (InStream which n) e f at) (current_in (files_in cells)) ms
         (file_by e at) bad (subst (λ (l : List FileForm). Pairwise (MeansFile (Stream n)) l ms) current pairs)
 
@@ -80,8 +76,7 @@ module _ (which : Which) where
         → Denotes n (take k b) m → ⊥
     volume_by e b at k m within (inl (f, bad, is)) d =
         none_fails which (head_checks b) f bad (front_holds b (head_of m) d.extent (front_of n k b m within d).0)
-    volume_by e b at k m within (inr (h, x, front, bad)) d =
-        body_by x (take x.length b) e at (files_of m) bad (has_files n k b m h x front within d).2
+    volume_by e b at k m within (inr (h, x, front, bad)) d = body_by x _ e at (files_of m) bad (has_files n k b m h x front within d).2
 
   -- ---- the recursion
 
@@ -93,9 +88,8 @@ module _ (which : Which) where
   section_refuses (suc n) e f at s (inl (group, bad)) h =
       group_only (Stream n) (Denotes n) f group (λ us u r. stream_by n (section_refuses n) e f.body _ us u bad r) s h
   section_refuses (suc n) e f at s (inr (kind, opens, bad)) h =
-      opened_only (Stream n) (Denotes n) f (record { kind = kind; opens = opens }) (λ v d.
-      volume_by n (stream_by n (section_refuses n)) e f.body _ (length f.body) v (omega arith) bad
-      (subst (λ b. Denotes n b v) (sym (take_all (length f.body) f.body (omega arith))) d)) s h
+      opened_only (Stream n) (Denotes n) f (record { kind = kind; opens = opens }) (λ v d. volume_by n (stream_by n (section_refuses n)) e f.body _
+      (length f.body) v (omega arith) bad (subst (λ b. Denotes n b v) (sym (take_all (length f.body) f.body (omega arith))) d)) s h
 
   -- at every level, bytes with a fault are not a stream
   pub stream_refuses : (n : ℕ) → StreamRefuses n

@@ -5,7 +5,8 @@
 --    (`group_read`), and an opened volume adds itself (`volume_read`).
 -- 3. A stream is read if all of its frames are (`stream_read`). The data of a file are plain bytes (`plain_read`), or a
 --    stream that is read (`sectioned_read`).
-use Rattle.std.proofs.Common.{◌≡◌, ◌∙◌, ℕ, suc, ◌+◌, List, [], ◌∷◌, ◌++◌, Bool, true, false, map, refl, sym, ap, subst, append_assoc}
+use Rattle.std.proofs.lemmas.Grind.{common_steps}
+use Rattle.std.proofs.Common.{arith, ◌≡◌, ◌∙◌, ℕ, suc, ◌+◌, List, [], ◌∷◌, ◌++◌, Bool, true, false, map, refl, sym, ap, subst}
 use Rattle.std.proofs.lemmas.List.{append-nil}
 use Rattle.fv_base.specs.Words.{IsBytes}
 use Rattle.fv_section.specs.Words.{FrameForm, Splits}
@@ -22,15 +23,11 @@ use Rattle.fv_tree.proofs.WalkedSectionLaws.{by_unplaced, section_is}
 each_append : (step : Step) (fs gs : List FrameForm) (vs : List Meaning) → each_by step (fs ++ gs) vs
     ≡ ((each_by step fs vs).0 ++ (each_by step gs (each_by step fs vs).1).0, (each_by step gs (each_by step fs vs).1).1)
 each_append step [] gs vs = refl
-each_append step (f ∷ fs) gs vs =
-    ap (λ (r : List SectionMeaning × List Meaning). ((step f vs).0 ∷ r.0, r.1)) (each_append step fs gs (step f vs).1)
+each_append step (f ∷ fs) gs vs = ap (λ (r : List SectionMeaning × List Meaning). ((step f vs).0 ∷ r.0, r.1)) (each_append step fs gs (step f vs).1)
 
 pub each_push : (step : Step) (fs : List FrameForm) (f : FrameForm) (xs ys : List Meaning) (ss : List SectionMeaning) (s : SectionMeaning)
     → EachYields step fs xs ss → Yields step f ys s → EachYields step (fs ++ f ∷ []) (xs ++ ys) (ss ++ s ∷ [])
-each_push step fs f xs ys ss s each one = λ later.
-    ap (each_by step (fs ++ f ∷ [])) (append_assoc xs ys later) ∙ each_append step fs (f ∷ []) (xs ++ (ys ++ later))
-    ∙ ap (λ (r : List SectionMeaning × List Meaning). (r.0 ++ (each_by step (f ∷ []) r.1).0, (each_by step (f ∷ []) r.1).1)) (each (ys ++ later))
-    ∙ ap (λ (r : SectionMeaning × List Meaning). (ss ++ r.0 ∷ [], r.1)) (one later)
+each_push step fs f xs ys ss s each one = grind (arith, common_steps, each_append) steps 150000
 
 -- ---- a section
 
@@ -50,10 +47,8 @@ group_read n k f old new e is read = record {
   means = group_found n k f read.sections (tail_of f.body) e (group_shape f is) read.means;
   added = read.added;
   joined = read.joined;
-  yields = λ later.
-      ap (λ (m : ℕ). section_by m f (read.added ++ later)) (sym (suc_is n k e)) ∙ section_is (suc k) f (read.added ++ later) shapes.Group is
-      ∙ ap (λ (r : List SectionMeaning × List Meaning). (Section f.kind f.extended (Group (sections_from r.0) (tail_of f.body)), r.1))
-      (read.yields later);
+  yields = λ later. ap (λ (m : ℕ). section_by m f (read.added ++ later)) (sym (suc_is n k e)) ∙ section_is (suc k) f _ shapes.Group is ∙ ap
+      (λ (r : List SectionMeaning × List Meaning). (Section f.kind f.extended (Group (sections_from r.0) (tail_of f.body)), r.1)) (read.yields later);
 }
 
 pub volume_read : (n k : ℕ) (f : FrameForm) (old new : List Meaning) (v : Meaning) → n ≡ k + 1 → shape_of f ≡ shapes.Volume
@@ -78,26 +73,12 @@ each_unplaced n (f ∷ fs) vs =
 pub stream_read : (n : ℕ) (b : List ℕ) (tail : ℕ) (fs : List FrameForm) (ss : List SectionMeaning) (old new added : List Meaning)
     → IsBytes b → Splits fs tail b → Pairwise (MeansSection n) fs ss → new ≡ old ++ added → EachYields (section_by n) fs added ss
     → StreamRead n b old new
-stream_read n b tail fs ss old new added small split pairs joined yields =
-    let meets = split_is fs tail b split in
-    record {
-      small = small;
-      sections = ss;
-      means = (fs, subst (λ t. Splits fs t b) (sym meets.tail) split, pairs);
-      added = added;
-      joined = joined;
-      yields = λ later.
-          ap (λ gs. each_by (section_by n) gs (added ++ later)) meets.frames ∙ each_unplaced n fs (added ++ later) ∙ yields later;
-    }
+stream_read n b tail fs ss old new added small split pairs joined yields = grind (arith, common_steps, split_is, each_unplaced) steps 150000
 
 -- ---- the data of a file
 
 pub plain_read : (n kind : ℕ) (b : List ℕ) → holds_sections kind ≡ false → ContentRead n kind b []
-plain_read n kind b is = record {
-  small = λ e. let bad : false ≡ true = sym is ∙ e in cc;
-  means = subst (λ (t : Bool). MeansContent (Stream n) kind b (content_by t n b []).0) (sym is) (is, refl);
-  none = subst (λ (t : Bool). (content_by t n b []).1 ≡ []) (sym is) refl;
-}
+plain_read n kind b is = grind (arith, common_steps) steps 150000
 
 pub sectioned_read : (n kind : ℕ) (b : List ℕ) (new : List Meaning) → holds_sections kind ≡ true → StreamRead n b [] new → ContentRead n kind b new
 sectioned_read n kind b new is read =

@@ -55,10 +55,9 @@ system_decides b = go (bytes_eq (field 16 16 b) (system_guid Ffs2)) (bytes_eq (f
 
 opens_decides : (b : List ℕ) → Decides (is_one_volume b) (Opens b)
 opens_decides b =
-    Decides-like (is_one_volume b) (λ h. record { least = h.0.0.0; signature = h.0.0.1; file_system = h.0.1; length_is = h.1 })
-    (λ o. (((o.least, o.signature), o.file_system), o.length_is))
-    (Decides-and _ _ (Decides-and _ _ (Decides-and _ _ (leb-true 56 (length b), le-leb 56 (length b)) (bytes_eq-Decides _ _)) (system_decides b))
-    (Decides-eqb _ _))
+    Decides-like (is_one_volume b) (λ h. record { least = h.0.0.0; signature = h.0.0.1; file_system = h.0.1; length_is = h.1 }) (λ
+    o. (((o.least, o.signature), o.file_system), o.length_is)) (Decides-and _ _
+    (Decides-and _ _ (Decides-and _ _ (leb-true 56 (length b), le-leb 56 (length b)) (bytes_eq-Decides _ _)) (system_decides b)) (Decides-eqb _ _))
 
 -- ---- the shapes
 
@@ -116,16 +115,12 @@ leaf_is (suc n) f l = leaf_over (Stream n) (Denotes n) f l
 -- a group whose body is not a stream has no meaning
 pub group_only : (S : StreamRelation) (V : VolumeRelation) (f : FrameForm) → f.kind ≡ group_kind
     → ((us : List SectionMeaning) (u : ℕ) → S us u f.body → ⊥) → (s : SectionMeaning) → SectionOver S V f s → ⊥
-group_only S V f g none (Section x e (Leaf b)) (p, q, (off, _, r)) = off g
-group_only S V f g none (Section x e (Group us u)) (p, q, (g', r)) = none (sections_list us) u r
-group_only S V f g none (Section x e (Nested v)) (p, q, (k', o, r)) = group_is_no_volume f g k'
+group_only S V f g none s section_over = grind (arith, common_steps, group_is_no_volume) steps 150000
 
 -- an opened body that is not a volume has no meaning
 pub opened_only : (S : StreamRelation) (V : VolumeRelation) (f : FrameForm) → IsOpened f → ((v : Meaning) → V f.body v → ⊥)
     → (s : SectionMeaning) → SectionOver S V f s → ⊥
-opened_only S V f o none (Section x e (Leaf b)) (p, q, (off, not, h)) = not o.kind o.opens
-opened_only S V f o none (Section x e (Group us u)) (p, q, (g, h)) = group_is_no_volume f g o.kind
-opened_only S V f o none (Section x e (Nested w)) (p, q, (k', o', d)) = none w d
+opened_only S V f o none s section_over = grind (arith, common_steps, group_is_no_volume) steps 150000
 
 -- places with equal offsets and equal depths are equal
 pub one_place : (p q : Place) → p.offset ≡ q.offset → p.depth ≡ q.depth → p ≡ q
@@ -149,8 +144,7 @@ group_first n k f x at inside e g p q h =
 
 pub nested_found : (n k : ℕ) (f : FrameForm) (v : Meaning) → n ≡ k + 1 → IsOpened f → Denotes k f.body v
     → MeansSection n f (Section f.kind f.extended (Nested v))
-nested_found n k f v e o d = subst (λ m. MeansSection m f (Section f.kind f.extended (Nested v))) (suc_is n k e)
-    (refl, refl, (o.kind, o.opens, d))
+nested_found n k f v e o d = subst (λ m. MeansSection m f (Section f.kind f.extended (Nested v))) (suc_is n k e) (refl, refl, (o.kind, o.opens, d))
 
 pub nested_first : (n k : ℕ) (f : FrameForm) (x : Fault) (at inside : Place) → n ≡ k + 1 → IsOpened f
     → inside.offset ≡ at.offset + body_place f → inside.depth ≡ at.depth + 1 → InVolume First k x f.body inside → InSection First n x f at
@@ -172,6 +166,5 @@ stream_reads n kind payload ss t h s = grind (arith, common_steps, list_back)
 
 pub stream_bad : (n : ℕ) (f : FileForm) → holds_sections f.head.kind ≡ true → ((us : List SectionMeaning) (u : ℕ)
     → Stream n us u f.payload → ⊥) → (m : FileMeaning) → MeansFile (Stream n) f m → ⊥
-stream_bad n f h none (File name kind attributes (Plain b)) (p, q, s, (no_sections, r)) = up_is_not_down (holds_sections f.head.kind) h
-    (ap holds_sections (sym q) ∙ no_sections)
+stream_bad n f h none (File name kind attributes (Plain b)) (p, q, s, (no_sections, r)) = up_is_not_down _ h (ap holds_sections (sym q) ∙ no_sections)
 stream_bad n f h none (File name kind attributes (Sectioned us u)) (p, q, s, (has, r)) = none (sections_list us) u r

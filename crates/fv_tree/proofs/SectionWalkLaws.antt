@@ -5,7 +5,7 @@
 --    (`next_group`, `group_are`, and `group_fits` for the room) or not (`next_other`, `other_are`).
 use Rattle.fv_tree.specs.declared.view.Body.TheVariants as bodies
 use Rattle.std.proofs.Common.{◌≡◌, ◌≤◌, ◌+◌, ℕ, [], ◌∷◌, ◌++◌, ◌∙◌, List, length, refl, sym, ap, subst, append-nil, append_assoc, arith, ◌<◌}
-use Rattle.fv_base.proofs.Laws.{length-append, AllByRecursion, depth_limit}
+use Rattle.fv_base.proofs.Laws.{length-append, AllByRecursion, depth_limit, common_steps}
 use Rattle.fv_section.specs.Words.{FrameForm}
 use Rattle.fv_tree.specs.Words.{MeansSection, preorder, inside_section, FileMeaning, File, Plain, Sectioned, SectionMeanings, SectionMeaning, Section}
 use Rattle.fv_tree.specs.Words.{Group, content_of, sections_list, body_of, sections_from, sections_in_data, IsReadFile, AreLevels, NestsAt, left_in}
@@ -38,8 +38,7 @@ group_nests : (depth : ℕ) (s : SectionMeaning) (ss : List SectionMeaning) (tai
     → (depth < depth_limit) × AllByRecursion (NestsAt (depth + 1)) ss
 group_nests depth (Section kind extended body) ss tail (n, fits, f, means) is =
     let group = subst (λ b. MeansSection n f (Section kind extended b)) (sym is) means in
-    let (k, less, inside) =
-    nests_group (sections_from ss) tail n (nests_body (Section kind extended (Group (sections_from ss) tail)) n f group) in
+    let (k, less, inside) = nests_group (sections_from ss) tail n (nests_body (Section kind extended (Group (sections_from ss) tail)) n f group) in
     (omega (arith, fits, less), listed (depth + 1) ss (sections_from ss) refl (each_nests (depth + 1) k _ (omega (arith, fits, less)) inside))
 
 -- ---- the innermost level
@@ -54,8 +53,7 @@ left_more (outer ∷ levels) ss =
 levels_more : (depth at : ℕ) (levels : List (List SectionMeaning × ℕ)) (ss : List SectionMeaning × ℕ) → at ≡ depth + length levels
     → AreLevels depth levels → AllByRecursion (NestsAt at) ss.0 → AreLevels depth (levels ++ ss ∷ [])
 levels_more depth at [] ss is are nest = (subst (λ d. AllByRecursion (NestsAt d) ss.0) (omega (arith, is)) nest, tt)
-levels_more depth at (outer ∷ levels) ss is (here, more) nest =
-    (here, levels_more (depth + 1) at levels ss (omega (arith, is)) more nest)
+levels_more depth at (outer ∷ levels) ss is (here, more) nest = (here, levels_more (depth + 1) at levels ss (omega (arith, is)) more nest)
 
 levels_less : (depth at : ℕ) (levels : List (List SectionMeaning × ℕ)) (ss : List SectionMeaning × ℕ) → at ≡ depth + length levels
     → AreLevels depth (levels ++ ss ∷ []) → AreLevels depth levels × AllByRecursion (NestsAt at) ss.0
@@ -83,10 +81,7 @@ module _ (levels : List (List SectionMeaning × ℕ)) (ss rest : List SectionMea
 
   -- the first section of the innermost level is the next section of the walk, and is followed by the sections in it
   first_left : left_in (levels ++ ss ∷ []) ≡ s ∷ (inside_section s ++ left_in (levels ++ rest ∷ []))
-  first_left =
-      left_more levels ss ∙ ap (λ l. preorder (sections_from l) ++ left_in levels) is
-      ∙ ap (λ l. s ∷ l) (append_assoc (inside_section s) (preorder (sections_from rest.0)) (left_in levels)
-      ∙ ap (λ l. inside_section s ++ l) (sym (left_more levels rest)))
+  first_left = grind (arith, common_steps, left_more) steps 150000
 
   pub other_are : AreLevels 0 (levels ++ rest ∷ [])
   other_are = levels_more 0 (length levels) levels rest (omega arith) (outer_are levels ss are) nests.1
@@ -94,11 +89,7 @@ module _ (levels : List (List SectionMeaning × ℕ)) (ss rest : List SectionMea
   -- b is the body of the section
   module _ (b : Body) (view : body_view b ≡ body_of s) where
     pub next_other : ((g : _) → b ≡ bodies.Group g → ⊥) → left_in (levels ++ ss ∷ []) ≡ s ∷ left_in (levels ++ rest ∷ [])
-    next_other not = first_left ∙ ap (λ l. s ∷ (l ++ left_in (levels ++ rest ∷ []))) (inside_is s ∙ ap inside_body (sym view) ∙ none b not) where
-      none : (c : Body) → ((g : _) → c ≡ bodies.Group g → ⊥) → inside_body (body_view c) ≡ []
-      none (bodies.Leaf x) not = refl
-      none (bodies.Group g) not = absurd (not g refl)
-      none (bodies.Nested v) not = refl
+    next_other not = grind (arith, common_steps, first_left, inside_is) steps 150000
 
     -- if the section is a group, its sections are the new innermost level
     module _ (inside : List SectionMeaning × ℕ) (group : b ≡ bodies.Group inside) where
@@ -109,9 +100,7 @@ module _ (levels : List (List SectionMeaning × ℕ)) (ss rest : List SectionMea
       group_fits = (group_nests (length levels) s inside.0 inside.1 nests.0 within).0
 
       pub next_group : left_in (levels ++ ss ∷ []) ≡ s ∷ left_in ((levels ++ rest ∷ []) ++ inside ∷ [])
-      next_group =
-          first_left ∙ ap (λ l. s ∷ (l ++ left_in (levels ++ rest ∷ []))) (inside_is s ∙ ap inside_body (sym within))
-          ∙ ap (λ l. s ∷ l) (sym (left_more (levels ++ rest ∷ []) inside))
+      next_group = grind (arith, common_steps, first_left, inside_is, within, left_more) steps 150000
 
       pub group_are : AreLevels 0 ((levels ++ rest ∷ []) ++ inside ∷ [])
       group_are =

@@ -1,10 +1,9 @@
 -- The header length, the size and the file checksum of a valid file in a volume follow from its other fields.
-use Rattle.std.proofs.lemmas.Grind.{common_steps}
 use Rattle.std.proofs.Common.{◌≡◌, ◌<◌, ℕ, ◌+◌, ◌^◌, List, [], ◌∷◌, length, true, sym, ap, ◌∙◌, subst, arith, length-append}
 use Rattle.fv_base.specs.Words.{IsBytes}
 use Rattle.fv_base.specs.declared.flash.FileSystem.{FileSystem}
 use Rattle.fv_base.specs.declared.flash.Polarity.{Polarity}
-use Rattle.fv_base.proofs.Laws.{bytes_back, bytes_front}
+use Rattle.fv_base.proofs.Laws.{bytes_back, bytes_front, common_steps}
 use Rattle.fv_file.proofs.Laws.{cell_span, one_passed}
 use Rattle.fv_file.specs.Words.{CellForm, Valid, CellsLeft, Walked, IsCell, IsFilled, offset_of, cell_len, attribute_bits, is_large, IsFile, IsSound}
 use Rattle.fv_file.specs.Words.{attributes_at, file_header_len, file_sum_right, file_sum_for}
@@ -22,18 +21,15 @@ pub header_follows : (system : FileSystem) (polarity : Polarity) (head : FileHea
 header_follows system polarity head payload b small filled sound =
     let file : IsFile system polarity head payload filled.file = filled.is_file in
     let h : List ℕ = file.header in
-    let bits : attribute_bits head.attributes ≡ attributes_at h =
-    ap (λ (k : FileHead). attribute_bits k.attributes) file.is_header.fields in
+    let bits : attribute_bits head.attributes ≡ attributes_at h = ap (λ (k : FileHead). attribute_bits k.attributes) file.is_header.fields in
     let long : length h ≡ header_len_by (attribute_bits head.attributes) =
     file.is_header.header_length ∙ ap (λ (n : ℕ). file_header_len (is_large n)) (sym bits) in
     let in_file : IsBytes filled.file = bytes_front filled.file filled.filler (subst IsBytes filled.text small) in
     let in_header : IsBytes h = bytes_front h payload (subst IsBytes file.text in_file) in
-    let below : head.file_sum < 256 =
-    subst (λ (n : ℕ). n < 256) (sym (ap (λ (k : FileHead). k.file_sum) file.is_header.fields)) (in_header 17) in
+    let below : head.file_sum < 256 = subst (λ (n : ℕ). n < 256) (sym (ap (λ (k : FileHead). k.file_sum) file.is_header.fields)) (in_header 17) in
     record {
       size = file.size ∙ ap length file.text ∙ length-append h payload ∙ ap (λ (n : ℕ). n + length payload) long;
-      header_len = ap (λ (k : FileHead). k.header_len) file.is_header.fields
-          ∙ ap (λ (n : ℕ). file_header_len (is_large n)) (sym bits);
+      header_len = ap (λ (k : FileHead). k.header_len) file.is_header.fields ∙ ap (λ (n : ℕ). file_header_len (is_large n)) (sym bits);
       file_sum = sum_follows (attribute_bits head.attributes) head.file_sum payload below sound.file_sum;
     }
 

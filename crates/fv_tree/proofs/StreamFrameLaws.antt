@@ -14,7 +14,7 @@ use Rattle.std.specs.List.{AllByRecursion}
 use Rattle.std.proofs.lemmas.Bool.{le-ltb, lt-ltb, ltb-true, ltb-false}
 use Rattle.std.proofs.lemmas.List.{drop_at, length-map}
 use Rattle.fv_base.specs.Words.{IsBytes}
-use Rattle.fv_base.proofs.Laws.{bytes_drop}
+use Rattle.fv_base.proofs.Laws.{bytes_drop, common_steps}
 use Rattle.fv_section.specs.Words.{BeginsFrame, FrameForm, HasFrameAt, Splits, SplitsFrom, after_first, after_size, frame_in, frame_len, up_to_4}
 use Rattle.fv_section.proofs.Laws.{frame_reads, from_least, length_begun, size_least}
 use Rattle.fv_tree.specs.Words.{BeginsFramed, frames_of, starts_by, starts_of}
@@ -24,17 +24,11 @@ use Rattle.fv_tree.specs.Words.{BeginsFramed, frames_of, starts_by, starts_of}
 -- the bytes that are left after a frame of n bytes follow its filler, or the frame if no bytes follow the filler
 by_after : (P : List ℕ → Type 0) (n : ℕ) (r : List ℕ) → (nat_lt (up_to_4 n) (length r) ≡ true → P (drop (up_to_4 n) r))
     → (nat_lt (up_to_4 n) (length r) ≡ false → P (drop n r)) → P (after_size n r)
-by_after P n r more last = go (nat_lt (up_to_4 n) (length r)) refl where
-  go : (t : Bool) → nat_lt (up_to_4 n) (length r) ≡ t → P (after_size n r)
-  go true e = rw e (more e)
-  go false e = rw e (last e)
+by_after P n r more last = grind (arith, common_steps) steps 150000
 
 -- fewer bytes are left after a frame
 pub fewer : (r : List ℕ) → 4 ≤ length r → length (after_first r) < length r
-fewer r least =
-    let f : FrameForm = frame_in 0 r in
-    by_after (λ s. length s < length r) (frame_len f) r (λ e. omega (arith, least, size_least f, length-drop (up_to_4 (frame_len f)) r))
-    (λ e. omega (arith, least, size_least f, length-drop (frame_len f) r))
+fewer r least = grind (arith, common_steps, by_after, size_least, length-drop) steps 150000
 
 -- fewer than 4 bytes contain no frame
 few_starts : (n : ℕ) (r : List ℕ) → length r < 4 → starts_by n r ≡ ([], r)
@@ -52,22 +46,14 @@ starts_same (suc n) zero r less less' = few_starts (suc n) r (omega (arith, less
 starts_same (suc n) (suc m) r less less' = go (starts_same n m (after_first r)) (nat_lt (length r) 4) refl where
   go : (length (after_first r) ≤ n → length (after_first r) ≤ m → starts_by n (after_first r) ≡ starts_by m (after_first r))
       → (t : Bool) → nat_lt (length r) 4 ≡ t → starts_by (suc n) r ≡ starts_by (suc m) r
-  go same true e = few_starts (suc n) r (ltb-true _ _ e) ∙ sym (few_starts (suc m) r (ltb-true _ _ e))
-  go same false e =
-      let least : 4 ≤ length r = ltb-false _ _ e in
-      more_starts n r least
-      ∙ ap (λ (s : List (List ℕ) × List ℕ). (r ∷ s.0, s.1)) (same (omega (arith, less, fewer r least)) (omega (arith, less', fewer r least)))
-      ∙ sym (more_starts m r least)
+  go same t e = grind (arith, common_steps, few_starts, ltb-true, ltb-false, more_starts, fewer) steps 150000
 
 -- the same for `starts_of`, which has no limit
 pub no_start : (r : List ℕ) → length r < 4 → starts_of r ≡ ([], r)
 no_start r few = few_starts (length r) r few
 
 pub first_start : (r : List ℕ) → 4 ≤ length r → starts_of r ≡ (r ∷ (starts_of (after_first r)).0, (starts_of (after_first r)).1)
-first_start r least =
-    starts_same (length r) (suc (length r)) r (omega arith) (omega arith) ∙ more_starts (length r) r least
-    ∙ ap (λ (s : List (List ℕ) × List ℕ). (r ∷ s.0, s.1))
-    (starts_same (length r) (length (after_first r)) (after_first r) (omega (arith, fewer r least)) (omega arith))
+first_start r least = grind (arith, common_steps, starts_same, more_starts, fewer) steps 150000
 
 -- a stream has no more frames than bytes
 few_by : (n : ℕ) (r : List ℕ) → length (starts_by n r).0 ≤ length r
@@ -128,9 +114,8 @@ after_last f r rest begun fit =
 after_more : (f : FrameForm) (r filler rest : List ℕ) → BeginsFrame f r (filler ++ rest) → frame_len f + length filler ≡ up_to_4 (frame_len f)
     → 0 < length rest → after_first r ≡ rest
 after_more f r filler rest begun fill some =
-    ap (λ g. after_size (frame_len g) r) (first_is f r (filler ++ rest) begun).0
-    ∙ by_after (λ s. s ≡ rest) (frame_len f) r (λ e. cut_filler f r filler rest (up_to_4 (frame_len f)) begun (sym fill))
-    (λ e. absurd (omega (arith, fill, some, length_begun f r (filler ++ rest) begun, length-append filler rest, ltb-false _ _ e)))
+    ap (λ g. after_size (frame_len g) r) (first_is f r _ begun).0 ∙ by_after (λ s. s ≡ rest) _ r (λ e. cut_filler f r filler rest _ begun (sym fill))
+    (λ e. absurd (omega (arith, fill, some, length_begun f r _ begun, length-append filler rest, ltb-false _ _ e)))
 
 -- the frames that were read are the frames fs, with the offset 0, and t bytes are left after them; and each of these
 -- frames is at the start of the bytes from which it was read
@@ -141,14 +126,7 @@ pub record Meets (fs : List FrameForm) (t : ℕ) (starts : List (List ℕ) × Li
 
 meets_one : (f : FrameForm) (fs : List FrameForm) (t : ℕ) (r rest : List ℕ) → frame_in 0 r ≡ unplaced f → BeginsFramed r
     → 4 ≤ length r → after_first r ≡ rest → Meets fs t (starts_of rest) → Meets (f ∷ fs) t (starts_of r)
-meets_one f fs t r rest is framed least after more =
-    let step : starts_of r ≡ (r ∷ (starts_of rest).0, (starts_of rest).1) =
-    first_start r least ∙ ap (λ l. (r ∷ (starts_of l).0, (starts_of l).1)) after in
-    subst (Meets (f ∷ fs) t) (sym step) (record {
-      frames = ap (λ g. g ∷ map (frame_in 0) (starts_of rest).0) is ∙ ap (λ l. unplaced f ∷ l) more.frames;
-      tail = more.tail;
-      framed = (framed, more.framed);
-    })
+meets_one f fs t r rest is framed least after more = grind (arith, common_steps, first_start) steps 150000
 
 starts_meet : (at : ℕ) (fs : List FrameForm) (t : ℕ) (r : List ℕ) → at ≡ up_to_4 at → SplitsFrom at fs t r → Meets fs t (starts_of r)
 starts_meet at [] t r multiple (none, z) =
@@ -174,6 +152,4 @@ split_is fs t b split = starts_meet 0 fs t b (omega arith) split
 
 -- if all items of a list are below 256, the items that are left after its first frame are below 256
 pub bytes_after : (r : List ℕ) → IsBytes r → IsBytes (after_first r)
-bytes_after r small =
-    by_after IsBytes (frame_len (frame_in 0 r)) r (λ e. bytes_drop (up_to_4 (frame_len (frame_in 0 r))) r small)
-    (λ e. bytes_drop (frame_len (frame_in 0 r)) r small)
+bytes_after r small = grind (arith, common_steps, by_after, bytes_drop) steps 150000

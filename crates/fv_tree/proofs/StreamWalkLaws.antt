@@ -3,11 +3,11 @@
 -- 2. The next frame lies within the stream, and some bytes contain it (`walk_ready`). Either it is read (`walk_more`),
 --    or its fault is the first fault of the stream (`walk_first`).
 -- 3. If no frame is left, the stream is read (`walk_found`).
-use Rattle.std.proofs.Common.{◌≡◌, ℕ, ◌+◌, ◌≤◌, [], ◌∷◌, ◌++◌, List, length, refl, sym, ap, ◌∙◌, subst, inr, append_assoc, append-nil}
-use Rattle.fv_base.proofs.Laws.{First, volume_limit, IsBytes, in_middle}
+use Rattle.std.proofs.Common.{arith, ◌≡◌, ℕ, ◌+◌, ◌≤◌, [], ◌∷◌, ◌++◌, List, length, refl, sym, ap, ◌∙◌, subst, inr, append_assoc, append-nil}
+use Rattle.fv_base.proofs.Laws.{First, volume_limit, IsBytes, in_middle, common_steps}
 use Rattle.fv_base.specs.declared.fault.Fault.{Fault}
 use Rattle.fv_base.specs.declared.fault.Place.{Place}
-use Rattle.fv_section.specs.Words.{FrameForm, Splits, frame_len, HasFrameAt}
+use Rattle.fv_section.specs.Words.{FrameForm, Splits, frame_len}
 use Rattle.fv_section.proofs.Laws.{split_stands, stands_within}
 use Rattle.fv_tree.specs.Words.{Pairwise, MeansSection, IsStoredFrame, InSection, InStream, Meaning, SectionMeaning, section_by}
 use Rattle.fv_tree.specs.inner.SectionReads.{EachYields, SectionRead, StreamRead}
@@ -44,9 +44,7 @@ module _ (n : ℕ) (b : List ℕ) (tail : ℕ) where
 
     -- f meets the conditions of the reader of a section
     pub walk_ready : IsBytes b → length b ≤ volume_limit → (f.offset + frame_len f ≤ length b) × IsStoredFrame f
-    walk_ready small short =
-        let stands = in_middle (λ g. HasFrameAt g g.offset b) w.frames f more (split_stands (w.frames ++ f ∷ more) tail b whole) in
-        (stands_within f b f.offset stands, (b, small, short, stands))
+    walk_ready small short = grind (arith, common_steps, in_middle, split_stands, whole, stands_within) steps 150000
 
     -- if f is read, the walk goes on with the frames after it
     pub walk_more : (new : List Meaning) → SectionRead n f now new → Walked more old new

@@ -18,8 +18,7 @@ use Rattle.fv_tree.proofs.NamesFaultLaws.{twin_none}
 
 -- at most one of the files is the first that has an earlier twin
 pub one_twin : (f g : FileForm) (fs : List FileForm) → HasTwin First f fs → HasTwin First g fs → f ≡ g
-one_twin f g fs (before, after, is, none, has) (before', after', is', none', has') =
-    go (two_cuts before f after before' g after' (sym is ∙ is'))
+one_twin f g fs (before, after, is, none, has) (before', after', is', none', has') = go (two_cuts before f after before' g after' (sym is ∙ is'))
   where
     go : TwoCuts before f after before' g after' → f ≡ g
     go (inl (same, item)) = item
@@ -68,11 +67,7 @@ is_alive fs f = not (list_any (replaced_by f) fs)
 -- if two files are not twins and neither replaces the other, their names differ
 tests_differ : (s r m k : Bool) → s ≡ true → r ≡ true → (s && beq m k) ≡ false → (s && (m && not k)) ≡ false
     → (r && (k && not m)) ≡ false → ⊥
-tests_differ true true true true p q twin over under = cc
-tests_differ true true true false p q twin over under = cc
-tests_differ true true false true p q twin over under = cc
-tests_differ true true false false p q twin over under = cc
-tests_differ _ _ _ _ p q twin over under = cc
+tests_differ s r m k p q twin over under = grind (arith, common_steps) steps 150000
 
 -- two current files at different places have different names
 pub names_differ : (fs before : List FileForm) (f : FileForm) (mid : List FileForm) (g : FileForm) (after : List FileForm) → NoTwins fs
@@ -92,15 +87,10 @@ names_differ fs before f mid g after none is forth back =
 
     -- a current file is not replaced by a current file
     not_replaced : (h : FileForm) → is_alive fs h ≡ true → list_any (replaced_by h) whole ≡ false
-    not_replaced h current =
-        subst (λ (l : List FileForm). list_any (replaced_by h) l ≡ false) is
-        (none_kept (is_alive fs) (replaced_by h) fs (not-true (list_any (replaced_by h) fs) current))
+    not_replaced h current = grind (arith, common_steps, none_kept, not-true) steps 150000
 
     over : replaced_by f g ≡ false
-    over =
-        let rest = any_cut (replaced_by f) before f (mid ++ (g ∷ after))
-        (not_replaced f (in_middle (λ h. is_alive fs h ≡ true) before f (mid ++ (g ∷ after)) all)) in
-        (any_cut (replaced_by f) mid g after rest.1).0
+    over = grind (arith, common_steps, any_cut, not_replaced, in_middle, all) steps 150000
 
     under : replaced_by g f ≡ false
     under =

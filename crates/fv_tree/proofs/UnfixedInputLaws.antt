@@ -28,5 +28,4 @@ bytes_follow input o f h e unfixed front other is =
 
 -- if all of a vector is overwritten, it has the new items
 pub whole_kept : (new items : List ℕ) (n : ℕ) → length new ≡ n → take n (new ++ drop (length new) items) ≡ new
-whole_kept new items n e =
-    ap (λ (k : ℕ). take k (new ++ drop (length new) items)) (sym e) ∙ take-append_seam new (drop (length new) items)
+whole_kept new items n e = ap (λ (k : ℕ). take k (new ++ drop (length new) items)) (sym e) ∙ take-append_seam new (drop (length new) items)

@@ -13,7 +13,7 @@ use Rattle.std.proofs.Common.{Bool, true, ◌≡◌, ℕ, zero, suc, ◌-◌, �
 use Rattle.std.specs.List.{AllByRecursion}
 use Rattle.fv_base.specs.Words.{IsBytes, depth_limit, volume_limit}
 use Rattle.fv_base.specs.declared.guid.Guid.{Guid}
-use Rattle.fv_base.proofs.Laws.{bytes_drop}
+use Rattle.fv_base.proofs.Laws.{bytes_drop, common_steps}
 use Rattle.fv_section.specs.Words.{FrameForm, after_first, frame_in}
 use Rattle.fv_section.proofs.Laws.{begun_bytes}
 use Rattle.fv_tree.specs.Words.{Pairwise, StreamRelation, VolumeRelation, SectionOver, IsStoredFrame, MeansFile, MeansSection, Stream, Denotes, File}
@@ -49,9 +49,7 @@ each_none step none [] = refl
 each_none step none (f ∷ fs) = ap (λ vs. (each_by step fs vs).1) (none f) ∙ each_none step none fs
 
 body_none : (shape : Shape) (step : Step) → TakesNone step → (f : FrameForm) → (body_by shape step f []).1 ≡ []
-body_none shapes.Leaf step none f = refl
-body_none shapes.Group step none f = each_none step none (frames_of f.body)
-body_none shapes.Volume step none f = refl
+body_none shape step none f = grind (arith, common_steps, each_none) steps 150000
 
 pub none_taken : (n : ℕ) → TakesNone (section_by n)
 none_taken zero f = body_none (shape_of f) unopened (λ g. refl) f
@@ -64,22 +62,17 @@ none_after n f (v ∷ vs) short = cc
 -- ---- the offset of a frame does not matter
 
 body_unplaced : (shape : Shape) (step : Step) (f : FrameForm) (vs : List Meaning) → body_by shape step (unplaced f) vs ≡ body_by shape step f vs
-body_unplaced shapes.Volume step f [] = refl
-body_unplaced shapes.Volume step f (v ∷ vs) = refl
-body_unplaced _ step f vs = refl
+body_unplaced shape step f vs = grind (arith, common_steps) steps 150000
 
 over_unplaced : (step : Step) (f : FrameForm) (vs : List Meaning) → section_over step (unplaced f) vs ≡ section_over step f vs
-over_unplaced step f vs =
-    ap (λ (r : BodyMeaning × List Meaning). (Section f.kind f.extended r.0, r.1)) (body_unplaced (shape_of f) step f vs)
+over_unplaced step f vs = ap (λ (r : BodyMeaning × List Meaning). (Section f.kind f.extended r.0, r.1)) (body_unplaced (shape_of f) step f vs)
 
 pub by_unplaced : (n : ℕ) (f : FrameForm) (vs : List Meaning) → section_by n (unplaced f) vs ≡ section_by n f vs
 by_unplaced zero f vs = over_unplaced unopened f vs
 by_unplaced (suc n) f vs = over_unplaced (section_by n) f vs
 
 over_means : (S : StreamRelation) (V : VolumeRelation) (f : FrameForm) (s : SectionMeaning) → SectionOver S V f s → SectionOver S V (unplaced f) s
-over_means S V f (Section k e (Leaf b)) h = h
-over_means S V f (Section k e (Group ss t)) h = h
-over_means S V f (Section k e (Nested v)) h = h
+over_means S V f s h = grind (arith, common_steps) steps 150000
 
 unplaced_means : (n : ℕ) (f : FrameForm) (s : SectionMeaning) → MeansSection n f s → MeansSection n (unplaced f) s
 unplaced_means zero f s h = over_means (λ _ _ _. ⊥) (λ _ _. ⊥) f s h
@@ -131,20 +124,10 @@ module _ (n : ℕ) (r : List ℕ) (vs : List Meaning) (least : 4 ≤ length r) w
   pairs kept = subst (λ fs. Pairwise (MeansSection n) fs (each_by (section_by n) fs vs).0) frames_are kept.means
 
   pub first_kept : AreKept n r vs → IsKept n (frame_in 0 r) vs
-  first_kept kept = record {
-    few = kept.few;
-    stored = (r, kept.small, kept.short, frame_kept kept);
-    means = (pairs kept).0;
-  }
+  first_kept kept = grind (arith, common_steps, frame_kept, pairs) steps 150000
 
   pub rest_kept : AreKept n r vs → AreKept n (after_first r) (section_by n (frame_in 0 r) vs).1
-  rest_kept kept = record {
-    few = kept.few;
-    small = bytes_after r kept.small;
-    short = omega (arith, kept.short, fewer r least);
-    framed = (subst (λ (s : List (List ℕ) × List ℕ). AllByRecursion BeginsFramed s.0) (first_start r least) kept.framed).1;
-    means = (pairs kept).1;
-  }
+  rest_kept kept = grind (arith, common_steps, bytes_after, fewer, first_start, pairs) steps 150000
 
 -- there are as many sections as frames
 each_length : (step : Step) (fs : List FrameForm) (vs : List Meaning) → length (each_by step fs vs).0 ≡ length fs
@@ -156,10 +139,7 @@ few_sections n r vs kept = omega (arith, each_length (section_by n) (frames_of r
 
 -- fewer than 4 bytes contain no section, and are the tail
 pub no_sections : (step : Step) (r : List ℕ) (vs : List Meaning) → length r < 4 → (each_by step (frames_of r) vs ≡ ([], vs)) × (tail_of r ≡ length r)
-no_sections step r vs few = (
-  ap (λ (s : List (List ℕ) × List ℕ). each_by step (map (frame_in 0) s.0) vs) (no_start r few),
-  ap (λ (s : List (List ℕ) × List ℕ). length s.1) (no_start r few),
-)
+no_sections step r vs few = grind (arith, common_steps, no_start) steps 150000
 
 -- ---- a group
 
@@ -186,11 +166,10 @@ pub group_view : (n : ℕ) (f : FrameForm) (vs : List Meaning) → shape_of f �
       (each_by (section_by (n - 1)) (frames_of f.body) vs).1,
     )
 group_view zero f vs is deep = absurd (omega (arith, deep))
-group_view (suc n) f vs is deep =
-    section_is (suc n) f vs shapes.Group is ∙ ap (λ (k : ℕ). (
-      Section f.kind f.extended (Group (sections_from (each_by (section_by k) (frames_of f.body) vs).0) (tail_of f.body)),
-      (each_by (section_by k) (frames_of f.body) vs).1,
-    )) (omega arith)
+group_view (suc n) f vs is deep = section_is (suc n) f vs shapes.Group is ∙ ap (λ (k : ℕ). (
+  Section f.kind f.extended (Group (sections_from (each_by (section_by k) (frames_of f.body) vs).0) (tail_of f.body)),
+  (each_by (section_by k) (frames_of f.body) vs).1,
+)) (omega arith)
 
 -- ---- an opened volume
 

@@ -32,8 +32,7 @@ not_the_end b n differs same = let bad : true ≡ false = sym (eq-eqb n (length 
 
 pub goes_on : (b : List ℕ) (f : Fault) (v : Meaning) (n : ℕ) → Accepted (take n b) v → (n ≡ length_of v) × (n ≤ length b)
     → (n == length b) ≡ false → f ≡ outer_fault kinds.Length n → BytesFollowVolume b f
-goes_on b f v n accepted (own, within) differs is =
-    (v, at, subst (λ (k : ℕ). k < length b) own less, is ∙ ap (outer_fault kinds.Length) own)
+goes_on b f v n accepted (own, within) differs is = (v, at, subst (λ (k : ℕ). k < length b) own less, is ∙ ap (outer_fault kinds.Length) own)
   where
     below : (k l : ℕ) → k ≤ l → k ≢ l → k < l
     below k l low ne = omega (arith, low, ne)
@@ -82,5 +81,4 @@ input_kind f known = grind (arith, common_steps, want_known)
 
 -- so the kind of a fault whose condition holds in the bytes is neither ReadFault nor WriteFault
 pub stood_kind : (b : List ℕ) (f : Fault) → (f ≢ out_of_memory → FaultHolds b f) → IsOfInput f.kind
-stood_kind b f stands =
-    input_kind f (λ other. (stands_other b f kinds.ReadFault refl (stands other), stands_other b f kinds.WriteFault refl (stands other)))
+stood_kind b f stands = input_kind f (λ other. (stands_other b f kinds.ReadFault refl (stands other), stands_other b f _ refl (stands other)))

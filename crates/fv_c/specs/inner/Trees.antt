@@ -1,39 +1,78 @@
--- The row of the whole input, and the places of the parts that a row holds.
-use Rattle.std.specs.Prelude.{◌≡◌, ℕ, ◌+◌, ◌≤◌, List, Some, slice_get}
-use Rattle.fv_section.specs.Words.{FrameForm}
-use Rattle.fv_tree.specs.Words.{FileForm, Meaning, Pairwise, body_place, data_place}
-use Rattle.fv_rows.specs.Words.{NodeMeaning, VolumeNode, parts_in}
-use Rattle.fv_c.specs.TreeParts.{TreeRow, no_parent, rows_of_parts}
-use Rattle.fv_c.specs.ReportedTree.{IsNodeIn, reported_node}
+-- The row of the whole input, the rows of the parts that a row holds, and the rows that a call adds for them.
+use Rattle.std.specs.Prelude.{◌≡◌, ℕ, ◌+◌, ◌<◌, List, [], ◌∷◌, ◌++◌, length, map, Option, Some, None, slice_get}
+use Rattle.fv_section.specs.Words.{section_header_len}
+use Rattle.fv_tree.specs.Words.{BeginWithFiles, Meaning, Pairwise, bare_form, data_place, file_form, section_is_extended}
+use Rattle.fv_tree.specs.declared.volume_files.LocatedFile.{LocatedFile}
+use Rattle.fv_rows.specs.Words.{NodeMeaning, VolumeNode, FileNode, SectionNode, TreeRow as Row, parts_in, rows_of_nodes}
+use Rattle.fv_c.specs.TreeParts.{TreeRow, no_parent, parent_of, with_parents}
+use Rattle.fv_c.specs.ReportedTree.{IsNodeIn, bytes_at, reported_node}
 use Rattle.fv_c.specs.declared.tree.FvNode.{FvNode}
-use Rattle.fv_c.specs.declared.tree.PartPlace.{PartPlace}
+use Rattle.fv_c.specs.declared.tree.Holder.{Holder}
 
 -- the first row of a tree: the volume that the whole input is
 abbrev pub whole_row : Meaning → TreeRow
 whole_row m = record { parent = no_parent; depth = 0; number = 0; node = VolumeNode m }
 
 abbrev pub whole_node : Meaning → FvNode
-whole_node m = reported_node 0 0 (whole_row m)
+whole_node m = reported_node 0 0 (whole_row m) (VolumeNode m)
 
--- the place of a file of the volume, or of a section of the stream, that begins at this place
-abbrev pub file_place : (start : PartPlace) → FileForm → PartPlace
-file_place start f = record { parent = start.parent; offset = start.offset + data_place f; header_len = f.head.header_len }
+-- ---- a part that a row holds
 
-abbrev pub section_place : (start : PartPlace) → FrameForm → PartPlace
-section_place start f = record { parent = start.parent; offset = start.offset + body_place f; header_len = 0 }
+-- if the row describes a volume, these are the files that are stored in it
+abbrev pub HasFiles : (input : List ℕ) (row : FvNode) → List LocatedFile → Type 0
+HasFiles input row stored =
+    row.content ≡ 0 → BeginWithFiles (bytes_at input row) (map (file_form (bytes_at input row)) stored)
 
--- `row` reports the row r of the tree. Its depth is not greater than its offset allows, because each file and section
--- around it has a header of at least 4 bytes. So the depth fits in 32 bits
-pub record IsFound (input : List ℕ) (rows : List FvNode) (row : FvNode) (r : TreeRow) : Type 0 where
-  pub node : IsNodeIn input rows row r
-  pub deep : row.depth + row.kind ≤ row.offset + 2
+-- the row of part number n that the holder's row holds. `next` is the offset of a section
+abbrev pub row_in : Holder → (n : ℕ) → NodeMeaning → TreeRow
+row_in h n node = record { parent = h.row; depth = h.depth; number = n; node = node }
 
--- the part of the row r lies at this place
-abbrev pub LiesAt : (input : List ℕ) (rows : List FvNode) → PartPlace → TreeRow → Type 0
-LiesAt input rows place r = (place.parent ≡ r.parent) × IsFound input rows (reported_node place.offset place.header_len r) r
+abbrev pub file_in : Holder → Option LocatedFile → TreeRow → FvNode
+file_in h None r = reported_node h.offset 0 r r.node
+file_in h (Some l) r = reported_node (h.offset + data_place (bare_form l)) (bare_form l).head.header_len r r.node
 
--- these are the places of the parts that row n, which reports this part, holds
-abbrev pub HasPlaces : (input : List ℕ) (row : FvNode) (n : ℕ) → NodeMeaning → List PartPlace → Type 0
-HasPlaces input row n node places =
-    (rows : List FvNode) → slice_get rows n ≡ Some row
-    → Pairwise (LiesAt input rows) places (rows_of_parts n (row.depth + 1) 0 (parts_in node))
+abbrev pub node_in : Holder → (n next : ℕ) → NodeMeaning → FvNode
+node_in h n next (VolumeNode m) = reported_node h.offset 0 (row_in h n (VolumeNode m)) (VolumeNode m)
+node_in h n next (FileNode f) = file_in h (slice_get h.files.items n) (row_in h n (FileNode f))
+node_in h n next (SectionNode s) =
+    reported_node (h.offset + (next + section_header_len (section_is_extended s))) 0 (row_in h n (SectionNode s)) (SectionNode s)
+
+-- if the part is a file, the holder has a file number n
+abbrev pub IsStored : Holder → (n : ℕ) → NodeMeaning → Type 0
+IsStored h n (VolumeNode m) = Unit {0}
+IsStored h n (FileNode f) = n < length h.files.items
+IsStored h n (SectionNode s) = Unit {0}
+
+-- the part ends before this offset
+abbrev pub IsWithin : ℕ → FvNode → Type 0
+IsWithin most row = row.offset + row.length < most
+
+-- ---- the rows of the parts that a row holds
+
+-- the holder is one of these rows, and holds these parts
+pub record HoldsParts (input : List ℕ) (rows : List FvNode) (h : Holder) (nodes : List NodeMeaning) : Type 0 where
+  pub row : FvNode
+  pub around : TreeRow
+  pub at : slice_get rows h.row ≡ Some row
+  pub own : IsNodeIn input rows row around
+  pub parts : parts_in around.node ≡ nodes
+  pub offset : row.offset ≡ h.offset
+  pub files : HasFiles input row h.files.items
+
+-- the depths of these rows, and then of the rows before them, the last row first
+abbrev pub depths_after : List Row → List ℕ → List ℕ
+depths_after [] before = before
+depths_after (r ∷ rows) before = depths_after rows (r.depth ∷ before)
+
+-- `new` are the rows `old` and a report of each of these rows. `before` are the depths of the rows `old`
+pub record Added (input before : List ℕ) (rows : List Row) (old new : List FvNode) : Type 0 where
+  pub more : List FvNode
+  pub joined : new ≡ old ++ more
+  pub nodes : Pairwise (IsNodeIn input new) more (with_parents before rows)
+  pub long : length (depths_after rows before) ≡ length new
+
+-- `new` are the rows `old` and the rows of the parts that the holder holds, each followed by the rows inside it
+abbrev pub AreAdded : (input : List ℕ) → Holder → List NodeMeaning → (old new : List FvNode) → Type 0
+AreAdded input h nodes old new =
+    (nesting : ℕ) (before : List ℕ) → length before ≡ length old → parent_of h.depth before ≡ h.row
+    → Added input before (rows_of_nodes h.depth nesting 0 nodes) old new

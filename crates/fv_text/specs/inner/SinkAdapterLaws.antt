@@ -1,12 +1,12 @@
 -- The laws of sinks that put bytes into a sink below. These are proofs. They are in specs/ because ghost members cite
 -- some of them.
-use Rattle.std.proofs.Common.{ℕ, List, ◌∙◌, refl, [], ◌++◌, sym, ap, append_assoc, append-nil, ◌∷◌, subst}
+use Rattle.std.proofs.Common.{◌≡◌, ℕ, List, length, ◌∙◌, refl, [], ◌++◌, sym, ap, append_assoc, append-nil, ◌∷◌, subst}
 use Rattle.fv_base.specs.Words.{WalkLaws}
-use Rattle.fv_text.specs.SinkAdapters.{LentTakes, Gathered, GatheringTakes, HexTakes, Lined}
+use Rattle.fv_text.specs.SinkAdapters.{LentTakes, Gathered, Lined}
 use Rattle.std.specs.List.{AllByRecursion, concat}
 use Rattle.std.proofs.lemmas.List.Concat.{flat_map-append}
 use Rattle.std.proofs.lemmas.List.Folds.{concat-append}
-use Rattle.fv_text.specs.HexText.{IsWholeLine, line_text}
+use Rattle.fv_text.specs.HexText.{line_text}
 
 pub lent_by : {S H N : Type 0} (takes : S → List ℕ → S → Type 0) (lent : H → S) (name : H → N) → WalkLaws takes
     → WalkLaws (LentTakes takes lent name)
@@ -35,13 +35,13 @@ gathered_joined takes laws s t u p q r a b x y = record {
 }
 
 pub gathered_by : {S H : Type 0} (takes : S → List ℕ → S → Type 0) (below : H → S) (waiting : H → List ℕ) → WalkLaws takes
-    → WalkLaws (GatheringTakes takes below waiting)
+    → WalkLaws (λ (h : H) (bytes : List ℕ) (k : H). Gathered takes (below h) (waiting h) bytes (below k) (waiting k))
 gathered_by takes below waiting laws =
     waiting_by (Gathered takes) below waiting
     (λ s p. record { passed = []; joined = append-nil p; taken = laws.none s }) (gathered_joined takes laws)
 
-whole_more : (xs ys : List (List ℕ)) → AllByRecursion IsWholeLine xs → AllByRecursion IsWholeLine ys
-    → AllByRecursion IsWholeLine (xs ++ ys)
+whole_more : (xs ys : List (List ℕ)) → AllByRecursion (λ b. length b ≡ 32) xs → AllByRecursion (λ b. length b ≡ 32) ys
+    → AllByRecursion (λ b. length b ≡ 32) (xs ++ ys)
 whole_more [] ys a b = b
 whole_more (x ∷ xs) ys a b = (a.0, whole_more xs ys a.1 b)
 
@@ -58,7 +58,7 @@ lined_joined takes laws s t u p q r a b x y = record {
 }
 
 pub hex_by : {S H : Type 0} (takes : S → List ℕ → S → Type 0) (below : H → S) (waiting : H → List ℕ) → WalkLaws takes
-    → WalkLaws (HexTakes takes below waiting)
+    → WalkLaws (λ (h : H) (bytes : List ℕ) (k : H). Lined takes (below h) (waiting h) bytes (below k) (waiting k))
 hex_by takes below waiting laws =
     waiting_by (Lined takes) below waiting
     (λ s p. record { lines = []; joined = append-nil p; whole_lines = tt; taken = laws.none s }) (lined_joined takes laws)

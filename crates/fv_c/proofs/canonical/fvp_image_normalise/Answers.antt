@@ -1,3 +1,4 @@
+use Rattle.std.proofs.lemmas.Grind.{common_steps}
 use Rattle.std.proofs.Common.{◌≡◌, ◌∙◌, List, ℕ, length, ap, arith, refl, subst}
 use Rattle.fv_base.specs.Words.{fault_number}
 use Rattle.fv_base.specs.declared.fault.Fault.{Fault}
@@ -15,3 +16,6 @@ returns-then-buffer-image-clause-small c = λ _.
     (laid_renewed _ _ c.laid.invariant) in
     let long : length whole.0 ≡ length c.args.image.now = whole.1.3.length_is in
     (whole.0, whole.1, long, omega (arith, long, c.if-buffer-image.true), refl)
+
+pub returns-clause-ok : goal.returns-clause-ok
+returns-clause-ok c = grind (arith, common_steps)

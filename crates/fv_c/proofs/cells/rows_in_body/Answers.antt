@@ -1,4 +1,5 @@
-use Rattle.std.proofs.Common.{◌≡◌, ◌∙◌, sym, ap, [], ◌∷◌, ◌++◌, refl, rules}
+use Rattle.std.proofs.lemmas.Grind.{common_steps}
+use Rattle.std.proofs.Common.{◌≡◌, ◌∙◌, sym, ap, [], ◌∷◌, ◌++◌, refl, rules, arith}
 use Rattle.std.proofs.lemmas.List.{map_push}
 use Rattle.fv_base.proofs.Laws.{err_is}
 use Rattle.fv_file.specs.Words.{Walked, cell_form}
@@ -24,3 +25,6 @@ pub returns-in_err-cell-clause-first : goal.returns-in_err-cell-clause-first
 returns-in_err-cell-clause-first c =
     let (cs, walked, are) = c.loop-rows.invariant in
     rw (err_is c.from_residual-in_err-cell.ensures.1) (λ memory. walk_fails _ _ _ _ walked c.in_err-cell.ensures.first.0)
+
+pub loop-rows-smaller : goal.loop-rows-smaller
+loop-rows-smaller c = grind (arith, common_steps)

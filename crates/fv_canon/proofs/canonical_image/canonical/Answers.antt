@@ -1,5 +1,4 @@
-use Rattle.std.proofs.Common.{ℕ, List, subst, sym}
-use Rattle.fv_base.proofs.Laws.{IfOk-weaker, kept_whole}
+use Rattle.fv_base.proofs.Laws.{arith, common_steps, IfOk-weaker, kept_whole}
 use Rattle.fv_canon.specs.Words.{IsImage}
 use Rattle.fv_canon.proofs.ImageLaws.{image_accepted}
 use Rattle.fv_canon.proofs.HeadlineLaws.{one_meaning_of}
@@ -7,16 +6,10 @@ use Rattle.fv_canon.proofs.OneImageLaws.{image_one}
 use Rattle.fv_canon.proofs.canonical_image.canonical.Goals as goal
 
 pub returns-clause-image : goal.returns-clause-image
-returns-clause-image c =
-    let m = c.args.view.now in
-    let whole : List ℕ = c.put_canonical.ensures.0 in
-    IfOk-weaker c.finish.result _ (IsImage m) (λ bytes same. subst (IsImage m) (sym same) c.put_canonical.ensures.1)
-    (kept_whole _ _ whole _ _ c.finish.result c.in_ok-out.ensures.0 c.in_ok-out.ensures.1 c.put_canonical.ensures.2 c.finish.ensures.ok)
+returns-clause-image c = grind (arith, common_steps, IfOk-weaker, kept_whole) steps 400000
 
 pub returns-clause-only : goal.returns-clause-only
-returns-clause-only c other image =
-    let m = c.args.view.now in
-    IfOk-weaker c.finish.result (IsImage m) _ (λ bytes is. image_one m bytes other is image) (returns-clause-image c)
+returns-clause-only c other image = grind (arith, common_steps, IfOk-weaker, image_one, returns-clause-image) steps 400000
 
 pub returns-clause-denotes : goal.returns-clause-denotes
 returns-clause-denotes c =

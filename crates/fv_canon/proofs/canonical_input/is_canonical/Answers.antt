@@ -1,8 +1,5 @@
-use Rattle.std.proofs.Common.{◌≡◌, inl}
-use Rattle.fv_base.proofs.Laws.{IfOk-weaker, IfErr-weaker, err_is, out_of_memory}
-use Rattle.fv_base.specs.declared.fault.Fault.{Fault}
-use Rattle.fv_head.specs.Words.{HeadFields, BeginsVolume}
-use Rattle.fv_head.specs.declared.extent.Extent.{Extent}
+use Rattle.std.proofs.Common.{inl}
+use Rattle.fv_base.proofs.Laws.{IfOk-weaker, IfErr-weaker, err_is}
 use Rattle.fv_tree.specs.Words.{head_of}
 use Rattle.fv_canon.proofs.canonical_input.is_canonical.Goals as goal
 
@@ -20,6 +17,5 @@ returns-clause-err c = IfErr-weaker c.is_canonical_image.result _ _ (λ f want. 
 pub returns-clause-memory : goal.returns-clause-memory
 returns-clause-memory c =
     let d = c.in_ok-view.ensures.found.1 in
-    IfErr-weaker c.is_canonical_image.result _ (λ (f : Fault). f ≡ out_of_memory → (h : HeadFields) × (e : Extent)
-    × BeginsVolume h e c.args.input.now) (λ f why want. (head_of c.in_ok-view.view, d.extent, d.begins))
+    IfErr-weaker c.is_canonical_image.result _ _ (λ f why want. (head_of c.in_ok-view.view, d.extent, d.begins))
     c.is_canonical_image.ensures.err

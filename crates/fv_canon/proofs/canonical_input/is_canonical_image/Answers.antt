@@ -1,17 +1,14 @@
-use Rattle.std.proofs.Common.{◌≡◌, ℕ, ◌++◌, rules, List, sym, subst, IsTrue}
+use Rattle.std.proofs.Common.{◌++◌, rules, sym}
 use denote.Enum.Bare.{same_true, same_false}
 use Rattle.fv_base.specs.contracts.fault.FaultKind.{the_type}
-use Rattle.fv_canon.specs.inner.ImageOf.{image_of}
 use Rattle.fv_canon.proofs.ImageLaws.{image_told, none_refused, want_refused}
 use Rattle.fv_canon.proofs.canonical_input.is_canonical_image.Goals as goal
 
 pub returns-in-Ok-clause-ok : goal.returns-in-Ok-clause-ok
 returns-in-Ok-clause-ok c =
-    let m = c.args.view.now in
-    let b = c.args.bytes.now in
-    let told : List ℕ → Type 0 = λ xs. (IsTrue c.is_image.result → b ≡ image_of m xs) × (b ≡ image_of m xs → IsTrue c.is_image.result) in
-    image_told m b (c.in-Ok.places.own ++ c.in-Ok.places.inner) c.is_image.result c.known.ensures c.in-Ok.ensures.layout.0
-    (subst told c.starts.ensures c.is_image.ensures)
+    let told = c.is_image.ensures in
+    image_told c.args.view.now c.args.bytes.now (c.in-Ok.places.own ++ c.in-Ok.places.inner) c.is_image.result c.known.ensures
+    c.in-Ok.ensures.layout.0 (rw c.starts.ensures at told)
 
 pub returns-then-eq-clause-err : goal.returns-then-eq-clause-err
 returns-then-eq-clause-err c =

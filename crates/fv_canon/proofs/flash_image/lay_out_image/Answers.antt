@@ -1,6 +1,5 @@
-use Rattle.std.proofs.Common.{◌≡◌, ◌∙◌, ℕ, List, ap, subst, sym}
-use Rattle.fv_base.proofs.Laws.{err_is}
-use Rattle.fv_base.specs.declared.fault.Fault.{Fault}
+use Rattle.std.proofs.Common.{ℕ, List, subst, sym, arith}
+use Rattle.fv_base.proofs.Laws.{common_steps, err_is}
 use Rattle.fv_base.specs.declared.fault.FaultKind.TheVariants as kinds
 use Rattle.fv_flash.specs.Words.{AreFound, offsets_of}
 use Rattle.fv_canon.proofs.FlashImageLaws.{only_want}
@@ -14,7 +13,4 @@ returns-in_err-volumes-clause-fits c =
     (only_want b (offsets_of c.as_slice.result.now) other _ found.0 c.in_err-volumes.ensures.err to)
 
 pub returns-in_err-check-clause-memory : goal.returns-in_err-check-clause-memory
-returns-in_err-check-clause-memory c =
-    rw (err_is c.from_residual.ensures.1)
-    (λ want. let bad : kinds.Length ≡ kinds.OutOfMemory =
-    sym (ap (λ (f : Fault). f.kind) c.in_err-check.ensures.err.1) ∙ ap (λ (f : Fault). f.kind) want in cc)
+returns-in_err-check-clause-memory c = grind (arith, common_steps, err_is) steps 400000

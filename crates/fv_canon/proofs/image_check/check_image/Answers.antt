@@ -1,6 +1,5 @@
-use Rattle.std.proofs.Common.{◌≡◌, ◌≤◌, rules, ◌∙◌, ap, length, sym, subst}
-use Rattle.fv_base.proofs.Laws.{at_index, err_is, volume_limit, arith, common_steps}
-use Rattle.fv_base.specs.declared.fault.Fault.{Fault}
+use Rattle.std.proofs.Common.{rules, sym, subst}
+use Rattle.fv_base.proofs.Laws.{at_index, err_is, arith, common_steps}
 use Rattle.fv_flash.specs.Words.{AreFound, VolumeAt}
 use Rattle.fv_flash.proofs.Laws.{some_place}
 use Rattle.fv_canon.proofs.ImageCheckLaws.{checks_one}
@@ -13,25 +12,20 @@ check_at-requires c =
     (subst (AreFound c.args.image.now) (sym c.as_slice-volume-items.ensures.value) c.in_ok-found.ensures.found).1 c.loop-volume-test.true
 
 pub returns-in_err-check-clause-memory : goal.returns-in_err-check-clause-memory
-returns-in_err-check-clause-memory c =
-    rw (err_is c.from_residual.ensures.1)
-    (λ want. let bad : kinds.Length ≡ kinds.OutOfMemory =
-    sym (ap (λ (f : Fault). f.kind) c.in_err-check.ensures.err.1) ∙ ap (λ (f : Fault). f.kind) want in cc)
+returns-in_err-check-clause-memory c = grind (arith, common_steps, err_is) steps 400000
 
 pub returns-in_err-check_at-clause-memory : goal.returns-in_err-check_at-clause-memory
 returns-in_err-check_at-clause-memory c =
-    let short : length c.args.image.now ≤ volume_limit = search rules in
     rw (err_is c.from_residual-in_err-check_at.ensures.1) (λ want. (
-      short,
+      search rules,
       some_place c.args.image.now c.in_ok-found.found.items
           c.loop-volume.volume-index c.in_ok-found.ensures.found (rw (← c.as_slice-volume-items.ensures.value) c.loop-volume-test.true),
     ))
 
 pub returns-in_err-push-clause-memory : goal.returns-in_err-push-clause-memory
 returns-in_err-push-clause-memory c =
-    let short : length c.args.image.now ≤ volume_limit = search rules in
     rw (err_is c.from_residual-in_err-push.ensures.1) (λ want. (
-      short,
+      search rules,
       some_place c.args.image.now c.in_ok-found.found.items
           c.loop-volume.volume-index c.in_ok-found.ensures.found (rw (← c.as_slice-volume-items.ensures.value) c.loop-volume-test.true),
     ))

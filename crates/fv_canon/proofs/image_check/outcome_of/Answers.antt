@@ -12,8 +12,7 @@ returns-then-eq-clause-err c =
 
 pub fault_within-requires : goal.fault_within-requires
 fault_within-requires c =
-    let other : c.in-Err.fault.kind ≢ kinds.OutOfMemory = same_false the_type _ _ (sym c.if-eq.ensures) in
-    let bad = is_not_read c.args.volume.now c.in-Err.fault c.in-Err.ensures.err other in
+    let bad = is_not_read c.args.volume.now c.in-Err.fault c.in-Err.ensures.err (same_false the_type _ _ (sym c.if-eq.ensures)) in
     omega (arith, c.requires, refused_within c.args.volume.now c.in-Err.fault (inl bad))
 
 pub returns-else-eq-clause-ok : goal.returns-else-eq-clause-ok

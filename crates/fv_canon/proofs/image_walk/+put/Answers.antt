@@ -1,12 +1,11 @@
-use Rattle.std.proofs.Common.{◌≡◌, ◌+◌, ◌-◌, ℕ, true, List, false, length, drop, replicate, get_or, sym, ap, ◌∙◌, subst, arith, ◌∷◌}
-use Rattle.fv_file.specs.Words.{is_summed}
+use Rattle.std.proofs.Common.{◌≡◌, ◌+◌, ◌-◌, ℕ, true, List, false, length, drop, replicate, get_or, ap, ◌∙◌, subst, arith, ◌∷◌}
+use Rattle.fv_base.proofs.Laws.{common_steps}
 use Rattle.fv_head.specs.Words.{HeadFields, polarity_of}
-use Rattle.fv_tree.specs.Words.{Meaning, SectionMeaning, BodyMeaning, FileMeaning, attributes_of, body_of, files_from, body_view, Inside}
-use Rattle.fv_tree.specs.Words.{volumes_in_body}
+use Rattle.fv_tree.specs.Words.{Meaning, SectionMeaning, FileMeaning, body_of, files_from, body_view}
 use Rattle.fv_tree.specs.inner.Sizes.{volume_size, body_size, files_size}
 use Rattle.fv_tree.proofs.Laws.{file_falls, section_body_falls}
-use Rattle.fv_canon.specs.Words.{size_for, BeginsWithStarts}
-use Rattle.fv_canon.specs.inner.ImageOf.{image_of, starts_in}
+use Rattle.fv_canon.specs.Words.{size_for}
+use Rattle.fv_canon.specs.inner.ImageOf.{image_of}
 use Rattle.fv_canon.specs.inner.SummingSinks.{ImageTakes, image_by, sums}
 use Rattle.fv_canon.proofs.DataBodyLaws.{data_image, data_size, data_volumes}
 use Rattle.fv_canon.proofs.LaidFileLaws.{file_long, stored_is, size_is, at_file, file_passed, files_end, walk_goes, placed_on}
@@ -18,34 +17,25 @@ use Rattle.fv_canon.proofs.image_walk.+put.Goals.{put_file-else-is_summing-via-t
 use Rattle.fv_canon.proofs.image_walk.+put.Goals as goal
 
 pub put_body-put_sections-requires : goal.put_body-put_sections-requires
-put_body-put_sections-requires g t c κs within =
-    let is = ap body_view c.in-Group.is in
-    let laid = subst (λ (b : BodyMeaning). BeginsWithStarts (volumes_in_body b) c.args.starts.now) is c.requires.laid in
-    (omega (arith, c.decreases, ap body_size is), (within, laid))
+put_body-put_sections-requires g t c κs within = grind (arith, common_steps) steps 400000
 
 pub put_body-put_volume-requires : goal.put_body-put_volume-requires
-put_body-put_volume-requires g t c κs within =
-    let is = ap body_view c.in-Nested.is in
-    let laid = subst (λ (b : BodyMeaning). BeginsWithStarts (volumes_in_body b) c.args.starts.now) is c.requires.laid in
-    (omega (arith, c.decreases, ap body_size is), (within, laid))
+put_body-put_volume-requires g t c κs within = grind (arith, common_steps) steps 400000
 
 pub put_sections-put_section_head-requires : goal.put_sections-put_section_head-requires
 put_sections-put_section_head-requires g t c =
-    let first = rw c.in-Some.is at c.next_section.ensures.some in
-    let at = section_passed _ _ _ _ _ first c.loop-section.invariant.comes in
+    let at = section_passed _ _ _ _ _ (rw c.in-Some.is at c.next_section.ensures.some) c.loop-section.invariant.comes in
     (section_known c.in-Some.section c.loop-section.rest.now c.known.ensures at.0).fits
 
 pub put_sections-put_body-rest-requires : goal.put_sections-put_body-rest-requires
 put_sections-put_body-rest-requires g t c κs within =
     let first = rw c.in-Some.is at c.next_section.ensures.some in
-    let at = section_passed _ _ _ _ _ first c.loop-section.invariant.comes in
     let less = section_body_falls c.loop-section.walk.0 c.next_section.new.self.0 c.in-Some.section first in
     let same : body_size (body_view c.body.result) ≡ body_size (body_of c.in-Some.section) = ap body_size c.body.ensures in (
       omega (arith, c.decreases, less, same, c.loop-section.invariant.less),
       (
         within,
-        subst (λ (b : BodyMeaning). BeginsWithStarts (volumes_in_body b) c.loop-section.rest.now) (sym c.body.ensures)
-            (body_laid c.in-Some.section c.loop-section.rest.now at.0),
+        rw c.body.ensures (body_laid c.in-Some.section c.loop-section.rest.now (section_passed _ _ _ _ _ first c.loop-section.invariant.comes).0),
       ),
     )
 
@@ -62,7 +52,6 @@ put_sections-loop-section-preserved g t c =
     let rest : List ℕ = c.loop-section.rest.now in
     let first : left ≡ s ∷ after = rw c.in-Some.is at c.next_section.ensures.some in
     let at = section_passed left after s rest _ first c.loop-section.invariant.comes in
-    let k = section_known s rest c.known.ensures at.0 in
     let body = c.put_body-rest.ensures.bytes in
     let less = section_body_falls left after s first in
     rw (c.put_body-rest.ensures.rest, c.body.ensures, ← in_body s, c.filler_of-gap.ensures) (record {
@@ -70,7 +59,7 @@ put_sections-loop-section-preserved g t c =
       comes = at.1;
       done = front_more (ImageTakes g.S.Sink.takes) (image_by g.S.Sink.laws) c.args.out.now c.loop-section.out c.fill.new.out
           c.put_section_head.new.out c.put_body-rest.new.out _ _ _ _ _ _ c.loop-section.invariant.done
-          (goes_on left after s rest c.loop-section.gap first k) c.fill.ensures
+          (goes_on left after s rest c.loop-section.gap first (section_known s rest c.known.ensures at.0)) c.fill.ensures
           c.put_section_head.ensures (rw c.body.ensures at body);
       tail = c.next_section.ensures.tail ∙ c.loop-section.invariant.tail;
       some = λ _. omega (arith, ap length first, c.loop-section.invariant.fewer);
@@ -81,33 +70,23 @@ put_sections-loop-section-preserved g t c =
 
 pub put_sections-returns-then-not-is_empty-clause-bytes : goal.put_sections-returns-then-not-is_empty-clause-bytes
 put_sections-returns-then-not-is_empty-clause-bytes g t c =
-    let tail : c.tail.result ≡ c.args.sections.1 = c.tail.ensures ∙ c.next_section.ensures.tail ∙ c.loop-section.invariant.tail in
     front_end (ImageTakes g.S.Sink.takes) (image_by g.S.Sink.laws) c.args.sections.0 c.loop-section.walk.0 c.args.out.now
     c.loop-section.out
     c.fill-then-not-is_empty.new.out c.loop-section.gap c.args.starts.now c.loop-section.rest.now c.args.sections.1
     (rw c.in_default.is at c.next_section.ensures.none).0 (c.loop-section.invariant.some c.if-not-is_empty.true)
     c.loop-section.invariant.done (subst (λ (n : ℕ). ImageTakes g.S.Sink.takes c.loop-section.out (replicate n 0)
     c.fill-then-not-is_empty.new.out)
-    (c.from.ensures ∙ tail) c.fill-then-not-is_empty.ensures)
+    (c.from.ensures ∙ (c.tail.ensures ∙ c.next_section.ensures.tail ∙ c.loop-section.invariant.tail)) c.fill-then-not-is_empty.ensures)
 
 pub put_file-returns-then-is_summed-clause-bytes : goal.put_file-returns-then-is_summed-clause-bytes
-put_file-returns-then-is_summed-clause-bytes g t c =
-    let is : is_summed (attributes_of c.args.file.now) ≡ true =
-    sym (ap is_summed c.attributes.ensures) ∙ sym c.is_summed.ensures ∙ c.if-is_summed.true in
-    let put = c.put_state.ensures in (
-      put.0,
-      put.1,
-      state_adds g.S.Sink.takes _ _ _ _ _ c.args.polarity c.args.file.now c.args.starts.now
-          (sym c.is_summing.ensures ∙ c.if-is_summing.true) is put.2,
-    )
+put_file-returns-then-is_summed-clause-bytes g t c = grind (arith, common_steps, state_adds) steps 400000
 
 pub put_file-returns-clause-bytes : goal.put_file-returns-clause-bytes
 put_file-returns-clause-bytes g t c =
-    let long = file_long c.args.file.now c.args.starts.now c.known.ensures c.requires.laid in
     let laws = image_by g.S.Sink.laws in
     let head = c.put_file_head.ensures in
     let payload = c.put_body.ensures.bytes in
-    rw (stored_is c.args.polarity c.args.file.now c.args.starts.now long)
+    rw (stored_is c.args.polarity c.args.file.now c.args.starts.now (file_long c.args.file.now c.args.starts.now c.known.ensures c.requires.laid))
     (laws.joined {s = c.args.out.now} {t = c.put_file_head.new.out} {u = c.put_body.new.out}
     (laws.joined {s = c.args.out.now} {t = c.file_sum-sum.new.out} {u = c.put_file_head.new.out} c.file_sum-sum.ensures.none
     (rw c.file_sum-sum.ensures.value at head)) (rw (c.data_body.ensures, data_image c.args.file.now c.args.starts.now) at payload))
@@ -129,8 +108,7 @@ put_files-put_file-rest-requires g t c κs within =
 
 pub put_files-size_for-requires : goal.put_files-size_for-requires
 put_files-size_for-requires g t c =
-    let at = at_file _ _ _ _ _ _ c.loop-i-test.true c.index-files-i.is c.loop-i.invariant.placed in
-    omega (arith, at.here.most, c.data_len.ensures)
+    omega (arith, (at_file _ _ _ _ _ _ c.loop-i-test.true c.index-files-i.is c.loop-i.invariant.placed).here.most, c.data_len.ensures)
 
 pub put_files-overflow_add-end : goal.put_files-overflow_add-end
 put_files-overflow_add-end g t c =
@@ -149,7 +127,6 @@ put_files-loop-i-preserved g t c =
     let own : List ℕ = c.args.own.now in
     let f : FileMeaning = c.index-files-i.result in
     let rest : List ℕ = c.loop-i.rest.now in
-    let p = c.args.polarity in
     let total : ℕ = c.args.total in
     let at = at_file _ _ _ _ _ _ c.loop-i-test.true c.index-files-i.is c.loop-i.invariant.placed in
     let walk = file_passed fs i f rest _ c.loop-i-test.true c.index-files-i.is c.loop-i.invariant.walk in
@@ -160,7 +137,7 @@ put_files-loop-i-preserved g t c =
       walk = walk.1;
       done = front_more (ImageTakes g.S.Sink.takes) (image_by g.S.Sink.laws) c.args.out.now c.loop-i.out c.put_gap.new.out
           c.put_file-rest.new.out c.fill.new.out _ _ _ _ _ _ c.loop-i.invariant.done
-          (walk_goes p total c.loop-i.edge fs own i f rest at (size_is f rest long)) c.put_gap.ensures c.put_file-rest.ensures.bytes
+          (walk_goes c.args.polarity total c.loop-i.edge fs own i f rest at (size_is f rest long)) c.put_gap.ensures c.put_file-rest.ensures.bytes
           (rw (c.up_to_8-edge.ensures, c.size_for.ensures, c.data_len.ensures, c.erased.ensures.value) at filled);
     })
 
@@ -203,8 +180,7 @@ put_volume-returns-clause-bytes g t c =
     (rw (polar, c.length.ensures, c.first_edge-first.ensures.edge, c.split_at.ensures.front, c.split_at.ensures.back) at files)))
 
 pub put_volume-returns-clause-rest : goal.put_volume-returns-clause-rest
-put_volume-returns-clause-rest g t c =
-    volume_rest _ _ _ _ _ c.files-files.ensures c.split_at.ensures.back c.put_files.ensures.rest
+put_volume-returns-clause-rest g t c = volume_rest _ _ _ _ _ c.files-files.ensures c.split_at.ensures.back c.put_files.ensures.rest
 
 pub put_files-returns-clause-bytes : goal.put_files-returns-clause-bytes
 put_files-returns-clause-bytes g t c =
@@ -215,16 +191,10 @@ put_files-returns-clause-bytes g t c =
     c.erased-2.ensures.value c.fill-2.ensures)
 
 pub put_file-returns-clause-rest : goal.put_file-returns-clause-rest
-put_file-returns-clause-rest g t c =
-    c.put_body.ensures.rest ∙ ap (λ (b : BodyMeaning). drop (starts_in (volumes_in_body b)) c.args.starts.now) c.data_body.ensures
-    ∙ ap (λ (vs : List Inside). drop (starts_in vs) c.args.starts.now) (data_volumes c.args.file.now)
+put_file-returns-clause-rest g t c = let rest = c.put_body.ensures.rest in rw (c.data_body.ensures, data_volumes c.args.file.now) at rest
 
 pub put_sections-returns-else-not-is_empty-clause-bytes : goal.put_sections-returns-else-not-is_empty-clause-bytes
-put_sections-returns-else-not-is_empty-clause-bytes g t c =
-    front_none (ImageTakes g.S.Sink.takes) c.args.sections.0 c.loop-section.walk.0 c.args.out.now c.loop-section.out
-    c.loop-section.gap c.args.starts.now c.loop-section.rest.now c.args.sections.1
-    (rw c.in_default.is at c.next_section.ensures.none).0 (c.loop-section.invariant.none c.if-not-is_empty.false)
-    c.loop-section.invariant.done
+put_sections-returns-else-not-is_empty-clause-bytes g t c = grind (arith, common_steps, front_none) steps 400000
 
 pub put_sections-returns-else-not-is_empty-clause-rest : goal.put_sections-returns-else-not-is_empty-clause-rest
 put_sections-returns-else-not-is_empty-clause-rest g t c =
@@ -236,12 +206,4 @@ put_sections-returns-then-not-is_empty-clause-rest g t c =
 
 pub put_file-file_sum-sum-requires : goal.put_file-file_sum-sum-requires
 put_file-file_sum-sum-requires g t c κs within =
-    let puts : is_summed (attributes_of c.args.file.now) ≡ true → sums c.args.out.now.mode ≡ false = λ summed.
-    elim c.else-is_summing.branch [
-      | put_file-else-is_summing-via-then-is_summing+else-is_summed w ↦
-          let bad : true ≡ false =
-          sym summed ∙ (sym (ap is_summed w.attributes.ensures) ∙ sym w.is_summed.ensures ∙ w.if-is_summed.false) in
-          cc
-      | put_file-else-is_summing-via-else-is_summing w ↦ sym c.is_summing.ensures ∙ w.if-is_summing.false
-    ] in
-    (omega (arith, c.decreases, data_size c.args.file.now), (within, (c.requires.laid, puts)))
+    grind (arith, common_steps, sums, put_file-else-is_summing-via-then-is_summing+else-is_summed, put_file-else-is_summing-via-else-is_summing, data_size) steps 400000

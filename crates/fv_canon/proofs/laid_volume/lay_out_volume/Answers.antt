@@ -3,7 +3,6 @@ use Rattle.fv_base.proofs.Laws.{err_is, depth_limit}
 use Rattle.fv_canon.specs.inner.ImageOf.{image_of}
 use Rattle.fv_canon.proofs.ImageLaws.{image_is}
 use Rattle.fv_canon.proofs.RejectedInputLaws.{image_fits, not_placed, not_read, not_read_never, unfit_kind}
-use Rattle.fv_tree.specs.Words.{IsMeaning}
 use Rattle.fv_canon.proofs.laid_volume.lay_out_volume.Goals as goal
 
 pub returns-in_err-volume-clause-err : goal.returns-in_err-volume-clause-err
@@ -32,5 +31,4 @@ returns-clause-image c =
     let m = c.in_ok-volume.volume in
     let found = c.in_ok-volume.ensures.found in
     let l = c.in_ok-places.places in
-    let is : IsMeaning m = (depth_limit, omega arith, c.args.input.now, found.0, found.1) in
-    (image_of m (l.own ++ l.inner), image_is m _ is c.in_ok-places.ensures.layout.0)
+    (image_of m (l.own ++ l.inner), image_is m _ (depth_limit, omega arith, c.args.input.now, found.0, found.1) c.in_ok-places.ensures.layout.0)

@@ -1,4 +1,4 @@
-use Rattle.fv_base.proofs.Laws.{err_is, first_only}
+use Rattle.fv_base.proofs.Laws.{common_steps, arith, err_is, first_only}
 use Rattle.fv_rows.proofs.Laws.{tree_volumes}
 use Rattle.fv_canon.specs.Words.{AreAllStarts}
 use Rattle.fv_canon.proofs.FitLaws.{unfit_none}
@@ -20,15 +20,10 @@ pub returns-clause-least : goal.returns-clause-least
 returns-clause-least c = (own_first c.args.view.now c.new.result (returns-clause-layout c)).least
 
 pub returns-in_err-starts-clause-err : goal.returns-in_err-starts-clause-err
-returns-in_err-starts-clause-err c =
-    let err = c.in_err-starts.ensures.err in
-    rw (err_is c.from_residual.ensures.1) (rw (c.of.ensures, tree_volumes c.args.view.now) at err)
+returns-in_err-starts-clause-err c = grind (arith, common_steps, err_is, tree_volumes) steps 400000
 
 pub returns-in_err-starts-clause-fits : goal.returns-in_err-starts-clause-fits
-returns-in_err-starts-clause-fits c fit =
-    let err = c.in_err-starts.ensures.err in
-    rw (err_is c.from_residual.ensures.1) (first_only (rw (c.of.ensures, tree_volumes c.args.view.now) at err)
-    (λ unfit. unfit_none c.args.view.now 0 _ unfit fit))
+returns-in_err-starts-clause-fits c fit = grind (arith, common_steps, err_is, first_only, tree_volumes, unfit_none) steps 400000
 
 pub returns-in_err-starts-clause-memory : goal.returns-in_err-starts-clause-memory
 returns-in_err-starts-clause-memory c =

@@ -1,20 +1,12 @@
-use Rattle.std.proofs.Common.{◌∙◌, length, drop, refl, sym, ap, subst}
+use Rattle.std.proofs.Common.{◌∙◌, length, refl, ap}
 use Rattle.fv_rows.specs.Words.{part_node}
-use Rattle.fv_rows.specs.inner.RowVolumes.{volumes_of}
 use Rattle.fv_tree.specs.Words.{files_of}
 use Rattle.fv_tree.proofs.Laws.{files_list_back}
-use Rattle.fv_canon.specs.inner.ImageOf.{starts_in}
-use Rattle.fv_canon.proofs.ImageParts.{ComesTo}
 use Rattle.fv_canon.proofs.LayoutWalkLaws.{other_first, passed_next}
 use Rattle.fv_canon.proofs.layout_walk.skip_starts.Goals as goal
 
 pub loop-row-init : goal.loop-row-init
-loop-row-init c = (
-  tt,
-  tt,
-  subst (λ rows. ComesTo (volumes_of rows) c.args.starts.now (drop (starts_in (volumes_of c.args.rows)) c.args.starts.now))
-      (sym c.into_iter-row-iterator.ensures.into_iter_gives) (record { laid = c.requires.laid; left = refl }),
-)
+loop-row-init c = (tt, tt, rw c.into_iter-row-iterator.ensures.into_iter_gives (record { laid = c.requires.laid; left = refl }))
 
 pub split_at-requires : goal.split_at-requires
 split_at-requires c =
@@ -28,14 +20,9 @@ loop-row-preserved-in-Volume c =
     (tt, tt, rw c.split_at.ensures.back next)
 
 pub loop-row-preserved : goal.loop-row-preserved
-loop-row-preserved c = (
-  tt,
-  tt,
-  subst (λ vs. ComesTo vs c.loop-row.rest.now (drop (starts_in (volumes_of c.args.rows)) c.args.starts.now))
-      (other_first _ _ c.in-Some.row c.in-Some.ensures.steps c.in_default.not-Volume) c.loop-row.invariant.2,
-)
+loop-row-preserved c =
+    let comes = c.loop-row.invariant.2 in
+    (tt, tt, rw (other_first _ _ c.in-Some.row c.in-Some.ensures.steps c.in_default.not-Volume) at comes)
 
 pub returns : goal.returns
-returns c =
-    (subst (λ rows. ComesTo (volumes_of rows) c.loop-row.rest.now (drop (starts_in (volumes_of c.args.rows)) c.args.starts.now))
-    c.in-None.ensures.steps.0 c.loop-row.invariant.2).left
+returns c = let comes = c.loop-row.invariant.2 in (rw c.in-None.ensures.steps.0 at comes).left

@@ -37,8 +37,7 @@ loop-row-preserved-in-Volume c = (
 )
 
 pub loop-row-preserved : goal.loop-row-preserved
-loop-row-preserved c =
-    (tt, tt, collects_other _ _ _ _ c.in-Some.row c.in-Some.ensures.steps c.in_default.not-Volume c.loop-row.invariant.2)
+loop-row-preserved c = (tt, tt, collects_other _ _ _ _ c.in-Some.row c.in-Some.ensures.steps c.in_default.not-Volume c.loop-row.invariant.2)
 
 pub returns-clause-ok : goal.returns-clause-ok
 returns-clause-ok c = collects_done _ _ _ c.in-None.ensures.steps.0 c.loop-row.invariant.2

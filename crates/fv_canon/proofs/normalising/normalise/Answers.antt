@@ -1,10 +1,7 @@
-use Rattle.std.proofs.Common.{◌≡◌, ◌⊎◌, ℕ, List, length, subst, sym}
-use Rattle.fv_base.proofs.Laws.{IfOk-weaker, IfErr-weaker, err_is, out_of_memory}
-use Rattle.fv_base.specs.declared.fault.Fault.{Fault}
-use Rattle.fv_head.specs.Words.{HeadFields, BeginsVolume}
-use Rattle.fv_head.specs.declared.extent.Extent.{Extent}
+use Rattle.std.proofs.Common.{ℕ, List, subst, sym}
+use Rattle.fv_base.proofs.Laws.{IfOk-weaker, IfErr-weaker, err_is}
 use Rattle.fv_tree.specs.Words.{head_of}
-use Rattle.fv_canon.specs.Words.{MeanSame, NormalisesTo, IsOfLayout, IsUnfit, Fits}
+use Rattle.fv_canon.specs.Words.{IsUnfit, Fits}
 use Rattle.fv_canon.proofs.ImageLaws.{image_again, image_stays_long}
 use Rattle.fv_canon.proofs.InsideImageLaws.{image_fits as has_image_fits}
 use Rattle.fv_canon.proofs.RejectedInputLaws.{image_fits, not_placed, not_read, not_read_never, refused_unplaced, unread_refused, unfit_kind_of}
@@ -27,19 +24,17 @@ returns-in_err-view-clause-unread c =
 
 pub returns-clause-ok : goal.returns-clause-ok
 returns-clause-ok c =
-    IfOk-weaker c.canonical.result _ (NormalisesTo c.args.input.now)
-    (λ bytes image. (c.in_ok-view.view, c.in_ok-view.ensures.found, image)) c.canonical.ensures.image
+    IfOk-weaker c.canonical.result _ _ (λ bytes image. (c.in_ok-view.view, c.in_ok-view.ensures.found, image)) c.canonical.ensures.image
 
 pub returns-clause-again : goal.returns-clause-again
 returns-clause-again c =
-    IfOk-weaker c.canonical.result _ (λ bytes. MeanSame c.args.input.now bytes × NormalisesTo bytes bytes)
+    IfOk-weaker c.canonical.result _ _
     (λ bytes image. image_again c.args.input.now bytes (c.in_ok-view.view, c.in_ok-view.ensures.found, image)) c.canonical.ensures.image
 
 pub returns-clause-length : goal.returns-clause-length
 returns-clause-length c =
-    IfOk-weaker c.canonical.result _ (λ (bytes : List ℕ). length bytes ≡ length c.args.input.now)
-    (λ bytes image. image_stays_long c.args.input.now bytes (c.in_ok-view.view, c.in_ok-view.ensures.found, image))
-    c.canonical.ensures.image
+    IfOk-weaker c.canonical.result _ _
+    (λ bytes image. image_stays_long c.args.input.now bytes (c.in_ok-view.view, c.in_ok-view.ensures.found, image)) c.canonical.ensures.image
 
 pub returns-clause-err : goal.returns-clause-err
 returns-clause-err c =
@@ -59,14 +54,12 @@ returns-clause-unread c =
     (λ f why. unread_refused b f (not_placed b c.in_ok-view.view f c.in_ok-view.ensures.found why)) c.canonical.ensures.err
 
 pub returns-clause-fits : goal.returns-clause-fits
-returns-clause-fits c =
-    λ image to. c.canonical.ensures.fits (image_fits c.args.input.now image c.in_ok-view.view c.in_ok-view.ensures.only to)
+returns-clause-fits c = λ image to. c.canonical.ensures.fits (image_fits c.args.input.now image c.in_ok-view.view c.in_ok-view.ensures.only to)
 
 pub returns-clause-memory : goal.returns-clause-memory
 returns-clause-memory c =
     let d = c.in_ok-view.ensures.found.1 in
-    IfErr-weaker c.canonical.result _ (λ (f : Fault). f ≡ out_of_memory → (h : HeadFields) × (e : Extent)
-    × BeginsVolume h e c.args.input.now) (λ f why same. (head_of c.in_ok-view.view, d.extent, d.begins)) c.canonical.ensures.err
+    IfErr-weaker c.canonical.result _ _ (λ f why same. (head_of c.in_ok-view.view, d.extent, d.begins)) c.canonical.ensures.err
 
 pub returns-in_err-view-clause-rejected : goal.returns-in_err-view-clause-rejected
 returns-in_err-view-clause-rejected c = λ unfit. (
@@ -79,8 +72,8 @@ pub returns-clause-rejected : goal.returns-clause-rejected
 returns-clause-rejected c =
     let b : List ℕ = c.args.input.now in
     λ (unfit : IsUnfit b). (
-      IfOk-weaker c.canonical.result _ (λ (bytes : List ℕ). ⊥)
+      IfOk-weaker c.canonical.result _ _
           (λ bytes image. unfit.2 (subst Fits (sym (c.in_ok-view.ensures.only unfit.0 unfit.1)) (has_image_fits c.in_ok-view.view bytes image))) c.canonical.ensures.image,
-      IfErr-weaker c.canonical.result _ (λ (f : Fault). (f ≡ out_of_memory) ⊎ IsOfLayout f.kind)
+      IfErr-weaker c.canonical.result _ _
           (λ f why. unfit_kind_of b f (not_placed b c.in_ok-view.view f c.in_ok-view.ensures.found why) unfit) c.canonical.ensures.err,
     )

@@ -1,11 +1,10 @@
-use Rattle.std.proofs.Common.{◌-◌, ℕ, List, [], ◌++◌, refl, sym, ap, ◌∙◌, subst, arith, append_assoc}
+use Rattle.std.proofs.Common.{◌-◌, ℕ, List, [], ◌++◌, refl, sym, ap, ◌∙◌, arith, append_assoc}
 use Rattle.fv_canon.specs.Words.{pad_bytes, long_pad, gap_bytes}
 use Rattle.fv_canon.proofs.PadLaws.{gap_none, pads_rule}
 use Rattle.fv_canon.proofs.pads_and_headers.put_gap.Goals as goal
 
 pub returns-then-gap-eq0 : goal.returns-then-gap-eq0
-returns-then-gap-eq0 g c = subst (λ (xs : List ℕ). g.S.Sink.takes c.args.out.now xs c.args.out.now)
-    (sym (gap_none c.args.polarity c.args.gap c.if-gap-eq0.true)) (g.S.Sink.laws.none c.args.out.now)
+returns-then-gap-eq0 g c = rw (gap_none c.args.polarity c.args.gap c.if-gap-eq0.true) (g.S.Sink.laws.none c.args.out.now)
 
 pub loop-left-init : goal.loop-left-init
 loop-left-init g c = record {
@@ -38,5 +37,4 @@ returns g c =
     let inv = c.loop-left.invariant in
     let one = (pads_rule c.args.polarity c.loop-left.left inv.least inv.multiple).0 c.loop-left-test.false in
     let f = inv.done in
-    subst (λ (xs : List ℕ). g.S.Sink.takes c.args.out.now xs c.put_pad-2.new.out)
-    (ap (λ (xs : List ℕ). f.front ++ xs) (sym one) ∙ f.whole_is) (g.S.Sink.laws.joined f.taken c.put_pad-2.ensures)
+    rw (← f.whole_is, one) (g.S.Sink.laws.joined f.taken c.put_pad-2.ensures)

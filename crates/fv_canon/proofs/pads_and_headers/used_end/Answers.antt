@@ -9,11 +9,7 @@ use Rattle.fv_canon.proofs.pads_and_headers.used_end.Goals.{After-data_len}
 use Rattle.fv_canon.proofs.pads_and_headers.used_end.Goals as goal
 
 pub bounds-own-last : goal.bounds-own-last
-bounds-own-last c =
-    let some : 0 < length c.args.files.now = grind (arith, common_steps, c.is_empty.ensures, c.if-is_empty.false) in
-    let same : length c.args.own.now ≡ length c.args.files.now = follow_length c.requires.0 c.args.first (map placement_item c.args.files.now)
-    c.args.own.now c.requires.1.follow ∙ length-map c.args.files.now placement_item in
-    omega (arith, some, same)
+bounds-own-last c = grind (arith, common_steps, follow_length, length-map) steps 400000
 
 -- the last file ends where the used bytes end, within the limit of a volume's length
 last_end : (c : After-data_len) → let end : ℕ = get_or c.args.own.now (length c.args.files.now - 1) 0 + size_for c.data_len.result in

@@ -1,4 +1,5 @@
 use Rattle.std.proofs.lemmas.Result.{IfOk-weaker, IfErr-weaker}
+use Rattle.fv_base.proofs.Laws.{arith, common_steps}
 use Rattle.fv_rows.proofs.Laws.{section_inside}
 use Rattle.fv_canon.proofs.LayoutWalkLaws.{starts_need_some}
 use Rattle.fv_canon.proofs.PartLengthLaws.{body_long}
@@ -16,7 +17,4 @@ pub returns-clause-err : goal.returns-clause-err
 returns-clause-err c = let err = c.starts_of.ensures.err in rw (c.inside.ensures, c.copied.ensures, section_inside c.args.section.now) at err
 
 pub returns-clause-memory : goal.returns-clause-memory
-returns-clause-memory c =
-    let memory = c.starts_of.ensures.memory in
-    IfErr-weaker c.starts_of.result _ _ (λ f some want. starts_need_some _ (some want))
-    (rw (c.inside.ensures, c.copied.ensures, section_inside c.args.section.now) at memory)
+returns-clause-memory c = grind (arith, common_steps, IfErr-weaker, starts_need_some, section_inside c.args.section.now) steps 400000

@@ -9,9 +9,8 @@ returns-clause-ok c = let ok = c.starts_of.ensures.ok in rw (c.inside.ensures, f
 
 pub returns-clause-long : goal.returns-clause-long
 returns-clause-long c =
-    let m = c.args.file.now in
     IfOk-weaker c.starts_of.result _ _
-    (λ starts laid. data_long m starts.items c.known.ensures (begin_all _ starts.items laid)) (returns-clause-ok c)
+    (λ starts laid. data_long c.args.file.now starts.items c.known.ensures (begin_all _ starts.items laid)) (returns-clause-ok c)
 
 pub returns-clause-err : goal.returns-clause-err
 returns-clause-err c = let err = c.starts_of.ensures.err in rw (c.inside.ensures, file_inside c.args.file.now) at err

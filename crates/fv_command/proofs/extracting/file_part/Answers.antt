@@ -3,7 +3,7 @@ use Rattle.fv_base.proofs.Laws.{err_is, out_of_memory}
 use Rattle.fv_section.specs.Words.{FrameForm, frame_form}
 use Rattle.fv_tree.specs.Words.{section_of_type, frame_of_type, Plain, Sectioned, SectionMeaning, SectionMeanings, content_of, volumes_in_body}
 use Rattle.fv_tree.specs.Words.{FileMeaning, ContentMeaning, body_of}
-use Rattle.fv_command.specs.Words.{IsSectionPart, IsFramePart, StopsFilePart}
+use Rattle.fv_command.specs.Words.{IsSectionPart, IsFramePart, StopsPart}
 use Rattle.fv_command.specs.declared.extracting.Extraction.TheVariants.{Made, Stored}
 use Rattle.fv_base.specs.declared.fault.Fault.{Fault}
 use Rattle.fv_canon.specs.Words.{FirstUnplaced}
@@ -13,10 +13,10 @@ use Rattle.fv_command.proofs.extracting.file_part.Goals as goal
 stops_section : (f : FileMeaning) (kind instance : ℕ) (s : SectionMeaning) (e : Fault)
     → ((ss : SectionMeanings) (t : ℕ) → content_of f ≡ Sectioned ss t → section_of_type kind instance ss ≡ Some s)
     → ((b : List ℕ) → content_of f ≡ Plain b → ⊥) → (e ≡ out_of_memory) ⊎ FirstUnplaced (volumes_in_body (body_of s)) 0 e
-    → (e ≡ out_of_memory) ⊎ StopsFilePart f (Some kind) instance e
+    → (e ≡ out_of_memory) ⊎ StopsPart (Some f) (Some kind) instance e
 stops_section f kind instance s e found none (inl w) = inl w
 stops_section f kind instance s e found none (inr u) = inr (go (content_of f) refl) where
-  go : (x : ContentMeaning) → content_of f ≡ x → StopsFilePart f (Some kind) instance e
+  go : (x : ContentMeaning) → content_of f ≡ x → StopsPart (Some f) (Some kind) instance e
   go (Plain b) p = absurd (none b p)
   go (Sectioned ss t) p = (ss, t, s, p, found ss t p, u)
 

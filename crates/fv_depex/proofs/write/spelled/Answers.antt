@@ -7,3 +7,6 @@ use Rattle.fv_depex.proofs.write.spelled.Goals as goal
 
 pub loop-op-preserved : goal.loop-op-preserved
 loop-op-preserved c = grind (arith, common_steps, take_more, bytes_join, append-nil)
+
+pub returns : goal.returns
+returns c = grind (arith, common_steps)

@@ -6,8 +6,7 @@ use Rattle.fv_file.proofs.BodyLemmas.{only_one, none_after, all_within}
 use Rattle.fv_file.proofs.cell_walk.cells.Goals as goal
 
 pub returns-clause-only : goal.returns-clause-only
-returns-clause-only c =
-    IfOk-weaker c.cells_in.result _ _ (λ cs h ds g. only_one _ _ _ _ cs ds h g) (rw c.of.ensures at c.cells_in.ensures.found)
+returns-clause-only c = IfOk-weaker c.cells_in.result _ _ (λ cs h ds g. only_one _ _ _ _ cs ds h g) (rw c.of.ensures at c.cells_in.ensures.found)
 
 pub returns-clause-none : goal.returns-clause-none
 returns-clause-none c =

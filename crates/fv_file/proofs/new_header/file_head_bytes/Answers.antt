@@ -1,6 +1,5 @@
 use Rattle.std.proofs.lemmas.Grind.{common_steps}
-use Rattle.std.proofs.Common.{arith}
-use Rattle.std.proofs.Common.{◌≡◌, ◌∙◌, ap, length, refl, sym}
+use Rattle.std.proofs.Common.{arith, ◌≡◌, ◌∙◌, ap, length, refl, sym}
 use Rattle.fv_base.specs.Words.{bytes_of}
 use Rattle.fv_file.specs.declared.new_header.NewHeader.{NewHeader}
 use Rattle.fv_file.proofs.NewHeaderLemmas.{file_head_is, file_written, head_of_file, only_file}

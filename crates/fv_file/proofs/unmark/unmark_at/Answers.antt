@@ -30,3 +30,9 @@ returns-then-eq-clause-plain c =
 
 pub returns-then-eq-clause-step : goal.returns-then-eq-clause-step
 returns-then-eq-clause-step c = grind (arith, common_steps, fixed, Then-eq)
+
+pub cell_at-requires : goal.cell_at-requires
+cell_at-requires c = grind (arith, common_steps)
+
+pub unmark-requires-clause-within : goal.unmark-requires-clause-within
+unmark-requires-clause-within c = grind (arith, common_steps)

@@ -18,12 +18,11 @@ within : (c : Then-eq) → (file_header_len_at c.args.rest.now ≤ file_size_at 
 within c = size_within _ _ _ _ _ (known c)
 
 pub span_of-requires : goal.span_of-requires
-span_of-requires c =
-    omega (
-      arith,
-      (verdict_stands _ _ _ c.args.rest.now _ c.requires.multiple c.in-Ok.ensures.found).within,
-      c.requires.place,
-    )
+span_of-requires c = omega (
+  arith,
+  (verdict_stands _ _ _ c.args.rest.now _ c.requires.multiple c.in-Ok.ensures.found).within,
+  c.requires.place,
+)
 
 pub sound_size-requires-clause-least : goal.sound_size-requires-clause-least
 sound_size-requires-clause-least c = (known (goal.at.sound_size-requires-clause-least c).Then-eq).long

@@ -1,3 +1,4 @@
+use Rattle.std.proofs.lemmas.Grind.{common_steps}
 use Rattle.std.proofs.Common.{◌++◌, ◌∷◌, [], ℕ, List, sym, ap, ◌∙◌, subst, arith, append_assoc, append-nil}
 use Rattle.fv_base.proofs.Laws.{err_is}
 use Rattle.fv_flash.specs.inner.FoundWalks.{VolumesFrom}
@@ -31,3 +32,6 @@ returns-clause-found c =
 
 pub returns-clause-only : goal.returns-clause-only
 returns-clause-only c = λ other f. one_are c.args.bytes.now other c.loop-volume.list.items f (returns-clause-found c)
+
+pub overflow_add-from : goal.overflow_add-from
+overflow_add-from c = grind (arith, common_steps)

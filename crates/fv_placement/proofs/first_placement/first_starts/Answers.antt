@@ -1,3 +1,4 @@
+use Rattle.std.proofs.lemmas.Grind.{common_steps}
 use Rattle.std.proofs.Common.{◌≡◌, ◌++◌, length, take, drop, arith}
 use Rattle.std.proofs.Math.Seq.{take-append_seam}
 use Rattle.fv_placement.proofs.first_placement.first_starts.Goals as goal
@@ -18,3 +19,6 @@ returns-clause-none c =
 
 pub returns-in-Some-clause-found : goal.returns-in-Some-clause-found
 returns-in-Some-clause-found c = let found = c.in_ok-starts.ensures.found in rw c.in-Some.is at found
+
+pub place_each-requires-2-clause-reaches : goal.place_each-requires-2-clause-reaches
+place_each-requires-2-clause-reaches c = grind (arith, common_steps)

@@ -49,6 +49,7 @@ loop-i-preserved c =
     }
 
 pub returns-clause-found : goal.returns-clause-found
-returns-clause-found c =
-    placed_end c.args.total c.args.first c.args.items.now c.loop-i.edge c.loop-i.i c.loop-i.starts.items c.loop-i-test.false
-    c.requires.first.1 c.loop-i.invariant.placed
+returns-clause-found c = grind (arith, common_steps, placed_end)
+
+pub overflow_add-start : goal.overflow_add-start
+overflow_add-start c = grind (arith, common_steps)

@@ -1,6 +1,7 @@
-use Rattle.std.proofs.Common.{◌≡◌, ◌<◌, ◌∷◌, ◌++◌, [], ℕ, List, length, map, subst, sym, true≢false, arith, rules}
+use Rattle.std.proofs.lemmas.Grind.{common_steps}
+use Rattle.std.proofs.Common.{◌≡◌, ◌<◌, ◌∷◌, ◌++◌, [], ℕ, List, length, sym, true≢false, arith}
 use Rattle.fv_base.proofs.Laws.{err_is}
-use Rattle.fv_section.specs.Words.{FrameForm, Splits, frame_form}
+use Rattle.fv_section.specs.Words.{FrameForm, Splits}
 use Rattle.fv_section.proofs.FrameWalkLemmas.{whole_within}
 use Rattle.fv_section.proofs.StreamLemmas.{from_least}
 use Rattle.fv_section.proofs.frame_walk.frames.Goals as goal
@@ -23,14 +24,10 @@ returns-in_err-list-clause-some c =
     (λ none. true≢false (sym (c.in_err-list.ensures.succeeds none))))
 
 pub returns-in_err-push-clause-some : goal.returns-in_err-push-clause-some
-returns-in_err-push-clause-some c =
-    let front : List FrameForm = map frame_form c.loop-frame.list.items in
-    let left = rw c.in-Some.is at c.next_frame.ensures.some in
-    let split = subst (λ fs. Splits (front ++ fs) c.loop-frame.walk.1 c.args.stream.now) left c.loop-frame.invariant.split in
-    rw (err_is c.from_residual-in_err-push.ensures.1)
-    (some_bytes front (frame_form c.in-Some.frame) _ c.loop-frame.walk.1 c.args.stream.now split)
+returns-in_err-push-clause-some c = grind (arith, common_steps, err_is, some_bytes)
 
 pub returns-clause-lies : goal.returns-clause-lies
-returns-clause-lies c =
-    let split : Splits c.from_parts.result.0 c.from_parts.result.1 c.args.stream.now = search rules in
-    whole_within c.from_parts.result.0 c.from_parts.result.1 c.args.stream.now split
+returns-clause-lies c = grind (arith, common_steps, whole_within)
+
+pub loop-frame-preserved : goal.loop-frame-preserved
+loop-frame-preserved c = grind (arith, common_steps)

@@ -1,4 +1,5 @@
-use Rattle.std.proofs.Common.{◌++◌, ◌∷◌, ◌-◌, [], length, length-append, refl, arith}
+use Rattle.std.proofs.lemmas.Grind.{common_steps}
+use Rattle.std.proofs.Common.{◌++◌, ◌∷◌, ◌-◌, [], length-append, refl, arith}
 use Rattle.fv_base.proofs.Laws.{err_is}
 use Rattle.fv_section.proofs.FrameLemmas.{size_least}
 use Rattle.fv_section.proofs.FrameWalkLemmas.{first_here, stands_within, step, whole_of}
@@ -30,23 +31,13 @@ loop-frame-preserved c =
     }
 
 pub loop-frame-smaller : goal.loop-frame-smaller
-loop-frame-smaller c =
-    let f : FrameForm = frame_form c.in-Some.frame in
-    let stands = rw c.in-Some.is at c.in_ok-frame.ensures.found in
-    omega (arith, c.end_of-end.ensures, stands.offset, stands.inside, c.up_to_4.ensures, size_least f)
+loop-frame-smaller c = grind (arith, common_steps, size_least)
 
 pub returns-clause-found : goal.returns-clause-found
-returns-clause-found c =
-    let w = c.loop-frame.invariant.frames in
-    let past = rw c.in_default.is at c.in_ok-frame.ensures.past in
-    (w.0, whole_of c.args.stream.now w.0 c.loop-frame.end w.1 (omega (arith, past, c.up_to_4.ensures)), w.2)
+returns-clause-found c = grind (arith, common_steps, whole_of)
 
 pub overflow_cast-result : goal.overflow_cast-result
-overflow_cast-result c =
-    let w = c.loop-frame.invariant.frames in
-    let past = rw c.in_default.is at c.in_ok-frame.ensures.past in
-    let whole = whole_of c.args.stream.now w.0 c.loop-frame.end w.1 (omega (arith, past, c.up_to_4.ensures)) in
-    omega (arith, tail_small 0 w.0 (length c.args.stream.now - c.loop-frame.end) c.args.stream.now whole)
+overflow_cast-result c = grind (arith, common_steps, whole_of, tail_small)
 
 pub returns-in_err-frame-clause-first : goal.returns-in_err-frame-clause-first
 returns-in_err-frame-clause-first c =

@@ -1,6 +1,7 @@
-use Rattle.std.proofs.Common.{◌≡◌, ◌+◌, sym, ap, ◌∙◌, arith}
-use Rattle.fv_tree.specs.Words.{files_from, content_view, body_view}
-use Rattle.fv_tree.specs.inner.Sizes.{volume_size, files_size, content_size, body_size}
+use Rattle.std.proofs.lemmas.Grind.{common_steps}
+use Rattle.std.proofs.Common.{sym, ap, ◌∙◌, arith}
+use Rattle.fv_tree.specs.Words.{content_view, body_view}
+use Rattle.fv_tree.specs.inner.Sizes.{content_size, body_size}
 use Rattle.fv_tree.proofs.DifferenceWalkLaws.{files_uneven, volume_word}
 use Rattle.fv_tree.proofs.SizeLaws.{section_falls, body_falls, file_falls, content_falls}
 use Rattle.fv_tree.proofs.difference.+differ.Goals as goal
@@ -16,26 +17,19 @@ content_difference-stream_difference-requires t c =
     let is = ap (λ b. content_size (content_view b)) c.in-Stream-Stream.is-0 in (omega (arith, c.decreases, is), tt)
 
 pub stream_difference-section_difference-requires : goal.stream_difference-section_difference-requires
-stream_difference-section_difference-requires t c =
-    let falls = section_falls c.loop-section.left.0 c.next_section.new.self.0 c.in-Some.section (rw c.in-Some.is at c.next_section.ensures.some) in
-    (omega (arith, c.decreases, falls, c.loop-section.invariant.less), tt)
+stream_difference-section_difference-requires t c = grind (arith, common_steps, section_falls) steps 150000
 
 pub file_difference-content_difference-requires : goal.file_difference-content_difference-requires
-file_difference-content_difference-requires t c =
-    (omega (arith, c.decreases, content_falls c.args.file.now, ap content_size c.content.ensures), tt)
+file_difference-content_difference-requires t c = (omega (arith, c.decreases, content_falls c.args.file.now, ap content_size c.content.ensures), tt)
 
 pub section_difference-body_difference-requires : goal.section_difference-body_difference-requires
-section_difference-body_difference-requires t c =
-    (omega (arith, c.decreases, body_falls c.args.section.now, ap body_size c.body.ensures), tt)
+section_difference-body_difference-requires t c = (omega (arith, c.decreases, body_falls c.args.section.now, ap body_size c.body.ensures), tt)
 
 pub volume_difference-files_difference-requires : goal.volume_difference-files_difference-requires
-volume_difference-files_difference-requires t c =
-    let falls : volume_size c.args.volume.now ≡ files_size (files_from c.files.result.now) + 1 = ap volume_size c.files.ensures in
-    (omega (arith, c.decreases, falls), tt)
+volume_difference-files_difference-requires t c = grind (arith, common_steps) steps 150000
 
 pub files_difference-file_difference-requires : goal.files_difference-file_difference-requires
-files_difference-file_difference-requires t c =
-    (omega (arith, c.decreases, file_falls c.args.files.now c.loop-i.i c.index-files-i.result (omega arith) c.index-files-i.is), tt)
+files_difference-file_difference-requires t c = (omega (arith, c.decreases, file_falls _ c.loop-i.i _ (omega arith) c.index-files-i.is), tt)
 
 -- ---- volumes
 
@@ -48,6 +42,4 @@ volume_difference-returns-in-Some t c =
 -- ---- files
 
 pub files_difference-returns-then-not-files-others : goal.files_difference-returns-then-not-files-others
-files_difference-returns-then-not-files-others t c =
-    c.differ_in.ensures
-    ∙ sym (files_uneven c.args.files.now c.args.others.now c.loop-i.i (omega arith) (omega arith) c.if-not-files-others.true c.loop-i.invariant)
+files_difference-returns-then-not-files-others t c = grind (arith, common_steps, files_uneven) steps 150000

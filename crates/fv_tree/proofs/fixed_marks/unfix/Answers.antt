@@ -15,9 +15,7 @@ returns-in_err-extent-clause-none c =
 pub returns-clause-done : goal.returns-clause-done
 returns-clause-done c =
     let found = c.in_ok-extent.ensures.found in
-    on_ok_weaker c.unmark_files.result
-    (λ tiled. is_unfixed c.args.bytes.now found.0 _ found.1 c.unmark_files.new.body tiled.0 tiled.1 tiled.2.0 tiled.2.1)
-    c.unmark_files.ensures.tiled
+    on_ok_weaker c.unmark_files.result (λ tiled. is_unfixed _ found.0 _ found.1 _ tiled.0 tiled.1 tiled.2.0 tiled.2.1) c.unmark_files.ensures.tiled
 
 pub returns-clause-only : goal.returns-clause-only
 returns-clause-only c = on_ok_weaker c.unmark_files.result (λ is o other. only_unfixed c.args.bytes.now _ o is other) (returns-clause-done c)
@@ -31,8 +29,7 @@ returns-clause-kept c =
 pub returns-clause-stops : goal.returns-clause-stops
 returns-clause-stops c =
     let found = c.in_ok-extent.ensures.found in
-    IfErr-weaker c.unmark_files.result _ _ (λ f h. stops_there c.args.bytes.now found.0 _ found.1 h.1 h.0 h.2 f h.3 h.4)
-    c.unmark_files.ensures.first
+    IfErr-weaker c.unmark_files.result _ _ (λ f h. stops_there c.args.bytes.now found.0 _ found.1 h.1 h.0 h.2 f h.3 h.4) c.unmark_files.ensures.first
 
 pub returns-clause-none : goal.returns-clause-none
 returns-clause-none c = IfErr-weaker c.unmark_files.result _ _ (none_unfixed c.args.bytes.now) (returns-clause-stops c)
@@ -40,5 +37,4 @@ returns-clause-none c = IfErr-weaker c.unmark_files.result _ _ (none_unfixed c.a
 pub returns-clause-same : goal.returns-clause-same
 returns-clause-same c = λ e cells has.
     always c.unmark_files.result
-    (on_ok_weaker c.unmark_files.result (λ only. sym (only c.args.bytes.now (unchanged c.args.bytes.now e cells has))) (returns-clause-only c))
-    (returns-clause-kept c)
+    (on_ok_weaker c.unmark_files.result (λ only. sym (only c.args.bytes.now (unchanged _ e _ has))) (returns-clause-only c)) (returns-clause-kept c)

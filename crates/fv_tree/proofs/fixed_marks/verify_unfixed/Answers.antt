@@ -20,16 +20,14 @@ pub returns-in_err-verify_unmarked-clause-err : goal.returns-in_err-verify_unmar
 returns-in_err-verify_unmarked-clause-err c =
     let found = c.in_ok-extent.ensures.found in
     let h = c.in_err-verify_unmarked.ensures.first in
-    rw (err_is c.from_residual-in_err-verify_unmarked.ensures.1)
-    (stopped c.args.input.now _ (stops_there c.args.input.now found.0 c.in_ok-extent.extent found.1 h.1 h.0 h.2 _ h.3 h.4))
+    rw (err_is c.from_residual-in_err-verify_unmarked.ensures.1) (stopped c.args.input.now _ (stops_there _ found.0 _ found.1 h.1 h.0 h.2 _ h.3 h.4))
 
 pub returns-in_err-check-clause-err : goal.returns-in_err-check-clause-err
 returns-in_err-check-clause-err c =
     let found = c.in_ok-extent.ensures.found in
     let o = made (goal.at.returns-in_err-check-clause-err c).In_ok-verify_unmarked in
     let fails = c.in_err-check.ensures.err in
-    rw (err_is c.from_residual-in_err-check.ensures.1)
-    (bytes_follow _ o.0 _ found.0 c.in_ok-extent.extent o.1 found.1 fails.0 fails.1)
+    rw (err_is c.from_residual-in_err-check.ensures.1) (bytes_follow _ o.0 _ found.0 c.in_ok-extent.extent o.1 found.1 fails.0 fails.1)
 
 pub returns-clause-ok : goal.returns-clause-ok
 returns-clause-ok c =

@@ -12,10 +12,9 @@ pub returns-clause-ok : goal.returns-clause-ok
 returns-clause-ok c = λ fs t split.
     let left : List FrameForm = c.in_ok-walk.walk.0 in
     let test : FrameForm → Bool = λ f. f.kind == c.args.kind in
-    numbered_is c.numbered.result c.args.instance c.numbered.ensures.zero c.numbered.ensures.nth
-    (YieldsList-from_filter _ test (YieldsList-from_first frame_form (λ w. w.0) left (cc)) c.filter-frames.ensures.closure
-    (λ x r q k. search (rules, tests)))
-    ∙ ap (frame_of_type c.args.kind c.args.instance) (sym (c.in_ok-walk.ensures.only fs t split).0)
+    numbered_is c.numbered.result c.args.instance c.numbered.ensures.zero c.numbered.ensures.nth (YieldsList-from_filter _ test
+    (YieldsList-from_first frame_form (λ w. w.0) left (cc)) c.filter-frames.ensures.closure (λ x r q k. search (rules, tests))) ∙ ap (frame_of_type
+    c.args.kind c.args.instance) (sym (c.in_ok-walk.ensures.only fs t split).0)
 
 pub returns-clause-split : goal.returns-clause-split
 returns-clause-split c = (c.in_ok-walk.walk.0, c.in_ok-walk.walk.1, c.in_ok-walk.ensures.found)

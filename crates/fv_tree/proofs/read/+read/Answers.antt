@@ -1,5 +1,5 @@
 use Rattle.std.proofs.Common.{◌≡◌, ℕ, [], ◌∷◌, ◌++◌, rules, ◌⊎◌, List, map, length, take, sym, ap, ◌∙◌, subst, arith, inl, inr, refl, length-take-le}
-use Rattle.fv_base.proofs.Laws.{IfErr-weaker, out_of_memory, IsFirstFault, First, IsBytes, bytes_take, err_is}
+use Rattle.fv_base.proofs.Laws.{IfErr-weaker, out_of_memory, IsFirstFault, First, IsBytes, bytes_take, err_is, common_steps}
 use Rattle.std.proofs.lemmas.Result.{MatchResult-from_both, MatchResult-weaker}
 use Rattle.fv_base.specs.declared.fault.Fault.{Fault}
 use Rattle.fv_base.specs.declared.fault.Place.{Place}
@@ -11,8 +11,7 @@ use Rattle.fv_section.specs.Words.{FrameForm}
 use Rattle.std.specs.Prelude.{IfOk}
 use Rattle.fv_tree.specs.inner.ReadingParts.{IsReadyFile}
 use Rattle.fv_tree.specs.Words.{IsStoredFile, Denotes, MeansFile, Stream, FileFault, InStream, data_at, Volume, length_of, files_from, bare_form}
-use Rattle.fv_tree.specs.Words.{file_form, with_data, Meaning}
-use Rattle.fv_tree.specs.inner.SectionReads.{StreamRead}
+use Rattle.fv_tree.specs.Words.{file_form, with_data}
 use Rattle.fv_names.specs.Words.{IsOrder, numbers_of}
 use Rattle.fv_tree.proofs.BodyLaws.{files_first}
 use Rattle.fv_tree.proofs.FilledLaws.{stands}
@@ -45,9 +44,8 @@ read_files-read_file-requires t c =
 
 pub read_files-returns-in_err-view : goal.read_files-returns-in_err-view
 read_files-returns-in_err-view t c =
-    rw (err_is c.from_residual-in_err-view.ensures.1) (λ ne.
-    first_refused (MeansFile (Stream c.args.at.left)) (file_form c.args.volume.now) c.args.files.now c.loop-file.file-index no_file
-    (λ f. FileFault (InStream First c.args.at.left) c.in_err-view.field-0.0 f c.args.at.place)
+    rw (err_is c.from_residual-in_err-view.ensures.1) (λ ne. first_refused (MeansFile (Stream c.args.at.left)) (file_form c.args.volume.now)
+    c.args.files.now c.loop-file.file-index no_file (λ f. FileFault (InStream First c.args.at.left) c.in_err-view.field-0.0 f c.args.at.place)
     c.loop-file.views.items c.loop-file-test.true c.loop-file.invariant (c.in_err-view.ensures ne))
 
 pub read_files-returns-in_err-push : goal.read_files-returns-in_err-push
@@ -60,16 +58,12 @@ read_files-loop-file-preserved t c =
     c.push.new.self.items c.in_ok-view.view c.loop-file-test.true c.loop-file.invariant c.in_ok-view.ensures items
 
 pub read_files-returns : goal.read_files-returns
-read_files-returns t c =
-    all_pairs (MeansFile (Stream c.args.at.left)) (file_form c.args.volume.now) c.args.files.now c.loop-file.file-index no_file c.loop-file.views.items
-    (omega arith) c.loop-file.invariant
+read_files-returns t c = grind (arith, common_steps, all_pairs, no_file) steps 150000
 
 -- ---- one file
 
 pub read_data-returns-then-not-holds_sections : goal.read_data-returns-then-not-holds_sections
-read_data-returns-then-not-holds_sections t c =
-    rw c.new-volumes.ensures.items
-    (plain_read c.args.at.left c.args.file.now.kind c.args.payload.now (sym c.holds_sections.ensures ∙ c.if-not-holds_sections.true))
+read_data-returns-then-not-holds_sections t c = grind (arith, common_steps, plain_read) steps 150000
 
 pub read_data-overflow_add-place : goal.read_data-overflow_add-place
 read_data-overflow_add-place t c = omega (arith, c.from.ensures, c.requires.place)
@@ -89,18 +83,10 @@ read_data-returns-in_err-read_stream t c =
     (λ ne. (sym c.holds_sections.ensures ∙ c.if-not-holds_sections.false, subst P same (c.in_err-read_stream.ensures ne)))
 
 pub read_data-returns : goal.read_data-returns
-read_data-returns t c =
-    let n = c.args.at.left in
-    let kind = c.args.file.now.kind in
-    let b : List ℕ = c.args.payload.now in
-    let read : StreamRead n b [] c.read_stream.new.volumes.items =
-    subst (λ (old : List Meaning). StreamRead n b old c.read_stream.new.volumes.items) c.new-volumes.ensures.items c.in_ok-read_stream.ensures in
-    sectioned_read n kind b c.read_stream.new.volumes.items (sym c.holds_sections.ensures ∙ c.if-not-holds_sections.false) read
+read_data-returns t c = grind (arith, common_steps, sectioned_read) steps 150000
 
 pub read_file-read_data-requires : goal.read_file-read_data-requires
-read_file-read_data-requires t c =
-    let ready = c.requires.ready in
-    (omega arith, rw c.payload-payload.ensures (ready.1, (c.requires.depth, ready.2)))
+read_file-read_data-requires t c = grind (arith, common_steps) steps 150000
 
 pub read_file-new-requires-clause-stored : goal.read_file-new-requires-clause-stored
 read_file-new-requires-clause-stored t c =
@@ -108,10 +94,9 @@ read_file-new-requires-clause-stored t c =
 
 pub read_file-returns : goal.read_file-returns
 read_file-returns t c =
-    MatchResult-from_both c.new.result _ _
-    (subst (λ (b : List ℕ). IfOk c.new.result (MeansFile (Stream c.args.at.left) (with_data b (bare_form c.args.file.now))))
-    c.payload-payload.ensures c.new.ensures.ok)
-    (IfErr-weaker c.new.result _ _ (λ e is ne. absurd (ne is)) c.new.ensures.err)
+    MatchResult-from_both c.new.result _ _ (subst
+    (λ (b : List ℕ). IfOk c.new.result (MeansFile (Stream c.args.at.left) (with_data b (bare_form c.args.file.now)))) c.payload-payload.ensures
+    c.new.ensures.ok) (IfErr-weaker c.new.result _ _ (λ e is ne. absurd (ne is)) c.new.ensures.err)
 
 pub read_file-returns-in_err-volumes : goal.read_file-returns-in_err-volumes
 read_file-returns-in_err-volumes t c =
@@ -126,16 +111,14 @@ read_with_files-fault_within-requires t c = omega (arith, c.in-Err.ensures.bound
 
 pub read_with_files-returns-in-Err-clause-read : goal.read_with_files-returns-in-Err-clause-read
 read_with_files-returns-in-Err-clause-read t c = λ ne.
-    head_first c.args.at.left c.args.bytes.now c.in-Err.fault c.fault_within.result c.args.at.place c.in-Err.ensures.first
-    (c.fault_within.ensures.moved ne).0 (c.fault_within.ensures.moved ne).1
+    head_first c.args.at.left _ c.in-Err.fault _ _ c.in-Err.ensures.first (c.fault_within.ensures.moved ne).0 (c.fault_within.ensures.moved ne).1
 
 pub read_with_files-returns-in-Err-clause-memory : goal.read_with_files-returns-in-Err-clause-memory
 read_with_files-returns-in-Err-clause-memory t c = λ want. go c.in-Err.ensures.first want where
   go : (c.in-Err.fault ≡ out_of_memory) ⊎ IsFirstFault (head_checks c.args.bytes.now) c.in-Err.fault
       → c.fault_within.result ≡ out_of_memory → (h : HeadFields) × (e : Extent) × BeginsVolume h e c.args.bytes.now
   go (inl same) want = c.in-Err.ensures.memory same
-  go (inr first) want = absurd (fault_known c.args.bytes.now c.in-Err.fault first (sym c.fault_within.ensures.kind
-      ∙ ap (λ (f : Fault). f.kind) want))
+  go (inr first) want = absurd (fault_known c.args.bytes.now c.in-Err.fault first (sym c.fault_within.ensures.kind ∙ ap (λ (f : Fault). f.kind) want))
 
 pub read_with_files-slice_bounds-volume-end : goal.read_with_files-slice_bounds-volume-end
 read_with_files-slice_bounds-volume-end t c = sym (length-take-le c.in-Ok.read.1.length c.args.bytes.now c.in-Ok.ensures.found.is_within)
@@ -156,13 +139,11 @@ read_with_files-files_in_body-requires t c =
     }
 
 pub read_with_files-read_files-requires : goal.read_with_files-read_files-requires
-read_with_files-read_files-requires t c =
-    (omega arith, (c.requires.depth, rw c.as_slice.ensures.value c.in_ok-files.ensures.stored))
+read_with_files-read_files-requires t c = (omega arith, (c.requires.depth, rw c.as_slice.ensures.value c.in_ok-files.ensures.stored))
 
 pub read_with_files-returns-in_err-files-clause-read : goal.read_with_files-returns-in_err-files-clause-read
 read_with_files-returns-in_err-files-clause-read t c =
-    rw (err_is c.from_residual.ensures.1)
-    (λ ne. inr (c.in-Ok.read.0, c.in-Ok.read.1, c.in-Ok.ensures.found, inl (c.in_err-files.ensures.read ne)))
+    rw (err_is c.from_residual.ensures.1) (λ ne. inr (c.in-Ok.read.0, c.in-Ok.read.1, c.in-Ok.ensures.found, inl (c.in_err-files.ensures.read ne)))
 
 pub read_with_files-returns-in_err-files-clause-length : goal.read_with_files-returns-in_err-files-clause-length
 read_with_files-returns-in_err-files-clause-length t c = rw (err_is c.from_residual.ensures.1) tt
@@ -216,8 +197,7 @@ pub read_with_files-returns-clause-read : goal.read_with_files-returns-clause-re
 read_with_files-returns-clause-read t c = rw c.new.ensures (volume_made t (goal.at.read_with_files-returns-clause-read t c).In_ok-views)
 
 pub read_with_files-returns-clause-length : goal.read_with_files-returns-clause-length
-read_with_files-returns-clause-length t c =
-    (c.in-Ok.ensures.found.length_is ∙ ap length_of (sym c.new.ensures), c.in-Ok.ensures.found.is_within)
+read_with_files-returns-clause-length t c = (c.in-Ok.ensures.found.length_is ∙ ap length_of (sym c.new.ensures), c.in-Ok.ensures.found.is_within)
 
 pub read_with_files-returns-clause-files : goal.read_with_files-returns-clause-files
 read_with_files-returns-clause-files t c = (
@@ -233,8 +213,7 @@ pub read_stream-fault_within-requires : goal.read_stream-fault_within-requires
 read_stream-fault_within-requires t c = omega (arith, c.in-Err.ensures.bound, c.requires.place)
 
 pub read_stream-loop-frame-init : goal.read_stream-loop-frame-init
-read_stream-loop-frame-init t c =
-    walk_begun c.args.at.left c.args.bytes.now c.in-Ok.walk.1 c.in-Ok.walk.0 c.args.volumes.now.items c.in-Ok.ensures.found
+read_stream-loop-frame-init t c = walk_begun c.args.at.left c.args.bytes.now c.in-Ok.walk.1 c.in-Ok.walk.0 _ c.in-Ok.ensures.found
 
 pub read_stream-read_section-requires : goal.read_stream-read_section-requires
 read_stream-read_section-requires t c =
@@ -281,8 +260,7 @@ pub read_section-returns-in_err-inside-in-Group : goal.read_section-returns-in_e
 read_section-returns-in_err-inside-in-Group t c =
     let f : FrameForm = framed.frame_form c.args.frame.now in
     let err = c.in_err-inside-in-Group.ensures.err in
-    rw (err_is c.from_residual.ensures.1) (λ ne. deep_fault c.args.at.left f c.in_err-inside-in-Group.field-0.0 c.args.at.place err.0
-    (inl (group_shape f (sym c.shape_of.ensures ∙ c.in-Group.is))) err.1)
+    rw (err_is c.from_residual.ensures.1) (λ ne. deep_fault _ f _ _ err.0 (inl (group_shape f (sym c.shape_of.ensures ∙ c.in-Group.is))) err.1)
 
 pub read_section-read_stream-requires : goal.read_section-read_stream-requires
 read_section-read_stream-requires t c =
@@ -304,8 +282,7 @@ read_section-returns-in_ok-inside-in-Group t c =
     let inside = c.in_ok-inside-in-Group.inside in
     let ok = c.in_ok-inside-in-Group.ensures.ok in
     let is = sym c.shape_of.ensures ∙ c.in-Group.is in
-    MatchResult-weaker c.read_stream.result c.read_stream.ensures
-    (λ x read. group_read n inside.left f c.args.volumes.now.items c.read_stream.new.volumes.items ok.0 is read)
+    MatchResult-weaker c.read_stream.result c.read_stream.ensures (λ x read. group_read n inside.left f c.args.volumes.now.items _ ok.0 is read)
     (λ e bad ne. group_first n inside.left f e c.args.at.place inside.place ok.0 (group_shape f is) ok.1 ok.2 (bad ne))
 
 -- ---- a section that is opened as a volume
@@ -324,18 +301,14 @@ read_section-returns-in_err-inside-in-Volume t c =
     c.args.at.place err.0 (inr (volume_shape f (sym c.shape_of.ensures ∙ c.in-Volume.is))) err.1)
 
 pub read_section-read_at-requires : goal.read_section-read_at-requires
-read_section-read_at-requires t c =
-    let ok = c.in_ok-inside-in-Volume.ensures.ok in
-    (omega (arith, ok.0), (omega (arith, ok.1, c.requires.place), omega (arith, ok.0, ok.2, c.requires.depth)))
+read_section-read_at-requires t c = grind (arith, common_steps) steps 150000
 
 pub read_section-returns-in_err-volume-in-Volume : goal.read_section-returns-in_err-volume-in-Volume
 read_section-returns-in_err-volume-in-Volume t c =
     let ok = c.in_ok-inside-in-Volume.ensures.ok in
     let f : FrameForm = framed.frame_form c.args.frame.now in
-    rw (err_is c.from_residual-in_err-volume-in-Volume.ensures.1) (λ ne.
-    nested_first c.args.at.left c.in_ok-inside-in-Volume.inside.left f c.in_err-volume-in-Volume.field-0.0 c.args.at.place
-    c.in_ok-inside-in-Volume.inside.place ok.0 (volume_shape f (sym c.shape_of.ensures ∙ c.in-Volume.is)) ok.1 ok.2
-    (c.in_err-volume-in-Volume.ensures.read ne))
+    rw (err_is c.from_residual-in_err-volume-in-Volume.ensures.1) (λ ne. nested_first c.args.at.left _ f c.in_err-volume-in-Volume.field-0.0
+    c.args.at.place _ ok.0 (volume_shape f (sym c.shape_of.ensures ∙ c.in-Volume.is)) ok.1 ok.2 (c.in_err-volume-in-Volume.ensures.read ne))
 
 pub read_section-returns-in_err-push-in-Volume : goal.read_section-returns-in_err-push-in-Volume
 read_section-returns-in_err-push-in-Volume t c = rw (err_is c.from_residual-in_err-push-in-Volume.ensures.1) (λ ne. absurd (ne refl))
@@ -354,5 +327,4 @@ read_section-returns-in_ok-push-in-Volume t c =
 -- ---- a leaf
 
 pub read_section-returns-in-Leaf : goal.read_section-returns-in-Leaf
-read_section-returns-in-Leaf t c =
-    leaf_read c.args.at.left (framed.frame_form c.args.frame.now) c.args.volumes.now.items (sym c.shape_of.ensures ∙ c.in-Leaf.is)
+read_section-returns-in-Leaf t c = leaf_read c.args.at.left _ c.args.volumes.now.items (sym c.shape_of.ensures ∙ c.in-Leaf.is)

@@ -1,3 +1,5 @@
+use Rattle.std.proofs.Common.{arith}
+use Rattle.std.proofs.lemmas.Grind.{common_steps}
 use Rattle.std.proofs.lemmas.Result.{MatchResult-weaker}
 use Rattle.fv_base.specs.Words.{First, depth_limit}
 use Rattle.fv_tree.specs.Words.{outermost}
@@ -19,8 +21,7 @@ pub returns-clause-one : goal.returns-clause-one
 returns-clause-one c = one_answer c.args.bytes.now c.read_at.result c.read_at.ensures.read c.read_at.ensures.length
 
 pub returns-clause-holds : goal.returns-clause-holds
-returns-clause-holds c =
-    MatchResult-weaker c.read_at.result c.read_at.ensures.read (λ _ _. tt) (λ e first ne. fault_stands c.args.bytes.now e (first ne))
+returns-clause-holds c = MatchResult-weaker c.read_at.result c.read_at.ensures.read (λ _ _. tt) (λ e first ne. fault_stands _ e (first ne))
 
 pub returns-clause-bound : goal.returns-clause-bound
 returns-clause-bound c =
@@ -28,3 +29,6 @@ returns-clause-bound c =
 
 pub returns-clause-sound : goal.returns-clause-sound
 returns-clause-sound c = sound_answer c.args.bytes.now c.read_at.result c.read_at.ensures.read c.read_at.ensures.length
+
+pub returns-clause-found : goal.returns-clause-found
+returns-clause-found c = grind (arith, common_steps)

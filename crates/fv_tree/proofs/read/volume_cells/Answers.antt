@@ -5,9 +5,7 @@ use Rattle.fv_tree.proofs.VolumeCellLaws.{bad_cell, bad_header}
 use Rattle.fv_tree.proofs.read.volume_cells.Goals as goal
 
 pub returns-in_err-extent-clause-err : goal.returns-in_err-extent-clause-err
-returns-in_err-extent-clause-err c =
-    rw (err_is c.from_residual.ensures.1)
-    (λ other. bad_header c.args.bytes.now c.in_err-extent.field-0.0 c.in_err-extent.ensures.first)
+returns-in_err-extent-clause-err c = rw (err_is c.from_residual.ensures.1) (λ other. bad_header c.args.bytes.now _ c.in_err-extent.ensures.first)
 
 pub returns-in_err-extent-clause-memory : goal.returns-in_err-extent-clause-memory
 returns-in_err-extent-clause-memory c =

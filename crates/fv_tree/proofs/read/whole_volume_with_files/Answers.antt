@@ -17,9 +17,7 @@ returns-in_err-view-clause-holds c =
     (λ other. inl (fault_stands c.args.input.now _ (c.in_err-view.ensures.read other)))
 
 pub returns-in_err-view-clause-kind : goal.returns-in_err-view-clause-kind
-returns-in_err-view-clause-kind c =
-    rw (err_is c.from_residual.ensures.1)
-    (stood_kind c.args.input.now c.in_err-view.field-0.0 (λ ne. fault_stands c.args.input.now _ (c.in_err-view.ensures.read ne)))
+returns-in_err-view-clause-kind c = rw (err_is c.from_residual.ensures.1) (stood_kind _ _ (λ ne. fault_stands _ _ (c.in_err-view.ensures.read ne)))
 
 pub returns-in_err-view-clause-memory : goal.returns-in_err-view-clause-memory
 returns-in_err-view-clause-memory c = rw (err_is c.from_residual.ensures.1) c.in_err-view.ensures.memory
@@ -54,8 +52,7 @@ returns-in_err-check-clause-memory c =
 pub returns-clause-found : goal.returns-clause-found
 returns-clause-found c =
     let small : IsBytes c.args.input.now = search rules in
-    end_found c.args.input.now c.in_ok-view.view c.in_ok-view.length
-    (bytes_take c.in_ok-view.length c.args.input.now small, c.in_ok-view.ensures.read) c.in_ok-check.ensures.ok
+    end_found c.args.input.now c.in_ok-view.view _ (bytes_take _ c.args.input.now small, c.in_ok-view.ensures.read) c.in_ok-check.ensures.ok
 
 pub returns-clause-only : goal.returns-clause-only
 returns-clause-only c =

@@ -1,5 +1,4 @@
-use Rattle.std.proofs.Common.{length, map, arith, ap, subst, inl, inr, rules}
-use Rattle.fv_base.specs.Words.{IsBytes}
+use Rattle.std.proofs.Common.{length, map, arith, ap, subst, inl, inr}
 use Rattle.fv_names.specs.Words.{entries_of}
 use Rattle.fv_tree.specs.Words.{AreCurrent, NamesFault, file_form}
 use Rattle.std.proofs.lemmas.List.{length-drop, length-map}
@@ -8,7 +7,7 @@ use Rattle.fv_head.specs.declared.extent.Extent.{Extent}
 use Rattle.fv_tree.proofs.FileCountLaws.{files_few}
 use Rattle.fv_tree.proofs.BodyLaws.{cells_inside, files_stored}
 use Rattle.fv_tree.proofs.FaultPlaceLaws.{stopped_within}
-use Rattle.fv_base.proofs.Laws.{First, err_is}
+use Rattle.fv_base.proofs.Laws.{First, err_is, common_steps}
 use Rattle.fv_tree.proofs.stored_files.files_in_body.Goals as goal
 
 pub fault_within-requires : goal.fault_within-requires
@@ -33,8 +32,7 @@ current_files-requires c =
 pub fault_within-requires-in-Err-current_files : goal.fault_within-requires-in-Err-current_files
 fault_within-requires-in-Err-current_files c =
     let (cs, tiles, files) = c.in-Ok.ensures.found in
-    let low = stopped_within c.args.extent c.args.volume.now c.requires.first_within c.in-Err-current_files.fault (λ ne.
-    inr (
+    let low = stopped_within c.args.extent c.args.volume.now c.requires.first_within c.in-Err-current_files.fault (λ ne. inr (
       cs,
       tiles,
       subst (λ fs. NamesFault First c.args.extent.length fs c.in-Err-current_files.fault) files
@@ -43,13 +41,7 @@ fault_within-requires-in-Err-current_files c =
     omega (arith, low, c.requires.place)
 
 pub returns-clause-stored : goal.returns-clause-stored
-returns-clause-stored c =
-    let e : Extent = c.args.extent in
-    let (cs, tiles, files) = c.in-Ok.ensures.found in
-    let small : IsBytes c.args.volume.now = search rules in
-    files_stored e c.args.volume.now c.args.place.offset cs _ small c.requires.small c.requires.place tiles
-    (cells_inside e c.args.volume.now cs c.requires.first_within tiles)
-    (subst (λ fs. AreCurrent e.length fs (map (file_form c.args.volume.now) c.in-Ok-current_files.read.0.items)) files (c.in-Ok-current_files.ensures.found c.args.volume.now))
+returns-clause-stored c = grind (arith, common_steps, files_stored, cells_inside) steps 150000
 
 pub returns-clause-read : goal.returns-clause-read
 returns-clause-read c =

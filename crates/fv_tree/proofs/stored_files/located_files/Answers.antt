@@ -28,8 +28,7 @@ pub returns-clause-data : goal.returns-clause-data
 returns-clause-data c = begun_data c.args.bytes.now (map (file_form c.args.bytes.now) c.in_ok-files.files.items) (returns-clause-found c)
 
 pub returns-clause-only : goal.returns-clause-only
-returns-clause-only c = λ gs begins.
-    one_files c.args.bytes.now (map (file_form c.args.bytes.now) c.in_ok-files.files.items) gs (returns-clause-found c) begins
+returns-clause-only c = λ gs begins. one_files c.args.bytes.now _ gs (returns-clause-found c) begins
 
 pub returns-in_err-extent-clause-memory : goal.returns-in_err-extent-clause-memory
 returns-in_err-extent-clause-memory c =

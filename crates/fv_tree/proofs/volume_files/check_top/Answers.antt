@@ -11,10 +11,8 @@ returns-in_err-check-clause-first c = rw (err_is c.from_residual.ensures.1) (λ 
     let i : ℕ = c.loop-file.file-index in
     let all : List FileForm = map (file_form b) c.args.files.now in
     let f : FileForm = file_form b (get_or c.args.files.now i no_file) in
-    let bad = misplaced (is_top f) (c.loop-file.left - 1 == 0) (end_of f == c.args.length) (sym c.is_placed.ensures
-    ∙ c.in_err-check.ensures.err.0) in
-    let off : drop (i + 1) all ≡ [] → end_of f ≡ c.args.length → ⊥ = λ none ends.
-    bad.1 ((Decides-eqb (c.loop-file.left - 1) 0).1 (omega
+    let bad = misplaced (is_top f) (c.loop-file.left - 1 == 0) (end_of f == c.args.length) (sym c.is_placed.ensures ∙ c.in_err-check.ensures.err.0) in
+    let off : drop (i + 1) all ≡ [] → end_of f ≡ c.args.length → ⊥ = λ none ends. bad.1 ((Decides-eqb (c.loop-file.left - 1) 0).1 (omega
     (arith, ap length none, length-drop (i + 1) all, length-map c.args.files.now (file_form b), c.loop-file.invariant.count, c.loop-file-test.true)))
     ((Decides-eqb (end_of f) c.args.length).1 ends) in (
       f,

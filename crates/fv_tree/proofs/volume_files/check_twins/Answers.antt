@@ -1,9 +1,7 @@
-use Rattle.std.proofs.Common.{◌+◌, ◌<◌, ℕ, ◌∙◌, ap, get_or, length, List, map, take, drop, subst, arith, take_all}
-use Rattle.fv_base.proofs.Laws.{length-map, outer_fault, seam_items}
-use Rattle.fv_names.specs.Words.{NoTwins}
+use Rattle.std.proofs.Common.{◌+◌, ◌<◌, ℕ, ◌∙◌, ap, get_or, length, List, map, take, drop, arith}
+use Rattle.fv_base.proofs.Laws.{length-map, outer_fault, seam_items, common_steps}
 use Rattle.fv_names.proofs.Laws.{no_named}
 use Rattle.fv_tree.specs.Words.{file_form, FileForm}
-use Rattle.fv_tree.specs.inner.NameForms.{named_file}
 use Rattle.fv_tree.proofs.NamedLaws.{front_twins, no_file, twin_after}
 use Rattle.fv_base.specs.declared.fault.FaultKind.TheVariants as kinds
 use Rattle.fv_tree.proofs.volume_files.check_twins.Goals as goal
@@ -25,7 +23,4 @@ returns-then-first-files-clause-first c = λ b.
     )
 
 pub returns-clause-found : goal.returns-clause-found
-returns-clause-found c =
-    let n : ℕ = c.first_twin-first.result in
-    subst NoTwins (take_all n (map named_file c.args.files.now) (omega
-    (arith, c.if-first-files.false, length-map c.args.files.now named_file))) c.first_twin-first.ensures.none
+returns-clause-found c = grind (arith, common_steps, length-map) steps 150000

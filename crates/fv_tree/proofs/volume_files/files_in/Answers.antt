@@ -1,3 +1,4 @@
+use Rattle.std.proofs.lemmas.Grind.{common_steps}
 use Rattle.std.proofs.Common.{◌≡◌, ◌∙◌, sym, ap, [], ◌∷◌, ◌++◌, append-nil, arith, length-drop, map, refl, rules}
 use Rattle.std.proofs.lemmas.List.{map_push}
 use Rattle.fv_base.specs.Words.{IsBytes}
@@ -41,10 +42,9 @@ loop-files-preserved c =
     let items : c.push.new.self.items ≡ c.loop-files.files.items ++ c.in-Some-file_of.file ∷ [] = search rules in (
       cs ++ cell ∷ [],
       walked_on _ _ _ _ _ walked step,
-      ap (map bare_form) items ∙ map_push bare_form c.loop-files.files.items c.in-Some-file_of.file
-          ∙ ap (λ l. l ++ bare_form c.in-Some-file_of.file ∷ []) are
-          ∙ ap (λ l. map bare (files_in cs) ++ l) (sym c.in-Some-file_of.ensures.some)
-          ∙ sym (ap (map bare) (files_in_more cs cell) ∙ map-append bare (files_in cs) (files_in (cell ∷ []))),
+      ap (map bare_form) items ∙ map_push bare_form c.loop-files.files.items c.in-Some-file_of.file ∙ ap
+          (λ l. l ++ bare_form c.in-Some-file_of.file ∷ []) are ∙ ap (λ l. map bare (files_in cs) ++ l) (sym c.in-Some-file_of.ensures.some) ∙ sym
+          (ap (map bare) (files_in_more cs cell) ∙ map-append bare (files_in cs) (files_in (cell ∷ []))),
     )
 
 pub returns-in_err-cell-clause-first : goal.returns-in_err-cell-clause-first
@@ -62,11 +62,15 @@ returns-clause-found c =
     let none : c.loop-files.walk.rest ≡ [] = search rules in
     let tiles = walk_ends _ _ _ walked none in
     let rest : IsBytes (drop e.first volume) = bytes_drop e.first volume bytes in
-    let stored = stored_in e.file_system e.polarity e.first 0 (length volume) cs (drop e.first volume) rest
-    (omega (arith, length-drop e.first volume, c.requires.small)) (omega (arith, c.requires.small)) tiles
-    (cells_inside e volume cs c.requires.within tiles) in (
+    let stored = stored_in e.file_system e.polarity e.first 0 (length volume) cs _ rest (omega (arith, length-drop e.first volume, c.requires.small))
+    (omega (arith, c.requires.small)) tiles (cells_inside e volume cs c.requires.within tiles) in (
       cs,
       tiles,
-      sym (map-map (filled volume) bare_form c.loop-files.files.items) ∙ ap (map (filled volume)) are
-          ∙ all_back volume 0 cs (body_payloads e.file_system e.polarity e.first cs volume tiles) stored,
+      sym (map-map (filled _) bare_form c.loop-files.files.items) ∙ ap (map (filled _)) are ∙ all_back _ 0 cs (body_payloads _ _ _ cs _ tiles) stored,
     )
+
+pub loop-files-smaller : goal.loop-files-smaller
+loop-files-smaller c = grind (arith, common_steps)
+
+pub loop-files-smaller-in_default-file_of : goal.loop-files-smaller-in_default-file_of
+loop-files-smaller-in_default-file_of c = grind (arith, common_steps)

@@ -16,5 +16,4 @@ returns c = λ b.
     ap (map (file_form b)) (retained _ test _ files (λ s kept f' (n, l, is) k.
     let member : Contains all (named_file s) =
     (n, omega (arith, l, length-map files named_file), get_or-map named_file files n s (named_file s) l ∙ ap named_file is) in
-    search (rules, member, c.requires.index, c.requires.no_twins)) _ c.retain.ensures.filtered)
-    ∙ kept_current b files
+    search (rules, member, c.requires.index, c.requires.no_twins)) _ c.retain.ensures.filtered) ∙ kept_current b files

@@ -20,12 +20,10 @@ loop-next-preserved c = λ e p above l same.
       | inl lt ↦ c.loop-next.invariant e p above lt same
       | inr ge ↦
           let here : p ≡ i = omega (arith, ge, l) in
-          let before : a.0 ≡ (get_or es (p - 1) e).0 =
-          ap (λ (x : Entry). x.0) (c.index.ensures ∙ get_or_default es (i - 1) a e (omega arith))
-          ∙ ap (λ (n : ℕ). (get_or es (n - 1) e).0) (sym here) in
-          let after : b.0 ≡ (get_or es p e).0 =
-          ap (λ (x : Entry). x.0) (c.index-in-loop-next.ensures ∙ get_or_default es i b e (omega arith))
-          ∙ ap (λ (n : ℕ). (get_or es n e).0) (sym here) in
+          let before : a.0 ≡ (get_or es (p - 1) e).0 = ap (λ (x : Entry). x.0) (c.index.ensures ∙ get_or_default es (i - 1) a e (omega arith)) ∙ ap
+          (λ (n : ℕ). (get_or es (n - 1) e).0) (sym here) in
+          let after : b.0 ≡ (get_or es p e).0 = ap (λ (x : Entry). x.0) (c.index-in-loop-next.ensures ∙ get_or_default es i b e (omega arith)) ∙ ap
+          (λ (n : ℕ). (get_or es n e).0) (sym here) in
           not_from_Decides ((a.0.0 == b.0.0) && (a.0.1 == b.0.1)) (halves_decide a.0 b.0) (sym c.if-eq.ensures) (before ∙ same ∙ sym after)
     ] in
     go (cases_lt p i)
@@ -39,6 +37,5 @@ returns-then-eq-clause-all c = λ apart.
     let i : ℕ = c.loop-next.next in
     let a : Entry = c.index.result.now in
     let b : Entry = c.index-in-loop-next.result.now in
-    absurd (apart a i (omega arith) (omega arith) (ap (λ (x : Entry). x.0) (sym c.index.ensures)
-    ∙ (halves_decide a.0 b.0).0 (sym c.if-eq.ensures)
+    absurd (apart a i (omega arith) (omega arith) (ap (λ (x : Entry). x.0) (sym c.index.ensures) ∙ (halves_decide a.0 b.0).0 (sym c.if-eq.ensures)
     ∙ ap (λ (x : Entry). x.0) (c.index-in-loop-next.ensures ∙ get_or_default es i b a (omega arith))))

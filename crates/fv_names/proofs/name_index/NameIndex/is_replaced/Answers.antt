@@ -11,9 +11,7 @@ returns-then-is_marked g c = λ fs index none has.
     let es : List Entry = entries_of c.args.self.now in
     update_shares fs es index no_named no_entry none _ c.is_shared.result has (sym c.is_marked.ensures ∙ c.if-is_marked.true)
     (λ on. subst (λ (n : Guid). IsShared es no_entry (halves_of n)) c.name.ensures (c.is_shared.ensures.yes index.ordered on no_entry))
-    (λ shared. c.is_shared.ensures.all index.ordered no_entry
-    (subst (λ (n : Guid). IsShared es no_entry (halves_of n)) (sym c.name.ensures) shared))
+    (λ shared. c.is_shared.ensures.all index.ordered no_entry (subst (λ (n : Guid). IsShared es no_entry (halves_of n)) (sym c.name.ensures) shared))
 
 pub returns-else-is_marked : goal.returns-else-is_marked
-returns-else-is_marked g c = λ fs index none has.
-    c.if-is_marked.false ∙ sym (unmarked_kept (g.F.Named.named c.args.file.now) fs (sym c.is_marked.ensures ∙ c.if-is_marked.false))
+returns-else-is_marked g c = λ fs index none has. c.if-is_marked.false ∙ sym (unmarked_kept _ fs (sym c.is_marked.ensures ∙ c.if-is_marked.false))

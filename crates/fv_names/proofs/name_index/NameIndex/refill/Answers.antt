@@ -1,5 +1,5 @@
 use Rattle.std.proofs.Common.{◌≡◌, ◌<◌, ℕ, ◌+◌, [], ◌∷◌, ◌++◌, get_or, length, List, map, take, sym, ap, ◌∙◌, subst, arith, length-take-le, take_all}
-use Rattle.fv_base.proofs.Laws.{All, AllWithin, get_or-map, length-map, take_more, All-map, recursion_from_All}
+use Rattle.fv_base.proofs.Laws.{All, AllWithin, get_or-map, length-map, take_more, All-map, recursion_from_All, common_steps}
 use Rattle.std.specs.List.Sorted.{IsPermutation}
 use Rattle.std.proofs.lemmas.List.Elements.{All-from_all_within, AllWithin-more, AllWithin-none}
 use Rattle.fv_base.specs.declared.guid.Guid.{Guid}
@@ -21,17 +21,12 @@ entry_more fs i l =
     let name : NamedFile → Guid = λ f. f.name in
     let entries : List Entry = numbered 0 (names_in fs) in
     let number : 0 + i ≡ i = omega arith in
-    take_more entries i no_entry (omega (arith, l, entry_count fs))
-    ∙ ap (λ (e : Entry). take i entries ++ e ∷ [])
-    (numbered_at 0 (names_in fs) i no_named.name no_entry (omega (arith, l, length-map fs name))
-    ∙ ap (λ (g : Guid). (halves_of g, 0 + i)) (get_or-map name fs i no_named no_named.name l)
-    ∙ ap (λ (n : ℕ). (halves_of (get_or fs i no_named).name, n)) number)
+    take_more entries i no_entry (omega (arith, l, entry_count fs)) ∙ ap (λ (e : Entry). take i entries ++ e ∷ []) (numbered_at 0 (names_in fs) i
+    no_named.name no_entry (omega (arith, l, length-map fs name)) ∙ ap (λ (g : Guid). (halves_of g, 0 + i))
+    (get_or-map name fs i no_named no_named.name l) ∙ ap (λ (n : ℕ). (halves_of (get_or fs i no_named).name, n)) number)
 
 pub loop-file-init : goal.loop-file-init
-loop-file-init g c = record {
-  items = c.clear.ensures.items;
-  whole = AllWithin-none HasName (map g.F.Named.named c.args.files.now) 0;
-}
+loop-file-init g c = grind (arith, common_steps, AllWithin-none) steps 150000
 
 pub loop-file-preserved : goal.loop-file-preserved
 loop-file-preserved g c =
@@ -42,9 +37,8 @@ loop-file-preserved g c =
     let count : length old ≡ i =
     ap length c.loop-file.invariant.items ∙ length-take-le i (numbered 0 (names_in files)) (omega (arith, l, entry_count files)) in
     let number : c.len-number.result ≡ i = omega (arith, count, c.len-number.ensures) in
-    let here : (d : NamedFile) → c.name.result ≡ (get_or files i d).name = λ d.
-    c.name.ensures ∙ ap (λ (f : NamedFile). f.name) (ap g.F.Named.named c.file-item.is
-    ∙ sym (get_or-map g.F.Named.named c.args.files.now i _ d c.loop-file-test.true)) in
+    let here : (d : NamedFile) → c.name.result ≡ (get_or files i d).name = λ d. c.name.ensures ∙ ap (λ (f : NamedFile). f.name)
+    (ap g.F.Named.named c.file-item.is ∙ sym (get_or-map g.F.Named.named c.args.files.now i _ d c.loop-file-test.true)) in
     record {
       items = c.in_ok-push.ensures.items ∙ ap (λ (es : List Entry). es ++ (c.halves.result, c.len-number.result) ∷ []) c.loop-file.invariant.items
           ∙ ap (λ (n : ℕ). take i (numbered 0 (names_in files)) ++ (c.halves.result, n) ∷ []) number
@@ -60,10 +54,12 @@ returns-clause-found g c =
     let i : ℕ = c.loop-file.file-index in
     let all : i ≡ length files = omega (arith, length-map c.args.files.now g.F.Named.named) in
     let whole : All HasName files = All-from_all_within HasName files (subst (AllWithin HasName files 0) all c.loop-file.invariant.whole) in
-    let items : c.loop-file.self.sorted.items ≡ entries =
-    c.loop-file.invariant.items ∙ take_all i entries (omega (arith, all, entry_count files)) in
+    let items : c.loop-file.self.sorted.items ≡ entries = c.loop-file.invariant.items ∙ take_all i entries (omega (arith, all, entry_count files)) in
     record {
       ordered = c.sort_unstable.ensures.sorted;
       all = subst (λ es. IsPermutation es c.sort_unstable.new.self.items) items c.sort_unstable.ensures.permutation;
       are_names = recursion_from_All IsName (names_in files) (All-map IsName (λ (f : NamedFile). f.name) files whole);
     }
+
+pub overflow_cast-number : goal.overflow_cast-number
+overflow_cast-number c = grind (arith, common_steps)

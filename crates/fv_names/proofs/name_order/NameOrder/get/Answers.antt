@@ -1,3 +1,4 @@
+use Rattle.std.proofs.lemmas.Grind.{common_steps}
 use Rattle.std.proofs.Common.{◌≡◌, ◌<◌, ◌+◌, ◌-◌, ◌/◌, ℕ, ◌==◌, ◌&&◌, List, length, map, get_or, true, false, sym, ap, ◌∙◌, subst, arith, Some}
 use Rattle.fv_base.proofs.Laws.{is_lt, not_from_Decides, length-map}
 use Rattle.fv_base.specs.declared.guid.Guid.{Guid}
@@ -19,8 +20,7 @@ pub loop-first-preserved : goal.loop-first-preserved
 loop-first-preserved g c = λ order.
     let middle : ℕ = c.loop-first.first + (c.loop-first.end - c.loop-first.first) / 2 in
     let key : Halves = c.halves-key.result in
-    search_left (map g.F.WithName.name_of c.args.files.now) order.entries order.index key c.loop-first.first c.loop-first.end middle
-    (c.loop-first.invariant order) (omega arith) (omega arith)
+    search_left _ order.entries order.index key c.loop-first.first c.loop-first.end middle (c.loop-first.invariant order) (omega arith) (omega arith)
     (λ e. ap (λ (h : Halves). is_lt (halves_cmp h key)) (sym (c.halves_at.ensures order e)) ∙ sym c.is_before.ensures ∙ c.if-is_before.false)
 
 pub returns-then-eq : goal.returns-then-eq
@@ -61,3 +61,6 @@ returns g c =
           (w.halves_at-then-first-len.ensures order no_entry ∙ there ∙ sym is)
       | else-first-len-via-else-first-len w ↦ absurd (omega (arith, w.if-first-len.false, l, many, c.len.ensures))
     ])
+
+pub loop-first-init : goal.loop-first-init
+loop-first-init c = grind (arith, common_steps)

@@ -21,8 +21,7 @@ offset_bounds-files-number g c =
     omega (
       arith,
       length-map c.args.files.now name_of,
-      number_inside (map name_of c.args.files.now) c.args.self.now.numbers.items c.requires.order c.index-number.result.now c.args.place
-          c.requires.inside c.index-number.ensures,
+      number_inside _ c.args.self.now.numbers.items c.requires.order c.index-number.result.now c.args.place c.requires.inside c.index-number.ensures,
     )
 
 pub returns : goal.returns
@@ -30,10 +29,7 @@ returns g c = λ order e.
     let name_of = g.F.WithName.name_of in
     let names : List Guid = map name_of c.args.files.now in
     let number : ℕ = c.index-number.result.now in
-    let inside : number < length names =
-    number_inside names c.args.self.now.numbers.items order number c.args.place c.requires.inside c.index-number.ensures in
-    let name : c.name.result ≡ get_or names number no_named.name =
-    c.name.ensures ∙ ap name_of c.index-files-number.is
-    ∙ sym (get_or-map name_of c.args.files.now number _ no_named.name (omega (arith, inside, length-map c.args.files.now name_of))) in
-    c.halves.ensures.is ∙ ap halves_of name
-    ∙ halves_there names c.args.self.now.numbers.items order number c.args.place c.requires.inside c.index-number.ensures no_named.name e
+    let inside : number < length names = number_inside names _ order number c.args.place c.requires.inside c.index-number.ensures in
+    let name : c.name.result ≡ get_or names number no_named.name = c.name.ensures ∙ ap name_of c.index-files-number.is ∙ sym
+    (get_or-map name_of c.args.files.now number _ no_named.name (omega (arith, inside, length-map c.args.files.now name_of))) in
+    c.halves.ensures.is ∙ ap halves_of name ∙ halves_there names _ order number c.args.place c.requires.inside c.index-number.ensures no_named.name e

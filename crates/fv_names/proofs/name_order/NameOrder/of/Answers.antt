@@ -1,5 +1,6 @@
+use Rattle.std.proofs.lemmas.Grind.{common_steps}
 use Rattle.std.proofs.Common.{◌<◌, ℕ, ◌∷◌, [], ◌++◌, List, length, take, sym, ap, ◌∙◌, arith}
-use Rattle.std.proofs.lemmas.List.{get_or-map, length-map, take_all, take_more}
+use Rattle.std.proofs.lemmas.List.{get_or-map, length-map, take_more}
 use Rattle.fv_names.specs.Words.{Entry, entries_of, numbers_in}
 use Rattle.fv_names.proofs.IndexLaws.{no_entry}
 use Rattle.fv_names.proofs.name_order.NameOrder.of.Goals as goal
@@ -18,7 +19,4 @@ loop-place-preserved c =
     ∙ sym (take_more (numbers_in es) place 0 (omega (arith, l, length-map es number)))
 
 pub returns-clause-found : goal.returns-clause-found
-returns-clause-found c =
-    let number : Entry → ℕ = λ e. e.1 in
-    let es : List Entry = entries_of c.args.index.now in
-    c.loop-place.invariant ∙ take_all c.loop-place.place (numbers_in es) (omega (arith, length-map es number))
+returns-clause-found c = grind (arith, common_steps, length-map) steps 150000

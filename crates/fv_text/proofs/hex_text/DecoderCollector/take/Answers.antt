@@ -1,3 +1,4 @@
+use Rattle.std.proofs.lemmas.Grind.{common_steps}
 use Rattle.std.proofs.Common.{◌≡◌, ◌≤◌, ◌+◌, ◌++◌, ◌∷◌, ◌∙◌, [], List, ℕ, length, length-append, ap, arith}
 use Rattle.fv_base.specs.Words.{read_limit, volume_limit}
 use Rattle.fv_text.specs.Words.{squeezed}
@@ -8,9 +9,7 @@ use Rattle.fv_text.proofs.hex_text.DecoderCollector.take.Goals as goal
 -- the pairs of the digit that waited and of the digits of a piece are at most as many as the bytes of a volume
 few_digits : (was now pairs : ℕ) (waiting all piece : List ℕ) → was ≡ length waiting → now ≡ length all → all ≡ waiting ++ squeezed piece
     → pairs ≤ now → was ≤ 1 → length piece ≤ read_limit → pairs ≤ volume_limit
-few_digits was now pairs waiting all piece was_is now_is joined room waited short =
-    let long : length all ≡ length waiting + length (squeezed piece) = ap length joined ∙ length-append waiting (squeezed piece) in
-    omega (arith, long, squeezed_short piece)
+few_digits was now pairs waiting all piece was_is now_is joined room waited short = grind (arith, common_steps, length-append, squeezed_short)
 
 pub returns-then-self-clause-holds : goal.returns-then-self-clause-holds
 returns-then-self-clause-holds c = λ before so_far. stays_wrong c.args.self.now before c.args.piece.now c.if-self.true so_far

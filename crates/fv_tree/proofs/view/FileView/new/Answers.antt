@@ -6,8 +6,7 @@ use Rattle.fv_tree.proofs.view.FileView.new.Goals as goal
 pub invariant_of-result : goal.invariant_of-result
 invariant_of-result c =
     let file = c.args.file.now in
-    let kept : IsKeptFile c.args.left c.args.payload.now c.args.volumes.items file.name file.kind (attribute_bits c.without_large.result) =
-    record {
+    let kept : IsKeptFile c.args.left c.args.payload.now c.args.volumes.items file.name file.kind (attribute_bits c.without_large.result) = record {
       few = c.requires.few;
       form = with_data c.args.payload.now (bare_form file);
       stored = c.requires.stored;

@@ -1,9 +1,7 @@
-use Rattle.std.proofs.Common.{◌<◌, ◌^◌, ℕ, List, length, subst}
-use Rattle.fv_tree.specs.Words.{SectionMeaning}
+use Rattle.std.proofs.lemmas.Grind.{common_steps}
+use Rattle.std.proofs.Common.{arith}
 use Rattle.fv_tree.proofs.WalkedSectionLaws.{few_sections}
 use Rattle.fv_tree.proofs.view.Sections.known.Goals as goal
 
 pub returns : goal.returns
-returns c =
-    subst (λ (s : List SectionMeaning × ℕ). length s.0 < 2 ^ 63) c.self.view_is
-    (few_sections c.self.inside.left c.self.inside.rest.now c.self.inside.volumes.now c.self.invariant)
+returns c = grind (arith, common_steps, few_sections) steps 150000

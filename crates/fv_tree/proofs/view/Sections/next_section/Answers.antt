@@ -1,3 +1,4 @@
+use Rattle.std.proofs.lemmas.Grind.{common_steps}
 use Rattle.std.proofs.Common.{◌≡◌, ◌∙◌, ◌≤◌, List, length, sym, ap, subst, arith}
 use Rattle.fv_section.specs.Words.{FrameForm, frame_in}
 use Rattle.fv_tree.specs.Words.{Meaning, SectionMeaning, section_by, IsKept}
@@ -15,13 +16,7 @@ invariant_of-result c =
     (first_kept c.self.inside.left c.self.inside.rest.now c.self.inside.volumes.now (omega arith) c.self.invariant)
 
 pub invariant_of-self : goal.invariant_of-self
-invariant_of-self c =
-    let least : 4 ≤ length c.self.inside.rest.now = omega arith in
-    let taken : c.volumes_after-self-inside.result.now ≡ (section_by c.self.inside.left (frame_in 0 c.self.inside.rest.now) c.self.inside.volumes.now).1 =
-    c.volumes_after-self-inside.ensures
-    ∙ ap (λ (f : FrameForm). (section_by c.self.inside.left f c.self.inside.volumes.now).1) c.split_frame.ensures.frame in
-    rw (c.split_frame.ensures.after, taken)
-    (rest_kept c.self.inside.left c.self.inside.rest.now c.self.inside.volumes.now least c.self.invariant)
+invariant_of-self c = grind (arith, common_steps, rest_kept) steps 150000
 
 pub returns-clause-some : goal.returns-clause-some
 returns-clause-some c =
@@ -33,7 +28,4 @@ returns-clause-some c =
     (ap (λ (r : List SectionMeaning × List Meaning). r.0) (each_first c.self.inside.left c.self.inside.rest.now c.self.inside.volumes.now least))
 
 pub returns-clause-tail : goal.returns-clause-tail
-returns-clause-tail c =
-    let least : 4 ≤ length c.self.inside.rest.now = omega arith in
-    rw (← c.self.view_is, c.split_frame.ensures.after)
-    (sym (tail_after c.self.inside.left c.self.inside.rest.now c.self.inside.volumes.now least))
+returns-clause-tail c = grind (arith, common_steps, tail_after) steps 150000

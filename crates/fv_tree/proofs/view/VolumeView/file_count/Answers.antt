@@ -1,3 +1,4 @@
+use Rattle.std.proofs.lemmas.Grind.{common_steps}
 use Rattle.std.proofs.Common.{length, ap, arith}
 use Rattle.fv_tree.specs.Words.{Volume, files_from}
 use Rattle.fv_tree.proofs.FileCountLaws.{few_of}
@@ -10,13 +11,10 @@ overflow_cast-result c =
     omega (
       arith,
       few_of (Volume c.self.inside.head (files_from files.items)) c.self.invariant.0,
-      ap length
-          (files_list_back files.items),
+      ap length (files_list_back files.items),
       c.len.ensures,
       files.ok.0,
     )
 
 pub returns : goal.returns
-returns c =
-    let files = c.self.inside.files in
-    rw (← c.self.view_is, files_list_back files.items) (omega (arith, c.len.ensures, files.ok.0))
+returns c = grind (arith, common_steps, files_list_back) steps 150000

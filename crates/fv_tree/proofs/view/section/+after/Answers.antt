@@ -1,3 +1,4 @@
+use Rattle.std.proofs.lemmas.Grind.{common_steps}
 use Rattle.std.proofs.Common.{◌≡◌, ◌∙◌, ◌-◌, ◌≤◌, ◌∷◌, List, length, take, drop, sym, ap, subst, arith}
 use Rattle.std.proofs.lemmas.Bool.{eqb-true}
 use Rattle.std.proofs.lemmas.List.{take_all}
@@ -7,8 +8,7 @@ use Rattle.fv_tree.proofs.WalkedSectionLaws.{none_after, group_kept, group_view,
 use Rattle.fv_tree.proofs.view.section.+after.Goals as goal
 
 pub after_section-returns-then-is_empty : goal.after_section-returns-then-is_empty
-after_section-returns-then-is_empty t c =
-    none_after c.args.left (frame_form c.args.frame.now) c.args.volumes.now (eqb-true _ _ (sym c.is_empty.ensures ∙ c.if-is_empty.true))
+after_section-returns-then-is_empty t c = none_after c.args.left _ c.args.volumes.now (eqb-true _ _ (sym c.is_empty.ensures ∙ c.if-is_empty.true))
 
 pub after_section-after_stream-requires : goal.after_section-after_stream-requires
 after_section-after_stream-requires t c =
@@ -19,8 +19,7 @@ pub after_section-returns-in-Group : goal.after_section-returns-in-Group
 after_section-returns-in-Group t c =
     let is = sym c.shape_of.ensures ∙ c.in-Group.is in
     let group = group_kept c.args.left (frame_form c.args.frame.now) c.args.volumes.now is c.requires in
-    c.after_stream.ensures
-    ∙ sym (ap (λ (r : SectionMeaning × List Meaning). r.1) (group_view c.args.left (frame_form c.args.frame.now) c.args.volumes.now is group.0))
+    c.after_stream.ensures ∙ sym (ap (λ (r : SectionMeaning × List Meaning). r.1) (group_view c.args.left _ c.args.volumes.now is group.0))
 
 pub after_section-returns-in-Volume : goal.after_section-returns-in-Volume
 after_section-returns-in-Volume t c =
@@ -32,8 +31,7 @@ pub after_stream-after_section-rest-requires : goal.after_stream-after_section-r
 after_stream-after_section-rest-requires t c = (
   omega arith,
   subst (λ (f : FrameForm). IsKept c.args.left f c.loop-bytes.rest.now) (sym c.split_frame.ensures.frame)
-      (first_kept c.args.left c.loop-bytes.bytes.now c.loop-bytes.rest.now (omega (arith, c.loop-bytes-test.true))
-      c.loop-bytes.invariant.kept),
+      (first_kept c.args.left c.loop-bytes.bytes.now c.loop-bytes.rest.now (omega (arith, c.loop-bytes-test.true)) c.loop-bytes.invariant.kept),
 )
 
 pub after_stream-loop-bytes-preserved : goal.after_stream-loop-bytes-preserved
@@ -43,11 +41,8 @@ after_stream-loop-bytes-preserved t c =
     c.after_section-rest.ensures ∙ ap (λ (f : FrameForm). (section_by c.args.left f c.loop-bytes.rest.now).1) c.split_frame.ensures.frame in
     rw (c.split_frame.ensures.after, taken) (record {
       kept = rest_kept c.args.left c.loop-bytes.bytes.now c.loop-bytes.rest.now least c.loop-bytes.invariant.kept;
-      same = c.loop-bytes.invariant.same
-          ∙ ap (λ (r : List SectionMeaning × List Meaning). r.1) (each_first c.args.left c.loop-bytes.bytes.now c.loop-bytes.rest.now least);
+      same = c.loop-bytes.invariant.same ∙ ap (λ (r : List SectionMeaning × List Meaning). r.1) (each_first c.args.left _ _ least);
     })
 
 pub after_stream-returns : goal.after_stream-returns
-after_stream-returns t c =
-    sym (c.loop-bytes.invariant.same ∙ ap (λ (r : List SectionMeaning × List Meaning). r.1)
-    (no_sections (section_by c.args.left) c.loop-bytes.bytes.now c.loop-bytes.rest.now (omega (arith, c.loop-bytes-test.false))).0)
+after_stream-returns t c = grind (arith, common_steps, no_sections) steps 150000
