@@ -12,8 +12,8 @@ use Rattle.clap.specs.Simple.{built, names_of}
 use Rattle.clap.specs.Walk.{Text, first_of, one_of, rows_after}
 use Rattle.clap.specs.Words.{App, HasMatchesOf, fault_of, is_simple_and_free}
 use Rattle.clap.specs.declared.parser.matches.ArgMatches.{ArgMatches}
-use Rattle.fv_arguments.specs.Words.{app_named, compare_app, extract_app, faults_in, flag_in, hobs_app, list_app, image_app, one_input_app, text_in, volume_app}
-use Rattle.fv_arguments.specs.inner.CommandWords.{IsRead}
+use Rattle.fv_arguments.specs.Words.{compare_app, extract_app, faults_in, flag_in, hobs_app, list_app, image_app, one_input_app, text_in, volume_app}
+use Rattle.fv_arguments.specs.inner.CommandWords.{IsRead, app_named}
 
 -- the test for equal texts is false of two texts that differ
 differ : (a b : Text) → a ≢ b → bytes_eq a b ≡ false

@@ -14,13 +14,36 @@ use Rattle.fv_plan.specs.declared.plan.Part.{Part}
 use Rattle.fv_plan.specs.declared.plan.VolumeFile.{VolumeFile}
 use Rattle.fv_plan.specs.declared.plan.Command.TheVariants.{Single, Hobs, Compare}
 use Rattle.fv_plan.specs.declared.plan.Task.TheVariants.{Normalise, NormaliseAll, List as Listing, ListSums, Extract, Check, CheckAll, Cells, Unfix}
+use Rattle.fv_plan.specs.declared.plan.Task.TheVariants.{Scan}
 use Rattle.fv_arguments.proofs.ArgumentReadLemmas.{by_name, faults_read}
-use Rattle.fv_arguments.specs.Words.{app_named, compare_app, extract_app, flag_in, hobs_app, image_app, text_in, HasInput, HasTexts, IsAtWord}
-use Rattle.fv_arguments.specs.Words.{IsImageWords, IsPartBy, IsVolumeWords, command_name}
+use Rattle.fv_arguments.specs.Words.{compare_app, extract_app, faults_in, flag_in, hobs_app, image_app, text_in, HasInput, HasTexts, IsAtWord}
+use Rattle.fv_arguments.specs.Words.{IsImageWords, IsPartBy, IsVolumeWords, command_app, command_name}
 use Rattle.fv_arguments.specs.declared.words.WordFault.{WordFault}
-use Rattle.fv_arguments.specs.inner.CommandWords.{AreRightFor, AsksOrFails, IsRead, ReadsOrFails}
+use Rattle.fv_arguments.specs.inner.CommandWords.{AreRightFor, AsksOrFails, IsRead, ReadsOrFails, app_named}
 use Rattle.fv_arguments.specs.declared.words.WordFault.TheVariants.{Words, OutOfMemory}
 use Rattle.clap.specs.declared.error.kind.ErrorKind.TheVariants as error_kinds
+
+-- the rules of a command are the rules for its name
+named_app : (c : Command) → app_named (command_name c) ≡ command_app c
+named_app (Single Normalise at file) = refl
+named_app (Single NormaliseAll at file) = refl
+named_app (Single Listing at file) = refl
+named_app (Single ListSums at file) = refl
+named_app (Single (Extract part) at file) = refl
+named_app (Single Check at file) = refl
+named_app (Single CheckAll at file) = refl
+named_app (Single Cells at file) = refl
+named_app (Single Unfix at file) = refl
+named_app (Single Scan at file) = refl
+named_app (Hobs file image) = refl
+named_app (Compare first second) = refl
+
+same_app : (name : List ℕ) (c : Command) → name ≡ command_name c → app_named name ≡ command_app c
+same_app name c is = ap app_named is ∙ named_app c
+
+pub read_of : {rest : List (List ℕ)} {m : ArgMatches} (name : List ℕ) (c : Command) → name ≡ command_name c
+    → IsRead (app_named name) rest m → IsRead (command_app c) rest m
+read_of {rest} {m} name c is r = subst (λ a. IsRead a rest m) (same_app name c is) r
 
 -- a fault of the reader is passed on: out of memory stays out of memory, and any other fault becomes a fault of the
 -- arguments
@@ -43,7 +66,8 @@ pub rejected : {T : Type 0} (name : List ℕ) (given : App) → given ≡ app_na
     → IfErr r (λ f. f ≡ Words → AreRightFor name (drop 1 words) → ⊥)
 rejected name given same words e kinds r h =
     let among = subst (λ ks. HasKind ks e) (faults_read name words) (by_name (λ a. HasKind (fault_of a words) e) name given same kinds) in
-    IfErr-weaker r _ _ (λ f wrong is right. wrong is right.1.taken) (handed_on r e _ h among)
+    IfErr-weaker r _ _ (λ f wrong is right. wrong is (ap (λ a. faults_in a (drop 1 words))
+    (same_app name right.0.command right.1.command) ∙ right.1.taken)) (handed_on r e _ h among)
 
 -- a value is rejected because a value of which it is made is rejected
 pub passed : {X Y : Type 0} (P : X → Type 0) (Q : Y → Type 0) (r : Result Y WordFault) (f : WordFault) → IsErrAnd r (λ g. g ≡ f)

@@ -1,8 +1,6 @@
 -- Which plan a command line asks for.
 use Rattle.std.specs.Prelude.{◌≡◌, ◌<◌, ◌≤◌, ◌^◌, ◌++◌, ◌⊎◌, ℕ, true, false, List, [], ◌∷◌, length}
-use Rattle.std.specs.Prelude.{Option, Some, None, IfSome, IsSomeAnd, String, codes, option_and_then, option_map, if◌then◌else◌}
-use Rattle.std.specs.Option.{unwrap_or}
-use Rattle.std.specs.Str.{bytes_eq}
+use Rattle.std.specs.Prelude.{Option, Some, None, IfSome, IsSomeAnd, String, codes, option_and_then, option_map}
 use Rattle.std.specs.Str.Parse.{IsNumeral, digits_value, without_leading_plus}
 use Rattle.std.specs.Global.{Global}
 use Rattle.std.specs.String.{string_bytes}
@@ -38,16 +36,20 @@ command_name (Single Scan at file) = codes "scan"
 command_name (Hobs file image) = codes "hobs"
 command_name (Compare first second) = codes "compare"
 
--- the rules of the command with this name, which is one of the names above
-abbrev pub app_named : List ℕ → App
-app_named name =
-    if bytes_eq name (codes "normalise") then image_app
-    else (if bytes_eq name (codes "check") then image_app
-    else (if bytes_eq name (codes "hobs") then hobs_app
-    else (if bytes_eq name (codes "extract") then extract_app
-    else (if bytes_eq name (codes "compare") then compare_app
-    else (if bytes_eq name (codes "list") then list_app
-    else (if bytes_eq name (codes "scan") then one_input_app else volume_app))))))
+-- the rules of the command's arguments
+abbrev pub command_app : Command → App
+command_app (Single Normalise at file) = image_app
+command_app (Single NormaliseAll at file) = image_app
+command_app (Single Listing at file) = list_app
+command_app (Single ListSums at file) = list_app
+command_app (Single (Extract part) at file) = extract_app
+command_app (Single Check at file) = image_app
+command_app (Single CheckAll at file) = image_app
+command_app (Single Cells at file) = volume_app
+command_app (Single Unfix at file) = volume_app
+command_app (Single Scan at file) = one_input_app
+command_app (Hobs file image) = hobs_app
+command_app (Compare first second) = compare_app
 
 -- the digits spell n in this radix, and n has at most `bits` bits
 abbrev pub IsNumeralOf : (radix bits : ℕ) → List ℕ → ℕ → Type 0
@@ -57,14 +59,18 @@ IsNumeralOf radix bits digits n = IsNumeral radix digits × (n ≡ digits_value 
 abbrev pub IsNumberWord : ℕ → List ℕ → ℕ → Type 0
 IsNumberWord bits text n = IsNumeralOf 10 bits (without_leading_plus text) n
 
+-- which of the sections with one type is meant: the first if there is no text
+abbrev pub IsInstanceWord : Option (List ℕ) → ℕ → Type 0
+IsInstanceWord None n = n ≡ 1
+IsInstanceWord (Some text) n = IsNumberWord 32 text n
+
 -- the part of a volume that three texts name: the GUID of its file, which is given; the type of a section, in one or two
--- hexadecimal digits, or no section if there is no text; and which of the sections with this type it is, the first if
--- there is no text
+-- hexadecimal digits, or no section if there is no text; and which of the sections with this type it is
 pub record IsPartBy (name section which : Option (List ℕ)) (part : Part) : Type 0 where
   pub name_is : option_and_then guid_read name ≡ Some part.name
   pub section_is : (part.section ≡ option_map (digits_value 16) section)
       × IfSome section (λ text. IsNumeral 16 text × (length text ≤ 2))
-  pub instance_is : IsNumberWord 32 (unwrap_or which (codes "1")) part.instance
+  pub instance_is : IsInstanceWord which part.instance
 
 -- an image and its base, the address of its first byte: both are given, or neither
 abbrev pub IsImageWords : (path base : Option (List ℕ)) → Option ImageFile → Type 0
@@ -123,8 +129,8 @@ HasTexts rest (Compare first second) =
 -- plan's command, and inputs and outputs are hexadecimal text exactly if the flag `--hex` is given
 pub record AsksBy (name : List ℕ) (rest : List (List ℕ)) (plan : Plan) : Type 0 where
   pub command : name ≡ command_name plan.command
-  pub taken : faults_in (app_named name) rest ≡ []
-  pub hex : plan.hex ≡ flag_in (app_named name) (codes "hex") rest
+  pub taken : faults_in (command_app plan.command) rest ≡ []
+  pub hex : plan.hex ≡ flag_in (command_app plan.command) (codes "hex") rest
   pub texts : HasTexts rest plan.command
 
 -- a complete command line asks for this plan. The argument after the program's name names the command (`AsksBy`).

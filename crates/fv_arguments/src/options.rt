@@ -3,13 +3,12 @@
 ghost use Rattle.clap.specs.Words.{App, first_value, found_of};
 ghost use Rattle.fv_arguments.specs.Options.{flag_in};
 ghost use Rattle.fv_arguments.specs.inner.CommandWords.{AreRightFor, AsksOrFails, IsRead, ReadsOrFails};
-ghost use Rattle.fv_arguments.specs.CommandLines.{AsksBy, HasInput, IsAtWord, IsImageWords, IsNumberWord};
+ghost use Rattle.fv_arguments.specs.CommandLines.{AsksBy, HasInput, IsAtWord, IsImageWords, IsInstanceWord, IsNumberWord};
 ghost use Rattle.fv_arguments.specs.CommandLines.{IsNumeralOf, IsPartBy, IsVolumeWords};
 ghost use Rattle.fv_base.specs.Words.{guid_read};
 ghost use Rattle.std.specs.String.{string_bytes};
 ghost use Rattle.std.specs.Prelude.{◌≡◌, ◌≤◌, ℕ, List, Some, codes, drop, length, map, if◌then◌else◌};
 ghost use Rattle.std.specs.Prelude.{option_and_then, option_map, IfErr, IfOk, IfSome, SomeIff};
-ghost use Rattle.std.specs.Option.{unwrap_or};
 ghost use Rattle.std.specs.Str.Parse.{IsNumeral, digits_value};
 
 use crate::rules::rules_of;
@@ -223,7 +222,7 @@ pub(crate) fn name_of(text: Option<&str>) -> Result<Guid, WordFault>
 
 // Reads which of the sections with the same type is meant: the first if no number is given.
 pub(crate) fn instance_of(text: Option<&str>) -> Result<u32, WordFault>
-    ensures { ReadsOrFails (IsNumberWord 32 (unwrap_or (option_map (λ s. s.now) text.entry) (codes "1"))) result }
+    ensures { ReadsOrFails (IsInstanceWord (option_map (λ s. s.now) text.entry)) result }
 {
     let Some(text) = text else {
         return Ok(1);

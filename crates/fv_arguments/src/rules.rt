@@ -2,7 +2,7 @@
 
 ghost use Rattle.clap.specs.Words.{App, Rule, app_of, new_rule, rule_of, with_rule};
 ghost use Rattle.fv_arguments.specs.Options.{compare_app, extract_app, flag_app, flag_rule, hobs_app, option_rule};
-ghost use Rattle.fv_arguments.specs.CommandLines.{app_named};
+ghost use Rattle.fv_arguments.specs.inner.CommandWords.{app_named};
 ghost use Rattle.std.specs.Prelude.{◌≡◌, codes, false, IfOk};
 
 use clap::{Arg, ArgAction, Command};

@@ -31,8 +31,8 @@ body_number (Nested _) = 3
 -- the row for C of a part. Three arguments are not in the meaning of a part: the offset, the length of a file's header
 -- (`stored`), and r, the row of the part in the tree. A volume is reported by all bits of Attributes, by FvName (16 zero
 -- bytes without an extended header) and by its file system; a file by Type, by Attributes without
--- FFS_ATTRIB_LARGE_FILE and by Name; a section by Type. `length` is that of a volume, of a file's data, or of a
--- section's body. `content` is 0 for files, 1 for bytes, 2 for sections, 3 for a volume
+-- FFS_ATTRIB_LARGE_FILE and by Name; a section by Type. `length` is the length of the volume, of the file's data, or of
+-- the section's body. `content` is 0 for files, 1 for bytes, 2 for sections, 3 for a volume
 abbrev pub reported_node : (offset stored : ℕ) → TreeRow → NodeMeaning → FvNode
 reported_node offset stored r (VolumeNode m) = record {
   offset = offset;

@@ -254,7 +254,8 @@ fn put_parts(
     Ok(())
 }
 
-// Returns the number of rows of parts at this depth, and of the parts inside them.
+// Returns the number of rows of parts at this depth, and of the parts inside them. It only says how
+// much memory to reserve, so it has no contract, and a sum that is too large becomes usize::MAX.
 fn part_count(mut parts: Parts<'_, '_>, depth: u32) -> usize
     requires { AllByRecursion (NestsAt depth) (nodes_of parts) }
 {
@@ -270,7 +271,7 @@ fn part_count(mut parts: Parts<'_, '_>, depth: u32) -> usize
     count
 }
 
-// Returns the number of rows of the tree of a volume.
+// Returns the number of rows of the tree of a volume, for which memory is reserved.
 fn row_count(volume: &VolumeView<'_>) -> usize {
     let mut count: usize = 1;
     for file in volume.files() {

@@ -1,9 +1,11 @@
 -- The arguments of one command.
-use Rattle.std.specs.Prelude.{◌≡◌, ℕ, List, [], Result, Ok, Err}
+use Rattle.std.specs.Prelude.{◌≡◌, ℕ, List, [], Result, Ok, Err, codes, if◌then◌else◌}
+use Rattle.std.specs.Str.{bytes_eq}
 use Rattle.clap.specs.Words.{App, found_of, rows_of}
 use Rattle.clap.specs.declared.parser.matches.ArgMatches.{ArgMatches}
-use Rattle.fv_arguments.specs.Options.{faults_in, rows_in}
-use Rattle.fv_arguments.specs.CommandLines.{AsksBy, HasTexts, app_named, command_name}
+use Rattle.fv_arguments.specs.Options.{compare_app, extract_app, faults_in, hobs_app, list_app, image_app, one_input_app, rows_in}
+use Rattle.fv_arguments.specs.Options.{volume_app}
+use Rattle.fv_arguments.specs.CommandLines.{AsksBy, HasTexts, command_name}
 use Rattle.fv_plan.specs.declared.plan.Command.{Command}
 use Rattle.fv_plan.specs.declared.plan.Plan.{Plan}
 use Rattle.fv_arguments.specs.declared.words.WordFault.{WordFault}
@@ -12,6 +14,17 @@ use Rattle.fv_arguments.specs.declared.words.WordFault.TheVariants.{Words}
 -- the arguments of a command are right: there is a plan that they ask for
 abbrev pub AreRightFor : List ℕ → List (List ℕ) → Type 0
 AreRightFor name rest = (plan : Plan) × AsksBy name rest plan
+
+-- the rules of the command with this name. A name that is not a command gets the rules of a command with a volume
+abbrev pub app_named : List ℕ → App
+app_named name =
+    if bytes_eq name (codes "normalise") then image_app
+    else (if bytes_eq name (codes "check") then image_app
+    else (if bytes_eq name (codes "hobs") then hobs_app
+    else (if bytes_eq name (codes "extract") then extract_app
+    else (if bytes_eq name (codes "compare") then compare_app
+    else (if bytes_eq name (codes "list") then list_app
+    else (if bytes_eq name (codes "scan") then one_input_app else volume_app))))))
 
 -- the parser accepted the arguments of a command, and m holds the values that it found in them
 pub record IsRead (app : App) (rest : List (List ℕ)) (m : ArgMatches) : Type 0 where

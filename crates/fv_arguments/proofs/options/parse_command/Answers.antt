@@ -1,6 +1,6 @@
 use Rattle.clap.proofs.TakesLemmas.{passed_up}
 use Rattle.fv_arguments.proofs.ArgumentReadLemmas.{read}
-use Rattle.fv_arguments.proofs.RefusalLemmas.{rejected}
+use Rattle.fv_arguments.proofs.RefusalLemmas.{read_of, rejected}
 use Rattle.fv_arguments.proofs.options.parse_command.Goals as goal
 
 pub returns-in_err-matches-clause-wrong : goal.returns-in_err-matches-clause-wrong
@@ -20,9 +20,10 @@ returns-clause-asks c =
     let found = c.in_ok-matches.ensures in
     let r = read _ c.args.name.now _ c.in_ok-rules_of.ensures found.matches found.kinds in
     let asked = c.in_ok-command.ensures _ r in
+    let own = read_of _ _ asked.0 r in
     record {
       command = asked.0;
-      taken = r.taken;
-      hex = c.is_given-hex.ensures _ _ r;
+      taken = own.taken;
+      hex = c.is_given-hex.ensures _ _ own;
       texts = asked.1;
     }

@@ -1,3 +1,4 @@
+use Rattle.std.proofs.lemmas.Grind.{common_steps}
 use Rattle.std.proofs.Common.{◌≡◌, ◌+◌, ◌∷◌, ℕ, List, arith, length, refl, rules, subst, sym}
 use Rattle.std.specs.List.{AllByRecursion}
 use Rattle.fv_base.specs.Words.{IsBytes}
@@ -101,3 +102,15 @@ loop-part-preserved t c =
     (subst (λ (l : List FvNode). AreAdded c.args.input.now inside (parts_in (part_node c.in-Some.part)) l news) c.in_ok-push.ensures.items
     (subst (λ (l : List NodeMeaning). AreAdded c.args.input.now inside l c.push.new.self.items news) c.parts_in.ensures.nodes
     c.in_ok-put_parts.ensures.ok))
+
+pub loop-part-smaller : goal.loop-part-smaller
+loop-part-smaller c = grind (arith, common_steps)
+
+pub loop-part-smaller-then-node-eq-BYTES : goal.loop-part-smaller-then-node-eq-BYTES
+loop-part-smaller-then-node-eq-BYTES c = grind (arith, common_steps)
+
+pub overflow_add-number : goal.overflow_add-number
+overflow_add-number c = grind (arith, common_steps)
+
+pub overflow_sub-next : goal.overflow_sub-next
+overflow_sub-next c = grind (arith, common_steps)

@@ -1,3 +1,5 @@
+use Rattle.std.proofs.Common.{arith}
+use Rattle.std.proofs.lemmas.Grind.{common_steps}
 use Rattle.fv_base.proofs.Laws.{at_index, err_is}
 use Rattle.fv_flash.specs.Words.{VolumeAt}
 use Rattle.fv_flash.proofs.Laws.{some_place}
@@ -30,3 +32,9 @@ pub returns-in_err-push-clause-some : goal.returns-in_err-push-clause-some
 returns-in_err-push-clause-some c =
     rw (err_is c.from_residual-in_err-push.ensures.1)
     (some_place c.args.image.now c.args.found.now c.loop-volume.volume-index c.requires c.loop-volume-test.true)
+
+pub loop-volume-preserved : goal.loop-volume-preserved
+loop-volume-preserved c = grind (arith, common_steps)
+
+pub returns-clause-ok : goal.returns-clause-ok
+returns-clause-ok c = grind (arith, common_steps)

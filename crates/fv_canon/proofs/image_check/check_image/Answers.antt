@@ -1,4 +1,4 @@
-use Rattle.std.proofs.Common.{rules, sym, subst}
+use Rattle.std.proofs.Common.{rules, sym, subst, arith}
 use Rattle.fv_base.proofs.Laws.{at_index, err_is, arith, common_steps}
 use Rattle.fv_flash.specs.Words.{AreFound, VolumeAt}
 use Rattle.fv_flash.proofs.Laws.{some_place}
@@ -35,3 +35,6 @@ returns-clause-found c = grind (arith, common_steps)
 
 pub returns-clause-only : goal.returns-clause-only
 returns-clause-only c = λ other to. checks_one c.args.image.now other c.loop-volume.checks.items to (returns-clause-found c)
+
+pub loop-volume-preserved : goal.loop-volume-preserved
+loop-volume-preserved c = grind (arith, common_steps)

@@ -207,3 +207,12 @@ put_sections-returns-then-not-is_empty-clause-rest g t c =
 pub put_file-file_sum-sum-requires : goal.put_file-file_sum-sum-requires
 put_file-file_sum-sum-requires g t c κs within =
     grind (arith, common_steps, sums, put_file-else-is_summing-via-then-is_summing+else-is_summed, put_file-else-is_summing-via-else-is_summing, data_size) steps 400000
+
+pub put_files-bounds-own-i : goal.put_files-bounds-own-i
+put_files-bounds-own-i c = grind (arith, common_steps)
+
+pub put_files-returns-clause-rest : goal.put_files-returns-clause-rest
+put_files-returns-clause-rest c = grind (arith, common_steps)
+
+pub put_sections-loop-section-smaller : goal.put_sections-loop-section-smaller
+put_sections-loop-section-smaller c = grind (arith, common_steps)

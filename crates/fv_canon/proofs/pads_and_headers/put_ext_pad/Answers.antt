@@ -1,3 +1,4 @@
+use Rattle.std.proofs.lemmas.Grind.{common_steps}
 use Rattle.std.proofs.Common.{◌≡◌, ◌+◌, ◌-◌, ℕ, [], ◌++◌, replicate, sym, ap, ◌∙◌, arith, append_assoc, Option, None, Some}
 use Rattle.fv_base.proofs.Laws.{option_copied, erased_byte, up_to_8}
 use Rattle.fv_base.specs.declared.flash.Polarity.{Polarity}
@@ -38,3 +39,6 @@ returns-in-Some g c =
     (laws.joined (rw (c.as_slice.ensures, c.pad_head_bytes.ensures.bytes, len, polar) at head)
     (laws.joined c.put_ext.ensures.bytes
     (rw (c.up_to_8.ensures, c.from-header.ensures ∙ c.header_len.ensures.length, len, c.erased.ensures.value, polar) at filler)))
+
+pub up_to_8-requires : goal.up_to_8-requires
+up_to_8-requires c = grind (arith, common_steps)
