@@ -73,6 +73,11 @@ cell_stride s p (Stub at len) u w (inl state, whole, long) f = stub_stride p u w
 cell_stride s p (Stub at len) u w (inr state, whole, long) f = stub_stride p u w states.HeaderInvalid refl state whole
 cell_stride s p (Free at len) u w is f = cc
 
+-- the same of bytes r that begin with the cell
+pub stride_here : (s : FileSystem) (p : Polarity) (c : CellForm) (r u w : List ℕ) → r ≡ u ++ w → IsCell s p c u → is_free c ≡ false
+    → Stride p r (length u)
+stride_here s p c r u w e is f = subst (λ (x : List ℕ). Stride p x (length u)) (sym e) (cell_stride s p c u w is f)
+
 -- ---- the count of the cells
 
 -- the number of cells so far plus the number of cells of the remaining bytes is the number of all cells

@@ -1,3 +1,4 @@
+use Rattle.std.proofs.lemmas.Grind.{common_steps}
 use Rattle.std.proofs.Common.{◌≤◌, ◌<◌, ◌+◌, ◌∙◌, arith, length, sym}
 use Rattle.fv_base.proofs.Laws.{err_is}
 use Rattle.fv_file.proofs.BodyLemmas.{rest_free, rest_used}
@@ -39,3 +40,9 @@ pub returns-clause-tiled : goal.returns-clause-tiled
 returns-clause-tiled c =
     walk_ends c.args.system c.args.polarity c.args.first c.args.body.now c.loop-system.at c.loop-system.invariant
     (rest_free _ _ c.args.body.now c.loop-system.at c.bytes_from.ensures (sym c.is_free.ensures ∙ c.loop-system-test.false))
+
+pub span_unmarked-requires-clause-multiple : goal.span_unmarked-requires-clause-multiple
+span_unmarked-requires-clause-multiple c = grind (arith, common_steps)
+
+pub span_unmarked-requires-clause-place : goal.span_unmarked-requires-clause-place
+span_unmarked-requires-clause-place c = grind (arith, common_steps)

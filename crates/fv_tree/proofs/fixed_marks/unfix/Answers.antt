@@ -1,5 +1,8 @@
 use Rattle.fv_base.proofs.Laws.{◌∙◌, ap, inl, sym, Err, IfErr, Ok, OnOk, Result, IfErr-weaker, on_ok_weaker, err_is}
 use Rattle.fv_base.specs.declared.fault.Fault.{Fault}
+use Rattle.std.proofs.Common.{arith}
+use Rattle.std.proofs.lemmas.Grind.{common_steps}
+use Rattle.fv_head.proofs.Laws.{first_lies}
 use Rattle.fv_tree.proofs.FixedMarkLaws.{is_unfixed, none_unfixed, only_unfixed, same_body, stops_there, unchanged, with_body}
 use Rattle.fv_tree.proofs.fixed_marks.unfix.Goals as goal
 
@@ -38,3 +41,19 @@ pub returns-clause-same : goal.returns-clause-same
 returns-clause-same c = λ e cells has.
     always c.unmark_files.result
     (on_ok_weaker c.unmark_files.result (λ only. sym (only c.args.bytes.now (unchanged _ e _ has))) (returns-clause-only c)) (returns-clause-kept c)
+
+pub slice_bounds-body-count : goal.slice_bounds-body-count
+slice_bounds-body-count c =
+    let found = c.in_ok-extent.ensures.found in
+    (first_lies c.args.bytes.now found.0 _ found.1).1
+
+pub slice_bounds-body-start : goal.slice_bounds-body-start
+slice_bounds-body-start c =
+    let found = c.in_ok-extent.ensures.found in
+    (first_lies c.args.bytes.now found.0 _ found.1).1
+
+pub unmark_files-requires-clause-multiple : goal.unmark_files-requires-clause-multiple
+unmark_files-requires-clause-multiple c =
+    let found = c.in_ok-extent.ensures.found in
+    let lies = first_lies c.args.bytes.now found.0 _ found.1 in
+    grind (arith, common_steps, lies)

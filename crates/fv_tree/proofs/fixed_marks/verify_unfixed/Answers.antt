@@ -1,6 +1,7 @@
 use Rattle.std.proofs.Common.{ℕ, List, arith, inl}
 use Rattle.fv_base.proofs.Laws.{nat_tests, err_is}
 use Rattle.fv_tree.specs.Words.{IsUnfixed}
+use Rattle.fv_head.proofs.Laws.{first_lies}
 use Rattle.fv_tree.proofs.FixedMarkLaws.{is_unfixed, stops_there}
 use Rattle.fv_tree.proofs.UnfixedInputLaws.{bytes_follow, stopped}
 use Rattle.fv_tree.proofs.fixed_marks.verify_unfixed.Goals.{In_ok-verify_unmarked}
@@ -35,3 +36,13 @@ returns-clause-ok c =
     let o = made (goal.at.returns-clause-ok c).In_ok-verify_unmarked in
     let whole = c.in_ok-check.ensures.ok in
     (o.0, (o.1, (found.0, c.in_ok-extent.extent, found.1, grind (arith, nat_tests, whole))))
+
+pub slice_bounds-body-count : goal.slice_bounds-body-count
+slice_bounds-body-count c =
+    let found = c.in_ok-extent.ensures.found in
+    (first_lies c.args.input.now found.0 _ found.1).1
+
+pub slice_bounds-body-start : goal.slice_bounds-body-start
+slice_bounds-body-start c =
+    let found = c.in_ok-extent.ensures.found in
+    (first_lies c.args.input.now found.0 _ found.1).1

@@ -1,6 +1,8 @@
+use Rattle.std.proofs.Common.{arith}
+use Rattle.std.proofs.lemmas.Grind.{common_steps}
 use Rattle.fv_base.proofs.Laws.{map, ap, err_is, First}
 use Rattle.fv_base.specs.declared.fault.Fault.{Fault}
-use Rattle.fv_head.proofs.Laws.{fault_known}
+use Rattle.fv_head.proofs.Laws.{fault_known, first_lies}
 use Rattle.fv_tree.specs.Words.{file_form}
 use Rattle.fv_tree.proofs.FilledLaws.{stands}
 use Rattle.fv_tree.proofs.LocatedLaws.{begun_data, located_stand, one_files}
@@ -39,3 +41,14 @@ pub returns-in_err-files-clause-memory : goal.returns-in_err-files-clause-memory
 returns-in_err-files-clause-memory c =
     let front = c.in_ok-extent.ensures.found in
     rw (err_is c.from_residual-in_err-files.ensures.1) (λ want. (front.0, c.in_ok-extent.extent, front.1))
+
+pub files_in_body-requires-clause-first_multiple : goal.files_in_body-requires-clause-first_multiple
+files_in_body-requires-clause-first_multiple c =
+    let front = c.in_ok-extent.ensures.found in
+    (first_lies c.args.bytes.now front.0 _ front.1).0
+
+pub files_in_body-requires-clause-first_within : goal.files_in_body-requires-clause-first_within
+files_in_body-requires-clause-first_within c =
+    let front = c.in_ok-extent.ensures.found in
+    let lies = first_lies c.args.bytes.now front.0 _ front.1 in
+    grind (arith, common_steps, lies)

@@ -64,3 +64,8 @@ returns g c =
 
 pub loop-first-init : goal.loop-first-init
 loop-first-init c = grind (arith, common_steps)
+
+pub halves_at-requires-clause-inside : goal.halves_at-requires-clause-inside
+halves_at-requires-clause-inside g c =
+    let searched = c.loop-first.invariant c.requires in
+    omega (arith, searched.inside, ap length c.requires.are_numbers, length-map c.requires.entries (λ (e : Entry). e.1))
