@@ -1,13 +1,11 @@
 pub mod RowLemmas
 pub mod PartLaws
 pub mod MemoryLaws
-pub mod RowNumbers
 pub mod TreeNesting
 pub mod TreePlaces
 pub mod TreeRows
 pub mod TreeParents
 pub mod TreeLoop
-pub mod TreeBytes
 pub mod WalkRows
 pub mod UnfixKinds
 pub mod HeaderLaws

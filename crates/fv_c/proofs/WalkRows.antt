@@ -1,5 +1,5 @@
 -- Proves that the rows that `TreeWalk` returns have the same parts, in the same order, as the rows of the tree
--- (`part_found`), and so the same digests (`tree_digests`).
+-- (`part_found`), and so the same digests (`with_digests`).
 use Rattle.std.proofs.Common.{◌≡◌, ℕ, [], ◌∷◌, ◌∙◌, List, map, refl, ap, sym, Option, option_map, slice_get}
 use Rattle.std.proofs.lemmas.Option.{slice_get-map}
 use Rattle.fv_tree.specs.Words.{Meaning, Pairwise}
@@ -18,29 +18,21 @@ of_row r = r.node
 
 same_parts : (before : List ℕ) (rows : List Row) → map part (with_parents before rows) ≡ map of_row rows
 same_parts before [] = refl
-same_parts before (r ∷ rows) = ap (λ (l : List NodeMeaning). r.node ∷ l) (same_parts (r.depth ∷ before) rows)
+same_parts before (r ∷ rows) = rw (same_parts (r.depth ∷ before) rows)
 
 -- row n of the tree has the same part as row n of the walk
 pub part_found : (m : Meaning) (row : ℕ) (o : Option Row) → o ≡ slice_get (rows_of m) row → part_at row m ≡ option_map of_row o
 part_found m row o is =
-    sym (slice_get-map part (tree_rows m) row) ∙ ap (λ (l : List NodeMeaning). slice_get l row) (same_parts [] (rows_of m))
-    ∙ slice_get-map of_row (rows_of m) row ∙ ap (option_map of_row) (sym is)
+    rw is (sym (slice_get-map part (tree_rows m) row) ∙ rw (same_parts [] (rows_of m)) (slice_get-map of_row (rows_of m) row))
 
 -- ---- the digests
 
 -- the digests of these rows, in the same order
-abbrev AreDigests : List FvSha256 → List TreeRow → Type 0
-AreDigests digests rows = Pairwise (λ (d : FvSha256) (r : TreeRow). IsReportedDigest r.node d.bytes) digests rows
-
 abbrev pub AreRowDigests : List FvSha256 → List Row → Type 0
 AreRowDigests digests rows = Pairwise (λ (d : FvSha256) (r : Row). IsReportedDigest r.node d.bytes) digests rows
 
-with_digests : (digests : List FvSha256) (before : List ℕ) (rows : List Row) → AreRowDigests digests rows
-    → AreDigests digests (with_parents before rows)
+pub with_digests : (digests : List FvSha256) (before : List ℕ) (rows : List Row) → AreRowDigests digests rows
+    → Pairwise (λ (d : FvSha256) (r : TreeRow). IsReportedDigest r.node d.bytes) digests (with_parents before rows)
 with_digests [] before [] are = tt
-with_digests [] before (r ∷ rows) are = are
-with_digests (d ∷ digests) before [] are = are
 with_digests (d ∷ digests) before (r ∷ rows) are = (are.0, with_digests digests (r.depth ∷ before) rows are.1)
-
-pub tree_digests : (m : Meaning) (digests : List FvSha256) → AreRowDigests digests (rows_of m) → AreDigests digests (tree_rows m)
-tree_digests m digests are = with_digests digests [] (rows_of m) are
+with_digests _ before _ are = absurd are

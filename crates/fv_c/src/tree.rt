@@ -227,9 +227,8 @@ fn put_parts(
     requires short { length input.now ≤ volume_limit }
     requires nest { AllByRecursion (NestsAt holder.now.depth) (nodes_of parts) }
     requires few { length (nodes_of parts) < 2 ^ 63 }
-    requires inner { 1 ≤ holder.now.depth }
     requires held { HoldsParts input.now rows.old.items holder.now (nodes_of parts) }
-    ensures ok { OnOk result (AreAdded input.now holder.now (nodes_of parts.entry) rows.old.items rows.new.items) }
+    ensures ok { OnOk result (AreAdded input.now holder.now.row holder.now.depth 0 (nodes_of parts.entry) rows.old.items rows.new.items) }
     ensures err { IfErr result (λ f. f ≡ out_of_memory) }
 {
     let mut number = 0;

@@ -1,9 +1,11 @@
 -- The row of the whole input, the rows of the parts that a row holds, and the rows that a call adds for them.
-use Rattle.std.specs.Prelude.{◌≡◌, ℕ, ◌+◌, ◌<◌, List, [], ◌∷◌, ◌++◌, length, map, Option, Some, None, slice_get}
+use Rattle.std.specs.Prelude.{◌≡◌, ℕ, ◌+◌, ◌<◌, ◌≤◌, List, [], ◌∷◌, ◌++◌, length, map, Option, Some, None, slice_get}
+use Rattle.fv_base.specs.Words.{IsBytes, depth_limit}
 use Rattle.fv_section.specs.Words.{section_header_len}
-use Rattle.fv_tree.specs.Words.{BeginWithFiles, Meaning, Pairwise, bare_form, data_place, file_form, section_is_extended}
+use Rattle.fv_tree.specs.Words.{Accepted, BeginWithFiles, Meaning, Pairwise, SectionMeaning, Stream, bare_form, data_place, file_form, files_of}
+use Rattle.fv_tree.specs.Words.{length_of, section_is_extended}
 use Rattle.fv_tree.specs.declared.volume_files.LocatedFile.{LocatedFile}
-use Rattle.fv_rows.specs.Words.{NodeMeaning, VolumeNode, FileNode, SectionNode, TreeRow as Row, parts_in, rows_of_nodes}
+use Rattle.fv_rows.specs.Words.{NodeMeaning, VolumeNode, FileNode, SectionNode, TreeRow as Row, rows_of_nodes}
 use Rattle.fv_c.specs.TreeParts.{TreeRow, no_parent, parent_of, with_parents}
 use Rattle.fv_c.specs.ReportedTree.{IsNodeIn, bytes_at, reported_node}
 use Rattle.fv_c.specs.declared.tree.FvNode.{FvNode}
@@ -49,30 +51,49 @@ IsWithin most row = row.offset + row.length < most
 
 -- ---- the rows of the parts that a row holds
 
--- the holder is one of these rows, and holds these parts
-pub record HoldsParts (input : List ℕ) (rows : List FvNode) (h : Holder) (nodes : List NodeMeaning) : Type 0 where
-  pub row : FvNode
-  pub around : TreeRow
-  pub at : slice_get rows h.row ≡ Some row
-  pub own : IsNodeIn input rows row around
-  pub parts : parts_in around.node ≡ nodes
+-- the bytes of this row are a volume, a volume with file number i, or a stream with section number i
+abbrev pub HoldsAt : (input : List ℕ) (row : FvNode) (i : ℕ) → NodeMeaning → Type 0
+HoldsAt input row i (VolumeNode m) =
+    (row.content ≡ 3) × (row.length ≡ length_of m) × (IsBytes (bytes_at input row) → Accepted (bytes_at input row) m)
+HoldsAt input row i (FileNode f) =
+    (row.content ≡ 0) × (m : Meaning) × Accepted (bytes_at input row) m × (slice_get (files_of m) i ≡ Some f)
+HoldsAt input row i (SectionNode s) =
+    (row.content ≡ 2) × (ss : List SectionMeaning) × (tail : ℕ) × Stream depth_limit ss tail (bytes_at input row) × (slice_get ss i ≡ Some s)
+
+-- the part of this row holds these parts. If the number for its contents is 0, it is a volume, and if the number is 1,
+-- it holds no part
+pub record Contents (input : List ℕ) (row : FvNode) (nodes : List NodeMeaning) : Type 0 where
+  pub volume : row.content ≡ 0 → (m : Meaning) × Accepted (bytes_at input row) m
+  pub none : row.content ≡ 1 → nodes ≡ []
+  pub part : (i : ℕ) (node : NodeMeaning) → slice_get nodes i ≡ Some node → HoldsAt input row i node
+
+-- this is the row of the holder, which holds these parts
+pub record HoldsIn (input : List ℕ) (h : Holder) (nodes : List NodeMeaning) (row : FvNode) : Type 0 where
+  pub bytes : IsBytes input
+  pub inner : 1 ≤ h.depth
+  pub within : row.offset + row.length ≤ length input
+  pub contents : Contents input row nodes
   pub offset : row.offset ≡ h.offset
   pub files : HasFiles input row h.files.items
+
+-- the holder is one of these rows, and holds these parts
+abbrev pub HoldsParts : (input : List ℕ) (rows : List FvNode) → Holder → List NodeMeaning → Type 0
+HoldsParts input rows h nodes = (row : FvNode) × (slice_get rows h.row ≡ Some row) × HoldsIn input h nodes row
 
 -- the depths of these rows, and then of the rows before them, the last row first
 abbrev pub depths_after : List Row → List ℕ → List ℕ
 depths_after [] before = before
 depths_after (r ∷ rows) before = depths_after rows (r.depth ∷ before)
 
--- `new` are the rows `old` and a report of each of these rows. `before` are the depths of the rows `old`
-pub record Added (input before : List ℕ) (rows : List Row) (old new : List FvNode) : Type 0 where
+-- `rows` are a report of the rows `walked` of a tree
+abbrev pub AreRows : (input : List ℕ) → List Row → List FvNode → Type 0
+AreRows input walked rows = Pairwise (IsNodeIn input rows) rows (with_parents [] walked)
+
+-- `new` are the rows `old` and the rows of these parts at this depth, each followed by the rows inside it. The row
+-- `parent` holds the parts, and the first of them has this number. If `old` are the rows of a tree up to these parts,
+-- `new` are rows of the tree
+pub record AreAdded (input : List ℕ) (parent depth number : ℕ) (nodes : List NodeMeaning) (old new : List FvNode) : Type 0 where
   pub more : List FvNode
   pub joined : new ≡ old ++ more
-  pub nodes : Pairwise (IsNodeIn input new) more (with_parents before rows)
-  pub long : length (depths_after rows before) ≡ length new
-
--- `new` are the rows `old` and the rows of the parts that the holder holds, each followed by the rows inside it
-abbrev pub AreAdded : (input : List ℕ) → Holder → List NodeMeaning → (old new : List FvNode) → Type 0
-AreAdded input h nodes old new =
-    (nesting : ℕ) (before : List ℕ) → length before ≡ length old → parent_of h.depth before ≡ h.row
-    → Added input before (rows_of_nodes h.depth nesting 0 nodes) old new
+  pub rows : (nesting : ℕ) (walked : List Row) → AreRows input walked old → parent_of depth (depths_after walked []) ≡ parent
+      → AreRows input (walked ++ rows_of_nodes depth nesting number nodes) new

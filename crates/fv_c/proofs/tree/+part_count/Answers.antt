@@ -7,7 +7,7 @@ use Rattle.fv_c.proofs.tree.+part_count.Goals as goal
 
 -- the next part and the parts after it nest only so deep
 nest : (t : ℕ) (c : In-Some t) → AllByRecursion (NestsAt c.args.depth) (part_node c.in-Some.part ∷ nodes_of c.next_part.new.parts)
-nest t c = subst (AllByRecursion (NestsAt c.args.depth)) c.in-Some.ensures.some c.loop-part.invariant
+nest t c = rw c.in-Some.ensures.some at c.loop-part.invariant
 
 pub loop-part-preserved-in-Nothing : goal.loop-part-preserved-in-Nothing
 loop-part-preserved-in-Nothing t c = (nest t (goal.at.loop-part-preserved-in-Nothing t c).In-Some).1
@@ -20,7 +20,7 @@ pub part_count-requires : goal.part_count-requires
 part_count-requires t c =
     let here = (nest t (goal.at.part_count-requires t c).In-Some).0 in (
       omega (arith, c.decreases, deep c.args.depth (part_node c.in-Some.part) here),
-      subst (AllByRecursion (NestsAt (c.args.depth + 1))) (sym c.parts_in-held.ensures.nodes) (inside_nests c.args.depth (part_node c.in-Some.part) here),
+      rw c.parts_in-held.ensures.nodes (inside_nests c.args.depth (part_node c.in-Some.part) here),
     )
 
 pub loop-part-preserved : goal.loop-part-preserved

@@ -1,56 +1,44 @@
 use Rattle.std.proofs.lemmas.Grind.{common_steps}
 use Rattle.std.proofs.Common.{◌≡◌, ◌+◌, ◌∷◌, ℕ, List, arith, length, refl, rules, subst, sym}
 use Rattle.std.specs.List.{AllByRecursion}
-use Rattle.fv_base.specs.Words.{IsBytes}
-use Rattle.fv_rows.proofs.Laws.{deep}
+use Rattle.fv_rows.proofs.Laws.{deep, inside_nests}
 use Rattle.fv_rows.specs.Words.{NestsAt, NodeMeaning, nodes_of, part_node, parts_in}
+use Rattle.fv_c.specs.ReportedTree.{IsNodeIn}
 use Rattle.fv_c.specs.declared.tree.FvNode.{FvNode}
 use Rattle.fv_c.specs.declared.tree.Holder.{Holder}
-use Rattle.fv_c.specs.inner.Trees.{AreAdded, HoldsParts}
-use Rattle.fv_c.proofs.TreeLoop.{Putting, part_holds, part_nests, part_stored, put_first, put_leaf, put_more, row_found}
-use Rattle.fv_c.proofs.tree.+put_parts.Goals.{In-Some}
+use Rattle.fv_c.specs.inner.Trees.{AreAdded, HoldsParts, row_in}
+use Rattle.fv_c.proofs.TreeLoop.{Putting, part_holds, part_lies, put_first, put_leaf, put_more, row_found}
+use Rattle.fv_c.proofs.tree.+put_parts.Goals.{After-node_in-node, In-Some}
 use Rattle.fv_c.proofs.tree.+put_parts.Goals as goal
 
 -- the rows so far, and the next part
 putting : (t : ℕ) (c : In-Some t) → Putting c.args.input.now c.args.holder.now (nodes_of c.args.parts) c.args.rows.now.items
     (part_node c.in-Some.part ∷ nodes_of c.next_part.new.parts) c.loop-part.number c.loop-part.next c.loop-part.rows.items
-putting t c =
-    subst (λ (l : List NodeMeaning). Putting c.args.input.now c.args.holder.now (nodes_of c.args.parts) c.args.rows.now.items l
-    c.loop-part.number c.loop-part.next c.loop-part.rows.items) c.in-Some.ensures.some c.loop-part.invariant
+putting t c = rw c.in-Some.ensures.some at c.loop-part.invariant
+
+-- the row of the next part
+found : (t : ℕ) (c : After-node_in-node t) → IsNodeIn c.args.input.now c.loop-part.rows.items c.node_in-node.result
+    (row_in c.args.holder.now c.loop-part.number (part_node c.in-Some.part))
+found t c = row_found (rw c.in-Some.ensures.some at c.loop-part.invariant) c.node_in-node.result c.node_in-node.ensures
 
 pub node_in-node-requires-clause-file : goal.node_in-node-requires-clause-file
-node_in-node-requires-clause-file t c =
-    let bytes : IsBytes c.args.input.now = search rules in
-    part_stored (putting t (goal.at.node_in-node-requires-clause-file t c).In-Some) bytes c.requires.inner
+node_in-node-requires-clause-file t c = (part_lies (putting t (goal.at.node_in-node-requires-clause-file t c).In-Some)).0
 
 pub node_in-node-requires-clause-within : goal.node_in-node-requires-clause-within
 node_in-node-requires-clause-within t c =
-    let bytes : IsBytes c.args.input.now = search rules in
-    let found = row_found (putting t (goal.at.node_in-node-requires-clause-within t c).In-Some) _ refl bytes c.requires.inner in
-    omega (arith, found.within, c.requires.short)
+    omega (arith, (part_lies (putting t (goal.at.node_in-node-requires-clause-within t c).In-Some)).1.within, c.requires.short)
 
 pub files_in-requires : goal.files_in-requires
-files_in-requires t c =
-    let bytes : IsBytes c.args.input.now = search rules in
-    record { row = (_, _, row_found (putting t (goal.at.files_in-requires t c).In-Some) c.node_in-node.result c.node_in-node.ensures bytes c.requires.inner) }
+files_in-requires t c = record { row = (_, _, found t (goal.at.files_in-requires t c).After-node_in-node) }
 
 pub overflow_add-next : goal.overflow_add-next
-overflow_add-next t c =
-    let bytes : IsBytes c.args.input.now = search rules in
-    let found = row_found (putting t (goal.at.overflow_add-next t c).In-Some) c.node_in-node.result c.node_in-node.ensures bytes c.requires.inner in
-    omega (arith, found.within, c.requires.short)
+overflow_add-next t c = omega (arith, (found t (goal.at.overflow_add-next t c).After-node_in-node).within, c.requires.short)
 
 pub overflow_add-next-in-Some : goal.overflow_add-next-in-Some
-overflow_add-next-in-Some t c =
-    let bytes : IsBytes c.args.input.now = search rules in
-    let found = row_found (putting t (goal.at.overflow_add-next-in-Some t c).In-Some) c.node_in-node.result c.node_in-node.ensures bytes c.requires.inner in
-    omega (arith, found.within, c.requires.short)
+overflow_add-next-in-Some t c = omega (arith, (found t (goal.at.overflow_add-next-in-Some t c).After-node_in-node).within, c.requires.short)
 
 pub overflow_mul-next : goal.overflow_mul-next
-overflow_mul-next t c =
-    let bytes : IsBytes c.args.input.now = search rules in
-    let found = row_found (putting t (goal.at.overflow_mul-next t c).In-Some) c.node_in-node.result c.node_in-node.ensures bytes c.requires.inner in
-    omega (arith, found.within, c.requires.short)
+overflow_mul-next t c = omega (arith, (found t (goal.at.overflow_mul-next t c).After-node_in-node).within, c.requires.short)
 
 pub loop-part-init : goal.loop-part-init
 loop-part-init t c = put_first c.requires.held c.requires.nest
@@ -59,33 +47,26 @@ loop-part-init t c = put_first c.requires.held c.requires.nest
 
 pub loop-part-preserved-then-node-eq-BYTES : goal.loop-part-preserved-then-node-eq-BYTES
 loop-part-preserved-then-node-eq-BYTES t c =
-    let bytes : IsBytes c.args.input.now = search rules in
     let leaf : c.node_in-node.result.content ≡ 1 = search rules in
-    put_leaf (putting t (goal.at.loop-part-preserved-then-node-eq-BYTES t c).In-Some) c.node_in-node.result c.node_in-node.ensures bytes c.requires.inner
+    put_leaf (putting t (goal.at.loop-part-preserved-then-node-eq-BYTES t c).In-Some) c.node_in-node.result c.node_in-node.ensures
     c.push.new.self.items c.in_ok-push.ensures.items leaf
 
 -- ---- a part that holds parts
 
 pub put_parts-requires : goal.put_parts-requires
 put_parts-requires t c =
-    let bytes : IsBytes c.args.input.now = search rules in
     let number : c.len-row.result ≡ length c.loop-part.rows.items = search rules in
-    let inside : Holder = record { row = c.len-row.result; depth = c.args.holder.now.depth + 1; offset = c.node_in-node.result.offset; files = c.in_ok-files_in.field-0 } in
     let p = putting t (goal.at.put_parts-requires t c).In-Some in
-    let parts = sym c.parts_in.ensures.nodes in (
+    rw c.parts_in.ensures.nodes (
       omega (arith, c.decreases, deep c.args.holder.now.depth (part_node c.in-Some.part) p.nests.0),
       (
         c.requires.short,
         (
-          subst (AllByRecursion (NestsAt (c.args.holder.now.depth + 1))) parts (part_nests p),
+          inside_nests c.args.holder.now.depth (part_node c.in-Some.part) p.nests.0,
           (
-            c.parts_in.ensures.few,
-            (
-              omega arith,
-              subst (HoldsParts c.args.input.now c.push.new.self.items inside) parts
-                  (subst (λ (l : List FvNode). HoldsParts c.args.input.now l inside (parts_in (part_node c.in-Some.part))) (sym c.in_ok-push.ensures.items)
-                  (part_holds p c.node_in-node.result c.node_in-node.ensures bytes c.requires.inner inside number refl refl c.in_ok-files_in.ensures.files)),
-            ),
+            rw c.parts_in.ensures.nodes at c.parts_in.ensures.few,
+            rw (number, c.in_ok-push.ensures.items)
+                (part_holds p c.node_in-node.result c.node_in-node.ensures c.in_ok-files_in.field-0 c.in_ok-files_in.ensures.files),
           ),
         ),
       ),
@@ -93,15 +74,9 @@ put_parts-requires t c =
 
 pub loop-part-preserved : goal.loop-part-preserved
 loop-part-preserved t c =
-    let bytes : IsBytes c.args.input.now = search rules in
     let number : c.len-row.result ≡ length c.loop-part.rows.items = search rules in
-    let inside : Holder = record { row = c.len-row.result; depth = c.args.holder.now.depth + 1; offset = c.node_in-node.result.offset; files = c.in_ok-files_in.field-0 } in
-    let news : List FvNode = c.put_parts.new.rows.items in
-    put_more (putting t (goal.at.loop-part-preserved t c).In-Some) c.node_in-node.result c.node_in-node.ensures bytes c.requires.inner inside number refl refl
-    news
-    (subst (λ (l : List FvNode). AreAdded c.args.input.now inside (parts_in (part_node c.in-Some.part)) l news) c.in_ok-push.ensures.items
-    (subst (λ (l : List NodeMeaning). AreAdded c.args.input.now inside l c.push.new.self.items news) c.parts_in.ensures.nodes
-    c.in_ok-put_parts.ensures.ok))
+    put_more (putting t (goal.at.loop-part-preserved t c).In-Some) c.node_in-node.result c.node_in-node.ensures c.put_parts.new.rows.items
+    (rw (number, c.in_ok-push.ensures.items, c.parts_in.ensures.nodes) at c.in_ok-put_parts.ensures.ok)
 
 pub loop-part-smaller : goal.loop-part-smaller
 loop-part-smaller c = grind (arith, common_steps)
