@@ -2,7 +2,6 @@ pub mod RowLemmas
 pub mod PartLaws
 pub mod MemoryLaws
 pub mod TreeNesting
-pub mod TreePlaces
 pub mod TreeRows
 pub mod TreeParents
 pub mod TreeLoop

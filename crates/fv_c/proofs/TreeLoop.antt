@@ -4,7 +4,7 @@
 -- 2. A row is added after the rows before it (`row_added`).
 -- 3. If the rows in a part are added after the row of the part, and then the rows of the parts after it, the rows of all
 --    these parts are added (`part_added`).
-use Rattle.std.proofs.Common.{◌≡◌, ◌∙◌, ℕ, ◌+◌, ◌-◌, ◌≤◌, List, [], ◌∷◌, ◌++◌, length, drop, Some, refl, sym, ap, subst}
+use Rattle.std.proofs.Common.{◌≡◌, ◌∙◌, ℕ, ◌+◌, ◌-◌, List, [], ◌∷◌, ◌++◌, length, drop, Some, refl, sym}
 use Rattle.std.proofs.Common.{append-nil, append_assoc, arith, map, Global, Vec}
 use Rattle.std.specs.List.{AllByRecursion}
 use Rattle.std.specs.Prelude.{slice_get}
@@ -14,27 +14,24 @@ use Rattle.fv_tree.specs.Words.{Accepted, BeginWithFiles, Meaning, Pairwise, fil
 use Rattle.fv_tree.specs.declared.volume_files.LocatedFile.{LocatedFile}
 use Rattle.fv_tree.proofs.ListPairs.{pairs_push}
 use Rattle.fv_rows.specs.Words.{NestsAt, NodeMeaning, VolumeNode, FileNode, SectionNode, TreeRow as Row, nesting_inside, parts_in, rows_inside, rows_of_nodes}
-use Rattle.fv_rows.proofs.Laws.{inside_nests, inside_rows, volume_rows}
+use Rattle.fv_rows.proofs.Laws.{inside_rows, volume_rows}
 use Rattle.fv_c.specs.TreeParts.{TreeRow, parent_of, with_parents}
-use Rattle.fv_c.specs.ReportedTree.{HasTreeRows, Held, IsNodeIn, IsPlaced}
+use Rattle.fv_c.specs.ReportedTree.{HasTreeRows, IsNodeIn, IsPlaced}
 use Rattle.fv_c.specs.declared.tree.FvNode.{FvNode}
 use Rattle.fv_c.specs.declared.tree.Holder.{Holder}
-use Rattle.fv_c.specs.inner.Trees.{AreAdded, AreRows, HasFiles, HoldsIn, HoldsParts, IsStored, depths_after, node_in, row_in, whole_node, whole_row}
+use Rattle.fv_c.specs.inner.Trees.{AreAdded, AreRows, HasFiles, HoldsIn, HoldsParts, IsStored, depths_after, node_in, row_in, whole_node}
 use Rattle.fv_c.proofs.TreeNesting.{pairs_more}
 use Rattle.fv_c.proofs.TreeParents.{depths_joined, later_parts, next_parent, parents_joined}
 use Rattle.fv_c.proofs.TreeRows.{BeginsAt, all_bytes, begins_first, begins_next, contents, first_item, get_later, lies_in, whole_found}
 
 -- ---- more rows
 
-held_later : (rows more : List FvNode) (row : FvNode) (P : FvNode → Type 0) → Held rows row P → Held (rows ++ more) row P
-held_later rows more row P (holder, is, holds) = (holder, get_later rows more row.parent holder is, holds)
-
 placed_later : (input : List ℕ) (rows more : List FvNode) (row : FvNode) (node : NodeMeaning) → IsPlaced input rows row node
     → IsPlaced input (rows ++ more) row node
 placed_later input rows more row (VolumeNode m) (accepted, root, inner) =
-    (accepted, root, λ ne. held_later rows more row _ (inner ne))
-placed_later input rows more row (FileNode f) held = held_later rows more row _ held
-placed_later input rows more row (SectionNode s) held = held_later rows more row _ held
+    (accepted, root, λ ne. let (holder, at, offset) = inner ne in (holder, get_later rows more row.parent holder at, offset))
+placed_later input rows more row (FileNode f) (holder, at, file) = (holder, get_later rows more row.parent holder at, file)
+placed_later input rows more row (SectionNode s) (holder, at, section) = (holder, get_later rows more row.parent holder at, section)
 
 node_later : (input : List ℕ) (rows more : List FvNode) (row : FvNode) (r : TreeRow) → IsNodeIn input rows row r
     → IsNodeIn input (rows ++ more) row r
@@ -83,9 +80,9 @@ part_added {input} {parent} {depth} {number} {node} {left} {row} {rows} {news} {
       let depths : depths_after (walked ++ r ∷ []) [] ≡ depth ∷ before = depths_joined [] walked (r ∷ []) in
       let inside : List Row = rows_of_nodes (depth + 1) (nesting_inside nesting node) 0 (parts_in node) in
       let within = x.rows (nesting_inside nesting node) (walked ++ r ∷ []) (row_added input walked rows r parent row are is own)
-        (rw depths (omega (arith, next_parent depth before, rows_long (IsNodeIn input rows) rows walked [] are))) in
+      (rw depths (omega (arith, next_parent depth before, rows_long (IsNodeIn input rows) rows walked [] are))) in
       let all = y.rows nesting ((walked ++ r ∷ []) ++ inside) within
-        (rw (depths_joined [] (walked ++ r ∷ []) inside, depths) (later_parts depth (nesting_inside nesting node) before (parts_in node) ∙ is)) in
+      (rw (depths_joined [] (walked ++ r ∷ []) inside, depths) (later_parts depth (nesting_inside nesting node) before (parts_in node) ∙ is)) in
       rw inside_rows (simp append_assoc at all);
 }
 

@@ -1,8 +1,8 @@
 -- Proves that what is read with at most n levels inside is also read with at most n + 1 levels inside (`sections_more`).
-use Rattle.std.proofs.Common.{ℕ, zero, suc, List, [], ◌∷◌, Bool}
+use Rattle.std.proofs.Common.{ℕ, zero, suc, List, [], ◌∷◌}
 use Rattle.fv_section.specs.Words.{FrameForm}
 use Rattle.fv_tree.specs.Words.{Denotes, FileForm, FileMeaning, File, ContentMeaning, Plain, Sectioned, Meaning, SectionMeaning, Section}
-use Rattle.fv_tree.specs.Words.{SectionMeanings, Leaf, Group, Nested, MeansContent, MeansFile, MeansSection, Pairwise, SectionOver}
+use Rattle.fv_tree.specs.Words.{Leaf, Group, Nested, MeansContent, MeansFile, MeansSection, Pairwise, SectionOver}
 use Rattle.fv_tree.specs.Words.{SectionRelation, StreamRelation, VolumeRelation, Stream, StreamOver, VolumeOver, sections_list, files_of}
 
 pub pairs_more : {A B : Type 0} (p q : A → B → Type 0) → ((x : A) (y : B) → p x y → q x y) → (xs : List A) (ys : List B) → Pairwise p xs ys
@@ -37,4 +37,3 @@ sections_more zero = section_more (λ _ _ _. ⊥) (Stream zero) (λ ss n b h. ab
 sections_more (suc n) =
     let streams = stream_more (MeansSection n) (MeansSection (suc n)) (sections_more n) in
     section_more (Stream n) (Stream (suc n)) streams (Denotes n) (Denotes (suc n)) (volume_more (Stream n) (Stream (suc n)) streams)
-

@@ -104,17 +104,17 @@ under_nodes (suc most) depth nesting number before (node ∷ nodes) few =
     let more = under_nodes most depth nesting (number + 1) (depths_after inside (depth ∷ before)) nodes (omega (arith, few, long)) in
     let above : (d : ℕ) → d ≤ depth → parent_of d (depths_after inside (depth ∷ before)) ≡ parent_of d before =
     λ d l. first.later d (omega arith) ∙ same_above d depth before l in record {
-      long = rw (depths_joined (depth ∷ before) inside rest) (omega (arith, first.long, more.long));
-      later = λ d l. rw (depths_joined (depth ∷ before) inside rest) (more.later d l ∙ above d l);
-      first = λ l. rw (ne_eqb depth 0 (λ e. omega arith), parents_joined (depth ∷ before) inside rest,
-        filter-append is_first (with_parents (depth ∷ before) inside) _, first.first (omega arith)) (more.first l);
+      long = rw depths_joined (omega (arith, first.long, more.long));
+      later = λ d l. rw depths_joined (more.later d l ∙ above d l);
+      first = λ l. rw (ne_eqb depth 0 (λ e. omega arith), parents_joined (depth ∷ before) inside rest)
+          (rw (filter-append is_first, first.first (omega arith)) (more.first l));
       held = λ parent k l is small.
-          rw (is, ne_eqb depth 0 (λ e. omega arith), parents_joined (depth ∷ before) inside rest, filter-append (is_held_by k) (with_parents (depth ∷ before) inside) _,
-            first.held (length before) k (omega arith) (next_parent depth before) (omega arith), more.held parent k l (above depth (omega arith) ∙ is) (omega (arith, first.long, small)),
-            held_joined k (depth ∷ before) inside rest)
+          rw (is, ne_eqb depth 0 (λ e. omega arith), parents_joined (depth ∷ before) inside rest, filter-append (is_held_by k))
+          (rw (held_joined k (depth ∷ before) inside rest, first.held (length before) k (omega arith) (next_parent depth before) (omega arith))
+          (rw (more.held parent k l (above depth (omega arith) ∙ is) (omega (arith, first.long, small)))
           (in_order (parent == k) _ _ (held_from k (depth ∷ before) inside) _ _ (λ e.
-            let same : parent ≡ k = eqb-true parent k e in
-            (rw (ne_eqb (length before) k (λ f. omega arith)), held_none k (depth ∷ before) inside (omega arith))));
+          let same : parent ≡ k = eqb-true parent k e in
+          (rw (ne_eqb (length before) k (λ f. omega arith)), held_none k (depth ∷ before) inside (omega arith))))));
     }
 
 -- the parent of a row is also the parent of a row at the same depth after the rows inside the row

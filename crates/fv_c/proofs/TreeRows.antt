@@ -2,20 +2,20 @@
 -- that the first row is right (`whole_found`). The steps:
 -- 1. A frame of a stream begins at the next multiple of 4 after the frame before it (`next_begins`).
 -- 2. Part number i in a row is a file of a volume, a section of a stream, or the volume of a section (`contents`).
-use Rattle.std.proofs.Common.{◌≡◌, ◌∙◌, ℕ, zero, suc, ◌+◌, ◌-◌, ◌<◌, ◌≤◌, List, [], ◌∷◌, ◌++◌, length, drop, Some, refl, sym, ap, subst, arith}
+use Rattle.std.proofs.Common.{◌≡◌, ◌∙◌, ℕ, zero, suc, ◌+◌, ◌-◌, ◌≤◌, List, [], ◌∷◌, ◌++◌, length, take, drop, Some, refl, sym, ap, subst, arith}
 use Rattle.std.proofs.lemmas.Grind.{common_steps}
-use Rattle.std.proofs.lemmas.Option.{get_or_from_slice_get, gets, slice_get_within}
-use Rattle.std.specs.Prelude.{◌≢◌, slice_get, map}
+use Rattle.std.proofs.lemmas.Option.{get_or_from_slice_get, gets, slice_get-map, slice_get_within}
+use Rattle.std.specs.Prelude.{slice_get, map}
 use Rattle.std.specs.List.{AllByRecursion}
-use Rattle.std.proofs.lemmas.List.{drop_more, take_all}
-use Rattle.fv_base.specs.Words.{field, depth_limit, volume_limit, IsBytes, out_of_memory}
-use Rattle.fv_base.specs.declared.fault.Fault.{Fault}
-use Rattle.fv_base.proofs.Laws.{at_index, bytes_drop, bytes_take, first_only, want_known}
+use Rattle.std.proofs.lemmas.List.{drop_more, length-drop, length-take-le, take_all}
+use Rattle.std.proofs.Math.Seq.{take-append_seam, drop-append_seam}
+use Rattle.fv_base.specs.Words.{field, depth_limit}
+use Rattle.fv_base.proofs.Laws.{at_index, bytes_drop, bytes_take, field-take}
 use Rattle.fv_section.specs.Words.{FrameForm, HasFrameAt, Splits, SplitsFrom, frame_len, section_header_len, up_to_4}
-use Rattle.fv_section.proofs.Laws.{one_split, split_stands}
-use Rattle.fv_tree.specs.Words.{Accepted, BeginWithFiles, FileForm, FileMeaning, File, Meaning, Volume, MeansFile, MeansSection}
+use Rattle.fv_section.proofs.Laws.{one_split, split_stands, stands_within}
+use Rattle.fv_tree.specs.Words.{Accepted, BeginWithFiles, FileForm, File, Meaning, Volume, MeansFile, MeansSection}
 use Rattle.fv_tree.specs.Words.{Pairwise, Plain, Sectioned, SectionMeaning, SectionMeanings, Section, Leaf, Group, Nested, Stream, HasDataIn, section_is_extended}
-use Rattle.fv_tree.specs.Words.{body_len, body_of, body_place, data_len_of, data_place, file_form, files_of, length_of, sections_list}
+use Rattle.fv_tree.specs.Words.{body_len, body_of, body_place, data_place, file_form, files_of, length_of, sections_list}
 use Rattle.fv_tree.proofs.Laws.{begun_data, body_long, content_long, one_files, volume_files}
 use Rattle.fv_rows.specs.Words.{NodeMeaning, VolumeNode, FileNode, SectionNode, parts_in}
 use Rattle.fv_c.specs.ReportedTree.{IsNodeIn, IsPlaced, bytes_at, reported_node}
@@ -25,7 +25,6 @@ use Rattle.fv_c.specs.declared.tree.Holder.{Holder}
 use Rattle.fv_c.specs.inner.Trees.{Contents, HoldsIn, IsStored, node_in, row_in, whole_node, whole_row}
 use Rattle.fv_canon.proofs.Laws.{accepted}
 use Rattle.fv_c.proofs.TreeNesting.{sections_more, stream_more}
-use Rattle.fv_c.proofs.TreePlaces.{LieAt, frame_in_stream, part_of}
 
 -- ---- lists
 
@@ -43,13 +42,10 @@ get_later xs ys i x is = grind (arith, common_steps, gets)
 
 get_map : {A B : Type 0} (g : A → B) (xs : List A) (i : ℕ) (y : B) → slice_get (map g xs) i ≡ Some y
     → (x : A) × (slice_get xs i ≡ Some x) × (y ≡ g x)
-get_map g (x ∷ xs) zero y is = (x, refl, cc)
-get_map g (x ∷ xs) (suc i) y is = get_map g xs i y is
-get_map g _ i y is = cc
+get_map g xs i y is = grind (arith, common_steps, gets, slice_get-map)
 
 only_item : {A : Type 0} (x y : A) (i : ℕ) → slice_get (x ∷ []) i ≡ Some y → x ≡ y
-only_item x y zero is = cc
-only_item x y (suc i) is = cc
+only_item x y i is = grind (arith, common_steps, gets)
 
 -- the item that is paired with item i of the second list
 pair_at : {A B : Type 0} (R : A → B → Type 0) (xs : List A) (ys : List B) (i : ℕ) (y : B) → Pairwise R xs ys → slice_get ys i ≡ Some y
@@ -113,8 +109,31 @@ module _ {input : List ℕ} {rows : List FvNode} {row : FvNode} {r : TreeRow} (o
 
 -- ---- where it lies
 
-file_long : (f : FileForm) (m : FileMeaning) → MeansFile (Stream depth_limit) f m → length f.payload ≡ data_len_of m
-file_long f (File name kind attributes content) means = content_long depth_limit f name kind attributes content means
+-- the bytes are in the input at this offset
+abbrev LieAt : List ℕ → ℕ → List ℕ → Type 0
+LieAt input at b = (at + length b ≤ length input) × (field at (length b) input ≡ b)
+
+-- bytes at offset i of a part that lies at `at` are at offset at + i of the input
+part_of : (input : List ℕ) (at n i : ℕ) (b : List ℕ) → at + n ≤ length input → LieAt (field at n input) i b → LieAt input (at + i) b
+part_of input at n i b within (inside, is) =
+    let long = length-take-le n (drop at input) (omega (arith, within, length-drop at input)) in
+    let short : i + length b ≤ n = omega (arith, inside, long) in
+    let moved : drop i (drop at input) ≡ drop (at + i) input = grind (arith, common_steps) in (
+      omega (arith, short, within),
+      sym (ap (λ (l : List ℕ). take (length b) l) moved) ∙ sym (field-take i (length b) n (drop at input) short) ∙ is,
+    )
+
+-- the body of a frame in a stream lies after the frame's header
+frame_in_stream : (f : FrameForm) (b : List ℕ) → HasFrameAt f f.offset b → LieAt b (body_place f) f.body
+frame_in_stream f b s =
+    let h = s.begins.head in
+    let whole : length h ≡ section_header_len f.extended = s.begins.is_header.header_length in
+    let cut : drop (length h) (drop f.offset b) ≡ f.body ++ s.rest =
+    ap (λ (l : List ℕ). drop (length h) l) s.begins.text ∙ drop-append_seam h (f.body ++ s.rest) in
+    let moved : drop (length h) (drop f.offset b) ≡ drop (body_place f) b = grind (arith, common_steps, whole) in (
+      omega (arith, stands_within f b f.offset s),
+      ap (λ (l : List ℕ). take (length f.body) l) (sym moved ∙ cut) ∙ take-append_seam f.body s.rest,
+    )
 
 -- the form of a section's header, and the length of its body
 section_fits : (f : FrameForm) (s : SectionMeaning) → MeansSection depth_limit f s
@@ -153,20 +172,20 @@ module _ {input : List ℕ} {holder : Holder} {nodes : List NodeMeaning} {row : 
           );
         },
       )
-  lies_in at (FileNode f) is =
-      let (k, m, accepted, of_volume) = holds.contents.part i (FileNode f) is in
+  lies_in at (FileNode (File name kind attributes content)) is =
+      let (k, m, accepted, of_volume) = holds.contents.part i _ is in
       let forms : List FileForm = map (file_form b) holder.files.items in
       let begun : BeginWithFiles b forms = holds.files k in
       let pairs : Pairwise (MeansFile (Stream depth_limit)) forms (files_of m) =
       rw (one_files b forms accepted.1.files begun (volume_files depth_limit b m accepted.1)) at accepted.1.meanings in
-      let (g, found, meant) = pair_at (MeansFile (Stream depth_limit)) forms (files_of m) i f pairs of_volume in
+      let (g, found, meant) = pair_at (MeansFile (Stream depth_limit)) forms (files_of m) i _ pairs of_volume in
       let (l, at_file, same) = get_map (file_form b) holder.files.items i g found in
       let form : FileForm = file_form b l in
       let at_form : slice_get forms i ≡ Some form = rw same at found in
-      let means : MeansFile (Stream depth_limit) form f = rw same at meant in
+      let means : MeansFile (Stream depth_limit) form (File name kind attributes content) = rw same at meant in
       let lies : LieAt input (row.offset + data_place form) form.payload =
       part_of input row.offset row.length (data_place form) form.payload holds.within (all_at (HasDataIn b) forms i form (begun_data b forms begun) at_form) in
-      let long = file_long form f means in (
+      let long = content_long depth_limit form name kind attributes content means in (
         slice_get_within holder.files.items i l at_file,
         rw (at_file, ← holds.offset) (record {
           is = refl;
@@ -232,24 +251,16 @@ module _ {input : List ℕ} {holder : Holder} {nodes : List NodeMeaning} {row : 
 
 -- ---- the volume that the input is
 
-module _ (input : List ℕ) (m : Meaning) (accepted : Accepted input m) where
-  whole : length_of m ≡ length input
-  whole = go m accepted where
-    go : (v : Meaning) → Accepted input v → length_of v ≡ length input
-    go (Volume hd files) a = sym (a.1.length_is ∙ a.1.begins.length_is)
+whole : (input : List ℕ) (m : Meaning) → Accepted input m → length_of m ≡ length input
+whole input (Volume head files) accepted = sym (accepted.1.length_is ∙ accepted.1.begins.length_is)
 
+module _ (input : List ℕ) (m : Meaning) (accepted : Accepted input m) where
   pub all_bytes : bytes_at input (whole_node m) ≡ input
-  all_bytes = take_all (length_of m) input (omega (arith, whole))
+  all_bytes = take_all (length_of m) input (omega (arith, whole input m accepted))
 
   pub whole_found : (rows : List FvNode) → IsNodeIn input rows (whole_node m) (whole_row m)
   whole_found rows = record {
     is = refl;
-    within = omega (arith, whole);
-    placed = (subst (λ (b : List ℕ). Accepted b m) (sym all_bytes) accepted, λ _. refl, λ ne. absurd (ne refl));
+    within = omega (arith, whole input m accepted);
+    placed = (rw all_bytes accepted, λ _. refl, λ ne. absurd (ne refl));
   }
-
--- finding the files of a volume that was read can fail only if memory runs out
-pub only_memory : (b : List ℕ) (m : Meaning) (f : Fault) → Accepted b m
-    → (f ≢ out_of_memory → (gs : List FileForm) → BeginWithFiles b gs → ⊥) → f ≡ out_of_memory
-only_memory b m f accepted none =
-    first_only (want_known f) (λ ne. none ne accepted.1.files (volume_files depth_limit b m accepted.1))

@@ -1,6 +1,6 @@
 -- Proves that the rows that `TreeWalk` returns have the same parts, in the same order, as the rows of the tree
 -- (`part_found`), and so the same digests (`with_digests`).
-use Rattle.std.proofs.Common.{◌≡◌, ℕ, [], ◌∷◌, ◌∙◌, List, map, refl, ap, sym, Option, option_map, slice_get}
+use Rattle.std.proofs.Common.{◌≡◌, ℕ, [], ◌∷◌, ◌∙◌, List, map, refl, sym, Option, option_map, slice_get}
 use Rattle.std.proofs.lemmas.Option.{slice_get-map}
 use Rattle.fv_tree.specs.Words.{Meaning, Pairwise}
 use Rattle.fv_rows.specs.Words.{NodeMeaning, TreeRow as Row, tree_rows as rows_of}

@@ -1,4 +1,4 @@
-use Rattle.std.proofs.Common.{◌≡◌, ◌∙◌, ℕ, List, Some, sym}
+use Rattle.std.proofs.Common.{◌≡◌, ◌∙◌, ℕ, List, Some}
 use Rattle.fv_base.specs.Words.{depth_limit}
 use Rattle.fv_section.specs.Words.{FrameForm}
 use Rattle.fv_tree.specs.Words.{FileForm, FileMeaning, File, Plain, Sectioned, MeansFile, MeansSection, SectionMeaning, Section, Leaf, Group, Nested}

@@ -1,4 +1,4 @@
-use Rattle.std.proofs.Common.{◌+◌, ◌∷◌, ℕ, arith, subst, sym}
+use Rattle.std.proofs.Common.{◌∷◌, ℕ, arith}
 use Rattle.std.specs.List.{AllByRecursion}
 use Rattle.fv_rows.proofs.Laws.{deep, inside_nests}
 use Rattle.fv_rows.specs.Words.{NestsAt, nodes_of, part_node}

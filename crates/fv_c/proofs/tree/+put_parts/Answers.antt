@@ -1,12 +1,8 @@
-use Rattle.std.proofs.lemmas.Grind.{common_steps}
-use Rattle.std.proofs.Common.{◌≡◌, ◌+◌, ◌∷◌, ℕ, List, arith, length, refl, rules, subst, sym}
-use Rattle.std.specs.List.{AllByRecursion}
+use Rattle.std.proofs.Common.{◌≡◌, ◌∷◌, ℕ, arith, length, rules}
 use Rattle.fv_rows.proofs.Laws.{deep, inside_nests}
-use Rattle.fv_rows.specs.Words.{NestsAt, NodeMeaning, nodes_of, part_node, parts_in}
+use Rattle.fv_rows.specs.Words.{nodes_of, part_node, parts_in}
 use Rattle.fv_c.specs.ReportedTree.{IsNodeIn}
-use Rattle.fv_c.specs.declared.tree.FvNode.{FvNode}
-use Rattle.fv_c.specs.declared.tree.Holder.{Holder}
-use Rattle.fv_c.specs.inner.Trees.{AreAdded, HoldsParts, row_in}
+use Rattle.fv_c.specs.inner.Trees.{row_in}
 use Rattle.fv_c.proofs.TreeLoop.{Putting, part_holds, part_lies, put_first, put_leaf, put_more, row_found}
 use Rattle.fv_c.proofs.tree.+put_parts.Goals.{After-node_in-node, In-Some}
 use Rattle.fv_c.proofs.tree.+put_parts.Goals as goal
@@ -77,15 +73,3 @@ loop-part-preserved t c =
     let number : c.len-row.result ≡ length c.loop-part.rows.items = search rules in
     put_more (putting t (goal.at.loop-part-preserved t c).In-Some) c.node_in-node.result c.node_in-node.ensures c.put_parts.new.rows.items
     (rw (number, c.in_ok-push.ensures.items, c.parts_in.ensures.nodes) at c.in_ok-put_parts.ensures.ok)
-
-pub loop-part-smaller : goal.loop-part-smaller
-loop-part-smaller c = grind (arith, common_steps)
-
-pub loop-part-smaller-then-node-eq-BYTES : goal.loop-part-smaller-then-node-eq-BYTES
-loop-part-smaller-then-node-eq-BYTES c = grind (arith, common_steps)
-
-pub overflow_add-number : goal.overflow_add-number
-overflow_add-number c = grind (arith, common_steps)
-
-pub overflow_sub-next : goal.overflow_sub-next
-overflow_sub-next c = grind (arith, common_steps)

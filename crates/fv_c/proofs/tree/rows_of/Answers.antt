@@ -1,7 +1,7 @@
 use Rattle.std.proofs.Common.{◌≡◌, ◌∷◌, List, [], arith, length, map, refl, rules}
 use Rattle.fv_tree.specs.Words.{FileMeaning, files_of}
 use Rattle.fv_rows.proofs.Laws.{inside_nests}
-use Rattle.fv_rows.specs.Words.{NodeMeaning, FileNode, VolumeNode}
+use Rattle.fv_rows.specs.Words.{FileNode, VolumeNode}
 use Rattle.fv_c.specs.inner.Trees.{whole_node}
 use Rattle.fv_c.proofs.TreeLoop.{none_added, tree_put, whole_holds}
 use Rattle.fv_c.proofs.tree.rows_of.Goals as goal

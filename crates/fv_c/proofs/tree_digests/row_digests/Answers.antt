@@ -1,4 +1,4 @@
-use Rattle.std.proofs.Common.{◌∙◌, [], ◌∷◌, append-nil, append_assoc, sym}
+use Rattle.std.proofs.Common.{◌∙◌, [], ◌∷◌, append-nil, append_assoc}
 use Rattle.fv_rows.specs.Words.{tree_rows as rows_of}
 use Rattle.fv_canon.proofs.Laws.{layout_covers}
 use Rattle.fv_c.proofs.WalkRows.{with_digests}
