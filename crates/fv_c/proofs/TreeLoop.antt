@@ -1,8 +1,6 @@
--- Proves that the recursion over the parts of a volume adds the rows of its tree (`put_first`, `put_more`, `put_all`,
--- `tree_put`). The steps:
+-- Proves that the recursion over the parts of a volume adds the rows of its tree (`put_more`, `tree_put`). The steps:
 -- 1. A row keeps its properties if rows are added after it (`node_later`).
--- 2. A row is added after the rows before it (`row_added`).
--- 3. If the rows in a part are added after the row of the part, and then the rows of the parts after it, the rows of all
+-- 2. If the row of a part is added, then the rows in the part, and then the rows of the parts after it, the rows of all
 --    these parts are added (`part_added`).
 use Rattle.std.proofs.Common.{◌≡◌, ◌∙◌, ℕ, ◌+◌, ◌-◌, List, [], ◌∷◌, ◌++◌, length, drop, Some, refl, sym}
 use Rattle.std.proofs.Common.{append-nil, append_assoc, arith, map, Global, Vec}
@@ -15,14 +13,14 @@ use Rattle.fv_tree.specs.declared.volume_files.LocatedFile.{LocatedFile}
 use Rattle.fv_tree.proofs.ListPairs.{pairs_push}
 use Rattle.fv_rows.specs.Words.{NestsAt, NodeMeaning, VolumeNode, FileNode, SectionNode, TreeRow as Row, nesting_inside, parts_in, rows_inside, rows_of_nodes}
 use Rattle.fv_rows.proofs.Laws.{inside_rows, volume_rows}
-use Rattle.fv_c.specs.TreeParts.{TreeRow, parent_of, with_parents}
+use Rattle.fv_c.specs.TreeParts.{TreeRow, with_parents}
 use Rattle.fv_c.specs.ReportedTree.{HasTreeRows, IsNodeIn, IsPlaced}
 use Rattle.fv_c.specs.declared.tree.FvNode.{FvNode}
 use Rattle.fv_c.specs.declared.tree.Holder.{Holder}
-use Rattle.fv_c.specs.inner.Trees.{AreAdded, AreRows, HasFiles, HoldsIn, HoldsParts, IsStored, depths_after, node_in, row_in, whole_node}
+use Rattle.fv_c.specs.inner.Trees.{AreAdded, AreRows, HasFiles, HoldsParts, IsStored, depths_after, node_in, row_in, whole_node}
 use Rattle.fv_c.proofs.TreeNesting.{pairs_more}
 use Rattle.fv_c.proofs.TreeParents.{depths_joined, later_parts, next_parent, parents_joined}
-use Rattle.fv_c.proofs.TreeRows.{BeginsAt, all_bytes, begins_first, begins_next, contents, first_item, get_later, lies_in, whole_found}
+use Rattle.fv_c.proofs.TreeRows.{BeginsAt, all_bytes, begins_next, contents, first_item, get_later, lies_in, whole_found}
 
 -- ---- more rows
 
@@ -39,17 +37,6 @@ node_later input rows more row r h = record { is = h.is; within = h.within; plac
 
 -- ---- rows that are added
 
--- one row is added
-row_added : (input : List ℕ) (walked : List Row) (rows : List FvNode) (r : Row) (parent : ℕ) (row : FvNode) → AreRows input walked rows
-    → parent_of r.depth (depths_after walked []) ≡ parent
-    → IsNodeIn input rows row (record { parent = parent; depth = r.depth; number = r.number; node = r.node })
-    → AreRows input (walked ++ r ∷ []) (rows ++ row ∷ [])
-row_added input walked rows r parent row are is own =
-    let later = node_later input rows (row ∷ []) in
-    rw (parents_joined [] walked (r ∷ []), is)
-    (pairs_push (IsNodeIn input (rows ++ row ∷ [])) rows (with_parents [] walked) row _
-    (pairs_more (IsNodeIn input rows) (IsNodeIn input (rows ++ row ∷ [])) later rows (with_parents [] walked) are) (later row _ own))
-
 -- there are as many rows as depths of rows
 rows_long : (R : FvNode → TreeRow → Type 0) (rows : List FvNode) (walked : List Row) (before : List ℕ)
     → Pairwise R rows (with_parents before walked) → length (depths_after walked before) ≡ length before + length rows
@@ -59,11 +46,8 @@ rows_long R _ _ before are = absurd are
 
 -- no part adds no row
 pub none_added : (input : List ℕ) (parent depth number : ℕ) (rows : List FvNode) → AreAdded input parent depth number [] rows rows
-none_added input parent depth number rows = record {
-  more = [];
-  joined = sym (append-nil rows);
-  rows = λ nesting walked are is. rw append-nil are;
-}
+none_added input parent depth number rows =
+    record { more = []; joined = sym (append-nil rows); rows = λ nesting walked are is. rw append-nil are }
 
 -- the rows of a part and of the parts after it are added, if the row of the part, the rows inside the part, and the rows
 -- of the parts after it are added
@@ -79,7 +63,11 @@ part_added {input} {parent} {depth} {number} {node} {left} {row} {rows} {news} {
       let before = depths_after walked [] in
       let depths : depths_after (walked ++ r ∷ []) [] ≡ depth ∷ before = depths_joined [] walked (r ∷ []) in
       let inside : List Row = rows_of_nodes (depth + 1) (nesting_inside nesting node) 0 (parts_in node) in
-      let within = x.rows (nesting_inside nesting node) (walked ++ r ∷ []) (row_added input walked rows r parent row are is own)
+      let later = node_later input rows (row ∷ []) in
+      let here : AreRows input (walked ++ r ∷ []) (rows ++ row ∷ []) = rw (parents_joined [] walked (r ∷ []), is)
+      (pairs_push (IsNodeIn input (rows ++ row ∷ [])) rows (with_parents [] walked) row _
+      (pairs_more (IsNodeIn input rows) (IsNodeIn input (rows ++ row ∷ [])) later rows (with_parents [] walked) are) (later row _ own)) in
+      let within = x.rows (nesting_inside nesting node) (walked ++ r ∷ []) here
       (rw depths (omega (arith, next_parent depth before, rows_long (IsNodeIn input rows) rows walked [] are))) in
       let all = y.rows nesting ((walked ++ r ∷ []) ++ inside) within
       (rw (depths_joined [] (walked ++ r ∷ []) inside, depths) (later_parts depth (nesting_inside nesting node) before (parts_in node) ∙ is)) in
@@ -93,22 +81,11 @@ part_added {input} {parent} {depth} {number} {node} {left} {row} {rows} {news} {
 pub record Putting (input : List ℕ) (holder : Holder) (nodes : List NodeMeaning) (old : List FvNode)
     (left : List NodeMeaning) (number next : ℕ) (rows : List FvNode) : Type 0 where
   pub left_is : drop number nodes ≡ left
-  pub row : FvNode
-  pub at : slice_get rows holder.row ≡ Some row
-  pub holds : HoldsIn input holder nodes row
-  pub begins : BeginsAt input row number next
+  pub held : HoldsParts input rows holder nodes
+  pub begins : BeginsAt input held.0 number next
   pub nests : AllByRecursion (NestsAt holder.depth) left
   pub added : (new : List FvNode) → AreAdded input holder.row holder.depth number left rows new
       → AreAdded input holder.row holder.depth 0 nodes old new
-
-pub put_first : {input : List ℕ} {holder : Holder} {nodes : List NodeMeaning} {rows : List FvNode} → HoldsParts input rows holder nodes
-    → AllByRecursion (NestsAt holder.depth) nodes → Putting input holder nodes rows nodes 0 0 rows
-put_first {input} (row, at, holds) nests =
-    record { left_is = refl; row = row; at = at; holds = holds; begins = begins_first input row; nests = nests; added = λ new all. all }
-
-pub put_all : {input : List ℕ} {holder : Holder} {nodes : List NodeMeaning} {old rows : List FvNode} {number next : ℕ}
-    → Putting input holder nodes old [] number next rows → AreAdded input holder.row holder.depth 0 nodes old rows
-put_all {input} {holder} {nodes} {old} {rows} {number} p = p.added rows (none_added input holder.row holder.depth number rows)
 
 module _ {input : List ℕ} {holder : Holder} {nodes : List NodeMeaning} {old rows : List FvNode} {node : NodeMeaning} {left : List NodeMeaning}
     {number next : ℕ} (p : Putting input holder nodes old (node ∷ left) number next rows) where
@@ -117,7 +94,7 @@ module _ {input : List ℕ} {holder : Holder} {nodes : List NodeMeaning} {old ro
 
   -- the part is stored in the holder, and its row is right
   pub part_lies : IsStored holder number node × IsNodeIn input rows (node_in holder number next node) (row_in holder number node)
-  part_lies = lies_in p.holds number next p.begins p.at node item.0
+  part_lies = lies_in p.held.2 number next p.begins p.held.1 node item.0
 
   module _ (row : FvNode) (is : row ≡ node_in holder number next node) where
     pub row_found : IsNodeIn input rows row (row_in holder number node)
@@ -128,7 +105,7 @@ module _ {input : List ℕ} {holder : Holder} {nodes : List NodeMeaning} {old ro
     part_holds files are = (
       row,
       (first_item (rows ++ row ∷ []) [] (length rows) row (drop-append_seam rows (row ∷ []))).0,
-      record { bytes = p.holds.bytes; inner = omega arith; within = row_found.within; contents = contents row_found; offset = refl; files = are },
+      record { bytes = p.held.2.bytes; inner = omega arith; within = row_found.within; contents = contents row_found; offset = refl; files = are },
     )
 
     pub put_more : (news : List FvNode) → AreAdded input (length rows) (holder.depth + 1) 0 (parts_in node) (rows ++ row ∷ []) news
@@ -136,18 +113,11 @@ module _ {input : List ℕ} {holder : Holder} {nodes : List NodeMeaning} {old ro
     put_more news x =
         rw (x.joined, append_assoc) (record {
           left_is = item.1;
-          row = p.row;
-          at = get_later rows (row ∷ x.more) holder.row p.row p.at;
-          holds = p.holds;
-          begins = rw is (begins_next p.holds number next p.begins node item.0);
+          held = (p.held.0, get_later rows (row ∷ x.more) holder.row p.held.0 p.held.1, p.held.2);
+          begins = rw is (begins_next p.held.2 number next p.begins node item.0);
           nests = p.nests.1;
           added = λ new y. p.added new (part_added row_found x (rw (x.joined, append_assoc) y));
         })
-
-    -- the next part, if it holds no part
-    pub put_leaf : (news : List FvNode) → news ≡ rows ++ row ∷ [] → row.content ≡ 1
-        → Putting input holder nodes old left (number + 1) (up_to_4 (row.offset - holder.offset + row.length)) news
-    put_leaf news news_are leaf = put_more news (rw (news_are, (contents row_found).none leaf) (none_added input (length rows) (holder.depth + 1) 0 _))
 
 -- ---- the whole volume
 
@@ -155,18 +125,9 @@ module _ (input : List ℕ) (m : Meaning) (accepted : Accepted input m) where
   pub whole_holds : (files : Vec LocatedFile Global) → BeginWithFiles input (map (file_form input) files.items)
       → HoldsParts input (whole_node m ∷ []) (record { row = 0; depth = 1; offset = 0; files = files }) (parts_in (VolumeNode m))
   whole_holds files begin =
-      let own = whole_found input m accepted [] in (
-        whole_node m,
-        refl,
-        record {
-          bytes = accepted.0;
-          inner = omega arith;
-          within = own.within;
-          contents = contents own;
-          offset = refl;
-          files = λ volume. rw (all_bytes input m accepted) begin;
-        },
-      )
+      let own = whole_found input m accepted [] in
+      let same = all_bytes input m accepted in
+      (whole_node m, refl, record { bytes = accepted.0; inner = omega arith; within = own.within; contents = contents own; offset = refl; files = λ _. rw same begin })
 
   pub tree_put : (rows : List FvNode) → AreAdded input 0 1 0 (parts_in (VolumeNode m)) (whole_node m ∷ []) rows → HasTreeRows input rows
   tree_put rows added = record {

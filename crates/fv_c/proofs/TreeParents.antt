@@ -7,7 +7,7 @@
 --    any parts (`under_nodes`).
 use Rattle.std.proofs.Common.{◌≡◌, ◌∙◌, ℕ, ◌+◌, ◌<◌, ◌≤◌, List, [], ◌∷◌, ◌++◌, length, true, false, cond, refl, sym, ap}
 use Rattle.std.proofs.Common.{append-nil, append_assoc, arith, length-append, suc, zero}
-use Rattle.std.proofs.lemmas.Bool.{eq-eqb, eqb-true, ne_eqb}
+use Rattle.std.proofs.lemmas.Bool.{cond_both, eq-eqb, eqb-true, ne_eqb}
 use Rattle.std.proofs.lemmas.List.Elements.{filter-append}
 use Rattle.std.specs.List.{filter}
 use Rattle.std.specs.Prelude.{◌==◌, Bool, slice_get}
@@ -80,10 +80,6 @@ in_order : (t : Bool) (r : TreeRow) (a b c d : List TreeRow) → (t ≡ true →
 in_order true r a b c d none = rw ((none refl).0, (none refl).1)
 in_order false r a b c d none = append_assoc a b d
 
-no_row : (t : Bool) (none : List TreeRow) → none ≡ [] → none ≡ cond t none [] ++ none
-no_row true none is = rw is
-no_row false none is = refl
-
 -- `most` is at least the number of the rows
 under_nodes : (most depth nesting number : ℕ) (before : List ℕ) (nodes : List NodeMeaning)
     → length (rows_of_nodes depth nesting number nodes) ≤ most → Under depth number before nodes (rows_of_nodes depth nesting number nodes)
@@ -91,7 +87,7 @@ under_nodes most depth nesting number before [] few = record {
   long = omega arith;
   later = λ d l. refl;
   first = λ l. refl;
-  held = λ parent k l is small. no_row (parent == k) [] refl;
+  held = λ parent k l is small. cond_both (parent == k) [] [] (λ (rows : List TreeRow). [] ≡ rows ++ []) (λ _. refl) (λ _. refl);
 }
 under_nodes zero depth nesting number before (node ∷ nodes) few = absurd (omega (arith, few))
 under_nodes (suc most) depth nesting number before (node ∷ nodes) few =

@@ -1,9 +1,10 @@
-use Rattle.std.proofs.Common.{◌≡◌, ◌∷◌, ℕ, arith, length, rules}
+use Rattle.std.proofs.Common.{◌+◌, refl, ◌≡◌, ◌∷◌, ℕ, arith, length, rules}
 use Rattle.fv_rows.proofs.Laws.{deep, inside_nests}
 use Rattle.fv_rows.specs.Words.{nodes_of, part_node, parts_in}
 use Rattle.fv_c.specs.ReportedTree.{IsNodeIn}
 use Rattle.fv_c.specs.inner.Trees.{row_in}
-use Rattle.fv_c.proofs.TreeLoop.{Putting, part_holds, part_lies, put_first, put_leaf, put_more, row_found}
+use Rattle.fv_c.proofs.TreeRows.{begins_first, contents}
+use Rattle.fv_c.proofs.TreeLoop.{Putting, none_added, part_holds, part_lies, put_more, row_found}
 use Rattle.fv_c.proofs.tree.+put_parts.Goals.{After-node_in-node, In-Some}
 use Rattle.fv_c.proofs.tree.+put_parts.Goals as goal
 
@@ -37,15 +38,18 @@ pub overflow_mul-next : goal.overflow_mul-next
 overflow_mul-next t c = omega (arith, (found t (goal.at.overflow_mul-next t c).After-node_in-node).within, c.requires.short)
 
 pub loop-part-init : goal.loop-part-init
-loop-part-init t c = put_first c.requires.held c.requires.nest
+loop-part-init t c =
+    record { left_is = refl; held = c.requires.held; begins = begins_first c.args.input.now c.requires.held.0; nests = c.requires.nest; added = λ new all. all }
 
 -- ---- a part that holds no part
 
 pub loop-part-preserved-then-node-eq-BYTES : goal.loop-part-preserved-then-node-eq-BYTES
 loop-part-preserved-then-node-eq-BYTES t c =
     let leaf : c.node_in-node.result.content ≡ 1 = search rules in
-    put_leaf (putting t (goal.at.loop-part-preserved-then-node-eq-BYTES t c).In-Some) c.node_in-node.result c.node_in-node.ensures
-    c.push.new.self.items c.in_ok-push.ensures.items leaf
+    let p = putting t (goal.at.loop-part-preserved-then-node-eq-BYTES t c).In-Some in
+    let none = (contents (row_found p c.node_in-node.result c.node_in-node.ensures)).none leaf in
+    put_more p c.node_in-node.result c.node_in-node.ensures c.push.new.self.items
+    (rw (c.in_ok-push.ensures.items, none) (none_added c.args.input.now (length c.loop-part.rows.items) (c.args.holder.now.depth + 1) 0 _))
 
 -- ---- a part that holds parts
 

@@ -1,4 +1,5 @@
-use Rattle.std.proofs.Common.{◌≡◌, ◌∷◌, List, [], arith, length, map, refl, rules}
+use Rattle.std.proofs.lemmas.Grind.{common_steps}
+use Rattle.std.proofs.Common.{◌≡◌, ◌∷◌, List, [], arith, length, map, rules}
 use Rattle.fv_tree.specs.Words.{FileMeaning, files_of}
 use Rattle.fv_rows.proofs.Laws.{inside_nests}
 use Rattle.fv_rows.specs.Words.{FileNode, VolumeNode}
@@ -7,8 +8,7 @@ use Rattle.fv_c.proofs.TreeLoop.{none_added, tree_put, whole_holds}
 use Rattle.fv_c.proofs.tree.rows_of.Goals as goal
 
 no_nodes : (fs : List FileMeaning) → length fs ≡ 0 → map FileNode fs ≡ []
-no_nodes [] none = refl
-no_nodes (f ∷ fs) none = absurd (omega arith)
+no_nodes fs none = grind (arith, common_steps)
 
 pub returns-then-file_count-eq0-clause-ok : goal.returns-then-file_count-eq0-clause-ok
 returns-then-file_count-eq0-clause-ok c =
