@@ -6,7 +6,7 @@
 --    their parent, and the parts that row k holds, if row k is one of the rows. By recursion this holds for the rows of
 --    any parts (`under_nodes`).
 use Rattle.std.proofs.Common.{◌≡◌, ◌∙◌, ℕ, ◌+◌, ◌<◌, ◌≤◌, List, [], ◌∷◌, ◌++◌, length, true, false, cond, refl, sym, ap}
-use Rattle.std.proofs.Common.{append-nil, append_assoc, arith, length-append, suc, zero}
+use Rattle.std.proofs.Common.{append-nil, append_assoc, arith, le_refl, length-append, suc, zero}
 use Rattle.std.proofs.lemmas.Bool.{cond_both, eq-eqb, eqb-true, ne_eqb}
 use Rattle.std.proofs.lemmas.List.Elements.{filter-append}
 use Rattle.std.specs.List.{filter}
@@ -117,16 +117,13 @@ under_nodes (suc most) depth nesting number before (node ∷ nodes) few =
 pub later_parts : (depth nesting : ℕ) (before : List ℕ) (nodes : List NodeMeaning)
     → parent_of depth (depths_after (rows_of_nodes (depth + 1) nesting 0 nodes) (depth ∷ before)) ≡ parent_of depth before
 later_parts depth nesting before nodes =
-    let rows : List Row = rows_of_nodes (depth + 1) nesting 0 nodes in
-    (under_nodes (length rows) (depth + 1) nesting 0 (depth ∷ before) nodes (omega arith)).later depth (omega arith)
+    (under_nodes _ (depth + 1) nesting 0 (depth ∷ before) nodes (le_refl _)).later depth (omega arith)
     ∙ same_above depth depth before (omega arith)
 
 -- ---- the rows of a volume
 
 under_volume : (m : Meaning) → Under 1 0 (0 ∷ []) (parts_in (VolumeNode m)) (rows_inside 1 0 (VolumeNode m))
-under_volume m =
-    let rows : List Row = rows_of_nodes 1 0 0 (parts_in (VolumeNode m)) in
-    rw (inside_rows 1 0 (VolumeNode m)) (under_nodes (length rows) 1 0 0 (0 ∷ []) (parts_in (VolumeNode m)) (omega arith))
+under_volume m = rw (inside_rows 1 0 (VolumeNode m)) (under_nodes _ 1 0 0 (0 ∷ []) (parts_in (VolumeNode m)) (le_refl _))
 
 pub first_is : (m : Meaning) → filter is_first (tree_rows m) ≡ rows_of_parts no_parent 0 0 (VolumeNode m ∷ [])
 first_is (Volume head files) = rw ((under_volume (Volume head files)).first (omega arith))

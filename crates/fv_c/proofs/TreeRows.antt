@@ -57,17 +57,17 @@ pair_at R _ _ i y p is = absurd p
 
 -- ---- the frames of a stream
 
-first_begins : (at : ℕ) (frames : List FrameForm) (tail : ℕ) (b : List ℕ) (f : FrameForm) → SplitsFrom at frames tail b
+pub first_begins : (at : ℕ) (b : List ℕ) (frames : List FrameForm) (tail : ℕ) (f : FrameForm) → SplitsFrom at frames tail b
     → slice_get frames 0 ≡ Some f → f.offset ≡ at
-first_begins at [] tail b f split is = cc
-first_begins at (g ∷ []) tail b f (rest, begun, o, l, fits) is = cc
-first_begins at (g ∷ h ∷ frames) tail b f (filler, rest, begun, o, fill, more) is = cc
+first_begins at b [] tail f split is = cc
+first_begins at b (g ∷ []) tail f (rest, begun, o, l, fits) is = cc
+first_begins at b (g ∷ h ∷ frames) tail f (filler, rest, begun, o, fill, more) is = cc
 
 -- a frame begins at the next multiple of 4 after the frame before it
 next_begins : (at : ℕ) (frames : List FrameForm) (tail i : ℕ) (b : List ℕ) (f g : FrameForm) → SplitsFrom at frames tail b
     → slice_get frames i ≡ Some f → slice_get frames (suc i) ≡ Some g → g.offset ≡ up_to_4 (f.offset + frame_len f)
 next_begins at (x ∷ y ∷ frames) tail zero b f g (filler, rest, begun, o, fill, more) is next =
-    let first = first_begins (up_to_4 (at + frame_len x)) (y ∷ frames) tail rest g more next in cc
+    let first = first_begins (up_to_4 (at + frame_len x)) rest (y ∷ frames) tail g more next in cc
 next_begins at (x ∷ y ∷ frames) tail (suc i) b f g (filler, rest, begun, o, fill, more) is next =
     next_begins (up_to_4 (at + frame_len x)) (y ∷ frames) tail i rest f g more is next
 next_begins at _ tail i b f g split is next = cc
@@ -128,8 +128,7 @@ frame_in_stream : (f : FrameForm) (b : List ℕ) → HasFrameAt f f.offset b →
 frame_in_stream f b s =
     let h = s.begins.head in
     let whole : length h ≡ section_header_len f.extended = s.begins.is_header.header_length in
-    let cut : drop (length h) (drop f.offset b) ≡ f.body ++ s.rest =
-    ap (λ (l : List ℕ). drop (length h) l) s.begins.text ∙ drop-append_seam h (f.body ++ s.rest) in
+    let cut : drop (length h) (drop f.offset b) ≡ f.body ++ s.rest = rw s.begins.text (drop-append_seam h (f.body ++ s.rest)) in
     let moved : drop (length h) (drop f.offset b) ≡ drop (body_place f) b = grind (arith, common_steps, whole) in (
       omega (arith, stands_within f b f.offset s),
       ap (λ (l : List ℕ). take (length f.body) l) (sym moved ∙ cut) ∙ take-append_seam f.body s.rest,
@@ -146,9 +145,6 @@ abbrev pub BeginsAt : (input : List ℕ) → FvNode → ℕ → ℕ → Type 0
 BeginsAt input row i next =
     row.content ≡ 2 → (frames : List FrameForm) (tail : ℕ) (f : FrameForm) → Splits frames tail (bytes_at input row) → slice_get frames i ≡ Some f
     → f.offset ≡ next
-
-pub begins_first : (input : List ℕ) (row : FvNode) → BeginsAt input row 0 0
-begins_first input row two frames tail f split is = first_begins 0 frames tail (bytes_at input row) f split is
 
 -- this is the row of the holder. Its section number i begins at `next`
 module _ {input : List ℕ} {holder : Holder} {nodes : List NodeMeaning} {row : FvNode} (holds : HoldsIn input holder nodes row) (i next : ℕ)

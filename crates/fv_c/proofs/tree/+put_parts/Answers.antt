@@ -1,9 +1,9 @@
 use Rattle.std.proofs.Common.{◌+◌, refl, ◌≡◌, ◌∷◌, ℕ, arith, length, rules}
 use Rattle.fv_rows.proofs.Laws.{deep, inside_nests}
-use Rattle.fv_rows.specs.Words.{nodes_of, part_node, parts_in}
-use Rattle.fv_c.specs.ReportedTree.{IsNodeIn}
+use Rattle.fv_rows.specs.Words.{nodes_of, part_node}
+use Rattle.fv_c.specs.ReportedTree.{IsNodeIn, bytes_at}
 use Rattle.fv_c.specs.inner.Trees.{row_in}
-use Rattle.fv_c.proofs.TreeRows.{begins_first, contents}
+use Rattle.fv_c.proofs.TreeRows.{contents, first_begins}
 use Rattle.fv_c.proofs.TreeLoop.{Putting, none_added, part_holds, part_lies, put_more, row_found}
 use Rattle.fv_c.proofs.tree.+put_parts.Goals.{After-node_in-node, In-Some}
 use Rattle.fv_c.proofs.tree.+put_parts.Goals as goal
@@ -39,7 +39,8 @@ overflow_mul-next t c = omega (arith, (found t (goal.at.overflow_mul-next t c).A
 
 pub loop-part-init : goal.loop-part-init
 loop-part-init t c =
-    record { left_is = refl; held = c.requires.held; begins = begins_first c.args.input.now c.requires.held.0; nests = c.requires.nest; added = λ new all. all }
+    let begins = λ (two : c.requires.held.0.content ≡ 2). first_begins 0 (bytes_at c.args.input.now c.requires.held.0) in
+    record { left_is = refl; held = c.requires.held; begins = begins; nests = c.requires.nest; added = λ new all. all }
 
 -- ---- a part that holds no part
 
@@ -57,20 +58,12 @@ pub put_parts-requires : goal.put_parts-requires
 put_parts-requires t c =
     let number : c.len-row.result ≡ length c.loop-part.rows.items = search rules in
     let p = putting t (goal.at.put_parts-requires t c).In-Some in
-    rw c.parts_in.ensures.nodes (
-      omega (arith, c.decreases, deep c.args.holder.now.depth (part_node c.in-Some.part) p.nests.0),
-      (
-        c.requires.short,
-        (
-          inside_nests c.args.holder.now.depth (part_node c.in-Some.part) p.nests.0,
-          (
-            rw c.parts_in.ensures.nodes at c.parts_in.ensures.few,
-            rw (number, c.in_ok-push.ensures.items)
-                (part_holds p c.node_in-node.result c.node_in-node.ensures c.in_ok-files_in.field-0 c.in_ok-files_in.ensures.files),
-          ),
-        ),
-      ),
-    )
+    let room = deep c.args.holder.now.depth (part_node c.in-Some.part) p.nests.0 in
+    let nests = inside_nests c.args.holder.now.depth (part_node c.in-Some.part) p.nests.0 in
+    let few = rw c.parts_in.ensures.nodes at c.parts_in.ensures.few in
+    let held = part_holds p c.node_in-node.result c.node_in-node.ensures c.in_ok-files_in.field-0 c.in_ok-files_in.ensures.files in
+    rw c.parts_in.ensures.nodes
+    (omega (arith, c.decreases, room), (c.requires.short, (nests, (few, rw (number, c.in_ok-push.ensures.items) held))))
 
 pub loop-part-preserved : goal.loop-part-preserved
 loop-part-preserved t c =
