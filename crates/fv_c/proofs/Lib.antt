@@ -1,7 +1,6 @@
 pub mod RowLemmas
 pub mod PartLaws
 pub mod MemoryLaws
-pub mod TreeNesting
 pub mod TreeRows
 pub mod TreeParents
 pub mod TreeLoop

@@ -10,7 +10,7 @@ use Rattle.std.proofs.Math.Seq.{drop-append_seam}
 use Rattle.fv_section.specs.Words.{up_to_4}
 use Rattle.fv_tree.specs.Words.{Accepted, BeginWithFiles, Meaning, Pairwise, file_form}
 use Rattle.fv_tree.specs.declared.volume_files.LocatedFile.{LocatedFile}
-use Rattle.fv_tree.proofs.ListPairs.{pairs_push}
+use Rattle.fv_tree.proofs.Laws.{pairs_push}
 use Rattle.fv_rows.specs.Words.{NestsAt, NodeMeaning, VolumeNode, FileNode, SectionNode, TreeRow as Row, nesting_inside, parts_in, rows_inside, rows_of_nodes}
 use Rattle.fv_rows.proofs.Laws.{inside_rows, volume_rows}
 use Rattle.fv_c.specs.TreeParts.{TreeRow, with_parents}
@@ -18,7 +18,7 @@ use Rattle.fv_c.specs.ReportedTree.{HasTreeRows, IsNodeIn, IsPlaced}
 use Rattle.fv_c.specs.declared.tree.FvNode.{FvNode}
 use Rattle.fv_c.specs.declared.tree.Holder.{Holder}
 use Rattle.fv_c.specs.inner.Trees.{AreAdded, AreRows, HasFiles, HoldsParts, IsStored, depths_after, node_in, row_in, whole_node}
-use Rattle.fv_c.proofs.TreeNesting.{pairs_more}
+use Rattle.fv_canon.proofs.Laws.{pairs_more}
 use Rattle.fv_c.proofs.TreeParents.{depths_joined, later_parts, next_parent, parents_joined}
 use Rattle.fv_c.proofs.TreeRows.{BeginsAt, all_bytes, begins_next, contents, first_item, get_later, lies_in, whole_found}
 

@@ -23,8 +23,7 @@ use Rattle.fv_c.specs.TreeParts.{TreeRow}
 use Rattle.fv_c.specs.declared.tree.FvNode.{FvNode}
 use Rattle.fv_c.specs.declared.tree.Holder.{Holder}
 use Rattle.fv_c.specs.inner.Trees.{Contents, HoldsIn, IsStored, node_in, row_in, whole_node, whole_row}
-use Rattle.fv_canon.proofs.Laws.{accepted}
-use Rattle.fv_c.proofs.TreeNesting.{sections_more, stream_more}
+use Rattle.fv_canon.proofs.Laws.{accepted, sections_more, stream_more}
 
 -- ---- lists
 

@@ -12,13 +12,13 @@ use Rattle.fv_canon.proofs.OneImageLaws.{image_length, image_one}
 use Rattle.fv_canon.proofs.VolumeImageLaws.{image_denotes, volume_of}
 
 -- ---- bytes that are a volume at a depth are a volume at every greater depth
-pairs_more : {A B : Type 0} (p q : A → B → Type 0) → ((x : A) (y : B) → p x y → q x y) → (xs : List A) (ys : List B) → Pairwise p xs ys
+pub pairs_more : {A B : Type 0} (p q : A → B → Type 0) → ((x : A) (y : B) → p x y → q x y) → (xs : List A) (ys : List B) → Pairwise p xs ys
     → Pairwise q xs ys
 pairs_more p q more [] [] h = tt
 pairs_more p q more (x ∷ xs) (y ∷ ys) h = (more x y h.0, pairs_more p q more xs ys h.1)
 pairs_more p q more xs ys h = absurd h
 
-stream_more : (p q : SectionRelation) → ((f : FrameForm) (s : SectionMeaning) → p f s → q f s) → (ss : List SectionMeaning) (n : ℕ) (b : List ℕ)
+pub stream_more : (p q : SectionRelation) → ((f : FrameForm) (s : SectionMeaning) → p f s → q f s) → (ss : List SectionMeaning) (n : ℕ) (b : List ℕ)
     → StreamOver p ss n b → StreamOver q ss n b
 stream_more p q more ss n b (fs, split, pairs) = (fs, split, pairs_more p q more fs ss pairs)
 
@@ -41,7 +41,7 @@ module _ (p q : StreamRelation) (more : (ss : List SectionMeaning) (n : ℕ) (b 
   section_more v w volumes f (Section kind extended (Group ss n)) (a, b, (c, d)) = (a, b, (c, more (sections_list ss) n f.body d))
   section_more v w volumes f (Section kind extended (Nested m)) (a, b, (c, d, e)) = (a, b, (c, d, volumes f.body m e))
 
-sections_more : (n : ℕ) (f : FrameForm) (s : SectionMeaning) → MeansSection n f s → MeansSection (suc n) f s
+pub sections_more : (n : ℕ) (f : FrameForm) (s : SectionMeaning) → MeansSection n f s → MeansSection (suc n) f s
 sections_more zero = section_more (λ _ _ _. ⊥) (Stream zero) (λ ss n b h. absurd h) (λ _ _. ⊥) (Denotes zero) (λ b m h. absurd h)
 sections_more (suc n) =
     let streams = stream_more (MeansSection n) (MeansSection (suc n)) (sections_more n) in

@@ -7,8 +7,9 @@ pub use Rattle.fv_canon.proofs.AlignedLaws.{pads_erased}
 pub use Rattle.fv_canon.proofs.StoredTilingLaws.{PadErased}
 -- the data of a file have at most one image, and the body of a section has at most one image
 pub use Rattle.fv_canon.proofs.OneImageLaws.{data_one, body_one}
--- bytes that are a volume at a depth within the limit are accepted
-pub use Rattle.fv_canon.proofs.HeadlineLaws.{accepted}
+-- bytes that are a volume at a depth within the limit are accepted; what a relation pairs item by item, a weaker
+-- relation pairs too, and so what is a section at a depth is a section at the next depth
+pub use Rattle.fv_canon.proofs.HeadlineLaws.{accepted, pairs_more, stream_more, sections_more}
 -- if all volumes of a flash image are laid out, some bytes are this image with each volume replaced by its canonical
 -- image
 pub use Rattle.fv_canon.proofs.LaidVolumeLaws.{laid_renewed}

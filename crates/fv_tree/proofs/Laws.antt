@@ -4,6 +4,8 @@
 
 -- `files_list` undoes `files_from`
 pub use Rattle.fv_tree.proofs.VolumePartLaws.{files_list_back}
+-- two lists that agree item by item still agree if a pair of items that agree is appended
+pub use Rattle.fv_tree.proofs.ListPairs.{pairs_push}
 -- a stream, a section, a body and a content have the length of the bytes that they were read from
 pub use Rattle.fv_tree.proofs.LengthLaws.{AsLong, stream_long, section_long, body_long, content_long}
 -- a volume has fewer files than bytes
