@@ -19,7 +19,7 @@ use crate::reports::{FvFault, system_number};
 use bitflags::Flags;
 use fv_base::Fault;
 use fv_head::VolumeHead;
-use fv_rows::{Part, Parts, known, next_part, parts_in};
+use fv_rows::{Part, Parts, TreeWalk, known, next_part, parts_in};
 use fv_section::section_header_len;
 use fv_tree::{
     Body, Content, FileView, LocatedFile, SectionView, VolumeView, located_files,
@@ -253,35 +253,19 @@ fn put_parts(
     Ok(())
 }
 
-// Returns the number of rows of parts at this depth, and of the parts inside them. It only says how
-// much memory to reserve, so it has no contract, and a sum that is too large becomes usize::MAX.
-fn part_count(mut parts: Parts<'_, '_>, depth: u32) -> usize
-    requires { AllByRecursion (NestsAt depth) (nodes_of parts) }
-{
-    let mut count: usize = 0;
-    while let Some(part) = next_part(&mut parts) {
-        count = count.saturating_add(1);
-        let held = parts_in(&part);
-        if let Parts::Nothing = held {
-            continue;
-        }
-        count = count.saturating_add(part_count(held, depth + 1));
-    }
-    count
-}
-
-// Returns the number of rows of the tree of a volume, for which memory is reserved.
+// Returns the number of rows of the tree of a volume. It only says how much memory to reserve, so
+// it has no contract, and a sum that is too large becomes usize::MAX.
 fn row_count(volume: &VolumeView<'_>) -> usize {
     let mut count: usize = 1;
     for file in volume.files() {
         count = count.saturating_add(1);
         let part = Part::File(file);
-        let held = parts_in(&part);
-        if let Parts::Nothing = held {
+        if let Parts::Nothing = parts_in(&part) {
             continue;
         }
-        known(&part);
-        count = count.saturating_add(part_count(held, 1));
+        for _row in TreeWalk::inside(&part) {
+            count = count.saturating_add(1);
+        }
     }
     count
 }
@@ -322,7 +306,7 @@ fn rows_of(
 }
 
 // Reads the input as a volume, and returns its tree, for C.
-fn rows_in(alloc: Global, volume: &[u8]) -> Result<Vec<FvNode>, Fault>
+fn rows_of_input(alloc: Global, volume: &[u8]) -> Result<Vec<FvNode>, Fault>
     ensures ok { IfOk result (λ v. HasTreeRows volume.now v.items) }
     ensures err { IfErr result (OrMemory (NotRead volume.now)) }
     ensures memory { IfErr result (λ f. f ≡ out_of_memory → BeginsWithHeader volume.now) }
@@ -365,5 +349,5 @@ pub extern "C" fn fvp_volume_tree(
         × (f ≡ out_of_memory → BeginsWithHeader volume.now)
         × (result ≡ fault_number f.kind) × (fault.new ≡ reported_fault f) × (count.new ≡ count.old) }
 {
-    put_result(rows_in(alloc, volume), rows, count, fault)
+    put_result(rows_of_input(alloc, volume), rows, count, fault)
 }

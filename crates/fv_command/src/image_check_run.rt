@@ -31,7 +31,7 @@ fn put_outcome<S: Sink>(out: &mut S, outcome: VolumeOutcome)
 }
 
 // Puts the line of a volume.
-fn put_check<S: Sink>(out: &mut S, check: &VolumeCheck)
+fn put_checked_volume<S: Sink>(out: &mut S, check: &VolumeCheck)
     ensures { S.takes out.old (checked_line check.now) out.new }
 {
     put_volume_place(out, check.offset, check.length);
@@ -40,11 +40,11 @@ fn put_check<S: Sink>(out: &mut S, check: &VolumeCheck)
 }
 
 // Puts the lines of some volumes, in order.
-fn put_checks<S: Sink>(out: &mut S, checks: &[VolumeCheck])
+fn put_checked_volumes<S: Sink>(out: &mut S, checks: &[VolumeCheck])
     ensures { S.takes out.old (flat_map checked_line checks.now) out.new }
 {
     for check in checks {
-        put_check(out, check);
+        put_checked_volume(out, check);
     }
 }
 
@@ -101,6 +101,6 @@ pub fn put_image_check<S: Sink>(alloc: Global, input: &[u8], out: &mut S) -> Res
     ensures { (hex : Bool) → Performs S.takes Task.CheckAll hex input.now out.old out.new result }
 {
     let checks = check_image(alloc, input)?;
-    put_checks(out, &checks);
+    put_checked_volumes(out, &checks);
     Ok(status_of(&checks))
 }

@@ -1,6 +1,6 @@
 use Rattle.std.proofs.lemmas.Result.{IfErr-weaker}
 use Rattle.fv_c.proofs.MemoryLaws.{header_of}
-use Rattle.fv_c.proofs.tree.rows_in.Goals as goal
+use Rattle.fv_c.proofs.tree.rows_of_input.Goals as goal
 
 pub returns-clause-memory : goal.returns-clause-memory
 returns-clause-memory c =
