@@ -7,11 +7,11 @@
 --    it split into the other frames (`after_last`, `after_more`). So the frames that are read are the frames of the
 --    split (`starts_meet`).
 -- 3. The same is true of a whole stream (`split_is`).
-use Rattle.std.proofs.Common.{◌≡◌, ℕ, zero, suc, ◌+◌, ◌<◌, ◌≤◌, List, [], ◌∷◌, ◌++◌, length, drop, map, refl, sym, ap, ◌∙◌, subst, arith, Bool, true}
-use Rattle.std.proofs.Common.{false, length-append, append_assoc, length-drop}
+use Rattle.std.proofs.Common.{◌≡◌, ℕ, zero, suc, ◌+◌, ◌<◌, ◌≤◌, List, [], ◌∷◌, ◌++◌, length, drop, map, refl, sym, ap, ◌∙◌, subst, arith, true, false}
+use Rattle.std.proofs.Common.{length-append, append_assoc, length-drop, ⊎_elim}
 use Rattle.std.specs.Prelude.{nat_lt}
 use Rattle.std.specs.List.{AllByRecursion}
-use Rattle.std.proofs.lemmas.Bool.{le-ltb, lt-ltb, ltb-true, ltb-false}
+use Rattle.std.proofs.lemmas.Bool.{cases_lt, le-ltb, lt-ltb, ltb-true, ltb-false}
 use Rattle.std.proofs.lemmas.List.{drop_at, length-map}
 use Rattle.fv_base.specs.Words.{IsBytes}
 use Rattle.fv_base.proofs.Laws.{bytes_drop, common_steps}
@@ -43,10 +43,10 @@ more_starts n r least = rw (le-ltb (length r) 4 least) refl
 starts_same : (n m : ℕ) (r : List ℕ) → length r ≤ n → length r ≤ m → starts_by n r ≡ starts_by m r
 starts_same zero m r less less' = sym (few_starts m r (omega (arith, less)))
 starts_same (suc n) zero r less less' = few_starts (suc n) r (omega (arith, less'))
-starts_same (suc n) (suc m) r less less' = go (starts_same n m (after_first r)) (nat_lt (length r) 4) refl where
-  go : (length (after_first r) ≤ n → length (after_first r) ≤ m → starts_by n (after_first r) ≡ starts_by m (after_first r))
-      → (t : Bool) → nat_lt (length r) 4 ≡ t → starts_by (suc n) r ≡ starts_by (suc m) r
-  go same t e = grind (arith, common_steps, few_starts, ltb-true, ltb-false, more_starts, fewer) steps 150000
+starts_same (suc n) (suc m) r less less' =
+    ⊎_elim (λ few. few_starts (suc n) r few ∙ sym (few_starts (suc m) r few)) (λ least.
+    let same = starts_same n m (after_first r) (omega (arith, fewer r least, less)) (omega (arith, fewer r least, less')) in
+    rw (more_starts n r least, more_starts m r least, same) refl) (cases_lt (length r) 4)
 
 -- the same for `starts_of`, which has no limit
 pub no_start : (r : List ℕ) → length r < 4 → starts_of r ≡ ([], r)
@@ -58,11 +58,9 @@ first_start r least = grind (arith, common_steps, starts_same, more_starts, fewe
 -- a stream has no more frames than bytes
 few_by : (n : ℕ) (r : List ℕ) → length (starts_by n r).0 ≤ length r
 few_by zero r = omega arith
-few_by (suc n) r = go (few_by n (after_first r)) (nat_lt (length r) 4) refl where
-  go : length (starts_by n (after_first r)).0 ≤ length (after_first r) → (t : Bool) → nat_lt (length r) 4 ≡ t
-      → length (starts_by (suc n) r).0 ≤ length r
-  go less true e = rw e (omega arith)
-  go less false e = rw e (omega (arith, less, fewer r (ltb-false _ _ e)))
+few_by (suc n) r =
+    ⊎_elim (λ few. rw (few_starts (suc n) r few) (omega arith))
+    (λ least. rw (more_starts n r least) (omega (arith, few_by n (after_first r), fewer r least))) (cases_lt (length r) 4)
 
 pub few_frames : (r : List ℕ) → length (frames_of r) ≤ length r
 few_frames r = omega (arith, length-map (starts_of r).0 (frame_in 0), few_by (length r) r)
@@ -86,23 +84,15 @@ first_is f r rest begun =
     (is, subst (λ g. HasFrameAt g 0 r) (sym is) here)
 
 -- the bytes after a frame, and the bytes after a frame and the filler that follows it
-cut : (f : FrameForm) (r rest : List ℕ) → BeginsFrame f r rest → drop (frame_len f) r ≡ rest
-cut f r rest begun =
-    let x : List ℕ = begun.head ++ f.body in
-    let text : r ≡ x ++ rest = begun.text ∙ sym (append_assoc begun.head f.body rest) in
-    let long : length x ≡ frame_len f = omega (arith, length-append begun.head f.body, begun.is_header.header_length) in
-    ap (drop (frame_len f)) text ∙ drop_at x rest (frame_len f) long
-
 cut_filler : (f : FrameForm) (r filler rest : List ℕ) (n : ℕ) → BeginsFrame f r (filler ++ rest) → n ≡ frame_len f + length filler
     → drop n r ≡ rest
 cut_filler f r filler rest n begun is =
     let x : List ℕ = begun.head ++ (f.body ++ filler) in
-    let text : r ≡ x ++ rest =
-    begun.text ∙ ap (λ l. begun.head ++ l) (sym (append_assoc f.body filler rest))
-    ∙ sym (append_assoc begun.head (f.body ++ filler) rest) in
-    let long : length x ≡ n =
-    omega (arith, is, length-append begun.head (f.body ++ filler), length-append f.body filler, begun.is_header.header_length) in
-    ap (drop n) text ∙ drop_at x rest n long
+    let text : r ≡ x ++ rest = simp append_assoc begun.text in
+    rw text (drop_at x rest n (omega (arith, is, length-append {A = ℕ}, begun.is_header.header_length)))
+
+cut : (f : FrameForm) (r rest : List ℕ) → BeginsFrame f r rest → drop (frame_len f) r ≡ rest
+cut f r rest begun = cut_filler f r [] rest (frame_len f) begun (omega arith)
 
 -- the bytes that are left after the last frame are the tail
 after_last : (f : FrameForm) (r rest : List ℕ) → BeginsFrame f r rest → frame_len f + length rest ≤ up_to_4 (frame_len f) → after_first r ≡ rest

@@ -9,17 +9,16 @@
 -- 3. The body of a group is a stream that was read, one level deeper (`group_kept`, `group_view`), and a section that
 --    is opened as a volume takes the first volume (`volume_view`).
 -- 4. The data of a file are a stream that was read, if its type holds sections (`file_kept`).
-use Rattle.std.proofs.Common.{Bool, true, ◌≡◌, ℕ, zero, suc, ◌-◌, ◌^◌, ◌<◌, ◌≤◌, List, [], ◌∷◌, drop, length, map, refl, sym, ap, ◌∙◌, subst, arith}
+use Rattle.std.proofs.Common.{true, ◌≡◌, ℕ, zero, suc, ◌-◌, ◌^◌, ◌<◌, ◌≤◌, List, [], ◌∷◌, drop, length, map, refl, sym, ap, ◌∙◌, subst, arith}
 use Rattle.std.specs.List.{AllByRecursion}
+use Rattle.std.proofs.Math.Numerals.{sub-one}
 use Rattle.fv_base.specs.Words.{IsBytes, depth_limit, volume_limit}
 use Rattle.fv_base.specs.declared.guid.Guid.{Guid}
 use Rattle.fv_base.proofs.Laws.{bytes_drop, common_steps}
 use Rattle.fv_section.specs.Words.{FrameForm, after_first, frame_in}
 use Rattle.fv_section.proofs.Laws.{begun_bytes}
-use Rattle.fv_tree.specs.Words.{Pairwise, StreamRelation, VolumeRelation, SectionOver, IsStoredFrame, MeansFile, MeansSection, Stream, Denotes, File}
-use Rattle.fv_tree.specs.Words.{holds_sections, Meaning, SectionMeaning, Section, BodyMeaning, Leaf, Group, Nested, sections_from, shape_of, Step}
-use Rattle.fv_tree.specs.Words.{each_by, body_by, section_over, unopened, section_by, frames_of, tail_of, AreKept, BeginsFramed, IsKept, IsKeptFile}
-use Rattle.fv_tree.specs.Words.{content_by}
+use Rattle.fv_tree.specs.Words.{Pairwise, IsStoredFrame, MeansSection, Stream, holds_sections, Meaning, SectionMeaning, Section, Leaf, Group, Nested}
+use Rattle.fv_tree.specs.Words.{shape_of, Step, each_by, body_by, unopened, section_by, frames_of, tail_of, AreKept, BeginsFramed, IsKept, IsKeptFile}
 use Rattle.fv_tree.specs.declared.shape.Shape.{Shape}
 use Rattle.fv_tree.specs.declared.shape.Shape.TheVariants as shapes
 use Rattle.fv_tree.proofs.SectionShapeLaws.{frame_small, list_back, volume_shape}
@@ -64,19 +63,11 @@ none_after n f (v ∷ vs) short = cc
 body_unplaced : (shape : Shape) (step : Step) (f : FrameForm) (vs : List Meaning) → body_by shape step (unplaced f) vs ≡ body_by shape step f vs
 body_unplaced shape step f vs = grind (arith, common_steps) steps 150000
 
-over_unplaced : (step : Step) (f : FrameForm) (vs : List Meaning) → section_over step (unplaced f) vs ≡ section_over step f vs
-over_unplaced step f vs = ap (λ (r : BodyMeaning × List Meaning). (Section f.kind f.extended r.0, r.1)) (body_unplaced (shape_of f) step f vs)
-
 pub by_unplaced : (n : ℕ) (f : FrameForm) (vs : List Meaning) → section_by n (unplaced f) vs ≡ section_by n f vs
-by_unplaced zero f vs = over_unplaced unopened f vs
-by_unplaced (suc n) f vs = over_unplaced (section_by n) f vs
-
-over_means : (S : StreamRelation) (V : VolumeRelation) (f : FrameForm) (s : SectionMeaning) → SectionOver S V f s → SectionOver S V (unplaced f) s
-over_means S V f s h = grind (arith, common_steps) steps 150000
+by_unplaced n f vs = cc (section_is n f vs _ refl, section_is n (unplaced f) vs _ refl, body_unplaced (shape_of f) (below n) f vs)
 
 unplaced_means : (n : ℕ) (f : FrameForm) (s : SectionMeaning) → MeansSection n f s → MeansSection n (unplaced f) s
-unplaced_means zero f s h = over_means (λ _ _ _. ⊥) (λ _ _. ⊥) f s h
-unplaced_means (suc n) f s h = over_means (Stream n) (Denotes n) f s h
+unplaced_means n f s h = grind (arith, common_steps) steps 150000
 
 pairs_unplaced : (n : ℕ) (fs : List FrameForm) (ss : List SectionMeaning) → Pairwise (MeansSection n) fs ss
     → Pairwise (MeansSection n) (map unplaced fs) ss
@@ -109,11 +100,7 @@ module _ (n : ℕ) (r : List ℕ) (vs : List Meaning) (least : 4 ≤ length r) w
   pub tail_after : tail_of r ≡ tail_of (after_first r)
   tail_after = ap (λ (s : List (List ℕ) × List ℕ). length s.1) (first_start r least)
 
-  pub each_first : each_by (section_by n) (frames_of r) vs
-      ≡ (
-        (section_by n (frame_in 0 r) vs).0 ∷ (each_by (section_by n) (frames_of (after_first r)) (section_by n (frame_in 0 r) vs).1).0,
-        (each_by (section_by n) (frames_of (after_first r)) (section_by n (frame_in 0 r) vs).1).1,
-      )
+  pub each_first : each_by (section_by n) (frames_of r) vs ≡ each_by (section_by n) (frame_in 0 r ∷ frames_of (after_first r)) vs
   each_first = ap (λ fs. each_by (section_by n) fs vs) frames_are
 
   pub frame_kept : AreKept n r vs → BeginsFramed r
@@ -149,40 +136,26 @@ body_bytes f (b, small, short, stands) = (begun_bytes f (drop f.offset b) stands
 -- if a group was read, n is at least 1, and the body of the group is a stream of sections that were read
 pub group_kept : (n : ℕ) (f : FrameForm) (vs : List Meaning) → shape_of f ≡ shapes.Group → IsKept n f vs
     → (0 < n) × AreKept (n - 1) f.body vs
-group_kept zero f vs is kept =
-    let means = subst (λ (r : SectionMeaning × List Meaning). MeansSection zero f r.0) (section_is zero f vs shapes.Group is) kept.means in
-    absurd means.2.1
+group_kept zero f vs is kept = absurd (rw is at kept.means).2.1
 group_kept (suc n) f vs is kept =
-    let means = subst (λ (r : SectionMeaning × List Meaning). MeansSection (suc n) f r.0) (section_is (suc n) f vs shapes.Group is) kept.means in
-    let ss : List SectionMeaning = (each_by (section_by n) (frames_of f.body) vs).0 in
-    let stream : Stream n ss (tail_of f.body) f.body = subst (λ us. Stream n us (tail_of f.body) f.body) (list_back ss) means.2.1 in
-    let inside : AreKept n f.body vs = stream_kept n f.body vs (tail_of f.body) (omega (arith, kept.few)) (body_bytes f kept.stored) (frame_small f kept.stored) stream in
-    (omega arith, subst (λ (k : ℕ). AreKept k f.body vs) (omega arith) inside)
+    let stream = rw list_back at (rw is at kept.means).2.1 in
+    (omega arith, rw (sub-one (suc n)) (stream_kept n f.body vs _ (omega (arith, kept.few)) (body_bytes f kept.stored) (frame_small f kept.stored) stream))
 
 -- the body of a group is made from the frames in it, one level deeper
 pub group_view : (n : ℕ) (f : FrameForm) (vs : List Meaning) → shape_of f ≡ shapes.Group → 0 < n → section_by n f vs
-    ≡ (
-      Section f.kind f.extended (Group (sections_from (each_by (section_by (n - 1)) (frames_of f.body) vs).0) (tail_of f.body)),
-      (each_by (section_by (n - 1)) (frames_of f.body) vs).1,
-    )
+    ≡ (Section f.kind f.extended (body_by shapes.Group (section_by (n - 1)) f vs).0, (body_by shapes.Group (section_by (n - 1)) f vs).1)
 group_view zero f vs is deep = absurd (omega (arith, deep))
-group_view (suc n) f vs is deep = section_is (suc n) f vs shapes.Group is ∙ ap (λ (k : ℕ). (
-  Section f.kind f.extended (Group (sections_from (each_by (section_by k) (frames_of f.body) vs).0) (tail_of f.body)),
-  (each_by (section_by k) (frames_of f.body) vs).1,
-)) (omega arith)
+group_view (suc n) f vs is deep = rw (sub-one (suc n)) (section_is (suc n) f vs shapes.Group is)
 
 -- ---- an opened volume
 
 -- a section that is opened as a volume takes the first volume
 pub volume_view : (n : ℕ) (f : FrameForm) (vs : List Meaning) → shape_of f ≡ shapes.Volume → IsKept n f vs
     → (v : Meaning) × (rest : List Meaning) × (vs ≡ v ∷ rest) × (section_by n f vs ≡ (Section f.kind f.extended (Nested v), rest))
-volume_view n f [] is kept =
-    let means = subst (λ (r : SectionMeaning × List Meaning). MeansSection n f r.0) (section_is n f [] shapes.Volume is) kept.means in
-    absurd (shut n means)
-  where
-    shut : (n : ℕ) → MeansSection n f (Section f.kind f.extended (Leaf f.body)) → ⊥
-    shut zero (p, q, (off, not, r)) = not (volume_shape f is).kind (volume_shape f is).opens
-    shut (suc n) (p, q, (off, not, r)) = not (volume_shape f is).kind (volume_shape f is).opens
+volume_view n f [] is kept = absurd (shut n (rw (section_is n f [] shapes.Volume is) at kept.means)) where
+  shut : (n : ℕ) → MeansSection n f (Section f.kind f.extended (Leaf f.body)) → ⊥
+  shut zero (p, q, (off, not, r)) = not (volume_shape f is).kind (volume_shape f is).opens
+  shut (suc n) (p, q, (off, not, r)) = not (volume_shape f is).kind (volume_shape f is).opens
 volume_view n f (v ∷ rest) is kept = (v, rest, refl, section_is n f (v ∷ rest) shapes.Volume is)
 
 -- ---- the data of a file
@@ -191,8 +164,5 @@ volume_view n f (v ∷ rest) is kept = (v, rest, refl, section_is n f (v ∷ res
 pub file_kept : (n : ℕ) (payload : List ℕ) (vs : List Meaning) (name : Guid) (kind attributes : ℕ) → holds_sections kind ≡ true
     → IsKeptFile n payload vs name kind attributes → AreKept n payload vs
 file_kept n payload vs name kind attributes holds kept =
-    let ss : List SectionMeaning = (each_by (section_by n) (frames_of payload) vs).0 in
-    let means = subst (λ (t : Bool). MeansFile (Stream n) kept.form (File name kind attributes (content_by t n payload vs).0)) holds kept.means in
-    let stream : Stream n ss (tail_of payload) kept.form.payload =
-    subst (λ us. Stream n us (tail_of payload) kept.form.payload) (list_back ss) means.3.1 in
-    stream_kept n payload vs (tail_of payload) kept.few (kept.small holds) kept.short (subst (Stream n ss (tail_of payload)) kept.payload_is stream)
+    let stream = rw (list_back, kept.payload_is) at (rw holds at kept.means).3.1 in
+    stream_kept n payload vs (tail_of payload) kept.few (kept.small holds) kept.short stream
