@@ -60,19 +60,10 @@ entries_decide ps qs = slice_eq-Decides (pairs_decide bytes_eq bytes_eq-Decides)
 ext_decides : (x y : Option Extension) → Decides (ext_eq x y) (x ≡ y)
 ext_decides x y = grind (arith, common_steps, Decides-like, Decides-and, guids_decide, entries_decide, bytes_eq-Decides) steps 150000
 
-abbrev made : List ℕ → FileSystem → ℕ → ℕ → ℕ → List (ℕ × ℕ) → Option Extension → HeadFields
-made z s l t r m x = record { zero_vector = z; file_system = s; length = l; attributes = t; reserved = r; blocks = m; ext = x }
-
-made_one : (z z' : List ℕ) (s s' : FileSystem) (l l' t t' r r' : ℕ) (m m' : List (ℕ × ℕ)) (x x' : Option Extension)
-    → z ≡ z' → s ≡ s' → l ≡ l' → t ≡ t' → r ≡ r' → m ≡ m' → x ≡ x'
-    → made z s l t r m x ≡ made z' s' l' t' r' m' x'
-made_one z z' s s' l l' t t' r r' m m' x x' p q u v w i j = rw (p, q, u, v, w, i, j) refl
-
 head_same : (h g : HeadFields) → IsNoneIf (head_differs h g) (h ≡ g)
 head_same h g =
     if_same (head_differs h g)
-    (λ e. made_one _ _ _ _ _ _ _ _ _ _ _ _ _ _ e.0 e.1.0 e.1.1.0 e.1.1.1.0 e.1.1.1.1.0 e.1.1.1.1.1.0 e.1.1.1.1.1.1)
-    (λ e. (cc, (cc, (cc, (cc, (cc, (cc, cc)))))))
+    (λ e. grind arith) (λ e. (cc, (cc, (cc, (cc, (cc, (cc, cc)))))))
     (both_same _ _ (by_test _ _ (bytes_eq-Decides h.zero_vector g.zero_vector))
     (both_same _ _ (by_test _ _ (systems_decide h.file_system g.file_system))
     (both_same _ _ (by_test _ _ (Decides-eqb h.length g.length))

@@ -11,7 +11,7 @@ use Rattle.std.proofs.Common.{◌≡◌, ℕ, zero, suc, ◌+◌, ◌<◌, ◌�
 use Rattle.std.proofs.Common.{length-append, append_assoc, length-drop, ⊎_elim}
 use Rattle.std.specs.Prelude.{nat_lt}
 use Rattle.std.specs.List.{AllByRecursion}
-use Rattle.std.proofs.lemmas.Bool.{cases_lt, le-ltb, lt-ltb, ltb-true, ltb-false}
+use Rattle.std.proofs.lemmas.Bool.{cases_lt, le-ltb, lt-ltb}
 use Rattle.std.proofs.lemmas.List.{drop_at, length-map}
 use Rattle.fv_base.specs.Words.{IsBytes}
 use Rattle.fv_base.proofs.Laws.{bytes_drop, common_steps}
@@ -96,16 +96,14 @@ cut f r rest begun = cut_filler f r [] rest (frame_len f) begun (omega arith)
 
 -- the bytes that are left after the last frame are the tail
 after_last : (f : FrameForm) (r rest : List ℕ) → BeginsFrame f r rest → frame_len f + length rest ≤ up_to_4 (frame_len f) → after_first r ≡ rest
-after_last f r rest begun fit =
-    ap (λ g. after_size (frame_len g) r) (first_is f r rest begun).0
-    ∙ by_after (λ s. s ≡ rest) (frame_len f) r (λ e. absurd (omega (arith, fit, length_begun f r rest begun, ltb-true _ _ e))) (λ e. cut f r rest begun)
+after_last f r rest begun fit = grind (arith, common_steps, (first_is f r rest begun).0, cut f r rest begun, length_begun f r rest begun)
 
 -- the bytes that are left after any other frame begin with the next frame
 after_more : (f : FrameForm) (r filler rest : List ℕ) → BeginsFrame f r (filler ++ rest) → frame_len f + length filler ≡ up_to_4 (frame_len f)
     → 0 < length rest → after_first r ≡ rest
 after_more f r filler rest begun fill some =
-    ap (λ g. after_size (frame_len g) r) (first_is f r _ begun).0 ∙ by_after (λ s. s ≡ rest) _ r (λ e. cut_filler f r filler rest _ begun (sym fill))
-    (λ e. absurd (omega (arith, fill, some, length_begun f r _ begun, length-append filler rest, ltb-false _ _ e)))
+    let follows = cut_filler f r filler rest _ begun (sym fill) in
+    grind (arith, common_steps, (first_is f r _ begun).0, follows, length_begun f r _ begun, length-append filler rest)
 
 -- the frames that were read are the frames fs, with the offset 0, and t bytes are left after them; and each of these
 -- frames is at the start of the bytes from which it was read

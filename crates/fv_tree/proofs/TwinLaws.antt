@@ -6,9 +6,10 @@
 -- 3. Of two current files neither replaces the other, so their names differ (`names_differ`).
 -- 4. Volume top files have the same name, so two of them are not both current (`two_tops`), and at most one of them is
 --    not at the end (`one_top`).
-use Rattle.std.proofs.Common.{◌≡◌, ℕ, [], ◌∷◌, ◌++◌, ◌&&◌, Bool, true, false, List, refl, sym, ◌∙◌, subst, inl, inr, arith, not}
+use Rattle.std.proofs.Common.{◌≡◌, ℕ, [], ◌∷◌, ◌++◌, ◌&&◌, Bool, true, false, List, refl, sym, ◌∙◌, subst, arith, not}
 use Rattle.fv_base.proofs.Laws.{common_steps, beq, AllByRecursion, filter, list_any, not-true, recursion_from_All, bytes_eq-Decides, First, Earlier}
-use Rattle.fv_base.proofs.Laws.{TwoCuts, after_middle, in_middle, or_both, or_parts, two_cuts}
+use Rattle.fv_base.proofs.Laws.{after_middle, in_middle, or_both, or_parts, two_cuts}
+use Rattle.std.proofs.lemmas.Bool.{cond_both}
 use Rattle.std.proofs.lemmas.List.Elements.{filter_passes}
 use Rattle.std.proofs.lemmas.List.Folds.{list_any-append}
 use Rattle.fv_tree.specs.Words.{HasTwin, TopElsewhere, FileForm, same_name, is_marked, is_twin, replaced_by, NoTwins, current_in, is_top}
@@ -16,14 +17,17 @@ use Rattle.fv_tree.proofs.NamesFaultLaws.{twin_none}
 
 -- ---- the first file that has an earlier twin
 
+-- two cuts, neither of which is before the other, are at the same file
+once : (before : List FileForm) (f : FileForm) (after before' : List FileForm) (g : FileForm) (after' : List FileForm)
+    → before ++ (f ∷ after) ≡ before' ++ (g ∷ after') → (Earlier before f after before' g after' → ⊥)
+    → (Earlier before' g after' before f after → ⊥) → f ≡ g
+once before f after before' g after' is not not' = grind (arith, two_cuts before f after before' g after' is)
+
 -- at most one of the files is the first that has an earlier twin
 pub one_twin : (f g : FileForm) (fs : List FileForm) → HasTwin First f fs → HasTwin First g fs → f ≡ g
-one_twin f g fs (before, after, is, none, has) (before', after', is', none', has') = go (two_cuts before f after before' g after' (sym is ∙ is'))
-  where
-    go : TwoCuts before f after before' g after' → f ≡ g
-    go (inl (same, item)) = item
-    go (inr (inl (mid, late, rest))) = absurd (twin_none First f before' (before, mid, late, none, has) none')
-    go (inr (inr (mid, late, rest))) = absurd (twin_none First g before (before', mid, late, none', has') none)
+one_twin f g fs (before, after, is, none, has) (before', after', is', none', has') =
+    once before f after before' g after' (sym is ∙ is') (λ e. twin_none First f before' (before, e.0, e.1, none, has) none')
+    (λ e. twin_none First g before (before', e.0, e.1, none', has') none)
 
 -- ---- some of the files, by a test
 
@@ -32,20 +36,15 @@ none_kept : (p q : FileForm → Bool) (fs : List FileForm) → list_any q fs ≡
 none_kept p q [] h = refl
 none_kept p q (f ∷ fs) h =
     let parts = or_parts (q f) (list_any q fs) h in
-    go (p f) refl parts.0 (none_kept p q fs parts.1)
-  where
-    go : (t : Bool) → p f ≡ t → q f ≡ false → list_any q (filter p fs) ≡ false → list_any q (filter p (f ∷ fs)) ≡ false
-    go true e here rest = rw e (or_both (q f) (list_any q (filter p fs)) here rest)
-    go false e here rest = rw e rest
+    let rest = none_kept p q fs parts.1 in
+    cond_both (p f) _ _ (λ l. list_any q l ≡ false) (λ _. or_both (q f) _ parts.0 rest) (λ _. rest)
 
 -- if files have no twins, the files that a filter keeps have none
 no_twins_kept : (p : FileForm → Bool) (fs : List FileForm) → NoTwins fs → NoTwins (filter p fs)
 no_twins_kept p [] h = tt
-no_twins_kept p (f ∷ fs) h = go (p f) refl (no_twins_kept p fs h.1)
-  where
-    go : (t : Bool) → p f ≡ t → NoTwins (filter p fs) → NoTwins (filter p (f ∷ fs))
-    go true e rest = rw e (none_kept p (is_twin f) fs h.0, rest)
-    go false e rest = rw e rest
+no_twins_kept p (f ∷ fs) h =
+    let rest = no_twins_kept p fs h.1 in
+    cond_both (p f) _ _ NoTwins (λ _. (none_kept p (is_twin f) fs h.0, rest)) (λ _. rest)
 
 -- a test that is false of all items is false of each item, and of all items after it
 any_cut : (q : FileForm → Bool) (before : List FileForm) (f : FileForm) (after : List FileForm)
@@ -113,9 +112,5 @@ two_tops fs before f after before' g after' none is top top' (mid, late, rest) =
 pub one_top : (len : ℕ) (f g : FileForm) (fs : List FileForm) → NoTwins fs → TopElsewhere len f (current_in fs)
     → TopElsewhere len g (current_in fs) → f ≡ g
 one_top len f g fs none (before, after, is, top, off) (before', after', is', top', off') =
-    go (two_cuts before f after before' g after' (sym is ∙ is'))
-  where
-    go : TwoCuts before f after before' g after' → f ≡ g
-    go (inl (same, item)) = item
-    go (inr (inl earlier)) = absurd (two_tops fs before f after before' g after' none is top top' earlier)
-    go (inr (inr earlier)) = absurd (two_tops fs before' g after' before f after none is' top' top earlier)
+    once before f after before' g after' (sym is ∙ is') (two_tops fs before f after before' g after' none is top top')
+    (two_tops fs before' g after' before f after none is' top' top)

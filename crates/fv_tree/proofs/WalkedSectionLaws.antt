@@ -10,7 +10,6 @@
 --    is opened as a volume takes the first volume (`volume_view`).
 -- 4. The data of a file are a stream that was read, if its type holds sections (`file_kept`).
 use Rattle.std.proofs.Common.{true, ◌≡◌, ℕ, zero, suc, ◌-◌, ◌^◌, ◌<◌, ◌≤◌, List, [], ◌∷◌, drop, length, map, refl, sym, ap, ◌∙◌, subst, arith}
-use Rattle.std.specs.List.{AllByRecursion}
 use Rattle.std.proofs.Math.Numerals.{sub-one}
 use Rattle.fv_base.specs.Words.{IsBytes, depth_limit, volume_limit}
 use Rattle.fv_base.specs.declared.guid.Guid.{Guid}
@@ -104,17 +103,13 @@ module _ (n : ℕ) (r : List ℕ) (vs : List Meaning) (least : 4 ≤ length r) w
   each_first = ap (λ fs. each_by (section_by n) fs vs) frames_are
 
   pub frame_kept : AreKept n r vs → BeginsFramed r
-  frame_kept kept = (subst (λ (s : List (List ℕ) × List ℕ). AllByRecursion BeginsFramed s.0) (first_start r least) kept.framed).0
-
-  pairs : AreKept n r vs → Pairwise (MeansSection n) (frame_in 0 r ∷ frames_of (after_first r))
-      (each_by (section_by n) (frame_in 0 r ∷ frames_of (after_first r)) vs).0
-  pairs kept = subst (λ fs. Pairwise (MeansSection n) fs (each_by (section_by n) fs vs).0) frames_are kept.means
+  frame_kept kept = (rw (first_start r least) at kept.framed).0
 
   pub first_kept : AreKept n r vs → IsKept n (frame_in 0 r) vs
-  first_kept kept = grind (arith, common_steps, frame_kept, pairs) steps 150000
+  first_kept kept = grind (arith, common_steps, frame_kept, rw frames_are at kept.means) steps 150000
 
   pub rest_kept : AreKept n r vs → AreKept n (after_first r) (section_by n (frame_in 0 r) vs).1
-  rest_kept kept = grind (arith, common_steps, bytes_after, fewer, first_start, pairs) steps 150000
+  rest_kept kept = grind (arith, common_steps, bytes_after, fewer, first_start, rw frames_are at kept.means) steps 150000
 
 -- there are as many sections as frames
 each_length : (step : Step) (fs : List FrameForm) (vs : List Meaning) → length (each_by step fs vs).0 ≡ length fs
