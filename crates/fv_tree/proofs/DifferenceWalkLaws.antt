@@ -1,14 +1,10 @@
--- Facts for the search for the first difference of two volumes: their headers differ, their numbers of entries or of
--- files differ, or their meanings are equal and there is no difference.
-use Rattle.std.proofs.Common.{◌≡◌, ℕ, ◌≤◌, [], ◌∷◌, List, length, drop, min, refl, ◌∙◌, arith, true, ◌-◌}
+-- Facts for the search for the first difference of two volumes: their headers differ, or their numbers of files differ.
+use Rattle.std.proofs.Common.{◌≡◌, ℕ, ◌≤◌, [], ◌∷◌, List, length, drop, min, refl, ◌∙◌, arith, ◌-◌}
 use Rattle.fv_base.proofs.Laws.{length-drop, Option, Some}
 use Rattle.fv_head.specs.Words.{HeadFields}
-use Rattle.fv_tree.specs.Words.{Differs, has_steps, differ_in, head_differs, difference, files_differ, Meaning, Volume, FileMeaning, head_of}
-use Rattle.fv_tree.specs.Words.{files_from}
-use Rattle.fv_tree.specs.declared.difference.Step.{Step}
+use Rattle.fv_tree.specs.Words.{differ_in, head_differs, difference, files_differ, Meaning, Volume, FileMeaning, head_of, files_from}
 use Rattle.fv_tree.specs.declared.difference.DifferenceKind.{DifferenceKind}
-use Rattle.fv_tree.specs.inner.FoundDifferences.{in_kind, reversed_steps}
-use Rattle.fv_tree.proofs.DifferenceLaws.{volume_same}
+use Rattle.fv_tree.specs.inner.FoundDifferences.{in_kind}
 use Rattle.fv_tree.specs.declared.difference.DifferenceKind.TheVariants as kinds
 
 -- ---- after the last items that both lists have
@@ -36,11 +32,3 @@ files_uneven fs gs i past within ne e =
 pub volume_word : (v w : Meaning) (h g : HeadFields) (o : Option DifferenceKind) (word : DifferenceKind) → h ≡ head_of v → g ≡ head_of w
     → in_kind o ≡ head_differs h g → o ≡ Some word → difference v w ≡ differ_in word
 volume_word (Volume a fs) (Volume b gs) h g o word x y said is = rw (← x, ← y, ← said, is)
-
--- if a difference was returned, the meanings are different
-pub differ_found : (v w : Meaning) (o : Differs) (d : List Step × DifferenceKind) → reversed_steps o ≡ difference v w → o ≡ Some d → v ≡ w → ⊥
-differ_found v w o d same_kept is e = cc ((volume_same v w).1 e)
-
--- if the difference has steps, the meanings are different
-pub steps_differ : (v w : Meaning) → has_steps (difference v w) ≡ true → v ≡ w → ⊥
-steps_differ v w some e = cc ((volume_same v w).1 e)

@@ -1,8 +1,8 @@
 -- If the fixed bits of a volume's files are cleared and cells tile the new body, the bytes are the unfixed volume: they
 -- begin with the same header, cells tile their body, and no other bytes are an unfixed volume.
-use Rattle.std.proofs.Common.{◌≡◌, ℕ, ◌+◌, ◌-◌, ◌≤◌, ◌++◌, [], ◌≢◌, List, length, take, drop, sym, ap, ◌∙◌, arith, append_assoc, inl, inr}
-use Rattle.std.proofs.Common.{refl, Option, None, Some, length-append, length-take-le, length-drop, take-append-drop}
-use Rattle.fv_base.proofs.Laws.{drop-drop, drop_at, take_at, drop-take, First, field, le, le_at, take-take_le, field-take, none_faulty, not_first}
+use Rattle.std.proofs.Common.{◌≡◌, ℕ, ◌+◌, ◌-◌, ◌≤◌, ◌++◌, [], ◌≢◌, List, length, take, drop, sym, ap, ◌∙◌, arith, append_assoc, inl, inr, refl}
+use Rattle.fv_base.proofs.Laws.{common_steps, drop-drop, drop_at, take_at, drop-take, First, field, le, le_at, take-take_le, field-take, none_faulty}
+use Rattle.fv_base.proofs.Laws.{not_first, Option, None, Some, length-append, length-take-le, length-drop, take-append-drop}
 use Rattle.fv_base.specs.declared.fault.Fault.{Fault}
 use Rattle.fv_file.specs.Words.{CellForm, Tiles, IsFirstCellFault, Unmarks}
 use Rattle.fv_file.proofs.Laws.{length-unmarks, none_after, NoneFixed, tiled_unfixed, fault_unfixed, one_unmarked}
@@ -37,17 +37,8 @@ module _ (e : Extent) (b o : List ℕ) (same : take e.first o ≡ take e.first b
 pub header_kept : (b o : List ℕ) (h : HeadFields) (e : Extent) → BeginsVolume h e b → length o ≡ length b → take e.first o ≡ take e.first b
     → BeginsVolume h e o
 header_kept b o h e front long same =
-    let lies = front_lies b h e front in
-    let ext = ext_kept e b o same h.ext lies.least front.ext in
-    record {
-      head = rw (front_kept e b o same e.header_len ext.1) front.head;
-      long_enough = omega (arith, front.long_enough, long);
-      is_within = omega (arith, front.is_within, long);
-      ext = ext.0;
-      length_is = front.length_is;
-      file_system = front.file_system;
-      polarity = front.polarity;
-    }
+    let ext = ext_kept e b o same h.ext (front_lies b h e front).least front.ext in
+    grind (arith, common_steps, front, front_kept e b o same e.header_len ext.1, ext.0)
 
 -- the new body is in its place, and all other bytes are unchanged
 record Kept (e : Extent) (b o body : List ℕ) : Type 0 where

@@ -81,22 +81,19 @@ all_kept test [] h = refl
 all_kept test (s ∷ ss) h = rw (h.0, all_kept test ss h.1)
 
 module _ (b : List ℕ) where
-  abbrev form : LocatedFile → FileForm
-  form = file_form b
-
   -- if two tests agree on each file, one is true of some file exactly if the other is
-  same_any : (p : FileForm → Bool) (q : NamedFile → Bool) → ((s : LocatedFile) → p (form s) ≡ q (named_file s))
-      → (ss : List LocatedFile) → list_any p (map form ss) ≡ list_any q (map named_file ss)
+  same_any : (p : FileForm → Bool) (q : NamedFile → Bool) → ((s : LocatedFile) → p (file_form b s) ≡ q (named_file s))
+      → (ss : List LocatedFile) → list_any p (map (file_form b) ss) ≡ list_any q (map named_file ss)
   same_any p q same [] = refl
   same_any p q same (s ∷ ss) = rw (same s, same_any p q same ss)
 
   twins_any : (s : LocatedFile) (ss : List LocatedFile)
       → list_any (is_twin (file_form b s)) (map (file_form b) ss) ≡ list_any (names.is_twin (named_file s)) (map named_file ss)
-  twins_any s ss = same_any (is_twin (form s)) (names.is_twin (named_file s)) (λ x. refl) ss
+  twins_any s ss = same_any (is_twin (file_form b s)) (names.is_twin (named_file s)) (λ x. refl) ss
 
   pub replaced_any : (s : LocatedFile) (ss : List LocatedFile)
       → list_any (replaced_by (file_form b s)) (map (file_form b) ss) ≡ list_any (names.replaced_by (named_file s)) (map named_file ss)
-  replaced_any s ss = same_any (replaced_by (form s)) (names.replaced_by (named_file s)) (λ x. refl) ss
+  replaced_any s ss = same_any (replaced_by (file_form b s)) (names.replaced_by (named_file s)) (λ x. refl) ss
 
   -- if the names and marks of the files have no twins, the files have none
   pub twins_from : (ss : List LocatedFile) → names.NoTwins (map named_file ss) → NoTwins (map (file_form b) ss)
@@ -122,8 +119,8 @@ module _ (b : List ℕ) where
       → map (file_form b) (filter (λ s. not (list_any (names.replaced_by (named_file s)) (map named_file ss))) ss)
       ≡ current_in (map (file_form b) ss)
   kept_current ss =
-      kept_noted form (λ s. list_any (names.replaced_by (named_file s)) (map named_file ss))
-      (λ f. list_any (replaced_by f) (map form ss)) ss (λ i s l. sym (replaced_any (get_or ss i s) ss))
+      kept_noted (file_form b) (λ s. list_any (names.replaced_by (named_file s)) (map named_file ss))
+      (λ f. list_any (replaced_by f) (map (file_form b) ss)) ss (λ i s l. sym (replaced_any (get_or ss i s) ss))
 
   module _ (ss : List LocatedFile) (es : List Entry) (index : IsIndex (names_in (map named_file ss)) es) (apart : NeighboursDiffer es) where
     -- files with different names have no twins
@@ -133,5 +130,5 @@ module _ (b : List ℕ) where
     -- and no file is replaced, so all files are current
     pub all_current : current_in (map (file_form b) ss) ≡ map (file_form b) ss
     all_current =
-        sym (kept_current ss) ∙ ap (map form) (all_kept (λ f. list_any (names.replaced_by f) (map named_file ss)) ss
+        sym (kept_current ss) ∙ ap (map (file_form b)) (all_kept (λ f. list_any (names.replaced_by f) (map named_file ss)) ss
         (none_replaced (map named_file ss) es index no_named no_entry apart))

@@ -79,8 +79,4 @@ plain_read n kind b is = grind (arith, common_steps) steps 150000
 pub sectioned_read : (n kind : ℕ) (b : List ℕ) (new : List Meaning) → holds_sections kind ≡ true → StreamRead n b [] new → ContentRead n kind b new
 sectioned_read n kind b new is read =
     let made : each_by (section_by n) (frames_of b) new ≡ (read.sections, []) = cc (read.yields [], append-nil read.added, read.joined) in
-    record {
-      small = λ _. read.small;
-      means = rw (is, made) (stream_reads n kind b read.sections (tail_of b) is read.means);
-      none = rw (is, made);
-    }
+    grind (arith, common_steps, stream_reads n kind b read.sections (tail_of b) is read.means)

@@ -9,11 +9,10 @@
 --    left, it has the fault Depth (`deep_fault`).
 -- 5. The meaning of a file whose type holds sections is its stream (`stream_reads`). If its data are not a stream, the
 --    file has no meaning (`stream_bad`).
-use Rattle.std.proofs.Common.{◌≡◌, ℕ, ◌+◌, ◌≤◌, [], ◌∷◌, ◌≢◌, ◌⊎◌, if◌then◌else◌, zero, suc, List, length, Bool, true, refl}
-use Rattle.std.proofs.Common.{ap, inl, inr, arith, is_some, Some, None, le-leb, leb-true}
+use Rattle.std.proofs.Common.{◌≡◌, ℕ, ◌+◌, ◌≤◌, [], ◌∷◌, ◌≢◌, ◌⊎◌, if◌then◌else◌, zero, suc, List, length, Bool, true, refl, ap, inl, inr, arith}
+use Rattle.std.proofs.Common.{is_some, Some, None, le-leb, leb-true}
 use Rattle.std.proofs.lemmas.Bool.Decides.{Decides-and, Decides-like}
-use Rattle.fv_base.proofs.Laws.{common_steps, Decides, Decides-eqb, bytes_eq-Decides, First, outer_fault, field, up_is_not_down}
-use Rattle.fv_base.specs.Words.{volume_limit}
+use Rattle.fv_base.proofs.Laws.{common_steps, Decides, Decides-eqb, bytes_eq-Decides, First, outer_fault, field, up_is_not_down, volume_limit}
 use Rattle.fv_base.specs.declared.fault.Fault.{Fault}
 use Rattle.fv_base.specs.declared.flash.FileSystem.{FileSystem}
 use Rattle.fv_base.specs.declared.fault.Place.{Place}
@@ -40,16 +39,16 @@ frame_small f (b, small, short, stands) = omega (arith, short, stands_within f b
 
 -- ---- the test of a body
 
--- the test for one of the file systems
+-- a test for FFS2 and a test for FFS3 decide whether P holds of some file system
 either : (P : FileSystem → Type 0) (t u : Bool) → Decides t (P Ffs2) → Decides u (P Ffs3)
     → Decides (is_some (if t then Some Ffs2 else (if u then Some Ffs3 else None))) ((system : FileSystem) × P system)
 either P t u two three = grind (arith, common_steps)
 
 opens_decides : (b : List ℕ) → Decides (is_one_volume b) (Opens b)
 opens_decides b =
-    Decides-like (is_one_volume b) (λ h. record { least = h.0.0.0; signature = h.0.0.1; file_system = h.0.1; length_is = h.1 }) (λ
-    o. (((o.least, o.signature), o.file_system), o.length_is)) (Decides-and _ _
-    (Decides-and _ _ (Decides-and _ _ (leb-true 56 (length b), le-leb 56 (length b)) (bytes_eq-Decides _ _)) (either (λ s. field 16 16 b ≡ system_guid s) _ _ (bytes_eq-Decides _ _) (bytes_eq-Decides _ _))) (Decides-eqb _ _))
+    Decides-like _ (λ h. grind arith) (λ o. (((o.least, o.signature), o.file_system), o.length_is)) (Decides-and _ _ (Decides-and _ _
+    (Decides-and _ _ (leb-true 56 (length b), le-leb 56 (length b)) (bytes_eq-Decides _ _))
+    (either (λ s. field 16 16 b ≡ system_guid s) _ _ (bytes_eq-Decides _ _) (bytes_eq-Decides _ _))) (Decides-eqb _ _))
 
 -- ---- the shapes
 
@@ -64,7 +63,7 @@ pub record IsOpened (f : FrameForm) : Type 0 where
 pub leaf_shape : (f : FrameForm) → shape_of f ≡ shapes.Leaf → IsLeaf f
 leaf_shape f is = grind (arith, common_steps, opens_decides) steps 150000
 
--- the tests of a group and of an opened volume, if they give this shape
+-- the test of a group is true if the shape is a group, and the test of a volume is true if the shape is a volume
 by_tests : (g v : Bool) (shape : Shape) → (if g then shapes.Group else (if v then shapes.Volume else shapes.Leaf)) ≡ shape
     → (shape ≡ shapes.Group → g ≡ true) × (shape ≡ shapes.Volume → v ≡ true)
 by_tests g v shape is = grind (arith, common_steps)
@@ -79,7 +78,7 @@ volume_shape f is = grind (arith, common_steps, by_tests _ _ _ is, opens_decides
 pub group_is_no_volume : (f : FrameForm) → f.kind ≡ group_kind → f.kind ≡ volume_kind → ⊥
 group_is_no_volume f a b = omega (arith, a, b)
 
--- ---- a leaf, with any relations for the parts inside
+-- ---- a leaf
 
 pub leaf_is : (n : ℕ) (f : FrameForm) → IsLeaf f → MeansSection n f (Section f.kind f.extended (Leaf f.body))
 leaf_is zero f l = (refl, refl, (l.no_group, l.not_opened, refl))

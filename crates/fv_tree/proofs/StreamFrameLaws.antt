@@ -7,14 +7,9 @@
 --    it split into the other frames (`after_last`, `after_more`). So the frames that are read are the frames of the
 --    split (`starts_meet`).
 -- 3. The same is true of a whole stream (`split_is`).
-use Rattle.std.proofs.Common.{◌≡◌, ℕ, zero, suc, ◌+◌, ◌<◌, ◌≤◌, List, [], ◌∷◌, ◌++◌, length, drop, map, refl, sym, ap, ◌∙◌, subst, arith, true, false}
+use Rattle.std.proofs.Common.{◌≡◌, ℕ, zero, suc, ◌+◌, ◌<◌, ◌≤◌, List, [], ◌∷◌, ◌++◌, length, drop, map, refl, sym, ap, ◌∙◌, arith, true, false}
 use Rattle.std.proofs.Common.{length-append, append_assoc, length-drop, ⊎_elim}
-use Rattle.std.specs.Prelude.{nat_lt}
-use Rattle.std.specs.List.{AllByRecursion}
-use Rattle.std.proofs.lemmas.Bool.{cases_lt, le-ltb, lt-ltb}
-use Rattle.std.proofs.lemmas.List.{drop_at, length-map}
-use Rattle.fv_base.specs.Words.{IsBytes}
-use Rattle.fv_base.proofs.Laws.{bytes_drop, common_steps}
+use Rattle.fv_base.proofs.Laws.{bytes_drop, common_steps, nat_lt, AllByRecursion, IsBytes, drop_at, length-map, cases_lt, le-ltb, lt-ltb}
 use Rattle.fv_section.specs.Words.{BeginsFrame, FrameForm, HasFrameAt, Splits, SplitsFrom, after_first, after_size, frame_in, frame_len, up_to_4}
 use Rattle.fv_section.proofs.Laws.{frame_reads, from_least, length_begun, size_least}
 use Rattle.fv_tree.specs.Words.{BeginsFramed, frames_of, starts_by, starts_of}
@@ -81,9 +76,9 @@ first_is f r rest begun =
       rest = rest;
       begins = record { head = begun.head; is_header = begun.is_header; text = begun.text };
     } in
-    (is, subst (λ g. HasFrameAt g 0 r) (sym is) here)
+    (is, rw is here)
 
--- the bytes after a frame, and the bytes after a frame and the filler that follows it
+-- the bytes after a frame and the filler that follows it, and the bytes after a frame
 cut_filler : (f : FrameForm) (r filler rest : List ℕ) (n : ℕ) → BeginsFrame f r (filler ++ rest) → n ≡ frame_len f + length filler
     → drop n r ≡ rest
 cut_filler f r filler rest n begun is =
@@ -112,27 +107,22 @@ pub record Meets (fs : List FrameForm) (t : ℕ) (starts : List (List ℕ) × Li
   pub tail : length starts.1 ≡ t
   pub framed : AllByRecursion BeginsFramed starts.0
 
-meets_one : (f : FrameForm) (fs : List FrameForm) (t : ℕ) (r rest : List ℕ) → frame_in 0 r ≡ unplaced f → BeginsFramed r
-    → 4 ≤ length r → after_first r ≡ rest → Meets fs t (starts_of rest) → Meets (f ∷ fs) t (starts_of r)
-meets_one f fs t r rest is framed least after more = grind (arith, common_steps, first_start) steps 150000
+meets_none : (t : ℕ) (r : List ℕ) → length r < 4 → length r ≡ t → Meets [] t (starts_of r)
+meets_none t r few is = rw (no_start r few) (record { frames = refl; tail = is; framed = tt })
+
+meets_one : (f : FrameForm) (fs : List FrameForm) (t : ℕ) (r behind : List ℕ) → BeginsFrame f r behind → Meets fs t (starts_of (after_first r))
+    → Meets (f ∷ fs) t (starts_of r)
+meets_one f fs t r behind begun more =
+    grind (arith, common_steps, first_start, first_is f r behind begun, length_begun f r behind begun, size_least f)
 
 starts_meet : (at : ℕ) (fs : List FrameForm) (t : ℕ) (r : List ℕ) → at ≡ up_to_4 at → SplitsFrom at fs t r → Meets fs t (starts_of r)
-starts_meet at [] t r multiple (none, z) =
-    subst (Meets [] t) (sym (no_start r (omega (arith, ap length none)))) (record { frames = refl; tail = omega (arith, ap length none, z); framed = tt })
+starts_meet at [] t r multiple (none, z) = meets_none t r (omega (arith, ap length none)) (omega (arith, ap length none, z))
 starts_meet at (f ∷ []) t r multiple (rest, begun, o, l, fit) =
-    let first = first_is f r rest begun in
-    let long = length_begun f r rest begun in
-    let small : length rest < 4 = omega (arith, l, fit) in
-    let after = after_last f r rest begun (omega (arith, multiple, l, fit)) in
-    meets_one f [] t r rest first.0 first.1 (omega (arith, long, size_least f)) after
-    (subst (Meets [] t) (sym (no_start rest small)) (record { frames = refl; tail = l; framed = tt }))
+    meets_one f [] t r rest begun (rw (after_last f r rest begun (omega (arith, multiple, l, fit))) (meets_none t rest (omega (arith, l, fit)) l))
 starts_meet at (f ∷ g ∷ fs) t r multiple (filler, rest, begun, o, fill, more) =
-    let first = first_is f r (filler ++ rest) begun in
-    let long = length_begun f r (filler ++ rest) begun in
     let some = from_least (up_to_4 (at + frame_len f)) g fs t rest more in
-    let after = after_more f r filler rest begun (omega (arith, multiple, fill)) (omega (arith, some)) in
-    meets_one f (g ∷ fs) t r rest first.0 first.1 (omega (arith, long, size_least f)) after
-    (starts_meet (up_to_4 (at + frame_len f)) (g ∷ fs) t rest (omega arith) more)
+    meets_one f (g ∷ fs) t r (filler ++ rest) begun (rw (after_more f r filler rest begun (omega (arith, multiple, fill)) (omega (arith, some)))
+    (starts_meet (up_to_4 (at + frame_len f)) (g ∷ fs) t rest (omega arith) more))
 
 -- a stream is read as the frames and the tail of its split
 pub split_is : (fs : List FrameForm) (t : ℕ) (b : List ℕ) → Splits fs t b → Meets fs t (starts_of b)

@@ -6,13 +6,13 @@
 -- 3. Of two current files neither replaces the other, so their names differ (`names_differ`).
 -- 4. Volume top files have the same name, so two of them are not both current (`two_tops`), and at most one of them is
 --    not at the end (`one_top`).
-use Rattle.std.proofs.Common.{◌≡◌, ℕ, [], ◌∷◌, ◌++◌, ◌&&◌, Bool, true, false, List, refl, sym, ◌∙◌, subst, arith, not}
-use Rattle.fv_base.proofs.Laws.{common_steps, beq, AllByRecursion, filter, list_any, not-true, recursion_from_All, bytes_eq-Decides, First, Earlier}
+use Rattle.std.proofs.Common.{◌≡◌, ℕ, [], ◌∷◌, ◌++◌, Bool, true, false, List, refl, sym, ◌∙◌, arith, not}
+use Rattle.fv_base.proofs.Laws.{common_steps, AllByRecursion, filter, list_any, not-true, recursion_from_All, bytes_eq-Decides, First, Earlier}
 use Rattle.fv_base.proofs.Laws.{after_middle, in_middle, or_both, or_parts, two_cuts}
 use Rattle.std.proofs.lemmas.Bool.{cond_both}
 use Rattle.std.proofs.lemmas.List.Elements.{filter_passes}
 use Rattle.std.proofs.lemmas.List.Folds.{list_any-append}
-use Rattle.fv_tree.specs.Words.{HasTwin, TopElsewhere, FileForm, same_name, is_marked, is_twin, replaced_by, NoTwins, current_in, is_top}
+use Rattle.fv_tree.specs.Words.{HasTwin, TopElsewhere, FileForm, same_name, is_twin, replaced_by, NoTwins, current_in, is_top}
 use Rattle.fv_tree.proofs.NamesFaultLaws.{twin_none}
 
 -- ---- the first file that has an earlier twin
@@ -63,39 +63,31 @@ apart (h ∷ hs) f mid g after none = apart hs f mid g after none.1
 abbrev is_alive : List FileForm → FileForm → Bool
 is_alive fs f = not (list_any (replaced_by f) fs)
 
--- if two files are not twins and neither replaces the other, their names differ
-tests_differ : (s r m k : Bool) → s ≡ true → r ≡ true → (s && beq m k) ≡ false → (s && (m && not k)) ≡ false
-    → (r && (k && not m)) ≡ false → ⊥
-tests_differ s r m k p q twin over under = grind (arith, common_steps) steps 150000
-
 -- two current files at different places have different names
 pub names_differ : (fs before : List FileForm) (f : FileForm) (mid : List FileForm) (g : FileForm) (after : List FileForm) → NoTwins fs
     → current_in fs ≡ before ++ (f ∷ (mid ++ (g ∷ after))) → same_name f g ≡ true → same_name g f ≡ true → ⊥
-names_differ fs before f mid g after none is forth back =
-    tests_differ (same_name f g) (same_name g f) (is_marked f.head.state) (is_marked g.head.state) forth back twin over under
-  where
-    whole : List FileForm
-    whole = before ++ (f ∷ (mid ++ (g ∷ after)))
+names_differ fs before f mid g after none is forth back = grind (arith, common_steps, twin, over, under) where
+  whole : List FileForm
+  whole = before ++ (f ∷ (mid ++ (g ∷ after)))
 
-    twin : is_twin f g ≡ false
-    twin = apart before f mid g after (subst NoTwins is (no_twins_kept (is_alive fs) fs none))
+  twin : is_twin f g ≡ false
+  twin = apart before f mid g after (rw is at (no_twins_kept (is_alive fs) fs none))
 
-    all : AllByRecursion (λ h. is_alive fs h ≡ true) whole
-    all = subst (λ (l : List FileForm). AllByRecursion (λ h. is_alive fs h ≡ true) l) is
-        (recursion_from_All (λ h. is_alive fs h ≡ true) (filter (is_alive fs) fs) (filter_passes (is_alive fs) fs))
+  all : AllByRecursion (λ h. is_alive fs h ≡ true) whole
+  all = rw is at (recursion_from_All (λ h. is_alive fs h ≡ true) (filter (is_alive fs) fs) (filter_passes (is_alive fs) fs))
 
-    -- a current file is not replaced by a current file
-    not_replaced : (h : FileForm) → is_alive fs h ≡ true → list_any (replaced_by h) whole ≡ false
-    not_replaced h current = grind (arith, common_steps, none_kept, not-true) steps 150000
+  -- a current file is not replaced by a current file
+  not_replaced : (h : FileForm) → is_alive fs h ≡ true → list_any (replaced_by h) whole ≡ false
+  not_replaced h current = grind (arith, common_steps, none_kept, not-true) steps 150000
 
-    over : replaced_by f g ≡ false
-    over = grind (arith, common_steps, any_cut, not_replaced, in_middle, all) steps 150000
+  over : replaced_by f g ≡ false
+  over = grind (arith, common_steps, any_cut, not_replaced, in_middle, all) steps 150000
 
-    under : replaced_by g f ≡ false
-    under =
-        (any_cut (replaced_by g) before f (mid ++ (g ∷ after))
-        (not_replaced g (in_middle (λ h. is_alive fs h ≡ true) mid g after
-        (after_middle (λ h. is_alive fs h ≡ true) before f (mid ++ (g ∷ after)) all)))).0
+  under : replaced_by g f ≡ false
+  under =
+      (any_cut (replaced_by g) before f (mid ++ (g ∷ after))
+      (not_replaced g (in_middle (λ h. is_alive fs h ≡ true) mid g after
+      (after_middle (λ h. is_alive fs h ≡ true) before f (mid ++ (g ∷ after)) all)))).0
 
 -- ---- the volume top file
 

@@ -9,15 +9,14 @@
 -- 3. The body of a group is a stream that was read, one level deeper (`group_kept`, `group_view`), and a section that
 --    is opened as a volume takes the first volume (`volume_view`).
 -- 4. The data of a file are a stream that was read, if its type holds sections (`file_kept`).
-use Rattle.std.proofs.Common.{true, ◌≡◌, ℕ, zero, suc, ◌-◌, ◌^◌, ◌<◌, ◌≤◌, List, [], ◌∷◌, drop, length, map, refl, sym, ap, ◌∙◌, subst, arith}
+use Rattle.std.proofs.Common.{true, ◌≡◌, ℕ, zero, suc, ◌-◌, ◌^◌, ◌<◌, ◌≤◌, List, [], ◌∷◌, drop, length, map, refl, ap, ◌∙◌, arith}
 use Rattle.std.proofs.Math.Numerals.{sub-one}
-use Rattle.fv_base.specs.Words.{IsBytes, depth_limit, volume_limit}
 use Rattle.fv_base.specs.declared.guid.Guid.{Guid}
-use Rattle.fv_base.proofs.Laws.{bytes_drop, common_steps}
+use Rattle.fv_base.proofs.Laws.{bytes_drop, common_steps, IsBytes, depth_limit, volume_limit}
 use Rattle.fv_section.specs.Words.{FrameForm, after_first, frame_in}
 use Rattle.fv_section.proofs.Laws.{begun_bytes}
 use Rattle.fv_tree.specs.Words.{Pairwise, IsStoredFrame, MeansSection, Stream, holds_sections, Meaning, SectionMeaning, Section, Leaf, Group, Nested}
-use Rattle.fv_tree.specs.Words.{shape_of, Step, each_by, body_by, unopened, section_by, frames_of, tail_of, AreKept, BeginsFramed, IsKept, IsKeptFile}
+use Rattle.fv_tree.specs.Words.{shape_of, Step, each_by, body_by, unopened, section_by, frames_of, tail_of, AreKept, IsKept, IsKeptFile}
 use Rattle.fv_tree.specs.declared.shape.Shape.{Shape}
 use Rattle.fv_tree.specs.declared.shape.Shape.TheVariants as shapes
 use Rattle.fv_tree.proofs.SectionShapeLaws.{frame_small, list_back, volume_shape}
@@ -39,23 +38,19 @@ section_is (suc n) f vs shape is = rw is refl
 -- ---- no volumes
 
 -- if no volume is given, no volume is left
-abbrev TakesNone : Step → Type 0
-TakesNone step = (f : FrameForm) → (step f []).1 ≡ []
-
-each_none : (step : Step) → TakesNone step → (fs : List FrameForm) → (each_by step fs []).1 ≡ []
+each_none : (step : Step) → ((f : FrameForm) → (step f []).1 ≡ []) → (fs : List FrameForm) → (each_by step fs []).1 ≡ []
 each_none step none [] = refl
 each_none step none (f ∷ fs) = ap (λ vs. (each_by step fs vs).1) (none f) ∙ each_none step none fs
 
-body_none : (shape : Shape) (step : Step) → TakesNone step → (f : FrameForm) → (body_by shape step f []).1 ≡ []
+body_none : (shape : Shape) (step : Step) → ((f : FrameForm) → (step f []).1 ≡ []) → (f : FrameForm) → (body_by shape step f []).1 ≡ []
 body_none shape step none f = grind (arith, common_steps, each_none) steps 150000
 
-pub none_taken : (n : ℕ) → TakesNone (section_by n)
+none_taken : (n : ℕ) (f : FrameForm) → (section_by n f []).1 ≡ []
 none_taken zero f = body_none (shape_of f) unopened (λ g. refl) f
 none_taken (suc n) f = body_none (shape_of f) (section_by n) (none_taken n) f
 
 pub none_after : (n : ℕ) (f : FrameForm) (vs : List Meaning) → length vs ≡ 0 → vs ≡ (section_by n f vs).1
-none_after n f [] short = sym (none_taken n f)
-none_after n f (v ∷ vs) short = cc
+none_after n f vs short = grind (arith, common_steps, none_taken)
 
 -- ---- the offset of a frame does not matter
 
@@ -79,16 +74,8 @@ pairs_unplaced n _ _ h = absurd h
 -- if the sections that are made from the bytes b and the volumes vs are the meaning of b, they were read
 pub stream_kept : (n : ℕ) (b : List ℕ) (vs : List Meaning) (t : ℕ) → n ≤ depth_limit → IsBytes b → length b ≤ volume_limit
     → Stream n (each_by (section_by n) (frames_of b) vs).0 t b → AreKept n b vs
-stream_kept n b vs t few small short (fs, split, pairs) =
-    let meets = split_is fs t b split in
-    let ss : List SectionMeaning = (each_by (section_by n) (frames_of b) vs).0 in
-    record {
-      few = few;
-      small = small;
-      short = short;
-      framed = meets.framed;
-      means = subst (λ gs. Pairwise (MeansSection n) gs ss) (sym meets.frames) (pairs_unplaced n fs ss pairs);
-    }
+stream_kept n b vs t few small short stream =
+    grind (arith, common_steps, split_is stream.0 t b stream.1, pairs_unplaced n stream.0 _ stream.2)
 
 -- the bytes r begin with a frame: if the sections of r were read, the first section was read, and so were the sections
 -- after it
@@ -102,11 +89,8 @@ module _ (n : ℕ) (r : List ℕ) (vs : List Meaning) (least : 4 ≤ length r) w
   pub each_first : each_by (section_by n) (frames_of r) vs ≡ each_by (section_by n) (frame_in 0 r ∷ frames_of (after_first r)) vs
   each_first = ap (λ fs. each_by (section_by n) fs vs) frames_are
 
-  pub frame_kept : AreKept n r vs → BeginsFramed r
-  frame_kept kept = (rw (first_start r least) at kept.framed).0
-
   pub first_kept : AreKept n r vs → IsKept n (frame_in 0 r) vs
-  first_kept kept = grind (arith, common_steps, frame_kept, rw frames_are at kept.means) steps 150000
+  first_kept kept = grind (arith, common_steps, rw (first_start r least) at kept.framed, rw frames_are at kept.means) steps 150000
 
   pub rest_kept : AreKept n r vs → AreKept n (after_first r) (section_by n (frame_in 0 r) vs).1
   rest_kept kept = grind (arith, common_steps, bytes_after, fewer, first_start, rw frames_are at kept.means) steps 150000

@@ -24,9 +24,6 @@ file_difference-content_difference-requires t c = (omega (arith, c.decreases, co
 pub section_difference-body_difference-requires : goal.section_difference-body_difference-requires
 section_difference-body_difference-requires t c = (omega (arith, c.decreases, body_falls c.args.section.now, ap body_size c.body.ensures), tt)
 
-pub volume_difference-files_difference-requires : goal.volume_difference-files_difference-requires
-volume_difference-files_difference-requires t c = grind (arith, common_steps) steps 150000
-
 pub files_difference-file_difference-requires : goal.files_difference-file_difference-requires
 files_difference-file_difference-requires t c = (omega (arith, c.decreases, file_falls _ c.loop-i.i _ (omega arith) c.index-files-i.is), tt)
 

@@ -1,7 +1,5 @@
-use Rattle.fv_base.proofs.Laws.{inl, sym, Err, IfErr, Ok, OnOk, Result, IfErr-weaker, on_ok_weaker, err_is}
+use Rattle.fv_base.proofs.Laws.{inl, sym, Err, IfErr, Ok, OnOk, Result, IfErr-weaker, on_ok_weaker, err_is, arith, common_steps}
 use Rattle.fv_base.specs.declared.fault.Fault.{Fault}
-use Rattle.std.proofs.Common.{arith}
-use Rattle.std.proofs.lemmas.Grind.{common_steps}
 use Rattle.fv_head.proofs.Laws.{first_lies}
 use Rattle.fv_tree.proofs.FixedMarkLaws.{is_unfixed, none_unfixed, only_unfixed, same_body, stops_there, unchanged}
 use Rattle.fv_tree.proofs.fixed_marks.unfix.Goals as goal
