@@ -51,8 +51,7 @@ mutual
 
   content_few : (c d : ContentMeaning) (n : ℕ) → NestsContent c n → steps_to (content_differs c d) ≤ 2 * n + 1
   content_few (Plain b) (Plain c) n deep = omega (arith, none_unless)
-  content_few (Sectioned ss t) (Sectioned rs u) n deep =
-      omega (arith, most_or, none_unless, sections_few 0 ss rs n (nests_sections ss t n deep))
+  content_few (Sectioned ss t) (Sectioned rs u) n deep = omega (arith, most_or, none_unless, sections_few 0 ss rs n (nests_sections ss t n deep))
   content_few _ _ n deep = omega arith
 
   sections_few : (i : ℕ) (ss rs : SectionMeanings) (n : ℕ) → NestsSections ss n → steps_to (sections_differ i ss rs) ≤ 2 * n + 1

@@ -49,9 +49,8 @@ record Kept (e : Extent) (b o body : List ℕ) : Type 0 where
 kept : (b o body : List ℕ) (e : Extent) → Unfixes e b o body → Kept e b o body
 kept b o body e u =
     let lies = first_lies b u.head e u.begins in
-    let size : length (field e.first (e.length - e.first) b) ≡ e.length - e.first =
-    length-take-le (e.length - e.first) (drop e.first b) (omega (arith, length-drop e.first b, u.begins.is_within, lies.1)) in
-    let long : length body ≡ e.length - e.first = length-unmarks _ _ _ _ _ _ u.marks ∙ size in
+    let long : length body ≡ e.length - e.first = length-unmarks _ _ _ _ _ _ u.marks
+    ∙ length-take-le (e.length - e.first) (drop e.first b) (omega (arith, length-drop e.first b, u.begins.is_within, lies.1)) in
     let before : length (take e.first b) ≡ e.first = length-take-le e.first b (omega (arith, u.begins.is_within, lies.1)) in
     let text : o ≡ (take e.first b ++ body) ++ drop e.length b = simp append_assoc u.text in
     let whole = take_at (take e.first b ++ body) (drop e.length b) e.length (omega (arith, length-append {A = ℕ}, before, long, lies.1)) in

@@ -36,8 +36,7 @@ pub read_names : (S : StreamRelation) (volume : List ℕ) (ss : List LocatedFile
     → Pairwise (MeansFile S) (map (file_form volume) ss) ms
     → map file_name_of ms ≡ names_in (map named_file ss)
 read_names S volume [] [] p = refl
-read_names S volume (s ∷ ss) (File name kind attributes content ∷ ms) p =
-    rw (p.0.0, read_names S volume ss ms p.1)
+read_names S volume (s ∷ ss) (File name kind attributes content ∷ ms) p = rw (p.0.0, read_names S volume ss ms p.1)
 read_names S volume _ _ p = absurd p
 
 -- the first file with a name has the position of the first such name
@@ -91,10 +90,6 @@ module _ (b : List ℕ) where
       → list_any (is_twin (file_form b s)) (map (file_form b) ss) ≡ list_any (names.is_twin (named_file s)) (map named_file ss)
   twins_any s ss = same_any (is_twin (file_form b s)) (names.is_twin (named_file s)) (λ x. refl) ss
 
-  pub replaced_any : (s : LocatedFile) (ss : List LocatedFile)
-      → list_any (replaced_by (file_form b s)) (map (file_form b) ss) ≡ list_any (names.replaced_by (named_file s)) (map named_file ss)
-  replaced_any s ss = same_any (replaced_by (file_form b s)) (names.replaced_by (named_file s)) (λ x. refl) ss
-
   -- if the names and marks of the files have no twins, the files have none
   pub twins_from : (ss : List LocatedFile) → names.NoTwins (map named_file ss) → NoTwins (map (file_form b) ss)
   twins_from [] h = tt
@@ -120,7 +115,8 @@ module _ (b : List ℕ) where
       ≡ current_in (map (file_form b) ss)
   kept_current ss =
       kept_noted (file_form b) (λ s. list_any (names.replaced_by (named_file s)) (map named_file ss))
-      (λ f. list_any (replaced_by f) (map (file_form b) ss)) ss (λ i s l. sym (replaced_any (get_or ss i s) ss))
+      (λ f. list_any (replaced_by f) (map (file_form b) ss)) ss
+      (λ i s l. sym (same_any (replaced_by (file_form b (get_or ss i s))) (names.replaced_by (named_file (get_or ss i s))) (λ x. refl) ss))
 
   module _ (ss : List LocatedFile) (es : List Entry) (index : IsIndex (names_in (map named_file ss)) es) (apart : NeighboursDiffer es) where
     -- files with different names have no twins

@@ -111,8 +111,7 @@ group_found n k f ss t e g h = grind (arith, common_steps, suc_is, list_back)
 
 pub group_first : (n k : ℕ) (f : FrameForm) (x : Fault) (at inside : Place) → n ≡ k + 1 → f.kind ≡ group_kind
     → inside.offset ≡ at.offset + body_place f → inside.depth ≡ at.depth + 1 → InStream First k x f.body inside → InSection First n x f at
-group_first n k f x at inside e g p q h =
-    rw (← suc_is n k e) (inl (g, rw (one_place inside (body_at at f) p q) at h))
+group_first n k f x at inside e g p q h = rw (← suc_is n k e) (inl (g, rw (one_place inside (body_at at f) p q) at h))
 
 pub nested_found : (n k : ℕ) (f : FrameForm) (v : Meaning) → n ≡ k + 1 → IsOpened f → Denotes k f.body v
     → MeansSection n f (Section f.kind f.extended (Nested v))
@@ -120,8 +119,7 @@ nested_found n k f v e o d = rw (← suc_is n k e) (refl, refl, (o.kind, o.opens
 
 pub nested_first : (n k : ℕ) (f : FrameForm) (x : Fault) (at inside : Place) → n ≡ k + 1 → IsOpened f
     → inside.offset ≡ at.offset + body_place f → inside.depth ≡ at.depth + 1 → InVolume First k x f.body inside → InSection First n x f at
-nested_first n k f x at inside e o p q h =
-    rw (← suc_is n k e) (inr (o.kind, o.opens, rw (one_place inside (body_at at f) p q) at h))
+nested_first n k f x at inside e o p q h = rw (← suc_is n k e) (inr (o.kind, o.opens, rw (one_place inside (body_at at f) p q) at h))
 
 pub deep_fault : (n : ℕ) (f : FrameForm) (x : Fault) (at : Place) → n ≡ 0 → (f.kind ≡ group_kind) ⊎ IsOpened f
     → x ≡ moved_fault at.offset at.depth (outer_fault kinds.Depth f.offset) → InSection First n x f at

@@ -32,7 +32,7 @@ file_nests (File name kind attributes (Sectioned us tail)) ss (n, few, f, stored
 group_nests : (depth : ℕ) (s : SectionMeaning) (ss : List SectionMeaning) (tail : ℕ) → NestsAt depth s → Group (sections_from ss) tail ≡ body_of s
     → (depth < depth_limit) × AllByRecursion (NestsAt (depth + 1)) ss
 group_nests depth (Section kind extended body) ss tail (n, fits, f, means) is =
-    let (k, less, inside) = nests_group (sections_from ss) tail n (nests_body (Section kind extended (Group (sections_from ss) tail)) n f (rw is means)) in
+    let (k, less, inside) = nests_group _ tail n (nests_body (Section kind extended (Group (sections_from ss) tail)) n f (rw is means)) in
     (omega (arith, fits, less), rw list_back at (each_nests (depth + 1) k _ (omega (arith, fits, less)) inside))
 
 -- ---- the innermost level

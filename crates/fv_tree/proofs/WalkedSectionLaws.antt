@@ -74,8 +74,7 @@ pairs_unplaced n _ _ h = absurd h
 -- if the sections that are made from the bytes b and the volumes vs are the meaning of b, they were read
 pub stream_kept : (n : ℕ) (b : List ℕ) (vs : List Meaning) (t : ℕ) → n ≤ depth_limit → IsBytes b → length b ≤ volume_limit
     → Stream n (each_by (section_by n) (frames_of b) vs).0 t b → AreKept n b vs
-stream_kept n b vs t few small short stream =
-    grind (arith, common_steps, split_is stream.0 t b stream.1, pairs_unplaced n stream.0 _ stream.2)
+stream_kept n b vs t few small short stream = grind (arith, common_steps, split_is stream.0 t b stream.1, pairs_unplaced n stream.0 _ stream.2)
 
 -- the bytes r begin with a frame: if the sections of r were read, the first section was read, and so were the sections
 -- after it
@@ -118,7 +117,7 @@ pub group_kept : (n : ℕ) (f : FrameForm) (vs : List Meaning) → shape_of f �
 group_kept zero f vs is kept = absurd (rw is at kept.means).2.1
 group_kept (suc n) f vs is kept =
     let stream = rw list_back at (rw is at kept.means).2.1 in
-    (omega arith, rw (sub-one (suc n)) (stream_kept n f.body vs _ (omega (arith, kept.few)) (body_bytes f kept.stored) (frame_small f kept.stored) stream))
+    (omega arith, rw (sub-one (suc n)) (stream_kept n f.body vs _ (omega arith) (body_bytes f kept.stored) (frame_small f kept.stored) stream))
 
 -- the body of a group is made from the frames in it, one level deeper
 pub group_view : (n : ℕ) (f : FrameForm) (vs : List Meaning) → shape_of f ≡ shapes.Group → 0 < n → section_by n f vs

@@ -32,8 +32,7 @@ not_the_end b n differs same = cc (eq-eqb n (length b) same)
 
 pub goes_on : (b : List ℕ) (f : Fault) (v : Meaning) (n : ℕ) → Accepted (take n b) v → (n ≡ length_of v) × (n ≤ length b)
     → (n == length b) ≡ false → f ≡ outer_fault kinds.Length n → BytesFollowVolume b f
-goes_on b f v n accepted (own, within) differs is =
-    (v, rw own at accepted, omega (arith, own, within, not_the_end b n differs), rw own at is)
+goes_on b f v n accepted (own, within) differs is = (v, rw own at accepted, omega (arith, own, within, not_the_end b n differs), rw own at is)
 
 pub end_refused : (b : List ℕ) (f : Fault) (v : Meaning) (n : ℕ) → Accepted (take n b) v → (n ≡ length_of v) × (n ≤ length b)
     → (n == length b) ≡ false → f ≡ outer_fault kinds.Length n

@@ -12,8 +12,7 @@ pub body_difference-stream_difference-requires : goal.body_difference-stream_dif
 body_difference-stream_difference-requires t c = (omega (arith, c.decreases, ap (λ b. body_size (body_view b)) c.in-Group-Group.is-0), tt)
 
 pub content_difference-stream_difference-requires : goal.content_difference-stream_difference-requires
-content_difference-stream_difference-requires t c =
-    (omega (arith, c.decreases, ap (λ b. content_size (content_view b)) c.in-Stream-Stream.is-0), tt)
+content_difference-stream_difference-requires t c = (omega (arith, c.decreases, ap (λ b. content_size (content_view b)) c.in-Stream-Stream.is-0), tt)
 
 pub stream_difference-section_difference-requires : goal.stream_difference-section_difference-requires
 stream_difference-section_difference-requires t c = grind (arith, common_steps, section_falls) steps 150000

@@ -10,12 +10,12 @@ always (Ok x) done kept = done
 always (Err f) done kept = kept
 
 pub returns-in_err-extent-clause-none : goal.returns-in_err-extent-clause-none
-returns-in_err-extent-clause-none c =
-    rw (err_is c.from_residual.ensures.1) (none_unfixed c.args.bytes.now _ (inl c.in_err-extent.ensures.first))
+returns-in_err-extent-clause-none c = rw (err_is c.from_residual.ensures.1) (none_unfixed c.args.bytes.now _ (inl c.in_err-extent.ensures.first))
 
 pub returns-clause-done : goal.returns-clause-done
 returns-clause-done c =
-    on_ok_weaker c.unmark_files.result (λ tiled. is_unfixed _ _ _ c.in_ok-extent.ensures.found.1 _ tiled.0 tiled.1 tiled.2.0 tiled.2.1) c.unmark_files.ensures.tiled
+    on_ok_weaker c.unmark_files.result (λ tiled. is_unfixed _ _ _ c.in_ok-extent.ensures.found.1 _ tiled.0 tiled.1 tiled.2.0 tiled.2.1)
+    c.unmark_files.ensures.tiled
 
 pub returns-clause-only : goal.returns-clause-only
 returns-clause-only c = on_ok_weaker c.unmark_files.result (λ is o other. only_unfixed c.args.bytes.now _ o is other) (returns-clause-done c)
@@ -26,7 +26,8 @@ returns-clause-kept c =
 
 pub returns-clause-stops : goal.returns-clause-stops
 returns-clause-stops c =
-    IfErr-weaker c.unmark_files.result _ _ (λ f h. stops_there _ _ _ c.in_ok-extent.ensures.found.1 h.1 h.0 h.2 f h.3 h.4) c.unmark_files.ensures.first
+    IfErr-weaker c.unmark_files.result _ _ (λ f h. stops_there _ _ _ c.in_ok-extent.ensures.found.1 h.1 h.0 h.2 f h.3 h.4)
+    c.unmark_files.ensures.first
 
 pub returns-clause-none : goal.returns-clause-none
 returns-clause-none c = IfErr-weaker c.unmark_files.result _ _ (none_unfixed c.args.bytes.now) (returns-clause-stops c)

@@ -10,7 +10,7 @@ found : (c : After-numbered) → c.numbered.result
     ≡ section_of_type c.args.kind c.args.instance (sections_in_data (content_of c.args.file.now))
 found c =
     let test : SectionMeaning → Bool = λ s. section_kind_of s == c.args.kind in
-    sym (option_map_id c.numbered.result) ∙ numbered_is _ c.args.instance c.numbered.ensures.zero c.numbered.ensures.nth (YieldsList-from_filter _ test
+    sym (option_map_id _) ∙ numbered_is _ c.args.instance c.numbered.ensures.zero c.numbered.ensures.nth (YieldsList-from_filter _ test
     (YieldsList-from_first (λ s. s) (λ left. left) _ (cc)) c.filter-sections.ensures.closure (λ x r q k. search (rules, tests)))
 
 pub returns-in-Some : goal.returns-in-Some
