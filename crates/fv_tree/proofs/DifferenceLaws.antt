@@ -59,8 +59,7 @@ ext_decides x y = grind (arith, common_steps, Decides-like, Decides-and, guids_d
 
 head_same : (h g : HeadFields) → IsNoneIf (head_differs h g) (h ≡ g)
 head_same h g =
-    if_same (head_differs h g)
-    (λ e. grind arith) (λ e. (cc, (cc, (cc, (cc, (cc, (cc, cc)))))))
+    if_same (head_differs h g) (λ e. grind arith) (λ e. (cc, (cc, (cc, (cc, (cc, (cc, cc)))))))
     (both_same _ _ (by_test _ _ (bytes_eq-Decides h.zero_vector g.zero_vector))
     (both_same _ _ (by_test _ _ (systems_decide h.file_system g.file_system))
     (both_same _ _ (by_test _ _ (Decides-eqb h.length g.length))

@@ -78,7 +78,7 @@ first_is f r rest begun =
     } in
     (is, rw is here)
 
--- the bytes after a frame and the filler that follows it, and the bytes after a frame
+-- the bytes after a frame and the filler that follows it
 cut_filler : (f : FrameForm) (r filler rest : List ℕ) (n : ℕ) → BeginsFrame f r (filler ++ rest) → n ≡ frame_len f + length filler
     → drop n r ≡ rest
 cut_filler f r filler rest n begun is =
@@ -86,12 +86,11 @@ cut_filler f r filler rest n begun is =
     let text : r ≡ x ++ rest = simp append_assoc begun.text in
     rw text (drop_at x rest n (omega (arith, is, length-append {A = ℕ}, begun.is_header.header_length)))
 
-cut : (f : FrameForm) (r rest : List ℕ) → BeginsFrame f r rest → drop (frame_len f) r ≡ rest
-cut f r rest begun = cut_filler f r [] rest (frame_len f) begun (omega arith)
-
 -- the bytes that are left after the last frame are the tail
 after_last : (f : FrameForm) (r rest : List ℕ) → BeginsFrame f r rest → frame_len f + length rest ≤ up_to_4 (frame_len f) → after_first r ≡ rest
-after_last f r rest begun fit = grind (arith, common_steps, (first_is f r rest begun).0, cut f r rest begun, length_begun f r rest begun)
+after_last f r rest begun fit =
+    let follows = cut_filler f r [] rest (frame_len f) begun (omega arith) in
+    grind (arith, common_steps, (first_is f r rest begun).0, follows, length_begun f r rest begun)
 
 -- the bytes that are left after any other frame begin with the next frame
 after_more : (f : FrameForm) (r filler rest : List ℕ) → BeginsFrame f r (filler ++ rest) → frame_len f + length filler ≡ up_to_4 (frame_len f)
