@@ -5,7 +5,7 @@
 --    and the extended header (`entries_decide`, `ext_decides`). So two headers have no difference exactly if they are
 --    equal (`head_same`).
 -- 3. By induction on the meaning, two volumes have no difference exactly if they are equal (`volume_same`).
-use Rattle.std.proofs.Common.{arith, ◌≡◌, ℕ, ◌+◌, ◌==◌, ◌&&◌, List, refl, ap, Bool, true, false, Option, Some, None}
+use Rattle.std.proofs.Common.{arith, ◌≡◌, ℕ, ◌+◌, ◌==◌, ◌&&◌, List, refl, ap, Bool, Option, None}
 use Rattle.fv_base.proofs.Laws.{Decides, option_or, beq, booleans_Decides, bytes_eq, Decides-eqb, bytes_eq-Decides, bytes_of, common_steps}
 use Rattle.std.proofs.lemmas.Bool.Decides.{Decides-and, Decides-like}
 use Rattle.std.proofs.lemmas.Slice.Eq.{slice_eq-Decides}
@@ -24,16 +24,13 @@ abbrev IsNoneIf : Differs → Type 0 → Type 0
 IsNoneIf d P = (d ≡ None → P) × (P → d ≡ None)
 
 by_test : {P : Type 0} (t : Bool) (word : DifferenceKind) → Decides t P → IsNoneIf (differ_unless t word) P
-by_test true word decides = (λ e. decides.0 refl, λ p. refl)
-by_test false word decides = (λ e. cc, λ p. let bad : false ≡ true = decides.1 p in cc)
+by_test t word decides = grind (arith, common_steps)
 
 both_same : {P Q : Type 0} (a b : Differs) → IsNoneIf a P → IsNoneIf b Q → IsNoneIf (option_or a b) (P × Q)
-both_same None b p q = (λ e. (p.0 refl, q.0 e), λ h. q.1 h.1)
-both_same (Some d) b p q = (λ e. cc, λ h. let bad : Some d ≡ None = p.1 h.0 in cc)
+both_same a b p q = grind (arith, common_steps)
 
 under_same : {P : Type 0} (s : Step) (a : Differs) → IsNoneIf a P → IsNoneIf (under s a) P
-under_same s None p = p
-under_same s (Some d) p = (λ e. cc, λ h. let bad : Some d ≡ None = p.1 h in cc)
+under_same s a p = grind (arith, common_steps)
 
 -- P can be replaced by a fact that holds exactly if P holds
 if_same : {P Q : Type 0} (d : Differs) → (P → Q) → (Q → P) → IsNoneIf d P → IsNoneIf d Q
@@ -60,19 +57,9 @@ entries_decide ps qs = slice_eq-Decides (pairs_decide bytes_eq bytes_eq-Decides)
 ext_decides : (x y : Option Extension) → Decides (ext_eq x y) (x ≡ y)
 ext_decides x y = grind (arith, common_steps, Decides-like, Decides-and, guids_decide, entries_decide, bytes_eq-Decides) steps 150000
 
-abbrev made : List ℕ → FileSystem → ℕ → ℕ → ℕ → List (ℕ × ℕ) → Option Extension → HeadFields
-made z s l t r m x = record { zero_vector = z; file_system = s; length = l; attributes = t; reserved = r; blocks = m; ext = x }
-
-made_one : (z z' : List ℕ) (s s' : FileSystem) (l l' t t' r r' : ℕ) (m m' : List (ℕ × ℕ)) (x x' : Option Extension)
-    → z ≡ z' → s ≡ s' → l ≡ l' → t ≡ t' → r ≡ r' → m ≡ m' → x ≡ x'
-    → made z s l t r m x ≡ made z' s' l' t' r' m' x'
-made_one z z' s s' l l' t t' r r' m m' x x' p q u v w i j = rw (p, q, u, v, w, i, j) refl
-
 head_same : (h g : HeadFields) → IsNoneIf (head_differs h g) (h ≡ g)
 head_same h g =
-    if_same (head_differs h g)
-    (λ e. made_one _ _ _ _ _ _ _ _ _ _ _ _ _ _ e.0 e.1.0 e.1.1.0 e.1.1.1.0 e.1.1.1.1.0 e.1.1.1.1.1.0 e.1.1.1.1.1.1)
-    (λ e. (cc, (cc, (cc, (cc, (cc, (cc, cc)))))))
+    if_same (head_differs h g) (λ e. grind arith) (λ e. (cc, (cc, (cc, (cc, (cc, (cc, cc)))))))
     (both_same _ _ (by_test _ _ (bytes_eq-Decides h.zero_vector g.zero_vector))
     (both_same _ _ (by_test _ _ (systems_decide h.file_system g.file_system))
     (both_same _ _ (by_test _ _ (Decides-eqb h.length g.length))

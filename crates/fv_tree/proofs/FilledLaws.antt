@@ -1,5 +1,5 @@
 -- Each file of a volume has the data that are at its place.
-use Rattle.std.proofs.Common.{◌≡◌, ℕ, ◌+◌, ◌-◌, [], ◌∷◌, ◌∙◌, List, length, take, drop, map, refl, ap, subst, arith, length-take-le}
+use Rattle.std.proofs.Common.{◌≡◌, ℕ, ◌+◌, ◌-◌, [], ◌∷◌, List, length, take, drop, map, refl, ap, arith, length-take-le}
 use Rattle.fv_base.proofs.Laws.{AllByRecursion, field-take, common_steps}
 use Rattle.fv_file.specs.Words.{CellForm, Valid, attribute_bits, file_sum_for}
 use Rattle.fv_file.specs.declared.head.FileHead.{FileHead}
@@ -7,7 +7,7 @@ use Rattle.fv_file.proofs.Laws.{IsPayloadIn}
 use Rattle.fv_head.specs.Words.{HeadFields, BeginsVolume}
 use Rattle.fv_head.specs.declared.extent.Extent.{Extent}
 use Rattle.fv_head.proofs.Laws.{first_lies}
-use Rattle.fv_tree.specs.Words.{AreFilesOf, FileForm, bare_form, file_form, filled, files_in, with_data}
+use Rattle.fv_tree.specs.Words.{AreFilesOf, bare_form, file_form, filled, files_in, with_data}
 use Rattle.fv_tree.specs.declared.volume_files.LocatedFile.{LocatedFile}
 use Rattle.fv_tree.specs.inner.ReadingParts.{AllStored, bare}
 use Rattle.fv_tree.proofs.BodyLaws.{LiesBy, files_inside}
@@ -27,9 +27,7 @@ pub all_back : (volume : List ℕ) (base : ℕ) (cs : List CellForm) → AllByRe
 all_back volume base [] p h = refl
 all_back volume base (Valid at head payload ∷ cs) p (((system, polarity, b, small, short, is), place, few), others) =
     let follows = header_follows system polarity head payload b small is.0 is.2 in
-    let here = one_back volume at head payload p.0 follows.file_sum in
-    ap (λ (f : FileForm). f ∷ map (filled volume) (map bare (files_in cs))) here
-    ∙ ap (λ (fs : List FileForm). record { offset = at; head = head; payload = payload } ∷ fs) (all_back volume base cs p.1 others)
+    rw (one_back volume at head payload p.0 follows.file_sum, all_back volume base cs p.1 others)
 all_back volume base (_ ∷ cs) p h = all_back volume base cs p.1 h
 
 -- ---- the data in the first bytes
@@ -48,5 +46,4 @@ pub stands : (b : List ℕ) (h : HeadFields) (e : Extent) (ss : List LocatedFile
 stands b h e ss front are =
     let long : length (take e.length b) ≡ e.length = length-take-le e.length b front.is_within in
     let inside = files_inside e (take e.length b) _ (omega (arith, long, (first_lies b h e front).1)) are in
-    subst (AreFilesOf e (take e.length b))
-    (front_filled e.length b ss (subst (λ (n : ℕ). AllByRecursion (LiesBy n) (map (file_form (take e.length b)) ss)) long inside)) are
+    rw (front_filled e.length b ss (rw long at inside)) at are

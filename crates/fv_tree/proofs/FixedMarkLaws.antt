@@ -1,12 +1,12 @@
 -- If the fixed bits of a volume's files are cleared and cells tile the new body, the bytes are the unfixed volume: they
 -- begin with the same header, cells tile their body, and no other bytes are an unfixed volume.
-use Rattle.std.proofs.Common.{◌≡◌, ℕ, ◌+◌, ◌-◌, ◌≤◌, ◌++◌, [], ◌≢◌, List, length, take, drop, sym, ap, ◌∙◌, subst, arith, append_assoc, inl, inr}
-use Rattle.std.proofs.Common.{refl, Option, None, Some, length-append, length-take-le, length-drop, take-append-drop}
-use Rattle.fv_base.proofs.Laws.{drop-drop, drop_at, take_at, drop-take, First, field, le, le_at, take-take_le, field-take, none_faulty, not_first}
+use Rattle.std.proofs.Common.{◌≡◌, ℕ, ◌+◌, ◌-◌, ◌≤◌, ◌++◌, [], ◌≢◌, List, length, take, drop, sym, ap, ◌∙◌, arith, append_assoc, inl, inr, refl}
+use Rattle.fv_base.proofs.Laws.{common_steps, drop-drop, drop_at, take_at, drop-take, First, field, le, le_at, take-take_le, field-take, none_faulty}
+use Rattle.fv_base.proofs.Laws.{not_first, Option, None, Some, length-append, length-take-le, length-drop, take-append-drop}
 use Rattle.fv_base.specs.declared.fault.Fault.{Fault}
 use Rattle.fv_file.specs.Words.{CellForm, Tiles, IsFirstCellFault, Unmarks}
 use Rattle.fv_file.proofs.Laws.{length-unmarks, none_after, NoneFixed, tiled_unfixed, fault_unfixed, one_unmarked}
-use Rattle.fv_head.specs.Words.{Extension, HasExt, HeadFields, IsHead, BeginsVolume, head_checks}
+use Rattle.fv_head.specs.Words.{Extension, HasExt, HeadFields, BeginsVolume, head_checks}
 use Rattle.fv_head.specs.declared.extent.Extent.{Extent}
 use Rattle.fv_head.proofs.Laws.{first_lies, front_lies, one_front, front_holds}
 use Rattle.fv_tree.specs.Words.{Unfixes, IsUnfixed, UnfixStops, BeginsTiled}
@@ -27,28 +27,18 @@ module _ (e : Extent) (b o : List ℕ) (same : take e.first o ≡ take e.first b
   ext_kept (Some x) least (before, part, behind, text, offset, low, within, is, at) =
       let n : ℕ = length before + length part in
       let inside : n ≤ e.first = omega (arith, at) in
-      let front : take n o ≡ before ++ part = front_kept n inside ∙ ap (take n) (text ∙ sym (append_assoc before part behind)) ∙ take_at
-      (before ++ part) behind n (length-append before part) in
-      let whole : o ≡ before ++ (part ++ drop n o) =
-      sym (take-append-drop n o) ∙ ap (λ (c : List ℕ). c ++ drop n o) front ∙ append_assoc before part (drop n o) in
+      let text' : b ≡ (before ++ part) ++ behind = simp append_assoc text in
+      let front : take n o ≡ before ++ part = front_kept n inside ∙ rw text' (take_at (before ++ part) behind n (length-append before part)) in
+      let whole : o ≡ before ++ (part ++ drop n o) = rw (front, append_assoc) at (sym (take-append-drop n o)) in
       let fields : le_at 52 2 o ≡ le_at 52 2 b = ap le (field_kept 52 2 (omega (arith, least, low, inside))) in
-      ((before, part, drop n o, whole, offset ∙ sym fields, low, within, is, at), omega (arith, low, inside))
+      ((before, part, drop n o, whole, rw fields offset, low, within, is, at), omega (arith, low, inside))
 
 -- the bytes begin with the same header
 pub header_kept : (b o : List ℕ) (h : HeadFields) (e : Extent) → BeginsVolume h e b → length o ≡ length b → take e.first o ≡ take e.first b
     → BeginsVolume h e o
 header_kept b o h e front long same =
-    let lies = front_lies b h e front in
-    let ext = ext_kept e b o same h.ext lies.least front.ext in
-    record {
-      head = subst (IsHead h) (sym (front_kept e b o same e.header_len ext.1)) front.head;
-      long_enough = omega (arith, front.long_enough, long);
-      is_within = omega (arith, front.is_within, long);
-      ext = ext.0;
-      length_is = front.length_is;
-      file_system = front.file_system;
-      polarity = front.polarity;
-    }
+    let ext = ext_kept e b o same h.ext (front_lies b h e front).least front.ext in
+    grind (arith, common_steps, front, front_kept e b o same e.header_len ext.1, ext.0)
 
 -- the new body is in its place, and all other bytes are unchanged
 record Kept (e : Extent) (b o body : List ℕ) : Type 0 where
@@ -59,17 +49,15 @@ record Kept (e : Extent) (b o body : List ℕ) : Type 0 where
 kept : (b o body : List ℕ) (e : Extent) → Unfixes e b o body → Kept e b o body
 kept b o body e u =
     let lies = first_lies b u.head e u.begins in
-    let size : length (field e.first (e.length - e.first) b) ≡ e.length - e.first =
-    length-take-le (e.length - e.first) (drop e.first b) (omega (arith, length-drop e.first b, u.begins.is_within, lies.1)) in
-    let long : length body ≡ e.length - e.first = length-unmarks _ _ _ _ _ _ u.marks ∙ size in
+    let long : length body ≡ e.length - e.first = length-unmarks _ _ _ _ _ _ u.marks
+    ∙ length-take-le (e.length - e.first) (drop e.first b) (omega (arith, length-drop e.first b, u.begins.is_within, lies.1)) in
     let before : length (take e.first b) ≡ e.first = length-take-le e.first b (omega (arith, u.begins.is_within, lies.1)) in
-    let whole : take e.length o ≡ take e.first b ++ body = ap (take e.length) (u.text ∙ sym (append_assoc (take e.first b) body (drop e.length b)))
-    ∙ take_at (take e.first b ++ body) (drop e.length b) e.length (length-append (take e.first b) body ∙ omega (arith, before, long, lies.1)) in
+    let text : o ≡ (take e.first b ++ body) ++ drop e.length b = simp append_assoc u.text in
+    let whole = take_at (take e.first b ++ body) (drop e.length b) e.length (omega (arith, length-append {A = ℕ}, before, long, lies.1)) in
     record {
-      length_is = ap length u.text ∙ length-append (take e.first b) (body ++ drop e.length b)
-          ∙ omega (arith, before, long, length-append body (drop e.length b), length-drop e.length b, u.begins.is_within, lies.1);
-      prefix = ap (take e.first) u.text ∙ take_at (take e.first b) (body ++ drop e.length b) e.first before;
-      body_is = ap (drop e.first) whole ∙ drop_at (take e.first b) body e.first before;
+      length_is = omega (arith, ap length text, length-append {A = ℕ}, before, long, length-drop e.length b, u.begins.is_within, lies.1);
+      prefix = rw u.text (take_at (take e.first b) (body ++ drop e.length b) e.first before);
+      body_is = rw (text, whole) (drop_at (take e.first b) body e.first before);
     }
 
 -- cells that tile the new body tile the body of the new volume
@@ -80,29 +68,27 @@ tiled_there b o body e cells u tiles =
     record {
       head = u.head;
       begins = header_kept b o u.head e u.begins k.length_is k.prefix;
-      tiles = subst (Tiles e.file_system e.polarity e.first cells) (sym k.body_is) tiles;
+      tiles = rw k.body_is tiles;
     }
 
 -- cells that tile the body of the new volume tile the new body
 body_tiled : (b o body : List ℕ) (e : Extent) (cells : List CellForm) → Unfixes e b o body → BeginsTiled e cells o
     → Tiles e.file_system e.polarity e.first cells body
-body_tiled b o body e cells u tiled = subst (Tiles e.file_system e.polarity e.first cells) (kept b o body e u).body_is tiled.tiles
+body_tiled b o body e cells u tiled = rw (kept b o body e u).body_is at tiled.tiles
 
 -- ---- the unfixed volume is unique
 
 -- if x is an unfixed volume, then cells tile the new body, and x is the bytes with the new body
 one_unfixed : (b o body : List ℕ) (e : Extent) → Unfixes e b o body → NoneFixed e.file_system e.polarity e.first body
     → (x : List ℕ) → IsUnfixed b x → ((cells : List CellForm) × Tiles e.file_system e.polarity e.first cells body) × (x ≡ o)
-one_unfixed b o body e u end x other =
-    let one = (one_front b other.2.head u.head other.0 e other.2.begins u.begins).1 in
-    let v : Unfixes e b x other.1 = subst (λ (y : Extent). Unfixes y b x other.1) one other.2 in
-    let tiles = body_tiled b x other.1 e other.3.0 v (subst (λ (y : Extent). BeginsTiled y other.3.0 x) one other.3.1) in
-    let same : other.1 ≡ body =
-    one_unmarked e.file_system e.polarity e.first u.places v.places (field e.first (e.length - e.first) b) body other.1
-    u.marks end v.marks (tiled_unfixed e.file_system e.polarity e.first other.1 other.3.0 tiles) in (
-      (other.3.0, subst (Tiles e.file_system e.polarity e.first other.3.0) same tiles),
-      v.text ∙ ap (λ (y : List ℕ). take e.first b ++ (y ++ drop e.length b)) same ∙ sym u.text,
-    )
+one_unfixed b o body e u end x (f, changed, w, (cells, tiled)) =
+    let one : f ≡ e = (one_front b w.head u.head f e w.begins u.begins).1 in
+    let v : Unfixes e b x changed = rw one at w in
+    let tiles = body_tiled b x changed e cells v (rw one at tiled) in
+    let same : changed ≡ body =
+    one_unmarked e.file_system e.polarity e.first u.places v.places (field e.first (e.length - e.first) b) body changed u.marks end v.marks
+    (tiled_unfixed e.file_system e.polarity e.first changed cells tiles) in
+    ((cells, rw same at tiles), cc (v.text, u.text, same))
 
 pub only_unfixed : (b o x : List ℕ) → IsUnfixed b o → IsUnfixed b x → x ≡ o
 only_unfixed b o x (e, body, u, (cells, tiled)) other =
@@ -128,7 +114,7 @@ module _ (b : List ℕ) (h : HeadFields) (e : Extent) (front : BeginsVolume h e 
 
   -- the bytes with their own body are unchanged
   pub same_body : with_body (field e.first (e.length - e.first) b) ≡ b
-  same_body = ap (λ (y : List ℕ). take e.first b ++ y) (take-append-drop (e.length - e.first) (drop e.first b)) ∙ take-append-drop e.first b
+  same_body = rw (take-append-drop (e.length - e.first) (drop e.first b)) (take-append-drop e.first b)
 
   module _ (body places : List ℕ) (marks : Unmarks e.file_system e.polarity e.first places (field e.first (e.length - e.first) b) body) where
     in_place : Unfixes e b (with_body body) body
@@ -145,9 +131,7 @@ module _ (b : List ℕ) (h : HeadFields) (e : Extent) (front : BeginsVolume h e 
 -- if cells tile the body of a volume, it is its own unfixed volume
 pub unchanged : (b : List ℕ) (e : Extent) (cells : List CellForm) → BeginsTiled e cells b → IsUnfixed b b
 unchanged b e cells has =
+    let long : e.length ≡ e.first + (e.length - e.first) = omega (arith, (first_lies b has.head e has.begins).1) in
     let part : drop e.first (take e.length b) ≡ field e.first (e.length - e.first) b =
-    ap (λ (n : ℕ). drop e.first (take n b)) (omega (arith, (first_lies b has.head e has.begins).1))
-    ∙ drop-take e.first (e.length - e.first) b in
-    subst (IsUnfixed b) (same_body b has.head e has.begins)
-    (is_unfixed b has.head e has.begins (field e.first (e.length - e.first) b) [] refl cells
-    (subst (Tiles e.file_system e.polarity e.first cells) part has.tiles))
+    ap (λ (n : ℕ). drop e.first (take n b)) long ∙ drop-take e.first (e.length - e.first) b in
+    rw (same_body b has.head e has.begins) at (is_unfixed b has.head e has.begins _ [] refl cells (rw part at has.tiles))

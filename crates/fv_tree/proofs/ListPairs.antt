@@ -1,5 +1,5 @@
 -- Two lists that agree item by item, and the first item that is rejected.
-use Rattle.std.proofs.Common.{◌≡◌, ℕ, ◌+◌, ◌<◌, ◌≤◌, [], ◌∷◌, ◌++◌, List, length, take, drop, get_or, map, sym, subst, arith, take_all}
+use Rattle.std.proofs.Common.{◌≡◌, ℕ, ◌+◌, ◌<◌, ◌≤◌, [], ◌∷◌, ◌++◌, List, length, take, get_or, map, subst, arith, take_all}
 use Rattle.fv_base.proofs.Laws.{length-map, get_or-map, AllByRecursion, Which, First, at_index, more_items, seam_items, two_cuts, common_steps}
 use Rattle.fv_tree.specs.Words.{Pairwise, OneOf}
 
@@ -21,22 +21,12 @@ module _ {A B X : Type 0} (R : A → B → Type 0) (form : X → A) (items : Lis
   pub kept_pairs : (ys new : List B) (y : B) → i < length items → Pairwise R (take i (map form items)) ys
       → R (form (get_or items i d)) y → new ≡ ys ++ y ∷ []
       → Pairwise R (take (i + 1) (map form items)) new
-  kept_pairs ys new y l pairs r e =
-      let P : List A → Type 0 = λ xs. Pairwise R xs new in
-      let Q : List B → Type 0 = λ zs. Pairwise R (take i (map form items) ++ form (get_or items i d) ∷ []) zs in
-      subst P (sym (more_items form items i d l)) (subst Q (sym e) (pairs_push R (take i (map form items)) ys (form (get_or items i d)) y pairs r))
+  kept_pairs ys new y l pairs r e = rw (more_items form items i d l, e) (pairs_push R _ ys _ y pairs r)
 
   -- if item i is rejected, it is the first one that is rejected
   pub first_refused : (fault : A → Type 0) (ys : List B) → i < length items → Pairwise R (take i (map form items)) ys
       → fault (form (get_or items i d)) → OneOf First R fault (map form items)
-  first_refused fault ys l pairs bad = (
-    take i (map form items),
-    form (get_or items i d),
-    drop (i + 1) (map form items),
-    seam_items form items i d l,
-    (ys, pairs),
-    bad,
-  )
+  first_refused fault ys l pairs bad = (_, _, _, seam_items form items i d l, (ys, pairs), bad)
 
   -- at the end all items are read
   pub all_pairs : (ys : List B) → length items ≤ i → Pairwise R (take i (map form items)) ys → Pairwise R (map form items) ys
@@ -47,10 +37,9 @@ module _ {A B X : Type 0} (R : A → B → Type 0) (form : X → A) (items : Lis
 -- a list with an item that is paired with nothing does not agree with any list
 not_paired : {A B : Type 0} (R : A → B → Type 0) (before : List A) (x : A) (after : List A) (ys : List B) → ((y : B) → R x y → ⊥)
     → Pairwise R (before ++ (x ∷ after)) ys → ⊥
-not_paired R [] x after [] bad p = p
 not_paired R [] x after (y ∷ ys) bad p = bad y p.0
-not_paired R (z ∷ zs) x after [] bad p = p
 not_paired R (z ∷ zs) x after (y ∷ ys) bad p = not_paired R zs x after ys bad p.1
+not_paired R _ x after _ bad p = absurd p
 
 -- if an item is rejected, not all items are read
 pub one_of_none : {A B : Type 0} (which : Which) (R : A → B → Type 0) (fault : A → Type 0) (xs : List A) (ys : List B)

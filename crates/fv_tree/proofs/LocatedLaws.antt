@@ -1,6 +1,6 @@
 -- The files of a volume as they are stored: the data of each are in the volume at the data's offset, and there are no
 -- other files.
-use Rattle.std.proofs.Common.{◌≡◌, ◌≤◌, ℕ, ◌+◌, ◌-◌, [], ◌∷◌, ◌∙◌, List, length, take, drop, sym, subst, arith, length-take-le}
+use Rattle.std.proofs.Common.{◌≡◌, ◌≤◌, ℕ, ◌+◌, ◌-◌, [], ◌∷◌, List, length, take, drop, arith, length-take-le}
 use Rattle.fv_base.proofs.Laws.{take_all, common_steps, AllByRecursion, field-take, up_to_8}
 use Rattle.fv_file.specs.Words.{CellForm, Valid, CellsWithin}
 use Rattle.fv_file.specs.declared.head.FileHead.{FileHead}
@@ -30,10 +30,8 @@ in_front : (n : ℕ) (b : List ℕ) (fs : List FileForm) → n ≤ length b → 
     → AllByRecursion (HasDataIn b) fs
 in_front n b [] w h = tt
 in_front n b (f ∷ fs) w h =
-    let within : data_place f + length f.payload ≤ n = omega (arith, h.0.0, length-take-le n b w) in (
-      (omega (arith, within, w), sym (field-take (data_place f) (length f.payload) n b within) ∙ h.0.1),
-      in_front n b fs w h.1,
-    )
+    let within : data_place f + length f.payload ≤ n = omega (arith, h.0.0, length-take-le n b w) in
+    ((omega (arith, within, w), rw (field-take (data_place f) (length f.payload) n b within) at h.0.1), in_front n b fs w h.1)
 
 pub begun_data : (b : List ℕ) (fs : List FileForm) → BeginWithFiles b fs → AllByRecursion (HasDataIn b) fs
 begun_data b fs (h, e, front, stand) =
@@ -41,13 +39,13 @@ begun_data b fs (h, e, front, stand) =
     let long : length v ≡ e.length = length-take-le e.length b front.is_within in
     let within = cells_inside e v stand.cells (omega (arith, long, (first_lies b h e front).1)) stand.tiles in
     let files = all_files v stand.cells (body_payloads e.file_system e.polarity e.first stand.cells v stand.tiles) within in
-    in_front e.length b fs front.is_within (subst (AllByRecursion (HasDataIn v)) (sym stand.current.files_are) (of_current (HasDataIn v) _ files))
+    in_front e.length b fs front.is_within (rw stand.current.files_are (of_current (HasDataIn v) _ files))
 
 -- ---- the stored files are the only ones
 
 module _ (b : List ℕ) (h : HeadFields) (e : Extent) (front : BeginsVolume h e b) where
   pub located_stand : (gs : List FileForm) → BeginWithFiles b gs → AreFilesOf e (take e.length b) gs
-  located_stand gs (k, x, other, stand) = subst (λ (y : Extent). AreFilesOf y (take y.length b) gs) (one_front b k h x e other front).1 stand
+  located_stand gs (k, x, other, stand) = rw (one_front b k h x e other front).1 at stand
 
 pub one_files : (b : List ℕ) (fs gs : List FileForm) → BeginWithFiles b fs → BeginWithFiles b gs → gs ≡ fs
 one_files b fs gs (h, e, front, stand) other = one_stand e (take e.length b) fs gs stand (located_stand b h e front gs other)

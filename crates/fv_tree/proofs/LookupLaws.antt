@@ -1,7 +1,6 @@
 -- A look-up by number finds the item of this number among the items that an iterator yields.
 use Rattle.std.proofs.Common.{◌≡◌, ℕ, ◌+◌, zero, suc, List, None, Option, refl, ap, arith}
-use Rattle.fv_base.proofs.Laws.{SkipsThenYields, nth_from_yields_List}
-use Rattle.std.specs.Option.{option_map}
+use Rattle.fv_base.proofs.Laws.{SkipsThenYields, nth_from_yields_List, option_map}
 use Rattle.std.proofs.lemmas.Iterator.{YieldsList}
 use Rattle.fv_tree.specs.Words.{instance_of}
 

@@ -15,8 +15,7 @@ files_in_more (_ ∷ cs) c = files_in_more cs c
 
 -- if the test of a file's place succeeds for a volume top file, it is the last file and ends at the end
 pub placed : (top last ends : Bool) → (not top || (last && ends)) ≡ true → top ≡ true → (last ≡ true) × (ends ≡ true)
-placed true true true p h = (refl, refl)
-placed _ _ _ p h = cc
+placed top last ends p h = grind (arith, common_steps)
 
 pub misplaced : (top last ends : Bool) → (not top || (last && ends)) ≡ false → (top ≡ true) × (last ≡ true → ends ≡ true → ⊥)
 misplaced top last ends p = grind (arith, common_steps) steps 150000

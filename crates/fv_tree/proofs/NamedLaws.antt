@@ -1,7 +1,7 @@
 -- Files as they are stored, and the index of their names: the names and marks in the index are the names and marks of
 -- the files.
-use Rattle.std.proofs.Common.{◌≡◌, ◌<◌, ℕ, ◌+◌, [], ◌∷◌, ◌||◌, List, length, take, get_or, map, Bool, true, false, cond, refl, sym}
-use Rattle.fv_base.proofs.Laws.{ap, ◌∙◌, subst, arith, not, lt-ltb, le-ltb, AllByRecursion, Contains, filter, list_any, position, position_or_len}
+use Rattle.std.proofs.Common.{◌≡◌, ◌<◌, ℕ, [], ◌∷◌, List, length, take, get_or, map, Bool, true, false, refl, sym}
+use Rattle.fv_base.proofs.Laws.{ap, ◌∙◌, arith, not, lt-ltb, le-ltb, AllByRecursion, Contains, filter, list_any, position, position_or_len}
 use Rattle.fv_base.proofs.Laws.{option_and_then, get_or-map, length-map, slice_get_past, kept_noted, one_behind, common_steps}
 use Rattle.std.specs.List.{find, items_where_true, slice_get}
 use Rattle.std.specs.List.Retain.{IsFiltered, ReturnsInTurn}
@@ -36,15 +36,14 @@ pub read_names : (S : StreamRelation) (volume : List ℕ) (ss : List LocatedFile
     → Pairwise (MeansFile S) (map (file_form volume) ss) ms
     → map file_name_of ms ≡ names_in (map named_file ss)
 read_names S volume [] [] p = refl
-read_names S volume (s ∷ ss) (File name kind attributes content ∷ ms) p =
-    ap (λ (n : Guid). n ∷ map file_name_of ms) p.0.0 ∙ ap (λ (ns : List Guid). s.name ∷ ns) (read_names S volume ss ms p.1)
+read_names S volume (s ∷ ss) (File name kind attributes content ∷ ms) p = rw (p.0.0, read_names S volume ss ms p.1)
 read_names S volume _ _ p = absurd p
 
 -- the first file with a name has the position of the first such name
 place_named : (name : Guid) (fs : List FileMeaning)
     → position_or_len (is_name name) (map file_name_of fs) ≡ position_or_len (is_named name) fs
 place_named name [] = refl
-place_named name (f ∷ fs) = ap (λ (n : ℕ). cond (not (is_named name f)) (1 + n) 0) (place_named name fs)
+place_named name (f ∷ fs) = rw (place_named name fs)
 
 -- so a number that was found among the names is the number of the file
 pub looked_up : (name : Guid) (fs : List FileMeaning) → position (is_name name) (map file_name_of fs) ≡ position (is_named name) fs
@@ -64,41 +63,32 @@ module _ {X F : Type 0} (R : F → X → Bool → F → Type 0) (test : X → Bo
   same_kept [] (x ∷ xs) g says long turn = absurd (omega (arith, long))
   same_kept (t ∷ bs) [] g says long turn = absurd turn
   same_kept (t ∷ bs) (x ∷ xs) g says long (f', here, turn) =
-      let one = says x t f' (0, omega arith, refl) here in
-      kept t one.0 (same_kept bs xs g (λ y u h has. says y u h (one_behind x xs y has)) (omega (arith, long))
-      (subst (λ (h : F). ReturnsInTurn R h bs xs g) one.1 turn))
+      let (is, same) = says x t f' (0, omega arith, refl) here in
+      kept t is (same_kept bs xs g (λ y u h has. says y u h (one_behind x xs y has)) (omega (arith, long)) (rw same at turn))
     where
       kept : (u : Bool) → u ≡ test x → items_where_true bs xs ≡ filter test xs → items_where_true (u ∷ bs) (x ∷ xs) ≡ filter test (x ∷ xs)
-      kept true is rest = rw (sym is) (ap (λ (l : List X). x ∷ l) rest)
-      kept false is rest = rw (sym is) rest
+      kept u is rest = grind (arith, common_steps)
 
   pub retained : (xs : List X) → ((x : X) (t : Bool) (f' : F) → Contains xs x → R f x t f' → (t ≡ test x) × (f' ≡ f))
       → (ys : List X) → IsFiltered R f xs ys → ys ≡ filter test xs
   retained xs says ys (bs, g, long, turn, is) = is ∙ same_kept bs xs g says long turn
 
 -- a filter that drops the files for which a test is true keeps all files if the test is false of each
-all_kept : (test : LocatedFile → Bool) (ss : List LocatedFile) → AllByRecursion (λ s. test s ≡ false) ss → filter (λ s. not (test s)) ss ≡ ss
+all_kept : (test : NamedFile → Bool) (ss : List LocatedFile) → AllByRecursion (λ f. test f ≡ false) (map named_file ss)
+    → filter (λ s. not (test (named_file s))) ss ≡ ss
 all_kept test [] h = refl
-all_kept test (s ∷ ss) h = rw (h.0) (ap (λ (xs : List LocatedFile). s ∷ xs) (all_kept test ss h.1))
+all_kept test (s ∷ ss) h = rw (h.0, all_kept test ss h.1)
 
 module _ (b : List ℕ) where
-  abbrev form : LocatedFile → FileForm
-  form = file_form b
-
   -- if two tests agree on each file, one is true of some file exactly if the other is
-  same_any : (p : FileForm → Bool) (q : NamedFile → Bool) → ((s : LocatedFile) → p (form s) ≡ q (named_file s))
-      → (ss : List LocatedFile) → list_any p (map form ss) ≡ list_any q (map named_file ss)
+  same_any : (p : FileForm → Bool) (q : NamedFile → Bool) → ((s : LocatedFile) → p (file_form b s) ≡ q (named_file s))
+      → (ss : List LocatedFile) → list_any p (map (file_form b) ss) ≡ list_any q (map named_file ss)
   same_any p q same [] = refl
-  same_any p q same (s ∷ ss) =
-      ap (λ (t : Bool). t || list_any p (map form ss)) (same s) ∙ ap (λ (t : Bool). q (named_file s) || t) (same_any p q same ss)
+  same_any p q same (s ∷ ss) = rw (same s, same_any p q same ss)
 
   twins_any : (s : LocatedFile) (ss : List LocatedFile)
       → list_any (is_twin (file_form b s)) (map (file_form b) ss) ≡ list_any (names.is_twin (named_file s)) (map named_file ss)
-  twins_any s ss = same_any (is_twin (form s)) (names.is_twin (named_file s)) (λ x. refl) ss
-
-  pub replaced_any : (s : LocatedFile) (ss : List LocatedFile)
-      → list_any (replaced_by (file_form b s)) (map (file_form b) ss) ≡ list_any (names.replaced_by (named_file s)) (map named_file ss)
-  replaced_any s ss = same_any (replaced_by (form s)) (names.replaced_by (named_file s)) (λ x. refl) ss
+  twins_any s ss = same_any (is_twin (file_form b s)) (names.is_twin (named_file s)) (λ x. refl) ss
 
   -- if the names and marks of the files have no twins, the files have none
   pub twins_from : (ss : List LocatedFile) → names.NoTwins (map named_file ss) → NoTwins (map (file_form b) ss)
@@ -108,16 +98,14 @@ module _ (b : List ℕ) where
   -- the same is true of the first n files. If the name and mark of the next file have a twin among them, that file has
   -- one
   pub front_twins : (n : ℕ) (ss : List LocatedFile) → names.NoTwins (take n (map named_file ss)) → NoTwins (take n (map (file_form b) ss))
-  front_twins n ss h = subst NoTwins (sym (take-map form n ss)) (twins_from (take n ss) (subst names.NoTwins (take-map named_file n ss) h))
+  front_twins n ss h = rw (take-map (file_form b) n ss) (twins_from (take n ss) (rw (take-map named_file n ss) at h))
 
   pub twin_after : (n : ℕ) (ss : List LocatedFile) → n < length ss
       → list_any (names.is_twin (get_or (map named_file ss) n no_named)) (take n (map named_file ss)) ≡ true
       → list_any (is_twin (file_form b (get_or ss n no_file))) (take n (map (file_form b) ss)) ≡ true
   twin_after n ss l h =
-      let s : LocatedFile = get_or ss n no_file in
-      ap (list_any (is_twin (form s))) (take-map form n ss) ∙ twins_any s (take n ss) ∙ ap (list_any (names.is_twin (named_file s)))
-      (sym (take-map named_file n ss)) ∙ ap (λ (f : NamedFile). list_any (names.is_twin f) (take n (map named_file ss)))
-      (sym (get_or-map named_file ss n no_file no_named l)) ∙ h
+      let named = rw (take-map named_file n ss, get_or-map named_file ss n no_file no_named l) at h in
+      rw (take-map (file_form b) n ss, twins_any (get_or ss n no_file) (take n ss)) named
 
   -- ---- the files that are kept
 
@@ -126,8 +114,9 @@ module _ (b : List ℕ) where
       → map (file_form b) (filter (λ s. not (list_any (names.replaced_by (named_file s)) (map named_file ss))) ss)
       ≡ current_in (map (file_form b) ss)
   kept_current ss =
-      kept_noted form (λ s. list_any (names.replaced_by (named_file s)) (map named_file ss))
-      (λ f. list_any (replaced_by f) (map form ss)) ss (λ i s l. sym (replaced_any (get_or ss i s) ss))
+      kept_noted (file_form b) (λ s. list_any (names.replaced_by (named_file s)) (map named_file ss))
+      (λ f. list_any (replaced_by f) (map (file_form b) ss)) ss
+      (λ i s l. sym (same_any (replaced_by (file_form b (get_or ss i s))) (names.replaced_by (named_file (get_or ss i s))) (λ x. refl) ss))
 
   module _ (ss : List LocatedFile) (es : List Entry) (index : IsIndex (names_in (map named_file ss)) es) (apart : NeighboursDiffer es) where
     -- files with different names have no twins
@@ -137,10 +126,5 @@ module _ (b : List ℕ) where
     -- and no file is replaced, so all files are current
     pub all_current : current_in (map (file_form b) ss) ≡ map (file_form b) ss
     all_current =
-        sym (kept_current ss) ∙ ap (map form) (all_kept (λ s. list_any (names.replaced_by (named_file s)) (map named_file ss)) ss
-        (none_kept ss (none_replaced (map named_file ss) es index no_named no_entry apart)))
-      where
-        none_kept : (xs : List LocatedFile) → AllByRecursion (λ f. list_any (names.replaced_by f) (map named_file ss) ≡ false) (map named_file xs)
-            → AllByRecursion (λ s. list_any (names.replaced_by (named_file s)) (map named_file ss) ≡ false) xs
-        none_kept [] h = tt
-        none_kept (x ∷ xs) h = (h.0, none_kept xs h.1)
+        sym (kept_current ss) ∙ ap (map (file_form b)) (all_kept (λ f. list_any (names.replaced_by f) (map named_file ss)) ss
+        (none_replaced (map named_file ss) es index no_named no_entry apart))

@@ -6,12 +6,12 @@
 -- 3. A stream is read if all of its frames are (`stream_read`). The data of a file are plain bytes (`plain_read`), or a
 --    stream that is read (`sectioned_read`).
 use Rattle.std.proofs.lemmas.Grind.{common_steps}
-use Rattle.std.proofs.Common.{arith, ◌≡◌, ◌∙◌, ℕ, suc, ◌+◌, List, [], ◌∷◌, ◌++◌, Bool, true, false, map, refl, sym, ap, subst}
+use Rattle.std.proofs.Common.{arith, ◌≡◌, ℕ, ◌+◌, List, [], ◌∷◌, ◌++◌, true, false, map, refl, sym, ap}
 use Rattle.std.proofs.lemmas.List.{append-nil}
 use Rattle.fv_base.specs.Words.{IsBytes}
 use Rattle.fv_section.specs.Words.{FrameForm, Splits}
-use Rattle.fv_tree.specs.Words.{Pairwise, MeansContent, MeansSection, Stream, Denotes, holds_sections, Meaning, SectionMeaning, Section, Leaf, Group}
-use Rattle.fv_tree.specs.Words.{Nested, Sectioned, sections_from, shape_of, Step, each_by, section_by, content_by, frames_of, tail_of}
+use Rattle.fv_tree.specs.Words.{Pairwise, MeansSection, Denotes, holds_sections, Meaning, SectionMeaning, Section, Leaf, Group}
+use Rattle.fv_tree.specs.Words.{Nested, sections_from, shape_of, Step, each_by, section_by, frames_of, tail_of}
 use Rattle.fv_tree.specs.inner.SectionReads.{Yields, EachYields, SectionRead, StreamRead, ContentRead}
 use Rattle.fv_tree.specs.declared.shape.Shape.TheVariants as shapes
 use Rattle.fv_tree.proofs.SectionShapeLaws.{leaf_shape, group_shape, volume_shape, leaf_is, group_found, nested_found, stream_reads, suc_is}
@@ -47,8 +47,7 @@ group_read n k f old new e is read = record {
   means = group_found n k f read.sections (tail_of f.body) e (group_shape f is) read.means;
   added = read.added;
   joined = read.joined;
-  yields = λ later. ap (λ (m : ℕ). section_by m f (read.added ++ later)) (sym (suc_is n k e)) ∙ section_is (suc k) f _ shapes.Group is ∙ ap
-      (λ (r : List SectionMeaning × List Meaning). (Section f.kind f.extended (Group (sections_from r.0) (tail_of f.body)), r.1)) (read.yields later);
+  yields = λ later. rw (← suc_is n k e, is, read.yields later);
 }
 
 pub volume_read : (n k : ℕ) (f : FrameForm) (old new : List Meaning) (v : Meaning) → n ≡ k + 1 → shape_of f ≡ shapes.Volume
@@ -65,10 +64,7 @@ volume_read n k f old new v e is means joined = record {
 
 each_unplaced : (n : ℕ) (fs : List FrameForm) (vs : List Meaning) → each_by (section_by n) (map unplaced fs) vs ≡ each_by (section_by n) fs vs
 each_unplaced n [] vs = refl
-each_unplaced n (f ∷ fs) vs =
-    ap (λ (r : SectionMeaning × List Meaning). (r.0 ∷ (each_by (section_by n) (map unplaced fs) r.1).0, (each_by (section_by n) (map unplaced fs) r.1).1))
-    (by_unplaced n f vs)
-    ∙ ap (λ (r : List SectionMeaning × List Meaning). ((section_by n f vs).0 ∷ r.0, r.1)) (each_unplaced n fs (section_by n f vs).1)
+each_unplaced n (f ∷ fs) vs = rw (by_unplaced n f vs, each_unplaced n fs (section_by n f vs).1)
 
 pub stream_read : (n : ℕ) (b : List ℕ) (tail : ℕ) (fs : List FrameForm) (ss : List SectionMeaning) (old new added : List Meaning)
     → IsBytes b → Splits fs tail b → Pairwise (MeansSection n) fs ss → new ≡ old ++ added → EachYields (section_by n) fs added ss
@@ -82,13 +78,5 @@ plain_read n kind b is = grind (arith, common_steps) steps 150000
 
 pub sectioned_read : (n kind : ℕ) (b : List ℕ) (new : List Meaning) → holds_sections kind ≡ true → StreamRead n b [] new → ContentRead n kind b new
 sectioned_read n kind b new is read =
-    let made : each_by (section_by n) (frames_of b) new ≡ (read.sections, []) =
-    ap (each_by (section_by n) (frames_of b)) (read.joined ∙ sym (append-nil read.added)) ∙ read.yields [] in
-    let content : content_by (holds_sections kind) n b new ≡ (Sectioned (sections_from read.sections) (tail_of b), []) =
-    ap (λ (t : Bool). content_by t n b new) is
-    ∙ ap (λ (r : List SectionMeaning × List Meaning). (Sectioned (sections_from r.0) (tail_of b), r.1)) made in
-    record {
-      small = λ _. read.small;
-      means = subst (λ c. MeansContent (Stream n) kind b c.0) (sym content) (stream_reads n kind b read.sections (tail_of b) is read.means);
-      none = ap (λ c. c.1) content;
-    }
+    let made : each_by (section_by n) (frames_of b) new ≡ (read.sections, []) = cc (read.yields [], append-nil read.added, read.joined) in
+    grind (arith, common_steps, stream_reads n kind b read.sections (tail_of b) is read.means)

@@ -4,10 +4,10 @@
 -- 3. An empty level is dropped (`none_left`, `outer_are`), and the walk takes the next section, which is a group
 --    (`next_group`, `group_are`, and `group_fits` for the room) or not (`next_other`, `other_are`).
 use Rattle.fv_tree.specs.declared.view.Body.TheVariants as bodies
-use Rattle.std.proofs.Common.{◌≡◌, ◌≤◌, ◌+◌, ℕ, [], ◌∷◌, ◌++◌, ◌∙◌, List, length, refl, sym, ap, subst, append-nil, append_assoc, arith, ◌<◌}
+use Rattle.std.proofs.Common.{◌≡◌, ◌≤◌, ◌+◌, ℕ, [], ◌∷◌, ◌++◌, List, length, refl, sym, subst, append-nil, append_assoc, arith, ◌<◌}
 use Rattle.fv_base.proofs.Laws.{length-append, AllByRecursion, depth_limit, common_steps}
 use Rattle.fv_section.specs.Words.{FrameForm}
-use Rattle.fv_tree.specs.Words.{MeansSection, preorder, inside_section, FileMeaning, File, Plain, Sectioned, SectionMeanings, SectionMeaning, Section}
+use Rattle.fv_tree.specs.Words.{MeansSection, preorder, inside_section, FileMeaning, File, Plain, Sectioned, SectionMeaning, Section}
 use Rattle.fv_tree.specs.Words.{Group, content_of, sections_list, body_of, sections_from, sections_in_data, IsReadFile, AreLevels, NestsAt, left_in}
 use Rattle.fv_tree.specs.Words.{inside_body, body_view}
 use Rattle.fv_tree.specs.declared.view.Body.{Body}
@@ -21,34 +21,26 @@ each_nests : (depth n : ℕ) (ss : List SectionMeaning) → depth + n ≤ depth_
 each_nests depth n [] fits h = tt
 each_nests depth n (s ∷ ss) fits ((f, means), more) = ((n, fits, f, means), each_nests depth n ss fits more)
 
--- the sections of a list nest as deep as the sections of the meaning that is made of the list
-listed : (depth : ℕ) (ss : List SectionMeaning) (us : SectionMeanings) → sections_from ss ≡ us
-    → AllByRecursion (NestsAt depth) (sections_list us) → AllByRecursion (NestsAt depth) ss
-listed depth ss us is = subst (AllByRecursion (NestsAt depth)) (sym (ap sections_list is) ∙ list_back ss)
-
 pub file_nests : (m : FileMeaning) (ss : List SectionMeaning) → IsReadFile m → sections_from ss ≡ sections_in_data (content_of m)
     → AllByRecursion (NestsAt 0) ss
-file_nests (File name kind attributes (Plain b)) ss read is = listed 0 ss _ is tt
+file_nests (File name kind attributes (Plain b)) ss read is = rw (← list_back ss, is) tt
 file_nests (File name kind attributes (Sectioned us tail)) ss (n, few, f, stored, means) is =
     let content = nests_content (File name kind attributes (Sectioned us tail)) n f means in
-    listed 0 ss us is (each_nests 0 n (sections_list us) (omega (arith, few)) (nests_sections us tail n content))
+    rw (← list_back ss, is) (each_nests 0 n (sections_list us) (omega (arith, few)) (nests_sections us tail n content))
 
 -- a group inside `depth` groups leaves room for its sections, which nest as deep as one level further inwards allows
 group_nests : (depth : ℕ) (s : SectionMeaning) (ss : List SectionMeaning) (tail : ℕ) → NestsAt depth s → Group (sections_from ss) tail ≡ body_of s
     → (depth < depth_limit) × AllByRecursion (NestsAt (depth + 1)) ss
 group_nests depth (Section kind extended body) ss tail (n, fits, f, means) is =
-    let group = subst (λ b. MeansSection n f (Section kind extended b)) (sym is) means in
-    let (k, less, inside) = nests_group (sections_from ss) tail n (nests_body (Section kind extended (Group (sections_from ss) tail)) n f group) in
-    (omega (arith, fits, less), listed (depth + 1) ss (sections_from ss) refl (each_nests (depth + 1) k _ (omega (arith, fits, less)) inside))
+    let (k, less, inside) = nests_group _ tail n (nests_body (Section kind extended (Group (sections_from ss) tail)) n f (rw is means)) in
+    (omega (arith, fits, less), rw list_back at (each_nests (depth + 1) k _ (omega (arith, fits, less)) inside))
 
 -- ---- the innermost level
 
 left_more : (levels : List (List SectionMeaning × ℕ)) (ss : List SectionMeaning × ℕ)
     → left_in (levels ++ ss ∷ []) ≡ preorder (sections_from ss.0) ++ left_in levels
 left_more [] ss = sym (append-nil (preorder (sections_from ss.0)))
-left_more (outer ∷ levels) ss =
-    ap (λ l. l ++ preorder (sections_from outer.0)) (left_more levels ss)
-    ∙ append_assoc (preorder (sections_from ss.0)) (left_in levels) (preorder (sections_from outer.0))
+left_more (outer ∷ levels) ss = rw (left_more levels ss) (append_assoc (preorder (sections_from ss.0)) (left_in levels) _)
 
 levels_more : (depth at : ℕ) (levels : List (List SectionMeaning × ℕ)) (ss : List SectionMeaning × ℕ) → at ≡ depth + length levels
     → AreLevels depth levels → AllByRecursion (NestsAt at) ss.0 → AreLevels depth (levels ++ ss ∷ [])
@@ -69,7 +61,7 @@ inside_is (Section kind extended body) = refl
 -- an innermost level without sections adds nothing to the sections that are left
 pub none_left : (levels : List (List SectionMeaning × ℕ)) (ss : List SectionMeaning × ℕ) → ss.0 ≡ []
     → left_in (levels ++ ss ∷ []) ≡ left_in levels
-none_left levels ss is = left_more levels ss ∙ ap (λ l. preorder (sections_from l) ++ left_in levels) is
+none_left levels ss is = rw (left_more levels ss, is)
 
 pub outer_are : (levels : List (List SectionMeaning × ℕ)) (ss : List SectionMeaning × ℕ) → AreLevels 0 (levels ++ ss ∷ []) → AreLevels 0 levels
 outer_are levels ss are = (levels_less 0 (length levels) levels ss (omega arith) are).0
@@ -77,7 +69,7 @@ outer_are levels ss are = (levels_less 0 (length levels) levels ss (omega arith)
 module _ (levels : List (List SectionMeaning × ℕ)) (ss rest : List SectionMeaning × ℕ) (s : SectionMeaning) (is : ss.0 ≡ s ∷ rest.0)
     (are : AreLevels 0 (levels ++ ss ∷ [])) where
   nests : AllByRecursion (NestsAt (length levels)) (s ∷ rest.0)
-  nests = subst (AllByRecursion (NestsAt (length levels))) is (levels_less 0 (length levels) levels ss (omega arith) are).1
+  nests = rw is at (levels_less 0 (length levels) levels ss (omega arith) are).1
 
   -- the first section of the innermost level is the next section of the walk, and is followed by the sections in it
   first_left : left_in (levels ++ ss ∷ []) ≡ s ∷ (inside_section s ++ left_in (levels ++ rest ∷ []))
@@ -94,7 +86,7 @@ module _ (levels : List (List SectionMeaning × ℕ)) (ss rest : List SectionMea
     -- if the section is a group, its sections are the new innermost level
     module _ (inside : List SectionMeaning × ℕ) (group : b ≡ bodies.Group inside) where
       within : Group (sections_from inside.0) inside.1 ≡ body_of s
-      within = sym (ap body_view group) ∙ view
+      within = rw group at view
 
       pub group_fits : length levels < depth_limit
       group_fits = (group_nests (length levels) s inside.0 inside.1 nests.0 within).0

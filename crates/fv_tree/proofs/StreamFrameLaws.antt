@@ -7,14 +7,9 @@
 --    it split into the other frames (`after_last`, `after_more`). So the frames that are read are the frames of the
 --    split (`starts_meet`).
 -- 3. The same is true of a whole stream (`split_is`).
-use Rattle.std.proofs.Common.{◌≡◌, ℕ, zero, suc, ◌+◌, ◌<◌, ◌≤◌, List, [], ◌∷◌, ◌++◌, length, drop, map, refl, sym, ap, ◌∙◌, subst, arith, Bool, true}
-use Rattle.std.proofs.Common.{false, length-append, append_assoc, length-drop}
-use Rattle.std.specs.Prelude.{nat_lt}
-use Rattle.std.specs.List.{AllByRecursion}
-use Rattle.std.proofs.lemmas.Bool.{le-ltb, lt-ltb, ltb-true, ltb-false}
-use Rattle.std.proofs.lemmas.List.{drop_at, length-map}
-use Rattle.fv_base.specs.Words.{IsBytes}
-use Rattle.fv_base.proofs.Laws.{bytes_drop, common_steps}
+use Rattle.std.proofs.Common.{◌≡◌, ℕ, zero, suc, ◌+◌, ◌<◌, ◌≤◌, List, [], ◌∷◌, ◌++◌, length, drop, map, refl, sym, ap, ◌∙◌, arith, true, false}
+use Rattle.std.proofs.Common.{length-append, append_assoc, length-drop, ⊎_elim}
+use Rattle.fv_base.proofs.Laws.{bytes_drop, common_steps, nat_lt, AllByRecursion, IsBytes, drop_at, length-map, cases_lt, le-ltb, lt-ltb}
 use Rattle.fv_section.specs.Words.{BeginsFrame, FrameForm, HasFrameAt, Splits, SplitsFrom, after_first, after_size, frame_in, frame_len, up_to_4}
 use Rattle.fv_section.proofs.Laws.{frame_reads, from_least, length_begun, size_least}
 use Rattle.fv_tree.specs.Words.{BeginsFramed, frames_of, starts_by, starts_of}
@@ -43,10 +38,10 @@ more_starts n r least = rw (le-ltb (length r) 4 least) refl
 starts_same : (n m : ℕ) (r : List ℕ) → length r ≤ n → length r ≤ m → starts_by n r ≡ starts_by m r
 starts_same zero m r less less' = sym (few_starts m r (omega (arith, less)))
 starts_same (suc n) zero r less less' = few_starts (suc n) r (omega (arith, less'))
-starts_same (suc n) (suc m) r less less' = go (starts_same n m (after_first r)) (nat_lt (length r) 4) refl where
-  go : (length (after_first r) ≤ n → length (after_first r) ≤ m → starts_by n (after_first r) ≡ starts_by m (after_first r))
-      → (t : Bool) → nat_lt (length r) 4 ≡ t → starts_by (suc n) r ≡ starts_by (suc m) r
-  go same t e = grind (arith, common_steps, few_starts, ltb-true, ltb-false, more_starts, fewer) steps 150000
+starts_same (suc n) (suc m) r less less' =
+    ⊎_elim (λ few. few_starts (suc n) r few ∙ sym (few_starts (suc m) r few)) (λ least.
+    let same = starts_same n m (after_first r) (omega (arith, fewer r least, less)) (omega (arith, fewer r least, less')) in
+    rw (more_starts n r least, more_starts m r least, same) refl) (cases_lt (length r) 4)
 
 -- the same for `starts_of`, which has no limit
 pub no_start : (r : List ℕ) → length r < 4 → starts_of r ≡ ([], r)
@@ -58,11 +53,9 @@ first_start r least = grind (arith, common_steps, starts_same, more_starts, fewe
 -- a stream has no more frames than bytes
 few_by : (n : ℕ) (r : List ℕ) → length (starts_by n r).0 ≤ length r
 few_by zero r = omega arith
-few_by (suc n) r = go (few_by n (after_first r)) (nat_lt (length r) 4) refl where
-  go : length (starts_by n (after_first r)).0 ≤ length (after_first r) → (t : Bool) → nat_lt (length r) 4 ≡ t
-      → length (starts_by (suc n) r).0 ≤ length r
-  go less true e = rw e (omega arith)
-  go less false e = rw e (omega (arith, less, fewer r (ltb-false _ _ e)))
+few_by (suc n) r =
+    ⊎_elim (λ few. rw (few_starts (suc n) r few) (omega arith))
+    (λ least. rw (more_starts n r least) (omega (arith, few_by n (after_first r), fewer r least))) (cases_lt (length r) 4)
 
 pub few_frames : (r : List ℕ) → length (frames_of r) ≤ length r
 few_frames r = omega (arith, length-map (starts_of r).0 (frame_in 0), few_by (length r) r)
@@ -83,39 +76,28 @@ first_is f r rest begun =
       rest = rest;
       begins = record { head = begun.head; is_header = begun.is_header; text = begun.text };
     } in
-    (is, subst (λ g. HasFrameAt g 0 r) (sym is) here)
+    (is, rw is here)
 
--- the bytes after a frame, and the bytes after a frame and the filler that follows it
-cut : (f : FrameForm) (r rest : List ℕ) → BeginsFrame f r rest → drop (frame_len f) r ≡ rest
-cut f r rest begun =
-    let x : List ℕ = begun.head ++ f.body in
-    let text : r ≡ x ++ rest = begun.text ∙ sym (append_assoc begun.head f.body rest) in
-    let long : length x ≡ frame_len f = omega (arith, length-append begun.head f.body, begun.is_header.header_length) in
-    ap (drop (frame_len f)) text ∙ drop_at x rest (frame_len f) long
-
+-- the bytes after a frame and the filler that follows it
 cut_filler : (f : FrameForm) (r filler rest : List ℕ) (n : ℕ) → BeginsFrame f r (filler ++ rest) → n ≡ frame_len f + length filler
     → drop n r ≡ rest
 cut_filler f r filler rest n begun is =
     let x : List ℕ = begun.head ++ (f.body ++ filler) in
-    let text : r ≡ x ++ rest =
-    begun.text ∙ ap (λ l. begun.head ++ l) (sym (append_assoc f.body filler rest))
-    ∙ sym (append_assoc begun.head (f.body ++ filler) rest) in
-    let long : length x ≡ n =
-    omega (arith, is, length-append begun.head (f.body ++ filler), length-append f.body filler, begun.is_header.header_length) in
-    ap (drop n) text ∙ drop_at x rest n long
+    let text : r ≡ x ++ rest = simp append_assoc begun.text in
+    rw text (drop_at x rest n (omega (arith, is, length-append {A = ℕ}, begun.is_header.header_length)))
 
 -- the bytes that are left after the last frame are the tail
 after_last : (f : FrameForm) (r rest : List ℕ) → BeginsFrame f r rest → frame_len f + length rest ≤ up_to_4 (frame_len f) → after_first r ≡ rest
 after_last f r rest begun fit =
-    ap (λ g. after_size (frame_len g) r) (first_is f r rest begun).0
-    ∙ by_after (λ s. s ≡ rest) (frame_len f) r (λ e. absurd (omega (arith, fit, length_begun f r rest begun, ltb-true _ _ e))) (λ e. cut f r rest begun)
+    let follows = cut_filler f r [] rest (frame_len f) begun (omega arith) in
+    grind (arith, common_steps, (first_is f r rest begun).0, follows, length_begun f r rest begun)
 
 -- the bytes that are left after any other frame begin with the next frame
 after_more : (f : FrameForm) (r filler rest : List ℕ) → BeginsFrame f r (filler ++ rest) → frame_len f + length filler ≡ up_to_4 (frame_len f)
     → 0 < length rest → after_first r ≡ rest
 after_more f r filler rest begun fill some =
-    ap (λ g. after_size (frame_len g) r) (first_is f r _ begun).0 ∙ by_after (λ s. s ≡ rest) _ r (λ e. cut_filler f r filler rest _ begun (sym fill))
-    (λ e. absurd (omega (arith, fill, some, length_begun f r _ begun, length-append filler rest, ltb-false _ _ e)))
+    let follows = cut_filler f r filler rest _ begun (sym fill) in
+    grind (arith, common_steps, (first_is f r _ begun).0, follows, length_begun f r _ begun, length-append filler rest)
 
 -- the frames that were read are the frames fs, with the offset 0, and t bytes are left after them; and each of these
 -- frames is at the start of the bytes from which it was read
@@ -124,27 +106,22 @@ pub record Meets (fs : List FrameForm) (t : ℕ) (starts : List (List ℕ) × Li
   pub tail : length starts.1 ≡ t
   pub framed : AllByRecursion BeginsFramed starts.0
 
-meets_one : (f : FrameForm) (fs : List FrameForm) (t : ℕ) (r rest : List ℕ) → frame_in 0 r ≡ unplaced f → BeginsFramed r
-    → 4 ≤ length r → after_first r ≡ rest → Meets fs t (starts_of rest) → Meets (f ∷ fs) t (starts_of r)
-meets_one f fs t r rest is framed least after more = grind (arith, common_steps, first_start) steps 150000
+meets_none : (t : ℕ) (r : List ℕ) → length r < 4 → length r ≡ t → Meets [] t (starts_of r)
+meets_none t r few is = rw (no_start r few) (record { frames = refl; tail = is; framed = tt })
+
+meets_one : (f : FrameForm) (fs : List FrameForm) (t : ℕ) (r behind : List ℕ) → BeginsFrame f r behind → Meets fs t (starts_of (after_first r))
+    → Meets (f ∷ fs) t (starts_of r)
+meets_one f fs t r behind begun more =
+    grind (arith, common_steps, first_start, first_is f r behind begun, length_begun f r behind begun, size_least f)
 
 starts_meet : (at : ℕ) (fs : List FrameForm) (t : ℕ) (r : List ℕ) → at ≡ up_to_4 at → SplitsFrom at fs t r → Meets fs t (starts_of r)
-starts_meet at [] t r multiple (none, z) =
-    subst (Meets [] t) (sym (no_start r (omega (arith, ap length none)))) (record { frames = refl; tail = omega (arith, ap length none, z); framed = tt })
+starts_meet at [] t r multiple (none, z) = meets_none t r (omega (arith, ap length none)) (omega (arith, ap length none, z))
 starts_meet at (f ∷ []) t r multiple (rest, begun, o, l, fit) =
-    let first = first_is f r rest begun in
-    let long = length_begun f r rest begun in
-    let small : length rest < 4 = omega (arith, l, fit) in
-    let after = after_last f r rest begun (omega (arith, multiple, l, fit)) in
-    meets_one f [] t r rest first.0 first.1 (omega (arith, long, size_least f)) after
-    (subst (Meets [] t) (sym (no_start rest small)) (record { frames = refl; tail = l; framed = tt }))
+    meets_one f [] t r rest begun (rw (after_last f r rest begun (omega (arith, multiple, l, fit))) (meets_none t rest (omega (arith, l, fit)) l))
 starts_meet at (f ∷ g ∷ fs) t r multiple (filler, rest, begun, o, fill, more) =
-    let first = first_is f r (filler ++ rest) begun in
-    let long = length_begun f r (filler ++ rest) begun in
     let some = from_least (up_to_4 (at + frame_len f)) g fs t rest more in
-    let after = after_more f r filler rest begun (omega (arith, multiple, fill)) (omega (arith, some)) in
-    meets_one f (g ∷ fs) t r rest first.0 first.1 (omega (arith, long, size_least f)) after
-    (starts_meet (up_to_4 (at + frame_len f)) (g ∷ fs) t rest (omega arith) more)
+    meets_one f (g ∷ fs) t r (filler ++ rest) begun (rw (after_more f r filler rest begun (omega (arith, multiple, fill)) (omega (arith, some)))
+    (starts_meet (up_to_4 (at + frame_len f)) (g ∷ fs) t rest (omega arith) more))
 
 -- a stream is read as the frames and the tail of its split
 pub split_is : (fs : List FrameForm) (t : ℕ) (b : List ℕ) → Splits fs t b → Meets fs t (starts_of b)

@@ -3,7 +3,7 @@
 -- 2. The next frame lies within the stream, and some bytes contain it (`walk_ready`). Either it is read (`walk_more`),
 --    or its fault is the first fault of the stream (`walk_first`).
 -- 3. If no frame is left, the stream is read (`walk_found`).
-use Rattle.std.proofs.Common.{arith, ◌≡◌, ℕ, ◌+◌, ◌≤◌, [], ◌∷◌, ◌++◌, List, length, refl, sym, ap, ◌∙◌, subst, inr, append_assoc, append-nil}
+use Rattle.std.proofs.Common.{arith, ◌≡◌, ℕ, ◌+◌, ◌≤◌, [], ◌∷◌, ◌++◌, List, length, refl, sym, ap, ◌∙◌, inr, append_assoc, append-nil}
 use Rattle.fv_base.proofs.Laws.{First, volume_limit, IsBytes, in_middle, common_steps}
 use Rattle.fv_base.specs.declared.fault.Fault.{Fault}
 use Rattle.fv_base.specs.declared.fault.Place.{Place}
@@ -40,7 +40,7 @@ module _ (n : ℕ) (b : List ℕ) (tail : ℕ) where
   -- f is the first frame that is left
   module _ (left more : List FrameForm) (f : FrameForm) (old now : List Meaning) (w : Walked left old now) (e : left ≡ f ∷ more) where
     whole : Splits (w.frames ++ f ∷ more) tail b
-    whole = subst (λ fs. Splits (w.frames ++ fs) tail b) e w.split
+    whole = rw e at w.split
 
     -- f meets the conditions of the reader of a section
     pub walk_ready : IsBytes b → length b ≤ volume_limit → (f.offset + frame_len f ≤ length b) × IsStoredFrame f
@@ -51,7 +51,7 @@ module _ (n : ℕ) (b : List ℕ) (tail : ℕ) where
     walk_more new read = record {
       frames = w.frames ++ f ∷ [];
       sections = w.sections ++ read.section ∷ [];
-      split = subst (λ fs. Splits fs tail b) (sym (append_assoc w.frames (f ∷ []) more)) whole;
+      split = rw append_assoc whole;
       means = pairs_push (MeansSection n) w.frames w.sections f read.section w.means read.means;
       added = w.added ++ read.added;
       joined = read.joined ∙ ap (λ l. l ++ read.added) w.joined ∙ append_assoc old w.added read.added;
@@ -65,5 +65,4 @@ module _ (n : ℕ) (b : List ℕ) (tail : ℕ) where
   -- if no frame is left, the stream is read
   pub walk_found : (left : List FrameForm) (old now : List Meaning) → IsBytes b → Walked left old now → left ≡ [] → StreamRead n b old now
   walk_found left old now small w e =
-      let all : Splits w.frames tail b = subst (λ fs. Splits fs tail b) (ap (λ fs. w.frames ++ fs) e ∙ append-nil w.frames) w.split in
-      stream_read n b tail w.frames w.sections old now w.added small all w.means w.joined w.yields
+      stream_read n b tail w.frames w.sections old now w.added small (rw (e, append-nil w.frames) at w.split) w.means w.joined w.yields

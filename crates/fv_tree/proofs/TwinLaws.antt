@@ -6,24 +6,28 @@
 -- 3. Of two current files neither replaces the other, so their names differ (`names_differ`).
 -- 4. Volume top files have the same name, so two of them are not both current (`two_tops`), and at most one of them is
 --    not at the end (`one_top`).
-use Rattle.std.proofs.Common.{◌≡◌, ℕ, [], ◌∷◌, ◌++◌, ◌&&◌, Bool, true, false, List, refl, sym, ◌∙◌, subst, inl, inr, arith, not}
-use Rattle.fv_base.proofs.Laws.{common_steps, beq, AllByRecursion, filter, list_any, not-true, recursion_from_All, bytes_eq-Decides, First, Earlier}
-use Rattle.fv_base.proofs.Laws.{TwoCuts, after_middle, in_middle, or_both, or_parts, two_cuts}
+use Rattle.std.proofs.Common.{◌≡◌, ℕ, [], ◌∷◌, ◌++◌, Bool, true, false, List, refl, sym, ◌∙◌, arith, not}
+use Rattle.fv_base.proofs.Laws.{common_steps, AllByRecursion, filter, list_any, not-true, recursion_from_All, bytes_eq-Decides, First, Earlier}
+use Rattle.fv_base.proofs.Laws.{after_middle, in_middle, or_both, or_parts, two_cuts}
+use Rattle.std.proofs.lemmas.Bool.{cond_both}
 use Rattle.std.proofs.lemmas.List.Elements.{filter_passes}
 use Rattle.std.proofs.lemmas.List.Folds.{list_any-append}
-use Rattle.fv_tree.specs.Words.{HasTwin, TopElsewhere, FileForm, same_name, is_marked, is_twin, replaced_by, NoTwins, current_in, is_top}
+use Rattle.fv_tree.specs.Words.{HasTwin, TopElsewhere, FileForm, same_name, is_twin, replaced_by, NoTwins, current_in, is_top}
 use Rattle.fv_tree.proofs.NamesFaultLaws.{twin_none}
 
 -- ---- the first file that has an earlier twin
 
+-- two cuts, neither of which is before the other, are at the same file
+once : (before : List FileForm) (f : FileForm) (after before' : List FileForm) (g : FileForm) (after' : List FileForm)
+    → before ++ (f ∷ after) ≡ before' ++ (g ∷ after') → (Earlier before f after before' g after' → ⊥)
+    → (Earlier before' g after' before f after → ⊥) → f ≡ g
+once before f after before' g after' is not not' = grind (arith, two_cuts before f after before' g after' is)
+
 -- at most one of the files is the first that has an earlier twin
 pub one_twin : (f g : FileForm) (fs : List FileForm) → HasTwin First f fs → HasTwin First g fs → f ≡ g
-one_twin f g fs (before, after, is, none, has) (before', after', is', none', has') = go (two_cuts before f after before' g after' (sym is ∙ is'))
-  where
-    go : TwoCuts before f after before' g after' → f ≡ g
-    go (inl (same, item)) = item
-    go (inr (inl (mid, late, rest))) = absurd (twin_none First f before' (before, mid, late, none, has) none')
-    go (inr (inr (mid, late, rest))) = absurd (twin_none First g before (before', mid, late, none', has') none)
+one_twin f g fs (before, after, is, none, has) (before', after', is', none', has') =
+    once before f after before' g after' (sym is ∙ is') (λ e. twin_none First f before' (before, e.0, e.1, none, has) none')
+    (λ e. twin_none First g before (before', e.0, e.1, none', has') none)
 
 -- ---- some of the files, by a test
 
@@ -32,20 +36,15 @@ none_kept : (p q : FileForm → Bool) (fs : List FileForm) → list_any q fs ≡
 none_kept p q [] h = refl
 none_kept p q (f ∷ fs) h =
     let parts = or_parts (q f) (list_any q fs) h in
-    go (p f) refl parts.0 (none_kept p q fs parts.1)
-  where
-    go : (t : Bool) → p f ≡ t → q f ≡ false → list_any q (filter p fs) ≡ false → list_any q (filter p (f ∷ fs)) ≡ false
-    go true e here rest = rw e (or_both (q f) (list_any q (filter p fs)) here rest)
-    go false e here rest = rw e rest
+    let rest = none_kept p q fs parts.1 in
+    cond_both (p f) _ _ (λ l. list_any q l ≡ false) (λ _. or_both (q f) _ parts.0 rest) (λ _. rest)
 
 -- if files have no twins, the files that a filter keeps have none
 no_twins_kept : (p : FileForm → Bool) (fs : List FileForm) → NoTwins fs → NoTwins (filter p fs)
 no_twins_kept p [] h = tt
-no_twins_kept p (f ∷ fs) h = go (p f) refl (no_twins_kept p fs h.1)
-  where
-    go : (t : Bool) → p f ≡ t → NoTwins (filter p fs) → NoTwins (filter p (f ∷ fs))
-    go true e rest = rw e (none_kept p (is_twin f) fs h.0, rest)
-    go false e rest = rw e rest
+no_twins_kept p (f ∷ fs) h =
+    let rest = no_twins_kept p fs h.1 in
+    cond_both (p f) _ _ NoTwins (λ _. (none_kept p (is_twin f) fs h.0, rest)) (λ _. rest)
 
 -- a test that is false of all items is false of each item, and of all items after it
 any_cut : (q : FileForm → Bool) (before : List FileForm) (f : FileForm) (after : List FileForm)
@@ -64,39 +63,31 @@ apart (h ∷ hs) f mid g after none = apart hs f mid g after none.1
 abbrev is_alive : List FileForm → FileForm → Bool
 is_alive fs f = not (list_any (replaced_by f) fs)
 
--- if two files are not twins and neither replaces the other, their names differ
-tests_differ : (s r m k : Bool) → s ≡ true → r ≡ true → (s && beq m k) ≡ false → (s && (m && not k)) ≡ false
-    → (r && (k && not m)) ≡ false → ⊥
-tests_differ s r m k p q twin over under = grind (arith, common_steps) steps 150000
-
 -- two current files at different places have different names
 pub names_differ : (fs before : List FileForm) (f : FileForm) (mid : List FileForm) (g : FileForm) (after : List FileForm) → NoTwins fs
     → current_in fs ≡ before ++ (f ∷ (mid ++ (g ∷ after))) → same_name f g ≡ true → same_name g f ≡ true → ⊥
-names_differ fs before f mid g after none is forth back =
-    tests_differ (same_name f g) (same_name g f) (is_marked f.head.state) (is_marked g.head.state) forth back twin over under
-  where
-    whole : List FileForm
-    whole = before ++ (f ∷ (mid ++ (g ∷ after)))
+names_differ fs before f mid g after none is forth back = grind (arith, common_steps, twin, over, under) where
+  whole : List FileForm
+  whole = before ++ (f ∷ (mid ++ (g ∷ after)))
 
-    twin : is_twin f g ≡ false
-    twin = apart before f mid g after (subst NoTwins is (no_twins_kept (is_alive fs) fs none))
+  twin : is_twin f g ≡ false
+  twin = apart before f mid g after (rw is at (no_twins_kept (is_alive fs) fs none))
 
-    all : AllByRecursion (λ h. is_alive fs h ≡ true) whole
-    all = subst (λ (l : List FileForm). AllByRecursion (λ h. is_alive fs h ≡ true) l) is
-        (recursion_from_All (λ h. is_alive fs h ≡ true) (filter (is_alive fs) fs) (filter_passes (is_alive fs) fs))
+  all : AllByRecursion (λ h. is_alive fs h ≡ true) whole
+  all = rw is at (recursion_from_All (λ h. is_alive fs h ≡ true) (filter (is_alive fs) fs) (filter_passes (is_alive fs) fs))
 
-    -- a current file is not replaced by a current file
-    not_replaced : (h : FileForm) → is_alive fs h ≡ true → list_any (replaced_by h) whole ≡ false
-    not_replaced h current = grind (arith, common_steps, none_kept, not-true) steps 150000
+  -- a current file is not replaced by a current file
+  not_replaced : (h : FileForm) → is_alive fs h ≡ true → list_any (replaced_by h) whole ≡ false
+  not_replaced h current = grind (arith, common_steps, none_kept, not-true) steps 150000
 
-    over : replaced_by f g ≡ false
-    over = grind (arith, common_steps, any_cut, not_replaced, in_middle, all) steps 150000
+  over : replaced_by f g ≡ false
+  over = grind (arith, common_steps, any_cut, not_replaced, in_middle, all) steps 150000
 
-    under : replaced_by g f ≡ false
-    under =
-        (any_cut (replaced_by g) before f (mid ++ (g ∷ after))
-        (not_replaced g (in_middle (λ h. is_alive fs h ≡ true) mid g after
-        (after_middle (λ h. is_alive fs h ≡ true) before f (mid ++ (g ∷ after)) all)))).0
+  under : replaced_by g f ≡ false
+  under =
+      (any_cut (replaced_by g) before f (mid ++ (g ∷ after))
+      (not_replaced g (in_middle (λ h. is_alive fs h ≡ true) mid g after
+      (after_middle (λ h. is_alive fs h ≡ true) before f (mid ++ (g ∷ after)) all)))).0
 
 -- ---- the volume top file
 
@@ -113,9 +104,5 @@ two_tops fs before f after before' g after' none is top top' (mid, late, rest) =
 pub one_top : (len : ℕ) (f g : FileForm) (fs : List FileForm) → NoTwins fs → TopElsewhere len f (current_in fs)
     → TopElsewhere len g (current_in fs) → f ≡ g
 one_top len f g fs none (before, after, is, top, off) (before', after', is', top', off') =
-    go (two_cuts before f after before' g after' (sym is ∙ is'))
-  where
-    go : TwoCuts before f after before' g after' → f ≡ g
-    go (inl (same, item)) = item
-    go (inr (inl earlier)) = absurd (two_tops fs before f after before' g after' none is top top' earlier)
-    go (inr (inr earlier)) = absurd (two_tops fs before' g after' before f after none is' top' top earlier)
+    once before f after before' g after' (sym is ∙ is') (two_tops fs before f after before' g after' none is top top')
+    (two_tops fs before' g after' before f after none is' top' top)

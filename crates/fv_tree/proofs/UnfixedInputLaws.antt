@@ -1,6 +1,6 @@
 -- Why an input has no unfixed copy: its header or a cell has a fault (`stopped`), or bytes follow its volume
 -- (`bytes_follow`).
-use Rattle.std.proofs.Common.{◌≡◌, ℕ, ◌++◌, ◌<◌, ◌∙◌, List, length, take, drop, ap, arith, inl, inr, sym, nat_eq, false}
+use Rattle.std.proofs.Common.{◌≡◌, ℕ, ◌++◌, ◌<◌, List, length, take, drop, ap, arith, inl, inr, nat_eq, false}
 use Rattle.fv_base.proofs.Laws.{nat_tests, take-append_seam, outer_fault}
 use Rattle.fv_base.specs.declared.fault.Fault.{Fault}
 use Rattle.fv_head.proofs.Laws.{one_front}
@@ -20,12 +20,10 @@ pub bytes_follow : (input o : List ℕ) (f : Fault) (h : HeadFields) (e : Extent
 bytes_follow input o f h e unfixed front other is =
     let less : e.length < length input = grind (arith, nat_tests, front.is_within) in
     record {
-      none = λ x to.
-          let one = (one_front input h to.1.0 e to.1.1 front to.1.2).1 in
-          omega (arith, ap (λ (y : Extent). y.length) one, to.1.3, less);
+      none = λ x to. omega (arith, ap (λ (y : Extent). y.length) (one_front input h to.1.0 e to.1.1 front to.1.2).1, to.1.3, less);
       first = inr ((o, unfixed), (h, e, front, less, is));
     }
 
 -- if all of a vector is overwritten, it has the new items
 pub whole_kept : (new items : List ℕ) (n : ℕ) → length new ≡ n → take n (new ++ drop (length new) items) ≡ new
-whole_kept new items n e = ap (λ (k : ℕ). take k (new ++ drop (length new) items)) (sym e) ∙ take-append_seam new (drop (length new) items)
+whole_kept new items n e = rw (← e) (take-append_seam new (drop (length new) items))

@@ -9,17 +9,14 @@
 -- 3. The body of a group is a stream that was read, one level deeper (`group_kept`, `group_view`), and a section that
 --    is opened as a volume takes the first volume (`volume_view`).
 -- 4. The data of a file are a stream that was read, if its type holds sections (`file_kept`).
-use Rattle.std.proofs.Common.{Bool, true, ◌≡◌, ℕ, zero, suc, ◌-◌, ◌^◌, ◌<◌, ◌≤◌, List, [], ◌∷◌, drop, length, map, refl, sym, ap, ◌∙◌, subst, arith}
-use Rattle.std.specs.List.{AllByRecursion}
-use Rattle.fv_base.specs.Words.{IsBytes, depth_limit, volume_limit}
+use Rattle.std.proofs.Common.{true, ◌≡◌, ℕ, zero, suc, ◌-◌, ◌^◌, ◌<◌, ◌≤◌, List, [], ◌∷◌, drop, length, map, refl, ap, ◌∙◌, arith}
+use Rattle.std.proofs.Math.Numerals.{sub-one}
 use Rattle.fv_base.specs.declared.guid.Guid.{Guid}
-use Rattle.fv_base.proofs.Laws.{bytes_drop, common_steps}
+use Rattle.fv_base.proofs.Laws.{bytes_drop, common_steps, IsBytes, depth_limit, volume_limit}
 use Rattle.fv_section.specs.Words.{FrameForm, after_first, frame_in}
 use Rattle.fv_section.proofs.Laws.{begun_bytes}
-use Rattle.fv_tree.specs.Words.{Pairwise, StreamRelation, VolumeRelation, SectionOver, IsStoredFrame, MeansFile, MeansSection, Stream, Denotes, File}
-use Rattle.fv_tree.specs.Words.{holds_sections, Meaning, SectionMeaning, Section, BodyMeaning, Leaf, Group, Nested, sections_from, shape_of, Step}
-use Rattle.fv_tree.specs.Words.{each_by, body_by, section_over, unopened, section_by, frames_of, tail_of, AreKept, BeginsFramed, IsKept, IsKeptFile}
-use Rattle.fv_tree.specs.Words.{content_by}
+use Rattle.fv_tree.specs.Words.{Pairwise, IsStoredFrame, MeansSection, Stream, holds_sections, Meaning, SectionMeaning, Section, Leaf, Group, Nested}
+use Rattle.fv_tree.specs.Words.{shape_of, Step, each_by, body_by, unopened, section_by, frames_of, tail_of, AreKept, IsKept, IsKeptFile}
 use Rattle.fv_tree.specs.declared.shape.Shape.{Shape}
 use Rattle.fv_tree.specs.declared.shape.Shape.TheVariants as shapes
 use Rattle.fv_tree.proofs.SectionShapeLaws.{frame_small, list_back, volume_shape}
@@ -41,42 +38,30 @@ section_is (suc n) f vs shape is = rw is refl
 -- ---- no volumes
 
 -- if no volume is given, no volume is left
-abbrev TakesNone : Step → Type 0
-TakesNone step = (f : FrameForm) → (step f []).1 ≡ []
-
-each_none : (step : Step) → TakesNone step → (fs : List FrameForm) → (each_by step fs []).1 ≡ []
+each_none : (step : Step) → ((f : FrameForm) → (step f []).1 ≡ []) → (fs : List FrameForm) → (each_by step fs []).1 ≡ []
 each_none step none [] = refl
 each_none step none (f ∷ fs) = ap (λ vs. (each_by step fs vs).1) (none f) ∙ each_none step none fs
 
-body_none : (shape : Shape) (step : Step) → TakesNone step → (f : FrameForm) → (body_by shape step f []).1 ≡ []
+body_none : (shape : Shape) (step : Step) → ((f : FrameForm) → (step f []).1 ≡ []) → (f : FrameForm) → (body_by shape step f []).1 ≡ []
 body_none shape step none f = grind (arith, common_steps, each_none) steps 150000
 
-pub none_taken : (n : ℕ) → TakesNone (section_by n)
+none_taken : (n : ℕ) (f : FrameForm) → (section_by n f []).1 ≡ []
 none_taken zero f = body_none (shape_of f) unopened (λ g. refl) f
 none_taken (suc n) f = body_none (shape_of f) (section_by n) (none_taken n) f
 
 pub none_after : (n : ℕ) (f : FrameForm) (vs : List Meaning) → length vs ≡ 0 → vs ≡ (section_by n f vs).1
-none_after n f [] short = sym (none_taken n f)
-none_after n f (v ∷ vs) short = cc
+none_after n f vs short = grind (arith, common_steps, none_taken)
 
 -- ---- the offset of a frame does not matter
 
 body_unplaced : (shape : Shape) (step : Step) (f : FrameForm) (vs : List Meaning) → body_by shape step (unplaced f) vs ≡ body_by shape step f vs
 body_unplaced shape step f vs = grind (arith, common_steps) steps 150000
 
-over_unplaced : (step : Step) (f : FrameForm) (vs : List Meaning) → section_over step (unplaced f) vs ≡ section_over step f vs
-over_unplaced step f vs = ap (λ (r : BodyMeaning × List Meaning). (Section f.kind f.extended r.0, r.1)) (body_unplaced (shape_of f) step f vs)
-
 pub by_unplaced : (n : ℕ) (f : FrameForm) (vs : List Meaning) → section_by n (unplaced f) vs ≡ section_by n f vs
-by_unplaced zero f vs = over_unplaced unopened f vs
-by_unplaced (suc n) f vs = over_unplaced (section_by n) f vs
-
-over_means : (S : StreamRelation) (V : VolumeRelation) (f : FrameForm) (s : SectionMeaning) → SectionOver S V f s → SectionOver S V (unplaced f) s
-over_means S V f s h = grind (arith, common_steps) steps 150000
+by_unplaced n f vs = cc (section_is n f vs _ refl, section_is n (unplaced f) vs _ refl, body_unplaced (shape_of f) (below n) f vs)
 
 unplaced_means : (n : ℕ) (f : FrameForm) (s : SectionMeaning) → MeansSection n f s → MeansSection n (unplaced f) s
-unplaced_means zero f s h = over_means (λ _ _ _. ⊥) (λ _ _. ⊥) f s h
-unplaced_means (suc n) f s h = over_means (Stream n) (Denotes n) f s h
+unplaced_means n f s h = grind (arith, common_steps) steps 150000
 
 pairs_unplaced : (n : ℕ) (fs : List FrameForm) (ss : List SectionMeaning) → Pairwise (MeansSection n) fs ss
     → Pairwise (MeansSection n) (map unplaced fs) ss
@@ -89,16 +74,7 @@ pairs_unplaced n _ _ h = absurd h
 -- if the sections that are made from the bytes b and the volumes vs are the meaning of b, they were read
 pub stream_kept : (n : ℕ) (b : List ℕ) (vs : List Meaning) (t : ℕ) → n ≤ depth_limit → IsBytes b → length b ≤ volume_limit
     → Stream n (each_by (section_by n) (frames_of b) vs).0 t b → AreKept n b vs
-stream_kept n b vs t few small short (fs, split, pairs) =
-    let meets = split_is fs t b split in
-    let ss : List SectionMeaning = (each_by (section_by n) (frames_of b) vs).0 in
-    record {
-      few = few;
-      small = small;
-      short = short;
-      framed = meets.framed;
-      means = subst (λ gs. Pairwise (MeansSection n) gs ss) (sym meets.frames) (pairs_unplaced n fs ss pairs);
-    }
+stream_kept n b vs t few small short stream = grind (arith, common_steps, split_is stream.0 t b stream.1, pairs_unplaced n stream.0 _ stream.2)
 
 -- the bytes r begin with a frame: if the sections of r were read, the first section was read, and so were the sections
 -- after it
@@ -109,25 +85,14 @@ module _ (n : ℕ) (r : List ℕ) (vs : List Meaning) (least : 4 ≤ length r) w
   pub tail_after : tail_of r ≡ tail_of (after_first r)
   tail_after = ap (λ (s : List (List ℕ) × List ℕ). length s.1) (first_start r least)
 
-  pub each_first : each_by (section_by n) (frames_of r) vs
-      ≡ (
-        (section_by n (frame_in 0 r) vs).0 ∷ (each_by (section_by n) (frames_of (after_first r)) (section_by n (frame_in 0 r) vs).1).0,
-        (each_by (section_by n) (frames_of (after_first r)) (section_by n (frame_in 0 r) vs).1).1,
-      )
+  pub each_first : each_by (section_by n) (frames_of r) vs ≡ each_by (section_by n) (frame_in 0 r ∷ frames_of (after_first r)) vs
   each_first = ap (λ fs. each_by (section_by n) fs vs) frames_are
 
-  pub frame_kept : AreKept n r vs → BeginsFramed r
-  frame_kept kept = (subst (λ (s : List (List ℕ) × List ℕ). AllByRecursion BeginsFramed s.0) (first_start r least) kept.framed).0
-
-  pairs : AreKept n r vs → Pairwise (MeansSection n) (frame_in 0 r ∷ frames_of (after_first r))
-      (each_by (section_by n) (frame_in 0 r ∷ frames_of (after_first r)) vs).0
-  pairs kept = subst (λ fs. Pairwise (MeansSection n) fs (each_by (section_by n) fs vs).0) frames_are kept.means
-
   pub first_kept : AreKept n r vs → IsKept n (frame_in 0 r) vs
-  first_kept kept = grind (arith, common_steps, frame_kept, pairs) steps 150000
+  first_kept kept = grind (arith, common_steps, rw (first_start r least) at kept.framed, rw frames_are at kept.means) steps 150000
 
   pub rest_kept : AreKept n r vs → AreKept n (after_first r) (section_by n (frame_in 0 r) vs).1
-  rest_kept kept = grind (arith, common_steps, bytes_after, fewer, first_start, pairs) steps 150000
+  rest_kept kept = grind (arith, common_steps, bytes_after, fewer, first_start, rw frames_are at kept.means) steps 150000
 
 -- there are as many sections as frames
 each_length : (step : Step) (fs : List FrameForm) (vs : List Meaning) → length (each_by step fs vs).0 ≡ length fs
@@ -149,40 +114,26 @@ body_bytes f (b, small, short, stands) = (begun_bytes f (drop f.offset b) stands
 -- if a group was read, n is at least 1, and the body of the group is a stream of sections that were read
 pub group_kept : (n : ℕ) (f : FrameForm) (vs : List Meaning) → shape_of f ≡ shapes.Group → IsKept n f vs
     → (0 < n) × AreKept (n - 1) f.body vs
-group_kept zero f vs is kept =
-    let means = subst (λ (r : SectionMeaning × List Meaning). MeansSection zero f r.0) (section_is zero f vs shapes.Group is) kept.means in
-    absurd means.2.1
+group_kept zero f vs is kept = absurd (rw is at kept.means).2.1
 group_kept (suc n) f vs is kept =
-    let means = subst (λ (r : SectionMeaning × List Meaning). MeansSection (suc n) f r.0) (section_is (suc n) f vs shapes.Group is) kept.means in
-    let ss : List SectionMeaning = (each_by (section_by n) (frames_of f.body) vs).0 in
-    let stream : Stream n ss (tail_of f.body) f.body = subst (λ us. Stream n us (tail_of f.body) f.body) (list_back ss) means.2.1 in
-    let inside : AreKept n f.body vs = stream_kept n f.body vs (tail_of f.body) (omega (arith, kept.few)) (body_bytes f kept.stored) (frame_small f kept.stored) stream in
-    (omega arith, subst (λ (k : ℕ). AreKept k f.body vs) (omega arith) inside)
+    let stream = rw list_back at (rw is at kept.means).2.1 in
+    (omega arith, rw (sub-one (suc n)) (stream_kept n f.body vs _ (omega arith) (body_bytes f kept.stored) (frame_small f kept.stored) stream))
 
 -- the body of a group is made from the frames in it, one level deeper
 pub group_view : (n : ℕ) (f : FrameForm) (vs : List Meaning) → shape_of f ≡ shapes.Group → 0 < n → section_by n f vs
-    ≡ (
-      Section f.kind f.extended (Group (sections_from (each_by (section_by (n - 1)) (frames_of f.body) vs).0) (tail_of f.body)),
-      (each_by (section_by (n - 1)) (frames_of f.body) vs).1,
-    )
+    ≡ (Section f.kind f.extended (body_by shapes.Group (section_by (n - 1)) f vs).0, (body_by shapes.Group (section_by (n - 1)) f vs).1)
 group_view zero f vs is deep = absurd (omega (arith, deep))
-group_view (suc n) f vs is deep = section_is (suc n) f vs shapes.Group is ∙ ap (λ (k : ℕ). (
-  Section f.kind f.extended (Group (sections_from (each_by (section_by k) (frames_of f.body) vs).0) (tail_of f.body)),
-  (each_by (section_by k) (frames_of f.body) vs).1,
-)) (omega arith)
+group_view (suc n) f vs is deep = rw (sub-one (suc n)) (section_is (suc n) f vs shapes.Group is)
 
 -- ---- an opened volume
 
 -- a section that is opened as a volume takes the first volume
 pub volume_view : (n : ℕ) (f : FrameForm) (vs : List Meaning) → shape_of f ≡ shapes.Volume → IsKept n f vs
     → (v : Meaning) × (rest : List Meaning) × (vs ≡ v ∷ rest) × (section_by n f vs ≡ (Section f.kind f.extended (Nested v), rest))
-volume_view n f [] is kept =
-    let means = subst (λ (r : SectionMeaning × List Meaning). MeansSection n f r.0) (section_is n f [] shapes.Volume is) kept.means in
-    absurd (shut n means)
-  where
-    shut : (n : ℕ) → MeansSection n f (Section f.kind f.extended (Leaf f.body)) → ⊥
-    shut zero (p, q, (off, not, r)) = not (volume_shape f is).kind (volume_shape f is).opens
-    shut (suc n) (p, q, (off, not, r)) = not (volume_shape f is).kind (volume_shape f is).opens
+volume_view n f [] is kept = absurd (shut n (rw (section_is n f [] shapes.Volume is) at kept.means)) where
+  shut : (n : ℕ) → MeansSection n f (Section f.kind f.extended (Leaf f.body)) → ⊥
+  shut zero (p, q, (off, not, r)) = not (volume_shape f is).kind (volume_shape f is).opens
+  shut (suc n) (p, q, (off, not, r)) = not (volume_shape f is).kind (volume_shape f is).opens
 volume_view n f (v ∷ rest) is kept = (v, rest, refl, section_is n f (v ∷ rest) shapes.Volume is)
 
 -- ---- the data of a file
@@ -191,8 +142,5 @@ volume_view n f (v ∷ rest) is kept = (v, rest, refl, section_is n f (v ∷ res
 pub file_kept : (n : ℕ) (payload : List ℕ) (vs : List Meaning) (name : Guid) (kind attributes : ℕ) → holds_sections kind ≡ true
     → IsKeptFile n payload vs name kind attributes → AreKept n payload vs
 file_kept n payload vs name kind attributes holds kept =
-    let ss : List SectionMeaning = (each_by (section_by n) (frames_of payload) vs).0 in
-    let means = subst (λ (t : Bool). MeansFile (Stream n) kept.form (File name kind attributes (content_by t n payload vs).0)) holds kept.means in
-    let stream : Stream n ss (tail_of payload) kept.form.payload =
-    subst (λ us. Stream n us (tail_of payload) kept.form.payload) (list_back ss) means.3.1 in
-    stream_kept n payload vs (tail_of payload) kept.few (kept.small holds) kept.short (subst (Stream n ss (tail_of payload)) kept.payload_is stream)
+    let stream = rw (list_back, kept.payload_is) at (rw holds at kept.means).3.1 in
+    stream_kept n payload vs (tail_of payload) kept.few (kept.small holds) kept.short stream

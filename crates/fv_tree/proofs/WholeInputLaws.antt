@@ -1,5 +1,5 @@
 -- The laws of whole inputs: which volume an input is, or why it is not a volume.
-use Rattle.std.proofs.Common.{◌≡◌, ◌≢◌, ◌≤◌, ◌<◌, ℕ, ◌⊎◌, ◌==◌, List, length, take, refl, sym, ap, ◌∙◌, subst, arith, inl, inr, true, false, take_all}
+use Rattle.std.proofs.Common.{◌≡◌, ◌≢◌, ◌≤◌, ℕ, ◌⊎◌, ◌==◌, List, length, take, refl, sym, arith, inl, inr, true, false, take_all}
 use Rattle.fv_base.proofs.Laws.{eqb-true, eq-eqb, common_steps, or_more, want_known, First, outer_fault, out_of_memory, depth_limit}
 use Rattle.fv_base.specs.declared.fault.Fault.{Fault}
 use Rattle.fv_base.specs.declared.fault.FaultKind.{FaultKind}
@@ -14,7 +14,7 @@ use Rattle.fv_base.specs.declared.fault.FaultKind.TheVariants as kinds
 
 -- an input that is a volume begins with this volume
 pub input_prefix : (b : List ℕ) (m : Meaning) → Denotes depth_limit b m → Denotes depth_limit (take (length b) b) m
-input_prefix b m d = subst (λ (xs : List ℕ). Denotes depth_limit xs m) (sym (take_all (length b) b (omega arith))) d
+input_prefix b m d = rw (take_all (length b) b (omega arith)) d
 
 -- an input that does not begin with a volume is not a volume
 pub first_rejects : (b : List ℕ) (f : Fault) → IsFirstOfVolume b f → NotRead b f
@@ -28,20 +28,11 @@ volume_refused b f first = or_more (want_known f) (λ other. first_rejects b f (
 
 -- an input that goes on after its volume is not a volume
 not_the_end : (b : List ℕ) (n : ℕ) → (n == length b) ≡ false → n ≢ length b
-not_the_end b n differs same = let bad : true ≡ false = sym (eq-eqb n (length b) same) ∙ differs in cc
+not_the_end b n differs same = cc (eq-eqb n (length b) same)
 
 pub goes_on : (b : List ℕ) (f : Fault) (v : Meaning) (n : ℕ) → Accepted (take n b) v → (n ≡ length_of v) × (n ≤ length b)
     → (n == length b) ≡ false → f ≡ outer_fault kinds.Length n → BytesFollowVolume b f
-goes_on b f v n accepted (own, within) differs is = (v, at, subst (λ (k : ℕ). k < length b) own less, is ∙ ap (outer_fault kinds.Length) own)
-  where
-    below : (k l : ℕ) → k ≤ l → k ≢ l → k < l
-    below k l low ne = omega (arith, low, ne)
-
-    less : n < length b
-    less = below n (length b) within (not_the_end b n differs)
-
-    at : Accepted (take (length_of v) b) v
-    at = subst (λ (k : ℕ). Accepted (take k b) v) own accepted
+goes_on b f v n accepted (own, within) differs is = (v, rw own at accepted, omega (arith, own, within, not_the_end b n differs), rw own at is)
 
 pub end_refused : (b : List ℕ) (f : Fault) (v : Meaning) (n : ℕ) → Accepted (take n b) v → (n ≡ length_of v) × (n ≤ length b)
     → (n == length b) ≡ false → f ≡ outer_fault kinds.Length n
@@ -53,7 +44,7 @@ end_refused b f v n accepted long differs is only = record {
 
 -- an input that ends with the volume that it begins with is this volume
 pub end_found : (b : List ℕ) (v : Meaning) (n : ℕ) → Accepted (take n b) v → (n == length b) ≡ true → Accepted b v
-end_found b v n d same = subst (λ (xs : List ℕ). Accepted xs v) (take_all n b (omega (arith, eqb-true n (length b) same))) d
+end_found b v n d same = rw (take_all n b (omega (arith, eqb-true n (length b) same))) at d
 
 -- an input that ends with the volume that it begins with is not any other volume
 pub end_only : (b : List ℕ) (v : Meaning) (n : ℕ)

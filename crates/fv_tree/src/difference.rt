@@ -269,6 +269,7 @@ fn volume_difference(alloc: Global, volume: &VolumeView, other: &VolumeView) -> 
 /// # Errors
 ///
 /// OutOfMemory at 0, only if at least one step leads to the first difference.
+#[tactic(auto, using(crate::proofs::DifferenceLaws::volume_same))]
 pub fn first_difference(
     alloc: Global,
     a: &VolumeView,

@@ -39,6 +39,7 @@ pub enum Lookup<'v, 'a> {
 
 /// Returns the first file with this name, or None if no file has it. Searches in the view's order
 /// of names. Takes no memory. (PI specification, volume 3, section 3.2.3.)
+#[tactic(auto, using(crate::proofs::NamedLaws::file_there))]
 pub fn file_by_name<'v, 'a>(volume: &'v VolumeView<'a>, name: &Guid) -> Option<&'v FileView<'a>>
     ensures { option_copied result ≡ file_named name.now (files_of volume.now) }
 {

@@ -45,6 +45,7 @@ impl<'v, 'a> Model for SectionWalk<'v, 'a> {
 impl<'v, 'a> SectionWalk<'v, 'a> {
     /// Starts a walk over all sections of a file. A file whose data are plain bytes has none. Takes
     /// no memory. (PI specification, volume 3, section 3.2.4.)
+    #[tactic(auto, using(crate::proofs::SectionWalkLaws::file_nests))]
     pub fn of(file: &'v FileView<'a>) -> SectionWalk<'v, 'a>
         ensures { result ≡ preorder (sections_in_data (content_of file.now)) }
     {

@@ -9,12 +9,10 @@ use Rattle.fv_tree.proofs.difference.+differ.Goals as goal
 -- ---- the parts that are compared are smaller
 
 pub body_difference-stream_difference-requires : goal.body_difference-stream_difference-requires
-body_difference-stream_difference-requires t c =
-    let is = ap (λ b. body_size (body_view b)) c.in-Group-Group.is-0 in (omega (arith, c.decreases, is), tt)
+body_difference-stream_difference-requires t c = (omega (arith, c.decreases, ap (λ b. body_size (body_view b)) c.in-Group-Group.is-0), tt)
 
 pub content_difference-stream_difference-requires : goal.content_difference-stream_difference-requires
-content_difference-stream_difference-requires t c =
-    let is = ap (λ b. content_size (content_view b)) c.in-Stream-Stream.is-0 in (omega (arith, c.decreases, is), tt)
+content_difference-stream_difference-requires t c = (omega (arith, c.decreases, ap (λ b. content_size (content_view b)) c.in-Stream-Stream.is-0), tt)
 
 pub stream_difference-section_difference-requires : goal.stream_difference-section_difference-requires
 stream_difference-section_difference-requires t c = grind (arith, common_steps, section_falls) steps 150000
@@ -25,9 +23,6 @@ file_difference-content_difference-requires t c = (omega (arith, c.decreases, co
 pub section_difference-body_difference-requires : goal.section_difference-body_difference-requires
 section_difference-body_difference-requires t c = (omega (arith, c.decreases, body_falls c.args.section.now, ap body_size c.body.ensures), tt)
 
-pub volume_difference-files_difference-requires : goal.volume_difference-files_difference-requires
-volume_difference-files_difference-requires t c = grind (arith, common_steps) steps 150000
-
 pub files_difference-file_difference-requires : goal.files_difference-file_difference-requires
 files_difference-file_difference-requires t c = (omega (arith, c.decreases, file_falls _ c.loop-i.i _ (omega arith) c.index-files-i.is), tt)
 
@@ -35,9 +30,8 @@ files_difference-file_difference-requires t c = (omega (arith, c.decreases, file
 
 pub volume_difference-returns-in-Some : goal.volume_difference-returns-in-Some
 volume_difference-returns-in-Some t c =
-    c.differ_in.ensures
-    ∙ sym (volume_word c.args.volume.now c.args.other.now c.head.result.now c.head-2.result.now c.head_difference_kind.result c.in-Some.word
-    c.head.ensures.head c.head-2.ensures.head c.head_difference_kind.ensures c.in-Some.is)
+    c.differ_in.ensures ∙ sym (volume_word c.args.volume.now c.args.other.now _ _ _ _ c.head.ensures.head c.head-2.ensures.head
+    c.head_difference_kind.ensures c.in-Some.is)
 
 -- ---- files
 

@@ -15,6 +15,3 @@ returns-clause-ok c = λ fs t split.
     numbered_is c.numbered.result c.args.instance c.numbered.ensures.zero c.numbered.ensures.nth (YieldsList-from_filter _ test
     (YieldsList-from_first frame_form (λ w. w.0) left (cc)) c.filter-frames.ensures.closure (λ x r q k. search (rules, tests))) ∙ ap (frame_of_type
     c.args.kind c.args.instance) (sym (c.in_ok-walk.ensures.only fs t split).0)
-
-pub returns-clause-split : goal.returns-clause-split
-returns-clause-split c = (c.in_ok-walk.walk.0, c.in_ok-walk.walk.1, c.in_ok-walk.ensures.found)

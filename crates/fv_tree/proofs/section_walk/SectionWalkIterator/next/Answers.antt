@@ -1,5 +1,5 @@
-use Rattle.std.proofs.Common.{◌∙◌, length, sym, ap, subst, arith, rules}
-use Rattle.fv_tree.specs.Words.{AreLevels, left_in}
+use Rattle.std.proofs.Common.{◌∙◌, length, sym, ap, arith, rules}
+use Rattle.fv_tree.specs.Words.{left_in}
 use Rattle.fv_tree.proofs.SectionWalkLaws.{none_left, outer_are, next_other, other_are, next_group, group_are, group_fits}
 use Rattle.fv_tree.proofs.section_walk.SectionWalkIterator.next.Goals as goal
 
@@ -48,8 +48,7 @@ loop-section-preserved c =
     let none = (rw c.in_default.is at c.next_section.ensures.none).0 in
     let items = c.in_ok-self-inside.ensures.items in
     record {
-      levels = subst (AreLevels 0) items
-          (outer_are c.loop-section.self-inside.outer.items c.loop-section.self-inside.sections c.loop-section.invariant.levels);
+      levels = rw items at (outer_are c.loop-section.self-inside.outer.items c.loop-section.self-inside.sections c.loop-section.invariant.levels);
       left = c.loop-section.invariant.left
           ∙ none_left c.loop-section.self-inside.outer.items c.loop-section.self-inside.sections none ∙ ap left_in items;
     }
