@@ -3,12 +3,11 @@
 --    up to the next place (`stands_here`, `one_on`).
 -- 2. The loop ends at the end of the body (`whole_kept`), where the rest is free (`free_kept`), or at the first fault
 --    (`first_here`).
--- 3. A body is tiled in one way (`only_one`). If cells that are not free tile the body up to a place, every tiling of
---    the body has cells that tile the bytes from this place on (`goes_on`). So if a check fails there, the body has no
---    tiling (`none_after`).
-use Rattle.std.proofs.Common.{◌≡◌, ◌≤◌, ◌<◌, ℕ, ◌+◌, ◌-◌, ◌%◌, [], ◌∷◌, ◌++◌, List, length, take, drop, map, refl, sym, ap, ◌∙◌, subst, arith}
-use Rattle.std.proofs.Common.{true, false, length-drop, length-append, Ok, Err, take-append-drop, length-take-le, take_all}
-use Rattle.fv_base.proofs.Laws.{common_steps, cases_lt, map_push, take-add, Which, AllAre, erased_byte, all_are, all_are-true}
+-- 3. A body is tiled in one way (`only_one`). If a check fails at a place, no cells tile the bytes up to a place after it
+--    (`stuck`), so the body has no tiling (`none_after`).
+use Rattle.std.proofs.Common.{◌≡◌, ◌≤◌, ◌<◌, ℕ, ◌+◌, ◌-◌, ◌%◌, [], ◌∷◌, ◌++◌, List, length, take, drop, map, refl, sym, ap, ◌∙◌, subst}
+use Rattle.fv_base.proofs.Laws.{arith, true, false, length-drop, length-append, Ok, Err, take-append-drop, length-take-le, take_all, append-nil}
+use Rattle.fv_base.proofs.Laws.{append_assoc, take-add, common_steps, cases_lt, map_push, Which, AllAre, erased_byte, all_are, all_are-true}
 use Rattle.fv_base.specs.declared.fault.Fault.{Fault}
 use Rattle.fv_base.specs.declared.flash.FileSystem.{FileSystem}
 use Rattle.fv_base.specs.declared.flash.Polarity.{Polarity}
@@ -19,7 +18,7 @@ use Rattle.fv_file.proofs.CellFoundLemmas.{CellStandsAt}
 use Rattle.fv_file.proofs.CellPartLemmas.{cell_span, made_up, not_empty}
 use Rattle.fv_file.proofs.CellVerdictLemmas.{verdict_stands, verdict_first, one_cell, no_cell}
 use Rattle.fv_file.proofs.ErasedByteLemmas.{not_erased, some_left}
-use Rattle.fv_file.proofs.TilingLemmas.{no_rest, one_tiling, cut, one_more, none_more}
+use Rattle.fv_file.proofs.TilingLemmas.{no_rest, none_behind, one_tiling, cut, one_more, none_more}
 
 -- ---- the loop
 
@@ -87,31 +86,37 @@ rest_used e rest body at behind is = grind (arith, common_steps, some_left, leng
 
 -- ---- all tilings
 
--- if cells that are not free tile the body up to a place before its end, every tiling of the body has cells that tile
--- the bytes from this place on
-goes_on : (s : FileSystem) (p : Polarity) (first : ℕ) (body : List ℕ) (cs ds : List CellForm) (at : ℕ) → Tiles s p first cs (take at body)
-    → NoneFree cs → at < length body
-    → Tiles s p first ds body → (more : List CellForm) × Tiles s p (first + at) more (drop at body)
-goes_on s p first body cs ds at t free l t' =
-    let long : length (take at body) ≡ at = length-take-le at body (omega (arith, l)) in
-    let k = cut s p (one_cell s p) (not_empty s p) first cs ds _ _ t free (subst (λ b. Tiles s p first ds b) (sym (take-append-drop at body)) t') in
-    (k.0, subst (λ n. Tiles s p (first + n) k.0 (drop at body)) long k.2)
+-- if none of the joined cells is free, none of the last of them is
+none_free_behind : (cs ds : List CellForm) → NoneFree (cs ++ ds) → NoneFree ds
+none_free_behind [] ds h = h
+none_free_behind (c ∷ cs) ds h = none_free_behind cs ds h.1
+
+-- if a check fails at a place of a body, no cells tile the bytes up to a place after it
+pub stuck : (which : Which) (s : FileSystem) (p : Polarity) (first : ℕ) (body : List ℕ) (f : Fault) (ds : List CellForm) (part beyond : List ℕ)
+    → (x : CellFault which s p first body f) → drop x.at body ≡ part ++ beyond → 0 < length part → (0 < length beyond → NoneFree ds)
+    → Tiles s p first ds (take x.at body ++ part) → ⊥
+stuck which s p first body f ds part beyond x e some free t =
+    let k = cut s p (one_cell s p) (not_empty s p) first x.cells ds _ part x.tiled (λ l. x.none_free) t in
+    go k.0 (λ l. none_free_behind x.cells k.0 (rw (← k.1) (free l))) k.2
+  where
+    go : (more : List CellForm) → (0 < length beyond → NoneFree more) → Tiles s p (first + length (take x.at body)) more part → ⊥
+    go [] free z = omega (arith, ap length z, some)
+    go (c ∷ cs) free (u, w, z, is, o, last, more) =
+        no_cell which s p _ _ f c u (w ++ beyond) x.fails x.not_erased is (rw (length-take-le x.at body (omega (arith, x.inside))) at o)
+        (e ∙ ap (λ l. l ++ beyond) z ∙ append_assoc u w beyond)
+        (λ yes. ap (λ l. l ++ beyond) (no_rest s p _ cs w (last yes) more) ∙ none_behind c cs beyond free yes)
 
 -- a body is tiled in one way
 pub only_one : (s : FileSystem) (p : Polarity) (first : ℕ) (body : List ℕ) (cs ds : List CellForm) → Tiles s p first cs body
     → Tiles s p first ds body → ds ≡ cs
 only_one s p first body cs ds t t' = one_tiling s p (one_cell s p) (not_empty s p) first ds cs body t' t
 
--- if cells that are not free tile the body up to a place, and a check fails there, the body has no tiling
+-- if a check fails at a place of a body, the body has no tiling
 pub none_after : (which : Which) (s : FileSystem) (p : Polarity) (first : ℕ) (body : List ℕ) (f : Fault) (ds : List CellForm)
     → CellFault which s p first body f → Tiles s p first ds body → ⊥
-none_after which s p first body f ds here t =
-    let g = goes_on s p first body here.cells ds here.at here.tiled here.none_free here.inside t in
-    go g.0 g.1
-  where
-    go : (more : List CellForm) → Tiles s p (first + here.at) more (drop here.at body) → ⊥
-    go [] e = omega (arith, ap length e, length-drop here.at body, here.inside)
-    go (c ∷ cs) (u, w, e, is, o, last, more) = no_cell _ s p _ _ f c u w here.fails here.not_erased is o e (λ fr. no_rest s p _ cs w (last fr) more)
+none_after which s p first body f ds x t =
+    stuck which s p first body f ds (drop x.at body) [] x (sym (append-nil _)) (omega (arith, x.inside, length-drop x.at body))
+    (λ l. absurd (omega (arith, l))) (rw take-append-drop t)
 
 -- each cell of a body lies within it
 pub all_within : (s : FileSystem) (p : Polarity) (at : ℕ) (cs : List CellForm) (b : List ℕ) → Tiles s p at cs b

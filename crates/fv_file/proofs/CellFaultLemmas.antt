@@ -1,18 +1,13 @@
 -- The first fault of a body is within the body, or at its end.
-use Rattle.std.proofs.Common.{◌≡◌, ◌≤◌, ℕ, suc, ◌+◌, List, [], ◌∷◌, length, drop, ap, refl, sym, ◌∙◌, arith, not, Bool, true, false}
-use Rattle.std.specs.Prelude.{Option, nat_le, ◌&&◌, ◌==◌, slice_index}
-use Rattle.std.specs.List.{AllByRecursion}
-use Rattle.std.proofs.lemmas.List.{length-drop}
-use Rattle.std.proofs.lemmas.Bool.{leb-true}
-use Rattle.fv_base.proofs.Laws.{and_split, first_among, common_steps}
-use Rattle.fv_base.specs.Words.{Check, check, IsFirstFault, erased_byte}
+use Rattle.std.proofs.Common.{◌≡◌, ◌≤◌, ℕ, ◌+◌, [], ◌∷◌, ◌&&◌, ◌==◌, leb-true}
+use Rattle.fv_base.proofs.Laws.{suc, List, length, drop, ap, refl, sym, ◌∙◌, arith, not, Bool, true, false, Option, nat_le, slice_index, length-drop}
+use Rattle.fv_base.proofs.Laws.{AllByRecursion, and_split, first_among, common_steps, Check, check, IsFirstFault, erased_byte}
 use Rattle.fv_base.specs.declared.fault.Fault.{Fault}
 use Rattle.fv_base.specs.declared.flash.FileSystem.{FileSystem}
 use Rattle.fv_base.specs.declared.flash.Polarity.{Polarity}
 use Rattle.fv_base.specs.declared.fault.FaultKind.TheVariants as kinds
 use Rattle.fv_file.specs.Words.{IsFirstCellFault, cell_checks, file_checks, leading_count, state_checks, bits_of}
 use Rattle.fv_file.specs.declared.state.FileState.{FileState}
-use Rattle.fv_file.specs.declared.state.FileState.TheVariants as states
 
 -- the number of leading bytes of one value is at most the number of bytes
 run_within : (e : ℕ) (r : List ℕ) → leading_count e r ≤ length r

@@ -1,17 +1,15 @@
 -- A walk over the cells of a body. Each step passes the cell at the start of the part that is left (`stands_walked`,
 -- `free_walked`). The cells that a walk passed tile the bytes that it passed (`walked_on`), so they tile the body if
 -- nothing is left (`walk_ends`). If the next cell has a fault, this is the first fault of the body (`walk_fails`).
-use Rattle.std.proofs.lemmas.Grind.{common_steps}
-use Rattle.std.proofs.Common.{◌≡◌, ◌<◌, ℕ, ◌+◌, List, [], ◌∷◌, ◌++◌, length, take, drop, refl, sym, ap, ◌∙◌, subst, arith}
-use Rattle.std.proofs.Common.{length-append, append_assoc, append-nil}
-use Rattle.std.proofs.lemmas.List.{take-append-drop, length-take-le}
-use Rattle.std.proofs.Math.Seq.{drop-append_seam, drop-length, take-append_seam}
-use Rattle.fv_base.specs.Words.{AllAre, erased_byte, IsFirstFault}
+use Rattle.std.proofs.Common.{◌≡◌, ◌<◌, ℕ, ◌+◌, [], ◌∷◌, ◌++◌}
+use Rattle.fv_base.proofs.Laws.{List, length, take, drop, refl, sym, ap, ◌∙◌, subst, arith, length-append, append_assoc, append-nil, take-append-drop}
+use Rattle.fv_base.proofs.Laws.{length-take-le, common_steps, drop-append_seam, take-append_seam, AllAre, erased_byte, IsFirstFault}
+use Rattle.std.proofs.Math.Seq.{drop-length}
 use Rattle.fv_base.specs.declared.fault.Fault.{Fault}
 use Rattle.fv_base.specs.declared.flash.FileSystem.{FileSystem}
 use Rattle.fv_base.specs.declared.flash.Polarity.{Polarity}
-use Rattle.fv_file.specs.Words.{CellForm, Free, offset_of, IsCell, Tiles, cell_len, cell_checks, IsFirstCellFault}
-use Rattle.fv_file.specs.Words.{CellsLeft, left_at, TileLeft, Walked, IsNextFault}
+use Rattle.fv_file.specs.Words.{CellForm, Free, offset_of, IsCell, Tiles, cell_len, cell_checks, IsFirstCellFault, CellsLeft, left_at, TileLeft}
+use Rattle.fv_file.specs.Words.{Walked, IsNextFault}
 use Rattle.fv_file.proofs.CellFoundLemmas.{CellStandsAt}
 use Rattle.fv_file.proofs.CellPartLemmas.{not_empty}
 use Rattle.fv_file.proofs.TilingLemmas.{one_more, none_more}

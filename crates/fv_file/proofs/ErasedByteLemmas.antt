@@ -1,6 +1,6 @@
 -- A byte that does not have the value e shows that not all bytes have the value e.
-use Rattle.std.proofs.Common.{◌≡◌, ℕ, ◌<◌, [], ◌∷◌, zero, suc, List, length, get_or, refl, sym, arith, Bool, true, false}
-use Rattle.fv_base.proofs.Laws.{AllAre, all_are, all-all_are, all_are-true}
+use Rattle.std.proofs.Common.{◌≡◌, ℕ, ◌<◌, [], ◌∷◌}
+use Rattle.fv_base.proofs.Laws.{zero, suc, List, length, get_or, refl, sym, arith, Bool, true, false, AllAre, all_are, all-all_are, all_are-true}
 
 pub all_at : (e : ℕ) (x : List ℕ) (i : ℕ) → AllAre e x → i < length x → get_or x i 0 ≡ e
 all_at e [] i h l = absurd (omega arith)

@@ -1,7 +1,7 @@
 -- The data of a file that was read lie after its header, and the file meets the conditions of a valid file.
-use Rattle.std.proofs.Common.{◌≡◌, ◌≢◌, ◌≤◌, ◌<◌, ◌+◌, ◌-◌, ℕ, ◌++◌, Bool, true, false, List, length, take, drop, sym, ap, ◌∙◌, subst, arith}
-use Rattle.std.proofs.Common.{length-append, length-drop, append_assoc, slice_index, length-take-le, take_at, drop_at}
-use Rattle.fv_base.proofs.Laws.{common_steps, bytes_of, IsBytes, bytes_back, bytes_front, bytes_take, field_below}
+use Rattle.std.proofs.Common.{◌≡◌, ◌≢◌, ◌≤◌, ◌<◌, ◌+◌, ◌-◌, ℕ, ◌++◌, Bool, true}
+use Rattle.fv_base.proofs.Laws.{false, List, length, take, drop, sym, ap, ◌∙◌, subst, arith, length-append, length-drop, append_assoc, slice_index}
+use Rattle.fv_base.proofs.Laws.{length-take-le, take_at, drop_at, common_steps, bytes_of, IsBytes, bytes_back, bytes_front, bytes_take, field_below}
 use Rattle.fv_base.specs.declared.flash.FileSystem.{FileSystem}
 use Rattle.fv_base.specs.declared.flash.Polarity.{Polarity}
 use Rattle.fv_base.specs.declared.flash.FileSystem.TheVariants.{Ffs3}

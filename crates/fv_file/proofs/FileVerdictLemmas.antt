@@ -1,9 +1,8 @@
 -- The verdict on a file is the fault of the first of its checks that does not hold. If this fault is Fixed, the header
 -- of the file is right, and its attributes have the bit (`marked_file`). If the header is right and the file is not
 -- fixed, its data decide (`data_wrong`, `data_right`).
-use Rattle.std.proofs.Common.{◌≡◌, ◌≢◌, ◌≤◌, ℕ, ◌+◌, ◌&&◌, ◌||◌, if◌then◌else◌, Bool, List, length, drop, true, false, not, refl, ap, ◌∙◌, arith, nat_le}
-use Rattle.std.proofs.Common.{Ok, Err, Option, None, Some, leb-true}
-use Rattle.fv_base.proofs.Laws.{common_steps, and_split, outer_fault}
+use Rattle.std.proofs.Common.{◌≡◌, ◌≢◌, ◌≤◌, ℕ, ◌+◌, ◌&&◌, ◌||◌, if◌then◌else◌, leb-true, Bool, List, length, drop}
+use Rattle.fv_base.proofs.Laws.{true, false, not, refl, ap, ◌∙◌, arith, nat_le, Ok, Err, Option, None, Some, common_steps, and_split, outer_fault}
 use Rattle.fv_base.specs.inner.Verdicts.{first_fault}
 use Rattle.fv_base.specs.declared.fault.Fault.{Fault}
 use Rattle.fv_base.specs.declared.flash.FileSystem.{FileSystem}
@@ -14,7 +13,7 @@ use Rattle.fv_file.specs.inner.CellVerdicts.{file_verdict}
 use Rattle.fv_base.specs.declared.fault.FaultKind.TheVariants as kinds
 
 -- the test of the size says that the size is in its range
-pub sizes : (low n high : ℕ) (more : Bool) → (nat_le low n && (nat_le n high && more)) ≡ true → (low ≤ n) × (n ≤ high)
+pub sizes : (low n high : ℕ) (more : Bool) → (nat_le low n && (nat_le n high && more)) ≡ true → (low ≤ n) × (n ≤ high) × (more ≡ true)
 sizes low n high more h = grind (arith, common_steps, and_split, leb-true)
 
 -- the checks of the header hold

@@ -1,9 +1,9 @@
 -- The bytes begin with a file exactly if one is read. The verdict on the bytes is the verdict of their checks. If all
 -- of them hold, the header at the start is the header of a file, and if a file begins the bytes, all of them hold.
-use Rattle.std.proofs.Common.{arith, ◌≡◌, ℕ, ◌∷◌, ◌++◌, ◌==◌, ◌⊎◌, if◌then◌else◌, List, length, take, drop, inl, inr, refl, sym, ap, ◌∙◌, subst, Bool}
-use Rattle.std.proofs.Common.{true, false, nat_le, slice_index, Option, None, Some, Result, Ok, Err, IfOk, IfErr, leb-true, le-leb, ltb-true}
-use Rattle.fv_base.proofs.Laws.{ltb-false, eqb-true, take-append-drop, AllHold, IsFirstFault, check, outer_fault, all_hold, first_is, none_faulty}
-use Rattle.fv_base.proofs.Laws.{not_at_most, not_less, verdict_err, verdict_none, verdict_ok, common_steps}
+use Rattle.std.proofs.Common.{◌≡◌, ℕ, ◌∷◌, ◌++◌, ◌==◌, ◌⊎◌, if◌then◌else◌, leb-true, arith, List, length, take}
+use Rattle.fv_base.proofs.Laws.{drop, inl, inr, refl, sym, ap, ◌∙◌, subst, Bool, true, false, nat_le, slice_index, Option, None, Some, Result, Ok}
+use Rattle.fv_base.proofs.Laws.{Err, IfOk, IfErr, le-leb, ltb-true, ltb-false, eqb-true, take-append-drop, AllHold, IsFirstFault, check, outer_fault}
+use Rattle.fv_base.proofs.Laws.{all_hold, first_is, none_faulty, not_at_most, not_less, verdict_err, verdict_none, verdict_ok, common_steps}
 use Rattle.fv_base.specs.inner.Verdicts.{first_fault, verdict_by}
 use Rattle.fv_base.specs.declared.fault.Fault.{Fault}
 use Rattle.fv_base.specs.declared.flash.FileSystem.{FileSystem}

@@ -1,7 +1,7 @@
 -- A walk over a body with fixed files removes their marks up to a place, and leaves the bytes from there on as they
 -- are.
-use Rattle.std.proofs.Common.{◌≡◌, ◌≤◌, ◌<◌, ℕ, ◌+◌, ◌%◌, ◌⊎◌, ◌-◌, List, length, drop, refl, sym, ap, ◌∙◌, subst, arith, inl, inr, slice_index}
-use Rattle.fv_base.proofs.Laws.{slice_set, Ok, Err, drop-drop, drop-set-lt, AllAre, erased_byte}
+use Rattle.std.proofs.Common.{◌≡◌, ◌≤◌, ◌<◌, ℕ, ◌+◌, ◌%◌, ◌⊎◌, ◌-◌, List, length, drop, refl}
+use Rattle.fv_base.proofs.Laws.{sym, ap, ◌∙◌, subst, arith, inl, inr, slice_index, slice_set, Ok, Err, drop-drop, drop-set-lt, AllAre, erased_byte}
 use Rattle.fv_base.specs.declared.fault.Fault.{Fault}
 use Rattle.fv_base.specs.declared.flash.FileSystem.{FileSystem}
 use Rattle.fv_base.specs.declared.flash.Polarity.{Polarity}

@@ -2,11 +2,10 @@
 -- 1. Without the mark, all bytes but two are the same, and they have the same sum.
 -- 2. So the header is right as before, and the data are checked as before.
 -- 3. So if the fault of a file is Fixed, the file without its mark is a cell, or its fault is FileSum.
-use Rattle.std.proofs.Common.{◌≡◌, ◌≤◌, ◌<◌, ℕ, ◌+◌, ◌-◌, ◌%◌, [], ◌∷◌, ◌++◌, ◌≢◌, ◌||◌, ◌==◌, List, length, take, drop, refl, sym, ap, ◌∙◌, subst}
-use Rattle.std.proofs.Common.{arith, Bool, true, false, not, slice_index, slice_set, sum, Some, Ok, Err, ltb-true, get_or-drop, get_or-set_same}
-use Rattle.std.proofs.Common.{get_or-set_other, drop-set-lt, length-set, length-drop}
-use Rattle.fv_base.proofs.Laws.{nat_tests, take-set-le, take_more, take_more_set, drop-take, sum_by-cons, sum_by_push, field, le, outer_fault}
-use Rattle.fv_base.proofs.Laws.{up_to_8, field-take, take-take_le, common_steps}
+use Rattle.std.proofs.Common.{◌≡◌, ◌≤◌, ◌<◌, ℕ, ◌+◌, ◌-◌, ◌%◌, [], ◌∷◌, ◌++◌, ◌≢◌, ◌||◌, ◌==◌, sum, List, length, take, drop, refl, sym, ap, ◌∙◌}
+use Rattle.fv_base.proofs.Laws.{subst, arith, Bool, true, false, not, slice_index, slice_set, Some, Ok, Err, ltb-true, get_or-drop, get_or-set_same}
+use Rattle.fv_base.proofs.Laws.{get_or-set_other, drop-set-lt, length-set, length-drop, nat_tests, take-set-le, take_more, take_more_set, drop-take}
+use Rattle.fv_base.proofs.Laws.{sum_by-cons, sum_by_push, field, le, outer_fault, up_to_8, field-take, take-take_le, common_steps}
 use Rattle.std.proofs.lemmas.List.{drop-set-add}
 use Rattle.fv_base.specs.declared.fault.Fault.{Fault}
 use Rattle.fv_base.specs.declared.flash.FileSystem.{FileSystem}
@@ -141,7 +140,7 @@ module _ (s : FileSystem) (p : Polarity) (at : ℕ) (r : List ℕ) (f : Fault) (
 
   -- the size covers the header, and the file lies within the bytes
   pub size_within : (file_header_len_at r ≤ file_size_at r) × (file_size_at r ≤ length r)
-  size_within = sizes _ _ _ _ there.file.right.size
+  size_within = let size = sizes _ _ _ _ there.file.right.size in (size.0, size.1)
 
   -- if its file checksum is wrong, its fault without the mark is FileSum
   pub wrong_without : has_file_sum r ≡ false → cell_verdict s p at (unmarked 0 r) ≡ Err (outer_fault kinds.FileSum (at + 17))

@@ -1,6 +1,6 @@
 -- A written header has the length of its form, and each element is a byte.
-use Rattle.std.proofs.Common.{◌≡◌, ◌<◌, ℕ, [], ◌∷◌, ◌++◌, Bool, true, false, List, length, arith, length-append, sum}
-use Rattle.fv_base.proofs.Laws.{IsBytes, le_bytes, bytes_append, bytes_cons, bytes_le_bytes, none_at}
+use Rattle.std.proofs.Common.{◌≡◌, ◌<◌, ℕ, [], ◌∷◌, ◌++◌, sum, Bool}
+use Rattle.fv_base.proofs.Laws.{true, false, List, length, arith, length-append, IsBytes, le_bytes, bytes_append, bytes_cons, bytes_le_bytes, none_at}
 use Rattle.fv_base.specs.declared.flash.Polarity.{Polarity}
 use Rattle.fv_base.specs.declared.flash.Polarity.TheVariants.{Ones, Zeros}
 use Rattle.fv_file.specs.Words.{file_header_len, complement, header_with, header_bytes, state_byte}

@@ -8,11 +8,11 @@
 --    `pad_written`).
 -- 5. Conversely, bytes that are the header of some fields are the bytes that are written for them (`form_of`,
 --    `only_written`), for a file and for a pad (`only_file`, `only_pad`).
-use Rattle.std.proofs.Common.{◌≡◌, ◌≤◌, ◌<◌, ◌+◌, ◌%◌, ◌^◌, ℕ, [], ◌∷◌, ◌++◌, Bool, true, false, List, length, take, drop, refl, sym, ap, ◌∙◌}
-use Rattle.std.proofs.Common.{subst, arith, append_assoc, length-append, length-drop, drop-drop, slice_index, sum, take-append-drop, take_at}
-use Rattle.std.proofs.Common.{take_all, get_or-append-add, length-take-le, shr-shr}
-use Rattle.fv_base.proofs.Laws.{common_steps, take-append-add, drop_more, drop_all, length-replicate, sum_by-append, nat_tests, bytes_of, data_limit}
-use Rattle.fv_base.proofs.Laws.{IsBytes, le, le_bytes, field, le_at, field_is, le-le_bytes}
+use Rattle.std.proofs.Common.{◌≡◌, ◌≤◌, ◌<◌, ◌+◌, ◌%◌, ◌^◌, ℕ, [], ◌∷◌, ◌++◌, sum, get_or-append-add, shr-shr}
+use Rattle.fv_base.proofs.Laws.{Bool, true, false, List, length, take, drop, refl, sym, ap, ◌∙◌, subst, arith, append_assoc, length-append}
+use Rattle.fv_base.proofs.Laws.{length-drop, drop-drop, slice_index, take-append-drop, take_at, take_all, length-take-le, common_steps}
+use Rattle.fv_base.proofs.Laws.{take-append-add, drop_more, drop_all, length-replicate, sum_by-append, nat_tests, bytes_of, data_limit, IsBytes, le}
+use Rattle.fv_base.proofs.Laws.{le_bytes, field, le_at, field_is, le-le_bytes}
 use Rattle.std.specs.Int.{bytes_low_first}
 use Rattle.std.proofs.Math.Seq.{drop-append-add}
 use Rattle.fv_base.specs.declared.flash.FileSystem.{FileSystem}

@@ -1,7 +1,7 @@
 -- The sort of a state decides which checks a cell has, whether a file of this state is valid, and whether its header is
 -- complete. Most other modules distinguish only the four sorts, not the seven states.
-use Rattle.std.proofs.lemmas.Grind.{common_steps}
-use Rattle.std.proofs.Common.{arith, ◌≡◌, ℕ, ◌⊎◌, List, false, true, Some}
+use Rattle.std.proofs.Common.{◌≡◌, ℕ, ◌⊎◌}
+use Rattle.fv_base.proofs.Laws.{arith, List, false, true, Some, common_steps}
 use Rattle.fv_base.specs.declared.flash.FileSystem.{FileSystem}
 use Rattle.fv_file.specs.Words.{state_checks, is_alive}
 use Rattle.fv_file.specs.declared.state.FileState.{FileState}

@@ -1,6 +1,6 @@
 -- A State byte shows at most one state. If it shows the state Free, no bit of it was written.
-use Rattle.std.proofs.Common.{◌≡◌, ℕ, ap, arith, Some}
-use Rattle.fv_base.proofs.Laws.{nat_tests}
+use Rattle.std.proofs.Common.{◌≡◌, ℕ}
+use Rattle.fv_base.proofs.Laws.{ap, arith, Some, nat_tests}
 use Rattle.fv_base.specs.declared.flash.Polarity.{Polarity}
 use Rattle.fv_file.specs.Words.{StateOf, bits_of, state_in, state_of}
 use Rattle.fv_file.specs.declared.state.FileState.{FileState}

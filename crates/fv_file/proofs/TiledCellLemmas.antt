@@ -3,8 +3,8 @@
 -- 1. There are at most as many cells as bytes (`cells_few`).
 -- 2. `IsPayloadIn` is true of a cell (`cell_payload`), and so of all cells of a tiling (`tiled_payloads`).
 -- 3. In a tiling of bytes, each valid file meets the conditions of `FileRead` (`tiles_read`).
-use Rattle.std.proofs.Common.{◌≡◌, ◌≤◌, ◌+◌, ◌-◌, ℕ, [], ◌∷◌, ◌++◌, List, length, take, drop, refl, sym, ap, ◌∙◌, subst, arith, length-append}
-use Rattle.fv_base.proofs.Laws.{drop-drop, drop_at, AllByRecursion, IsBytes, up_to_8, bytes_back, bytes_front, field-append_front}
+use Rattle.std.proofs.Common.{◌≡◌, ◌≤◌, ◌+◌, ◌-◌, ℕ, [], ◌∷◌, ◌++◌, List, length, take, drop, refl, sym, ap, ◌∙◌, subst, arith}
+use Rattle.fv_base.proofs.Laws.{length-append, drop-drop, drop_at, AllByRecursion, IsBytes, up_to_8, bytes_back, bytes_front, field-append_front}
 use Rattle.fv_base.specs.declared.flash.FileSystem.{FileSystem}
 use Rattle.fv_base.specs.declared.flash.Polarity.{Polarity}
 use Rattle.fv_file.specs.Words.{CellForm, Valid, Pad, Dead, Stub, Free, IsCell, IsFilled, Tiles, offset_of, cell_len}

@@ -5,11 +5,11 @@
 -- 3. The marks are removed one after another, and cells tile the body up to each place.
 -- 4. There is one way to remove all marks (`one_unmarked`).
 -- 5. If all marks can be removed, a cell begins at each place after the mark there was removed (`unmarked_cell`).
-use Rattle.std.proofs.Common.{◌≡◌, ◌≤◌, ◌<◌, ℕ, ◌+◌, ◌-◌, ◌%◌, [], ◌∷◌, ◌++◌, ◌≢◌, ◌⊎◌, ◌&&◌, ◌==◌, List, length, take, drop, refl, sym, ap}
-use Rattle.std.proofs.Common.{◌∙◌, subst, arith, Bool, true, false, length-drop, inl, inr, not, nat_le, slice_index, slice_set, Option, None}
-use Rattle.std.proofs.Common.{Some, Ok, Err, Result, leb-true, ltb-false, eq-eqb, get_or-drop, get_or-set_same, get_or-set_other, length-set}
-use Rattle.fv_base.proofs.Laws.{length-take-le, take-append-drop, nat_tests, take-set-le, First, outer_fault, common_steps}
-use Rattle.fv_base.proofs.Laws.{AllAre, erased_byte, and_split, up_is_not_down}
+use Rattle.std.proofs.Common.{◌≡◌, ◌≤◌, ◌<◌, ℕ, ◌+◌, ◌-◌, ◌%◌, [], ◌∷◌, ◌++◌, ◌≢◌, ◌⊎◌, ◌&&◌, ◌==◌, leb-true}
+use Rattle.fv_base.proofs.Laws.{List, length, take, drop, refl, sym, ap, ◌∙◌, subst, arith, Bool, true, false, length-drop, inl, inr, not, nat_le}
+use Rattle.fv_base.proofs.Laws.{slice_index, slice_set, Option, None, Some, Ok, Err, Result, ltb-false, eq-eqb, get_or-drop, get_or-set_same}
+use Rattle.fv_base.proofs.Laws.{get_or-set_other, length-set, length-take-le, take-append-drop, nat_tests, take-set-le, First, outer_fault}
+use Rattle.fv_base.proofs.Laws.{common_steps, AllAre, erased_byte, and_split, up_is_not_down}
 use Rattle.fv_base.specs.inner.Verdicts.{first_fault}
 use Rattle.fv_base.specs.declared.fault.Fault.{Fault}
 use Rattle.fv_base.specs.declared.flash.FileSystem.{FileSystem}
