@@ -14,10 +14,13 @@ use Rattle.fv_base.specs.inner.Verdicts.{first_fault}
 use Rattle.fv_base.specs.declared.fault.Fault.{Fault}
 use Rattle.fv_base.specs.declared.flash.FileSystem.{FileSystem}
 use Rattle.fv_base.specs.declared.flash.Polarity.{Polarity}
-use Rattle.fv_file.specs.Words.{CellForm, is_free, IsCell, Tiles, cell_len, IsFirstCellFault, file_checks, state_checks, stub_checks}
+use Rattle.std.proofs.lemmas.Bool.{not-false}
+use Rattle.fv_base.proofs.Laws.{or_parts}
+use Rattle.fv_file.proofs.SortLemmas.{sorted}
+use Rattle.fv_file.specs.Words.{is_alive, CellForm, is_free, IsCell, Tiles, cell_len, IsFirstCellFault, file_checks, state_checks, stub_checks}
 use Rattle.fv_file.specs.Words.{file_header_len_at, attributes_at, is_fixed, bits_of, state_of, state_at, unmarked, Unmarks}
 use Rattle.fv_file.specs.declared.state.FileState.{FileState}
-use Rattle.fv_file.specs.inner.CellVerdicts.{cell_verdict, sort_of, stray}
+use Rattle.fv_file.specs.inner.CellVerdicts.{cell_verdict, sort_of, sort_checks, stray, StateSort}
 use Rattle.fv_file.proofs.CellVerdictLemmas.{verdict_fails, no_bits}
 use Rattle.fv_file.proofs.FileVerdictLemmas.{MarkedFile, held, marked_file}
 use Rattle.fv_file.proofs.ErasedByteLemmas.{all_at}
@@ -42,28 +45,24 @@ pub record FixedThere (s : FileSystem) (p : Polarity) (at : ℕ) (r : List ℕ) 
 pub fixed_there : (s : FileSystem) (p : Polarity) (at : ℕ) (r : List ℕ) (f : Fault) → cell_verdict s p at r ≡ Err f → f.kind ≡ kinds.Fixed
     → FixedThere s p at r f
 fixed_there s p at r f is kind =
-    let front = held (nat_le 24 (length r) && not (bits_of p (state_at r) == 0)) (stray p at r) _ f (verdict_fails s p at r f is) kind (λ k. cc) in
-    let both = and_split (nat_le 24 (length r)) (not (bits_of p (state_at r) == 0)) front.0 in
+    let used : Bool = not (bits_of p (state_at r) == 0) in
+    let front = held (nat_le 24 (length r) && used) (stray p at r) _ f (verdict_fails s p at r f is) (λ k. cc) in
+    let both = and_split (nat_le 24 (length r)) used front.0 in
     in_state (leb-true 24 (length r) both.0) both.1 (state_of p (state_at r)) refl front.1
   where
-    stub : {A : Type 0} → first_fault (stub_checks at r) ≡ Some f → A
-    stub v = let none = (held (nat_le (file_header_len_at r) (length r)) (outer_fault kinds.FileSize (at + 20)) None f v kind (λ k. cc)).1 in cc
-
-    dead : {A : Type 0} → first_fault (file_checks s false at r) ≡ Some f → A
-    dead v = let skipped : true ≡ false = (marked_file s states.Deleted at r f v kind).checked in cc
+    in_sort : (k : StateSort) (alive : Bool) → first_fault (sort_checks k s alive at r) ≡ Some f → first_fault (file_checks s alive at r) ≡ Some f
+    in_sort sorts.Erased alive v = cc
+    in_sort sorts.Unfinished alive v = let no = held _ (outer_fault kinds.FileSize (at + 20)) None f v (λ k. cc) in cc (no.1)
+    in_sort sorts.Dead alive v = v
+    in_sort sorts.Valid alive v = v
 
     in_state : 24 ≤ length r → not (bits_of p (state_at r) == 0) ≡ true → (o : Option FileState) → state_of p (state_at r) ≡ o
         → first_fault (state_checks o s at r) ≡ Some f → FixedThere s p at r f
-    in_state long used None shown v = let none = (held false (outer_fault kinds.FileState (at + 23)) None f v kind (λ k. cc)).0 in cc
-    in_state long used (Some states.Free) shown v = cc
-    in_state long used (Some states.Construction) shown v = stub v
-    in_state long used (Some states.HeaderInvalid) shown v = stub v
-    in_state long used (Some states.HeaderValid) shown v = dead v
-    in_state long used (Some states.Deleted) shown v = dead v
-    in_state long used (Some states.DataValid) shown v =
-        record { long = long; used = used; state = states.DataValid; shown = shown; sort = refl; file = marked_file s states.DataValid at r f v kind }
-    in_state long used (Some states.Marked) shown v =
-        record { long = long; used = used; state = states.Marked; shown = shown; sort = refl; file = marked_file s states.Marked at r f v kind }
+    in_state long used None shown v = let no = held false (outer_fault kinds.FileState (at + 23)) None f v (λ k. cc) in cc (no.0)
+    in_state long used (Some st) shown v =
+        let file = marked_file s st at r f (in_sort (sort_of st) (is_alive st) (rw (sorted st).checks at v)) kind in
+        let alive : is_alive st ≡ true = not-false _ (or_parts _ _ file.checked).0 in
+        record { long = long; used = used; state = st; shown = shown; sort = (sorted st).valid alive; file = file }
 
 -- attributes with the bit are at least 4
 pub fixed_least : (a : ℕ) → is_fixed a ≡ true → 4 ≤ a
