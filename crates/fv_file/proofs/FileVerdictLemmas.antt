@@ -1,8 +1,8 @@
 -- The verdict on a file is the fault of the first of its checks that does not hold. If this fault is Fixed, the header
 -- of the file is right, and its attributes have the bit (`marked_file`). If the header is right and the file is not
 -- fixed, its data decide (`data_wrong`, `data_right`).
-use Rattle.std.proofs.Common.{◌≡◌, ◌≢◌, [], ◌∷◌, ◌≤◌, ℕ, ◌+◌, ◌&&◌, ◌||◌, if◌then◌else◌, leb-true, Bool, List, length, drop}
-use Rattle.fv_base.proofs.Laws.{check, true, false, not, refl, ap, ◌∙◌, arith, nat_le, Ok, Err, Option, None, Some, common_steps, and_split, outer_fault}
+use Rattle.std.proofs.Common.{◌≡◌, ◌≢◌, [], ◌∷◌, ◌≤◌, ℕ, ◌+◌, ◌&&◌, ◌||◌, if◌then◌else◌, leb-true, Bool, List}
+use Rattle.fv_base.proofs.Laws.{length, true, false, not, refl, ap, arith, nat_le, Ok, Err, Option, Some, check, common_steps, and_split, outer_fault}
 use Rattle.fv_base.specs.inner.Verdicts.{first_fault}
 use Rattle.fv_base.specs.declared.fault.Fault.{Fault}
 use Rattle.fv_base.specs.declared.flash.FileSystem.{FileSystem}
@@ -51,13 +51,13 @@ pub record MarkedFile (s : FileSystem) (st : FileState) (at : ℕ) (r : List ℕ
 -- the checks of a file, whose results are these tests
 marked_tests : (form whole sum size skip fixed sound : Bool) (at : ℕ) (f : Fault)
     → first_fault (
-      check form kinds.LargeFile (at + 19)
-      ∷ check whole kinds.FileSize (at + 20)
-      ∷ check sum kinds.FileHeaderSum at
-      ∷ check size kinds.FileSize (at + 20)
-      ∷ check (skip || not fixed) kinds.Fixed (at + 19)
-      ∷ check (skip || sound) kinds.FileSum (at + 17)
-      ∷ []
+    check form kinds.LargeFile (at + 19)
+    ∷ check whole kinds.FileSize (at + 20)
+    ∷ check sum kinds.FileHeaderSum at
+    ∷ check size kinds.FileSize (at + 20)
+    ∷ check (skip || not fixed) kinds.Fixed (at + 19)
+    ∷ check (skip || sound) kinds.FileSum (at + 17)
+    ∷ []
     ) ≡ Some f → f.kind ≡ kinds.Fixed
     → (form ≡ true) × (whole ≡ true) × (sum ≡ true) × (size ≡ true) × (skip ≡ false) × (fixed ≡ true) × (f ≡ outer_fault kinds.Fixed (at + 19))
 marked_tests form whole sum size skip fixed sound at f is kind = grind (arith, common_steps)

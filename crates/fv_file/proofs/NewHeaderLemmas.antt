@@ -281,19 +281,11 @@ form_of polarity head b written =
     let at : attribute_bits head.attributes ≡ slice_index b 19 = ap (λ (x : FileHead). attribute_bits x.attributes) is.fields in
     let large : Bool = is_large (slice_index b 19) in
     let size : head.size ≡ file_size_in large b = ap (λ (x : FileHead). x.size) is.fields in
-    let least : 24 ≤ length b = subst (λ (n : ℕ). 24 ≤ n) (sym is.header_length) (header_least large) in
+    let least : 24 ≤ length b = rw is.header_length (header_least large) in
     let short : le_at 20 3 b ≡ short_size large head.size = short_is large b head.size (λ e. (is.large e).1) size in
     let long : drop 24 b ≡ long_size large head.size = long_is large b head.size written.bytes is.header_length size in
-    parts_of b written.bytes least
-    ∙ same (ap (λ (x : FileHead). bytes_of x.name) (sym is.fields))
-    (ap (λ (x : FileHead). x.header_sum) (sym is.fields))
-    (ap (λ (x : FileHead). x.file_sum) (sym is.fields)) (ap (λ (x : FileHead). x.kind) (sym is.fields)) (sym at) short written.state long
-    ∙ sym (header_parts head large (state_byte polarity))
-    ∙ ap (λ (l : Bool). spelled head l (state_byte polarity)) (ap is_large (sym at))
-  where
-    same : {n n' : List ℕ} {a a' b b' c c' d d' e e' f f' : ℕ} {l l' : List ℕ} → n ≡ n' → a ≡ a' → b ≡ b' → c ≡ c' → d ≡ d' → e ≡ e'
-        → f ≡ f' → l ≡ l' → n ++ behind_name a b c d e f l ≡ n' ++ behind_name a' b' c' d' e' f' l'
-    same o p q r s t u v = rw (o, p, q, r, s, t, u, v)
+    rw (header_parts head (is_large (attribute_bits head.attributes)) (state_byte polarity), at, ← short, ← long, ← written.state, is.fields)
+    (parts_of b written.bytes least)
 
 pub only_written : (polarity : Polarity) (head : FileHead) (b : List ℕ) → IsNewHeader polarity head b
     → b ≡ header_bytes head.file_sum (bytes_of head.name) head.kind (attribute_bits head.attributes) head.size
@@ -303,11 +295,9 @@ only_written polarity head b written =
     let is = written.header Ffs3 (λ large. refl) in
     let large : Bool = is_large (attribute_bits head.attributes) in
     let form = form_of polarity head b written in
-    let least : 24 ≤ length b = subst (λ (n : ℕ). 24 ≤ n) (sym is.header_length) (header_least (is_large (slice_index b 19))) in
-    let named : length (bytes_of head.name) ≡ 16 =
-    ap (λ (x : FileHead). length (bytes_of x.name)) is.fields ∙ length-take-le 16 b (omega (arith, least)) in
-    let small : head.header_sum < 256 =
-    subst (λ (n : ℕ). n < 256) (ap (λ (x : FileHead). x.header_sum) (sym is.fields)) (written.bytes 16) in
+    let least : 24 ≤ length b = rw is.header_length (header_least _) in
+    let named : length (bytes_of head.name) ≡ 16 = rw is.fields (length-take-le 16 b (omega (arith, least))) in
+    let small : head.header_sum < 256 = rw is.fields (written.bytes 16) in
     let right : (bare_sum head large + head.header_sum) % 256 ≡ 0 =
     sym (header_sum_is head large (state_byte polarity) named) ∙ ap header_sum_of (sym form) ∙ is.sum in
     form ∙ ap (λ (n : ℕ). spelled (record head { header_sum = n }) large (state_byte polarity))

@@ -1,13 +1,9 @@
--- A State byte shows at most one state. If it shows the state Free, no bit of it was written.
+-- A State byte shows the state Free exactly if no bit of it was written.
 use Rattle.std.proofs.Common.{◌≡◌, ℕ}
 use Rattle.fv_base.proofs.Laws.{ap, arith, Some, nat_tests}
 use Rattle.fv_base.specs.declared.flash.Polarity.{Polarity}
 use Rattle.fv_file.specs.Words.{StateOf, bits_of, state_in, state_of}
-use Rattle.fv_file.specs.declared.state.FileState.{FileState}
 use Rattle.fv_file.specs.declared.state.FileState.TheVariants as states
-
-pub same_state : (a b : FileState) → Some a ≡ Some b → a ≡ b
-same_state a b e = cc
 
 free_in : (n : ℕ) → state_in n ≡ Some states.Free → n ≡ 0
 free_in n is = grind (arith, nat_tests, is)

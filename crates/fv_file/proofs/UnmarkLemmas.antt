@@ -9,16 +9,15 @@ use Rattle.std.proofs.Common.{◌≡◌, ◌≤◌, ◌<◌, ℕ, ◌+◌, ◌-�
 use Rattle.fv_base.proofs.Laws.{List, length, take, drop, refl, sym, ap, ◌∙◌, subst, arith, Bool, true, false, length-drop, inl, inr, not, nat_le}
 use Rattle.fv_base.proofs.Laws.{slice_index, slice_set, Option, None, Some, Ok, Err, Result, ltb-false, eq-eqb, get_or-drop, get_or-set_same}
 use Rattle.fv_base.proofs.Laws.{get_or-set_other, length-set, length-take-le, take-append-drop, nat_tests, take-set-le, First, outer_fault}
-use Rattle.fv_base.proofs.Laws.{common_steps, AllAre, erased_byte, and_split, up_is_not_down}
+use Rattle.fv_base.proofs.Laws.{common_steps, AllAre, erased_byte, and_split, up_is_not_down, or_parts}
 use Rattle.fv_base.specs.inner.Verdicts.{first_fault}
 use Rattle.fv_base.specs.declared.fault.Fault.{Fault}
 use Rattle.fv_base.specs.declared.flash.FileSystem.{FileSystem}
 use Rattle.fv_base.specs.declared.flash.Polarity.{Polarity}
 use Rattle.std.proofs.lemmas.Bool.{not-false}
-use Rattle.fv_base.proofs.Laws.{or_parts}
 use Rattle.fv_file.proofs.SortLemmas.{sorted}
-use Rattle.fv_file.specs.Words.{is_alive, CellForm, is_free, IsCell, Tiles, cell_len, IsFirstCellFault, file_checks, state_checks, stub_checks}
-use Rattle.fv_file.specs.Words.{file_header_len_at, attributes_at, is_fixed, bits_of, state_of, state_at, unmarked, Unmarks}
+use Rattle.fv_file.specs.Words.{is_alive, CellForm, is_free, IsCell, Tiles, cell_len, IsFirstCellFault, file_checks, state_checks, attributes_at}
+use Rattle.fv_file.specs.Words.{is_fixed, bits_of, state_of, state_at, unmarked, Unmarks}
 use Rattle.fv_file.specs.declared.state.FileState.{FileState}
 use Rattle.fv_file.specs.inner.CellVerdicts.{cell_verdict, sort_of, sort_checks, stray, StateSort}
 use Rattle.fv_file.proofs.CellVerdictLemmas.{verdict_fails, no_bits}
@@ -28,7 +27,6 @@ use Rattle.fv_file.proofs.BodyLemmas.{Upto, upto_begins, stands_here, one_on, fi
 use Rattle.fv_file.proofs.CellFoundLemmas.{CellStandsAt}
 use Rattle.fv_file.proofs.OneFaultLemmas.{one_cell_fault}
 use Rattle.fv_base.specs.declared.fault.FaultKind.TheVariants as kinds
-use Rattle.fv_file.specs.declared.state.FileState.TheVariants as states
 use Rattle.fv_file.specs.inner.CellVerdicts as sorts
 
 -- ---- 1. the fault Fixed
