@@ -1,7 +1,7 @@
 -- A walk over a body with fixed files removes their marks up to a place, and leaves the bytes from there on as they
 -- are.
-use Rattle.std.proofs.Common.{◌≡◌, ◌≤◌, ◌<◌, ℕ, ◌+◌, ◌%◌, ◌⊎◌, ◌-◌, List, length, drop, refl}
-use Rattle.fv_base.proofs.Laws.{sym, ap, ◌∙◌, subst, arith, inl, inr, slice_index, slice_set, Ok, Err, drop-drop, drop-set-lt, AllAre, erased_byte}
+use Rattle.std.proofs.Common.{◌≡◌, ◌≤◌, ◌<◌, ℕ, ◌+◌, ◌%◌, ◌⊎◌, ◌-◌}
+use Rattle.fv_base.proofs.Laws.{List, length, drop, refl, sym, ap, ◌∙◌, subst, arith, inl, inr, Ok, Err, drop-drop, AllAre, erased_byte}
 use Rattle.fv_base.specs.declared.fault.Fault.{Fault}
 use Rattle.fv_base.specs.declared.flash.FileSystem.{FileSystem}
 use Rattle.fv_base.specs.declared.flash.Polarity.{Polarity}
@@ -10,7 +10,7 @@ use Rattle.fv_file.specs.inner.CellVerdicts.{cell_verdict}
 use Rattle.fv_file.specs.inner.MarkSteps.{OneMarkLess}
 use Rattle.fv_file.proofs.UnmarkLemmas.{Unmarked, MarkStep, unmarked_begins, one_less, one_further, stands_unmarked, stopped}
 use Rattle.fv_file.proofs.BodyLemmas.{all_kept}
-use Rattle.fv_file.proofs.MarkedFileLemmas.{drop-unmarked}
+use Rattle.fv_file.proofs.MarkedFileLemmas.{behind_mark, drop-unmarked}
 
 -- the marks up to a place are removed in `less`, which has the same bytes as the body from there on
 pub record Walked (s : FileSystem) (p : Polarity) (first : ℕ) (body : List ℕ) (at : ℕ) : Type 0 where
@@ -70,11 +70,7 @@ module _ (s : FileSystem) (p : Polarity) (first : ℕ) (body : List ℕ) (at : �
         behind : OneMarkLess s p (first + at) (drop at body) b → (b ≡ drop at body) ⊎ (19 < len) → drop len b ≡ drop len (drop at body)
         behind (inl e) past = ap (drop len) e
         behind step (inl e) = ap (drop len) e
-        behind (inr (fixed, e)) (inr more) =
-            let r : List ℕ = drop at body in
-            ap (drop len) e
-            ∙ drop-set-lt len (slice_set r 16 ((slice_index r 16 + 4) % 256)) 19 (slice_index r 19 - 4) more
-            ∙ drop-set-lt len r 16 ((slice_index r 16 + 4) % 256) (omega (arith, more))
+        behind (inr (fixed, e)) (inr more) = ap (drop len) e ∙ behind_mark len (drop at body) more
 
     -- a fault at the place is the first fault of the body without the marks before it
     pub walk_stops : (f : Fault) → cell_verdict s p (first + at) b ≡ Err f

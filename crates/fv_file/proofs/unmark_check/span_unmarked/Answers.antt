@@ -1,11 +1,10 @@
-use Rattle.std.proofs.Common.{◌≡◌, ◌≤◌, rules, ◌∙◌, ap, arith, inr, length, refl, sym, Err}
-use Rattle.fv_base.proofs.Laws.{err_is}
+use Rattle.std.proofs.Common.{◌≡◌, ◌≤◌, rules}
+use Rattle.fv_base.proofs.Laws.{◌∙◌, ap, arith, inr, length, refl, sym, Err, err_is}
 use Rattle.fv_base.specs.contracts.fault.FaultKind.{the_type}
 use denote.Enum.Bare.{same_true}
 use Rattle.fv_file.specs.Words.{file_header_len_at, file_size_at}
 use Rattle.fv_file.proofs.CellVerdictLemmas.{verdict_stands}
-use Rattle.fv_file.proofs.MarkedFileLemmas.{cell_without, size_within, wrong_without}
-use Rattle.fv_file.proofs.UnmarkLemmas.{FixedThere, fixed_there}
+use Rattle.fv_file.proofs.MarkedFileLemmas.{FixedThere, fixed_there, cell_without, size_within, wrong_without}
 use Rattle.fv_file.proofs.unmark_check.span_unmarked.Goals.{Then-eq}
 use Rattle.fv_base.specs.declared.fault.FaultKind.TheVariants as kinds
 use Rattle.fv_file.proofs.unmark_check.span_unmarked.Goals as goal
