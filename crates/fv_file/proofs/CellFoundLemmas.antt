@@ -14,8 +14,7 @@ use Rattle.fv_file.specs.declared.state.FileState.{FileState}
 use Rattle.fv_file.specs.inner.CellVerdicts.{cell_in, cell_of, StateSort, sort_of, sort_checks}
 use Rattle.fv_file.specs.inner.CellVerdicts as sorts
 use Rattle.fv_file.proofs.FileLemmas.{header_least, FileAt, file_at}
-use Rattle.fv_file.proofs.SortLemmas.{StatesOf, sorted}
-use Rattle.fv_file.proofs.StateLemmas.{free_bits}
+use Rattle.fv_file.proofs.SortLemmas.{StatesOf, sorted, free_bits}
 
 -- the bytes begin with a cell that is not free
 pub record CellStandsAt (system : FileSystem) (polarity : Polarity) (at : ℕ) (c : CellForm) (r : List ℕ) : Type 0 where

@@ -15,8 +15,7 @@ use Rattle.fv_file.specs.inner.CellVerdicts as sorts
 use Rattle.fv_file.specs.declared.state.FileState.TheVariants as states
 use Rattle.fv_file.proofs.CellPartLemmas.{filled_span}
 use Rattle.fv_file.proofs.FileLemmas.{header_least, front_byte, HasContent, filled_read}
-use Rattle.fv_file.proofs.SortLemmas.{sorted}
-use Rattle.fv_file.proofs.StateLemmas.{bits_free}
+use Rattle.fv_file.proofs.SortLemmas.{sorted, bits_free}
 
 pub record CellIsRead (system : FileSystem) (polarity : Polarity) (at : ℕ) (c : CellForm) (r : List ℕ) : Type 0 where
   pub checked : first_fault (cell_checks system polarity at r) ≡ None

@@ -22,8 +22,7 @@ use Rattle.fv_file.proofs.CellFoundLemmas.{CellStandsAt, cell_stands}
 use Rattle.fv_file.proofs.CellPartLemmas.{cell_span, free_all}
 use Rattle.fv_file.proofs.CellReadLemmas.{CellIsRead, cell_reads}
 use Rattle.fv_file.proofs.ErasedByteLemmas.{all_at}
-use Rattle.fv_file.proofs.SortLemmas.{StatesOf, sorted}
-use Rattle.fv_file.proofs.StateLemmas.{free_bits, bits_free}
+use Rattle.fv_file.proofs.SortLemmas.{StatesOf, sorted, free_bits, bits_free}
 use Rattle.fv_file.proofs.TilingLemmas.{OneCell}
 
 -- ---- the verdict on the bytes at a place

@@ -8,9 +8,9 @@ use Rattle.fv_base.proofs.Laws.{AllHold, drop-append_seam, take-append_seam, le,
 use Rattle.fv_base.specs.declared.flash.FileSystem.{FileSystem}
 use Rattle.fv_base.specs.declared.flash.Polarity.{Polarity}
 use Rattle.fv_base.specs.declared.flash.FileSystem.TheVariants.{Ffs3}
-use Rattle.fv_file.specs.Words.{attribute_bits, is_large, is_fixed, allows_large, file_checks, file_header_len_at, file_size_at, payload_at}
-use Rattle.fv_file.specs.Words.{attributes_at, file_header_len, file_size_in, file_sum_right, head_in, pad_kind, IsFile, IsFilled, IsSound, StateOf}
-use Rattle.fv_file.specs.Words.{is_alive}
+use Rattle.fv_file.specs.Words.{may_be_large, has_header_sum, has_file_size, attribute_bits, is_large, is_fixed, allows_large, file_checks}
+use Rattle.fv_file.specs.Words.{file_header_len_at, file_size_at, payload_at, attributes_at, file_header_len, file_size_in, file_sum_right, head_in}
+use Rattle.fv_file.specs.Words.{pad_kind, IsFile, IsFilled, IsSound, StateOf, is_alive}
 use Rattle.fv_file.specs.declared.head.FileHead.{FileHead}
 use Rattle.fv_file.specs.declared.state.FileState.{FileState}
 use Rattle.fv_file.proofs.FileVerdictLemmas.{sizes}
@@ -133,27 +133,21 @@ file_reads s p head payload file w is = rw (is.text, append_assoc) (
     let part : file_size_at r - file_header_len_at r ≡ length payload = omega (arith, size, len) in
     let payload_is : payload_at r ≡ payload = rw (part, len, drop-append_seam, take-append_seam) in
     let long : length r ≡ length h + (length payload + length w) = simp length-append in
+    let allowed : may_be_large s r ≡ true = rw e19 (large_may s _ (λ l. (is.is_header.large l).0)) in
+    let sum : has_header_sum r ≡ true = rw (len, take-append_seam, is.is_header.sum) in
+    let sizes : has_file_size r ≡ true =
+    and_join _ _ (le-leb (file_header_len_at r) (file_size_at r) (omega (arith, len, size)))
+    (and_join _ _ (le-leb (file_size_at r) (length r) (omega (arith, size, long)))
+    (rw (e19, field-append_front 20 3 h y (omega (arith, low))) (zero_if _ _ (λ l. (is.is_header.large l).1)))) in
     record {
       long = omega (arith, low, long);
       state = rw (front_byte 23 h y (omega (arith, low))) is.is_header.state;
       fields = fields;
       payload_is = payload_is;
       checks = λ at content.
-          let content_holds = data_checks (head_in head.state r) (payload_at r) (subst (λ g. HasContent g (payload_at r)) (sym fields) (rw payload_is content)) in (
-            rw e19 (large_may s _ (λ l. (is.is_header.large l).0)),
-            (
-              le-leb _ _ (omega (arith, len, long)),
-              (
-                rw (len, take-append_seam, is.is_header.sum),
-                (
-                  and_join _ _ (le-leb (file_header_len_at r) (file_size_at r) (omega (arith, len, size)))
-                      (and_join _ _ (le-leb (file_size_at r) (length r) (omega (arith, size, long)))
-                      (rw (e19, field-append_front 20 3 h y (omega (arith, low))) (zero_if _ _ (λ l. (is.is_header.large l).1)))),
-                  (content_holds.0, (content_holds.1, tt)),
-                ),
-              ),
-            ),
-          );
+          let there : HasContent (head_in head.state r) (payload_at r) = subst (λ g. HasContent g (payload_at r)) (sym fields) (rw payload_is content) in
+          let checked = data_checks (head_in head.state r) (payload_at r) there in
+          (allowed, (le-leb _ _ (omega (arith, len, long)), (sum, (sizes, (checked.0, (checked.1, tt))))));
     }
     )
 

@@ -70,8 +70,7 @@ fixed_least a h = grind (arith, nat_tests)
 -- ---- 2. the bytes
 
 pub length-unmarked : (p : ℕ) (b : List ℕ) → length (unmarked p b) ≡ length b
-length-unmarked p b = length-set (slice_set b (p + 16) ((slice_index b (p + 16) + 4) % 256)) (p + 19) (slice_index b (p + 19) - 4)
-    ∙ length-set b (p + 16) ((slice_index b (p + 16) + 4) % 256)
+length-unmarked p b = simp length-set
 
 pub drop-unmarked : (at : ℕ) (b : List ℕ) → drop at (unmarked at b) ≡ unmarked 0 (drop at b)
 drop-unmarked at b = grind (arith, common_steps, get_or-drop, drop-set-add)

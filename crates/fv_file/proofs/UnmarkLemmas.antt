@@ -11,9 +11,8 @@ use Rattle.fv_base.specs.declared.flash.Polarity.{Polarity}
 use Rattle.fv_file.specs.Words.{CellForm, is_free, IsCell, Tiles, cell_len, IsFirstCellFault, unmarked, Unmarks}
 use Rattle.fv_file.specs.inner.CellVerdicts.{cell_verdict}
 use Rattle.fv_file.proofs.MarkedFileLemmas.{fixed_there, length-unmarked, drop-unmarked, used_without}
-use Rattle.fv_file.proofs.BodyLemmas.{Upto, upto_begins, stands_here, one_on, first_here, none_after}
+use Rattle.fv_file.proofs.BodyLemmas.{Upto, upto_begins, stands_here, one_on, first_here, none_after, one_cell_fault}
 use Rattle.fv_file.proofs.CellFoundLemmas.{CellStandsAt}
-use Rattle.fv_file.proofs.OneFaultLemmas.{one_cell_fault}
 use Rattle.fv_base.specs.declared.fault.FaultKind.TheVariants as kinds
 
 -- ---- 1. one after another

@@ -1,5 +1,5 @@
 use Rattle.std.proofs.Common.{◌≡◌, ◌+◌, rules}
-use Rattle.fv_base.proofs.Laws.{drop, sym, ap, ◌∙◌, arith, Err, get_or-drop, common_steps}
+use Rattle.fv_base.proofs.Laws.{drop, sym, arith, Err, get_or-drop, common_steps}
 use denote.Enum.Bare.{same_true}
 use Rattle.fv_base.specs.contracts.fault.FaultKind.{the_type}
 use Rattle.fv_file.specs.inner.CellVerdicts.{cell_verdict}
@@ -12,8 +12,7 @@ fixed : (c : Then-eq)
     → (cell_verdict c.args.system c.args.polarity (c.args.first + c.args.at) (drop c.args.at c.args.body.now) ≡ Err c.in-Err.fault)
     × FixedThere c.args.system c.args.polarity (c.args.first + c.args.at) (drop c.args.at c.args.body.now) c.in-Err.fault
 fixed c =
-    let is : cell_verdict c.args.system c.args.polarity (c.args.first + c.args.at) (drop c.args.at c.args.body.now) ≡ Err c.in-Err.fault =
-    ap (cell_verdict c.args.system c.args.polarity (c.args.first + c.args.at)) (sym c.bytes_from.ensures) ∙ c.in-Err.ensures.rejected in
+    let is = rw c.bytes_from.ensures at c.in-Err.ensures.rejected in
     (is, fixed_there _ _ _ _ _ is (same_true the_type (search rules) _ _ (sym c.if-eq.ensures)))
 
 pub unmark-requires-clause-marked : goal.unmark-requires-clause-marked
