@@ -1,8 +1,8 @@
 -- If the bytes begin with a cell that is not free, every check of a cell holds, and this cell is read. The State byte
 -- shows a state whose sort determines this kind of cell. The header of a file is read again from its bytes, and a
 -- header under construction or an invalid header has the length of its form.
-use Rattle.std.proofs.Common.{◌≡◌, ◌≤◌, ℕ, ◌++◌, ◌==◌, ◌⊎◌, ◌≢◌, List, length, inl, inr, refl, sym, ◌∙◌, arith, Bool, true, false, length-append}
-use Rattle.fv_base.proofs.Laws.{slice_index, None, Some, le-leb, eq-eqb, eqb-true, AllHold, common_steps, if_false, if_true, none_faulty, not_equal}
+use Rattle.std.proofs.Common.{◌≡◌, ◌≤◌, ℕ, ◌++◌, ◌==◌, ◌≢◌, List, length, inl, inr, refl, sym, ◌∙◌, arith, Bool, false, length-append, eq-eqb, le-leb}
+use Rattle.fv_base.proofs.Laws.{up_is_not_down, slice_index, None, Some, eqb-true, AllHold, common_steps, if_false, if_true, none_faulty, not_equal}
 use Rattle.fv_base.specs.declared.flash.FileSystem.{FileSystem}
 use Rattle.fv_base.specs.declared.flash.Polarity.{Polarity}
 use Rattle.fv_base.specs.inner.Verdicts.{first_fault}
@@ -15,7 +15,7 @@ use Rattle.fv_file.specs.inner.CellVerdicts as sorts
 use Rattle.fv_file.specs.declared.state.FileState.TheVariants as states
 use Rattle.fv_file.proofs.CellPartLemmas.{filled_span}
 use Rattle.fv_file.proofs.FileLemmas.{header_least, front_byte, HasContent, filled_read}
-use Rattle.fv_file.proofs.SortLemmas.{sorted, bits_free}
+use Rattle.fv_file.proofs.SortLemmas.{dead_state, sorted, bits_free}
 
 pub record CellIsRead (system : FileSystem) (polarity : Polarity) (at : ℕ) (c : CellForm) (r : List ℕ) : Type 0 where
   pub checked : first_fault (cell_checks system polarity at r) ≡ None
@@ -56,12 +56,6 @@ stub_reads s p at u w st sort state len =
     shown s p at _ (u ++ w) st sorts.Unfinished (omega (arith, low, length-append u w)) (rw (front_byte 23 u w (omega (arith, low))) state) sort
     (λ z. cc) (le-leb _ _ (omega (arith, n, length-append u w)), tt) (rw n)
 
-dead_sort : (st t : FileState) → st ≡ t → (t ≡ states.HeaderValid) ⊎ (t ≡ states.Deleted) → sort_of st ≡ sorts.Dead
-dead_sort st t is state = grind (arith, common_steps)
-
-dead_alive : (st : FileState) → sort_of st ≡ sorts.Dead → is_alive st ≡ true → ⊥
-dead_alive st dead alive = cc (dead, (sorted st).valid alive)
-
 pub cell_reads : (s : FileSystem) (p : Polarity) (c : CellForm) (u w : List ℕ) → IsCell s p c u → is_free c ≡ false
     → CellIsRead s p (offset_of c) c (u ++ w)
 cell_reads s p (Valid at head payload) u w (filled, alive, sound) f =
@@ -71,9 +65,9 @@ cell_reads s p (Pad at head payload) u w (filled, alive, pad) f =
     filled_reads s p at _ head payload u w sorts.Valid filled ((sorted head.state).valid alive) (λ z. cc) (λ alive r. refl)
     (λ a. inl pad) (if_true _ _ _ (eq-eqb head.kind pad_kind pad))
 cell_reads s p (Dead at len st) u w (head, payload, filled, is, state, long) f =
-    let sort = dead_sort head.state st is state in
-    filled_reads s p at _ head payload u w sorts.Dead filled sort (λ z. cc) (λ alive r. refl)
-    (λ alive. absurd (dead_alive head.state sort alive)) (rw (filled_span s p head payload u filled, is, long))
+    let dead = dead_state head.state st is state in
+    filled_reads s p at _ head payload u w sorts.Dead filled dead.0 (λ z. cc) (λ alive r. refl)
+    (λ alive. absurd (up_is_not_down _ alive dead.1)) (rw (filled_span s p head payload u filled, is, long))
 cell_reads s p (Stub at len) u w (inl is, whole, long) f = rw long (stub_reads s p at u w states.Construction refl is whole)
 cell_reads s p (Stub at len) u w (inr is, whole, long) f = rw long (stub_reads s p at u w states.HeaderInvalid refl is whole)
 cell_reads s p (Free at len) u w is f = cc

@@ -4,8 +4,8 @@
 -- does not hold, no cell begins there.
 use Rattle.std.proofs.Common.{◌≡◌, ◌≤◌, ℕ, ◌%◌, [], ◌++◌, ◌==◌, ◌≢◌, ◌⊎◌, leb-true}
 use Rattle.fv_base.proofs.Laws.{inl, inr, List, length, refl, sym, ap, ◌∙◌, subst, arith, Bool, true, false, append-nil, nat_lt, slice_index, Option}
-use Rattle.fv_base.proofs.Laws.{None, Some, Ok, Err, le-leb, ltb-true, ltb-false, eqb-true, eq-eqb, Check, IsFirstFault, Which, Fails, AllAre}
-use Rattle.fv_base.proofs.Laws.{erased_byte, all_hold, and_split, first_is, none_fails, not_at_most, verdict_err, verdict_ok, common_steps}
+use Rattle.fv_base.proofs.Laws.{None, Some, Ok, Err, le-leb, ltb-true, ltb-false, eqb-true, eq-eqb, IsFirstFault, Which, Fails, AllAre, erased_byte}
+use Rattle.fv_base.proofs.Laws.{all_hold, and_split, first_is, none_fails, not_at_most, verdict_err, verdict_ok, common_steps}
 use Rattle.fv_base.specs.inner.Verdicts.{first_fault, verdict_by}
 use Rattle.fv_base.specs.declared.fault.Fault.{Fault}
 use Rattle.fv_base.specs.declared.flash.FileSystem.{FileSystem}
@@ -14,15 +14,14 @@ use Rattle.fv_base.specs.declared.flash.Polarity.TheVariants.{Ones, Zeros}
 use Rattle.fv_file.specs.Words.{CellForm, Free, offset_of, is_free, IsCell, cell_len, payload_at, file_checks, state_checks, cell_checks, head_in}
 use Rattle.fv_file.specs.Words.{bits_of, state_of, is_alive}
 use Rattle.fv_file.specs.declared.state.FileState.{FileState}
-use Rattle.fv_file.specs.inner.CellVerdicts.{file_verdict, cell_in, cell_of, cell_with, sort_verdict, state_verdict, cell_verdict, StateSort, sort_of}
-use Rattle.fv_file.specs.inner.CellVerdicts.{sort_checks}
+use Rattle.fv_file.specs.inner.CellVerdicts.{file_verdict, cell_in, cell_of, cell_with, state_verdict, cell_verdict, StateSort}
 use Rattle.fv_file.specs.inner.CellVerdicts as sorts
 use Rattle.fv_file.specs.declared.state.FileState.TheVariants as states
 use Rattle.fv_file.proofs.CellFoundLemmas.{CellStandsAt, cell_stands}
 use Rattle.fv_file.proofs.CellPartLemmas.{cell_span, free_all}
 use Rattle.fv_file.proofs.CellReadLemmas.{CellIsRead, cell_reads}
 use Rattle.fv_file.proofs.ErasedByteLemmas.{all_at}
-use Rattle.fv_file.proofs.SortLemmas.{StatesOf, sorted, free_bits, bits_free}
+use Rattle.fv_file.proofs.SortLemmas.{free_bits, bits_free}
 use Rattle.fv_file.proofs.TilingLemmas.{OneCell}
 
 -- ---- the verdict on the bytes at a place
@@ -37,22 +36,17 @@ file_is s st k at r = go (first_fault (file_checks s (is_alive st) at r)) where
   go None = refl
   go (Some f) = refl
 
--- for a state of each sort, the verdict is the verdict of the checks of this sort; erased bytes are rejected earlier
-sort_is : (s : FileSystem) (p : Polarity) (st : FileState) (k : StateSort) (at : ℕ) (r : List ℕ) → k ≢ sorts.Erased
-    → sort_verdict k st s p at r
-    ≡ verdict_by (first_fault (sort_checks k s (is_alive st) at r)) (cell_of k at (head_in st r) (payload_at r))
-sort_is s p st sorts.Erased at r used = absurd (used refl)
-sort_is s p st sorts.Unfinished at r used = refl
-sort_is s p st sorts.Dead at r used = file_is s st sorts.Dead at r
-sort_is s p st sorts.Valid at r used = file_is s st sorts.Valid at r
-
 -- for a State byte, whether it shows a state or not, the verdict is the verdict of the checks of the state
 state_is : (s : FileSystem) (p : Polarity) (o : Option FileState) (at : ℕ) (r : List ℕ) → o ≢ Some states.Free
     → state_verdict o s p at r ≡ verdict_by (first_fault (state_checks o s at r)) (cell_in o at r)
 state_is s p None at r used = refl
-state_is s p (Some st) at r used =
-    sort_is s p st (sort_of st) at r (λ e. used (ap Some (subst (λ (k : StateSort). StatesOf k st) e (sorted st).states)))
-    ∙ ap (λ (cs : List (Check Fault)). verdict_by (first_fault cs) (cell_in (Some st) at r)) (sym ((sorted st).checks s at r))
+state_is s p (Some states.Free) at r used = absurd (used refl)
+state_is s p (Some states.Construction) at r used = refl
+state_is s p (Some states.HeaderInvalid) at r used = refl
+state_is s p (Some states.HeaderValid) at r used = file_is s states.HeaderValid sorts.Dead at r
+state_is s p (Some states.Deleted) at r used = file_is s states.Deleted sorts.Dead at r
+state_is s p (Some states.DataValid) at r used = file_is s states.DataValid sorts.Valid at r
+state_is s p (Some states.Marked) at r used = file_is s states.Marked sorts.Valid at r
 
 -- for any bytes, the verdict is the verdict of the checks of a cell
 verdict_is : (s : FileSystem) (p : Polarity) (at : ℕ) (r : List ℕ)

@@ -1,6 +1,6 @@
 -- A byte that does not have the value e shows that not all bytes have the value e.
 use Rattle.std.proofs.Common.{◌≡◌, ℕ, ◌<◌, [], ◌∷◌}
-use Rattle.fv_base.proofs.Laws.{at_index, List, length, get_or, refl, sym, arith, Bool, true, false, AllAre, all_are, all-all_are, all_are-true}
+use Rattle.fv_base.proofs.Laws.{List, length, get_or, refl, sym, arith, Bool, true, false, at_index, AllAre, all_are, all-all_are, all_are-true}
 
 pub all_at : (e : ℕ) (x : List ℕ) (i : ℕ) → AllAre e x → i < length x → get_or x i 0 ≡ e
 all_at e x i all l = at_index (λ (b : ℕ). b ≡ e) x i 0 all l

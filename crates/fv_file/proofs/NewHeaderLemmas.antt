@@ -77,9 +77,6 @@ header_parts h false state = simp append_assoc
 at_behind : (k : ℕ) (name rest : List ℕ) → length name ≡ 16 → slice_index (name ++ rest) (16 + k) ≡ slice_index rest k
 at_behind k name rest long = grind (arith, common_steps, get_or-append-add)
 
-take_behind : (k : ℕ) (name rest : List ℕ) → length name ≡ 16 → take (16 + k) (name ++ rest) ≡ name ++ take k rest
-take_behind k name rest long = subst (λ (n : ℕ). take (n + k) (name ++ rest) ≡ name ++ take k rest) long (take-append-add name rest k)
-
 drop_behind : (k : ℕ) (name rest : List ℕ) → length name ≡ 16 → drop (16 + k) (name ++ rest) ≡ drop k rest
 drop_behind k name rest long = subst (λ (n : ℕ). drop (n + k) (name ++ rest) ≡ drop k rest) long (drop-append-add name rest k)
 
@@ -94,7 +91,7 @@ sum_apart name l a b c d e f g h long =
     let joined : (xs ys : List ℕ) → sum (xs ++ ys) ≡ sum xs + sum ys = λ xs ys. sum_by-append (λ (x : ℕ). x) xs ys in
     omega (
       arith,
-      ap sum (take_behind 1 name rest long) ∙ joined name (a ∷ []),
+      ap sum (rw long at (take-append-add name rest 1)) ∙ joined name (a ∷ []),
       ap (λ (xs : List ℕ). sum (take 5 xs)) (drop_behind 2 name rest long),
       ap sum (drop_behind 8 name rest long),
       joined name (0 ∷ 0 ∷ c ∷ d ∷ e ∷ f ∷ g ∷ 0 ∷ l),

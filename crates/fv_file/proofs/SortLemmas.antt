@@ -25,6 +25,11 @@ pub record Sorted (st : FileState) : Type 0 where
 pub sorted : (st : FileState) → Sorted st
 sorted st = grind (arith, common_steps) steps 150000
 
+-- a deleted file, and a file whose header is valid but not its data, are dead, and have a complete header
+pub dead_state : (st state : FileState) → st ≡ state → (state ≡ states.HeaderValid) ⊎ (state ≡ states.Deleted)
+    → (sort_of st ≡ Dead) × (is_alive st ≡ false) × (is_unfinished (Some st) ≡ false)
+dead_state st state e k = grind (arith, common_steps)
+
 free_in : (n : ℕ) → state_in n ≡ Some states.Free → n ≡ 0
 free_in n is = grind (arith, nat_tests, is)
 

@@ -4,7 +4,7 @@
 --    (`file_stride`, `stub_stride`, `cell_stride`).
 -- 2. So one step is one cell (`one_less`), and the count goes up by one (`one_counted`).
 -- 3. At the end one free cell is left if any bytes are left (`free_left`), so all cells are counted (`all_counted`).
-use Rattle.std.proofs.Common.{◌≡◌, ◌≤◌, ◌<◌, ℕ, ◌+◌, [], ◌∷◌, ◌++◌, ◌≢◌, ◌⊎◌, List, length, drop, inl, inr, refl, sym, ap, subst, arith, Bool, true}
+use Rattle.std.proofs.Common.{◌≡◌, ◌≤◌, ◌<◌, ℕ, ◌+◌, [], ◌∷◌, ◌++◌, ◌≢◌, List, length, drop, inl, inr, refl, sym, ap, subst, arith, Bool, true}
 use Rattle.fv_base.proofs.Laws.{false, length-append, append-nil, slice_index, Some, eqb-true, drop_at, eqb-false, erased_byte, up_to_8, common_steps}
 use Rattle.fv_base.specs.declared.flash.FileSystem.{FileSystem}
 use Rattle.fv_base.specs.declared.flash.Polarity.{Polarity}
@@ -18,7 +18,7 @@ use Rattle.fv_file.proofs.CellReadLemmas.{cell_reads}
 use Rattle.fv_file.proofs.CellVerdictLemmas.{read_used}
 use Rattle.fv_file.proofs.ErasedByteLemmas.{all_at}
 use Rattle.fv_file.proofs.FileLemmas.{header_least, front_byte, filled_read}
-use Rattle.fv_file.proofs.SortLemmas.{sorted}
+use Rattle.fv_file.proofs.SortLemmas.{dead_state, sorted}
 use Rattle.fv_file.proofs.TilingLemmas.{no_rest}
 use Rattle.fv_file.specs.declared.state.FileState.TheVariants as states
 
@@ -33,11 +33,6 @@ pub record Stride (polarity : Polarity) (r : List ℕ) (n : ℕ) : Type 0 where
   pub header : file_header_len_at r ≤ n
   pub within : n ≤ length r
   pub is : stride_by (is_unfinished (state_of polarity (slice_index r 23))) r ≡ n
-
--- a deleted file, and a file whose header is valid but not its data, have a complete header
-dead_finished : (st state : FileState) → st ≡ state → (state ≡ states.HeaderValid) ⊎ (state ≡ states.Deleted)
-    → is_unfinished (Some st) ≡ false
-dead_finished st state e k = grind (arith, common_steps)
 
 file_stride : (s : FileSystem) (p : Polarity) (head : FileHead) (payload u w : List ℕ) → IsFilled s p head payload u
     → is_unfinished (Some head.state) ≡ false → Stride p (u ++ w) (length u)
@@ -62,7 +57,7 @@ pub cell_stride : (s : FileSystem) (p : Polarity) (c : CellForm) (u w : List ℕ
 cell_stride s p (Valid at head payload) u w is f = file_stride s p head payload u w is.0 ((sorted head.state).finished is.1)
 cell_stride s p (Pad at head payload) u w is f = file_stride s p head payload u w is.0 ((sorted head.state).finished is.1)
 cell_stride s p (Dead at len st) u w (head, payload, filled, is, state, long) f =
-    file_stride s p head payload u w filled (dead_finished head.state st is state)
+    file_stride s p head payload u w filled (dead_state head.state st is state).2
 cell_stride s p (Stub at len) u w (inl state, whole, long) f = stub_stride p u w states.Construction refl state whole
 cell_stride s p (Stub at len) u w (inr state, whole, long) f = stub_stride p u w states.HeaderInvalid refl state whole
 cell_stride s p (Free at len) u w is f = cc

@@ -21,144 +21,133 @@ pub front_unmarked : (p : ℕ) (b : List ℕ) → take p (unmarked p b) ≡ take
 front_unmarked p b = take-set-le p (slice_set b (p + 16) ((slice_index b (p + 16) + 4) % 256)) (p + 19) (slice_index b (p + 19) - 4) (omega arith)
     ∙ take-set-le p b (p + 16) ((slice_index b (p + 16) + 4) % 256) (omega arith)
 
-pub marks_more : (s : FileSystem) (p : Polarity) (first : ℕ) (ps : List ℕ) (q : ℕ) (b o : List ℕ) → Unmarks s p first ps b o
-    → IsFirstCellFault s p first o (outer_fault kinds.Fixed (first + q + 19)) → Unmarks s p first (ps ++ q ∷ []) b (unmarked q o)
-marks_more s p first [] q b o same here = rw (← same) (here, refl)
-marks_more s p first (r ∷ rs) q b o marks here = (marks.0, marks_more s p first rs q (unmarked r b) o marks.1 here)
+module _ (s : FileSystem) (p : Polarity) (first : ℕ) where
+  pub marks_more : (ps : List ℕ) (q : ℕ) (b o : List ℕ) → Unmarks s p first ps b o
+      → IsFirstCellFault s p first o (outer_fault kinds.Fixed (first + q + 19)) → Unmarks s p first (ps ++ q ∷ []) b (unmarked q o)
+  marks_more [] q b o same here = rw (← same) (here, refl)
+  marks_more (r ∷ rs) q b o marks here = (marks.0, marks_more rs q (unmarked r b) o marks.1 here)
 
--- the marks up to a place are removed, and cells tile the body up to there
-pub record Unmarked (s : FileSystem) (p : Polarity) (first : ℕ) (old body : List ℕ) (at : ℕ) : Type 0 where
-  pub places : List ℕ
-  pub marks : Unmarks s p first places old body
-  pub same_length : length body ≡ length old
-  pub cells : List CellForm
-  pub upto : Upto s p first body cells at
+  -- the marks up to a place are removed, and cells tile the body up to there
+  pub record Unmarked (old body : List ℕ) (at : ℕ) : Type 0 where
+    pub places : List ℕ
+    pub marks : Unmarks s p first places old body
+    pub same_length : length body ≡ length old
+    pub cells : List CellForm
+    pub upto : Upto s p first body cells at
 
--- at the start, no mark is removed
-pub unmarked_begins : (s : FileSystem) (p : Polarity) (first : ℕ) (body : List ℕ) → Unmarked s p first body body 0
-unmarked_begins s p first body = record { places = []; marks = refl; same_length = refl; cells = []; upto = upto_begins s p first body }
+  -- at the start, no mark is removed
+  pub unmarked_begins : (body : List ℕ) → Unmarked body body 0
+  unmarked_begins body = record { places = []; marks = refl; same_length = refl; cells = []; upto = upto_begins s p first body }
 
--- the body is unchanged, or the file at the place is fixed, and its mark is removed
-abbrev pub MarkStep : FileSystem → Polarity → ℕ → List ℕ → List ℕ → ℕ → Type 0
-MarkStep s p first body new at =
-    (new ≡ body)
-    ⊎ ((cell_verdict s p (first + at) (drop at body) ≡ Err (outer_fault kinds.Fixed (first + at + 19))) × (new ≡ unmarked at body))
+  -- the place is before the end of the body, and not all bytes from there on are erased
+  abbrev pub Used : List ℕ → ℕ → Type 0
+  Used body at = (at < length body) × (AllAre (erased_byte p) (drop at body) → ⊥)
 
--- with the mark at the place removed, the marks up to the place are still removed, and cells tile the body up to there
-pub one_less : (s : FileSystem) (p : Polarity) (first : ℕ) (old body new : List ℕ) (at : ℕ) → Unmarked s p first old body at
-    → (at < length body) × (AllAre (erased_byte p) (drop at body) → ⊥)
-    → MarkStep s p first body new at
-    → Unmarked s p first old new at
-one_less s p first old body new at k used (inl same) = rw same k
-one_less s p first old body new at k used (inr (is, less)) = rw less (record {
-  places = k.places ++ at ∷ [];
-  marks = marks_more s p first k.places at old body k.marks (first_here s p first body k.cells at k.upto _ used is);
-  same_length = length-unmarked at body ∙ k.same_length;
-  cells = k.cells;
-  upto = record {
-    tiled = rw front_unmarked k.upto.tiled;
-    none_free = k.upto.none_free;
-    multiple = k.upto.multiple;
-    inside = rw length-unmarked k.upto.inside;
-  };
-})
+  -- the body is unchanged, or the file at the place is fixed, and its mark is removed
+  abbrev pub MarkStep : List ℕ → List ℕ → ℕ → Type 0
+  MarkStep body new at =
+      (new ≡ body)
+      ⊎ ((cell_verdict s p (first + at) (drop at body) ≡ Err (outer_fault kinds.Fixed (first + at + 19))) × (new ≡ unmarked at body))
 
--- the fault at the place, after its mark was removed, is the first fault of the body
-pub stopped : (s : FileSystem) (p : Polarity) (first : ℕ) (old body new : List ℕ) (at : ℕ) (f : Fault) → Unmarked s p first old body at
-    → (at < length body) × (AllAre (erased_byte p) (drop at body) → ⊥)
-    → MarkStep s p first body new at
-    → cell_verdict s p (first + at) (drop at new) ≡ Err f → IsFirstCellFault s p first new f
-stopped s p first old body new at f k used step is =
-    let less = one_less s p first old body new at k used step in
-    first_here s p first new less.cells at less.upto f (used_still step) is
-  where
-    used_still : MarkStep s p first body new at
-        → (at < length new) × (AllAre (erased_byte p) (drop at new) → ⊥)
-    used_still (inl same) = rw same used
-    used_still (inr (fixed, less)) =
-        let there = fixed_there s p (first + at) (drop at body) _ fixed refl in
-        rw (less, length-unmarked, drop-unmarked) (used.0, used_without s p (first + at) (drop at body) _ there)
+  -- with the mark at the place removed, the marks up to the place are still removed, and cells tile the body up to there
+  pub one_less : (old body new : List ℕ) (at : ℕ) → Unmarked old body at → Used body at → MarkStep body new at → Unmarked old new at
+  one_less old body new at k used (inl same) = rw same k
+  one_less old body new at k used (inr (is, less)) = rw less (record {
+    places = k.places ++ at ∷ [];
+    marks = marks_more k.places at old body k.marks (first_here s p first body k.cells at k.upto _ used is);
+    same_length = length-unmarked at body ∙ k.same_length;
+    cells = k.cells;
+    upto = record {
+      tiled = rw front_unmarked k.upto.tiled;
+      none_free = k.upto.none_free;
+      multiple = k.upto.multiple;
+      inside = rw length-unmarked k.upto.inside;
+    };
+  })
 
--- removing marks does not change the number of bytes
-pub length-unmarks : (s : FileSystem) (p : Polarity) (first : ℕ) (ps : List ℕ) (b o : List ℕ) → Unmarks s p first ps b o
-    → length o ≡ length b
-length-unmarks s p first [] b o same = ap length same
-length-unmarks s p first (q ∷ qs) b o marks = length-unmarks s p first qs (unmarked q b) o marks.1 ∙ length-unmarked q b
+  -- the fault at the place, after its mark was removed, is the first fault of the body
+  pub stopped : (old body new : List ℕ) (at : ℕ) (f : Fault) → Unmarked old body at → Used body at → MarkStep body new at
+      → cell_verdict s p (first + at) (drop at new) ≡ Err f → IsFirstCellFault s p first new f
+  stopped old body new at f k used step is =
+      let less = one_less old body new at k used step in
+      first_here s p first new less.cells at less.upto f (used_still step) is
+    where
+      used_still : MarkStep body new at → Used new at
+      used_still (inl same) = rw same used
+      used_still (inr (fixed, less)) =
+          let there = fixed_there s p (first + at) (drop at body) _ fixed refl in
+          rw (less, length-unmarked, drop-unmarked) (used.0, used_without s p (first + at) (drop at body) _ there)
 
--- ---- 2. in one way
+  -- removing marks does not change the number of bytes
+  pub length-unmarks : (ps : List ℕ) (b o : List ℕ) → Unmarks s p first ps b o → length o ≡ length b
+  length-unmarks [] b o same = ap length same
+  length-unmarks (q ∷ qs) b o marks = length-unmarks qs (unmarked q b) o marks.1 ∙ length-unmarked q b
 
--- the first fault of the body, if it has one, is not Fixed
-abbrev pub NoneFixed : FileSystem → Polarity → ℕ → List ℕ → Type 0
-NoneFixed s p first b = (f : Fault) → IsFirstCellFault s p first b f → f.kind ≢ kinds.Fixed
+  -- ---- 2. in one way
 
--- a body that cells tile has no first fault, so no first fault of it is Fixed
-pub tiled_unfixed : (s : FileSystem) (p : Polarity) (first : ℕ) (b : List ℕ) (cs : List CellForm) → Tiles s p first cs b
-    → NoneFixed s p first b
-tiled_unfixed s p first b cs tiles f here kind = none_after First s p first b f cs here tiles
+  -- the first fault of the body, if it has one, is not Fixed
+  abbrev pub NoneFixed : List ℕ → Type 0
+  NoneFixed b = (f : Fault) → IsFirstCellFault s p first b f → f.kind ≢ kinds.Fixed
 
--- a body has only one first fault: if it is not Fixed, no first fault of the body is Fixed
-pub fault_unfixed : (s : FileSystem) (p : Polarity) (first : ℕ) (b : List ℕ) (f : Fault) → IsFirstCellFault s p first b f
-    → f.kind ≢ kinds.Fixed → NoneFixed s p first b
-fault_unfixed s p first b f here other g there kind = other (ap (λ (x : Fault). x.kind) (one_cell_fault s p first b f g here there) ∙ kind)
+  -- a body that cells tile has no first fault, so no first fault of it is Fixed
+  pub tiled_unfixed : (b : List ℕ) (cs : List CellForm) → Tiles s p first cs b → NoneFixed b
+  tiled_unfixed b cs tiles f here kind = none_after First s p first b f cs here tiles
 
--- only one list of bytes is the body from which all marks were removed
-pub one_unmarked : (s : FileSystem) (p : Polarity) (first : ℕ) (ps qs : List ℕ) (b o x : List ℕ) → Unmarks s p first ps b o
-    → NoneFixed s p first o → Unmarks s p first qs b x → NoneFixed s p first x → x ≡ o
-one_unmarked s p first [] [] b o x same end other end_x = other ∙ sym same
-one_unmarked s p first [] (r ∷ rs) b o x same end other end_x =
-    absurd (end (outer_fault kinds.Fixed (first + r + 19)) (rw same other.0) refl)
-one_unmarked s p first (q ∷ qs) [] b o x marks end same end_x =
-    absurd (end_x (outer_fault kinds.Fixed (first + q + 19)) (rw same marks.0) refl)
-one_unmarked s p first (q ∷ qs) (r ∷ rs) b o x marks end other end_x =
-    let same : r ≡ q = omega (arith, ap (λ (f : Fault). f.place.offset) (one_cell_fault s p first b _ _ other.0 marks.0)) in
-    one_unmarked s p first qs rs (unmarked q b) o x marks.1 end (rw same at other.1) end_x
+  -- a body has only one first fault: if it is not Fixed, no first fault of the body is Fixed
+  pub fault_unfixed : (b : List ℕ) (f : Fault) → IsFirstCellFault s p first b f → f.kind ≢ kinds.Fixed → NoneFixed b
+  fault_unfixed b f here other g there kind = other (ap (λ (x : Fault). x.kind) (one_cell_fault s p first b f g here there) ∙ kind)
 
--- ---- 3. a body whose marks can be taken away
+  -- only one list of bytes is the body from which all marks were removed
+  pub one_unmarked : (ps qs : List ℕ) (b o x : List ℕ) → Unmarks s p first ps b o → NoneFixed o → Unmarks s p first qs b x → NoneFixed x
+      → x ≡ o
+  one_unmarked [] [] b o x same end other end_x = other ∙ sym same
+  one_unmarked [] (r ∷ rs) b o x same end other end_x = absurd (end (outer_fault kinds.Fixed (first + r + 19)) (rw same other.0) refl)
+  one_unmarked (q ∷ qs) [] b o x marks end same end_x = absurd (end_x (outer_fault kinds.Fixed (first + q + 19)) (rw same marks.0) refl)
+  one_unmarked (q ∷ qs) (r ∷ rs) b o x marks end other end_x =
+      let same : r ≡ q = omega (arith, ap (λ (f : Fault). f.place.offset) (one_cell_fault s p first b _ _ other.0 marks.0)) in
+      one_unmarked qs rs (unmarked q b) o x marks.1 end (rw same at other.1) end_x
 
--- some cells tile the body without its marks
-abbrev pub Accepts : FileSystem → Polarity → ℕ → List ℕ → Type 0
-Accepts s p first b =
-    (places : List ℕ) × (o : List ℕ) × Unmarks s p first places b o × ((cells : List CellForm) × Tiles s p first cells o)
+  -- ---- 3. a body whose marks can be taken away
 
--- a cell begins at each place after the mark there was removed
-pub unmarked_cell : (s : FileSystem) (p : Polarity) (first : ℕ) (old body new : List ℕ) (at : ℕ) → Accepts s p first old
-    → Unmarked s p first old body at → (at < length body) × (AllAre (erased_byte p) (drop at body) → ⊥) → MarkStep s p first body new at
-    → ((f : Fault) → cell_verdict s p (first + at) (drop at new) ≡ Err f → f.kind ≢ kinds.Fixed)
-    → (c : CellForm) × (cell_verdict s p (first + at) (drop at new) ≡ Ok c)
-unmarked_cell s p first old body new at (places, o, marks, (cells, tiles)) k used step plain =
-    go (cell_verdict s p (first + at) (drop at new)) refl
-  where
-    go : (x : Result CellForm Fault) → cell_verdict s p (first + at) (drop at new) ≡ x
-        → (c : CellForm) × (cell_verdict s p (first + at) (drop at new) ≡ Ok c)
-    go (Ok c) is = (c, is)
-    go (Err f) is =
-        let less = one_less s p first old body new at k used step in
-        let here = stopped s p first old body new at f k used step is in
-        let same : o ≡ new =
-        one_unmarked s p first less.places places old new o less.marks (fault_unfixed s p first new f here (plain f is)) marks
-        (tiled_unfixed s p first o cells tiles) in
-        absurd (none_after First s p first new f cells here (rw same at tiles))
+  -- some cells tile the body without its marks
+  abbrev pub Accepts : List ℕ → Type 0
+  Accepts b = (places : List ℕ) × (o : List ℕ) × Unmarks s p first places b o × ((cells : List CellForm) × Tiles s p first cells o)
+
+  -- a cell begins at each place after the mark there was removed
+  pub unmarked_cell : (old body new : List ℕ) (at : ℕ) → Accepts old → Unmarked old body at → Used body at → MarkStep body new at
+      → ((f : Fault) → cell_verdict s p (first + at) (drop at new) ≡ Err f → f.kind ≢ kinds.Fixed)
+      → (c : CellForm) × (cell_verdict s p (first + at) (drop at new) ≡ Ok c)
+  unmarked_cell old body new at (places, o, marks, (cells, tiles)) k used step plain = go (cell_verdict s p (first + at) (drop at new)) refl
+    where
+      go : (x : Result CellForm Fault) → cell_verdict s p (first + at) (drop at new) ≡ x
+          → (c : CellForm) × (cell_verdict s p (first + at) (drop at new) ≡ Ok c)
+      go (Ok c) is = (c, is)
+      go (Err f) is =
+          let less = one_less old body new at k used step in
+          let here = stopped old body new at f k used step is in
+          let same : o ≡ new =
+          one_unmarked less.places places old new o less.marks (fault_unfixed new f here (plain f is)) marks (tiled_unfixed o cells tiles) in
+          absurd (none_after First s p first new f cells here (rw same at tiles))
+
+  -- after the cell at the place, the marks up to the next place are removed
+  pub one_further : (old body : List ℕ) (at len : ℕ) (c : CellForm) → Unmarked old body at → CellStandsAt s p (first + at) c (drop at body)
+      → len ≡ cell_len c → Unmarked old body (at + len) × (0 < len) × (at + len ≤ length body)
+  one_further old body at len c k stands l =
+      let upto = one_on s p first body k.cells at k.upto c len stands l in (
+        record { places = k.places; marks = k.marks; same_length = k.same_length; cells = k.cells ++ c ∷ []; upto = upto },
+        omega (arith, l, stands.some),
+        upto.inside,
+      )
+
+  -- the cell that the walk reads begins at its place
+  pub stands_unmarked : (old body : List ℕ) (at : ℕ) (c : CellForm) → length old % 8 ≡ 0 → Unmarked old body at
+      → cell_verdict s p (first + at) (drop at body) ≡ Ok c → CellStandsAt s p (first + at) c (drop at body)
+  stands_unmarked old body at c in_eights k is =
+      stands_here s p first body k.cells at k.upto c (ap (λ (i : ℕ). i % 8) k.same_length ∙ in_eights) is
 
 -- if a cell begins the bytes, there are at least the 24 bytes of a header
 pub cell_long : (s : FileSystem) (p : Polarity) (at : ℕ) (r : List ℕ) (c : CellForm) → cell_verdict s p at r ≡ Ok c → 24 ≤ length r
 cell_long s p at r c is = grind (arith, common_steps, ltb-false)
-
--- after the cell at the place, the marks up to the next place are removed
-pub one_further : (s : FileSystem) (p : Polarity) (first : ℕ) (old body : List ℕ) (at len : ℕ) (c : CellForm) → Unmarked s p first old body at
-    → CellStandsAt s p (first + at) c (drop at body) → len ≡ cell_len c
-    → Unmarked s p first old body (at + len) × (0 < len) × (at + len ≤ length body)
-one_further s p first old body at len c k stands l =
-    let upto = one_on s p first body k.cells at k.upto c len stands l in (
-      record { places = k.places; marks = k.marks; same_length = k.same_length; cells = k.cells ++ c ∷ []; upto = upto },
-      omega (arith, l, stands.some),
-      upto.inside,
-    )
-
--- the cell that the walk reads begins at its place
-pub stands_unmarked : (s : FileSystem) (p : Polarity) (first : ℕ) (old body : List ℕ) (at : ℕ) (c : CellForm) → length old % 8 ≡ 0
-    → Unmarked s p first old body at → cell_verdict s p (first + at) (drop at body) ≡ Ok c → CellStandsAt s p (first + at) c (drop at body)
-stands_unmarked s p first old body at c in_eights k is =
-    stands_here s p first body k.cells at k.upto c (ap (λ (i : ℕ). i % 8) k.same_length ∙ in_eights) is
 
 -- n is the length of the cell, because it is the length of each cell that begins the bytes
 pub stride_len : (s : FileSystem) (p : Polarity) (at n : ℕ) (r : List ℕ) (c : CellForm) → CellStandsAt s p at c r
