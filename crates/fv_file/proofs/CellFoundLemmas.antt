@@ -89,5 +89,4 @@ cell_stands s p at r in_eights none =
         → not (bits_of p (slice_index r 23) == 0) ≡ true → AllHold (state_checks o s at r) → CellStandsAt s p at (cell_in o at r) r
     by_state None e long used all = let failed = all.0 in cc
     by_state (Some st) e long used all =
-        sort_stands s p st at r in_eights long e used (sort_of st) (sorted st).states
-        (rw (sorted st).checks at all)
+        sort_stands s p st at r in_eights long e used (sort_of st) (sorted st).states (rw (sorted st).checks at all)

@@ -48,7 +48,7 @@ pub record MarkedFile (s : FileSystem) (st : FileState) (at : ℕ) (r : List ℕ
   pub fixed : is_fixed (attributes_at r) ≡ true
   pub fault : f ≡ outer_fault kinds.Fixed (at + 19)
 
--- the checks of a file, whose results are these tests
+-- if the first fault of the checks of a file with these results is Fixed, its header is right, and it is fixed
 marked_tests : (form whole sum size skip fixed sound : Bool) (at : ℕ) (f : Fault)
     → first_fault (
     check form kinds.LargeFile (at + 19)

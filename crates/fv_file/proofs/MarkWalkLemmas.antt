@@ -1,6 +1,6 @@
 -- A walk over a body with fixed files removes their marks up to a place, and leaves the bytes from there on as they
 -- are.
-use Rattle.std.proofs.Common.{◌≡◌, ◌≤◌, ◌<◌, ℕ, ◌+◌, ◌%◌, ◌⊎◌, ◌-◌}
+use Rattle.std.proofs.Common.{◌≡◌, ◌≤◌, ◌<◌, ℕ, ◌+◌, ◌%◌, ◌⊎◌}
 use Rattle.fv_base.proofs.Laws.{List, length, drop, refl, sym, ap, ◌∙◌, arith, inl, inr, Ok, Err, drop-drop, AllAre, erased_byte}
 use Rattle.fv_base.specs.declared.fault.Fault.{Fault}
 use Rattle.fv_base.specs.declared.flash.FileSystem.{FileSystem}

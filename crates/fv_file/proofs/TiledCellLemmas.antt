@@ -39,9 +39,7 @@ cell_payload : (s : FileSystem) (p : Polarity) (c : CellForm) (x rest volume : L
     → IsCell s p c x → offset_of c ≡ at → IsPayloadIn volume c
 cell_payload s p (Valid place head payload) x rest volume at e is o = filled_payload s p head payload x rest volume at place e is.0 o
 cell_payload s p (Pad place head payload) x rest volume at e is o = filled_payload s p head payload x rest volume at place e is.0 o
-cell_payload s p (Dead place len state) x rest volume at e is o = tt
-cell_payload s p (Stub place len) x rest volume at e is o = tt
-cell_payload s p (Free place len) x rest volume at e is o = tt
+cell_payload s p c x rest volume at e is o = tt
 
 -- if cells tile a volume from the offset `at` on, `IsPayloadIn` is true of each of them
 pub tiled_payloads : (s : FileSystem) (p : Polarity) (at : ℕ) (cs : List CellForm) (b volume : List ℕ) → drop at volume ≡ b
@@ -66,10 +64,7 @@ IsRead system limit _ = Unit {0}
 one_read : (system : FileSystem) (p : Polarity) (limit : ℕ) (c : CellForm) (x : List ℕ) → IsBytes x → length x ≤ limit
     → IsCell system p c x → IsRead system limit c
 one_read system p limit (Valid at head payload) x small most is = cell_read_in system p limit at head payload x small most is
-one_read system p limit (Pad at head payload) x small most is = tt
-one_read system p limit (Dead at len state) x small most is = tt
-one_read system p limit (Stub at len) x small most is = tt
-one_read system p limit (Free at len) x small most is = tt
+one_read system p limit c x small most is = tt
 
 pub tiles_read : (system : FileSystem) (p : Polarity) (limit at : ℕ) (cs : List CellForm) (b : List ℕ) → IsBytes b → length b ≤ limit
     → Tiles system p at cs b → AllByRecursion (IsRead system limit) cs

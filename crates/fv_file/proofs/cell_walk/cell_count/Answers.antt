@@ -1,4 +1,4 @@
-use Rattle.std.proofs.Common.{◌+◌, rules}
+use Rattle.std.proofs.Common.{rules}
 use Rattle.fv_base.proofs.Laws.{◌∙◌, ap, arith, length, length-drop, refl, sym, eq-eqb, common_steps, not_equal}
 use Rattle.fv_file.proofs.StrideLemmas.{all_counted, one_counted}
 use Rattle.fv_file.proofs.cell_walk.cell_count.Goals as goal

@@ -1,5 +1,4 @@
 use Rattle.fv_base.proofs.Laws.{◌∙◌, arith}
-use Rattle.fv_file.specs.inner.CellVerdicts.{is_unfinished}
 use Rattle.fv_file.proofs.StrideLemmas.{stride_here}
 use Rattle.fv_file.proofs.cell_walk.stride_at.Goals as goal
 
