@@ -7,7 +7,7 @@ use Rattle.std.proofs.Common.{◌≡◌, ◌≤◌, ◌+◌, ◌-◌, ℕ, [], �
 use Rattle.fv_base.proofs.Laws.{length-append, drop-drop, drop-append_seam, AllByRecursion, IsBytes, bytes_back, bytes_front, field-append_front}
 use Rattle.fv_base.specs.declared.flash.FileSystem.{FileSystem}
 use Rattle.fv_base.specs.declared.flash.Polarity.{Polarity}
-use Rattle.fv_file.specs.Words.{CellForm, Valid, Pad, Dead, Stub, Free, IsCell, IsFilled, Tiles, offset_of}
+use Rattle.fv_file.specs.Words.{CellForm, Valid, Pad, IsCell, IsFilled, Tiles, offset_of}
 use Rattle.fv_file.specs.declared.head.FileHead.{FileHead}
 use Rattle.fv_file.proofs.CellPartLemmas.{filled_span, file_made_up, not_empty}
 use Rattle.fv_file.proofs.FileReadLemmas.{FileRead, cell_read_in, payload_behind}
