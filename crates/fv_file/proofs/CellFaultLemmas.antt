@@ -1,18 +1,14 @@
 -- The first fault of a body is within the body, or at its end.
-use Rattle.std.proofs.Common.{◌≡◌, ◌≤◌, ℕ, suc, ◌+◌, List, [], ◌∷◌, length, drop, ap, refl, sym, ◌∙◌, arith, not, Bool, true, false}
-use Rattle.std.specs.Prelude.{Option, nat_le, ◌&&◌, ◌==◌, slice_index}
-use Rattle.std.specs.List.{AllByRecursion}
-use Rattle.std.proofs.lemmas.List.{length-drop}
-use Rattle.std.proofs.lemmas.Bool.{leb-true}
-use Rattle.fv_base.proofs.Laws.{and_split, first_among, common_steps}
-use Rattle.fv_base.specs.Words.{Check, check, IsFirstFault, erased_byte}
+use Rattle.std.proofs.Common.{◌≡◌, ◌≤◌, ◌<◌, ◌⊎◌, ℕ, ◌+◌, [], ◌∷◌, ◌==◌}
+use Rattle.fv_base.proofs.Laws.{inl, inr, Some, suc, List, length, drop, refl, arith, Bool, true, false, Option, length-drop, cases_lt, first_is}
+use Rattle.fv_base.proofs.Laws.{not_at_most, one_fault, outer_fault, AllByRecursion, first_among, common_steps, Check, IsFirstFault, erased_byte}
 use Rattle.fv_base.specs.declared.fault.Fault.{Fault}
 use Rattle.fv_base.specs.declared.flash.FileSystem.{FileSystem}
 use Rattle.fv_base.specs.declared.flash.Polarity.{Polarity}
 use Rattle.fv_base.specs.declared.fault.FaultKind.TheVariants as kinds
-use Rattle.fv_file.specs.Words.{IsFirstCellFault, cell_checks, file_checks, leading_count, state_checks, bits_of}
+use Rattle.fv_file.specs.Words.{IsFirstCellFault, cell_checks, file_checks, leading_count, state_checks}
 use Rattle.fv_file.specs.declared.state.FileState.{FileState}
-use Rattle.fv_file.specs.declared.state.FileState.TheVariants as states
+use Rattle.fv_base.specs.inner.Verdicts.{first_fault}
 
 -- the number of leading bytes of one value is at most the number of bytes
 run_within : (e : ℕ) (r : List ℕ) → leading_count e r ≤ length r
@@ -38,20 +34,17 @@ module _ (at : ℕ) (r : List ℕ) where
 
   -- the first fault of a cell is within the bytes from its place on, or at their end
   cell_within : (s : FileSystem) (p : Polarity) (f : Fault) → IsFirstFault (cell_checks s p at r) f → f.place.offset ≤ at + length r
-  cell_within s p f ([], c, after, is, held, fails, fault) =
-      let e : ℕ = erased_byte p in
-      let first : c ≡ check (nat_le 24 (length r) && not (bits_of p (slice_index r 23) == 0)) kinds.FreeSpace (at + leading_count e r) = cc in
-      let place : f.place.offset ≡ at + leading_count e r =
-      ap (λ (g : Fault). g.place.offset) fault ∙ ap (λ (d : Check Fault). d.fault.place.offset) first in
-      omega (arith, place, run_within e r)
-  cell_within s p f (d ∷ ds, c, after, is, held, fails, fault) =
-      let e : ℕ = erased_byte p in
-      let used : Bool = not (bits_of p (slice_index r 23) == 0) in
-      let first : d ≡ check (nat_le 24 (length r) && used) kinds.FreeSpace (at + leading_count e r) = cc in
-      let holds : (nat_le 24 (length r) && used) ≡ true = ap (λ (g : Check Fault). g.holds) (sym first) ∙ held.0 in
-      let long : 24 ≤ length r = leb-true _ _ (and_split (nat_le 24 (length r)) used holds).0 in
-      let low : at + leading_count e r ≤ at + length r = omega (arith, run_within e r) in
-      first_among (λ (g : Fault). g.place.offset ≤ at + length r) _ f (low, state_within _ s long) (d ∷ ds, c, after, is, held, fails, fault)
+  cell_within s p f first = go (cases_lt (length r) 24)
+    where
+      low : at + leading_count (erased_byte p) r ≤ at + length r
+      low = omega (arith, run_within (erased_byte p) r)
+
+      go : (length r < 24) ⊎ (24 ≤ length r) → f.place.offset ≤ at + length r
+      go (inr long) = first_among (λ (g : Fault). g.place.offset ≤ at + length r) _ f (low, state_within _ s long) first
+      go (inl short) =
+          let stray : Fault = outer_fault kinds.FreeSpace (at + leading_count (erased_byte p) r) in
+          let is : first_fault (cell_checks s p at r) ≡ Some stray = rw (not_at_most 24 (length r) short) in
+          rw (one_fault (cell_checks s p at r) f stray first (first_is (cell_checks s p at r) stray is)) low
 
 -- the first fault of the cells of a body is within the body, or at its end
 pub body_within : (s : FileSystem) (p : Polarity) (from : ℕ) (body : List ℕ) (f : Fault) → IsFirstCellFault s p from body f

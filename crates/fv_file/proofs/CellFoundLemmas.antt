@@ -1,28 +1,20 @@
 -- If the checks of a cell hold, the bytes begin with the cell that State and the header describe. A file and its filler
 -- lie within the bytes, because the number of bytes is a multiple of 8. A header under construction or an invalid
 -- header lies within the bytes, because the only check of such a cell says so.
-use Rattle.std.proofs.Common.{◌≡◌, ◌≤◌, ◌<◌, ℕ, ◌+◌, ◌-◌, ◌*◌, ◌/◌, ◌%◌, List, length, take, drop, inl, inr, refl, sym, ap, ◌∙◌}
-use Rattle.std.proofs.Common.{subst, arith, Bool, true, false, length-drop}
-use Rattle.std.specs.Prelude.{◌==◌, ◌⊎◌, not, nat_le, slice_index, Option, None, Some, if◌then◌else◌}
-use Rattle.std.proofs.lemmas.Bool.{leb-true, eqb-true, eq-eqb}
-use Rattle.std.proofs.lemmas.List.{length-take-le, get_or-take}
-use Rattle.std.proofs.Math.Seq.{take-add}
-use Rattle.fv_base.specs.Words.{AllHold, Check, up_to_8}
-use Rattle.fv_base.specs.declared.fault.Fault.{Fault}
+use Rattle.std.proofs.Common.{◌≡◌, ◌≤◌, ◌<◌, ℕ, ◌-◌, ◌%◌, add-sub_of_le, ◌==◌, if◌then◌else◌, leb-true}
+use Rattle.fv_base.proofs.Laws.{List, length, take, drop, refl, sym, arith, Bool, true, false, length-drop, not, nat_le, slice_index, Option, None}
+use Rattle.fv_base.proofs.Laws.{Some, eqb-true, eq-eqb, length-take-le, get_or-take, take-add, AllHold, up_to_8, all_hold, and_split, common_steps}
 use Rattle.fv_base.specs.declared.flash.FileSystem.{FileSystem}
 use Rattle.fv_base.specs.declared.flash.Polarity.{Polarity}
 use Rattle.fv_base.specs.inner.Verdicts.{first_fault}
-use Rattle.fv_base.proofs.Laws.{all_hold, and_split, common_steps}
-use Rattle.fv_file.specs.Words.{CellForm, Valid, Pad, Dead, Stub, offset_of, is_free, IsFilled, IsCell, cell_len, is_large}
-use Rattle.fv_file.specs.Words.{file_header_len_at, file_size_at, payload_at, state_checks, cell_checks, attributes_at}
-use Rattle.fv_file.specs.Words.{head_in, pad_kind, StateOf, bits_of, state_of, is_alive}
+use Rattle.fv_file.specs.Words.{CellForm, Valid, Pad, Dead, Stub, offset_of, is_free, IsFilled, IsCell, cell_len, is_large, file_header_len_at}
+use Rattle.fv_file.specs.Words.{file_size_at, payload_at, state_checks, cell_checks, attributes_at, head_in, pad_kind, StateOf, bits_of, state_of}
+use Rattle.fv_file.specs.Words.{is_alive}
 use Rattle.fv_file.specs.declared.state.FileState.{FileState}
 use Rattle.fv_file.specs.inner.CellVerdicts.{cell_in, cell_of, StateSort, sort_of, sort_checks}
 use Rattle.fv_file.specs.inner.CellVerdicts as sorts
-use Rattle.fv_file.specs.declared.state.FileState.TheVariants as states
 use Rattle.fv_file.proofs.FileLemmas.{header_least, FileAt, file_at}
-use Rattle.fv_file.proofs.SortLemmas.{StatesOf, sorted}
-use Rattle.fv_file.proofs.StateLemmas.{free_bits}
+use Rattle.fv_file.proofs.SortLemmas.{StatesOf, sorted, free_bits}
 
 -- the bytes begin with a cell that is not free
 pub record CellStandsAt (system : FileSystem) (polarity : Polarity) (at : ℕ) (c : CellForm) (r : List ℕ) : Type 0 where
@@ -42,37 +34,28 @@ filled_stands s p st at r c in_eights f used place span cell =
     let n : ℕ = file_size_at r in
     let m : ℕ = cell_len c in
     let above : n ≤ m = omega (arith, span) in
-    let multiple : m % 8 ≡ 0 = ap (λ (k : ℕ). k % 8) span ∙ eighth n in
-    let within : m ≤ length r = subst (λ (k : ℕ). k ≤ length r) (sym span) (omega (arith, f.within, in_eights)) in
+    let multiple : m % 8 ≡ 0 = omega (arith, span) in
+    let within : m ≤ length r = omega (arith, span, f.within, in_eights) in
     let long : length (take m r) ≡ m = length-take-le m r within in
-    let behind : length (take (m - n) (drop n r)) ≡ m - n = length-take-le (m - n) (drop n r) (omega (arith, length-drop n r, within)) in
-    let filled : IsFilled s p (head_in st r) (payload_at r) (take m r) = record {
-      file = take n r;
-      filler = take (m - n) (drop n r);
-      text = ap (λ (k : ℕ). take k r) (parts m n above) ∙ take-add n (m - n) r;
-      is_file = f.is_file;
-      short = omega (arith, behind, span);
-      multiple = ap (λ (k : ℕ). k % 8) long ∙ multiple;
-    } in
     record {
       not_free = used;
       place = place;
       within = within;
       some = omega (arith, f.least, header_least (is_large (attributes_at r)), above);
       multiple = multiple;
-      cell = cell filled (sym long);
+      cell = cell (record {
+        file = take n r;
+        filler = take (m - n) (drop n r);
+        text = rw (add-sub_of_le above) at (take-add n (m - n) r);
+        is_file = f.is_file;
+        short = omega (arith, length-take-le (m - n) (drop n r) (omega (arith, length-drop n r, within)), span);
+        multiple = rw long multiple;
+      }) (sym long);
     }
-  where
-    parts : (m k : ℕ) → k ≤ m → m ≡ k + (m - k)
-    parts m k l = omega arith
 
-    eighth : (n : ℕ) → (n + 7) / 8 * 8 % 8 ≡ 0
-    eighth n = omega arith
-
-stub_stands : (s : FileSystem) (p : Polarity) (at : ℕ) (r : List ℕ) → file_header_len_at r ≤ length r
-    → (StateOf (slice_index r 23) p states.Construction ⊎ StateOf (slice_index r 23) p states.HeaderInvalid)
-    → CellStandsAt s p at (Stub at (file_header_len_at r)) r
-stub_stands s p at r within state = grind (arith, common_steps, header_least, length-take-le, get_or-take)
+stub_stands : (s : FileSystem) (p : Polarity) (at : ℕ) (r : List ℕ) (st : FileState) → file_header_len_at r ≤ length r
+    → StateOf (slice_index r 23) p st → StatesOf sorts.Unfinished st → CellStandsAt s p at (Stub at (file_header_len_at r)) r
+stub_stands s p at r st within state is = grind (arith, common_steps, header_least, length-take-le, get_or-take)
 
 -- if the State byte shows a state, and the checks for the sort of this state hold, the bytes begin with a cell of this
 -- sort
@@ -81,12 +64,8 @@ sort_stands : (s : FileSystem) (p : Polarity) (st : FileState) (at : ℕ) (r : L
     → (k : StateSort) → StatesOf k st → AllHold (sort_checks k s (is_alive st) at r)
     → CellStandsAt s p at (cell_of k at (head_in st r) (payload_at r)) r
 sort_stands s p st at r in_eights long state used sorts.Erased is all =
-    let none : bits_of p (slice_index r 23) ≡ 0 = free_bits p (slice_index r 23) (subst (λ (t : FileState). StateOf (slice_index r 23) p t) is state) in
-    cc (used, eq-eqb _ 0 none)
-sort_stands s p st at r in_eights long state used sorts.Unfinished (inl is) all =
-    stub_stands s p at r (leb-true _ _ all.0) (inl (subst (λ (t : FileState). StateOf (slice_index r 23) p t) is state))
-sort_stands s p st at r in_eights long state used sorts.Unfinished (inr is) all =
-    stub_stands s p at r (leb-true _ _ all.0) (inr (subst (λ (t : FileState). StateOf (slice_index r 23) p t) is state))
+    cc (used, eq-eqb _ 0 (free_bits p (slice_index r 23) (rw is at state)))
+sort_stands s p st at r in_eights long state used sorts.Unfinished is all = stub_stands s p at r st (leb-true _ _ all.0) state is
 sort_stands s p st at r in_eights long state used sorts.Dead is all =
     filled_stands s p st at r (Dead at (up_to_8 (file_size_at r)) st) in_eights (file_at s p st at r long state all) refl refl refl
     (λ filled len. (head_in st r, payload_at r, filled, refl, is, len))
@@ -110,5 +89,4 @@ cell_stands s p at r in_eights none =
         → not (bits_of p (slice_index r 23) == 0) ≡ true → AllHold (state_checks o s at r) → CellStandsAt s p at (cell_in o at r) r
     by_state None e long used all = let failed = all.0 in cc
     by_state (Some st) e long used all =
-        sort_stands s p st at r in_eights long e used (sort_of st) (sorted st).states
-        (subst (λ (cs : List (Check Fault)). AllHold cs) ((sorted st).checks s at r) all)
+        sort_stands s p st at r in_eights long e used (sort_of st) (sorted st).states (rw (sorted st).checks at all)

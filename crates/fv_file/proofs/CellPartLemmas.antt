@@ -1,8 +1,7 @@
 -- A file with its filler ends at a multiple of 8, the header and the data of a file make up its size, and every cell
 -- has bytes.
-use Rattle.std.proofs.lemmas.Grind.{common_steps}
-use Rattle.std.proofs.Common.{◌≡◌, ◌≤◌, ◌+◌, ℕ, List, length, arith, true, length-append}
-use Rattle.fv_base.specs.Words.{AllAre, erased_byte, up_to_8}
+use Rattle.std.proofs.Common.{◌≡◌, ◌≤◌, ◌+◌, ℕ}
+use Rattle.fv_base.proofs.Laws.{List, length, arith, true, length-append, common_steps, AllAre, erased_byte, up_to_8}
 use Rattle.fv_base.specs.declared.flash.FileSystem.{FileSystem}
 use Rattle.fv_base.specs.declared.flash.Polarity.{Polarity}
 use Rattle.fv_file.specs.Words.{CellForm, Free, offset_of, is_free, IsFilled, IsCell, cell_len, LengthsAgree}

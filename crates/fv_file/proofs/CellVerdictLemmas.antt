@@ -2,29 +2,26 @@
 -- checks of a cell. So a cell that is read begins at its place, and a fault is the fault of the first check that does
 -- not hold. Conversely, every cell that begins at a place is read. So two cells at one place are equal, and if a check
 -- does not hold, no cell begins there.
-use Rattle.std.proofs.Common.{◌≡◌, ℕ, ◌%◌, List, [], ◌++◌, length, refl, sym, ap, ◌∙◌, subst, arith, Bool, true, false, length-append, append-nil}
-use Rattle.std.specs.Prelude.{◌==◌, ◌≢◌, nat_lt, slice_index, Option, None, Some, Ok, Err}
-use Rattle.std.proofs.lemmas.Bool.{leb-true, le-leb, ltb-true, ltb-false, eqb-true, eq-eqb}
+use Rattle.std.proofs.Common.{◌≡◌, ◌≤◌, ℕ, ◌%◌, [], ◌++◌, ◌==◌, ◌≢◌, ◌⊎◌, leb-true}
+use Rattle.fv_base.proofs.Laws.{inl, inr, List, length, refl, sym, ap, ◌∙◌, subst, arith, Bool, true, false, append-nil, nat_lt, slice_index, Option}
+use Rattle.fv_base.proofs.Laws.{None, Some, Ok, Err, le-leb, ltb-true, ltb-false, eqb-true, eq-eqb, IsFirstFault, Which, Fails, AllAre, erased_byte}
+use Rattle.fv_base.proofs.Laws.{all_hold, and_split, first_is, none_fails, not_at_most, verdict_err, verdict_ok, common_steps}
 use Rattle.fv_base.specs.inner.Verdicts.{first_fault, verdict_by}
-use Rattle.fv_base.specs.Words.{Check, IsFirstFault, Which, Fails, AllAre, erased_byte}
 use Rattle.fv_base.specs.declared.fault.Fault.{Fault}
 use Rattle.fv_base.specs.declared.flash.FileSystem.{FileSystem}
 use Rattle.fv_base.specs.declared.flash.Polarity.{Polarity}
 use Rattle.fv_base.specs.declared.flash.Polarity.TheVariants.{Ones, Zeros}
-use Rattle.fv_base.proofs.Laws.{all_hold, and_split, first_is, none_fails, not_at_most, verdict_err, verdict_ok, common_steps}
 use Rattle.fv_file.specs.Words.{CellForm, Free, offset_of, is_free, IsCell, cell_len, payload_at, file_checks, state_checks, cell_checks, head_in}
 use Rattle.fv_file.specs.Words.{bits_of, state_of, is_alive}
 use Rattle.fv_file.specs.declared.state.FileState.{FileState}
-use Rattle.fv_file.specs.inner.CellVerdicts.{file_verdict, cell_in, cell_of, cell_with, sort_verdict, state_verdict, cell_verdict, StateSort, sort_of}
-use Rattle.fv_file.specs.inner.CellVerdicts.{sort_checks}
+use Rattle.fv_file.specs.inner.CellVerdicts.{file_verdict, cell_in, cell_of, cell_with, state_verdict, cell_verdict, StateSort}
 use Rattle.fv_file.specs.inner.CellVerdicts as sorts
 use Rattle.fv_file.specs.declared.state.FileState.TheVariants as states
 use Rattle.fv_file.proofs.CellFoundLemmas.{CellStandsAt, cell_stands}
 use Rattle.fv_file.proofs.CellPartLemmas.{cell_span, free_all}
 use Rattle.fv_file.proofs.CellReadLemmas.{CellIsRead, cell_reads}
 use Rattle.fv_file.proofs.ErasedByteLemmas.{all_at}
-use Rattle.fv_file.proofs.SortLemmas.{StatesOf, sorted}
-use Rattle.fv_file.proofs.StateLemmas.{free_bits, bits_free}
+use Rattle.fv_file.proofs.SortLemmas.{free_bits, bits_free}
 use Rattle.fv_file.proofs.TilingLemmas.{OneCell}
 
 -- ---- the verdict on the bytes at a place
@@ -39,22 +36,17 @@ file_is s st k at r = go (first_fault (file_checks s (is_alive st) at r)) where
   go None = refl
   go (Some f) = refl
 
--- for a state of each sort, the verdict is the verdict of the checks of this sort; erased bytes are rejected earlier
-sort_is : (s : FileSystem) (p : Polarity) (st : FileState) (k : StateSort) (at : ℕ) (r : List ℕ) → k ≢ sorts.Erased
-    → sort_verdict k st s p at r
-    ≡ verdict_by (first_fault (sort_checks k s (is_alive st) at r)) (cell_of k at (head_in st r) (payload_at r))
-sort_is s p st sorts.Erased at r used = absurd (used refl)
-sort_is s p st sorts.Unfinished at r used = refl
-sort_is s p st sorts.Dead at r used = file_is s st sorts.Dead at r
-sort_is s p st sorts.Valid at r used = file_is s st sorts.Valid at r
-
 -- for a State byte, whether it shows a state or not, the verdict is the verdict of the checks of the state
 state_is : (s : FileSystem) (p : Polarity) (o : Option FileState) (at : ℕ) (r : List ℕ) → o ≢ Some states.Free
     → state_verdict o s p at r ≡ verdict_by (first_fault (state_checks o s at r)) (cell_in o at r)
 state_is s p None at r used = refl
-state_is s p (Some st) at r used =
-    sort_is s p st (sort_of st) at r (λ e. used (ap Some (subst (λ (k : StateSort). StatesOf k st) e (sorted st).states)))
-    ∙ ap (λ (cs : List (Check Fault)). verdict_by (first_fault cs) (cell_in (Some st) at r)) (sym ((sorted st).checks s at r))
+state_is s p (Some states.Free) at r used = absurd (used refl)
+state_is s p (Some states.Construction) at r used = refl
+state_is s p (Some states.HeaderInvalid) at r used = refl
+state_is s p (Some states.HeaderValid) at r used = file_is s states.HeaderValid sorts.Dead at r
+state_is s p (Some states.Deleted) at r used = file_is s states.Deleted sorts.Dead at r
+state_is s p (Some states.DataValid) at r used = file_is s states.DataValid sorts.Valid at r
+state_is s p (Some states.Marked) at r used = file_is s states.Marked sorts.Valid at r
 
 -- for any bytes, the verdict is the verdict of the checks of a cell
 verdict_is : (s : FileSystem) (p : Polarity) (at : ℕ) (r : List ℕ)
@@ -89,44 +81,38 @@ pub no_bits : (p : Polarity) (b : ℕ) → b ≡ erased_byte p → bits_of p b �
 no_bits Ones b e = rw e refl
 no_bits Zeros b e = rw e refl
 
--- erased bytes are not read as a cell
-erased_refused : (s : FileSystem) (p : Polarity) (at : ℕ) (r : List ℕ) (c : CellForm) → AllAre (erased_byte p) r → CellIsRead s p at c r → ⊥
-erased_refused s p at r c all is = grind (arith, common_steps, and_split, all_hold, leb-true, no_bits, all_at, eq-eqb)
+-- the State byte of a cell that is read is not erased
+pub read_used : (s : FileSystem) (p : Polarity) (at : ℕ) (r : List ℕ) (c : CellForm) → CellIsRead s p at c r
+    → (24 ≤ length r) × (slice_index r 23 ≢ erased_byte p)
+read_used s p at r c is = grind (arith, common_steps, and_split, all_hold, leb-true, no_bits, eq-eqb)
 
--- the bytes of a free cell with nothing after it are erased
-erased_at : (s : FileSystem) (p : Polarity) (c : CellForm) (u w : List ℕ) → IsCell s p c u → is_free c ≡ true → w ≡ []
-    → AllAre (erased_byte p) (u ++ w)
-erased_at s p c u w is free none = grind (arith, common_steps, append-nil, free_all)
+-- a cell that begins the bytes is read, or it is free, and all bytes are erased
+abbrev Begins : FileSystem → Polarity → ℕ → CellForm → List ℕ → Type 0
+Begins s p at c r = CellIsRead s p at c r ⊎ (AllAre (erased_byte p) r × (c ≡ Free at (length r)))
+
+begins : (s : FileSystem) (p : Polarity) (at : ℕ) (c : CellForm) (r u w : List ℕ) → IsCell s p c u → offset_of c ≡ at → r ≡ u ++ w
+    → (is_free c ≡ true → w ≡ []) → Begins s p at c r
+begins s p at c r u w is o e last = go (is_free c) refl where
+  go : (f : Bool) → is_free c ≡ f → Begins s p at c r
+  go false f = inl (rw (← o, e) (cell_reads s p c u w is f))
+  go true f = let free = free_all s p c u is f in inr (rw (e, last f, append-nil) (free.1, rw (← o) free.0))
+
+one_begun : (s : FileSystem) (p : Polarity) (at : ℕ) (c d : CellForm) (r : List ℕ) → Begins s p at c r → Begins s p at d r → c ≡ d
+one_begun s p at c d r (inl a) (inl b) = sym a.read ∙ b.read
+one_begun s p at c d r (inr a) (inr b) = a.1 ∙ sym b.1
+one_begun s p at c d r (inl a) (inr b) = let used = read_used s p at r c a in absurd (used.1 (all_at _ r 23 b.0 (omega (arith, used.0))))
+one_begun s p at c d r (inr a) (inl b) = let used = read_used s p at r d b in absurd (used.1 (all_at _ r 23 a.0 (omega (arith, used.0))))
 
 pub one_cell : (s : FileSystem) (p : Polarity) → OneCell s p
-one_cell s p c d u v w z is is' o last last' e = go (is_free c) refl (is_free d) refl
-  where
-    go : (f : Bool) → is_free c ≡ f → (g : Bool) → is_free d ≡ g → (c ≡ d) × (length u ≡ length v)
-    go false f false g =
-        let a = cell_reads s p c u w is f in
-        let b : CellIsRead s p (offset_of c) d (u ++ w) = subst (λ k. CellIsRead s p k d (u ++ w)) (sym o)
-        (subst (λ r. CellIsRead s p (offset_of d) d r) (sym e) (cell_reads s p d v z is' g)) in
-        let same : c ≡ d = sym a.read ∙ b.read in
-        (same, sym (cell_span s p c u is) ∙ ap cell_len same ∙ cell_span s p d v is')
-    go true f false g =
-        let all = subst (λ (l : List ℕ). AllAre (erased_byte p) l) e (erased_at s p c u w is f (last f)) in
-        absurd (erased_refused s p (offset_of d) (v ++ z) d all (cell_reads s p d v z is' g))
-    go false f true g =
-        let all = subst (λ (l : List ℕ). AllAre (erased_byte p) l) (sym e) (erased_at s p d v z is' g (last' g)) in
-        absurd (erased_refused s p (offset_of c) (u ++ w) c all (cell_reads s p c u w is f))
-    go true f true g =
-        let n : length u ≡ length v = omega (arith, ap length e, length-append u w, length-append v z, ap length (last f), ap length (last' g)) in
-        ((free_all s p c u is f).0 ∙ ap (λ k. Free k (length u)) o ∙ ap (λ k. Free (offset_of d) k) n ∙ sym (free_all s p d v is' g).0, n)
+one_cell s p c d u v w z is is' o last last' e =
+    let same = one_begun s p _ c d (u ++ w) (begins s p _ c _ u w is o refl last) (begins s p _ d _ v z is' refl e last') in
+    (same, sym (cell_span s p c u is) ∙ ap cell_len same ∙ cell_span s p d v is')
 
 -- if a check fails, no cell begins there
 pub no_cell : (which : Which) (s : FileSystem) (p : Polarity) (at : ℕ) (r : List ℕ) (f : Fault) (c : CellForm) (u w : List ℕ)
     → Fails which (cell_checks s p at r) f → (AllAre (erased_byte p) r → ⊥)
     → IsCell s p c u → offset_of c ≡ at → r ≡ u ++ w → (is_free c ≡ true → w ≡ []) → ⊥
-no_cell which s p at r f c u w bad differs is o e last = go (is_free c) refl
-  where
-    go : (g : Bool) → is_free c ≡ g → ⊥
-    go true g = differs (subst (λ (l : List ℕ). AllAre (erased_byte p) l) (sym e) (erased_at s p c u w is g (last g)))
-    go false g =
-        let read : CellIsRead s p at c r =
-        subst (λ l. CellIsRead s p at c l) (sym e) (subst (λ k. CellIsRead s p k c (u ++ w)) o (cell_reads s p c u w is g)) in
-        none_fails which (cell_checks s p at r) f bad (all_hold (cell_checks s p at r) read.checked)
+no_cell which s p at r f c u w bad differs is o e last = elim (begins s p at c r u w is o e last) [
+  | inl read ↦ none_fails which (cell_checks s p at r) f bad (all_hold (cell_checks s p at r) read.checked)
+  | inr free ↦ differs free.0
+]

@@ -1,17 +1,13 @@
 -- A walk over the cells of a body. Each step passes the cell at the start of the part that is left (`stands_walked`,
 -- `free_walked`). The cells that a walk passed tile the bytes that it passed (`walked_on`), so they tile the body if
 -- nothing is left (`walk_ends`). If the next cell has a fault, this is the first fault of the body (`walk_fails`).
-use Rattle.std.proofs.lemmas.Grind.{common_steps}
-use Rattle.std.proofs.Common.{◌≡◌, ◌<◌, ℕ, ◌+◌, List, [], ◌∷◌, ◌++◌, length, take, drop, refl, sym, ap, ◌∙◌, subst, arith}
-use Rattle.std.proofs.Common.{length-append, append_assoc, append-nil}
-use Rattle.std.proofs.lemmas.List.{take-append-drop, length-take-le}
-use Rattle.std.proofs.Math.Seq.{drop-append_seam, drop-length, take-append_seam}
-use Rattle.fv_base.specs.Words.{AllAre, erased_byte, IsFirstFault}
+use Rattle.std.proofs.Common.{◌≡◌, ◌<◌, ℕ, ◌+◌, [], ◌∷◌, ◌++◌, List, length, take, drop, refl, sym, ap, ◌∙◌, arith, length-append, append_assoc}
+use Rattle.fv_base.proofs.Laws.{append-nil, take-append-drop, length-take-le, common_steps, drop-append_seam, take-append_seam, AllAre, erased_byte}
+use Rattle.std.proofs.Math.Seq.{drop-length}
 use Rattle.fv_base.specs.declared.fault.Fault.{Fault}
 use Rattle.fv_base.specs.declared.flash.FileSystem.{FileSystem}
 use Rattle.fv_base.specs.declared.flash.Polarity.{Polarity}
-use Rattle.fv_file.specs.Words.{CellForm, Free, offset_of, IsCell, Tiles, cell_len, cell_checks, IsFirstCellFault}
-use Rattle.fv_file.specs.Words.{CellsLeft, left_at, TileLeft, Walked, IsNextFault}
+use Rattle.fv_file.specs.Words.{CellForm, Free, offset_of, IsCell, cell_len, IsFirstCellFault, CellsLeft, left_at, TileLeft, Walked, IsNextFault}
 use Rattle.fv_file.proofs.CellFoundLemmas.{CellStandsAt}
 use Rattle.fv_file.proofs.CellPartLemmas.{not_empty}
 use Rattle.fv_file.proofs.TilingLemmas.{one_more, none_more}
@@ -61,8 +57,7 @@ pub walked_on : (a b d : CellsLeft) (cs : List CellForm) (c : CellForm) → Walk
 walked_on a b d cs c w v =
     let (is, o) = one_passed b d c v in
     let free = w.none_free (walked_some b d c v) in
-    let part = subst (λ (s : FileSystem). IsCell s a.polarity c v.passed) w.system
-    (subst (λ (p : Polarity). IsCell b.system p c v.passed) w.polarity is) in
+    let part : IsCell a.system a.polarity c v.passed = rw (← w.system, ← w.polarity) is in
     record {
       passed = w.passed ++ v.passed;
       text = w.text ∙ ap (λ (l : List ℕ). w.passed ++ l) v.text ∙ sym (append_assoc w.passed v.passed d.rest);
@@ -82,21 +77,15 @@ pub walk_fails : (a b : CellsLeft) (cs : List CellForm) (f : Fault) → Walked a
     → IsFirstCellFault a.system a.polarity a.at a.rest f
 walk_fails a b cs f w (used, fails) =
     let n : ℕ = length w.passed in
-    let behind : drop n a.rest ≡ b.rest = ap (drop n) w.text ∙ drop-append_seam w.passed b.rest in
-    let front : take n a.rest ≡ w.passed = ap (take n) w.text ∙ take-append_seam w.passed b.rest in
     let some : 0 < length b.rest = some_of b.rest used in
     record {
       cells = cs;
       at = n;
-      tiled = subst (Tiles a.system a.polarity a.at cs) (sym front) w.tiled;
+      tiled = rw (w.text, take-append_seam) w.tiled;
       none_free = w.none_free some;
       inside = omega (arith, some, ap length w.text, length-append w.passed b.rest);
-      not_erased = subst (λ (r : List ℕ). AllAre (erased_byte a.polarity) r → ⊥) (sym behind)
-          (subst (λ (p : Polarity). AllAre (erased_byte p) b.rest → ⊥) w.polarity used);
-      fails = subst (λ (r : List ℕ). IsFirstFault (cell_checks a.system a.polarity (a.at + n) r) f) (sym behind)
-          (subst (λ (k : ℕ). IsFirstFault (cell_checks a.system a.polarity k b.rest) f) w.place
-          (subst (λ (p : Polarity). IsFirstFault (cell_checks a.system p b.at b.rest) f) w.polarity
-          (subst (λ (s : FileSystem). IsFirstFault (cell_checks s b.polarity b.at b.rest) f) w.system fails)));
+      not_erased = rw (w.text, drop-append_seam, ← w.polarity) used;
+      fails = rw (w.text, drop-append_seam, ← w.place, ← w.polarity, ← w.system) fails;
     }
   where
     some_of : (r : List ℕ) → (AllAre (erased_byte b.polarity) r → ⊥) → 0 < length r

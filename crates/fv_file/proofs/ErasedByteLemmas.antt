@@ -1,11 +1,9 @@
 -- A byte that does not have the value e shows that not all bytes have the value e.
-use Rattle.std.proofs.Common.{◌≡◌, ℕ, ◌<◌, [], ◌∷◌, zero, suc, List, length, get_or, refl, sym, arith, Bool, true, false}
-use Rattle.fv_base.proofs.Laws.{AllAre, all_are, all-all_are, all_are-true}
+use Rattle.std.proofs.Common.{◌≡◌, ℕ, ◌<◌, [], ◌∷◌}
+use Rattle.fv_base.proofs.Laws.{List, length, get_or, refl, sym, arith, Bool, true, false, at_index, AllAre, all_are, all-all_are, all_are-true}
 
 pub all_at : (e : ℕ) (x : List ℕ) (i : ℕ) → AllAre e x → i < length x → get_or x i 0 ≡ e
-all_at e [] i h l = absurd (omega arith)
-all_at e (a ∷ x) zero h l = h.0
-all_at e (a ∷ x) (suc i) h l = all_at e x i h.1 (omega arith)
+all_at e x i all l = at_index (λ (b : ℕ). b ≡ e) x i 0 all l
 
 -- if one byte does not have the value e, the test whether all bytes have it is false
 pub not_all : (e : ℕ) (x : List ℕ) (i : ℕ) → i < length x → (get_or x i 0 ≡ e → ⊥) → false ≡ all_are e x

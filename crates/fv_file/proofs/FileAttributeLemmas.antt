@@ -1,7 +1,7 @@
 -- The attribute bits of a file: tests of single bits, and attributes with and without bit 0x01, which says that the
 -- header is large.
-use Rattle.std.proofs.Common.{◌≡◌, ℕ, ◌+◌, ◌/◌, ◌%◌, ◌<◌, ◌*◌, ◌==◌, bit_and, bit_or, ap, ◌∙◌, arith, true, false, Bool, refl, slice_index}
-use Rattle.fv_base.proofs.Laws.{common_steps, bit_at, nat_tests, and_pow, bit_at-lt, alignments, alignment_of, one_bit}
+use Rattle.std.proofs.Common.{◌≡◌, ℕ, ◌+◌, ◌/◌, ◌%◌, ◌<◌, ◌*◌, ◌==◌, bit_and, bit_or, ap, ◌∙◌, arith, true, false}
+use Rattle.fv_base.proofs.Laws.{Bool, refl, slice_index, common_steps, bit_at, nat_tests, and_pow, bit_at-lt, alignments, alignment_of, one_bit}
 use Rattle.std.proofs.lemmas.Nat.{and_mask, or_disjoint}
 use Rattle.fv_file.specs.Words.{is_large, is_fixed, is_summed, with_large}
 

@@ -1,7 +1,7 @@
 -- The data of a file that was read lie after its header, and the file meets the conditions of a valid file.
-use Rattle.std.proofs.Common.{◌≡◌, ◌≢◌, ◌≤◌, ◌<◌, ◌+◌, ◌-◌, ℕ, ◌++◌, Bool, true, false, List, length, take, drop, sym, ap, ◌∙◌, subst, arith}
-use Rattle.std.proofs.Common.{length-append, length-drop, append_assoc, slice_index, length-take-le, take_at, drop_at}
-use Rattle.fv_base.proofs.Laws.{common_steps, bytes_of, IsBytes, bytes_back, bytes_front, bytes_take, field_below}
+use Rattle.std.proofs.Common.{◌≡◌, ◌≢◌, ◌≤◌, ◌<◌, ◌+◌, ◌-◌, ℕ, ◌++◌, Bool}
+use Rattle.fv_base.proofs.Laws.{true, false, List, length, take, drop, ap, ◌∙◌, subst, arith, length-append, length-drop, append_assoc, slice_index}
+use Rattle.fv_base.proofs.Laws.{length-take-le, take_at, drop_at, common_steps, bytes_of, IsBytes, bytes_back, bytes_front, bytes_take, field_below}
 use Rattle.fv_base.specs.declared.flash.FileSystem.{FileSystem}
 use Rattle.fv_base.specs.declared.flash.Polarity.{Polarity}
 use Rattle.fv_base.specs.declared.flash.FileSystem.TheVariants.{Ffs3}
@@ -43,9 +43,6 @@ cell_read_in system p limit at head payload x small most (filled, alive, sound) 
     let parts : IsBytes (h ++ payload) =
     subst IsBytes filled.is_file.text (bytes_front filled.file filled.filler (subst IsBytes filled.text small)) in
     let hb : IsBytes h = bytes_front h payload parts in
-    let bits : attribute_bits head.attributes ≡ slice_index h 19 = ap (λ (g : FileHead). attribute_bits g.attributes) is.fields in
-    let named : bytes_of head.name ≡ take 16 h = ap (λ (g : FileHead). bytes_of g.name) is.fields in
-    let kinds : head.kind ≡ slice_index h 18 = ap (λ (g : FileHead). g.kind) is.fields in
     let sizes : head.size ≡ file_size_in large h = ap (λ (g : FileHead). g.size) is.fields in
     let least : 24 ≤ length h = omega (arith, header_least large, is.header_length) in
     let whole : head.size ≡ length h + length payload =
@@ -53,14 +50,14 @@ cell_read_in system p limit at head payload x small most (filled, alive, sound) 
     let all : length x ≡ head.size + length filled.filler =
     omega (arith, ap length filled.text, length-append filled.file filled.filler, filled.is_file.size) in
     record {
-      name = ap length named ∙ length-take-le 16 h (omega (arith, least));
-      name_bytes = subst IsBytes (sym named) (bytes_take 16 h hb);
-      kind_small = subst (λ (n : ℕ). n < 256) (sym kinds) (hb 18);
-      attributes_small = subst (λ (n : ℕ). n < 256) (sym bits) (hb 19);
+      name = rw is.fields (length-take-le 16 h (omega (arith, least)));
+      name_bytes = rw is.fields (bytes_take 16 h hb);
+      kind_small = rw is.fields (hb 18);
+      attributes_small = rw is.fields (hb 19);
       kind = sound.kind;
       moves = sound.moves;
-      large = λ e. (is.large (ap is_large (sym bits) ∙ e)).0;
-      short = λ e. omega (arith, short_size large h (ap is_large (sym bits) ∙ e) is.header_length hb, sizes, whole, least);
+      large = λ e. (is.large (rw is.fields at e)).0;
+      short = λ e. omega (arith, short_size large h (rw is.fields at e) is.header_length hb, sizes, whole, least);
       within = omega (arith, least, whole, all, most);
       payload = bytes_back h payload parts;
     }

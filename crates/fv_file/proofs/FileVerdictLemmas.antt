@@ -1,9 +1,8 @@
 -- The verdict on a file is the fault of the first of its checks that does not hold. If this fault is Fixed, the header
 -- of the file is right, and its attributes have the bit (`marked_file`). If the header is right and the file is not
 -- fixed, its data decide (`data_wrong`, `data_right`).
-use Rattle.std.proofs.Common.{◌≡◌, ◌≢◌, ◌≤◌, ℕ, ◌+◌, ◌&&◌, ◌||◌, if◌then◌else◌, Bool, List, length, drop, true, false, not, refl, ap, ◌∙◌, arith, nat_le}
-use Rattle.std.proofs.Common.{Ok, Err, Option, None, Some, leb-true}
-use Rattle.fv_base.proofs.Laws.{common_steps, and_split, outer_fault}
+use Rattle.std.proofs.Common.{◌≡◌, ◌≢◌, [], ◌∷◌, ◌≤◌, ℕ, ◌+◌, ◌&&◌, ◌||◌, if◌then◌else◌, leb-true, Bool, List}
+use Rattle.fv_base.proofs.Laws.{length, true, false, not, refl, ap, arith, nat_le, Ok, Err, Option, Some, check, common_steps, and_split, outer_fault}
 use Rattle.fv_base.specs.inner.Verdicts.{first_fault}
 use Rattle.fv_base.specs.declared.fault.Fault.{Fault}
 use Rattle.fv_base.specs.declared.flash.FileSystem.{FileSystem}
@@ -14,7 +13,7 @@ use Rattle.fv_file.specs.inner.CellVerdicts.{file_verdict}
 use Rattle.fv_base.specs.declared.fault.FaultKind.TheVariants as kinds
 
 -- the test of the size says that the size is in its range
-pub sizes : (low n high : ℕ) (more : Bool) → (nat_le low n && (nat_le n high && more)) ≡ true → (low ≤ n) × (n ≤ high)
+pub sizes : (low n high : ℕ) (more : Bool) → (nat_le low n && (nat_le n high && more)) ≡ true → (low ≤ n) × (n ≤ high) × (more ≡ true)
 sizes low n high more h = grind (arith, common_steps, and_split, leb-true)
 
 -- the checks of the header hold
@@ -36,11 +35,11 @@ module _ (s : FileSystem) (st : FileState) (at : ℕ) (r : List ℕ) where
 
 -- ---- the fault Fixed
 
--- if the first fault of some checks is Fixed, and the first check has another fault, this check holds
+-- if the first fault of some checks is another fault than that of the first check, this check holds
 pub held : (holds : Bool) (fault : Fault) (more : Option Fault) (f : Fault) → (if holds then more else Some fault) ≡ Some f
-    → f.kind ≡ kinds.Fixed → fault.kind ≢ kinds.Fixed → (holds ≡ true) × (more ≡ Some f)
-held true fault more f is kind other = (refl, is)
-held false fault more f is kind other = let same : fault ≡ f = cc in absurd (other (ap (λ (g : Fault). g.kind) same ∙ kind))
+    → fault.kind ≢ f.kind → (holds ≡ true) × (more ≡ Some f)
+held true fault more f is other = (refl, is)
+held false fault more f is other = let same : fault ≡ f = cc in absurd (other (ap (λ (g : Fault). g.kind) same))
 
 -- the header is right, the data are checked, and the attributes have the bit
 pub record MarkedFile (s : FileSystem) (st : FileState) (at : ℕ) (r : List ℕ) (f : Fault) : Type 0 where
@@ -49,30 +48,23 @@ pub record MarkedFile (s : FileSystem) (st : FileState) (at : ℕ) (r : List ℕ
   pub fixed : is_fixed (attributes_at r) ≡ true
   pub fault : f ≡ outer_fault kinds.Fixed (at + 19)
 
+-- if the first fault of the checks of a file with these results is Fixed, its header is right, and it is fixed
+marked_tests : (form whole sum size skip fixed sound : Bool) (at : ℕ) (f : Fault)
+    → first_fault (
+    check form kinds.LargeFile (at + 19)
+    ∷ check whole kinds.FileSize (at + 20)
+    ∷ check sum kinds.FileHeaderSum at
+    ∷ check size kinds.FileSize (at + 20)
+    ∷ check (skip || not fixed) kinds.Fixed (at + 19)
+    ∷ check (skip || sound) kinds.FileSum (at + 17)
+    ∷ []
+    ) ≡ Some f → f.kind ≡ kinds.Fixed
+    → (form ≡ true) × (whole ≡ true) × (sum ≡ true) × (size ≡ true) × (skip ≡ false) × (fixed ≡ true) × (f ≡ outer_fault kinds.Fixed (at + 19))
+marked_tests form whole sum size skip fixed sound at f is kind = grind (arith, common_steps)
+
 pub marked_file : (s : FileSystem) (st : FileState) (at : ℕ) (r : List ℕ) (f : Fault) → first_fault (file_checks s (is_alive st) at r) ≡ Some f
     → f.kind ≡ kinds.Fixed → MarkedFile s st at r f
 marked_file s st at r f is kind =
-    let more : ℕ → Option Fault = λ n. first_fault (drop n (file_checks s (is_alive st) at r)) in
-    let form = held (may_be_large s r) (outer_fault kinds.LargeFile (at + 19)) (more 1) f is kind (λ k. cc) in
-    let whole = held (nat_le (file_header_len_at r) (length r)) (outer_fault kinds.FileSize (at + 20)) (more 2) f form.1 kind (λ k. cc) in
-    let sum = held (has_header_sum r) (outer_fault kinds.FileHeaderSum at) (more 3) f whole.1 kind (λ k. cc) in
-    let size = held (has_file_size r) (outer_fault kinds.FileSize (at + 20)) (more 4) f sum.1 kind (λ k. cc) in
-    let content = of_data (skips_data (is_alive st) r) (is_fixed (attributes_at r)) (has_file_sum r) size.1 in
-    record {
-      right = record { form = form.0; whole = whole.0; sum = sum.0; size = size.0 };
-      checked = content.0;
-      fixed = content.1;
-      fault = content.2;
-    }
-  where
-    of_data : (skip fixed sound : Bool)
-        → (if skip || not fixed then (if skip || sound then None else Some (outer_fault kinds.FileSum (at + 17)))
-        else Some (outer_fault kinds.Fixed (at + 19))) ≡ Some f
-        → (skip ≡ false) × (fixed ≡ true) × (f ≡ outer_fault kinds.Fixed (at + 19))
-    of_data true fixed sound is = cc
-    of_data false false true is = cc
-    of_data false false false is =
-        let same : outer_fault kinds.FileSum (at + 17) ≡ f = cc in
-        let other : kinds.FileSum ≡ kinds.Fixed = ap (λ (g : Fault). g.kind) same ∙ kind in
-        cc
-    of_data false true sound is = (refl, refl, cc)
+    let k = marked_tests (may_be_large s r) (nat_le (file_header_len_at r) (length r)) (has_header_sum r) (has_file_size r)
+    (skips_data (is_alive st) r) (is_fixed (attributes_at r)) (has_file_sum r) at f is kind in
+    record { right = record { form = k.0; whole = k.1; sum = k.2; size = k.3 }; checked = k.4; fixed = k.5; fault = k.6 }

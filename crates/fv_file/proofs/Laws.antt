@@ -2,16 +2,13 @@
 
 -- ---- a body and its cells
 
--- A body is tiled in one way. If a check fails, there is no tiling. Each cell lies within the volume.
-pub use Rattle.fv_file.proofs.BodyLemmas.{only_one, none_after, all_within}
+-- A body is tiled in one way. If a check fails, there is no tiling. Each cell lies within the volume. A body has at most
+-- one first fault, which is also a fault in the sense of `Any`. Cells tile a body, or it has a first fault.
+pub use Rattle.fv_file.proofs.BodyLemmas.{only_one, none_after, all_within, cell_fails, one_cell_fault, body_decided}
 -- The first fault of a body lies within it, or at its end.
 pub use Rattle.fv_file.proofs.CellFaultLemmas.{body_within}
 -- A walk passes one cell after another. At the end they tile the body. The fault of the next cell is the first fault.
 pub use Rattle.fv_file.proofs.CellWalkLemmas.{one_passed, walk_begins, walked_on, walk_ends, walk_fails}
--- A body has at most one first fault, which is also a fault in the sense of `Any`.
-pub use Rattle.fv_file.proofs.OneFaultLemmas.{cell_fails, one_cell_fault}
--- Cells tile a body, or it has a first fault.
-pub use Rattle.fv_file.proofs.DecidedLemmas.{body_decided}
 -- A cell has the length that follows from its fields. The header and the data of a file make up its size.
 pub use Rattle.fv_file.proofs.CellPartLemmas.{cell_span, made_up}
 -- There is at most one tiling. Cells that are not free, and one more cell, tile the joined bytes.
@@ -39,7 +36,7 @@ pub use Rattle.fv_file.proofs.FileAttributeLemmas.{fixed_with, summed_with, alig
 -- ---- headers that are written
 
 -- A written header is a list of bytes, and has the length of its form.
-pub use Rattle.fv_file.proofs.NewHeaderBytesLemmas.{state_small, bytes_header, length-header}
+pub use Rattle.fv_file.proofs.NewHeaderLemmas.{state_small, bytes_header, length-header}
 -- Written headers are read again as their fields, and with data and filler they are files and pads.
 pub use Rattle.fv_file.proofs.NewHeaderLemmas.{complement_small, file_written, pad_written, head_of_file, head_of_pad}
 -- No other bytes are the header of these fields.

@@ -5,7 +5,6 @@ pub mod CellPartLemmas
 pub mod CellReadLemmas
 pub mod CellVerdictLemmas
 pub mod CellWalkLemmas
-pub mod DecidedLemmas
 pub mod ErasedByteLemmas
 pub mod FileAttributeLemmas
 pub mod FileLemmas
@@ -15,11 +14,8 @@ pub mod FirstFileLemmas
 pub mod Laws
 pub mod MarkWalkLemmas
 pub mod MarkedFileLemmas
-pub mod NewHeaderBytesLemmas
 pub mod NewHeaderLemmas
-pub mod OneFaultLemmas
 pub mod SortLemmas
-pub mod StateLemmas
 pub mod StrideLemmas
 pub mod TiledCellLemmas
 pub mod TilingLemmas

@@ -1,16 +1,16 @@
 -- A walk over a body with fixed files removes their marks up to a place, and leaves the bytes from there on as they
 -- are.
-use Rattle.std.proofs.Common.{◌≡◌, ◌≤◌, ◌<◌, ℕ, ◌+◌, ◌%◌, ◌⊎◌, ◌-◌, List, length, drop, refl, sym, ap, ◌∙◌, subst, arith, inl, inr, slice_index}
-use Rattle.fv_base.proofs.Laws.{slice_set, Ok, Err, drop-drop, drop-set-lt, AllAre, erased_byte}
+use Rattle.std.proofs.Common.{◌≡◌, ◌≤◌, ◌<◌, ℕ, ◌+◌, ◌%◌, ◌⊎◌}
+use Rattle.fv_base.proofs.Laws.{List, length, drop, refl, sym, ap, ◌∙◌, arith, inl, inr, Ok, Err, drop-drop, AllAre, erased_byte}
 use Rattle.fv_base.specs.declared.fault.Fault.{Fault}
 use Rattle.fv_base.specs.declared.flash.FileSystem.{FileSystem}
 use Rattle.fv_base.specs.declared.flash.Polarity.{Polarity}
-use Rattle.fv_file.specs.Words.{CellForm, Tiles, cell_len, IsFirstCellFault, unmarked, Unmarks}
+use Rattle.fv_file.specs.Words.{CellForm, cell_len, IsFirstCellFault, unmarked, Unmarks}
 use Rattle.fv_file.specs.inner.CellVerdicts.{cell_verdict}
 use Rattle.fv_file.specs.inner.MarkSteps.{OneMarkLess}
-use Rattle.fv_file.proofs.UnmarkLemmas.{Unmarked, MarkStep, unmarked_begins, one_less, one_further, stands_unmarked, stopped}
+use Rattle.fv_file.proofs.UnmarkLemmas.{Unmarked, Used, Accepts, MarkStep, unmarked_begins, one_less, one_further, stands_unmarked, stopped}
 use Rattle.fv_file.proofs.BodyLemmas.{all_kept}
-use Rattle.fv_file.proofs.MarkedFileLemmas.{drop-unmarked}
+use Rattle.fv_file.proofs.MarkedFileLemmas.{behind_mark, drop-unmarked}
 
 -- the marks up to a place are removed in `less`, which has the same bytes as the body from there on
 pub record Walked (s : FileSystem) (p : Polarity) (first : ℕ) (body : List ℕ) (at : ℕ) : Type 0 where
@@ -19,21 +19,14 @@ pub record Walked (s : FileSystem) (p : Polarity) (first : ℕ) (body : List ℕ
   pub same : drop at less ≡ drop at body
 
 pub walk_begins : (s : FileSystem) (p : Polarity) (first : ℕ) (body : List ℕ) → Walked s p first body 0
-walk_begins s p first body = record {
-  less = body;
-  so_far = unmarked_begins s p first body;
-  same = refl;
-}
+walk_begins s p first body = record { less = body; so_far = unmarked_begins s p first body; same = refl }
 
 module _ (s : FileSystem) (p : Polarity) (first : ℕ) (body : List ℕ) (at : ℕ) (k : Walked s p first body at) where
   -- the walk ends at the end of the body, or before an erased rest, and cells tile the body without its marks
-  pub walk_ends : AllAre (erased_byte p) (drop at body)
-      → (places : List ℕ) × (o : List ℕ) × Unmarks s p first places body o × ((cells : List CellForm) × Tiles s p first cells o)
-  walk_ends clean =
-      (k.so_far.places, k.less, k.so_far.marks, all_kept s p first k.less k.so_far.cells at k.so_far.upto (subst (AllAre (erased_byte p)) (sym k.same) clean))
+  pub walk_ends : AllAre (erased_byte p) (drop at body) → Accepts s p first body
+  walk_ends clean = (k.so_far.places, k.less, k.so_far.marks, all_kept s p first k.less k.so_far.cells at k.so_far.upto (rw k.same clean))
 
-  module _ (used : (at < length body) × (AllAre (erased_byte p) (drop at body) → ⊥)) (b : List ℕ)
-      (step : OneMarkLess s p (first + at) (drop at body) b) where
+  module _ (used : Used s p first body at) (b : List ℕ) (step : OneMarkLess s p (first + at) (drop at body) b) where
     -- the body is unchanged, or the mark at the place is removed
     stepped : OneMarkLess s p (first + at) (drop at body) b → (new : List ℕ) × MarkStep s p first k.less new at × (drop at new ≡ b)
     stepped (inl e) = (k.less, inl refl, k.same ∙ sym e)
@@ -46,8 +39,8 @@ module _ (s : FileSystem) (p : Polarity) (first : ℕ) (body : List ℕ) (at : �
     abbrev new : List ℕ
     new = (stepped step).0
 
-    used_still : (at < length k.less) × (AllAre (erased_byte p) (drop at k.less) → ⊥)
-    used_still = (omega (arith, used.0, k.so_far.same_length), λ all. used.1 (subst (AllAre (erased_byte p)) k.same all))
+    used_still : Used s p first k.less at
+    used_still = (omega (arith, used.0, k.so_far.same_length), rw k.same used.1)
 
     so_far : Unmarked s p first body new at
     so_far = one_less s p first body k.less new at k.so_far used_still (stepped step).1
@@ -70,11 +63,7 @@ module _ (s : FileSystem) (p : Polarity) (first : ℕ) (body : List ℕ) (at : �
         behind : OneMarkLess s p (first + at) (drop at body) b → (b ≡ drop at body) ⊎ (19 < len) → drop len b ≡ drop len (drop at body)
         behind (inl e) past = ap (drop len) e
         behind step (inl e) = ap (drop len) e
-        behind (inr (fixed, e)) (inr more) =
-            let r : List ℕ = drop at body in
-            ap (drop len) e
-            ∙ drop-set-lt len (slice_set r 16 ((slice_index r 16 + 4) % 256)) 19 (slice_index r 19 - 4) more
-            ∙ drop-set-lt len r 16 ((slice_index r 16 + 4) % 256) (omega (arith, more))
+        behind (inr (fixed, e)) (inr more) = ap (drop len) e ∙ behind_mark len (drop at body) more
 
     -- a fault at the place is the first fault of the body without the marks before it
     pub walk_stops : (f : Fault) → cell_verdict s p (first + at) b ≡ Err f

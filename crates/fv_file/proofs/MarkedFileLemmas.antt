@@ -1,34 +1,91 @@
 -- A fixed file without its mark is a cell, or its fault is FileSum. The steps:
--- 1. Without the mark, all bytes but two are the same, and they have the same sum.
--- 2. So the header is right as before, and the data are checked as before.
--- 3. So if the fault of a file is Fixed, the file without its mark is a cell, or its fault is FileSum.
-use Rattle.std.proofs.Common.{◌≡◌, ◌≤◌, ◌<◌, ℕ, ◌+◌, ◌-◌, ◌%◌, [], ◌∷◌, ◌++◌, ◌≢◌, ◌||◌, ◌==◌, List, length, take, drop, refl, sym, ap, ◌∙◌, subst}
-use Rattle.std.proofs.Common.{arith, Bool, true, false, not, slice_index, slice_set, sum, Some, Ok, Err, ltb-true, get_or-drop, get_or-set_same}
-use Rattle.std.proofs.Common.{get_or-set_other, drop-set-lt, length-set, length-drop}
-use Rattle.fv_base.proofs.Laws.{nat_tests, take-set-le, take_more, take_more_set, drop-take, sum_by-cons, sum_by_push, field, le, outer_fault}
-use Rattle.fv_base.proofs.Laws.{up_to_8, field-take, take-take_le, common_steps}
+-- 1. If the fault of a cell is Fixed, the cell is a file that is valid by its state, and only its mark is wrong
+--    (`fixed_there`).
+-- 2. Without the mark, all bytes but two are the same, and they have the same sum.
+-- 3. So the header is right as before, and the data are checked as before.
+-- 4. So if the fault of a file is Fixed, the file without its mark is a cell, or its fault is FileSum.
+use Rattle.std.proofs.Common.{◌≡◌, ◌≤◌, ◌<◌, ℕ, ◌+◌, ◌-◌, ◌%◌, ◌≢◌, ◌||◌, ◌==◌, sum, ◌&&◌, leb-true}
+use Rattle.fv_base.proofs.Laws.{List, length, take, drop, refl, sym, ap, ◌∙◌, arith, Bool, true, false, not, slice_index, slice_set, Some, Ok, Err}
+use Rattle.fv_base.proofs.Laws.{ltb-true, get_or-drop, get_or-set_same, get_or-set_other, drop-set-lt, length-set, length-drop, get_or-take}
+use Rattle.fv_base.proofs.Laws.{length-take-le, nat_le, Option, None, eq-eqb, nat_tests, take-set-le, drop-take, field, le, outer_fault, up_to_8}
+use Rattle.fv_base.proofs.Laws.{field-take, take-take_le, common_steps, AllAre, erased_byte, and_split, or_parts}
 use Rattle.std.proofs.lemmas.List.{drop-set-add}
+use Rattle.std.proofs.lemmas.List.Sums.{sum_by-set}
+use Rattle.std.proofs.Math.Seq.{take-set-lt}
+use Rattle.fv_file.proofs.FileLemmas.{header_least}
 use Rattle.fv_base.specs.declared.fault.Fault.{Fault}
 use Rattle.fv_base.specs.declared.flash.FileSystem.{FileSystem}
 use Rattle.fv_base.specs.declared.flash.Polarity.{Polarity}
 use Rattle.fv_file.specs.Words.{CellForm, cell_len, attributes_at, state_at, is_fixed, is_large, is_summed, is_alive, file_header_len, file_size_in}
 use Rattle.fv_file.specs.Words.{file_header_len_at, file_size_at, payload_at, header_sum_of, allows_large, state_of, has_file_sum, skips_data}
-use Rattle.fv_file.specs.Words.{unmarked, pad_kind}
+use Rattle.fv_file.specs.Words.{unmarked, pad_kind, file_checks, state_checks, bits_of}
 use Rattle.fv_file.specs.declared.state.FileState.{FileState}
-use Rattle.fv_file.specs.inner.CellVerdicts.{file_verdict, cell_verdict, cell_with, sort_of}
-use Rattle.fv_file.proofs.FileVerdictLemmas.{IsHeaderRight, data_right, data_wrong, sizes}
-use Rattle.fv_file.proofs.UnmarkLemmas.{FixedThere, length-unmarked, fixed_least}
+use Rattle.fv_file.specs.inner.CellVerdicts.{file_verdict, cell_verdict, cell_with, sort_of, sort_checks, stray, StateSort}
+use Rattle.fv_file.proofs.FileVerdictLemmas.{IsHeaderRight, data_right, data_wrong, sizes, MarkedFile, held, marked_file}
 use Rattle.fv_base.specs.declared.fault.FaultKind.TheVariants as kinds
 use Rattle.fv_file.specs.inner.CellVerdicts as sorts
+use Rattle.fv_base.specs.inner.Verdicts.{first_fault}
+use Rattle.std.proofs.lemmas.Bool.{not-false}
+use Rattle.fv_file.proofs.SortLemmas.{sorted}
+use Rattle.fv_file.proofs.CellVerdictLemmas.{verdict_fails, no_bits}
+use Rattle.fv_file.proofs.ErasedByteLemmas.{all_at}
 
--- ---- 1. the bytes
+-- ---- 1. the fault Fixed
+
+-- the fault Fixed is the fault of a file that is valid by its state
+pub record FixedThere (s : FileSystem) (p : Polarity) (at : ℕ) (r : List ℕ) (f : Fault) : Type 0 where
+  pub long : 24 ≤ length r
+  pub used : not (bits_of p (state_at r) == 0) ≡ true
+  pub state : FileState
+  pub shown : state_of p (state_at r) ≡ Some state
+  pub sort : sort_of state ≡ sorts.Valid
+  pub file : MarkedFile s state at r f
+
+pub fixed_there : (s : FileSystem) (p : Polarity) (at : ℕ) (r : List ℕ) (f : Fault) → cell_verdict s p at r ≡ Err f → f.kind ≡ kinds.Fixed
+    → FixedThere s p at r f
+fixed_there s p at r f is kind =
+    let used : Bool = not (bits_of p (state_at r) == 0) in
+    let front = held (nat_le 24 (length r) && used) (stray p at r) _ f (verdict_fails s p at r f is) (λ k. cc) in
+    let both = and_split (nat_le 24 (length r)) used front.0 in
+    in_state (leb-true 24 (length r) both.0) both.1 (state_of p (state_at r)) refl front.1
+  where
+    in_sort : (k : StateSort) (alive : Bool) → first_fault (sort_checks k s alive at r) ≡ Some f → first_fault (file_checks s alive at r) ≡ Some f
+    in_sort sorts.Erased alive v = cc
+    in_sort sorts.Unfinished alive v = let no = held _ (outer_fault kinds.FileSize (at + 20)) None f v (λ k. cc) in cc (no.1)
+    in_sort sorts.Dead alive v = v
+    in_sort sorts.Valid alive v = v
+
+    in_state : 24 ≤ length r → not (bits_of p (state_at r) == 0) ≡ true → (o : Option FileState) → state_of p (state_at r) ≡ o
+        → first_fault (state_checks o s at r) ≡ Some f → FixedThere s p at r f
+    in_state long used None shown v = let no = held false (outer_fault kinds.FileState (at + 23)) None f v (λ k. cc) in cc (no.0)
+    in_state long used (Some st) shown v =
+        let file = marked_file s st at r f (in_sort (sort_of st) (is_alive st) (rw (sorted st).checks at v)) kind in
+        let alive : is_alive st ≡ true = not-false _ (or_parts _ _ file.checked).0 in
+        record { long = long; used = used; state = st; shown = shown; sort = (sorted st).valid alive; file = file }
+
+-- attributes with the bit are at least 4
+pub fixed_least : (a : ℕ) → is_fixed a ≡ true → 4 ≤ a
+fixed_least a h = grind (arith, nat_tests)
+
+-- ---- 2. the bytes
+
+pub length-unmarked : (p : ℕ) (b : List ℕ) → length (unmarked p b) ≡ length b
+length-unmarked p b = simp length-set
 
 pub drop-unmarked : (at : ℕ) (b : List ℕ) → drop at (unmarked at b) ≡ unmarked 0 (drop at b)
 drop-unmarked at b = grind (arith, common_steps, get_or-drop, drop-set-add)
 
--- the five bytes from Type on sum to 4 less if the attributes are less by 4
-less_four : (d : List ℕ) → 2 ≤ length d → 4 ≤ slice_index d 1 → sum (take 5 (slice_set d 1 (slice_index d 1 - 4))) + 4 ≡ sum (take 5 d)
-less_four d l h = grind (arith, common_steps, sum_by-cons) steps 150000
+-- after a byte of a field was set, the sum of the field is the old sum, without the old byte and with the new one
+sum-field_set : (i n k : ℕ) (l : List ℕ) (v : ℕ) → k < n → i + n ≤ length l
+    → sum (field i n (slice_set l (i + k) v)) + slice_index l (i + k) ≡ sum (field i n l) + v
+sum-field_set i n k l v small within =
+    let byte : slice_index (field i n l) k ≡ slice_index l (i + k) = get_or-take n (drop i l) k 0 small ∙ get_or-drop i l k 0 in
+    let long : length (field i n l) ≡ n = length-take-le n (drop i l) (omega (arith, within, length-drop i l)) in
+    rw (drop-set-add i l k v, take-set-lt n (drop i l) k v small, ← byte) (sum_by-set (λ (x : ℕ). x) (field i n l) k v 0 (omega (arith, long, small)))
+
+pub behind_mark : (n : ℕ) (r : List ℕ) → 19 < n → drop n (unmarked 0 r) ≡ drop n r
+behind_mark n r l = drop-set-lt n (slice_set r 16 ((slice_index r 16 + 4) % 256)) 19 (slice_index r 19 - 4) l
+    ∙ drop-set-lt n r 16 ((slice_index r 16 + 4) % 256) (omega (arith, l))
 
 even_less : (a : ℕ) → 4 ≤ a → (a - 4) % 2 ≡ a % 2
 even_less a l = omega (arith, l)
@@ -49,9 +106,6 @@ module _ (r : List ℕ) (long : 24 ≤ length r) (fixed : is_fixed (attributes_a
   other : (i : ℕ) → i ≢ 16 → i ≢ 19 → slice_index (unmarked 0 r) i ≡ slice_index r i
   other i n m = get_or-set_other (slice_set r 16 value) 19 i (slice_index r 19 - 4) 0 m ∙ get_or-set_other r 16 i value 0 n
 
-  behind : (n : ℕ) → 19 < n → drop n (unmarked 0 r) ≡ drop n r
-  behind n l = drop-set-lt n (slice_set r 16 value) 19 (slice_index r 19 - 4) l ∙ drop-set-lt n r 16 value (omega (arith, l))
-
   attributes : attributes_at (unmarked 0 r) ≡ slice_index r 19 - 4
   attributes = get_or-set_same (slice_set r 16 value) 19 (slice_index r 19 - 4) 0 (omega (arith, long, length-set r 16 value))
 
@@ -63,23 +117,18 @@ module _ (r : List ℕ) (long : 24 ≤ length r) (fixed : is_fixed (attributes_a
 
   front_sum : sum (take 17 (unmarked 0 r)) + slice_index r 16 ≡ sum (take 17 r) + value
   front_sum =
-      let front : take 17 (unmarked 0 r) ≡ take 16 r ++ value ∷ [] =
-      take-set-le 17 (slice_set r 16 value) 19 (slice_index r 19 - 4) (omega arith) ∙ take_more_set r 16 value (omega (arith, long)) in
-      let old : take 17 r ≡ take 16 r ++ slice_index r 16 ∷ [] = take_more r 16 0 (omega (arith, long)) in
-      omega (arith, ap sum front, ap sum old, sum_by_push (λ (x : ℕ). x) (take 16 r) value, sum_by_push (λ (x : ℕ). x) (take 16 r) (slice_index r 16))
+      rw (take-set-le 17 (slice_set r 16 value) 19 (slice_index r 19 - 4) (omega arith))
+      (sum-field_set 0 17 16 r value (omega arith) (omega (arith, long)))
 
-  middle_sum : sum (field 18 5 (unmarked 0 r)) + 4 ≡ sum (field 18 5 r)
-  middle_sum =
-      let around : drop 18 (unmarked 0 r) ≡ slice_set (drop 18 r) 1 (slice_index (drop 18 r) 1 - 4) = rw (get_or-drop 18 r 1 0) (drop-set-add 18
-      (slice_set r 16 _) 1 (slice_index r 19 - 4) ∙ ap (λ (l : List ℕ). slice_set l 1 (slice_index r 19 - 4)) (drop-set-lt 18 r _ _ (omega arith))) in
-      ap (λ (l : List ℕ). sum (take 5 l) + 4) around
-      ∙ less_four (drop 18 r) (omega (arith, long, length-drop 18 r)) (subst (λ (n : ℕ). 4 ≤ n) (sym (get_or-drop 18 r 1 0)) least)
+  middle_sum : sum (field 18 5 (unmarked 0 r)) + slice_index r 19 ≡ sum (field 18 5 r) + (slice_index r 19 - 4)
+  middle_sum = rw (get_or-set_other r 16 19 value 0 (λ e. omega (arith, e)), drop-set-lt 18 r 16 value (omega arith)) at
+      (sum-field_set 18 5 1 (slice_set r 16 value) (slice_index r 19 - 4) (omega arith) (omega (arith, long, length-set r 16 value)))
 
-  -- ---- 2. the checks of the header, and of the data
+  -- ---- 3. the checks of the header, and of the data
 
   size_kept : (t : Bool) → file_size_in t (unmarked 0 r) ≡ file_size_in t r
-  size_kept false = ap (λ (l : List ℕ). le (take 3 l)) (behind 20 (omega arith))
-  size_kept true = ap (λ (l : List ℕ). le (take 8 l)) (behind 24 (omega arith))
+  size_kept false = ap (λ (l : List ℕ). le (take 3 l)) (behind_mark 20 r (omega arith))
+  size_kept true = ap (λ (l : List ℕ). le (take 8 l)) (behind_mark 24 r (omega arith))
 
   size_same : file_size_at (unmarked 0 r) ≡ file_size_at r
   size_same = ap (λ (t : Bool). file_size_in t (unmarked 0 r)) large ∙ size_kept (is_large (attributes_at r))
@@ -88,15 +137,14 @@ module _ (r : List ℕ) (long : 24 ≤ length r) (fixed : is_fixed (attributes_a
   around_sum n =
       let part : (l : List ℕ) → header_sum_of (take (24 + n) l) ≡ (sum (take 17 l) + sum (field 18 5 l) + sum (take n (drop 24 l))) % 256 =
       λ l. rw (take-take_le 17 (24 + n) l (omega arith), field-take 18 5 (24 + n) l (omega arith), drop-take 24 n l) refl in
-      part (unmarked 0 r) ∙ omega (arith, front_sum, middle_sum, ap (λ (l : List ℕ). sum (take n l)) (behind 24 (omega arith))) ∙ sym (part r)
+      part (unmarked 0 r) ∙ omega (arith, front_sum, middle_sum, least, ap (λ (l : List ℕ). sum (take n l)) (behind_mark 24 r (omega arith))) ∙ sym (part r)
 
   sum_kept : (t : Bool) → header_sum_of (take (file_header_len t) (unmarked 0 r)) ≡ header_sum_of (take (file_header_len t) r)
   sum_kept false = around_sum 0
   sum_kept true = around_sum 8
 
   payload_kept : (t : Bool) (n : ℕ) → take n (drop (file_header_len t) (unmarked 0 r)) ≡ take n (drop (file_header_len t) r)
-  payload_kept false n = ap (take n) (behind 24 (omega arith))
-  payload_kept true n = ap (take n) (behind 32 (omega arith))
+  payload_kept t n = ap (take n) (behind_mark (file_header_len t) r (omega (arith, header_least t)))
 
   payload_same : payload_at (unmarked 0 r) ≡ payload_at r
   payload_same = grind (arith, common_steps, size_same, large, payload_kept)
@@ -121,7 +169,7 @@ module _ (r : List ℕ) (long : 24 ≤ length r) (fixed : is_fixed (attributes_a
   moves : not (is_fixed (attributes_at (unmarked 0 r))) ≡ true
   moves = ap (λ (a : ℕ). not (is_fixed a)) attributes ∙ ap not (not_fixed_less (slice_index r 19) fixed)
 
--- ---- 3. the file without its mark
+-- ---- 4. the file without its mark
 
 -- the verdict on a valid file is the verdict of its checks
 valid_verdict : (s : FileSystem) (p : Polarity) (st : FileState) (at : ℕ) (r : List ℕ) → 24 ≤ length r → state_of p (state_at r) ≡ Some st
@@ -139,9 +187,18 @@ module _ (s : FileSystem) (p : Polarity) (at : ℕ) (r : List ℕ) (f : Fault) (
   verdict : cell_verdict s p at (unmarked 0 r) ≡ cell_with sorts.Valid at (unmarked 0 r) (file_verdict s there.state at (unmarked 0 r))
   verdict = grind (arith, common_steps, valid_verdict, length-unmarked, state_same)
 
+  -- without the mark, the State byte is not erased, and the file is not fixed
+  pub used_without : AllAre (erased_byte p) (unmarked 0 r) → ⊥
+  used_without all =
+      let erased = all_at (erased_byte p) (unmarked 0 r) 23 all (omega (arith, length-unmarked 0 r, there.long)) in
+      cc (there.used, eq-eqb _ 0 (no_bits p (state_at r) (sym (state_same r there.long there.file.fixed) ∙ erased)))
+
+  pub not_fixed_again : (g : Fault) → cell_verdict s p at (unmarked 0 r) ≡ Err g → g.kind ≢ kinds.Fixed
+  not_fixed_again g is kind = cc ((fixed_there s p at (unmarked 0 r) g is kind).file.fixed, moves r there.long there.file.fixed)
+
   -- the size covers the header, and the file lies within the bytes
   pub size_within : (file_header_len_at r ≤ file_size_at r) × (file_size_at r ≤ length r)
-  size_within = sizes _ _ _ _ there.file.right.size
+  size_within = let size = sizes _ _ _ _ there.file.right.size in (size.0, size.1)
 
   -- if its file checksum is wrong, its fault without the mark is FileSum
   pub wrong_without : has_file_sum r ≡ false → cell_verdict s p at (unmarked 0 r) ≡ Err (outer_fault kinds.FileSum (at + 17))

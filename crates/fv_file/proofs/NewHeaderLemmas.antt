@@ -8,11 +8,12 @@
 --    `pad_written`).
 -- 5. Conversely, bytes that are the header of some fields are the bytes that are written for them (`form_of`,
 --    `only_written`), for a file and for a pad (`only_file`, `only_pad`).
-use Rattle.std.proofs.Common.{◌≡◌, ◌≤◌, ◌<◌, ◌+◌, ◌%◌, ◌^◌, ℕ, [], ◌∷◌, ◌++◌, Bool, true, false, List, length, take, drop, refl, sym, ap, ◌∙◌}
-use Rattle.std.proofs.Common.{subst, arith, append_assoc, length-append, length-drop, drop-drop, slice_index, sum, take-append-drop, take_at}
-use Rattle.std.proofs.Common.{take_all, get_or-append-add, length-take-le, shr-shr}
-use Rattle.fv_base.proofs.Laws.{common_steps, take-append-add, drop_more, drop_all, length-replicate, sum_by-append, nat_tests, bytes_of, data_limit}
-use Rattle.fv_base.proofs.Laws.{IsBytes, le, le_bytes, field, le_at, field_is, le-le_bytes}
+-- 6. A written header has the length of its form, and each element is a byte (`length-header`, `bytes_header`).
+use Rattle.std.proofs.Common.{◌≡◌, ◌≤◌, ◌<◌, ◌+◌, ◌%◌, ◌^◌, ℕ, [], ◌∷◌, ◌++◌, sum, get_or-append-add, shr-shr}
+use Rattle.fv_base.proofs.Laws.{Bool, true, false, List, length, take, drop, refl, sym, ap, ◌∙◌, subst, arith, append_assoc, length-append}
+use Rattle.fv_base.proofs.Laws.{length-drop, drop-drop, slice_index, take-append-drop, take_at, take_all, length-take-le, common_steps}
+use Rattle.fv_base.proofs.Laws.{take-append-add, drop_more, drop_all, length-replicate, sum_by-append, nat_tests, bytes_of, data_limit, IsBytes, le}
+use Rattle.fv_base.proofs.Laws.{le_bytes, field, le_at, field_is, le-le_bytes, bytes_append, bytes_cons, bytes_le_bytes, none_at}
 use Rattle.std.specs.Int.{bytes_low_first}
 use Rattle.std.proofs.Math.Seq.{drop-append-add}
 use Rattle.fv_base.specs.declared.flash.FileSystem.{FileSystem}
@@ -68,18 +69,13 @@ rest_of h large state =
 abbrev formed : FileHead → Bool → FileHead
 formed h large = fields_of (bytes_of h.name) h.kind (attribute_bits h.attributes) h.size large h.header_sum h.file_sum
 
-rejoined : (a b c d e : List ℕ) → a ++ b ++ c ++ d ++ e ≡ a ++ (b ++ (c ++ (d ++ e)))
-rejoined a b c d e = simp append_assoc
-
 header_parts : (h : FileHead) (large : Bool) (state : ℕ) → spelled h large state ≡ bytes_of h.name ++ rest_of h large state
-header_parts h large state = grind (arith, common_steps, rejoined) steps 150000
+header_parts h true state = simp append_assoc
+header_parts h false state = simp append_assoc
 
 -- byte 16 + k after a name of 16 bytes is byte k of the bytes after the name
 at_behind : (k : ℕ) (name rest : List ℕ) → length name ≡ 16 → slice_index (name ++ rest) (16 + k) ≡ slice_index rest k
 at_behind k name rest long = grind (arith, common_steps, get_or-append-add)
-
-take_behind : (k : ℕ) (name rest : List ℕ) → length name ≡ 16 → take (16 + k) (name ++ rest) ≡ name ++ take k rest
-take_behind k name rest long = subst (λ (n : ℕ). take (n + k) (name ++ rest) ≡ name ++ take k rest) long (take-append-add name rest k)
 
 drop_behind : (k : ℕ) (name rest : List ℕ) → length name ≡ 16 → drop (16 + k) (name ++ rest) ≡ drop k rest
 drop_behind k name rest long = subst (λ (n : ℕ). drop (n + k) (name ++ rest) ≡ drop k rest) long (drop-append-add name rest k)
@@ -95,7 +91,7 @@ sum_apart name l a b c d e f g h long =
     let joined : (xs ys : List ℕ) → sum (xs ++ ys) ≡ sum xs + sum ys = λ xs ys. sum_by-append (λ (x : ℕ). x) xs ys in
     omega (
       arith,
-      ap sum (take_behind 1 name rest long) ∙ joined name (a ∷ []),
+      ap sum (rw long at (take-append-add name rest 1)) ∙ joined name (a ∷ []),
       ap (λ (xs : List ℕ). sum (take 5 xs)) (drop_behind 2 name rest long),
       ap sum (drop_behind 8 name rest long),
       joined name (0 ∷ 0 ∷ c ∷ d ∷ e ∷ f ∷ g ∷ 0 ∷ l),
@@ -180,8 +176,7 @@ written_is : (polarity : Polarity) (h : FileHead) (large : Bool) → length (byt
 unfolding header_bytes
 written_is polarity h large long is small bytes =
     let right : FileHead = record h { header_sum = complement (bare_sum h large) } in
-    subst (λ (n : ℕ). IsNewHeader polarity (formed (record h { header_sum = n }) large) (spelled right large (state_byte polarity)))
-    (sym (sum_at right large (state_byte polarity) long))
+    rw (sum_at right large (state_byte polarity) long)
     (written_with polarity right large long is small (complement_right (bare_sum h large)) bytes)
 
 -- ---- a header, data and filler are a cell
@@ -189,19 +184,14 @@ written_is polarity h large long is small bytes =
 filled : (system : FileSystem) (polarity : Polarity) (head : FileHead) (h payload filler : List ℕ) → IsFileHeader system polarity head h
     → head.size ≡ length h + length payload
     → length filler < 8 → (head.size + length filler) % 8 ≡ 0 → IsFilled system polarity head payload (h ++ (payload ++ filler))
-filled system polarity head h payload filler is size short multiple =
-    let whole : head.size ≡ length (h ++ payload) = size ∙ sym (length-append h payload) in
-    let joined : h ++ (payload ++ filler) ≡ (h ++ payload) ++ filler = sym (append_assoc h payload filler) in
-    let all : length (h ++ (payload ++ filler)) ≡ head.size + length filler =
-    ap length joined ∙ length-append (h ++ payload) filler ∙ ap (λ (n : ℕ). n + length filler) (sym whole) in
-    record {
-      file = h ++ payload;
-      filler = filler;
-      text = joined;
-      is_file = record { header = h; text = refl; is_header = is; size = whole };
-      short = short;
-      multiple = ap (λ (n : ℕ). n % 8) all ∙ multiple;
-    }
+filled system polarity head h payload filler is size short multiple = record {
+  file = h ++ payload;
+  filler = filler;
+  text = sym (append_assoc h payload filler);
+  is_file = record { header = h; text = refl; is_header = is; size = size ∙ sym (length-append h payload) };
+  short = short;
+  multiple = omega (arith, size, multiple, length-append h (payload ++ filler), length-append payload filler);
+}
 
 pub head_of_file : (polarity : Polarity) (head : FileHead) (h : List ℕ) → IsNewHeader polarity head h → is_alive head.state ≡ true
     → IsHeadOfFile polarity head h
@@ -238,15 +228,13 @@ pub file_written : (polarity : Polarity) (name : Guid) (kind : ℕ) (attributes 
     → IsNewHeader polarity (file_fields name kind attributes data_len file_sum (slice_index b 16)) b
 file_written polarity name kind attributes data_len file_sum b long short most bytes is =
     let large : Bool = needs_large data_len in
-    subst (λ (x : List ℕ). IsNewHeader polarity (file_fields name kind attributes data_len file_sum (slice_index x 16)) x) (sym is)
-    (written_is polarity (file_fields name kind attributes data_len file_sum 0) large long
-    (with_large_is large (attribute_bits attributes) short) (size_small data_len most) (subst IsBytes is bytes))
+    rw is (written_is polarity (file_fields name kind attributes data_len file_sum 0) large long
+    (with_large_is large (attribute_bits attributes) short) (size_small data_len most) (rw is at bytes))
 
 pub pad_written : (polarity : Polarity) (size : ℕ) (b : List ℕ) → size ≤ 0xffffff → IsBytes b → b ≡ pad_head_of size polarity
     → IsNewHeader polarity (pad_fields size (slice_index b 16)) b
 pad_written polarity size b most bytes is =
-    subst (λ (x : List ℕ). IsNewHeader polarity (pad_fields size (slice_index x 16)) x) (sym is)
-    (written_is polarity (pad_fields size 0) false (length-replicate {A = ℕ} 16 0xff) refl (omega (arith, most)) (subst IsBytes is bytes))
+    rw is (written_is polarity (pad_fields size 0) false (length-replicate {A = ℕ} 16 0xff) refl (omega (arith, most)) (rw is at bytes))
 
 -- ---- no other bytes are the header of these fields
 
@@ -281,19 +269,11 @@ form_of polarity head b written =
     let at : attribute_bits head.attributes ≡ slice_index b 19 = ap (λ (x : FileHead). attribute_bits x.attributes) is.fields in
     let large : Bool = is_large (slice_index b 19) in
     let size : head.size ≡ file_size_in large b = ap (λ (x : FileHead). x.size) is.fields in
-    let least : 24 ≤ length b = subst (λ (n : ℕ). 24 ≤ n) (sym is.header_length) (header_least large) in
+    let least : 24 ≤ length b = rw is.header_length (header_least large) in
     let short : le_at 20 3 b ≡ short_size large head.size = short_is large b head.size (λ e. (is.large e).1) size in
     let long : drop 24 b ≡ long_size large head.size = long_is large b head.size written.bytes is.header_length size in
-    parts_of b written.bytes least
-    ∙ same (ap (λ (x : FileHead). bytes_of x.name) (sym is.fields))
-    (ap (λ (x : FileHead). x.header_sum) (sym is.fields))
-    (ap (λ (x : FileHead). x.file_sum) (sym is.fields)) (ap (λ (x : FileHead). x.kind) (sym is.fields)) (sym at) short written.state long
-    ∙ sym (header_parts head large (state_byte polarity))
-    ∙ ap (λ (l : Bool). spelled head l (state_byte polarity)) (ap is_large (sym at))
-  where
-    same : {n n' : List ℕ} {a a' b b' c c' d d' e e' f f' : ℕ} {l l' : List ℕ} → n ≡ n' → a ≡ a' → b ≡ b' → c ≡ c' → d ≡ d' → e ≡ e'
-        → f ≡ f' → l ≡ l' → n ++ behind_name a b c d e f l ≡ n' ++ behind_name a' b' c' d' e' f' l'
-    same o p q r s t u v = rw (o, p, q, r, s, t, u, v)
+    rw (header_parts head (is_large (attribute_bits head.attributes)) (state_byte polarity), at, ← short, ← long, ← written.state, is.fields)
+    (parts_of b written.bytes least)
 
 pub only_written : (polarity : Polarity) (head : FileHead) (b : List ℕ) → IsNewHeader polarity head b
     → b ≡ header_bytes head.file_sum (bytes_of head.name) head.kind (attribute_bits head.attributes) head.size
@@ -303,11 +283,9 @@ only_written polarity head b written =
     let is = written.header Ffs3 (λ large. refl) in
     let large : Bool = is_large (attribute_bits head.attributes) in
     let form = form_of polarity head b written in
-    let least : 24 ≤ length b = subst (λ (n : ℕ). 24 ≤ n) (sym is.header_length) (header_least (is_large (slice_index b 19))) in
-    let named : length (bytes_of head.name) ≡ 16 =
-    ap (λ (x : FileHead). length (bytes_of x.name)) is.fields ∙ length-take-le 16 b (omega (arith, least)) in
-    let small : head.header_sum < 256 =
-    subst (λ (n : ℕ). n < 256) (ap (λ (x : FileHead). x.header_sum) (sym is.fields)) (written.bytes 16) in
+    let least : 24 ≤ length b = rw is.header_length (header_least _) in
+    let named : length (bytes_of head.name) ≡ 16 = rw is.fields (length-take-le 16 b (omega (arith, least))) in
+    let small : head.header_sum < 256 = rw is.fields (written.bytes 16) in
     let right : (bare_sum head large + head.header_sum) % 256 ≡ 0 =
     sym (header_sum_is head large (state_byte polarity) named) ∙ ap header_sum_of (sym form) ∙ is.sum in
     form ∙ ap (λ (n : ℕ). spelled (record head { header_sum = n }) large (state_byte polarity))
@@ -319,12 +297,29 @@ pub only_file : (polarity : Polarity) (name : Guid) (kind : ℕ) (attributes : F
     → IsNewHeader polarity (file_fields name kind attributes data_len file_sum header_sum) h
     → h ≡ file_head_of name kind attributes data_len file_sum polarity
 only_file polarity name kind attributes data_len file_sum header_sum h short written =
-    let large : Bool = needs_large data_len in
-    let bits : ℕ = with_large large (attribute_bits attributes) in
-    only_written polarity (file_fields name kind attributes data_len file_sum header_sum) h written
-    ∙ ap (λ (l : Bool). header_bytes file_sum (bytes_of name) kind bits (file_header_len large + data_len) l (state_byte polarity))
-    (with_large_is large (attribute_bits attributes) short)
+    rw (with_large_is (needs_large data_len) (attribute_bits attributes) short) at (only_written polarity _ h written)
 
 pub only_pad : (polarity : Polarity) (size header_sum : ℕ) (h : List ℕ) → IsNewHeader polarity (pad_fields size header_sum) h
     → h ≡ pad_head_of size polarity
 only_pad polarity size header_sum h written = only_written polarity (pad_fields size header_sum) h written
+
+-- ---- a header is a list of bytes
+
+pub state_small : (p : Polarity) → state_byte p < 256
+state_small Ones = omega arith
+state_small Zeros = omega arith
+
+pub bytes_header : (file_sum : ℕ) (name : List ℕ) (kind attributes size : ℕ) (large : Bool) (state : ℕ) → IsBytes name → file_sum < 256
+    → kind < 256 → attributes < 256 → state < 256
+    → IsBytes (header_bytes file_sum name kind attributes size large state)
+unfolding header_bytes
+bytes_header file_sum name kind attributes size true state n f k a s =
+    search (bytes_append, bytes_cons, bytes_le_bytes, none_at, complement_small) depth 12
+bytes_header file_sum name kind attributes size false state n f k a s =
+    search (bytes_append, bytes_cons, bytes_le_bytes, none_at, complement_small) depth 12
+
+pub length-header : (file_sum : ℕ) (name : List ℕ) (kind attributes size : ℕ) (large : Bool) (state : ℕ) → length name ≡ 16
+    → length (header_bytes file_sum name kind attributes size large state) ≡ file_header_len large
+unfolding header_bytes
+length-header file_sum name kind attributes size true state n = simp length-append (omega arith)
+length-header file_sum name kind attributes size false state n = simp length-append (omega arith)

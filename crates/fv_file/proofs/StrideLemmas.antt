@@ -4,22 +4,21 @@
 --    (`file_stride`, `stub_stride`, `cell_stride`).
 -- 2. So one step is one cell (`one_less`), and the count goes up by one (`one_counted`).
 -- 3. At the end one free cell is left if any bytes are left (`free_left`), so all cells are counted (`all_counted`).
-use Rattle.std.proofs.Common.{◌≡◌, ◌≤◌, ◌<◌, ℕ, ◌+◌, [], ◌∷◌, ◌++◌, ◌==◌, ◌≢◌, ◌⊎◌, List, length, drop, inl, inr, refl, sym, ap, ◌∙◌, subst, arith}
-use Rattle.std.proofs.Common.{Bool, true, false, length-append, append_assoc, append-nil, not, nat_le, slice_index, Option, Some, leb-true, eq-eqb}
-use Rattle.fv_base.proofs.Laws.{eqb-true, drop_at, eqb-false, all_hold, and_split, erased_byte, up_to_8, common_steps}
+use Rattle.std.proofs.Common.{◌≡◌, ◌≤◌, ◌<◌, ℕ, ◌+◌, [], ◌∷◌, ◌++◌, ◌≢◌, List, length, drop, inl, inr, refl, sym, ap, subst, arith, Bool, true}
+use Rattle.fv_base.proofs.Laws.{false, length-append, append-nil, slice_index, Some, eqb-true, drop_at, eqb-false, erased_byte, up_to_8, common_steps}
 use Rattle.fv_base.specs.declared.flash.FileSystem.{FileSystem}
 use Rattle.fv_base.specs.declared.flash.Polarity.{Polarity}
-use Rattle.fv_file.specs.Words.{CellForm, Valid, Pad, Dead, Stub, Free, offset_of, is_free, IsFilled, IsCell, Tiles, is_large, cell_checks}
-use Rattle.fv_file.specs.Words.{file_header_len_at, file_size_at, file_header_len, StateOf, bits_of, state_of}
+use Rattle.fv_file.specs.Words.{CellForm, Valid, Pad, Dead, Stub, Free, is_free, IsFilled, IsCell, Tiles, is_large, file_header_len_at, file_size_at}
+use Rattle.fv_file.specs.Words.{file_header_len, StateOf, state_of}
 use Rattle.fv_file.specs.declared.head.FileHead.{FileHead}
 use Rattle.fv_file.specs.declared.state.FileState.{FileState}
 use Rattle.fv_file.specs.inner.CellVerdicts.{is_unfinished}
-use Rattle.fv_file.proofs.CellPartLemmas.{file_made_up, filled_span, made_up, not_empty, free_all}
+use Rattle.fv_file.proofs.CellPartLemmas.{file_made_up, filled_span, not_empty, free_all}
 use Rattle.fv_file.proofs.CellReadLemmas.{cell_reads}
-use Rattle.fv_file.proofs.CellVerdictLemmas.{no_bits}
+use Rattle.fv_file.proofs.CellVerdictLemmas.{read_used}
 use Rattle.fv_file.proofs.ErasedByteLemmas.{all_at}
-use Rattle.fv_file.proofs.FileLemmas.{header_least, front_byte, file_reads}
-use Rattle.fv_file.proofs.SortLemmas.{sorted}
+use Rattle.fv_file.proofs.FileLemmas.{header_least, front_byte, filled_read}
+use Rattle.fv_file.proofs.SortLemmas.{dead_state, sorted}
 use Rattle.fv_file.proofs.TilingLemmas.{no_rest}
 use Rattle.fv_file.specs.declared.state.FileState.TheVariants as states
 
@@ -35,26 +34,18 @@ pub record Stride (polarity : Polarity) (r : List ℕ) (n : ℕ) : Type 0 where
   pub within : n ≤ length r
   pub is : stride_by (is_unfinished (state_of polarity (slice_index r 23))) r ≡ n
 
--- a deleted file, and a file whose header is valid but not its data, have a complete header
-dead_finished : (st state : FileState) → st ≡ state → (state ≡ states.HeaderValid) ⊎ (state ≡ states.Deleted)
-    → is_unfinished (Some st) ≡ false
-dead_finished st state e (inl k) = ap (λ (x : FileState). is_unfinished (Some x)) (e ∙ k)
-dead_finished st state e (inr k) = ap (λ (x : FileState). is_unfinished (Some x)) (e ∙ k)
-
 file_stride : (s : FileSystem) (p : Polarity) (head : FileHead) (payload u w : List ℕ) → IsFilled s p head payload u
-    → head.header_len + length payload ≡ head.size → is_unfinished (Some head.state) ≡ false → Stride p (u ++ w) (length u)
-file_stride s p head payload u w filled made finished =
-    let r : List ℕ = filled.file ++ (filled.filler ++ w) in
-    let e : u ++ w ≡ r = ap (λ (x : List ℕ). x ++ w) filled.text ∙ append_assoc filled.file filled.filler w in
-    let reads = file_reads s p head payload filled.file (filled.filler ++ w) filled.is_file in
+    → is_unfinished (Some head.state) ≡ false → Stride p (u ++ w) (length u)
+file_stride s p head payload u w filled finished =
+    let reads = filled_read s p head payload u w filled in
+    let header : file_header_len_at (u ++ w) ≡ head.header_len = ap (λ (h : FileHead). h.header_len) reads.fields in
+    let size : file_size_at (u ++ w) ≡ head.size = ap (λ (h : FileHead). h.size) reads.fields in
     let span : up_to_8 head.size ≡ length u = filled_span s p head payload u filled in
-    let header : file_header_len_at r ≡ head.header_len = ap (λ (h : FileHead). h.header_len) reads.fields in
-    let size : file_size_at r ≡ head.size = ap (λ (h : FileHead). h.size) reads.fields in
-    subst (λ (x : List ℕ). Stride p x (length u)) (sym e) (record {
-      header = omega (arith, header, made, span);
-      within = omega (arith, ap length e, length-append u w);
-      is = ap (λ (o : Option FileState). stride_by (is_unfinished o) r) reads.state ∙ ap (λ (t : Bool). stride_by t r) finished ∙ ap up_to_8 size ∙ span;
-    })
+    record {
+      header = omega (arith, header, file_made_up s p head payload u filled, span);
+      within = omega (arith, length-append u w);
+      is = rw (reads.state, finished, size) span;
+    }
 
 stub_stride : (p : Polarity) (u w : List ℕ) (st : FileState) → is_unfinished (Some st) ≡ true
     → StateOf (slice_index u 23) p st → length u ≡ file_header_len (is_large (slice_index u 19)) → Stride p (u ++ w) (length u)
@@ -63,12 +54,10 @@ stub_stride p u w st unfinished state len = grind (arith, common_steps, header_l
 -- if a cell that is not free begins the bytes, the next header begins at its end
 pub cell_stride : (s : FileSystem) (p : Polarity) (c : CellForm) (u w : List ℕ) → IsCell s p c u → is_free c ≡ false
     → Stride p (u ++ w) (length u)
-cell_stride s p (Valid at head payload) u w is f =
-    file_stride s p head payload u w is.0 (made_up s p (Valid at head payload) u is) ((sorted head.state).finished is.1)
-cell_stride s p (Pad at head payload) u w is f =
-    file_stride s p head payload u w is.0 (made_up s p (Pad at head payload) u is) ((sorted head.state).finished is.1)
+cell_stride s p (Valid at head payload) u w is f = file_stride s p head payload u w is.0 ((sorted head.state).finished is.1)
+cell_stride s p (Pad at head payload) u w is f = file_stride s p head payload u w is.0 ((sorted head.state).finished is.1)
 cell_stride s p (Dead at len st) u w (head, payload, filled, is, state, long) f =
-    file_stride s p head payload u w filled (file_made_up s p head payload u filled) (dead_finished head.state st is state)
+    file_stride s p head payload u w filled (dead_state head.state st is state).2
 cell_stride s p (Stub at len) u w (inl state, whole, long) f = stub_stride p u w states.Construction refl state whole
 cell_stride s p (Stub at len) u w (inr state, whole, long) f = stub_stride p u w states.HeaderInvalid refl state whole
 cell_stride s p (Free at len) u w is f = cc
@@ -97,13 +86,10 @@ one_less s p at n (c ∷ cs) rest after (u, w, e, is, o, last, more) long used s
   go : (f : Bool) → is_free c ≡ f
       → (at' : ℕ) × (es : List CellForm) × Tiles s p at' es after × (length (c ∷ cs) ≡ 1 + length es)
   go false f =
-      let same : after ≡ w = behind ∙ ap (λ (x : List ℕ). drop n x) e ∙ drop_at u w n (sym (stride c u w e is f)) in
-      (at + length u, cs, subst (λ (x : List ℕ). Tiles s p (at + length u) cs x) (sym same) more, omega arith)
+      (at + length u, cs, rw (behind, e, drop_at u w n (sym (stride c u w e is f))) more, omega arith)
   go true f =
-      let none : w ≡ [] = no_rest s p _ cs w (last f) more in
-      let whole : rest ≡ u = e ∙ ap (λ (x : List ℕ). u ++ x) none ∙ append-nil u in
-      let byte : slice_index u 23 ≡ erased_byte p = all_at (erased_byte p) u 23 (free_all s p c u is f).1 (omega (arith, ap length whole, long)) in
-      absurd (used (ap (λ (x : List ℕ). slice_index x 23) whole ∙ byte))
+      let whole = rw (no_rest s p _ cs w (last f) more, append-nil) at e in
+      absurd (used (rw whole (all_at _ u 23 (free_all s p c u is f).1 (omega (arith, ap length whole, long)))))
 
 pub one_counted : (p : Polarity) (count n : ℕ) (body rest after : List ℕ) → Counted p count body rest
     → 24 ≤ length rest → slice_index rest 23 ≢ erased_byte p
@@ -113,14 +99,6 @@ one_counted p count n body rest after counted long used stride behind = λ s fir
     let k = counted s first cs t in
     let m = one_less s p k.0 n k.1 rest after k.2 long used (stride s) behind in
     (m.0, m.1, m.2, omega (arith, m.3, k.3))
-
--- if a cell that is not free begins the bytes, there are 24 bytes, and the State byte is not erased
-cell_begins : (s : FileSystem) (p : Polarity) (c : CellForm) (u w : List ℕ) → IsCell s p c u → is_free c ≡ false
-    → (24 ≤ length (u ++ w)) × (slice_index (u ++ w) 23 ≢ erased_byte p)
-cell_begins s p c u w is f =
-    let all = all_hold (cell_checks s p (offset_of c) (u ++ w)) (cell_reads s p c u w is f).checked in
-    let front = and_split (nat_le 24 (length (u ++ w))) (not (bits_of p (slice_index (u ++ w) 23) == 0)) all.0 in
-    (leb-true _ _ front.0, λ e. cc (front.1, eq-eqb _ 0 (no_bits p _ e)))
 
 -- if any bytes are left, one cell is left, which is free
 pub free_left : (s : FileSystem) (p : Polarity) (at : ℕ) (ds : List CellForm) (rest : List ℕ) → Tiles s p at ds rest
@@ -133,8 +111,8 @@ free_left s p at (c ∷ cs) rest (u, w, e, is, o, last, more) ends =
     go : (f : Bool) → is_free c ≡ f → length (c ∷ cs) ≡ 1
     go true f = ap (λ (x : List CellForm). length (c ∷ x)) (last f)
     go false f =
-        let begins = cell_begins s p c u w is f in
-        absurd (begins.1 (ap (λ (x : List ℕ). slice_index x 23) (sym e) ∙ ends (omega (arith, ap length e, begins.0))))
+        let used = read_used s p _ _ c (cell_reads s p c u w is f) in
+        absurd (used.1 ((rw e at ends) used.0))
 
 pub all_counted : (p : Polarity) (count result : ℕ) (body rest : List ℕ) → Counted p count body rest
     → (24 ≤ length rest → slice_index rest 23 ≡ erased_byte p)

@@ -3,13 +3,13 @@
 -- 1. There are at most as many cells as bytes (`cells_few`).
 -- 2. `IsPayloadIn` is true of a cell (`cell_payload`), and so of all cells of a tiling (`tiled_payloads`).
 -- 3. In a tiling of bytes, each valid file meets the conditions of `FileRead` (`tiles_read`).
-use Rattle.std.proofs.Common.{◌≡◌, ◌≤◌, ◌+◌, ◌-◌, ℕ, [], ◌∷◌, ◌++◌, List, length, take, drop, refl, sym, ap, ◌∙◌, subst, arith, length-append}
-use Rattle.fv_base.proofs.Laws.{drop-drop, drop_at, AllByRecursion, IsBytes, up_to_8, bytes_back, bytes_front, field-append_front}
+use Rattle.std.proofs.Common.{◌≡◌, ◌≤◌, ◌+◌, ◌-◌, ℕ, [], ◌∷◌, ◌++◌, List, length, take, drop, refl, sym, ap, ◌∙◌, subst, arith}
+use Rattle.fv_base.proofs.Laws.{length-append, drop-drop, drop-append_seam, AllByRecursion, IsBytes, bytes_back, bytes_front, field-append_front}
 use Rattle.fv_base.specs.declared.flash.FileSystem.{FileSystem}
 use Rattle.fv_base.specs.declared.flash.Polarity.{Polarity}
-use Rattle.fv_file.specs.Words.{CellForm, Valid, Pad, Dead, Stub, Free, IsCell, IsFilled, Tiles, offset_of, cell_len}
+use Rattle.fv_file.specs.Words.{CellForm, Valid, Pad, IsCell, IsFilled, Tiles, offset_of}
 use Rattle.fv_file.specs.declared.head.FileHead.{FileHead}
-use Rattle.fv_file.proofs.CellPartLemmas.{cell_span, made_up, not_empty}
+use Rattle.fv_file.proofs.CellPartLemmas.{filled_span, file_made_up, not_empty}
 use Rattle.fv_file.proofs.FileReadLemmas.{FileRead, cell_read_in, payload_behind}
 
 -- there are at most as many cells as bytes
@@ -28,37 +28,26 @@ IsPayloadIn volume _ = Unit {0}
 
 filled_payload : (s : FileSystem) (p : Polarity) (head : FileHead) (payload x rest volume : List ℕ) (at place : ℕ)
     → drop at volume ≡ x ++ rest → IsFilled s p head payload x → place ≡ at
-    → up_to_8 head.size ≡ length x → head.header_len + length payload ≡ head.size
     → payload ≡ take (head.size - head.header_len) (drop (place + head.header_len) volume)
-filled_payload s p head payload x rest volume at place e filled o cell_len made =
+filled_payload s p head payload x rest volume at place e filled o =
     let n : ℕ = head.size - head.header_len in
-    let inside : head.header_len + n ≤ length x = omega (arith, made, cell_len) in
+    let inside : head.header_len + n ≤ length x = omega (arith, file_made_up s p head payload x filled, filled_span s p head payload x filled) in
     payload_behind s p head payload x filled ∙ (sym (field-append_front head.header_len n x rest inside) ∙ ap (take n)
     (ap (drop head.header_len) (sym e) ∙ (drop-drop head.header_len at volume ∙ ap (λ k. drop (k + head.header_len) volume) (sym o))))
 
 cell_payload : (s : FileSystem) (p : Polarity) (c : CellForm) (x rest volume : List ℕ) (at : ℕ) → drop at volume ≡ x ++ rest
     → IsCell s p c x → offset_of c ≡ at → IsPayloadIn volume c
-cell_payload s p (Valid place head payload) x rest volume at e is o =
-    filled_payload s p head payload x rest volume at place e is.0 o (cell_span s p (Valid place head payload) x is)
-    (made_up s p (Valid place head payload) x is)
-cell_payload s p (Pad place head payload) x rest volume at e is o =
-    filled_payload s p head payload x rest volume at place e is.0 o (cell_span s p (Pad place head payload) x is)
-    (made_up s p (Pad place head payload) x is)
-cell_payload s p (Dead place len state) x rest volume at e is o = tt
-cell_payload s p (Stub place len) x rest volume at e is o = tt
-cell_payload s p (Free place len) x rest volume at e is o = tt
+cell_payload s p (Valid place head payload) x rest volume at e is o = filled_payload s p head payload x rest volume at place e is.0 o
+cell_payload s p (Pad place head payload) x rest volume at e is o = filled_payload s p head payload x rest volume at place e is.0 o
+cell_payload s p c x rest volume at e is o = tt
 
 -- if cells tile a volume from the offset `at` on, `IsPayloadIn` is true of each of them
 pub tiled_payloads : (s : FileSystem) (p : Polarity) (at : ℕ) (cs : List CellForm) (b volume : List ℕ) → drop at volume ≡ b
     → Tiles s p at cs b → AllByRecursion (IsPayloadIn volume) cs
 tiled_payloads s p at [] b volume e tiles = tt
 tiled_payloads s p at (c ∷ cs) b volume e (x, rest, text, is, o, free, more) =
-    let behind : drop (at + length x) volume ≡ rest =
-    sym (drop_twice at (length x) volume) ∙ (ap (drop (length x)) (e ∙ text) ∙ drop_at x rest (length x) refl) in
+    let behind : drop (at + length x) volume ≡ rest = rw (← drop-drop (length x) at volume, e, text, drop-append_seam) in
     (cell_payload s p c x rest volume at (e ∙ text) is o, tiled_payloads s p (at + length x) cs rest volume behind more)
-  where
-    drop_twice : (m n : ℕ) (l : List ℕ) → drop n (drop m l) ≡ drop (m + n) l
-    drop_twice m n l = drop-drop n m l
 
 -- if a body begins at the offset `first`, `IsPayloadIn` is true of each of its cells
 pub body_payloads : (s : FileSystem) (p : Polarity) (first : ℕ) (cs : List CellForm) (volume : List ℕ)
@@ -75,10 +64,7 @@ IsRead system limit _ = Unit {0}
 one_read : (system : FileSystem) (p : Polarity) (limit : ℕ) (c : CellForm) (x : List ℕ) → IsBytes x → length x ≤ limit
     → IsCell system p c x → IsRead system limit c
 one_read system p limit (Valid at head payload) x small most is = cell_read_in system p limit at head payload x small most is
-one_read system p limit (Pad at head payload) x small most is = tt
-one_read system p limit (Dead at len state) x small most is = tt
-one_read system p limit (Stub at len) x small most is = tt
-one_read system p limit (Free at len) x small most is = tt
+one_read system p limit c x small most is = tt
 
 pub tiles_read : (system : FileSystem) (p : Polarity) (limit at : ℕ) (cs : List CellForm) (b : List ℕ) → IsBytes b → length b ≤ limit
     → Tiles system p at cs b → AllByRecursion (IsRead system limit) cs

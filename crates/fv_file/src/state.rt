@@ -47,6 +47,7 @@ fn bits_of(byte: u8, polarity: Polarity) -> u8
 
 // Returns the state of the highest bit that is set, or Free if none is set. Returns None if the
 // highest bit has no state.
+#[tactic(auto, using(std::proofs::lemmas::Bool::Decides::nat_tests))]
 fn state_in(bits: u8) -> Option<FileState>
     ensures { result ≡ state_in bits }
 {

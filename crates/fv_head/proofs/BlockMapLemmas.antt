@@ -3,9 +3,9 @@
 -- 2. So the block map of a header is its blocks and then one more pair (`block_map_is`). If this pair is taken off, the
 --    blocks are left (`last-injective`).
 -- 3. A test decides whether a pair is the pair of zeros (`zero_pair_is`, `zero_pair_not`, `none_zero`, `all_not_zero`).
-use Rattle.std.proofs.Common.{◌≡◌, ◌≢◌, ◌≤◌, ℕ, ◌+◌, ◌-◌, ◌%◌, [], ◌∷◌, ◌++◌, List, length, take, drop, refl, sym, ap, ◌∙◌, subst, arith, true, false}
-use Rattle.std.proofs.Common.{length-take, length-drop, drop-drop, not, length-take-le, eqb-true}
-use Rattle.fv_base.proofs.Laws.{common_steps, AllByRecursion, drop-take, take-add, le, le_at, and_split, take-take_le}
+use Rattle.std.proofs.Common.{◌≡◌, ◌≢◌, ◌≤◌, ℕ, ◌+◌, ◌-◌, ◌%◌, [], ◌∷◌, ◌++◌, length-take}
+use Rattle.fv_base.proofs.Laws.{List, length, take, drop, refl, ap, ◌∙◌, subst, arith, true, false, length-drop, drop-drop, not, length-take-le}
+use Rattle.fv_base.proofs.Laws.{eqb-true, take-add, common_steps, AllByRecursion, drop-take, le, le_at, and_split, take-take_le}
 use Rattle.std.specs.List.{list_all}
 use Rattle.fv_head.specs.Words.{is_zero_pair, blocks_at, pairs_of}
 
@@ -68,10 +68,9 @@ last_pair at b h =
 pub block_map_is : (n : ℕ) (b : List ℕ) → 64 ≤ n → n % 8 ≡ 0 → n ≤ length b
     → pairs_of (drop 56 (take n b)) ≡ blocks_at n b ++ ((le_at (n - 8) 4 b, le_at (n - 4) 4 b) ∷ [])
 block_map_is n b least multiple within =
-    let split : n ≡ 56 + ((n - 64) + 8) = omega arith in
+    let split : 56 + ((n - 64) + 8) ≡ n = omega arith in
     let x : List ℕ = drop 56 b in
-    let cut : drop 56 (take n b) ≡ take ((n - 64) + 8) x =
-    subst (λ (k : ℕ). drop 56 (take k b) ≡ take ((n - 64) + 8) x) (sym split) (drop-take 56 ((n - 64) + 8) b) in
+    let cut : drop 56 (take n b) ≡ take ((n - 64) + 8) x = rw split at (drop-take 56 ((n - 64) + 8) b) in
     let moved : drop (n - 64) x ≡ drop (n - 8) b = drop-drop (n - 64) 56 b ∙ ap (λ (k : ℕ). drop k b) (omega arith) in
     let parts : drop 56 (take n b) ≡ take (n - 64) x ++ take 8 (drop (n - 8) b) =
     cut ∙ take-add (n - 64) 8 x ∙ ap (λ (ys : List ℕ). take (n - 64) x ++ take 8 ys) moved in

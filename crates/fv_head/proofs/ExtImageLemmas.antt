@@ -4,9 +4,9 @@
 -- 2. So written entries are read again as these entries (`entries_again`), and a written extended header as this
 --    extended header (`ext_again`).
 -- 3. A walk puts the entries one by one (`entries_step`, `entries_end`).
-use Rattle.std.proofs.Common.{◌≡◌, ◌≤◌, ◌<◌, ℕ, ◌+◌, [], ◌∷◌, ◌++◌, List, length, drop, refl, sym, ap, ◌∙◌, subst, arith, Bool, true, false, get_or}
-use Rattle.fv_base.proofs.Laws.{length-append, append_assoc, append-nil, drop_at, eqb-true, common_steps, drop_more, drop_all, bytes_of, ext_limit}
-use Rattle.fv_base.proofs.Laws.{IsBytes, le, le_bytes, le_at, bytes_drop, le-le_bytes, two_bytes}
+use Rattle.std.proofs.Common.{◌≡◌, ◌≤◌, ◌<◌, ℕ, ◌+◌, [], ◌∷◌, ◌++◌, List, length, drop, refl, sym, ap, ◌∙◌}
+use Rattle.fv_base.proofs.Laws.{subst, arith, Bool, true, false, get_or, length-append, append_assoc, append-nil, drop_at, eqb-true, common_steps}
+use Rattle.fv_base.proofs.Laws.{drop_more, drop_all, bytes_of, ext_limit, IsBytes, le, le_bytes, le_at, bytes_drop, le-le_bytes, two_bytes}
 use Rattle.fv_head.specs.Words.{Extension, kept_payload, is_used_size, BeginNoEntry, SplitsEntries, IsExt, IsReadExt, payload_with, entry_bytes}
 use Rattle.fv_head.specs.Words.{entries_bytes, entries_len, ext_len, ext_spelled}
 use Rattle.fv_head.proofs.ExtLemmas.{begins, length-ext}

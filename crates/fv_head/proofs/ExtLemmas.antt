@@ -8,11 +8,11 @@
 --    decide this (`ext_same`).
 -- 4. A reader counts the entries (`entry_counted`, `entries_counted`) and takes them one by one (`more_entries`,
 --    `end_entries`), and the extended header that it has read is an extended header (`ext_from`).
-use Rattle.std.proofs.Common.{◌≡◌, ◌≤◌, ◌<◌, ℕ, ◌+◌, ◌-◌, [], ◌∷◌, ◌++◌, rules, ◌==◌, ◌&&◌, ◌||◌, if◌then◌else◌, zero, suc, List, length, take, drop}
-use Rattle.std.proofs.Common.{refl, sym, ap, ◌∙◌, subst, arith, inl, Bool, true, false, length-append, length-drop, append_assoc, append-nil}
-use Rattle.std.proofs.Common.{drop-drop, nat_le, Option, Some, None, take_at, drop_at, take-append-drop, length-take-le, take_all, leb-true, le-leb}
-use Rattle.fv_base.proofs.Laws.{eqb-true, common_steps, drop-take, nat_tests, bytes_of, ext_limit, le, field, le_at, up_to_8, and_join, and_split}
-use Rattle.fv_base.proofs.Laws.{field-append_front, field-take}
+use Rattle.std.proofs.Common.{◌≡◌, ◌≤◌, ◌<◌, ℕ, ◌+◌, ◌-◌, [], ◌∷◌, ◌++◌, rules, ◌==◌, ◌&&◌, ◌||◌, if◌then◌else◌, leb-true, add-sub_of_le}
+use Rattle.fv_base.proofs.Laws.{zero, suc, List, length, take, drop, refl, sym, ap, ◌∙◌, subst, arith, inl, Bool, true, false, length-append}
+use Rattle.fv_base.proofs.Laws.{length-drop, append_assoc, append-nil, drop-drop, nat_le, Option, Some, None, take_at, drop_at, take-append-drop}
+use Rattle.fv_base.proofs.Laws.{length-take-le, take_all, le-leb, eqb-true, drop-append_seam, common_steps, drop-take, nat_tests, bytes_of, ext_limit}
+use Rattle.fv_base.proofs.Laws.{le, field, le_at, up_to_8, and_join, and_split, field-append_front, field-take}
 use Rattle.fv_base.specs.declared.guid.Guid.{Guid}
 use Rattle.fv_head.specs.Words.{Extension, kept_payload, BeginNoEntry, SplitsEntries, IsExt, HasExt, ext_offset_at, ext_size_at, has_ext}
 use Rattle.fv_head.specs.declared.extent.Extent.{Extent}
@@ -29,24 +29,18 @@ pub record Begins (b head payload rest : List ℕ) : Type 0 where
 
 pub begins : (b head payload rest : List ℕ) → b ≡ head ++ (payload ++ rest) → length head ≡ 4 → le_at 0 2 head ≡ 4 + length payload
     → Begins b head payload rest
-begins b head payload rest text four size =
-    let long : length b ≡ 4 + length payload + length rest =
-    omega (arith, ap length text, length-append head (payload ++ rest), length-append payload rest, four) in
-    let at : le_at 0 2 b ≡ le_at 0 2 head =
-    ap (le_at 0 2) text ∙ ap le (field-append_front 0 2 head (payload ++ rest) (omega (arith, four))) in
-    let behind : drop 4 b ≡ payload ++ rest = ap (drop 4) text ∙ drop_at head (payload ++ rest) 4 four in
-    let same : le_at 0 2 b ≡ 4 + length payload = at ∙ size in
+begins b head payload rest text four size = rw text (
+    let whole : List ℕ = head ++ (payload ++ rest) in
+    let same : le_at 0 2 whole ≡ 4 + length payload = ap le (field-append_front 0 2 head (payload ++ rest) (omega (arith, four))) ∙ size in
+    let behind : drop 4 whole ≡ payload ++ rest = drop_at head (payload ++ rest) 4 four in
     record {
       size = same;
-      kind = ap (le_at 2 2) text ∙ ap le (field-append_front 2 2 head (payload ++ rest) (omega (arith, four)));
-      long = long;
-      payload_is = sym (ap (take (le_at 0 2 b - 4)) behind ∙ take_at payload rest (le_at 0 2 b - 4) (omega (arith, same)));
-      rest_is = sym (ap (λ (n : ℕ). drop n b) (same ∙ turned (length payload)) ∙ sym (drop-drop (length payload) 4 b)
-          ∙ ap (drop (length payload)) behind ∙ drop_at payload rest (length payload) refl);
+      kind = ap le (field-append_front 2 2 head (payload ++ rest) (omega (arith, four)));
+      long = omega (arith, length-append head (payload ++ rest), length-append payload rest, four);
+      payload_is = sym (rw behind (take_at payload rest (le_at 0 2 whole - 4) (omega (arith, same))));
+      rest_is = rw (same, ← drop-drop (length payload) 4 whole, behind, drop-append_seam);
     }
-  where
-    turned : (n : ℕ) → 4 + n ≡ 4 + n
-    turned n = refl
+    )
 
 -- bytes that begin with an entry are not bytes that begin with no entry
 no_entry : (b head payload rest : List ℕ) → Begins b head payload rest → BeginNoEntry b → ⊥
@@ -82,7 +76,7 @@ entry_before b n e es tail size least within kind kept more =
     let payload : List ℕ = field 4 (n - 4) b in
     let four : length head ≡ 4 = length-take-le 4 b (omega (arith, least, within)) in
     let long : length payload ≡ n - 4 = length-take-le (n - 4) (drop 4 b) (omega (arith, length-drop 4 b, within)) in
-    let rest_is : drop (n - 4) (drop 4 b) ≡ drop n b = drop-drop (n - 4) 4 b ∙ ap (λ (k : ℕ). drop k b) (whole n least) in
+    let rest_is : drop (n - 4) (drop 4 b) ≡ drop n b = rw (add-sub_of_le least) at (drop-drop (n - 4) 4 b) in
     let text : b ≡ head ++ (payload ++ drop n b) =
     sym (take-append-drop 4 b)
     ∙ ap (λ (xs : List ℕ). head ++ xs) (sym (take-append-drop (n - 4) (drop 4 b)) ∙ ap (λ (xs : List ℕ). payload ++ xs) rest_is) in (
@@ -91,17 +85,11 @@ entry_before b n e es tail size least within kind kept more =
       drop n b,
       text,
       four,
-      ap le (field-take 0 2 4 b (omega arith)) ∙ sym size ∙ front n (length payload) least long,
+      ap le (field-take 0 2 4 b (omega arith)) ∙ sym size ∙ omega (arith, least, long),
       ap le (field-take 2 2 4 b (omega arith)) ∙ sym kind,
       kept,
       more,
     )
-  where
-    whole : (n : ℕ) → 4 ≤ n → 4 + (n - 4) ≡ n
-    whole n least = omega arith
-
-    front : (n k : ℕ) → 4 ≤ n → k ≡ n - 4 → n ≡ 4 + k
-    front n k least is = omega arith
 
 -- bytes begin with an entry, or do not begin with an entry
 data Starts (b : List ℕ) : Type 0 where

@@ -5,10 +5,10 @@
 -- 2. If the checks hold, the bytes begin with a volume that has the fields that are read (`front_found`).
 -- 3. If bytes begin with a volume, the checks hold, and the verdict is its extent (`front_only`).
 -- 4. The fields of the volume's header have the values that are read at their offsets (`front_fields`).
-use Rattle.std.proofs.Common.{◌≡◌, ◌≤◌, ℕ, ◌+◌, ◌-◌, ◌%◌, [], ◌∷◌, ◌++◌, rules, ◌==◌, if◌then◌else◌, List, length, take, refl, sym, ap, ◌∙◌, subst}
-use Rattle.std.proofs.Common.{arith, true, nat_le, is_some, Option, None, Some, Ok, Err, slice_index, length-take-le, get_or-take, leb-true}
-use Rattle.fv_base.proofs.Laws.{le-leb, eqb-true, eq-eqb, common_steps, bytes_eq-Decides, AllHold, outer_fault, header_limit, IsBytes, le}
-use Rattle.fv_base.proofs.Laws.{field, le_at, up_to_8, all_hold, and_join, and_split, bytes_take, field-take, none_faulty}
+use Rattle.std.proofs.Common.{◌≡◌, ◌≤◌, ℕ, ◌+◌, ◌-◌, ◌%◌, [], ◌∷◌, ◌++◌, rules, ◌==◌, if◌then◌else◌, leb-true}
+use Rattle.fv_base.proofs.Laws.{List, length, take, refl, sym, ap, ◌∙◌, subst, arith, true, nat_le, is_some, Option, None, Some, Ok, Err, slice_index}
+use Rattle.fv_base.proofs.Laws.{length-take-le, get_or-take, le-leb, eqb-true, eq-eqb, common_steps, bytes_eq-Decides, AllHold, outer_fault}
+use Rattle.fv_base.proofs.Laws.{header_limit, IsBytes, le, field, le_at, up_to_8, all_hold, and_join, and_split, bytes_take, field-take, none_faulty}
 use Rattle.fv_base.specs.declared.fault.Fault.{Fault}
 use Rattle.fv_base.specs.declared.flash.FileSystem.{FileSystem}
 use Rattle.fv_base.specs.declared.flash.Polarity.{Polarity}
@@ -140,6 +140,24 @@ front_found b e small h =
     subst (λ (e : Extent). (y : Option Extension) × BeginsVolume (fields_of e.file_system y b) e b) x.2
     (front_of b x.0 small x.1 (guid_found b x.0 x.1) (all_hold (head_checks b) v.0))
 
+-- the header of a volume lies within the bytes, and HeaderLength is its length
+pub record Within (b : List ℕ) (e : Extent) : Type 0 where
+  pub at : e.header_len ≡ header_len_at b
+  pub least : 64 ≤ e.header_len
+  pub multiple : e.header_len % 8 ≡ 0
+  pub within : e.header_len ≤ length b
+
+pub front_within : (b : List ℕ) (h : HeadFields) (e : Extent) → BeginsVolume h e b → Within b e
+front_within b h e f =
+    let len : length (take e.header_len b) ≡ e.header_len = length-take-le e.header_len b f.long_enough in
+    let least : 64 ≤ e.header_len = rw (← len) f.head.least in
+    record {
+      at = sym (ap le (sym (field-take 48 2 e.header_len b (omega arith))) ∙ f.head.header_length ∙ len);
+      least = least;
+      multiple = rw len at f.head.multiple;
+      within = f.long_enough;
+    }
+
 -- an extent is made of its fields
 extent_is : (l n f : ℕ) (fs : FileSystem) (p : Polarity) (e : Extent) → l ≡ e.length → n ≡ e.header_len → f ≡ e.first → fs ≡ e.file_system
     → p ≡ e.polarity
@@ -186,13 +204,7 @@ front_exact b h e same least f =
 
 -- bytes that begin with a volume have no fault
 pub front_only : (b : List ℕ) (h : HeadFields) (e : Extent) → BeginsVolume h e b → head_verdict b ≡ Ok e
-front_only b h e f =
-    let head = f.head in
-    let n : ℕ = header_len_at b in
-    let len : length (take e.header_len b) ≡ e.header_len = length-take-le e.header_len b f.long_enough in
-    let least : 64 ≤ e.header_len = rw (← len) head.least in
-    let same : n ≡ e.header_len = ap le (sym (field-take 48 2 e.header_len b (omega arith))) ∙ head.header_length ∙ len in
-    front_exact b h e same least f
+front_only b h e f = let within = front_within b h e f in front_exact b h e (sym within.at) within.least f
 
 -- header fields are made of their parts
 pub fields_are : (z : List ℕ) (fs : FileSystem) (l a r : ℕ) (bs : List (ℕ × ℕ)) (x : Option Extension) (h : HeadFields) → h.zero_vector ≡ z
@@ -207,16 +219,13 @@ pub front_fields : (b : List ℕ) (h : HeadFields) (e : Extent) → BeginsVolume
 front_fields b h e f =
     let head = f.head in
     let m : ℕ = e.header_len in
-    let len : length (take m b) ≡ m = length-take-le m b f.long_enough in
-    let least : 64 ≤ m = rw (← len) head.least in
-    let multiple : m % 8 ≡ 0 = rw len at head.multiple in
-    let same : header_len_at b ≡ m = ap le (sym (field-take 48 2 m b (omega arith))) ∙ head.header_length ∙ len in
-    let pairs = last-injective _ _ _ _ (sym (block_map_is m b least multiple f.long_enough) ∙ head.block_map) in
+    let w = front_within b h e f in
+    let pairs = last-injective _ _ _ _ (sym (block_map_is m b w.least w.multiple f.long_enough) ∙ head.block_map) in
     fields_are _ _ _ _ _ _ _ h
-    (sym head.zero_vector ∙ field-take 0 16 m b (omega arith))
+    (sym head.zero_vector ∙ field-take 0 16 m b (omega (arith, w.least)))
     (sym f.file_system)
-    (sym head.volume_length ∙ ap le (field-take 32 8 m b (omega arith)))
-    (sym head.attributes ∙ ap le (field-take 44 4 m b (omega arith)))
-    (sym head.reserved ∙ get_or-take m b 54 0 (omega arith))
-    (sym pairs.0 ∙ ap (λ (n : ℕ). blocks_at n b) (sym same))
+    (sym head.volume_length ∙ ap le (field-take 32 8 m b (omega (arith, w.least))))
+    (sym head.attributes ∙ ap le (field-take 44 4 m b (omega (arith, w.least))))
+    (sym head.reserved ∙ get_or-take m b 54 0 (omega (arith, w.least)))
+    (sym pairs.0 ∙ ap (λ (n : ℕ). blocks_at n b) w.at)
     refl

@@ -3,8 +3,8 @@
 -- 2. The first fault is at an offset within the bytes, or at their end (`fault_within`), and is not OutOfMemory
 --    (`fault_known`).
 -- 3. So a result that is the verdict meets each clause (`ok_found`, `err_first`, `err_within`).
-use Rattle.std.proofs.Common.{◌≡◌, ◌≢◌, ◌≤◌, ℕ, [], ◌∷◌, List, length, refl, sym, ap, ◌∙◌, arith, true, nat_le, is_some, Option, None, Some, Result}
-use Rattle.std.proofs.Common.{Ok, Err, IfOk, IfErr, leb-true, rules}
+use Rattle.std.proofs.Common.{◌≡◌, ◌≢◌, ◌≤◌, ℕ, [], ◌∷◌, leb-true, rules}
+use Rattle.fv_base.proofs.Laws.{List, length, refl, sym, ap, ◌∙◌, arith, true, nat_le, is_some, Option, None, Some, Result, Ok, Err, IfOk, IfErr}
 use Rattle.fv_base.proofs.Laws.{AllByRecursion, Check, check, IsFirstFault, outer_fault, IsBytes, all_hold, first_among, first_is}
 use Rattle.fv_base.specs.declared.fault.Fault.{Fault}
 use Rattle.fv_base.specs.declared.flash.FileSystem.{FileSystem}

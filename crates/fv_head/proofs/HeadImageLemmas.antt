@@ -9,12 +9,11 @@
 --    (`canonical_only`). With the extended header in a pad file after them, they begin a volume with these fields
 --    (`canonical_front`).
 -- 5. The checksum is computed from a sum of words (`weight-words`, `words_added`, `checksum_from`).
-use Rattle.std.proofs.Common.{◌≡◌, ◌≤◌, ◌<◌, ℕ, ◌+◌, ◌-◌, ◌*◌, ◌%◌, [], ◌∷◌, ◌++◌, List, length, take, drop, refl, sym, ap, ◌∙◌, subst, arith}
-use Rattle.std.proofs.Common.{false, length-append, length-drop, append_assoc, drop-drop, slice_index, sum, Bool, Option, None, Some}
-use Rattle.std.proofs.Common.{take-append-drop, take_at, drop_at, get_or-drop, length-take-le}
-use Rattle.fv_base.proofs.Laws.{common_steps, take-add, drop_more, words_of, header_limit, IsBytes, le, le_bytes, field, le_at, up_to_8, bytes_append}
-use Rattle.fv_base.proofs.Laws.{bytes_drop, bytes_le_bytes, bytes_take, field-append_front, field-take, field_is, le-le_bytes}
-use Rattle.fv_base.proofs.Laws.{le_bytes-le, sum-words_of-append, two_bytes, sum_by-cons}
+use Rattle.std.proofs.Common.{◌≡◌, ◌≤◌, ◌<◌, ℕ, ◌+◌, ◌-◌, ◌*◌, ◌%◌, [], ◌∷◌, ◌++◌, sum, List, length, take, drop, refl, sym}
+use Rattle.fv_base.proofs.Laws.{ap, ◌∙◌, subst, arith, false, length-append, length-drop, append_assoc, drop-drop, slice_index, Bool, Option, None}
+use Rattle.fv_base.proofs.Laws.{Some, take-append-drop, take_at, drop_at, get_or-drop, length-take-le, take-add, common_steps, drop_more, words_of}
+use Rattle.fv_base.proofs.Laws.{header_limit, IsBytes, le, le_bytes, field, le_at, up_to_8, bytes_append, bytes_drop, bytes_le_bytes, bytes_take}
+use Rattle.fv_base.proofs.Laws.{field-append_front, field-take, field_is, le-le_bytes, le_bytes-le, sum-words_of-append, two_bytes, sum_by-cons}
 use Rattle.fv_base.specs.Words.{sum16_of}
 use Rattle.fv_head.specs.Words.{Extension, HasExt, HeadFields, IsHead, BeginsVolume, canonical_offset, IsReadHead, IsCanonicalHead, extent_of, IfRead}
 use Rattle.fv_head.specs.Words.{CanonicalRest, header_len_of, signature_bytes, system_guid, pairs_of, pairs_bytes, ext_spelled, canonical_end}
@@ -72,14 +71,10 @@ front_of h =
 abbrev behind_of : HeadFields → List ℕ
 behind_of h = h.reserved ∷ 2 ∷ (pairs_bytes h.blocks ++ le_bytes 8 0)
 
-rejoined : (a b c d e f g h i j k : List ℕ)
-    → a ++ b ++ c ++ d ++ e ++ f ++ g ++ h ++ i ++ j ++ k ≡ (a ++ b ++ c ++ d ++ e ++ f) ++ (g ++ (h ++ (i ++ (j ++ k))))
-rejoined a b c d e f g h i j k = simp append_assoc refl
-
 spelled_parts : (h : HeadFields) (checksum offset : ℕ)
     → head_spelled h checksum offset ≡ front_of h ++ (le_bytes 2 checksum ++ (le_bytes 2 offset ++ behind_of h))
 unfolding head_spelled
-spelled_parts h checksum offset = grind (arith, common_steps, rejoined)
+spelled_parts h checksum offset = simp append_assoc
 
 -- the bytes before Checksum are the fields before it
 front_is : (h : HeadFields) (b : List ℕ) → IsHead h b → take 50 b ≡ front_of h
@@ -109,11 +104,8 @@ behind_is h b head =
 -- a header is the bytes that are written for its fields, its Checksum and its ExtHeaderOffset
 spelled_is : (h : HeadFields) (b : List ℕ) → IsHead h b → b ≡ head_spelled h (le_at 50 2 b) (le_at 52 2 b)
 spelled_is h b head =
-    sym (take-append-drop 50 b)
-    ∙ ap (λ (xs : List ℕ). take 50 b ++ xs) (number 50 (omega arith) ∙ ap (λ (xs : List ℕ). le_bytes 2 (le_at 50 2 b) ++ xs) (number 52 (omega arith)))
-    ∙ ap (λ (xs : List ℕ). xs ++ (le_bytes 2 (le_at 50 2 b) ++ (le_bytes 2 (le_at 52 2 b) ++ drop 54 b))) (front_is h b head)
-    ∙ ap (λ (xs : List ℕ). front_of h ++ (le_bytes 2 (le_at 50 2 b) ++ (le_bytes 2 (le_at 52 2 b) ++ xs))) (behind_is h b head)
-    ∙ sym (spelled_parts h (le_at 50 2 b) (le_at 52 2 b))
+    rw (spelled_parts h (le_at 50 2 b) (le_at 52 2 b), ← front_is h b head, ← behind_is h b head)
+    (rw (← number 52 (omega arith), ← number 50 (omega arith), take-append-drop))
   where
     number : (at : ℕ) → at ≤ 52 → drop at b ≡ le_bytes 2 (le_at at 2 b) ++ drop (at + 2) b
     number at low =

@@ -1,37 +1,18 @@
 -- The fields of a volume header are read at their offsets, and bytes begin with at most one volume. The steps:
--- 1. The length of the header and its fields are read at their offsets (`front_within`, `kept_fields`, `ext_there`).
+-- 1. The fields of the header and the extended header are read at their offsets (`kept_fields`, `ext_there`).
 -- 2. So bytes begin with at most one volume (`one_front`), and only the volume's own bytes decide which (`front_same`).
 -- 3. The header and the start of the first file lie within the volume (`front_lies`, `first_lies`).
-use Rattle.std.proofs.lemmas.Grind.{common_steps}
-use Rattle.std.proofs.Common.{◌≡◌, ◌≤◌, ℕ, ◌+◌, ◌-◌, ◌%◌, rules, zero, suc, List, length, take, refl, sym, ap, ◌∙◌, subst, arith, inl, inr, Option}
-use Rattle.std.proofs.Common.{Some, slice_index, length-take-le}
-use Rattle.fv_base.proofs.Laws.{AllHold, volume_limit, header_limit, ext_limit, le, field, le_at, all_hold, field-take, take-take_le}
+use Rattle.std.proofs.Common.{◌≡◌, ◌≤◌, ℕ, ◌+◌, ◌-◌, ◌%◌, rules}
+use Rattle.fv_base.proofs.Laws.{zero, suc, List, length, take, refl, sym, ap, ◌∙◌, subst, arith, inl, inr, Option, Some, slice_index, length-take-le}
+use Rattle.fv_base.proofs.Laws.{common_steps, AllHold, volume_limit, header_limit, ext_limit, field, le_at, all_hold, take-take_le}
 use Rattle.fv_base.specs.declared.flash.FileSystem.{FileSystem}
 use Rattle.fv_base.specs.inner.Verdicts.{first_fault}
-use Rattle.fv_head.specs.Words.{Extension, IsExt, HasExt, HeadFields, IsHead, BeginsVolume, head_checks, file_system_at, header_len_at}
-use Rattle.fv_head.specs.Words.{volume_len_at, ext_offset_at, ext_size_at, pairs_of}
+use Rattle.fv_head.specs.Words.{Extension, IsExt, HasExt, HeadFields, IsHead, BeginsVolume, head_checks, file_system_at, volume_len_at, ext_offset_at}
+use Rattle.fv_head.specs.Words.{ext_size_at, pairs_of}
 use Rattle.fv_head.specs.declared.extent.Extent.{Extent}
 use Rattle.fv_head.specs.inner.HeadVerdicts.{ExtHeaderWithin, extent_at}
 use Rattle.fv_head.proofs.ExtLemmas.{make_has_ext, placed_there, one_has_ext, ext_same}
-use Rattle.fv_head.proofs.HeadCheckLemmas.{extent_ok, fields_are, front_fields, front_only, verdict_ok}
-
--- the header of a volume lies within the bytes, and HeaderLength is its length
-pub record Within (b : List ℕ) (e : Extent) : Type 0 where
-  pub at : e.header_len ≡ header_len_at b
-  pub least : 64 ≤ e.header_len
-  pub multiple : e.header_len % 8 ≡ 0
-  pub within : e.header_len ≤ length b
-
-pub front_within : (b : List ℕ) (h : HeadFields) (e : Extent) → BeginsVolume h e b → Within b e
-front_within b h e f =
-    let len : length (take e.header_len b) ≡ e.header_len = length-take-le e.header_len b f.long_enough in
-    let least : 64 ≤ e.header_len = rw (← len) f.head.least in
-    record {
-      at = sym (ap le (sym (field-take 48 2 e.header_len b (omega arith))) ∙ f.head.header_length ∙ len);
-      least = least;
-      multiple = rw len at f.head.multiple;
-      within = f.long_enough;
-    }
+use Rattle.fv_head.proofs.HeadCheckLemmas.{extent_ok, front_within, fields_are, front_fields, front_only, verdict_ok}
 
 -- the values that are read at the offsets of a header, with its extended header, are its fields
 pub kept_fields : (b : List ℕ) (e : Extent) (z : List ℕ) (l a r : ℕ) (bs : List (ℕ × ℕ)) (x : Option Extension)

@@ -1,6 +1,6 @@
 -- Steps of the walks over a header: the bytes that a sink has taken after one more byte, pair or field.
-use Rattle.std.proofs.Common.{◌≡◌, ◌<◌, ◌≤◌, ℕ, ◌+◌, ◌%◌, [], ◌∷◌, ◌++◌, List, length, take, drop, get_or, refl, sym, ap, ◌∙◌, subst, arith}
-use Rattle.fv_base.proofs.Laws.{append_assoc, append-nil, Bool, not, common_steps, take_more, drop_more, drop_all, le_bytes}
+use Rattle.std.proofs.Common.{◌≡◌, ◌<◌, ◌≤◌, ℕ, ◌+◌, ◌%◌, [], ◌∷◌, ◌++◌, List, length, take, drop, get_or, refl, sym}
+use Rattle.fv_base.proofs.Laws.{ap, ◌∙◌, subst, arith, append_assoc, append-nil, Bool, not, common_steps, take_more, drop_more, drop_all, le_bytes}
 use Rattle.fv_head.specs.Words.{pairs_bytes}
 use Rattle.fv_head.specs.inner.WordSums.{adds_joined, word_weight, is_high_after}
 

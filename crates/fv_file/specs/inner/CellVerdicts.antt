@@ -6,7 +6,7 @@ use Rattle.fv_base.specs.Words.{Check, outer_fault, erased_byte, up_to_8}
 use Rattle.fv_base.specs.declared.fault.Fault.{Fault}
 use Rattle.fv_base.specs.declared.flash.FileSystem.{FileSystem}
 use Rattle.fv_base.specs.declared.flash.Polarity.{Polarity}
-use Rattle.fv_file.specs.FileChecks.{file_checks, stub_checks, leading_count, payload_at}
+use Rattle.fv_file.specs.FileChecks.{file_checks, stub_checks, verify_checks, leading_count, payload_at}
 use Rattle.fv_file.specs.States.{is_alive, state_of}
 use Rattle.fv_file.specs.declared.state.FileState.{FileState}
 use Rattle.fv_file.specs.declared.state.FileState.TheVariants as states
@@ -88,14 +88,12 @@ cell_verdict system polarity p r =
     if nat_lt (length r) 24 then Err (stray polarity p r)
     else state_verdict (state_of polarity (state_at r)) system polarity p r
 
--- the header of a file if the file is valid by its state, or the first fault
-abbrev pub valid_state_verdict : Option FileState → FileSystem → List ℕ → Result FileHead Fault
-valid_state_verdict None system b = Err (outer_fault kinds.FileState 23)
-valid_state_verdict (Some state) system b =
-    if is_alive state then file_verdict system state 0 b else Err (outer_fault kinds.FileState 23)
+-- the header at the start of the bytes, if they show a state (the case without a state is not used)
+abbrev pub head_of : Option FileState → List ℕ → FileHead
+head_of None b = head_in states.Free b
+head_of (Some state) b = head_in state b
 
 -- the header of the valid file or pad that the bytes begin with, or the first fault
 abbrev pub verify_verdict : FileSystem → Polarity → List ℕ → Result FileHead Fault
 verify_verdict system polarity b =
-    if nat_lt (length b) 24 then Err (outer_fault kinds.FileSize 20)
-    else valid_state_verdict (state_of polarity (state_at b)) system b
+    verdict_by (first_fault (verify_checks system polarity b)) (head_of (state_of polarity (state_at b)) b)

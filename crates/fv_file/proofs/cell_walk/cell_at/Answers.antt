@@ -1,5 +1,5 @@
-use Rattle.std.proofs.lemmas.Grind.{common_steps}
-use Rattle.std.proofs.Common.{arith, rules}
+use Rattle.std.proofs.Common.{rules}
+use Rattle.fv_base.proofs.Laws.{arith, common_steps}
 use Rattle.fv_file.proofs.cell_walk.cell_at.Goals as goal
 
 -- erased bytes show no cell

@@ -1,7 +1,5 @@
-use Rattle.std.proofs.lemmas.Grind.{common_steps}
-use Rattle.std.proofs.Common.{◌+◌, ◌∙◌, ap, arith, length, length-drop, refl, rules, sym}
-use Rattle.std.proofs.lemmas.Bool.{eq-eqb}
-use Rattle.fv_base.proofs.Laws.{not_equal}
+use Rattle.std.proofs.Common.{rules}
+use Rattle.fv_base.proofs.Laws.{◌∙◌, ap, arith, length, length-drop, refl, sym, eq-eqb, common_steps, not_equal}
 use Rattle.fv_file.proofs.StrideLemmas.{all_counted, one_counted}
 use Rattle.fv_file.proofs.cell_walk.cell_count.Goals as goal
 use Rattle.fv_file.proofs.cell_walk.cell_count.Goals.{then-loop-rest-test+else-rest-erased, else-loop-rest-test}
@@ -10,14 +8,7 @@ pub loop-rest-preserved : goal.loop-rest-preserved
 loop-rest-preserved c = (
   one_counted c.args.polarity c.loop-rest.count c.stride_at.result c.args.body.now _ _ c.loop-rest.invariant.0 (omega (arith, c.loop-rest-test.true))
       (λ e. c.if-rest-erased.true (e ∙ sym c.erased.ensures.value)) c.stride_at.ensures.cell c.bytes_from-rest.ensures,
-  omega (
-    arith,
-    c.loop-rest.invariant.1,
-    c.stride_at.ensures.least,
-    c.stride_at.ensures.within,
-    ap length c.bytes_from-rest.ensures,
-    length-drop c.stride_at.result c.loop-rest.rest.now,
-  ),
+  omega (arith, ap length c.bytes_from-rest.ensures, length-drop c.stride_at.result c.loop-rest.rest.now),
 )
 
 pub returns-clause-cells : goal.returns-clause-cells

@@ -1,7 +1,4 @@
-use Rattle.std.proofs.lemmas.Grind.{common_steps}
-use Rattle.std.proofs.Common.{arith, length-drop}
-use Rattle.std.proofs.lemmas.Result.{IfOk-weaker, IfErr-weaker}
-use Rattle.fv_base.specs.Words.{First}
+use Rattle.fv_base.proofs.Laws.{arith, length-drop, common_steps, IfOk-weaker, IfErr-weaker, First}
 use Rattle.fv_file.proofs.BodyLemmas.{only_one, none_after, all_within}
 use Rattle.fv_file.proofs.cell_walk.cells.Goals as goal
 

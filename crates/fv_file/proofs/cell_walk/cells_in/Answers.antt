@@ -1,5 +1,4 @@
-use Rattle.std.proofs.Common.{arith}
-use Rattle.fv_base.proofs.Laws.{err_is, common_steps}
+use Rattle.fv_base.proofs.Laws.{arith, err_is, common_steps}
 use Rattle.fv_file.proofs.BodyLemmas.{more_read}
 use Rattle.fv_file.proofs.CellFaultLemmas.{body_within}
 use Rattle.fv_file.proofs.CellWalkLemmas.{walked_on, walk_fails}

@@ -1,6 +1,4 @@
-use Rattle.std.proofs.Common.{arith}
-use Rattle.std.proofs.lemmas.Result.{IfOk-weaker, IfErr-weaker}
-use Rattle.fv_base.proofs.Laws.{all_are-true, common_steps}
+use Rattle.fv_base.proofs.Laws.{arith, IfOk-weaker, IfErr-weaker, all_are-true, common_steps}
 use Rattle.fv_file.proofs.CellVerdictLemmas.{verdict_stands, verdict_first}
 use Rattle.fv_file.proofs.CellWalkLemmas.{stands_walked, free_walked}
 use Rattle.fv_file.proofs.ErasedByteLemmas.{not_erased}

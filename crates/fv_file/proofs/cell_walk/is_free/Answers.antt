@@ -1,6 +1,4 @@
-use Rattle.std.proofs.lemmas.Grind.{common_steps}
-use Rattle.std.proofs.Common.{arith}
-use Rattle.std.proofs.lemmas.Bool.{lt-ltb, eq-eqb}
+use Rattle.fv_base.proofs.Laws.{arith, lt-ltb, eq-eqb, common_steps}
 use Rattle.fv_file.proofs.ErasedByteLemmas.{not_all}
 use Rattle.fv_file.proofs.cell_walk.is_free.Goals as goal
 use Rattle.fv_file.proofs.cell_walk.is_free.Goals.{then-rest-lt-HEADER_LEN, else-rest-lt-HEADER_LEN}

@@ -1,4 +1,4 @@
-use Rattle.std.proofs.Common.{◌∙◌}
+use Rattle.fv_base.proofs.Laws.{◌∙◌}
 use Rattle.fv_file.proofs.FirstFileLemmas.{ok_found, begins_only, err_first}
 use Rattle.fv_file.proofs.first_file.verify_ffs_file.Goals as goal
 

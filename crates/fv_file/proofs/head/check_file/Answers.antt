@@ -1,5 +1,4 @@
-use Rattle.std.proofs.Common.{arith}
-use Rattle.std.proofs.lemmas.Grind.{common_steps}
+use Rattle.fv_base.proofs.Laws.{arith, common_steps}
 use Rattle.fv_file.proofs.head.check_file.Goals as goal
 
 pub returns-clause-within : goal.returns-clause-within

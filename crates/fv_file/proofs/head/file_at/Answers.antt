@@ -1,5 +1,4 @@
-use Rattle.std.proofs.Common.{refl}
-use Rattle.fv_base.proofs.Laws.{err_is}
+use Rattle.fv_base.proofs.Laws.{refl, err_is}
 use Rattle.fv_file.specs.inner.CellVerdicts.{file_verdict}
 use Rattle.fv_file.proofs.head.file_at.Goals as goal
 

@@ -1,5 +1,4 @@
-use Rattle.std.proofs.Common.{arith}
-use Rattle.std.proofs.lemmas.Grind.{common_steps}
+use Rattle.fv_base.proofs.Laws.{arith, common_steps}
 use Rattle.fv_file.proofs.leading.leading_count.Goals as goal
 
 pub loop-at-preserved : goal.loop-at-preserved

@@ -1,7 +1,4 @@
-use Rattle.std.proofs.lemmas.Grind.{common_steps}
-use Rattle.std.proofs.Common.{arith, ◌≡◌, ◌∙◌, ap, length, refl, sym}
-use Rattle.fv_base.specs.Words.{bytes_of}
-use Rattle.fv_file.specs.declared.new_header.NewHeader.{NewHeader}
+use Rattle.fv_base.proofs.Laws.{arith, ◌∙◌, refl, sym, common_steps}
 use Rattle.fv_file.proofs.NewHeaderLemmas.{file_head_is, file_written, head_of_file, only_file}
 use Rattle.fv_file.proofs.new_header.file_head_bytes.Goals as goal
 
@@ -11,8 +8,7 @@ returns-clause-bytes c = grind (arith, common_steps, file_head_is)
 pub returns-clause-read : goal.returns-clause-read
 returns-clause-read c =
     let a = c.args in
-    let long : length (bytes_of a.name) ≡ 16 =
-    ap (λ (x : NewHeader). length (bytes_of x.name)) (sym c.file_header.ensures) ∙ c.new_header_bytes.ensures.name in
+    let long = rw c.file_header.ensures at c.new_header_bytes.ensures.name in
     file_written a.polarity a.name a.kind a.attributes a.data_len a.file_sum c.new_header_bytes.result long c.requires.short c.requires.most
     c.new_header_bytes.ensures.bytes (returns-clause-bytes c)
 

@@ -1,6 +1,5 @@
-use Rattle.std.proofs.lemmas.Grind.{common_steps}
-use Rattle.std.proofs.Common.{rules, arith}
-use Rattle.fv_base.proofs.Laws.{bytes_take}
+use Rattle.std.proofs.Common.{rules}
+use Rattle.fv_base.proofs.Laws.{arith, common_steps, bytes_take}
 use Rattle.fv_file.proofs.new_header.header_of.Goals as goal
 
 pub returns-clause-bytes : goal.returns-clause-bytes

@@ -1,5 +1,5 @@
-use Rattle.std.proofs.lemmas.Grind.{common_steps}
-use Rattle.std.proofs.Common.{arith, zero-add}
+use Rattle.std.proofs.Common.{zero-add}
+use Rattle.fv_base.proofs.Laws.{arith, common_steps}
 use Rattle.fv_file.specs.Words.{header_bytes}
 use Rattle.fv_file.proofs.new_header.new_header_bytes.Goals as goal
 

@@ -1,11 +1,9 @@
-use Rattle.std.proofs.Common.{◌∙◌, ap, refl, sym}
-use Rattle.fv_file.specs.inner.NewHeaderParts.{new_header_bytes}
-use Rattle.fv_file.specs.declared.new_header.NewHeader.{NewHeader}
+use Rattle.fv_base.proofs.Laws.{◌∙◌, refl, sym}
 use Rattle.fv_file.proofs.NewHeaderLemmas.{pad_written, head_of_pad, only_pad}
 use Rattle.fv_file.proofs.new_header.pad_head_bytes.Goals as goal
 
 pub returns-clause-bytes : goal.returns-clause-bytes
-returns-clause-bytes c = c.new_header_bytes.ensures.is ∙ ap (λ (x : NewHeader). new_header_bytes x c.args.polarity) c.pad_header.ensures
+returns-clause-bytes c = rw c.pad_header.ensures at c.new_header_bytes.ensures.is
 
 pub returns-clause-read : goal.returns-clause-read
 returns-clause-read c =

@@ -1,4 +1,4 @@
-use Rattle.std.proofs.Common.{append-nil}
+use Rattle.fv_base.proofs.Laws.{append-nil}
 use Rattle.fv_file.proofs.NewHeaderLemmas.{le_bytes_8-low_first}
 use Rattle.fv_file.proofs.new_header.size_fields.Goals as goal
 

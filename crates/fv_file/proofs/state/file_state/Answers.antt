@@ -1,4 +1,4 @@
-use Rattle.std.proofs.Common.{◌∙◌, ap}
+use Rattle.fv_base.proofs.Laws.{◌∙◌, ap}
 use Rattle.fv_file.specs.Words.{state_of, state_in}
 use Rattle.fv_file.proofs.state.file_state.Goals as goal
 

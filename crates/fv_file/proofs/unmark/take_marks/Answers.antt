@@ -1,5 +1,5 @@
-use Rattle.std.proofs.lemmas.Grind.{common_steps}
-use Rattle.std.proofs.Common.{◌≡◌, ◌+◌, ◌<◌, ◌≤◌, ◌∙◌, arith, drop, length, subst, sym, Ok}
+use Rattle.std.proofs.Common.{◌≡◌, ◌+◌, ◌<◌, ◌≤◌}
+use Rattle.fv_base.proofs.Laws.{◌∙◌, arith, drop, length, subst, sym, Ok, common_steps}
 use Rattle.fv_file.specs.Words.{CellForm}
 use Rattle.fv_file.specs.inner.CellVerdicts.{cell_verdict}
 use Rattle.fv_file.proofs.BodyLemmas.{all_kept, rest_free, rest_used}

@@ -1,10 +1,9 @@
-use Rattle.std.proofs.lemmas.Grind.{common_steps}
-use Rattle.std.proofs.Common.{◌≡◌, ◌+◌, ◌<◌, rules, drop, sym, ap, ◌∙◌, arith, length, length-drop, Err, get_or-drop}
+use Rattle.std.proofs.Common.{◌≡◌, ◌+◌, rules}
+use Rattle.fv_base.proofs.Laws.{drop, sym, arith, Err, get_or-drop, common_steps}
 use denote.Enum.Bare.{same_true}
 use Rattle.fv_base.specs.contracts.fault.FaultKind.{the_type}
-use Rattle.fv_file.specs.Words.{is_fixed}
 use Rattle.fv_file.specs.inner.CellVerdicts.{cell_verdict}
-use Rattle.fv_file.proofs.UnmarkLemmas.{FixedThere, fixed_there, fixed_least, not_fixed_again}
+use Rattle.fv_file.proofs.MarkedFileLemmas.{FixedThere, drop-unmarked, fixed_there, fixed_least, not_fixed_again}
 use Rattle.fv_file.proofs.unmark.unmark_at.Goals.{Then-eq}
 use Rattle.fv_file.proofs.unmark.unmark_at.Goals as goal
 
@@ -13,8 +12,7 @@ fixed : (c : Then-eq)
     → (cell_verdict c.args.system c.args.polarity (c.args.first + c.args.at) (drop c.args.at c.args.body.now) ≡ Err c.in-Err.fault)
     × FixedThere c.args.system c.args.polarity (c.args.first + c.args.at) (drop c.args.at c.args.body.now) c.in-Err.fault
 fixed c =
-    let is : cell_verdict c.args.system c.args.polarity (c.args.first + c.args.at) (drop c.args.at c.args.body.now) ≡ Err c.in-Err.fault =
-    ap (cell_verdict c.args.system c.args.polarity (c.args.first + c.args.at)) (sym c.bytes_from.ensures) ∙ c.in-Err.ensures.rejected in
+    let is = rw c.bytes_from.ensures at c.in-Err.ensures.rejected in
     (is, fixed_there _ _ _ _ _ is (same_true the_type (search rules) _ _ (sym c.if-eq.ensures)))
 
 pub unmark-requires-clause-marked : goal.unmark-requires-clause-marked
@@ -23,10 +21,7 @@ unmark-requires-clause-marked c = grind (arith, common_steps, fixed_least, get_o
 pub returns-then-eq-clause-plain : goal.returns-then-eq-clause-plain
 returns-then-eq-clause-plain c =
     let there = (fixed (goal.at.returns-then-eq-clause-plain c).Then-eq).1 in
-    let long : c.args.at + 19 < length c.args.body.now = omega (arith, there.long, length-drop c.args.at c.args.body.now) in
-    let bit = ap is_fixed (sym (get_or-drop c.args.at c.args.body.now 19 0)) ∙ there.file.fixed in
-    λ f is. not_fixed_again _ _ _ c.args.at c.args.body.now f long bit
-    (ap (λ b. cell_verdict c.args.system c.args.polarity (c.args.first + c.args.at) (drop c.args.at b)) (sym c.unmark.ensures) ∙ is)
+    λ f is. not_fixed_again _ _ _ _ _ there f (rw (c.unmark.ensures, drop-unmarked) at is)
 
 pub returns-then-eq-clause-step : goal.returns-then-eq-clause-step
 returns-then-eq-clause-step c = grind (arith, common_steps, fixed, Then-eq)

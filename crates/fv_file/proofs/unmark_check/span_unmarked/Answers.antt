@@ -1,11 +1,9 @@
-use Rattle.std.proofs.Common.{◌≡◌, ◌≤◌, rules, ◌∙◌, ap, arith, inr, length, refl, sym, Err}
-use Rattle.fv_base.proofs.Laws.{err_is}
+use Rattle.std.proofs.Common.{◌≡◌, rules}
+use Rattle.fv_base.proofs.Laws.{◌∙◌, ap, arith, inr, refl, sym, Err, err_is}
 use Rattle.fv_base.specs.contracts.fault.FaultKind.{the_type}
 use denote.Enum.Bare.{same_true}
-use Rattle.fv_file.specs.Words.{file_header_len_at, file_size_at}
 use Rattle.fv_file.proofs.CellVerdictLemmas.{verdict_stands}
-use Rattle.fv_file.proofs.MarkedFileLemmas.{cell_without, size_within, wrong_without}
-use Rattle.fv_file.proofs.UnmarkLemmas.{FixedThere, fixed_there}
+use Rattle.fv_file.proofs.MarkedFileLemmas.{FixedThere, fixed_there, cell_without, size_within, wrong_without}
 use Rattle.fv_file.proofs.unmark_check.span_unmarked.Goals.{Then-eq}
 use Rattle.fv_base.specs.declared.fault.FaultKind.TheVariants as kinds
 use Rattle.fv_file.proofs.unmark_check.span_unmarked.Goals as goal
@@ -14,24 +12,16 @@ use Rattle.fv_file.proofs.unmark_check.span_unmarked.Goals as goal
 known : (c : Then-eq) → FixedThere c.args.system c.args.polarity c.args.at c.args.rest.now c.in-Err.fault
 known c = fixed_there _ _ _ _ _ c.in-Err.ensures.rejected (same_true the_type (search rules) _ _ (sym c.if-eq.ensures))
 
-within : (c : Then-eq) → (file_header_len_at c.args.rest.now ≤ file_size_at c.args.rest.now) × (file_size_at c.args.rest.now ≤ length c.args.rest.now)
-within c = size_within _ _ _ _ _ (known c)
-
 pub span_of-requires : goal.span_of-requires
-span_of-requires c = omega (
-  arith,
-  (verdict_stands _ _ _ c.args.rest.now _ c.requires.multiple c.in-Ok.ensures.found).within,
-  c.requires.place,
-)
+span_of-requires c =
+    let stands = verdict_stands _ _ _ c.args.rest.now _ c.requires.multiple c.in-Ok.ensures.found in
+    omega (arith, stands.within, c.requires.place)
 
-pub sound_size-requires-clause-least : goal.sound_size-requires-clause-least
-sound_size-requires-clause-least c = (known (goal.at.sound_size-requires-clause-least c).Then-eq).long
-
-pub sound_size-requires-clause-header : goal.sound_size-requires-clause-header
-sound_size-requires-clause-header c = (within (goal.at.sound_size-requires-clause-header c).Then-eq).0
-
-pub sound_size-requires-clause-size : goal.sound_size-requires-clause-size
-sound_size-requires-clause-size c = (within (goal.at.sound_size-requires-clause-size c).Then-eq).1
+pub sound_size-requires : goal.sound_size-requires
+sound_size-requires c =
+    let k = known (goal.at.sound_size-requires c).Then-eq in
+    let size = size_within _ _ _ _ _ k in
+    record { least = k.long; header = size.0; size = size.1; place = c.requires.place }
 
 pub returns-in_err-size-in-Err-clause-rejected : goal.returns-in_err-size-in-Err-clause-rejected
 returns-in_err-size-in-Err-clause-rejected c =
@@ -46,8 +36,8 @@ returns-in_err-size-in-Err-clause-rejected c =
 
 pub up_to_8-requires : goal.up_to_8-requires
 up_to_8-requires c =
-    let size = (within (goal.at.up_to_8-requires c).Then-eq).1 in
-    omega (arith, c.in_ok-size-in-Err.ensures.right.0, size, c.requires.place)
+    let size = size_within _ _ _ _ _ (known (goal.at.up_to_8-requires c).Then-eq) in
+    omega (arith, c.in_ok-size-in-Err.ensures.right.0, size.1, c.requires.place)
 
 pub returns-then-eq-clause-found : goal.returns-then-eq-clause-found
 returns-then-eq-clause-found c =

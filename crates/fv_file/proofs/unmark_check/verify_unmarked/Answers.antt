@@ -1,6 +1,5 @@
-use Rattle.std.proofs.lemmas.Grind.{common_steps}
-use Rattle.std.proofs.Common.{◌≤◌, ◌<◌, ◌+◌, ◌∙◌, arith, length, sym}
-use Rattle.fv_base.proofs.Laws.{err_is}
+use Rattle.std.proofs.Common.{◌≤◌, ◌<◌, ◌+◌}
+use Rattle.fv_base.proofs.Laws.{◌∙◌, arith, length, sym, common_steps, err_is}
 use Rattle.fv_file.proofs.BodyLemmas.{rest_free, rest_used}
 use Rattle.fv_file.proofs.MarkWalkLemmas.{Walked, walk_begins, walk_ends, walk_on, walk_stops}
 use Rattle.fv_file.proofs.unmark_check.verify_unmarked.Goals.{In_ok-span}
@@ -41,8 +40,5 @@ returns-clause-tiled c =
     walk_ends c.args.system c.args.polarity c.args.first c.args.body.now c.loop-system.at c.loop-system.invariant
     (rest_free _ _ c.args.body.now c.loop-system.at c.bytes_from.ensures (sym c.is_free.ensures ∙ c.loop-system-test.false))
 
-pub span_unmarked-requires-clause-multiple : goal.span_unmarked-requires-clause-multiple
-span_unmarked-requires-clause-multiple c = grind (arith, common_steps)
-
-pub span_unmarked-requires-clause-place : goal.span_unmarked-requires-clause-place
-span_unmarked-requires-clause-place c = grind (arith, common_steps)
+pub span_unmarked-requires : goal.span_unmarked-requires
+span_unmarked-requires c = grind (arith, common_steps)

@@ -1,5 +1,4 @@
-use Rattle.std.proofs.lemmas.Grind.{common_steps}
-use Rattle.std.proofs.Common.{arith}
+use Rattle.fv_base.proofs.Laws.{arith, common_steps}
 use Rattle.fv_head.proofs.BlockMapLemmas.{pairs_of-step}
 use Rattle.fv_head.proofs.block_map.first_pair.Goals as goal
 

@@ -1,5 +1,4 @@
-use Rattle.std.proofs.lemmas.Grind.{common_steps}
-use Rattle.std.proofs.Common.{arith}
+use Rattle.fv_base.proofs.Laws.{arith, common_steps}
 use Rattle.fv_head.proofs.ExtLemmas.{ext_from}
 use Rattle.fv_head.proofs.ext.ext_of.Goals as goal
 

@@ -1,6 +1,4 @@
-use Rattle.std.proofs.lemmas.Grind.{common_steps}
-use Rattle.std.proofs.Common.{arith}
-use Rattle.fv_base.proofs.Laws.{IfOk-weaker, kept_whole}
+use Rattle.fv_base.proofs.Laws.{arith, common_steps, IfOk-weaker, kept_whole}
 use Rattle.fv_head.proofs.ExtImageLemmas.{ext_again}
 use Rattle.fv_head.proofs.ext_image.ext_bytes.Goals as goal
 

@@ -1,5 +1,4 @@
-use Rattle.std.proofs.lemmas.Grind.{common_steps}
-use Rattle.std.proofs.Common.{ap, arith, length}
+use Rattle.fv_base.proofs.Laws.{ap, arith, length, common_steps}
 use Rattle.fv_head.specs.Words.{entries_len}
 use Rattle.fv_head.proofs.ExtImageLemmas.{ext_len_most}
 use Rattle.fv_head.proofs.ext_image.len_of_ext.Goals as goal

@@ -1,5 +1,5 @@
-use Rattle.std.proofs.lemmas.Grind.{common_steps}
-use Rattle.std.proofs.Common.{◌++◌, arith}
+use Rattle.std.proofs.Common.{◌++◌}
+use Rattle.fv_base.proofs.Laws.{arith, common_steps}
 use Rattle.fv_head.specs.Words.{entry_bytes}
 use Rattle.fv_head.proofs.ExtImageLemmas.{entries_len_step, entries_step, entries_end}
 use Rattle.fv_head.proofs.ext_image.put_entries.Goals as goal

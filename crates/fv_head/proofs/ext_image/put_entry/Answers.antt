@@ -1,5 +1,5 @@
-use Rattle.std.proofs.Common.{◌+◌, ap, ℕ, List, length}
-use Rattle.fv_base.specs.Words.{le_bytes}
+use Rattle.std.proofs.Common.{◌+◌, ℕ}
+use Rattle.fv_base.proofs.Laws.{ap, List, length, le_bytes}
 use Rattle.fv_head.proofs.HeadWalkLemmas.{renamed}
 use Rattle.fv_head.proofs.ext_image.put_entry.Goals as goal
 

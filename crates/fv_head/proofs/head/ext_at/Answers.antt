@@ -9,18 +9,12 @@ ext_bytes_at-requires-clause-header c = (ext_there c.requires.begins c.ext_offse
 pub ext_bytes_at-requires-clause-within : goal.ext_bytes_at-requires-clause-within
 ext_bytes_at-requires-clause-within c = (ext_there c.requires.begins c.ext_offset_at.ensures c.if-ext_offset_at-eq0.false).within
 
-pub ext_of-requires-clause-least : goal.ext_of-requires-clause-least
-ext_of-requires-clause-least c =
-    omega (arith, c.ext_bytes_at.ensures.length, (ext_there c.requires.begins c.ext_offset_at.ensures c.if-ext_offset_at-eq0.false).least)
-
-pub ext_of-requires-clause-most : goal.ext_of-requires-clause-most
-ext_of-requires-clause-most c =
-    omega (arith, c.ext_bytes_at.ensures.length, (ext_there c.requires.begins c.ext_offset_at.ensures c.if-ext_offset_at-eq0.false).most)
-
-pub ext_of-requires-clause-size : goal.ext_of-requires-clause-size
-ext_of-requires-clause-size c =
-    ap (le_at 16 4) c.ext_bytes_at.ensures.bytes
-    ∙ (ext_there c.requires.begins c.ext_offset_at.ensures c.if-ext_offset_at-eq0.false).size ∙ sym c.ext_bytes_at.ensures.length
+pub ext_of-requires : goal.ext_of-requires
+ext_of-requires c =
+    let there = ext_there c.requires.begins c.ext_offset_at.ensures c.if-ext_offset_at-eq0.false in
+    let long = c.ext_bytes_at.ensures.length in
+    let size = ap (le_at 16 4) c.ext_bytes_at.ensures.bytes ∙ there.size ∙ sym long in
+    record { least = omega (arith, long, there.least); most = omega (arith, long, there.most); size = size }
 
 pub returns-clause-ok : goal.returns-clause-ok
 returns-clause-ok c =

@@ -1,6 +1,6 @@
-use Rattle.std.proofs.lemmas.Grind.{common_steps}
-use Rattle.std.proofs.Common.{arith, sym}
-use Rattle.fv_head.proofs.HeadPlaceLemmas.{front_within, kept_fields}
+use Rattle.fv_base.proofs.Laws.{arith, sym, common_steps}
+use Rattle.fv_head.proofs.HeadCheckLemmas.{front_within}
+use Rattle.fv_head.proofs.HeadPlaceLemmas.{kept_fields}
 use Rattle.fv_head.proofs.head.head_of.Goals as goal
 
 pub blocks_of-requires : goal.blocks_of-requires

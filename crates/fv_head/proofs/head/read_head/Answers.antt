@@ -1,6 +1,4 @@
-use Rattle.std.proofs.lemmas.Grind.{common_steps}
-use Rattle.std.proofs.Common.{arith}
-use Rattle.fv_base.proofs.Laws.{ap, err_is}
+use Rattle.fv_base.proofs.Laws.{arith, ap, common_steps, err_is}
 use Rattle.fv_base.specs.declared.fault.Fault.{Fault}
 use Rattle.fv_head.proofs.HeadPlaceLemmas.{one_front}
 use Rattle.fv_head.proofs.HeadFaultLemmas.{fault_known}

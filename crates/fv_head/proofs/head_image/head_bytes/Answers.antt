@@ -1,5 +1,5 @@
-use Rattle.std.proofs.Common.{◌≡◌, ◌++◌, ◌≤◌, ℕ, ◌∙◌, List, length, subst, sym, IfOk}
-use Rattle.fv_base.proofs.Laws.{IfOk-weaker, kept_whole}
+use Rattle.std.proofs.Common.{◌≡◌, ◌++◌, ◌≤◌, ℕ}
+use Rattle.fv_base.proofs.Laws.{◌∙◌, List, length, subst, sym, IfOk, IfOk-weaker, kept_whole}
 use Rattle.fv_head.specs.Words.{IsCanonicalHead, extent_of, CanonicalRest, BeginsVolume, canonical_head, canonical_end, first_edge}
 use Rattle.fv_head.proofs.HeadImageLemmas.{canonical_is, canonical_only, canonical_front}
 use Rattle.fv_head.proofs.head_image.head_bytes.Goals.{After-finish}

@@ -1,5 +1,4 @@
-use Rattle.std.proofs.lemmas.Grind.{common_steps}
-use Rattle.std.proofs.Common.{arith}
+use Rattle.fv_base.proofs.Laws.{arith, common_steps}
 use Rattle.fv_head.specs.Words.{canonical_head}
 use Rattle.fv_head.proofs.HeadWalkLemmas.{renamed}
 use Rattle.fv_head.proofs.head_image.put_head.Goals as goal

@@ -1,7 +1,5 @@
-use Rattle.std.proofs.lemmas.Grind.{common_steps}
-use Rattle.std.proofs.Common.{arith}
-use Rattle.std.proofs.Common.{◌++◌, get_or}
-use Rattle.fv_base.specs.Words.{le_bytes}
+use Rattle.std.proofs.Common.{◌++◌}
+use Rattle.fv_base.proofs.Laws.{arith, get_or, common_steps, le_bytes}
 use Rattle.fv_head.proofs.HeadWalkLemmas.{pairs_step, pairs_end}
 use Rattle.fv_head.proofs.head_image.put_pairs.Goals as goal
 

@@ -1,4 +1,4 @@
-use Rattle.std.proofs.Common.{◌∙◌, ap}
+use Rattle.fv_base.proofs.Laws.{◌∙◌, ap}
 use Rattle.fv_head.specs.Words.{pairs_bytes, head_spelled}
 use Rattle.fv_head.proofs.HeadWalkLemmas.{renamed}
 use Rattle.fv_head.proofs.head_image.put_spelled.Goals as goal

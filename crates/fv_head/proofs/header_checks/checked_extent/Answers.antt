@@ -1,5 +1,4 @@
-use Rattle.std.proofs.lemmas.Grind.{common_steps}
-use Rattle.std.proofs.Common.{arith}
+use Rattle.fv_base.proofs.Laws.{arith, common_steps}
 use Rattle.fv_head.proofs.HeadPlaceLemmas.{ext_within, front_system}
 use Rattle.fv_head.proofs.header_checks.checked_extent.Goals as goal
 

@@ -1,5 +1,4 @@
-use Rattle.std.proofs.Common.{arith}
-use Rattle.std.proofs.lemmas.Grind.{common_steps}
+use Rattle.fv_base.proofs.Laws.{arith, common_steps}
 use Rattle.fv_head.proofs.header_checks.has_block_map.Goals as goal
 
 pub returns-else-u32_at-eq0 : goal.returns-else-u32_at-eq0

@@ -1,5 +1,4 @@
-use Rattle.std.proofs.Common.{arith}
-use Rattle.std.proofs.lemmas.Grind.{common_steps}
+use Rattle.fv_base.proofs.Laws.{arith, common_steps}
 use Rattle.fv_head.proofs.header_checks.later_verdict.Goals as goal
 
 pub returns-clause-ext : goal.returns-clause-ext

@@ -1,6 +1,4 @@
-use Rattle.std.proofs.lemmas.Grind.{common_steps}
-use Rattle.std.proofs.Common.{arith}
-use Rattle.fv_base.proofs.Laws.{◌∙◌, sym, first_front, first_whole, err_is}
+use Rattle.fv_base.proofs.Laws.{arith, ◌∙◌, sym, common_steps, first_front, first_whole, err_is}
 use Rattle.fv_head.specs.Words.{leading_checks, later_checks}
 use Rattle.fv_head.proofs.HeadCheckLemmas.{verdict_err, verdict_extent}
 use Rattle.fv_head.proofs.header_checks.verdict.Goals as goal

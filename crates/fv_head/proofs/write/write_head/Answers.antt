@@ -1,5 +1,5 @@
-use Rattle.std.proofs.Common.{rules, ◌<◌, ◌^◌, length, arith}
-use Rattle.fv_base.proofs.Laws.{Appends, on_ok_weaker, IfErr-weaker, WriteStops}
+use Rattle.std.proofs.Common.{rules, ◌<◌, ◌^◌}
+use Rattle.fv_base.proofs.Laws.{length, arith, Appends, on_ok_weaker, IfErr-weaker, WriteStops}
 use Rattle.fv_head.specs.Words.{canonical_head}
 use Rattle.fv_head.proofs.HeadImageLemmas.{canonical_is, length-canonical, header_len_most}
 use Rattle.fv_head.proofs.write.write_head.Goals as goal

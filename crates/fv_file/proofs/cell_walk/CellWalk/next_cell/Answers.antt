@@ -1,5 +1,4 @@
-use Rattle.std.proofs.Common.{arith}
-use Rattle.std.proofs.lemmas.Grind.{common_steps}
+use Rattle.fv_base.proofs.Laws.{arith, common_steps}
 use Rattle.fv_file.proofs.cell_walk.CellWalk.next_cell.Goals as goal
 
 pub bytes_from-self-inside-requires : goal.bytes_from-self-inside-requires

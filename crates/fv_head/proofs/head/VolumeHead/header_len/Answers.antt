@@ -1,5 +1,5 @@
-use Rattle.std.proofs.Common.{arith, ap, length, ◌≤◌, subst}
-use Rattle.fv_base.specs.Words.{header_limit}
+use Rattle.std.proofs.Common.{◌≤◌}
+use Rattle.fv_base.proofs.Laws.{arith, ap, length, subst, header_limit}
 use Rattle.fv_head.specs.Words.{HeadFields, header_len_of, fields_held}
 use Rattle.fv_head.proofs.HeadImageLemmas.{header_len_most}
 use Rattle.fv_head.proofs.head.VolumeHead.header_len.Goals as goal

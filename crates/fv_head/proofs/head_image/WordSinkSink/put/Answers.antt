@@ -1,4 +1,4 @@
-use Rattle.std.proofs.lemmas.List.{take_all}
+use Rattle.fv_base.proofs.Laws.{take_all}
 use Rattle.fv_head.proofs.HeadImageLemmas.{words_added}
 use Rattle.fv_head.proofs.HeadWalkLemmas.{byte_added}
 use Rattle.fv_head.proofs.head_image.WordSinkSink.put.Goals as goal
