@@ -28,7 +28,7 @@ followed_nodes (suc most) d n i (node ∷ nodes) more few next =
     let long = length-append inside rest in (
       (rest ++ more, append_assoc inside rest more),
       rw (append_assoc inside rest more, own) (followed_nodes most (d + 1) (nesting_inside n node) 0 (parts_in node) (rest ++ more)
-      (omega (arith, few, long, ap length own)) (followed_nodes most d n (i + 1) nodes more (omega (arith, few, long)) next)),
+          (omega (arith, few, long, ap length own)) (followed_nodes most d n (i + 1) nodes more (omega (arith, few, long)) next)),
     )
 
 pub rows_followed : (m : Meaning) → Followed (tree_rows m)

@@ -5,14 +5,13 @@
 -- 3. The innermost level is split from the others (`left_more`, `levels_more`, `levels_less`).
 -- 4. An empty level is dropped (`none_left`), and the walk takes the next row (`next_fits`, `next_left`, `rest_are`). The
 --    contents of its part are one more level (`inside_left`, `inside_are`).
-use Rattle.std.proofs.Common.{◌≡◌, ◌≤◌, ◌<◌, ◌+◌, ◌*◌, ◌^◌, ℕ, [], ◌∷◌, ◌++◌, ◌∙◌, List, length, refl, sym, ap, subst, append-nil, append_assoc}
-use Rattle.fv_base.proofs.Laws.{arith, length-append, map, length-map, AllByRecursion}
-use Rattle.fv_section.specs.Words.{FrameForm}
-use Rattle.fv_tree.specs.Words.{FileForm, MeansFile, MeansSection, Stream, Meaning, Volume, FileMeanings, NoFiles, MoreFiles, FileMeaning, File}
-use Rattle.fv_tree.specs.Words.{Plain, Sectioned, SectionMeanings, NoSections, MoreSections, SectionMeaning, Section, Leaf, Group, Nested, files_list}
+use Rattle.std.proofs.Common.{◌≡◌, ◌≤◌, ◌<◌, ◌+◌, ◌^◌, ℕ, [], ◌∷◌, ◌++◌, List, length, refl, ap, subst, append-nil, append_assoc}
+use Rattle.fv_base.proofs.Laws.{arith, length-append, map, AllByRecursion}
+use Rattle.fv_tree.specs.Words.{Meaning, Volume, FileMeanings, NoFiles, MoreFiles, File}
+use Rattle.fv_tree.specs.Words.{Sectioned, SectionMeanings, NoSections, MoreSections, SectionMeaning, Section, Group, Nested, files_list}
 use Rattle.fv_tree.specs.Words.{sections_from, sections_list}
 use Rattle.fv_tree.proofs.Laws.{nests_files, nests_content, nests_sections, nests_body, nests_group, nests_nested}
-use Rattle.fv_rows.specs.Words.{NodeMeaning, VolumeNode, FileNode, SectionNode, rows_of_file, rows_of_files, rows_of_section, rows_of_sections}
+use Rattle.fv_rows.specs.Words.{NodeMeaning, VolumeNode, FileNode, SectionNode, rows_of_files, rows_of_sections}
 use Rattle.fv_rows.specs.Words.{rows_of_volume, parts_in, nodes_of, nesting_inside, rows_inside, rows_of_nodes, left_in, NestsAt}
 use Rattle.fv_rows.specs.Words.{FitsAt, AreLevels}
 use Rattle.fv_rows.specs.declared.tree_walk.Level.{Level}
@@ -90,9 +89,13 @@ levels_less depth at (outer ∷ levels) l is (here, more) =
 
 -- ---- the next row
 
+left_at : (levels : List Level) (l : Level)
+    → left_in 0 (levels ++ l ∷ []) ≡ rows_of_nodes (length levels) l.nesting l.number (nodes_of l.parts) ++ left_in 0 levels
+left_at levels l = left_more 0 (length levels) levels l (omega arith)
+
 -- an innermost level without parts has no rows
 pub none_left : (levels : List Level) (l : Level) → nodes_of l.parts ≡ [] → left_in 0 (levels ++ l ∷ []) ≡ left_in 0 levels
-none_left levels l is = rw (left_more 0 (length levels) levels l (omega arith), is)
+none_left levels l is = rw (left_at levels l, is)
 
 -- every part leaves room for one more level
 pub deep : (depth : ℕ) (node : NodeMeaning) → NestsAt depth node → depth ≤ 26
@@ -125,27 +128,18 @@ module _ (levels : List Level) (l : Level) (node : NodeMeaning) (rest : Parts) (
   pub next_left : left_in 0 (levels ++ l ∷ [])
       ≡ record { depth = length levels; nesting = l.nesting; number = l.number; node = node }
       ∷ (rows_of_nodes (length levels + 1) (nesting_inside l.nesting node) 0 (parts_in node) ++ left_in 0 (levels ++ rest_of l rest ∷ []))
-  next_left =
-      rw (
-        left_more 0 (length levels) levels l (omega arith),
-        left_more 0 (length levels) levels (rest_of l rest) (omega arith),
-        is,
-        ← inside_rows (length levels + 1) (nesting_inside l.nesting node) node,
-        append_assoc,
-      )
+  next_left = rw (left_at levels l, left_at levels (rest_of l rest), is, ← inside_rows _ _ node, append_assoc)
 
   module _ (nesting : ℕ) (parts : Parts) (below : nesting ≡ nesting_inside l.nesting node) (within : nodes_of parts ≡ parts_in node) where
     -- its contents are one more level
     pub inside_left : left_in 0 (levels ++ l ∷ [])
         ≡ record { depth = length levels; nesting = l.nesting; number = l.number; node = node }
         ∷ left_in 0 ((levels ++ rest_of l rest ∷ []) ++ record { number = 0; nesting = nesting; parts = parts } ∷ [])
-    inside_left =
-        rw (left_more 0 (length levels + 1) (levels ++ rest_of l rest ∷ []) (record { number = 0; nesting = nesting; parts = parts })
-        (omega (arith, length-append levels (rest_of l rest ∷ []))), below, within) next_left
+    inside_left = rw (left_at (levels ++ rest_of l rest ∷ []) _, length-append levels _, below, within) next_left
 
     pub inside_are : length (nodes_of parts) < 2 ^ 63
         → AreLevels 0 ((levels ++ rest_of l rest ∷ []) ++ record { number = 0; nesting = nesting; parts = parts } ∷ [])
     inside_are few =
+        let small = nesting_small (length levels) l.nesting node apart.1.2 in
         levels_more 0 (length levels + 1) (levels ++ rest_of l rest ∷ []) _ (omega (arith, length-append levels (rest_of l rest ∷ [])))
-        rest_are (rw within (inside_nests (length levels) node apart.1.0.0), omega (arith, few),
-        omega (arith, below, nesting_small (length levels) l.nesting node apart.1.2))
+        rest_are (rw within (inside_nests (length levels) node apart.1.0.0), omega (arith, few), omega (arith, below, small))

@@ -86,6 +86,7 @@ pub fn next_part<'v, 'a>(parts: &mut Parts<'v, 'a>) -> Option<Part<'v, 'a>>
 /// Returns the parts that a part contains. Allocates no memory. (PI specification, volume 3, section
 /// 3.2.)
 #[inline(always)]
+#[tactic(auto, using(crate::proofs::RowWalkLaws::sections_list_back, fv_tree::proofs::Laws::files_list_back))]
 pub fn parts_in<'v, 'a>(part: &Part<'v, 'a>) -> Parts<'v, 'a>
     ensures nodes { nodes_of result ≡ parts_in (part_node part.now) }
     ensures few { length (nodes_of result) < 2 ^ 63 }
@@ -185,6 +186,7 @@ impl<'v, 'a> TreeWalk<'v, 'a> {
 
     /// Returns a walk over all parts of a volume. Allocates no memory. (PI specification, volume 3,
     /// section 3.2.)
+    #[tactic(auto, using(crate::proofs::RowWalkLaws::volume_rows))]
     pub fn of(volume: &'v VolumeView<'a>) -> TreeWalk<'v, 'a>
         ensures { result ≡ tree_rows volume.now }
     {
