@@ -1,25 +1,20 @@
 use Rattle.std.proofs.Common.{◌∙◌, length, sym, ap, subst, arith}
-use Rattle.fv_rows.specs.Words.{AreLevels, left_in, part_node}
+use Rattle.fv_rows.specs.Words.{AreLevels, left_in}
 use Rattle.fv_rows.proofs.RowWalkLaws.{inside_are, inside_left, levels_less, next_fits, next_left, none_left, rest_are}
 use Rattle.fv_rows.proofs.tree_walk.TreeWalk.next_row.Goals as goal
 
 pub overflow_add-self : goal.overflow_add-self
 overflow_add-self c =
-    let w = c.loop-part.self-inside in
-    omega (arith, (next_fits w.outer.items w.level _ c.next_part.new.parts c.in-Some.ensures.some c.loop-part.invariant.levels).1)
+    omega (arith, (next_fits _ _ _ c.next_part.new.parts c.in-Some.ensures.some c.loop-part.invariant.levels).1)
 
 -- ---- a part without contents
 
 pub invariant_of-self : goal.invariant_of-self
-invariant_of-self c =
-    let w = c.loop-part.self-inside in
-    rest_are w.outer.items w.level _ c.next_part.new.parts c.in-Some.ensures.some c.loop-part.invariant.levels
+invariant_of-self c = rest_are _ _ _ c.next_part.new.parts c.in-Some.ensures.some c.loop-part.invariant.levels
 
 pub returns-in-Nothing : goal.returns-in-Nothing
 returns-in-Nothing c =
-    let w = c.loop-part.self-inside in
-    let next = next_left w.outer.items w.level (part_node c.in-Some.part) c.next_part.new.parts c.in-Some.ensures.some
-    c.loop-part.invariant.levels in
+    let next = next_left _ _ _ c.next_part.new.parts c.in-Some.ensures.some c.loop-part.invariant.levels in
     rw c.len-depth.ensures.value (sym c.self.view_is ∙ c.loop-part.invariant.left
     ∙ rw (← c.parts_in-parts.ensures.nodes, c.in-Nothing.is) at next)
 
@@ -27,37 +22,32 @@ returns-in-Nothing c =
 
 pub nesting_inside-requires : goal.nesting_inside-requires
 nesting_inside-requires c =
-    let w = c.loop-part.self-inside in
-    omega (arith, (next_fits w.outer.items w.level _ c.next_part.new.parts c.in-Some.ensures.some c.loop-part.invariant.levels).2)
+    omega (arith, (next_fits _ _ _ c.next_part.new.parts c.in-Some.ensures.some c.loop-part.invariant.levels).2)
 
 pub push-requires : goal.push-requires
 push-requires c =
-    let w = c.loop-part.self-inside in
-    omega (arith, (next_fits w.outer.items w.level _ c.next_part.new.parts c.in-Some.ensures.some c.loop-part.invariant.levels).0)
+    omega (arith, (next_fits _ _ _ c.next_part.new.parts c.in-Some.ensures.some c.loop-part.invariant.levels).0)
 
 pub invariant_of-self-in-Some : goal.invariant_of-self-in-Some
 invariant_of-self-in-Some c =
-    let w = c.loop-part.self-inside in
     rw (c.push.ensures.items, c.replace-around.ensures.value, c.replace-around.ensures.after)
-    (inside_are w.outer.items w.level (part_node c.in-Some.part) c.next_part.new.parts c.in-Some.ensures.some c.loop-part.invariant.levels
-    _ _ c.nesting_inside.ensures c.parts_in-parts.ensures.nodes c.parts_in-parts.ensures.few)
+    (inside_are _ _ _ c.next_part.new.parts c.in-Some.ensures.some c.loop-part.invariant.levels _ _ c.nesting_inside.ensures
+    c.parts_in-parts.ensures.nodes c.parts_in-parts.ensures.few)
 
 pub returns-in-Some : goal.returns-in-Some
 returns-in-Some c =
-    let w = c.loop-part.self-inside in
     rw (c.push.ensures.items, c.replace-around.ensures.value, c.replace-around.ensures.after, c.len-depth.ensures.value)
-    (sym c.self.view_is ∙ c.loop-part.invariant.left
-    ∙ inside_left w.outer.items w.level (part_node c.in-Some.part) c.next_part.new.parts c.in-Some.ensures.some c.loop-part.invariant.levels
-    _ _ c.nesting_inside.ensures c.parts_in-parts.ensures.nodes)
+    (sym c.self.view_is ∙ c.loop-part.invariant.left ∙ inside_left _ _ _ c.next_part.new.parts c.in-Some.ensures.some
+    c.loop-part.invariant.levels _ _ c.nesting_inside.ensures c.parts_in-parts.ensures.nodes)
 
 -- ---- no part is left on the innermost level
 
 pub loop-part-preserved : goal.loop-part-preserved
 loop-part-preserved c =
-    let w = c.loop-part.self-inside in
-    let none = rw c.in_default.is at c.next_part.ensures.none in
+    let levels = c.loop-part.self-inside.outer.items in
+    let l = c.loop-part.self-inside.level in
     let items = c.in_ok-self-inside.ensures.items in
     record {
-      levels = subst (AreLevels 0) items (levels_less 0 (length w.outer.items) w.outer.items w.level (omega arith) c.loop-part.invariant.levels).0;
-      left = c.loop-part.invariant.left ∙ none_left w.outer.items w.level none ∙ ap (left_in 0) items;
+      levels = subst (AreLevels 0) items (levels_less 0 (length levels) levels l (omega arith) c.loop-part.invariant.levels).0;
+      left = c.loop-part.invariant.left ∙ none_left levels l (rw c.in_default.is at c.next_part.ensures.none) ∙ ap (left_in 0) items;
     }
