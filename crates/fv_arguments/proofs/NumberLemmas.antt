@@ -1,5 +1,5 @@
 -- A text is read as a number exactly if it spells one.
-use Rattle.std.proofs.Common.{◌≡◌, ◌≢◌, ◌^◌, ◌<◌, ◌++◌, ℕ, ◌∙◌, List, Result, Ok, Err, Some, ap, arith, codes, drop, inl, inr, subst, sym}
+use Rattle.std.proofs.Common.{◌≡◌, ◌≢◌, ◌^◌, ◌<◌, ◌++◌, ℕ, ◌∙◌, List, Result, Ok, Err, Some, ap, arith, codes, drop, inl, inr, sym}
 use Rattle.fv_base.proofs.Laws.{digit_value, IsNumeral, digits_value}
 use Rattle.fv_arguments.specs.Words.{IsAtWord, IsNumberWord, IsNumeralOf}
 use Rattle.fv_arguments.specs.declared.words.WordFault.{WordFault}
@@ -12,7 +12,7 @@ spelled radix bits digits n h = (h.0.0, h.1, rw h.1 h.0.1)
 
 pub unspelled : (radix bits : ℕ) (digits : List ℕ) → (IsNumeral radix digits × (digits_value radix digits < 2 ^ bits) → ⊥)
     → (n : ℕ) → IsNumeralOf radix bits digits n → ⊥
-unspelled radix bits digits none n h = none (h.0, subst (λ (x : ℕ). x < 2 ^ bits) h.1 h.2)
+unspelled radix bits digits none n h = none (h.0, rw h.1 at h.2)
 
 -- a text that begins with `0x` is not a decimal number
 not_decimal : (digits : List ℕ) (n : ℕ) → IsNumberWord 64 (codes "0x" ++ digits) n → ⊥
@@ -23,8 +23,8 @@ pub hexadecimal_place : (text digits : List ℕ) (r : Result ℕ WordFault) → 
     → ReadsOrFails (IsNumeralOf 16 64 digits) r → ReadsOrFails (λ n. IsAtWord (Some text) (Some n)) r
 hexadecimal_place text digits (Ok n) is h = inr (digits, is, h)
 hexadecimal_place text digits (Err f) is h = λ words n spells. elim spells [
-  | inl number ↦ not_decimal digits n (subst (λ (t : List ℕ). IsNumberWord 64 t n) is number)
-  | inr other ↦ h words n (subst (λ (d : List ℕ). IsNumeralOf 16 64 d n) (ap (drop 2) (sym other.1 ∙ is)) other.2)
+  | inl number ↦ not_decimal digits n (rw is at number)
+  | inr other ↦ h words n (rw (ap (drop 2) (sym other.1 ∙ is)) at other.2)
 ]
 
 pub decimal_place : (text : List ℕ) (r : Result ℕ WordFault) → ((digits : List ℕ) → text ≢ codes "0x" ++ digits)
