@@ -4,8 +4,7 @@ use Rattle.fv_base.proofs.Laws.{option_map, unwrap_or, flat_map, flat_map-append
 use Rattle.fv_base.specs.declared.guid.Guid.{Guid}
 use Rattle.fv_tree.specs.Words.{preorder, FileMeaning, File, Plain, SectionMeaning, Section, Leaf, content_of, file_name_of}
 use Rattle.fv_tree.specs.Words.{body_of, leaf_of, section_kind_of, sections_in_data}
-use Rattle.fv_lines.specs.Words.{phase_of, read_by, section_depex, file_depexes, HeldDepex, AreNotes}
-use Rattle.fv_lines.specs.Words.{depex_line}
+use Rattle.fv_lines.specs.Words.{phase_of, read_by, section_depex, file_depexes, HeldDepex, AreNotes, depex_line}
 use Rattle.fv_lines.specs.declared.depex_notes.DepexNote.{DepexNote}
 use Rattle.fv_lines.specs.inner.LineRuns.{PutsNotes}
 

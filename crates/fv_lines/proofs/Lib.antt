@@ -1,4 +1,2 @@
 pub mod CellSumLemmas
 pub mod DepexNoteLemmas
-pub mod ListTextLemmas
-pub mod StandingLemmas

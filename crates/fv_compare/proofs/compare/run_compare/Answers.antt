@@ -111,6 +111,3 @@ returns-clause-first_erred g c =
 pub returns-clause-second_erred : goal.returns-clause-second_erred
 returns-clause-second_erred g c =
     λ off. never_read (λ (s : Side). s ≡ sides.Second) _ c.write_comparison.result _ _ _ _ c.write_comparison.ensures.err
-
-pub returns-clause-writer_erred : goal.returns-clause-writer_erred
-returns-clause-writer_erred c = grind (arith, common_steps)

@@ -6,9 +6,6 @@ use Rattle.fv_compare.specs.Words.{step_text}
 use Rattle.fv_compare.proofs.ComparisonLineLaws.{path_flat}
 use Rattle.fv_compare.proofs.comparison_line.put_path.Goals as goal
 
-pub loop-step-init : goal.loop-step-init
-loop-step-init g c = record { text = g.S.Sink.laws.none c.args.out.now; short = omega arith }
-
 pub loop-step-preserved : goal.loop-step-preserved
 loop-step-preserved g c =
     let more = take_more c.args.steps.now c.loop-step.step-index (steps.File 0) c.loop-step-test.true in

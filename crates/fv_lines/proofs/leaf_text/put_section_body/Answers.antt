@@ -1,7 +1,13 @@
-use Rattle.std.proofs.Common.{[], refl}
-use Rattle.fv_tree.specs.Words.{body_of, section_kind_of}
-use Rattle.fv_lines.proofs.ListTextLemmas.{of_body}
+use Rattle.std.proofs.Common.{◌≡◌, ℕ, [], List, refl}
+use Rattle.std.specs.Prelude.{MatchOption}
+use Rattle.fv_tree.specs.Words.{BodyMeaning, Leaf, leaf_of, body_of, section_kind_of}
+use Rattle.fv_lines.specs.Words.{LeafText, BodyShown}
 use Rattle.fv_lines.proofs.leaf_text.put_section_body.Goals as goal
+
+of_body : (kind : ℕ) (body : BodyMeaning) (text : List ℕ) → MatchOption (leaf_of body) (text ≡ []) (λ b. LeafText kind b text)
+    → BodyShown kind body text
+of_body kind (Leaf b) text h = h
+of_body kind body text h = h
 
 pub returns-in-Some : goal.returns-in-Some
 returns-in-Some g c =

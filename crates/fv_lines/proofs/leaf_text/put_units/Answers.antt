@@ -1,6 +1,13 @@
-use Rattle.std.proofs.Common.{◌-◌, length, drop, arith, append_assoc, length-drop, take_all}
-use Rattle.fv_lines.proofs.ListTextLemmas.{units_next}
+use Rattle.std.proofs.Common.{◌≡◌, ℕ, ◌≤◌, [], ◌∷◌, ◌++◌, List, length, drop, refl, arith, ◌-◌, append_assoc, length-drop, take_all}
+use Rattle.fv_base.proofs.Laws.{flat_map, words_of, le_at}
+use Rattle.fv_lines.specs.Words.{unit_text}
 use Rattle.fv_lines.proofs.leaf_text.put_units.Goals as goal
+
+units_next : (b : List ℕ) → 2 ≤ length b
+    → unit_text (le_at 0 2 b) ++ flat_map unit_text (words_of (drop 2 b)) ≡ flat_map unit_text (words_of b)
+units_next [] l = absurd (omega (arith, l))
+units_next (x ∷ []) l = absurd (omega (arith, l))
+units_next (x ∷ y ∷ bs) l = refl
 
 pub loop-rest-preserved : goal.loop-rest-preserved
 loop-rest-preserved g c =
