@@ -1,4 +1,4 @@
-use Rattle.std.proofs.Common.{◌∙◌, sym, take_all}
+use Rattle.std.proofs.Common.{◌∙◌, sym}
 use Rattle.fv_file.specs.Words.{cell_form}
 use Rattle.fv_lines.proofs.CellSumLemmas.{counted_next, sums_next}
 use Rattle.fv_lines.proofs.cell_text.sums_of.Goals as goal
@@ -11,7 +11,3 @@ pub loop-cell-preserved : goal.loop-cell-preserved
 loop-cell-preserved c =
     (rw c.loop-cell.invariant at c.with_cell-sums.ensures)
     ∙ sym (sums_next cell_form c.args.list.now c.loop-cell.cell-index _ c.loop-cell-test.true)
-
-pub returns : goal.returns
-returns c =
-    rw (take_all c.loop-cell.cell-index c.args.list.now c.loop-cell-test.false) at c.loop-cell.invariant
