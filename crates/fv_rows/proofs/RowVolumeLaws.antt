@@ -1,7 +1,6 @@
 -- Each row of a volume is followed by the rows of its contents. The volumes among the rows of a part are the volumes in
 -- this part.
-use Rattle.std.proofs.Common.{◌≡◌, ◌≤◌, ◌∙◌, ◌+◌, ℕ, zero, suc, List, [], ◌∷◌, ◌++◌, length, refl, sym, ap, subst, arith, append_assoc, append-nil}
-use Rattle.std.proofs.Common.{zero-add}
+use Rattle.std.proofs.Common.{◌≡◌, ◌≤◌, ◌∙◌, ◌+◌, ℕ, zero, suc, List, [], ◌∷◌, ◌++◌, length, refl, sym, ap, subst, arith, append_assoc, append-nil, zero-add}
 use Rattle.std.proofs.Math.Nat.{add-zero}
 use Rattle.std.proofs.lemmas.List.{map-id}
 use Rattle.fv_base.proofs.Laws.{length-append, map-append}
@@ -41,10 +40,6 @@ rows_followed m =
 one_deeper : (n : ℕ) (vs : List Inside) → deeper_by n (deeper vs) ≡ deeper_by (n + 1) vs
 one_deeper n [] = refl
 one_deeper n (v ∷ vs) = let same : v.depth + 1 + n ≡ v.depth + (n + 1) = omega arith in rw (same, one_deeper n vs)
-
--- raising the depth of volumes by 0 changes nothing
-not_deeper : (vs : List Inside) → deeper_by 0 vs ≡ vs
-not_deeper vs = simp (add-zero, map-id)
 
 mutual
   pub volume_volumes : (d n : ℕ) (v : Meaning) (more : List TreeRow)
@@ -86,10 +81,10 @@ mutual
 
 -- the volumes among the rows of all parts of a volume, of the contents of a file and of a section
 pub tree_volumes : (m : Meaning) → volumes_of (tree_rows m) ≡ volumes_in m
-tree_volumes m = simp (append-nil, not_deeper) at (volume_volumes 0 0 m [])
+tree_volumes m = simp (append-nil, add-zero, map-id) at (volume_volumes 0 0 m [])
 
 pub file_inside : (f : FileMeaning) → volumes_of (rows_inside 0 0 (FileNode f)) ≡ volumes_in_content (content_of f)
-file_inside (File name kind attributes content) = simp (append-nil, not_deeper) at (content_volumes 0 0 content [])
+file_inside (File name kind attributes content) = simp (append-nil, add-zero, map-id) at (content_volumes 0 0 content [])
 
 pub section_inside : (s : SectionMeaning) → volumes_of (rows_inside 0 0 (SectionNode s)) ≡ volumes_in_body (body_of s)
-section_inside (Section kind extended body) = simp (append-nil, not_deeper) at (body_volumes 0 0 body [])
+section_inside (Section kind extended body) = simp (append-nil, add-zero, map-id) at (body_volumes 0 0 body [])
