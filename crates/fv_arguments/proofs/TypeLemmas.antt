@@ -9,8 +9,7 @@ no_plus (d ∷ ds) h = go (d == 43) refl
   where
     go : (b : Bool) → (d == 43) ≡ b → drop (cond b 1 0) (d ∷ ds) ≡ d ∷ ds
     go false e = refl
-    go true e =
-        let plus = rw (eqb-true d 43 e) at h.1.0 in absurd (omega arith)
+    go true e = let plus = rw (eqb-true d 43 e) at h.1.0 in absurd (omega arith)
 
 -- a hexadecimal numeral of at most two digits is below 256
 pub small : (text : List ℕ) → IsNumeral 16 text → length text ≤ 2 → digits_value 16 text < 2 ^ 8

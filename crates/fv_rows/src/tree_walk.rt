@@ -86,7 +86,6 @@ pub fn next_part<'v, 'a>(parts: &mut Parts<'v, 'a>) -> Option<Part<'v, 'a>>
 /// Returns the parts that a part contains. Allocates no memory. (PI specification, volume 3, section
 /// 3.2.)
 #[inline(always)]
-#[tactic(auto, using(crate::proofs::RowWalkLaws::sections_list_back, fv_tree::proofs::Laws::files_list_back))]
 pub fn parts_in<'v, 'a>(part: &Part<'v, 'a>) -> Parts<'v, 'a>
     ensures nodes { nodes_of result ≡ parts_in (part_node part.now) }
     ensures few { length (nodes_of result) < 2 ^ 63 }
