@@ -13,8 +13,7 @@ use Rattle.fv_plan.specs.declared.plan.ImageFile.{ImageFile}
 use Rattle.fv_plan.specs.declared.plan.Part.{Part}
 use Rattle.fv_plan.specs.declared.plan.VolumeFile.{VolumeFile}
 use Rattle.fv_plan.specs.declared.plan.Command.TheVariants.{Single, Hobs, Compare}
-use Rattle.fv_plan.specs.declared.plan.Task.TheVariants.{Normalise, NormaliseAll, Extract, CheckAll, Cells, Unfix}
-use Rattle.fv_plan.specs.declared.plan.Task.TheVariants.{Scan}
+use Rattle.fv_plan.specs.declared.plan.Task.TheVariants.{Normalise, NormaliseAll, Extract, Check, CheckAll, Cells, Unfix, Scan}
 use Rattle.fv_arguments.proofs.ArgumentReadLemmas.{by_name, faults_read}
 use Rattle.fv_arguments.specs.Words.{compare_app, extract_app, faults_in, flag_in, hobs_app, image_app, text_in, HasInput, HasTexts, IsAtWord}
 use Rattle.fv_arguments.specs.Words.{IsImageWords, IsPartBy, IsVolumeWords, command_app, command_name}
@@ -84,9 +83,9 @@ right_input name rest volume right =
     go (Single (Extract part) at file) volume texts = ((at, file), texts.0)
     go (Single Cells at file) volume texts = ((at, file), texts)
     go (Single Unfix at file) volume texts = ((at, file), texts)
-    go (Single Scan at file) volume texts = cc
+    go (Single Scan at file) volume texts = absurd (true≢false (sym volume))
     go (Single task at file) volume texts = ((at, file), texts.1)
-    go c volume texts = cc
+    go c volume texts = absurd (true≢false (sym volume))
 
 -- so a command on one volume is rejected if its input is rejected
 pub no_input : {m : ArgMatches} (f : WordFault) (name : List ℕ) → is_on_volume name ≡ true
@@ -112,9 +111,11 @@ no_place name rest given image all word some right =
     placed (Some t) given (Some n) h some none is = cc
 
     go : (c : Command) → is_on_image (command_name c) ≡ true → HasTexts rest c → ⊥
+    go (Single Normalise at file) image texts = true≢false (sym all ∙ texts.0)
     go (Single NormaliseAll at file) image texts = placed _ given at word some texts.1 texts.2.0
+    go (Single Check at file) image texts = true≢false (sym all ∙ texts.0)
     go (Single CheckAll at file) image texts = placed _ given at word some texts.1 texts.2.0
-    go c image texts = cc
+    go c image texts = true≢false (sym image)
 
 -- the arguments have a part for `extract`
 abbrev pub SomePart : List (List ℕ) → Type 0
