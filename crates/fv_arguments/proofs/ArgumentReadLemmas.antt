@@ -12,7 +12,7 @@ use Rattle.clap.specs.Simple.{built, names_of}
 use Rattle.clap.specs.Walk.{Text, first_of, one_of, rows_after}
 use Rattle.clap.specs.Words.{App, HasMatchesOf, fault_of, is_simple_and_free}
 use Rattle.clap.specs.declared.parser.matches.ArgMatches.{ArgMatches}
-use Rattle.fv_arguments.specs.Words.{compare_app, extract_app, faults_in, flag_in, hobs_app, list_app, image_app, one_input_app, text_in, volume_app}
+use Rattle.fv_arguments.specs.Words.{faults_in, flag_in, text_in, volume_app}
 use Rattle.fv_arguments.specs.inner.CommandWords.{IsRead, app_named}
 
 -- the test for equal texts is false of two texts that differ
@@ -24,28 +24,9 @@ pub no_other : (name : Text) → name ≢ codes "normalise" → name ≢ codes "
     → name ≢ codes "list" → name ≢ codes "scan" → app_named name ≡ volume_app
 no_other name normalise check hobs extract compare list scan = grind (arith, common_steps, differ)
 
--- a property of the options of each command is a property of the options for every name
-pub each_app : (P : App → Type 0) → P image_app → P hobs_app → P extract_app → P compare_app → P list_app → P one_input_app
-    → P volume_app → (name : Text) → P (app_named name)
-each_app P image hobs extract compare list scan volume name =
-    go (bytes_eq name (codes "normalise")) (bytes_eq name (codes "check")) (bytes_eq name (codes "hobs")) (bytes_eq name (codes "extract"))
-    (bytes_eq name (codes "compare")) (bytes_eq name (codes "list")) (bytes_eq name (codes "scan"))
-  where
-    go : (a b c d e f g : Bool)
-        → P (cond a image_app (cond b image_app (cond c hobs_app (cond d extract_app (cond e compare_app (cond f list_app
-        (cond g one_input_app volume_app)))))))
-    go true b c d e f g = image
-    go false true c d e f g = image
-    go false false true d e f g = hobs
-    go false false false true e f g = extract
-    go false false false false true f g = compare
-    go false false false false false true g = list
-    go false false false false false false true = scan
-    go false false false false false false false = volume
-
 -- no option of a command changes how arguments are read, or has a rule about another option
 simple : (name : Text) → is_simple_and_free (app_named name) ≡ true
-simple name = each_app (λ a. is_simple_and_free a ≡ true) refl refl refl refl refl refl refl name
+simple name = grind arith
 
 -- so a statement of the reader about the options that it was given is a statement about the options of the command
 pub by_name : (P : App → Type 0) (name : Text) (given : App) → given ≡ app_named name → (is_simple_and_free given ≡ true → P given)
@@ -54,7 +35,7 @@ by_name P name given e h = subst P e (h (ap is_simple_and_free e ∙ simple name
 
 -- the reader takes the first argument for the name of the program
 program_first : (name : Text) → (app_named name).top.no_binary_name ≡ false
-program_first name = each_app (λ a. a.top.no_binary_name ≡ false) refl refl refl refl refl refl refl name
+program_first name = grind arith
 
 -- the faults of the reader are the faults in the arguments after the first
 pub faults_read : (name : Text) (words : List Text) → fault_of (app_named name) words ≡ faults_in (app_named name) (drop 1 words)

@@ -13,8 +13,7 @@ use Rattle.fv_plan.specs.declared.plan.ImageFile.{ImageFile}
 use Rattle.fv_plan.specs.declared.plan.Part.{Part}
 use Rattle.fv_plan.specs.declared.plan.VolumeFile.{VolumeFile}
 use Rattle.fv_plan.specs.declared.plan.Command.TheVariants.{Single, Hobs, Compare}
-use Rattle.fv_plan.specs.declared.plan.Task.TheVariants.{Normalise, NormaliseAll, List as Listing, ListSums, Extract, Check, CheckAll, Cells, Unfix}
-use Rattle.fv_plan.specs.declared.plan.Task.TheVariants.{Scan}
+use Rattle.fv_plan.specs.declared.plan.Task.TheVariants.{Normalise, NormaliseAll, Extract, Check, CheckAll, Cells, Unfix, Scan}
 use Rattle.fv_arguments.proofs.ArgumentReadLemmas.{by_name, faults_read}
 use Rattle.fv_arguments.specs.Words.{compare_app, extract_app, faults_in, flag_in, hobs_app, image_app, text_in, HasInput, HasTexts, IsAtWord}
 use Rattle.fv_arguments.specs.Words.{IsImageWords, IsPartBy, IsVolumeWords, command_app, command_name}
@@ -26,24 +25,14 @@ use Rattle.clap.specs.declared.error.kind.ErrorKind.TheVariants as error_kinds
 -- the rules of a command are the rules for its name
 named_app : (c : Command) → app_named (command_name c) ≡ command_app c
 named_app (Single Normalise at file) = refl
-named_app (Single NormaliseAll at file) = refl
-named_app (Single Listing at file) = refl
-named_app (Single ListSums at file) = refl
-named_app (Single (Extract part) at file) = refl
-named_app (Single Check at file) = refl
-named_app (Single CheckAll at file) = refl
-named_app (Single Cells at file) = refl
-named_app (Single Unfix at file) = refl
-named_app (Single Scan at file) = refl
-named_app (Hobs file image) = refl
-named_app (Compare first second) = refl
+named_app c = refl
 
 same_app : (name : List ℕ) (c : Command) → name ≡ command_name c → app_named name ≡ command_app c
 same_app name c is = ap app_named is ∙ named_app c
 
 pub read_of : {rest : List (List ℕ)} {m : ArgMatches} (name : List ℕ) (c : Command) → name ≡ command_name c
     → IsRead (app_named name) rest m → IsRead (command_app c) rest m
-read_of {rest} {m} name c is r = subst (λ a. IsRead a rest m) (same_app name c is) r
+read_of name c is r = rw (same_app name c is) at r
 
 -- a fault of the reader is passed on: out of memory stays out of memory, and any other fault becomes a fault of the
 -- arguments
@@ -53,10 +42,7 @@ IsHandedOn e f = (kind_of e ≡ error_kinds.OutOfMemory → f ≡ OutOfMemory) �
 handed_on : {T : Type 0} (r : Result T WordFault) (e : Error) (ks : Kinds) → IsErrAnd r (IsHandedOn e) → HasKind ks e
     → IfErr r (λ f. f ≡ Words → ks ≢ [])
 handed_on (Ok x) e ks h has = tt
-handed_on (Err f) e ks h (inl memory) = λ is. absurd (differ (sym (h.0 memory) ∙ is))
-  where
-    differ : OutOfMemory ≡ Words → ⊥
-    differ e = cc
+handed_on (Err f) e ks h (inl memory) = λ is. cc (h.0 memory)
 handed_on (Err f) e [] h (inr among) = absurd among
 handed_on (Err f) e (k ∷ ks) h (inr among) = λ is none. cc
 
@@ -89,19 +75,16 @@ SomeInput name rest = (i : Option ℕ × Option (String Global)) × HasInput (ap
 
 right_input : (name : List ℕ) (rest : List (List ℕ)) → is_on_volume name ≡ true → AreRightFor name rest → SomeInput name rest
 right_input name rest volume right =
-    let is = right.1.command in
-    subst (λ n. SomeInput n rest) (sym is) (go right.0.command (subst (λ n. is_on_volume n ≡ true) is volume) right.1.texts)
+    let is = right.1.command in rw is (go right.0.command (rw is at volume) right.1.texts)
   where
     go : (c : Command) → is_on_volume (command_name c) ≡ true → HasTexts rest c → SomeInput (command_name c) rest
-    go (Single Normalise at file) volume texts = ((at, file), texts.1)
     go (Single NormaliseAll at file) volume texts = ((at, file), texts.2)
-    go (Single Listing at file) volume texts = ((at, file), texts.1)
-    go (Single ListSums at file) volume texts = ((at, file), texts.1)
-    go (Single (Extract part) at file) volume texts = ((at, file), texts.0)
-    go (Single Check at file) volume texts = ((at, file), texts.1)
     go (Single CheckAll at file) volume texts = ((at, file), texts.2)
+    go (Single (Extract part) at file) volume texts = ((at, file), texts.0)
     go (Single Cells at file) volume texts = ((at, file), texts)
     go (Single Unfix at file) volume texts = ((at, file), texts)
+    go (Single Scan at file) volume texts = absurd (true≢false (sym volume))
+    go (Single task at file) volume texts = ((at, file), texts.1)
     go c volume texts = absurd (true≢false (sym volume))
 
 -- so a command on one volume is rejected if its input is rejected
@@ -120,7 +103,7 @@ pub no_place : (name : List ℕ) (rest : List (List ℕ)) (given : Option ℕ) �
     → flag_in image_app (codes "all") rest ≡ true → IsAtWord (text_in image_app (codes "at") rest) given → is_some given ≡ true
     → AreRightFor name rest → ⊥
 no_place name rest given image all word some right =
-    go right.0.command (subst (λ n. is_on_image n ≡ true) right.1.command image) right.1.texts
+    go right.0.command (rw right.1.command at image) right.1.texts
   where
     placed : (text : Option (List ℕ)) (given at : Option ℕ) → IsAtWord text given → is_some given ≡ true → at ≡ None → IsAtWord text at → ⊥
     placed None given at h some none is = true≢false (sym some ∙ ap is_some h)

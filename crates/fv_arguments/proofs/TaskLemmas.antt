@@ -1,5 +1,5 @@
 -- The arguments of a name ask for one task, which a flag may select.
-use Rattle.std.proofs.Common.{◌≡◌, ℕ, if◌then◌else◌, Bool, true, false, List, Option, subst, sym, arith, Global, String}
+use Rattle.std.proofs.Common.{◌≡◌, ℕ, if◌then◌else◌, Bool, true, false, List, Option, arith, Global, String}
 use Rattle.fv_base.proofs.Laws.{common_steps}
 use Rattle.std.proofs.lemmas.Bool.{cond_both}
 use Rattle.fv_plan.specs.declared.plan.Task.{Task}
@@ -15,11 +15,3 @@ pub by_flag : (name : List ℕ) (rest : List (List ℕ)) (at : Option ℕ) (file
     (one other task : Task) → task ≡ (if given then one else other) → (given ≡ true → IsAsked name rest at file one)
     → (given ≡ false → IsAsked name rest at file other) → IsAsked name rest at file task
 by_flag name rest at file given one other task is on off = grind (arith, common_steps, cond_both)
-
--- the flag selects the task for an image or the task for a volume
-pub by_tasks : (name : List ℕ) (rest : List (List ℕ)) (at : Option ℕ) (file : Option (String Global)) (given : Bool)
-    (whole single one other task : Task) → whole ≡ one → single ≡ other → task ≡ (if given then whole else single)
-    → (given ≡ true → IsAsked name rest at file one) → (given ≡ false → IsAsked name rest at file other) → IsAsked name rest at file task
-by_tasks name rest at file given whole single one other task is_whole is_single is on off =
-    by_flag name rest at file given whole single task is (λ e. subst (IsAsked name rest at file) (sym is_whole) (on e))
-    (λ e. subst (IsAsked name rest at file) (sym is_single) (off e))

@@ -1,6 +1,6 @@
 -- Texts of one or two hexadecimal digits have no sign and spell a byte.
-use Rattle.std.proofs.Common.{◌≡◌, ◌==◌, ◌^◌, ◌<◌, ◌≤◌, ℕ, [], ◌∷◌, Bool, cond, true, false, refl, subst, arith, eqb-true, List, drop, length}
-use Rattle.fv_base.proofs.Laws.{digit_value, IsNumeral, digits_value, without_leading_plus}
+use Rattle.std.proofs.Common.{◌≡◌, ◌==◌, ◌^◌, ◌<◌, ◌≤◌, ℕ, [], ◌∷◌, Bool, cond, true, false, refl, arith, eqb-true, List, drop, length}
+use Rattle.fv_base.proofs.Laws.{IsNumeral, digits_value, without_leading_plus}
 
 -- a hexadecimal numeral has no plus sign
 pub no_plus : (text : List ℕ) → IsNumeral 16 text → without_leading_plus text ≡ text
@@ -9,9 +9,7 @@ no_plus (d ∷ ds) h = go (d == 43) refl
   where
     go : (b : Bool) → (d == 43) ≡ b → drop (cond b 1 0) (d ∷ ds) ≡ d ∷ ds
     go false e = refl
-    go true e =
-        let plus : digit_value 43 < 16 = subst (λ (x : ℕ). digit_value x < 16) (eqb-true d 43 e) h.1.0 in
-        absurd (omega arith)
+    go true e = let plus = rw (eqb-true d 43 e) at h.1.0 in absurd (omega arith)
 
 -- a hexadecimal numeral of at most two digits is below 256
 pub small : (text : List ℕ) → IsNumeral 16 text → length text ≤ 2 → digits_value 16 text < 2 ^ 8

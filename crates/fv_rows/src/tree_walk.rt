@@ -185,6 +185,7 @@ impl<'v, 'a> TreeWalk<'v, 'a> {
 
     /// Returns a walk over all parts of a volume. Allocates no memory. (PI specification, volume 3,
     /// section 3.2.)
+    #[tactic(auto, using(crate::proofs::RowWalkLaws::volume_rows))]
     pub fn of(volume: &'v VolumeView<'a>) -> TreeWalk<'v, 'a>
         ensures { result ≡ tree_rows volume.now }
     {

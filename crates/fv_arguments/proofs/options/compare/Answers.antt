@@ -1,4 +1,4 @@
-use Rattle.fv_base.proofs.Laws.{◌∙◌, codes, refl, err_is}
+use Rattle.fv_base.proofs.Laws.{refl, err_is}
 use Rattle.fv_arguments.proofs.ArgumentReadLemmas.{text_answer}
 use Rattle.fv_arguments.proofs.RefusalLemmas.{right_volumes}
 use Rattle.fv_arguments.proofs.options.compare.Goals as goal
@@ -7,23 +7,16 @@ pub returns-in_err-first : goal.returns-in_err-first
 returns-in_err-first c =
     rw (err_is c.from_residual.ensures.1) (λ words rest r right.
     let volumes = right_volumes rest right in
-    c.in_err-first.ensures words volumes.0
-    (rw (c.get_str.ensures ∙ text_answer r (codes "first"), c.get_str-at.ensures ∙ text_answer r (codes "at")) volumes.2))
+    c.in_err-first.ensures words volumes.0 (simp (c.get_str.ensures, c.get_str-at.ensures, text_answer r) volumes.2))
 
 pub returns-in_err-second : goal.returns-in_err-second
 returns-in_err-second c =
     rw (err_is c.from_residual-in_err-second.ensures.1) (λ words rest r right.
     let volumes = right_volumes rest right in
-    c.in_err-second.ensures words volumes.1
-    (rw (c.get_str-2.ensures ∙ text_answer r (codes "second"), c.get_str-other_at.ensures ∙ text_answer r (codes "other-at")) volumes.3))
+    c.in_err-second.ensures words volumes.1 (simp (c.get_str-2.ensures, c.get_str-other_at.ensures, text_answer r) volumes.3))
 
 pub returns : goal.returns
-returns c = λ rest r. (
-  refl,
-  (
-    rw (← c.get_str.ensures ∙ text_answer r (codes "first"), ← c.get_str-at.ensures ∙ text_answer r (codes "at"))
-        c.in_ok-first.ensures,
-    rw (← c.get_str-2.ensures ∙ text_answer r (codes "second"), ← c.get_str-other_at.ensures ∙ text_answer r (codes "other-at"))
-        c.in_ok-second.ensures,
-  ),
-)
+returns c = λ rest r.
+    let first = simp (c.get_str.ensures, c.get_str-at.ensures, text_answer r) at c.in_ok-first.ensures in
+    let second = simp (c.get_str-2.ensures, c.get_str-other_at.ensures, text_answer r) at c.in_ok-second.ensures in
+    (refl, (first, second))

@@ -1,9 +1,7 @@
-use Rattle.std.specs.Str.Parse.{without_leading_plus}
-use Rattle.fv_arguments.proofs.NumberLemmas.{spelled, unspelled}
 use Rattle.fv_arguments.proofs.options.decimal.Goals as goal
 
 pub returns-in-Ok : goal.returns-in-Ok
-returns-in-Ok c = spelled 10 64 (without_leading_plus c.args.text.now) _ c.in-Ok.ensures.value.0
+returns-in-Ok c = let h = c.in-Ok.ensures.value.0 in (h.0.0, h.1, rw h.1 h.0.1)
 
 pub returns-in-Err : goal.returns-in-Err
-returns-in-Err c = λ words. unspelled 10 64 (without_leading_plus c.args.text.now) c.in-Err.ensures.value.0
+returns-in-Err c = λ words n h. c.in-Err.ensures.value.0 (h.0, rw h.1 at h.2)

@@ -1,4 +1,4 @@
-use Rattle.fv_base.proofs.Laws.{◌∙◌, codes, refl, err_is}
+use Rattle.fv_base.proofs.Laws.{codes, refl, err_is}
 use Rattle.fv_arguments.proofs.ArgumentReadLemmas.{text_answer}
 use Rattle.fv_arguments.proofs.RefusalLemmas.{no_input, right_part}
 use Rattle.fv_arguments.specs.Words.{extract_app}
@@ -9,24 +9,12 @@ returns-in_err-part c =
     rw (err_is c.from_residual.ensures.1) (λ words rest r right.
     let part = right_part rest right in
     c.in_err-part.ensures words part.0
-    (rw (
-      c.get_str.ensures ∙ text_answer r (codes "name"),
-      c.get_str-section.ensures ∙ text_answer r (codes "section"),
-      c.get_str-instance.ensures ∙ text_answer r (codes "instance"),
-    ) part.1))
+    (simp (c.get_str.ensures, c.get_str-section.ensures, c.get_str-instance.ensures, text_answer r) part.1))
 
 pub returns-in_err-at : goal.returns-in_err-at
 returns-in_err-at c = rw (err_is c.from_residual-in_err-at.ensures.1) (no_input _ (codes "extract") refl c.in_err-at.ensures)
 
 pub returns : goal.returns
-returns c = λ rest r. (
-  refl,
-  (
-    c.in_ok-at.ensures extract_app rest r,
-    rw (
-      ← c.get_str.ensures ∙ text_answer r (codes "name"),
-      ← c.get_str-section.ensures ∙ text_answer r (codes "section"),
-      ← c.get_str-instance.ensures ∙ text_answer r (codes "instance"),
-    ) c.in_ok-part.ensures,
-  ),
-)
+returns c = λ rest r.
+    let part = simp (c.get_str.ensures, c.get_str-section.ensures, c.get_str-instance.ensures, text_answer r) at c.in_ok-part.ensures in
+    (refl, (c.in_ok-at.ensures extract_app rest r, part))

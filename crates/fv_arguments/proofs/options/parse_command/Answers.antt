@@ -1,4 +1,4 @@
-use Rattle.clap.proofs.TakesLemmas.{passed_up}
+use Rattle.fv_base.proofs.Laws.{err_is}
 use Rattle.fv_arguments.proofs.ArgumentReadLemmas.{read}
 use Rattle.fv_arguments.proofs.RefusalLemmas.{read_of, rejected}
 use Rattle.fv_arguments.proofs.options.parse_command.Goals as goal
@@ -12,8 +12,7 @@ pub returns-in_err-command-clause-wrong : goal.returns-in_err-command-clause-wro
 returns-in_err-command-clause-wrong c =
     let found = c.in_ok-matches.ensures in
     let r = read _ c.args.name.now _ c.in_ok-rules_of.ensures found.matches found.kinds in
-    passed_up c.from_residual-in_err-command.result c.in_err-command.field-0.0 _ c.from_residual-in_err-command.ensures.1
-    (λ is right. c.in_err-command.ensures is _ r right)
+    rw (err_is c.from_residual-in_err-command.ensures.1) (λ is right. c.in_err-command.ensures is _ r right)
 
 pub returns-clause-asks : goal.returns-clause-asks
 returns-clause-asks c =

@@ -12,10 +12,3 @@ returns-in_err-section_of c =
 pub returns-in_err-instance_of : goal.returns-in_err-instance_of
 returns-in_err-instance_of c =
     passed _ _ _ _ c.from_residual-in_err-instance_of.ensures.1 c.in_err-instance_of.ensures (λ part h. (part.instance, h.instance_is))
-
-pub returns : goal.returns
-returns c = record {
-  name_is = c.in_ok-name_of.ensures;
-  section_is = c.in_ok-section_of.ensures;
-  instance_is = c.in_ok-instance_of.ensures;
-}

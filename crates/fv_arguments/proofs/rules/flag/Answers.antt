@@ -11,5 +11,4 @@ returns-clause-rule c =
     ∙ ap (λ (r : Rule). record r { long = Some c.args.name.now; action = Some SetTrue }) c.new.ensures.rule
 
 pub returns-clause-local : goal.returns-clause-local
-returns-clause-local c =
-    ap (λ (a : Arg). a.global) c.action.ensures ∙ ap (λ (a : Arg). a.global) c.long.ensures ∙ c.new.ensures.optional.1
+returns-clause-local c = rw (c.action.ensures, c.long.ensures) c.new.ensures.optional.1

@@ -1,10 +1,8 @@
-use Rattle.std.proofs.Common.{◌≡◌, ℕ, List, Option, Some, refl, sym, subst, ◌⊎◌, inl, inr}
+use Rattle.std.proofs.Common.{◌≡◌, ℕ, List, Some, refl, ◌⊎◌, inl, inr}
 use Rattle.fv_base.proofs.Laws.{err_is, out_of_memory}
-use Rattle.fv_section.specs.Words.{FrameForm, frame_form}
-use Rattle.fv_tree.specs.Words.{section_of_type, frame_of_type, Plain, Sectioned, SectionMeaning, SectionMeanings, content_of, volumes_in_body}
+use Rattle.fv_tree.specs.Words.{section_of_type, Plain, Sectioned, SectionMeaning, SectionMeanings, content_of, volumes_in_body}
 use Rattle.fv_tree.specs.Words.{FileMeaning, ContentMeaning, body_of}
-use Rattle.fv_command.specs.Words.{IsSectionPart, IsFramePart, StopsPart}
-use Rattle.fv_command.specs.declared.extracting.Extraction.TheVariants.{Made, Stored}
+use Rattle.fv_command.specs.Words.{StopsPart}
 use Rattle.fv_base.specs.declared.fault.Fault.{Fault}
 use Rattle.fv_canon.specs.Words.{FirstUnplaced}
 use Rattle.fv_command.proofs.extracting.file_part.Goals as goal
@@ -24,14 +22,10 @@ pub returns-in_ok-body_bytes-in-Found-Section-clause-ok : goal.returns-in_ok-bod
 returns-in_ok-body_bytes-in-Found-Section-clause-ok c =
     let w = c.in-Found-Section.ensures in
     let item = c.in-Found-Section.field-0-is in
-    let s : SectionMeaning = c.in-Found-Section.section in
-    let bytes = c.in_ok-body_bytes-in-Found-Section.field-0 in
     rw c.in-Some.is (record {
-      sections = λ ss t e.
-          let p : section_of_type c.in-Some.kind c.args.part.now.instance ss ≡ Some s = rw item at (w.sections ss t e) in
-          subst (λ (o : Option SectionMeaning). IsSectionPart o (Made bytes)) (sym p) c.in_ok-body_bytes-in-Found-Section.ensures.body;
+      sections = λ ss t e. let found = rw item at (w.sections ss t e) in rw found c.in_ok-body_bytes-in-Found-Section.ensures.body;
       core = λ b fs t e k h. absurd (rw item at (w.core b fs t e k h));
-      plain = λ b e n. let same = w.plain b e n in cc;
+      plain = λ b e n. cc (w.plain b e n);
     })
 
 pub returns-in-Found-Frame-clause-ok : goal.returns-in-Found-Frame-clause-ok
@@ -40,11 +34,8 @@ returns-in-Found-Frame-clause-ok c =
     let item = c.in-Found-Frame.field-0-is in
     rw c.in-Some.is (record {
       sections = λ ss t e. absurd (rw item at (w.sections ss t e));
-      core = λ b fs t e k h.
-          let p : frame_of_type c.in-Some.kind c.args.part.now.instance fs ≡ Some (frame_form c.in-Found-Frame.frame) =
-          rw item at (w.core b fs t e k h) in
-          subst (λ (o : Option FrameForm). IsFramePart o (Stored c.in-Found-Frame.frame.body)) (sym p) refl;
-      plain = λ b e n. let same = w.plain b e n in cc;
+      core = λ b fs t e k h. let found = rw item at (w.core b fs t e k h) in rw found refl;
+      plain = λ b e n. cc (w.plain b e n);
     })
 
 pub returns-in_err-body_bytes-in-Found-Section-clause-err : goal.returns-in_err-body_bytes-in-Found-Section-clause-err
@@ -52,10 +43,6 @@ returns-in_err-body_bytes-in-Found-Section-clause-err c =
     let residual = c.from_residual-in_err-body_bytes-in-Found-Section in
     let w = c.in-Found-Section.ensures in
     let item = c.in-Found-Section.field-0-is in
-    let f = c.args.file.now in
-    let found : (ss : SectionMeanings) (t : ℕ) → content_of f ≡ Sectioned ss t
-    → section_of_type c.in-Some.kind c.args.part.now.instance ss ≡ Some c.in-Found-Section.section = λ ss t e. rw item at (w.sections ss t e) in
-    let none : (b : List ℕ) → content_of f ≡ Plain b → ⊥ = λ b e.
-    let same = w.plain b e (λ k fs t h. absurd (rw item at (w.core b fs t e k h))) in cc in
-    rw (c.in-Some.is, err_is residual.ensures.1) (stops_section f c.in-Some.kind c.args.part.now.instance c.in-Found-Section.section _ found none
+    rw (c.in-Some.is, err_is residual.ensures.1) (stops_section c.args.file.now c.in-Some.kind c.args.part.now.instance c.in-Found-Section.section _
+    (λ ss t e. rw item at (w.sections ss t e)) (λ b e. cc (w.plain b e (λ k fs t h. absurd (rw item at (w.core b fs t e k h)))))
     c.in_err-body_bytes-in-Found-Section.ensures.err)

@@ -1,4 +1,4 @@
-use Rattle.std.proofs.Common.{ℕ, ◌<◌, List, take, length, arith, ap, subst, length-take}
+use Rattle.std.proofs.Common.{subst, ℕ, ◌<◌, List, take, length, arith, ap, length-take}
 use Rattle.fv_text.proofs.Laws.{text_put}
 use Rattle.fv_command.proofs.shown_image.put_digits.Goals as goal
 

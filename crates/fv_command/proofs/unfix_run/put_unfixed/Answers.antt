@@ -1,5 +1,4 @@
-use Rattle.fv_base.proofs.Laws.{refl, subst, err_is}
-use Rattle.fv_text.specs.Words.{ShowsBytes}
+use Rattle.fv_base.proofs.Laws.{refl, err_is}
 use Rattle.fv_command.proofs.unfix_run.put_unfixed.Goals as goal
 
 pub returns-in_err-volume : goal.returns-in_err-volume
@@ -9,6 +8,6 @@ pub returns : goal.returns
 returns g c =
     let put = c.put_shown.ensures in (
       put.0,
-      (c.in_ok-volume.volume, c.in_ok-volume.ensures.ok, subst (λ b. ShowsBytes c.args.hex b put.0) c.as_slice.ensures put.1),
+      (c.in_ok-volume.volume, c.in_ok-volume.ensures.ok, rw c.as_slice.ensures at put.1),
       put.2,
     )

@@ -3,11 +3,9 @@ use Rattle.fv_compare.proofs.comparison_line.put_difference.Goals as goal
 
 pub returns-clause-line : goal.returns-clause-line
 returns-clause-line g c =
-    let laws = g.S.Sink.laws in
-    let path = c.put_path.ensures.text in
-    let word = c.put-2.ensures in
-    laws.joined c.put.ensures (laws.joined (rw c.steps.ensures at path)
-    (laws.joined (rw (c.as_bytes.ensures.value, c.difference_word.ensures.text, c.word.ensures) at word) c.put-3.ensures))
+    let path = rw c.steps.ensures at c.put_path.ensures.text in
+    let word = rw (c.as_bytes.ensures.value, c.difference_word.ensures.text, c.word.ensures) at c.put-2.ensures in
+    search g.S.Sink.laws.joined
 
 pub returns-clause-short : goal.returns-clause-short
 returns-clause-short g c =

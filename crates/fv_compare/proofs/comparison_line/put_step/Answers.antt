@@ -3,20 +3,14 @@ use Rattle.fv_compare.proofs.ComparisonLineLaws.{short_step}
 use Rattle.fv_compare.proofs.comparison_line.put_step.Goals as goal
 
 pub returns-in-File-clause-text : goal.returns-in-File-clause-text
-returns-in-File-clause-text g c =
-    let laws = g.S.Sink.laws in
-    rw c.in-File.is (laws.joined c.put.ensures (laws.joined c.put_decimal.ensures.text c.put-in-File.ensures))
+returns-in-File-clause-text g c = rw c.in-File.is (search g.S.Sink.laws.joined)
 
 pub returns-in-File-clause-short : goal.returns-in-File-clause-short
 returns-in-File-clause-short g c =
     rw c.in-File.is (short_step (codes "file ") (decimal c.in-File.number) (omega arith) c.put_decimal.ensures.short)
 
 pub returns-in-Section-clause-text : goal.returns-in-Section-clause-text
-returns-in-Section-clause-text g c =
-    let laws = g.S.Sink.laws in
-    rw c.in-Section.is
-    (laws.joined c.put-in-Section.ensures
-    (laws.joined c.put_decimal-in-Section.ensures.text c.put-in-Section-2.ensures))
+returns-in-Section-clause-text g c = rw c.in-Section.is (search g.S.Sink.laws.joined)
 
 pub returns-in-Section-clause-short : goal.returns-in-Section-clause-short
 returns-in-Section-clause-short g c =

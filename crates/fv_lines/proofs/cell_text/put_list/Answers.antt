@@ -1,27 +1,13 @@
-use Rattle.std.proofs.Common.{ℕ, List, map, subst, sym, take_all}
-use Rattle.fv_base.proofs.Laws.{flat_map}
+use Rattle.std.proofs.Common.{take_all}
+use Rattle.std.proofs.lemmas.List.Folds.{flat_map-map}
 use Rattle.fv_file.specs.Words.{cell_form}
-use Rattle.fv_file.specs.declared.cell.Cell.{Cell}
 use Rattle.fv_lines.specs.Words.{cell_line}
 use Rattle.fv_lines.proofs.CellSumLemmas.{fits_at}
-use Rattle.fv_text.proofs.Laws.{seen_next}
 use Rattle.fv_lines.proofs.cell_text.put_list.Goals as goal
-
-pub loop-cell-init : goal.loop-cell-init
-loop-cell-init g c = g.S.Sink.laws.none c.args.out.now
 
 pub put_cell-requires : goal.put_cell-requires
 put_cell-requires g c = fits_at cell_form c.args.list.now c.loop-cell.cell-index _ c.loop-cell-test.true c.requires.each
 
-pub loop-cell-preserved : goal.loop-cell-preserved
-loop-cell-preserved g c =
-    let list : List Cell = c.args.list.now in
-    subst (λ (t : List ℕ). g.S.Sink.takes c.args.out.now t c.put_cell.new.out)
-    (sym (seen_next cell_line cell_form list c.loop-cell.cell-index _ c.loop-cell-test.true))
-    (g.S.Sink.laws.joined c.loop-cell.invariant c.put_cell.ensures)
-
 pub returns : goal.returns
 returns g c =
-    subst (λ (cs : List Cell).
-    g.S.Sink.takes c.args.out.now (flat_map cell_line (map cell_form cs)) c.loop-cell.out)
-    (take_all c.loop-cell.cell-index c.args.list.now c.loop-cell-test.false) c.loop-cell.invariant
+    rw (flat_map-map cell_line cell_form, ← take_all c.loop-cell.cell-index c.args.list.now c.loop-cell-test.false) c.loop-cell.invariant

@@ -1,4 +1,4 @@
 use Rattle.fv_lines.proofs.cell_text.put_span_line.Goals as goal
 
 pub returns : goal.returns
-returns g c = g.S.Sink.laws.joined c.put_span.ensures c.put.ensures
+returns g c = search g.S.Sink.laws.joined

@@ -1,14 +1,4 @@
 use Rattle.fv_lines.proofs.cell_text.put_sums.Goals as goal
 
 pub returns : goal.returns
-returns g c =
-    let laws = g.S.Sink.laws in
-    laws.joined c.put.ensures
-    (laws.joined c.put_decimal.ensures.text
-    (laws.joined c.put-2.ensures
-    (laws.joined c.put_decimal-2.ensures.text
-    (laws.joined c.put-3.ensures
-    (laws.joined c.put_decimal-3.ensures.text
-    (laws.joined c.put-4.ensures
-    (laws.joined c.put_decimal-4.ensures.text
-    (laws.joined c.put-5.ensures (laws.joined c.put_decimal-5.ensures.text c.put-6.ensures)))))))))
+returns g c = search g.S.Sink.laws.joined depth 12

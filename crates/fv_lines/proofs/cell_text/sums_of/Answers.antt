@@ -1,7 +1,5 @@
-use Rattle.std.proofs.Common.{◌∙◌, List, ap, map, sym, take_all}
+use Rattle.std.proofs.Common.{◌∙◌, sym}
 use Rattle.fv_file.specs.Words.{cell_form}
-use Rattle.fv_file.specs.declared.cell.Cell.{Cell}
-use Rattle.fv_lines.specs.Words.{sums_of}
 use Rattle.fv_lines.proofs.CellSumLemmas.{counted_next, sums_next}
 use Rattle.fv_lines.proofs.cell_text.sums_of.Goals as goal
 
@@ -13,7 +11,3 @@ pub loop-cell-preserved : goal.loop-cell-preserved
 loop-cell-preserved c =
     (rw c.loop-cell.invariant at c.with_cell-sums.ensures)
     ∙ sym (sums_next cell_form c.args.list.now c.loop-cell.cell-index _ c.loop-cell-test.true)
-
-pub returns : goal.returns
-returns c =
-    c.loop-cell.invariant ∙ ap (λ (cs : List Cell). sums_of (map cell_form cs)) (take_all c.loop-cell.cell-index c.args.list.now c.loop-cell-test.false)

@@ -1,13 +1,11 @@
-use Rattle.std.proofs.Common.{ℕ, List, [], ◌++◌, codes, inl, inr, refl, subst}
-use Rattle.fv_base.specs.Words.{bytes_of, guid_text}
+use Rattle.std.proofs.Common.{[], inl, inr, refl}
 use Rattle.fv_lines.proofs.leaf_text.put_subtype.Goals as goal
 
 pub returns-in-Some : goal.returns-in-Some
 returns-in-Some g c = (
-  codes " subtype " ++ guid_text (bytes_of c.in-Some.guid),
+  _,
   inl (c.in-Some.guid, (c.in-Some.field-0-1.now, c.in-Some.ensures.found), refl),
-  g.S.Sink.laws.joined c.put.ensures
-      (subst (λ (t : List ℕ). g.S.Sink.takes c.put.new.self t c.put-in-Some.new.self) c.text.ensures.text c.put-in-Some.ensures),
+  g.S.Sink.laws.joined c.put.ensures (rw c.text.ensures.text at c.put-in-Some.ensures),
 )
 
 pub returns-in-None : goal.returns-in-None
