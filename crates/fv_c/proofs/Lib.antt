@@ -1,4 +1,3 @@
-pub mod RowLemmas
 pub mod PartLaws
 pub mod MemoryLaws
 pub mod RowNumbers

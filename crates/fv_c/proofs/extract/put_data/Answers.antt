@@ -1,4 +1,4 @@
-use Rattle.std.proofs.Common.{rules, ◌∙◌, length, ap, arith, sym}
+use Rattle.std.proofs.Common.{rules, ◌∙◌, ap, length, sym}
 use Rattle.fv_canon.specs.Words.{IsData}
 use Rattle.fv_canon.proofs.Laws.{begin_all, data_one}
 use Rattle.fv_tree.specs.Words.{content_of}
@@ -10,9 +10,7 @@ put_laid_data-requires c = rw c.as_slice.ensures.value (begin_all _ c.in_ok-star
 
 pub returns-clause-ok : goal.returns-clause-ok
 returns-clause-ok c =
-    let put = c.put_laid_data.ensures in
-    let long = c.in_ok-starts.ensures.long in
-    part_put (IsData (content_of c.args.file.now)) c.new-out.result c.put_laid_data.new.out c.args.buffer.now _ put.0 c.data_len-total.result c.new-out.ensures.none
-    c.new-out.ensures.all put.1 put.2
-    (ap length (data_one (content_of c.args.file.now) put.0 long.0 put.1 long.1) ∙ long.2 ∙ sym c.data_len-total.ensures)
-    (omega (arith, c.if-buffer-total.false)) (search rules)
+    let (bytes, is, long) = c.in_ok-starts.ensures.long in
+    part_put (IsData (content_of c.args.file.now)) c.new-out.result c.put_laid_data.new.out _ _ _ c.new-out.ensures.none c.new-out.ensures.all
+    c.put_laid_data.ensures (λ out put. ap length (data_one _ out bytes put is) ∙ long ∙ sym c.data_len-total.ensures)
+    c.if-buffer-total.false (search rules)
