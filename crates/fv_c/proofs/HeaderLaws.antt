@@ -1,6 +1,6 @@
 -- Proves that the bytes at the offsets of Attributes (`attributes_are`) and of the extended header's FvName
 -- (`name_there`) are these fields of the header that was read (PI specification, volume 3, sections 3.2.1.1 and 3.2.1.2).
-use Rattle.std.proofs.Common.{◌≡◌, ◌≢◌, ◌≤◌, ◌∙◌, ◌+◌, ℕ, List, ◌++◌, ap, append_assoc, arith, drop, length, length-append, refl, sym, take}
+use Rattle.std.proofs.Common.{◌≡◌, ◌≢◌, ◌≤◌, ◌∙◌, ◌+◌, ℕ, List, ◌++◌, ap, append_assoc, arith, length, length-append, sym}
 use Rattle.std.specs.Prelude.{Option, None, Some}
 use Rattle.std.proofs.lemmas.List.{drop_at, take_at}
 use Rattle.fv_base.specs.Words.{bytes_of, field, le, le_at}

@@ -5,7 +5,7 @@ use Rattle.std.proofs.lemmas.List.{get_or-map, length-map}
 use Rattle.fv_base.proofs.Laws.{AllByRecursion, at_index}
 use Rattle.fv_head.proofs.Laws.{one_front}
 use Rattle.fv_flash.proofs.Laws.{one_found}
-use Rattle.fv_flash.specs.Words.{AreFound, Found, VolumeAt, offsets_of}
+use Rattle.fv_flash.specs.Words.{AreFound, VolumeAt, offsets_of}
 use Rattle.fv_flash.specs.declared.scanner.FoundVolume.{FoundVolume}
 use Rattle.fv_c.specs.ReportedHeaders.{AreHeaders, IsHeaderIn, reported_header}
 use Rattle.fv_c.specs.declared.header.FvHeader.{FvHeader}
@@ -20,12 +20,6 @@ rows_of b [] all = ([], refl, tt)
 rows_of b (v ∷ vs) ((h, e, front, is), all) =
     let rest = rows_of b vs all in
     (reported_header v.offset h e ∷ rest.0, ap (λ l. v.offset ∷ l) rest.1, ((h, e, front, refl), rest.2))
-
--- the volumes that are found have headers, also if the buffer is too small for them
-pub headers_of : (b : List ℕ) (volumes : List FoundVolume) → AreFound b volumes → (headers : List FvHeader) × AreHeaders b headers
-headers_of b volumes found =
-    let rows = rows_of b volumes found.1 in
-    (rows.0, record { found = rw rows.1 found.0; headers = rows.2 })
 
 module _ (b : List ℕ) (volumes : List FoundVolume) (headers : List FvHeader) (found : AreFound b volumes) (are : AreHeaders b headers) where
   same_offsets : header_offsets headers ≡ offsets_of volumes
@@ -45,3 +39,11 @@ module _ (b : List ℕ) (volumes : List FoundVolume) (headers : List FvHeader) (
       ∙ get_or-map (λ r. r.offset) headers i z 0 (omega (arith, one_each)) in
       let same = one_front (drop row.offset b) h k e x front (rw offset other) in
       cc
+
+-- the volumes that are found have headers, also if the buffer is too small for them
+pub headers_of : (b : List ℕ) (volumes : List FoundVolume) → AreFound b volumes
+    → (headers : List FvHeader) × AreHeaders b headers × (length headers ≡ length volumes)
+headers_of b volumes found =
+    let (rows, same, all) = rows_of b volumes found.1 in
+    let are : AreHeaders b rows = record { found = rw same found.0; headers = all } in
+    (rows, are, one_each b volumes rows found are)

@@ -1,4 +1,3 @@
-pub mod PartLaws
 pub mod MemoryLaws
 pub mod RowNumbers
 pub mod TreeNesting

@@ -2,7 +2,7 @@
 -- and is not Fixed (`kept_number`): the fault of each check of a header or a cell has one of these numbers, or is Fixed,
 -- and the first fault is not Fixed.
 use Rattle.std.proofs.lemmas.Grind.{common_steps}
-use Rattle.std.proofs.Common.{◌≡◌, ◌≤◌, ◌+◌, ℕ, ◌≢◌, List, Bool, Option, arith, drop, inl, inr, rules, slice_index}
+use Rattle.std.proofs.Common.{◌≤◌, ◌+◌, ℕ, ◌≢◌, List, Bool, Option, arith, drop, inl, inr, rules, slice_index}
 use Rattle.fv_base.proofs.Laws.{AllByRecursion, Check, First, fault_number, fails_among}
 use Rattle.fv_base.specs.declared.fault.Fault.{Fault}
 use Rattle.fv_base.specs.declared.flash.FileSystem.{FileSystem}
@@ -29,8 +29,8 @@ state_kinds o s at r = grind (arith, common_steps, file_kinds) steps 150000
 pub kept_number : (input : List ℕ) (f : Fault) → IsFirstOfMarked input f → IsKept f
 kept_number input f (inl (inl head)) = fails_among First IsKept (head_checks input) f (search rules) head
 kept_number input f (inl (inr (e, o, body, u, fault, other))) =
-    let r : List ℕ = drop fault.at body in
-    let all : AllByRecursion (λ (c : Check Fault). IsOfCell c.fault) (cell_checks e.file_system e.polarity (e.first + fault.at) r) =
-    (search rules, state_kinds (state_of e.polarity (slice_index r 23)) e.file_system (e.first + fault.at) r) in
-    fails_among First IsOfCell _ f all fault.fails other
+    let at = e.first + fault.at in
+    let r = drop fault.at body in
+    let kinds = state_kinds (state_of e.polarity (slice_index r 23)) e.file_system at r in
+    fails_among First IsOfCell (cell_checks e.file_system e.polarity at r) f (search rules, kinds) fault.fails other
 kept_number input f (inr (unfixed, (h, e, front, less, is))) = rw is (search rules)

@@ -139,6 +139,7 @@ fn put_row(
 
 // Reads the input as a volume, and writes the part of its row `row`, or returns 257 if the volume
 // has no such row.
+#[tactic(auto, using(crate::proofs::MemoryLaws::header_of))]
 fn put_extracted(
     alloc: Global,
     volume: &[u8],

@@ -1,6 +1,5 @@
 use Rattle.std.proofs.lemmas.Grind.{common_steps}
-use Rattle.std.proofs.Common.{◌∙◌, List, ℕ, arith, refl}
-use Rattle.fv_canon.specs.Words.{NormalisesAll}
+use Rattle.std.proofs.Common.{◌∙◌, arith, refl}
 use Rattle.fv_canon.proofs.Laws.{laid_renewed}
 use Rattle.fv_c.proofs.canonical.fvp_image_normalise.Goals as goal
 

@@ -1,5 +1,5 @@
 use Rattle.std.proofs.lemmas.Grind.{common_steps}
-use Rattle.std.proofs.Common.{◌≡◌, ◌≤◌, List, ℕ, length, arith, refl}
+use Rattle.std.proofs.Common.{arith, refl}
 use Rattle.fv_canon.specs.Words.{NormalisesTo}
 use Rattle.fv_canon.proofs.Laws.{image_stays_long}
 use Rattle.fv_c.proofs.canonical.fvp_volume_normalise.Goals as goal

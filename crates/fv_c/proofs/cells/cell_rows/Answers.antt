@@ -1,12 +1,9 @@
-use Rattle.fv_base.proofs.Laws.{arith, ap, length-take-le, err_is}
+use Rattle.fv_base.proofs.Laws.{ap, length-take-le, err_is}
 use Rattle.fv_base.specs.declared.fault.Fault.{Fault}
 use Rattle.fv_head.proofs.Laws.{fault_known, first_lies}
-use Rattle.fv_tree.proofs.Laws.{bad_cell, bad_header}
+use Rattle.fv_tree.proofs.Laws.{bad_cell}
 use Rattle.std.proofs.Common.{rules}
 use Rattle.fv_c.proofs.cells.cell_rows.Goals as goal
-
-pub returns-in_err-extent-clause-err : goal.returns-in_err-extent-clause-err
-returns-in_err-extent-clause-err c = rw (err_is c.from_residual.ensures.1) (λ other. bad_header _ _ c.in_err-extent.ensures.first)
 
 pub returns-in_err-extent-clause-memory : goal.returns-in_err-extent-clause-memory
 returns-in_err-extent-clause-memory c =

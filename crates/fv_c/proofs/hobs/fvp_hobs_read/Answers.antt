@@ -11,14 +11,12 @@ returns-in-Err-clause-err c = λ _ _.
 
 pub returns-in-Ok-clause-ok : goal.returns-in-Ok-clause-ok
 returns-in-Ok-clause-ok c = λ zero.
-    let put = rw c.as_slice.ensures.blocks at c.put_translated.ensures.written in
-    let count = rw c.as_slice.ensures.blocks at c.put_translated.ensures.count in
+    let (put, count) = rw c.as_slice.ensures.blocks at c.put_translated.ensures.written in
     let (within, list) = c.in-Ok.ensures.found in
     (c.in-Ok.hobs, within, list, count, simp length-map at (put.ok zero), c.put_translated.ensures.fault)
 
 pub returns-in-Ok-clause-small : goal.returns-in-Ok-clause-small
 returns-in-Ok-clause-small c = λ short.
-    let put = rw c.as_slice.ensures.blocks at c.put_translated.ensures.written in
-    let count = rw c.as_slice.ensures.blocks at c.put_translated.ensures.count in
+    let (put, count) = rw c.as_slice.ensures.blocks at c.put_translated.ensures.written in
     let (within, list) = c.in-Ok.ensures.found in
     (c.in-Ok.hobs, within, list, count, simp length-map at (put.small short), c.put_translated.ensures.fault)

@@ -1,4 +1,4 @@
-use Rattle.std.proofs.Common.{◌∙◌, ap, map, take_all}
+use Rattle.std.proofs.Common.{take_all}
 use Rattle.std.proofs.lemmas.List.{map_more}
 use Rattle.fv_c.proofs.translate.translate_all.Goals as goal
 
@@ -8,6 +8,4 @@ loop-value-preserved g c =
     cc c.in_ok-push.ensures.items
 
 pub returns-clause-values : goal.returns-clause-values
-returns-clause-values g c =
-    c.loop-value.invariant
-    ∙ ap (map g.T.Translate.translated) (take_all c.loop-value.value-index c.args.list.now c.loop-value-test.false)
+returns-clause-values g c = rw (take_all c.loop-value.value-index c.args.list.now c.loop-value-test.false) at c.loop-value.invariant
