@@ -14,6 +14,7 @@ use Rattle.fv_c.specs.declared.header.FvHeader.{FvHeader}
 abbrev header_offsets : List FvHeader → List ℕ
 header_offsets rows = map (λ (r : FvHeader). r.offset) rows
 
+-- each of these volumes has a header
 rows_of : (b : List ℕ) (volumes : List FoundVolume) → AllByRecursion (λ v. VolumeAt b v.offset v.length) volumes
     → (rows : List FvHeader) × (header_offsets rows ≡ offsets_of volumes) × AllByRecursion (IsHeaderIn b) rows
 rows_of b [] all = ([], refl, tt)

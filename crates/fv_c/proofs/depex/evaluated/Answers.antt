@@ -1,5 +1,5 @@
 use Rattle.fv_base.proofs.Laws.{IfErr-weaker, err_is}
-use Rattle.fv_depex.proofs.OpReadLemmas.{spells_first}
+use Rattle.fv_depex.proofs.Laws.{spells_first}
 use Rattle.fv_c.proofs.depex.evaluated.Goals as goal
 
 pub returns-in_err-guids-clause-memory : goal.returns-in_err-guids-clause-memory

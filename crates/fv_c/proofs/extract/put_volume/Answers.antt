@@ -2,8 +2,7 @@ use Rattle.std.proofs.lemmas.Grind.{common_steps}
 use Rattle.std.proofs.Common.{rules, ◌∙◌, ap, arith, sym}
 use Rattle.fv_head.specs.Words.{HeadFields}
 use Rattle.fv_tree.specs.Words.{volumes_in}
-use Rattle.fv_canon.proofs.OneImageLaws.{image_length}
-use Rattle.fv_canon.proofs.VolumeListLaws.{laid_fit}
+use Rattle.fv_canon.proofs.Laws.{image_length, laid_fit}
 use Rattle.fv_c.proofs.extract.put_volume.Goals as goal
 
 pub returns-then-buffer-total-clause-ok : goal.returns-then-buffer-total-clause-ok
