@@ -1,20 +1,12 @@
--- Proves that the bytes at the offsets of Attributes (`attributes_are`) and of the extended header's FvName
--- (`name_there`) are these fields of the header that was read (PI specification, volume 3, sections 3.2.1.1 and 3.2.1.2).
+-- Proves that the bytes at the offset of the extended header's FvName are this field of the header that was read
+-- (`name_there`; PI specification, volume 3, section 3.2.1.2).
 use Rattle.std.proofs.Common.{◌≡◌, ◌≢◌, ◌≤◌, ◌∙◌, ◌+◌, ℕ, List, ◌++◌, ap, append_assoc, arith, length, length-append, sym}
 use Rattle.std.specs.Prelude.{Option, None, Some}
 use Rattle.std.proofs.lemmas.List.{drop_at, take_at}
-use Rattle.fv_base.specs.Words.{bytes_of, field, le, le_at}
-use Rattle.fv_base.proofs.Laws.{field-take}
+use Rattle.fv_base.specs.Words.{bytes_of, field, le_at}
 use Rattle.fv_head.specs.Words.{BeginsVolume, Extension, HasExt, HeadFields}
 use Rattle.fv_head.specs.declared.extent.Extent.{Extent}
-use Rattle.fv_head.proofs.Laws.{front_lies}
 use Rattle.fv_c.specs.ReportedHeaders.{volume_name}
-
--- the 4 bytes at offset 44 are Attributes
-pub attributes_are : (h : HeadFields) (e : Extent) (b : List ℕ) → BeginsVolume h e b → le_at 44 4 b ≡ h.attributes
-attributes_are h e b front =
-    let least = (front_lies b h e front).least in
-    ap le (sym (field-take 44 4 e.header_len b (omega (arith, least)))) ∙ front.head.attributes
 
 -- if ExtHeaderOffset is not 0, the name is the first 16 bytes at this offset
 pub name_there : (h : HeadFields) (e : Extent) (b : List ℕ) (n : ℕ) → BeginsVolume h e b → n ≡ le_at 52 2 b → n ≢ 0
