@@ -1,5 +1,3 @@
-pub mod RowLemmas
-pub mod PartLaws
 pub mod MemoryLaws
 pub mod TreeRows
 pub mod TreeParents

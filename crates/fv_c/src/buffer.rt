@@ -73,8 +73,8 @@ pub(crate) fn put_translated<T: Translate>(
     count: &mut u64,
     fault: &mut FvFault,
 ) -> u32
-    ensures written { IsWritten (map T.translated values.now) buffer.old buffer.new result }
-    ensures count { count.new ≡ length values.now }
+    ensures written { IsWritten (map T.translated values.now) buffer.old buffer.new result
+        × (count.new ≡ length values.now) }
     ensures fault { fault.new ≡ no_fault }
 {
     *fault = NO_FAULT;

@@ -134,6 +134,7 @@ fn rows_in_body(alloc: Global, volume: &[u8], extent: &Extent) -> Result<Vec<FvC
 }
 
 // Returns the reports for C of the cells of the volume with which the bytes begin.
+#[tactic(auto, using(fv_tree::proofs::Laws::bad_header))]
 fn cell_rows(alloc: Global, bytes: &[u8]) -> Result<Vec<FvCell>, Fault>
     ensures ok { IfOk result (λ rows. (e : Extent) × (cs : List CellForm) × BeginsTiled e cs bytes.now
         × (rows.items ≡ map reported_cell cs)) }

@@ -6,7 +6,7 @@ ghost use Rattle.fv_base.specs.declared.fault.Fault.{Fault};
 ghost use Rattle.fv_compare.specs.Words.{compare_line};
 ghost use Rattle.fv_tree.specs.Words.{NotRead, Accepted, Meaning, difference};
 ghost use Rattle.fv_c.specs.ReportedComparisons.{IsReported, compare_text};
-ghost use Rattle.fv_c.specs.Reports.{BeginsWithHeader, no_fault, reported_fault, reported_fault_of};
+ghost use Rattle.fv_c.specs.Reports.{BeginsWithHeader, no_fault, reported_fault_of};
 
 use crate::buffer::put_first;
 use crate::reports::{BUFFER_TOO_SMALL, FvFault, NO_FAULT, flag, set_fault, set_fault_of};
@@ -76,8 +76,8 @@ fn report(
     ensures small { result ≡ 256 → IsReported a.now b.now found.new × (length text.old < found.new.text_length + 1)
         × (fault.new ≡ no_fault) }
     ensures room { 553 ≤ length text.old → result ≢ 256 }
-    ensures memory { result ≢ 0 → result ≢ 256 → (result ≡ 24) × (fault.new ≡ reported_fault out_of_memory)
-        × (found.new ≡ found.old) }
+    ensures memory { result ≢ 0 → result ≢ 256 → (f : Fault) × (f ≡ out_of_memory) × (result ≡ fault_number f.kind)
+        × (fault.new ≡ reported_fault_of 0 f) × (found.new ≡ found.old) }
     ensures first { fault.new.input ≡ 0 }
 {
     let (same, line) = match line_of(alloc, a, b) {
@@ -108,6 +108,7 @@ fn report(
 /// have at most `DIFFERENCE_SIZE` bytes; `found` is written then. The buffer is unchanged in all
 /// cases.
 #[unsafe(no_mangle)]
+#[tactic(auto, using(crate::proofs::MemoryLaws::header_of))]
 pub extern "C" fn fvp_volume_compare(
     alloc: Global,
     first: &[u8],

@@ -5,12 +5,12 @@ ghost use Rattle.std.specs.Prelude.{IfOk, IfErr, OnErr};
 ghost use Rattle.fv_base.specs.Words.{OrMemory, fault_number, out_of_memory};
 ghost use Rattle.fv_base.specs.declared.fault.Fault.{Fault};
 ghost use Rattle.fv_canon.specs.Words.{FirstUnplaced, IsBodyImage, IsData, IsImage, Unfit};
-ghost use Rattle.fv_tree.specs.Words.{Accepted, NotRead, Meaning, body_of, content_of};
+ghost use Rattle.fv_tree.specs.Words.{Accepted, NotRead, body_of, content_of};
 ghost use Rattle.fv_tree.specs.Words.{volumes_in_body, volumes_in_content};
 ghost use Rattle.fv_rows.specs.Words.{part_node};
-ghost use Rattle.fv_c.specs.ExtractedParts.{ExtractsTo, HasNoRow, HasUnfitRow, IsNodeImage, part_at, volumes_in_node};
+ghost use Rattle.fv_c.specs.ExtractedParts.{ExtractsTo, HasNoRow, HasUnfitRow, IsNodeImage, volumes_in_node};
 ghost use Rattle.fv_c.specs.Reports.{BeginsWithHeader, reported_fault, no_fault};
-ghost use Rattle.fv_c.specs.inner.Rows.{IsWritten, PutsPart, StopsPart};
+ghost use Rattle.fv_c.specs.inner.Rows.{Extracts, IsWritten};
 
 use crate::reports::{BUFFER_TOO_SMALL, FvFault, NO_FAULT, NOT_FOUND, set_fault};
 use fv_base::Fault;
@@ -118,6 +118,7 @@ fn put_part(
 }
 
 // Writes the part of row `row` of a volume, or returns 257 if the volume has no such row.
+// `input` is any input that is this volume.
 fn put_row(
     alloc: Global,
     volume: &VolumeView<'_>,
@@ -125,8 +126,10 @@ fn put_row(
     buffer: &mut [u8],
     len: &mut u64,
 ) -> Result<u32, Fault>
-    ensures ok { IfOk result (PutsPart (part_at row volume.now) buffer.old buffer.new len.old len.new) }
-    ensures err { IfErr result (StopsPart (part_at row volume.now)) }
+    ensures ok { (input : List ℕ) → Accepted input volume.now
+        → IfOk result (Extracts row input buffer.old buffer.new len.old len.new) }
+    ensures err { (input : List ℕ) → Accepted input volume.now
+        → IfErr result (OrMemory (λ f. NotRead input f ⊎ HasUnfitRow row input f)) }
     ensures kept { OnErr result ((buffer.new ≡ buffer.old) × (len.new ≡ len.old)) }
 {
     match TreeWalk::of(volume).nth(row as usize) {
@@ -137,6 +140,7 @@ fn put_row(
 
 // Reads the input as a volume, and writes the part of its row `row`, or returns 257 if the volume
 // has no such row.
+#[tactic(auto, using(crate::proofs::MemoryLaws::header_of))]
 fn put_extracted(
     alloc: Global,
     volume: &[u8],
@@ -144,10 +148,8 @@ fn put_extracted(
     buffer: &mut [u8],
     len: &mut u64,
 ) -> Result<u32, Fault>
-    ensures ok { IfOk result (λ r. (m : Meaning) × Accepted volume.now m
-        × PutsPart (part_at row m) buffer.old buffer.new len.old len.new r) }
-    ensures err { IfErr result
-        (λ f. (f ≡ out_of_memory) ⊎ (NotRead volume.now f ⊎ HasUnfitRow row volume.now f)) }
+    ensures ok { IfOk result (Extracts row volume.now buffer.old buffer.new len.old len.new) }
+    ensures err { IfErr result (OrMemory (λ f. NotRead volume.now f ⊎ HasUnfitRow row volume.now f)) }
     ensures memory { IfErr result (λ f. f ≡ out_of_memory → BeginsWithHeader volume.now) }
     ensures kept { OnErr result ((buffer.new ≡ buffer.old) × (len.new ≡ len.old)) }
 {

@@ -1,7 +1,7 @@
 //! The results of the calls, and the structure in which they report a fault to C.
 
-ghost use Rattle.std.specs.Prelude.{◌≡◌, ◌↔◌, ◌<◌, ◌≤◌, true};
-ghost use Rattle.fv_base.specs.Words.{fault_number};
+ghost use Rattle.std.specs.Prelude.{◌≡◌, ◌↔◌, ◌<◌, ◌≤◌, ℕ, true};
+ghost use Rattle.fv_base.specs.Words.{fault_number, out_of_memory};
 ghost use Rattle.fv_c.specs.Reports.{reported_fault, reported_fault_of, system_number};
 
 use fv_base::{Fault, FileSystem};
@@ -96,8 +96,10 @@ pub(crate) fn reported_fault(f: Fault) -> FvFault
 pub(crate) fn set_fault_of(input: u32, f: Fault, fault: &mut FvFault) -> u32
     ensures number { result ≡ fault_number f.kind }
     ensures fault { fault.new ≡ reported_fault_of input f }
+    ensures input { fault.new.input ≡ input }
     ensures some { 0 < result }
     ensures most { result < 256 }
+    ensures memory { f ≡ out_of_memory → result ≡ 24 }
 {
     *fault = reported_fault_of(input, f);
     u32::from(f.kind.number())
@@ -109,6 +111,7 @@ pub(crate) fn set_fault(f: Fault, fault: &mut FvFault) -> u32
     ensures fault { fault.new ≡ reported_fault f }
     ensures some { 0 < result }
     ensures most { result < 256 }
+    ensures memory { f ≡ out_of_memory → result ≡ 24 }
 {
     set_fault_of(0, f, fault)
 }
@@ -116,7 +119,8 @@ pub(crate) fn set_fault(f: Fault, fault: &mut FvFault) -> u32
 // Sets `fault` to the report of a fault at depth 0 with this result, and returns the result.
 pub(crate) fn set_fault_at(offset: u64, number: u32, fault: &mut FvFault) -> u32
     ensures number { result ≡ number }
-    ensures fault { fault.new ≡ record { offset = offset; result = number; depth = 0; input = 0; reserved = 0 } }
+    ensures fault { (n : ℕ) → number ≡ n
+        → fault.new ≡ record { offset = offset; result = n; depth = 0; input = 0; reserved = 0 } }
 {
     *fault = FvFault {
         offset,

@@ -30,8 +30,8 @@ fn header_at(image: &[u8], offset: u64) -> FvHeader
 fn put_each_header(image: &[u8], volumes: &[FoundVolume], rows: &mut [FvHeader])
     requires volumes { AreFound image.now volumes.now }
     requires room { length volumes.now ≤ length rows.old }
-    ensures { (headers : List FvHeader) × AreHeaders image.now headers × (length headers ≡ length volumes.now)
-        × (rows.new ≡ headers ++ drop (length headers) rows.old) }
+    ensures { (headers : List FvHeader) → AreHeaders image.now headers
+        → rows.new ≡ headers ++ drop (length headers) rows.old }
 {
     for i in 0..volumes.len() {
         rows[i] = header_at(image, volumes[i].offset);

@@ -5,8 +5,11 @@ pub use Rattle.fv_canon.proofs.ImageLaws.{image_stays_long}
 -- in an image the pads from the first edge on have erased data
 pub use Rattle.fv_canon.proofs.AlignedLaws.{pads_erased}
 pub use Rattle.fv_canon.proofs.StoredTilingLaws.{PadErased}
--- the data of a file have at most one image, and the body of a section has at most one image
-pub use Rattle.fv_canon.proofs.OneImageLaws.{data_one, body_one}
+-- the image of a volume is as long as its header says, and the data of a file and the body of a section have at most
+-- one image
+pub use Rattle.fv_canon.proofs.OneImageLaws.{image_length, data_one, body_one}
+-- volumes that are laid out fit
+pub use Rattle.fv_canon.proofs.VolumeListLaws.{laid_fit}
 -- bytes that are a volume at a depth within the limit are accepted; what a relation pairs item by item, a weaker
 -- relation pairs too, and so what is a section at a depth is a section at the next depth
 pub use Rattle.fv_canon.proofs.HeadlineLaws.{accepted, pairs_more, stream_more, sections_more}

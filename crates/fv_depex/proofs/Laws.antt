@@ -8,6 +8,6 @@ pub use Rattle.fv_depex.proofs.PathLemmas.{one_spelling, spelled_again, bytes_jo
 pub use Rattle.fv_depex.proofs.TruthLemmas.{one_tree, truth_of_tree, none_of_order}
 -- Bytes begin with at most one op. If the checks hold, the op is there, and if an op may be there, its checks hold.
 pub use Rattle.fv_depex.proofs.OpLemmas.{same_op, op_stands, checks_hold}
--- Bytes that have a first fault do not spell an expression. The fault of a check that does not hold is not
--- OutOfMemory.
-pub use Rattle.fv_depex.proofs.OpReadLemmas.{none_after, no_want}
+-- Bytes that have a first fault do not spell an expression. Bytes that spell an expression begin with an op that may be
+-- the first. The fault of a check that does not hold is not OutOfMemory.
+pub use Rattle.fv_depex.proofs.OpReadLemmas.{none_after, spells_first, no_want}

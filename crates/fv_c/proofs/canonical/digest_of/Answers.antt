@@ -7,5 +7,5 @@ returns-in_err-laid-clause-fits c = rw (err_is c.from_residual.ensures.1) (λ im
 
 pub returns-clause-ok : goal.returns-clause-ok
 returns-clause-ok c =
-    let put = c.put_canonical.ensures in
-    (put.0, (c.in_ok-laid.laid, c.in_ok-laid.ensures.found, rw c.volume.ensures at put.1), search rules)
+    let (image, is, put) = c.put_canonical.ensures in
+    (image, (c.in_ok-laid.laid, c.in_ok-laid.ensures.found, rw c.volume.ensures at is), search rules)

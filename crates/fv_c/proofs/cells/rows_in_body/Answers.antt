@@ -1,5 +1,5 @@
 use Rattle.std.proofs.lemmas.Grind.{common_steps}
-use Rattle.std.proofs.Common.{◌≡◌, ◌∙◌, sym, ap, [], ◌∷◌, ◌++◌, refl, rules, arith}
+use Rattle.std.proofs.Common.{◌≡◌, [], ◌∷◌, ◌++◌, refl, rules, arith}
 use Rattle.std.proofs.lemmas.List.{map_push}
 use Rattle.fv_base.proofs.Laws.{err_is}
 use Rattle.fv_file.specs.Words.{Walked, cell_form}
@@ -15,16 +15,13 @@ loop-rows-preserved c =
     let (cs, walked, are) = c.loop-rows.invariant in
     let cell = cell_form c.in-Some.cell in
     let step : Walked c.loop-rows.walk (cell ∷ []) c.next_cell.new.self = search rules in
-    let items : c.push.new.self.items ≡ c.loop-rows.rows.items ++ reported_cell cell ∷ [] = search rules in (
-      cs ++ cell ∷ [],
-      walked_on _ _ _ _ _ walked step,
-      items ∙ ap (λ l. l ++ reported_cell cell ∷ []) are ∙ sym (map_push reported_cell cs cell),
-    )
+    let items : c.push.new.self.items ≡ c.loop-rows.rows.items ++ reported_cell cell ∷ [] = search rules in
+    (cs ++ cell ∷ [], walked_on _ _ _ _ _ walked step, cc (map_push reported_cell cs cell))
 
 pub returns-in_err-cell-clause-first : goal.returns-in_err-cell-clause-first
 returns-in_err-cell-clause-first c =
-    let (cs, walked, are) = c.loop-rows.invariant in
-    rw (err_is c.from_residual-in_err-cell.ensures.1) (λ memory. walk_fails _ _ _ _ walked c.in_err-cell.ensures.first.0)
+    rw (err_is c.from_residual-in_err-cell.ensures.1)
+    (λ memory. walk_fails _ _ _ _ c.loop-rows.invariant.1 c.in_err-cell.ensures.first.0)
 
 pub loop-rows-smaller : goal.loop-rows-smaller
 loop-rows-smaller c = grind (arith, common_steps)

@@ -1,14 +1,9 @@
-use Rattle.std.proofs.Common.{◌∙◌, subst}
-use Rattle.fv_depex.specs.Words.{BeginsFirstOp}
-use Rattle.fv_depex.specs.declared.op.Phase.{Phase}
-use Rattle.fv_c.specs.ReportedTruths.{NoExpression}
+use Rattle.std.proofs.Common.{◌∙◌}
 use Rattle.fv_c.proofs.depex.fvp_depex_evaluate.Goals as goal
 
 pub returns-in-Err-clause-err : goal.returns-in-Err-clause-err
-returns-in-Err-clause-err c = λ _. (
-  c.in-Err.f,
-  λ other. subst (λ (phase : Phase). NoExpression phase c.args.expression.now c.in-Err.f) c.phase_by_number.ensures (c.in-Err.ensures.err other),
-  λ want. subst (λ (phase : Phase). BeginsFirstOp phase c.args.expression.now) c.phase_by_number.ensures (c.in-Err.ensures.memory want),
-  c.set_fault_at.ensures.number ∙ c.depex_result.ensures,
-  rw (← c.depex_result.ensures) c.set_fault_at.ensures.fault,
-)
+returns-in-Err-clause-err c = λ _.
+    let e = c.in-Err.ensures in
+    let set = c.set_fault_at.ensures in
+    let is = c.depex_result.ensures in
+    rw (← c.phase_by_number.ensures) (c.in-Err.f, e.err, e.memory, set.number ∙ is, set.fault _ is)

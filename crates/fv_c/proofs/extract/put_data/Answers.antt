@@ -1,8 +1,6 @@
-use Rattle.std.proofs.Common.{rules, ◌∙◌, length, ap, arith, sym}
-use Rattle.fv_canon.specs.Words.{IsData}
+use Rattle.std.proofs.lemmas.Grind.{common_steps}
+use Rattle.std.proofs.Common.{◌∙◌, ap, arith, length, sym}
 use Rattle.fv_canon.proofs.Laws.{begin_all, data_one}
-use Rattle.fv_tree.specs.Words.{content_of}
-use Rattle.fv_c.proofs.PartLaws.{part_put}
 use Rattle.fv_c.proofs.extract.put_data.Goals as goal
 
 pub put_laid_data-requires : goal.put_laid_data-requires
@@ -10,9 +8,7 @@ put_laid_data-requires c = rw c.as_slice.ensures.value (begin_all _ c.in_ok-star
 
 pub returns-clause-ok : goal.returns-clause-ok
 returns-clause-ok c =
-    let put = c.put_laid_data.ensures in
-    let long = c.in_ok-starts.ensures.long in
-    part_put (IsData (content_of c.args.file.now)) c.new-out.result c.put_laid_data.new.out c.args.buffer.now _ put.0 c.data_len-total.result c.new-out.ensures.none
-    c.new-out.ensures.all put.1 put.2
-    (ap length (data_one (content_of c.args.file.now) put.0 long.0 put.1 long.1) ∙ long.2 ∙ sym c.data_len-total.ensures)
-    (omega (arith, c.if-buffer-total.false)) (search rules)
+    let (bytes, is, long) = c.in_ok-starts.ensures.long in
+    let (out, put, takes) = c.put_laid_data.ensures in
+    let same = c.data_len-total.ensures ∙ sym (ap length (data_one _ out bytes put is) ∙ long) in
+    (out, put, same, grind (arith, common_steps))

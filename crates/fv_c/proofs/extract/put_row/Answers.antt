@@ -1,12 +1,18 @@
-use Rattle.std.proofs.Common.{◌≡◌, ◌∙◌, Option, Some, None, sym, ap, option_map}
-use Rattle.fv_base.proofs.Laws.{YieldsList-from_first, nth_from_yields_List, IfErr-weaker, IfOk-weaker}
-use Rattle.fv_rows.specs.Words.{part_node, row_of, tree_rows}
+use Rattle.std.proofs.Common.{◌≡◌, ◌∙◌, ◌≤◌, ℕ, [], ◌∷◌, List, Option, Some, None, ap, arith, inr, length, option_map, rules, slice_get, suc, sym, zero}
+use Rattle.fv_base.proofs.Laws.{YieldsList-from_first, nth_from_yields_List, IfErr-weaker, IfOk-weaker, or_more}
+use Rattle.fv_rows.specs.Words.{part_node, row_of, tree_rows as rows_of}
 use Rattle.fv_rows.specs.declared.tree_walk.Row.{Row}
-use Rattle.fv_c.specs.ExtractedParts.{part_at}
-use Rattle.fv_c.proofs.PartLaws.{puts_none, puts_part, stops_part}
+use Rattle.fv_c.specs.ExtractedParts.{ExtractsTo, HasNoRow, part_at}
+use Rattle.fv_c.specs.TreeParts.{TreeRow, tree_rows}
 use Rattle.fv_c.proofs.WalkRows.{of_row, part_found}
 use Rattle.fv_c.proofs.extract.put_row.Goals.{After-nth}
 use Rattle.fv_c.proofs.extract.put_row.Goals as goal
+
+-- a tree has at most n rows if it has no row n
+no_row : (rows : List TreeRow) (n : ℕ) → option_map (λ (r : TreeRow). r.node) (slice_get rows n) ≡ None → length rows ≤ n
+no_row [] n e = omega arith
+no_row (r ∷ rows) zero e = cc
+no_row (r ∷ rows) (suc n) e = omega (arith, no_row rows n e)
 
 -- row n of the tree has the part that the walk found
 found : (c : After-nth) (o : Option Row) → c.nth.result ≡ o
@@ -14,20 +20,23 @@ found : (c : After-nth) (o : Option Row) → c.nth.result ≡ o
 found c o is =
     part_found c.args.volume.now c.args.row (option_map row_of o)
     (ap (option_map row_of) (sym is) ∙ nth_from_yields_List c.nth.result c.nth.new.self c.args.row c.nth.ensures.ran
-    (YieldsList-from_first row_of (λ left. left) (tree_rows c.args.volume.now) c.of.ensures))
+    (YieldsList-from_first row_of (λ left. left) (rows_of c.args.volume.now) c.of.ensures))
 
 pub returns-in-Some-clause-ok : goal.returns-in-Some-clause-ok
-returns-in-Some-clause-ok c =
+returns-in-Some-clause-ok c = λ input accepted.
     let part = found (goal.at.returns-in-Some-clause-ok c).After-nth (Some c.in-Some.found) c.in-Some.is in
-    IfOk-weaker c.put_part.result _ _
-    (λ r put. puts_part _ (part_node c.in-Some.found.part) c.args.buffer.now c.put_part.new.buffer c.args.len.now c.put_part.new.len r part put)
-    c.put_part.ensures.ok
+    IfOk-weaker c.put_part.result _ _ (λ r (bytes, image, long, written).
+    let to : ExtractsTo c.args.row input bytes = (c.args.volume.now, part_node c.in-Some.found.part, accepted, part, image) in
+    search rules) c.put_part.ensures.ok
 
 pub returns-in-Some-clause-err : goal.returns-in-Some-clause-err
-returns-in-Some-clause-err c =
+returns-in-Some-clause-err c = λ input accepted.
     let part = found (goal.at.returns-in-Some-clause-err c).After-nth (Some c.in-Some.found) c.in-Some.is in
-    IfErr-weaker c.put_part.result _ _ (λ f why. stops_part _ (part_node c.in-Some.found.part) f part why) c.put_part.ensures.err
+    IfErr-weaker c.put_part.result _ _
+    (λ f why. or_more why (λ unfit. inr (c.args.volume.now, part_node c.in-Some.found.part, accepted, part, unfit))) c.put_part.ensures.err
 
 pub returns-in-None-clause-ok : goal.returns-in-None-clause-ok
-returns-in-None-clause-ok c =
-    puts_none _ c.args.buffer.now c.args.len.now (found (goal.at.returns-in-None-clause-ok c).After-nth None c.in-None.is)
+returns-in-None-clause-ok c = λ input accepted.
+    let part = found (goal.at.returns-in-None-clause-ok c).After-nth None c.in-None.is in
+    let none : HasNoRow c.args.row input = (c.args.volume.now, accepted, no_row (tree_rows c.args.volume.now) _ part) in
+    search rules

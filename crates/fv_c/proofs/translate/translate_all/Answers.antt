@@ -1,13 +1,11 @@
-use Rattle.std.proofs.Common.{◌∙◌, ap, map, take_all}
-use Rattle.fv_c.proofs.RowLemmas.{row_more}
+use Rattle.std.proofs.Common.{take_all}
+use Rattle.std.proofs.lemmas.List.{map_more}
 use Rattle.fv_c.proofs.translate.translate_all.Goals as goal
 
 pub loop-value-preserved : goal.loop-value-preserved
 loop-value-preserved g c =
-    row_more g.T.Translate.translated c.args.list.now c.loop-value.value-index _ _ _ _ c.loop-value-test.true c.loop-value.invariant
-    (c.translate.ensures ∙ ap g.T.Translate.translated c.value-item.is) c.in_ok-push.ensures.items
+    let more = map_more g.T.Translate.translated c.args.list.now c.loop-value.value-index c.value-item.result c.loop-value-test.true in
+    cc c.in_ok-push.ensures.items
 
 pub returns-clause-values : goal.returns-clause-values
-returns-clause-values g c =
-    c.loop-value.invariant
-    ∙ ap (map g.T.Translate.translated) (take_all c.loop-value.value-index c.args.list.now c.loop-value-test.false)
+returns-clause-values g c = rw (take_all c.loop-value.value-index c.args.list.now c.loop-value-test.false) at c.loop-value.invariant
