@@ -1,7 +1,7 @@
 -- A walk over the sections of a stream that was read and laid out puts the stream of the canonical image. The steps:
 -- 1. The body of a section has the length that the layout assumed, and fits the form of the section's header
 --    (`section_known`).
--- 2. A stream is its first section followed by the other sections (`stream_goes`, `stream_whole`).
+-- 2. A stream is its first section followed by the other sections (`stream_whole`).
 -- 3. The walk takes the starts of each section (`section_passed`), and puts its filler, its header and its body
 --    (`goes_on`, `front_more`).
 -- 4. At the end the walk puts the tail (`front_end`), or nothing if there are no sections (`front_none`), and all
@@ -9,14 +9,14 @@
 use Rattle.std.proofs.Common.{◌≡◌, ◌<◌, ◌+◌, ◌-◌, ◌^◌, ℕ, [], ◌∷◌, ◌++◌, List, length, drop, replicate, sym, ap, ◌∙◌, subst, arith, append_assoc}
 use Rattle.std.proofs.Common.{append-nil, length-drop}
 use Rattle.fv_base.proofs.Laws.{common_steps, IsBytes, WalkLaws, bytes_drop}
-use Rattle.fv_section.specs.Words.{section_header_len, frame_len, up_to_4, FitsForm, section_head_of, stream_of}
+use Rattle.fv_section.specs.Words.{frame_len, up_to_4, FitsForm, section_head_of, stream_of}
 use Rattle.fv_section.proofs.Laws.{begun_bytes, length_begun}
 use Rattle.fv_tree.specs.Words.{SectionMeanings, NoSections, MoreSections, SectionMeaning, Section, body_len, sections_from, body_of}
 use Rattle.fv_tree.specs.Words.{section_is_extended, section_kind_of, section_len, IsReadSection, volumes_in_section, volumes_in_sections}
 use Rattle.fv_tree.specs.Words.{volumes_in_body}
 use Rattle.fv_canon.specs.inner.ImageOf.{frames_of, frame_of, body_image, starts_in}
-use Rattle.fv_canon.proofs.ImageParts.{frame_bytes, sections_bytes, ComesTo, TakesFront}
-use Rattle.fv_canon.specs.Words.{BeginsWithStarts}
+use Rattle.fv_canon.proofs.ImageParts.{sections_bytes, ComesTo, TakesFront}
+use Rattle.fv_canon.specs.Words.{BeginsWithStarts, IsBodyImage}
 use Rattle.fv_tree.proofs.Laws.{in_section, section_long}
 use Rattle.fv_canon.proofs.VolumeListLaws.{begins_higher, count_deeper, passed_on}
 use Rattle.fv_canon.proofs.WrittenImageLaws.{sections_made}
@@ -28,6 +28,7 @@ pub record SectionKnown (m : SectionMeaning) (starts : List ℕ) : Type 0 where
   pub fits : FitsForm (section_is_extended m) (body_len (body_of m))
   pub long : length (body_image (body_of m) starts) ≡ body_len (body_of m)
   pub small : section_len m < 2 ^ 32
+  pub is : IsBodyImage (body_of m) (body_image (body_of m) starts)
 
 pub section_known : (m : SectionMeaning) (starts : List ℕ) → IsReadSection m → BeginsWithStarts (volumes_in_section m) starts
     → SectionKnown m starts
@@ -43,23 +44,17 @@ section_known (Section kind extended body) starts (n, l, f, (b, small, most, sta
       fits = subst (FitsForm extended) long again.fits;
       long = long;
       small = omega (arith, whole, length_begun f part stands.rest stands.begins, length-drop f.offset b, most);
+      is = image.2;
     }
 
--- ---- a stream is its first section followed by the others
-stream_goes : (at : ℕ) (s : SectionMeaning) (ss : SectionMeanings) (starts : List ℕ) (tail : ℕ)
-    → stream_of (frames_of at (MoreSections s ss) starts) tail
-    ≡ frame_bytes (frame_of 0 s starts) ++ (sections_bytes (up_to_4 (frame_len (frame_of 0 s starts)) - frame_len (frame_of 0 s starts)) ss
-    (drop (starts_in (volumes_in_section s)) starts) ++ replicate tail 0)
-stream_goes at (Section k e b) NoSections starts tail = simp append_assoc
-stream_goes at (Section k e b) (MoreSections t ss) starts tail =
-    let goes = stream_goes (up_to_4 (at + frame_len (frame_of 0 (Section k e b) starts))) t ss
-    (drop (starts_in (volumes_in_section (Section k e b))) starts) tail in
-    rw goes (simp append_assoc)
-
--- all sections and the tail are the stream
-pub stream_whole : (s : SectionMeaning) (ss : SectionMeanings) (starts : List ℕ) (tail : ℕ)
-    → sections_bytes 0 (MoreSections s ss) starts ++ replicate tail 0 ≡ stream_of (frames_of 0 (MoreSections s ss) starts) tail
-stream_whole s ss starts tail = grind (arith, common_steps, append_assoc, stream_goes)
+-- ---- all sections and the tail are the stream
+stream_whole : (at : ℕ) (s : SectionMeaning) (ss : SectionMeanings) (starts : List ℕ) (tail : ℕ)
+    → stream_of (frames_of at (MoreSections s ss) starts) tail ≡ sections_bytes 0 (MoreSections s ss) starts ++ replicate tail 0
+stream_whole at (Section k e b) NoSections starts tail = simp append_assoc
+stream_whole at (Section k e b) (MoreSections t ss) starts tail =
+    let s : SectionMeaning = Section k e b in
+    rw (stream_whole (up_to_4 (at + frame_len (frame_of 0 s starts))) t ss (drop (starts_in (volumes_in_section s)) starts) tail)
+    (simp append_assoc)
 
 -- ---- the walk over the sections of a stream
 
@@ -79,19 +74,12 @@ pub body_laid : (s : SectionMeaning) (starts : List ℕ) → BeginsWithStarts (v
     → BeginsWithStarts (volumes_in_body (body_of s)) starts
 body_laid (Section kind extended body) starts begins = begins_higher (volumes_in_body body) starts begins
 
-framed : (s : SectionMeaning) (starts : List ℕ) → SectionKnown s starts → frame_bytes (frame_of 0 s starts)
-    ≡ section_head_of (section_kind_of s) (section_is_extended s) (body_len (body_of s)) ++ body_image (body_of s) starts
-framed (Section kind extended body) starts k = ap (λ (n : ℕ). section_head_of kind extended n ++ body_image body starts) k.long
-
-sized : (s : SectionMeaning) (starts : List ℕ) → SectionKnown s starts → frame_len (frame_of 0 s starts) ≡ section_len s
-sized (Section kind extended body) starts k = ap (λ (n : ℕ). section_header_len extended + n) k.long
-
 pub goes_on : (left rest : List SectionMeaning) (s : SectionMeaning) (starts : List ℕ) (gap : ℕ) → left ≡ s ∷ rest → SectionKnown s starts
     → sections_bytes gap (sections_from left) starts
     ≡ (replicate gap 0
     ++ (section_head_of (section_kind_of s) (section_is_extended s) (body_len (body_of s)) ++ body_image (body_of s) starts))
     ++ sections_bytes (up_to_4 (section_len s) - section_len s) (sections_from rest) (drop (starts_in (volumes_in_section s)) starts)
-goes_on left rest s starts gap is k = grind (arith, common_steps, sized, framed) steps 400000
+goes_on left rest (Section kind extended body) starts gap is k = rw (is, k.long)
 
 -- after three pieces are put, the bytes after these pieces are left
 pub front_more : {S : Type 0} (takes : S → List ℕ → S → Type 0) → WalkLaws takes → (s t u v w : S) (whole rest a b c left : List ℕ)
@@ -105,10 +93,8 @@ pub front_end : {S : Type 0} (takes : S → List ℕ → S → Type 0) → WalkL
     → TakesFront takes s t (sections_bytes 0 (sections_from ss) starts) (sections_bytes gap (sections_from left) rest)
     → takes t (replicate tail 0) u → takes s (stream_of (frames_of 0 (sections_from ss) starts) tail) u
 front_end takes laws [] left s t u gap starts rest tail none some f p = absurd (omega (arith, some))
-front_end takes laws (x ∷ xs) [] s t u gap starts rest tail none some f p =
-    subst (λ (ys : List ℕ). takes s ys u) (ap (λ (ys : List ℕ). ys ++ replicate tail 0) (sym (append-nil f.front) ∙ f.whole_is)
-    ∙ stream_whole x (sections_from xs) starts tail) (laws.joined f.taken p)
-front_end takes laws (x ∷ xs) (y ∷ ys) s t u gap starts rest tail none some f p = let bad : y ∷ ys ≡ [] = none in cc
+front_end takes laws (x ∷ xs) left s t u gap starts rest tail none some f p =
+    let g = rw (none, append-nil) at f.whole_is in rw (stream_whole 0 x (sections_from xs) starts tail, ← g) (laws.joined f.taken p)
 
 -- if the stream has no sections, nothing is put
 pub front_none : {S : Type 0} (takes : S → List ℕ → S → Type 0) (ss left : List SectionMeaning) (s t : S) (gap : ℕ)

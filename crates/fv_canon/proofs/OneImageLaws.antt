@@ -9,8 +9,8 @@ use Rattle.fv_placement.proofs.Laws.{starts_one}
 use Rattle.fv_section.specs.Words.{FrameForm, frame_len, up_to_4, stream_of}
 use Rattle.fv_tree.specs.Words.{Meaning, Volume, head_of, FileMeanings, NoFiles, MoreFiles, FileMeaning, File, ContentMeaning, Plain, Sectioned}
 use Rattle.fv_tree.specs.Words.{SectionMeanings, NoSections, MoreSections, SectionMeaning, Section, BodyMeaning, Leaf, Group, Nested}
-use Rattle.fv_canon.specs.Words.{IsImage, AreStored, IsStored, IsData, AreFrames, IsFrame, IsBodyImage, placement_items, ShowsPlaced}
-use Rattle.fv_canon.specs.Words.{StoredFile, placed_in_volume}
+use Rattle.fv_canon.specs.Words.{IsImage, AreStored, IsStored, IsData, AreFrames, IsFrame, IsBodyImage, placement_items, ShowsPlaced, StoredFile}
+use Rattle.fv_canon.specs.Words.{placed_in_volume}
 use Rattle.fv_canon.proofs.PositionLaws.{shows_one}
 
 -- ---- there is one image at most

@@ -1,7 +1,7 @@
 -- The facts that the layout uses about the files of a volume that was read.
-use Rattle.std.proofs.Common.{◌≡◌, ◌≤◌, ◌<◌, ◌+◌, ◌-◌, ◌*◌, ◌/◌, ◌%◌, ◌^◌, ℕ, [], ◌∷◌, zero, suc, Bool, true, false, List, length, drop, refl, ◌∙◌, arith}
-use Rattle.fv_base.proofs.Laws.{common_steps}
-use Rattle.fv_base.proofs.Laws.{length-drop, All, All-from_recursion, map, nat_le, slice_index, AllByRecursion, alignment_of, and_split, volume_limit}
+use Rattle.std.proofs.Common.{◌≡◌, ◌≤◌, ◌<◌, ◌+◌, ◌*◌, ◌/◌, ◌%◌, ◌^◌, ℕ, [], ◌∷◌, zero, suc, Bool, true, false, List, length, drop, refl, ◌∙◌, arith}
+use Rattle.fv_base.proofs.Laws.{common_steps, length-drop, All, All-from_recursion, map, nat_le, slice_index, AllByRecursion, alignment_of, and_split}
+use Rattle.fv_base.proofs.Laws.{volume_limit}
 use Rattle.std.proofs.lemmas.Bool.{leb-true}
 use Rattle.std.specs.List.{list_all}
 use Rattle.fv_base.specs.Words.{IsAlignment}

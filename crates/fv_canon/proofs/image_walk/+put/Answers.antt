@@ -8,7 +8,7 @@ use Rattle.fv_canon.specs.Words.{size_for}
 use Rattle.fv_canon.specs.inner.ImageOf.{image_of}
 use Rattle.fv_canon.specs.inner.SummingSinks.{ImageTakes, image_by, sums}
 use Rattle.fv_canon.proofs.DataBodyLaws.{data_image, data_size, data_volumes}
-use Rattle.fv_canon.proofs.LaidFileLaws.{file_long, stored_is, size_is, at_file, file_passed, files_end, walk_goes, placed_on}
+use Rattle.fv_canon.proofs.LaidFileLaws.{file_laid, stored_is, size_is, at_file, file_passed, files_end, walk_goes, placed_on}
 use Rattle.fv_canon.proofs.LaidSectionLaws.{section_known, section_passed, in_body, body_laid, goes_on, front_more, front_end, front_none, walk_ended}
 use Rattle.fv_canon.proofs.SumWalks.{state_adds}
 use Rattle.fv_canon.proofs.VolumeWalks.{volume_is, volume_seen, volume_text, volume_rest}
@@ -86,7 +86,7 @@ put_file-returns-clause-bytes g t c =
     let laws = image_by g.S.Sink.laws in
     let head = c.put_file_head.ensures in
     let payload = c.put_body.ensures.bytes in
-    rw (stored_is c.args.polarity c.args.file.now c.args.starts.now (file_long c.args.file.now c.args.starts.now c.known.ensures c.requires.laid))
+    rw (stored_is c.args.polarity c.args.file.now c.args.starts.now (file_laid c.args.file.now c.args.starts.now c.known.ensures c.requires.laid).1)
     (laws.joined {s = c.args.out.now} {t = c.put_file_head.new.out} {u = c.put_body.new.out}
     (laws.joined {s = c.args.out.now} {t = c.file_sum-sum.new.out} {u = c.put_file_head.new.out} c.file_sum-sum.ensures.none
     (rw c.file_sum-sum.ensures.value at head)) (rw (c.data_body.ensures, data_image c.args.file.now c.args.starts.now) at payload))
@@ -130,7 +130,7 @@ put_files-loop-i-preserved g t c =
     let total : ℕ = c.args.total in
     let at = at_file _ _ _ _ _ _ c.loop-i-test.true c.index-files-i.is c.loop-i.invariant.placed in
     let walk = file_passed fs i f rest _ c.loop-i-test.true c.index-files-i.is c.loop-i.invariant.walk in
-    let long = file_long f rest c.known.ensures walk.0 in
+    let long = (file_laid f rest c.known.ensures walk.0).1 in
     let filled = c.fill.ensures in
     rw (c.up_to_8-edge.ensures, c.size_for.ensures, c.data_len.ensures, c.put_file-rest.ensures.rest) (record {
       placed = placed_on total c.loop-i.edge f (drop (i + 1) fs) (get_or own i 0) (drop (i + 1) own) at.placed;
