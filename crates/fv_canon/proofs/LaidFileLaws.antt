@@ -11,11 +11,10 @@ use Rattle.fv_base.specs.declared.flash.Polarity.{Polarity}
 use Rattle.fv_file.specs.Words.{file_sum_for, file_head_of}
 use Rattle.fv_file.proofs.Laws.{cell_read, header_least}
 use Rattle.fv_tree.specs.Words.{FileMeaning, File, file_name_of, attributes_of, content_of, data_len_of, files_from, file_kind_of, IsReadFile, Stream}
-use Rattle.fv_tree.specs.Words.{volumes_in_files, volumes_in_file}
+use Rattle.fv_tree.specs.Words.{volumes_in_file}
 use Rattle.fv_canon.specs.inner.ImageOf.{stored_of, stored_file, data_of, starts_in, files_bytes}
 use Rattle.fv_canon.specs.Words.{BeginsWithStarts, IsData, stored_len, size_for, stored_bytes, gap_bytes}
-use Rattle.fv_canon.proofs.ImageParts.{ComesTo, TakesFront}
-use Rattle.fv_canon.proofs.VolumeListLaws.{passed_on}
+use Rattle.fv_canon.proofs.ImageParts.{TakesFront}
 use Rattle.fv_canon.proofs.WrittenImageLaws.{data_made, streams_made}
 use Rattle.fv_placement.proofs.Laws.{follow_length}
 use Rattle.fv_canon.proofs.VolumeImageLaws.{data_again, streams_again}
@@ -82,15 +81,6 @@ at_file total e fs own i f l is placed =
       placed = both;
       here = here_is total e f (drop (i + 1) fs) (get_or own i 0) (drop (i + 1) own) both;
     }
-
--- the starts that are left begin with the starts of the files of the volumes in this file, and go on with the starts of
--- the files of the volumes in the files after this file
-pub file_passed : (fs : List FileMeaning) (i : ℕ) (f : FileMeaning) (starts last : List ℕ) → i < length fs → f ≡ get_or fs i f
-    → ComesTo (volumes_in_files (files_from (drop i fs))) starts last
-    → BeginsWithStarts (volumes_in_file f) starts
-    × ComesTo (volumes_in_files (files_from (drop (i + 1) fs))) (drop (starts_in (volumes_in_file f)) starts) last
-file_passed fs i f starts last l is comes =
-    passed_on (volumes_in_file f) (volumes_in_files (files_from (drop (i + 1) fs))) starts last (rw (item_at fs i f l is) at comes)
 
 -- the bytes that are left at a file are its gap, the file and its filler, and then the files after it
 pub walk_goes : (p : Polarity) (total e : ℕ) (fs : List FileMeaning) (own : List ℕ) (i : ℕ) (f : FileMeaning) (starts : List ℕ)

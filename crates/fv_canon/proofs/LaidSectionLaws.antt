@@ -1,51 +1,48 @@
 -- A walk over the sections of a stream that was read and laid out puts the stream of the canonical image. The steps:
--- 1. The body of a section has the length that the layout assumed, and fits the form of the section's header
---    (`section_known`).
+-- 1. The body of a section fits the form of the section's header (`section_fits`), and has the length that the layout
+--    assumed (`section_laid`).
 -- 2. A stream is its first section followed by the other sections (`stream_whole`).
--- 3. The walk takes the starts of each section (`section_passed`), and puts its filler, its header and its body
---    (`goes_on`, `front_more`).
+-- 3. The walk puts the filler of each section, its header and its body (`goes_on`, `front_more`).
 -- 4. At the end the walk puts the tail (`front_end`), or nothing if there are no sections (`front_none`), and all
 --    starts of the stream are taken (`walk_ended`).
-use Rattle.std.proofs.Common.{◌≡◌, ◌<◌, ◌+◌, ◌-◌, ◌^◌, ℕ, [], ◌∷◌, ◌++◌, List, length, drop, replicate, sym, ap, ◌∙◌, subst, arith, append_assoc}
-use Rattle.std.proofs.Common.{append-nil, length-drop}
-use Rattle.fv_base.proofs.Laws.{common_steps, IsBytes, WalkLaws, bytes_drop}
-use Rattle.fv_section.specs.Words.{frame_len, up_to_4, FitsForm, section_head_of, stream_of}
-use Rattle.fv_section.proofs.Laws.{begun_bytes, length_begun}
-use Rattle.fv_tree.specs.Words.{SectionMeanings, NoSections, MoreSections, SectionMeaning, Section, body_len, sections_from, body_of}
-use Rattle.fv_tree.specs.Words.{section_is_extended, section_kind_of, section_len, IsReadSection, volumes_in_section, volumes_in_sections}
-use Rattle.fv_tree.specs.Words.{volumes_in_body}
+use Rattle.std.proofs.Common.{◌≡◌, ◌<◌, ◌+◌, ◌-◌, ◌^◌, ℕ, zero, suc, Bool, [], ◌∷◌, ◌++◌, List, length, drop, replicate, sym, ap, ◌∙◌, subst, arith}
+use Rattle.std.proofs.Common.{append_assoc, append-nil, length-drop}
+use Rattle.fv_base.proofs.Laws.{common_steps, WalkLaws, bytes_drop}
+use Rattle.fv_section.specs.Words.{FrameForm, frame_len, up_to_4, FitsForm, section_head_of, stream_of}
+use Rattle.fv_section.proofs.Laws.{begun_bytes, fits, length_begun}
+use Rattle.fv_tree.specs.Words.{BodyMeaning, MeansSection, SectionMeanings, NoSections, MoreSections, SectionMeaning, Section, body_len}
+use Rattle.fv_tree.specs.Words.{sections_from, body_of, section_is_extended, section_kind_of, section_len, IsReadSection, volumes_in_section}
+use Rattle.fv_tree.specs.Words.{volumes_in_sections, volumes_in_body}
 use Rattle.fv_canon.specs.inner.ImageOf.{frames_of, frame_of, body_image, starts_in}
 use Rattle.fv_canon.proofs.ImageParts.{sections_bytes, ComesTo, TakesFront}
 use Rattle.fv_canon.specs.Words.{BeginsWithStarts, IsBodyImage}
-use Rattle.fv_tree.proofs.Laws.{in_section, section_long}
-use Rattle.fv_canon.proofs.VolumeListLaws.{begins_higher, count_deeper, passed_on}
+use Rattle.fv_tree.proofs.Laws.{body_long, in_section, section_long}
+use Rattle.fv_canon.proofs.VolumeListLaws.{begins_higher, count_deeper}
 use Rattle.fv_canon.proofs.WrittenImageLaws.{sections_made}
-use Rattle.fv_canon.proofs.StreamImageLaws.{frame_again}
 use Rattle.fv_canon.proofs.VolumeImageLaws.{sections_again}
 
 -- ---- a section
-pub record SectionKnown (m : SectionMeaning) (starts : List ℕ) : Type 0 where
-  pub fits : FitsForm (section_is_extended m) (body_len (body_of m))
-  pub long : length (body_image (body_of m) starts) ≡ body_len (body_of m)
-  pub small : section_len m < 2 ^ 32
-  pub is : IsBodyImage (body_of m) (body_image (body_of m) starts)
+form_is : (n kind : ℕ) (extended : Bool) (body : BodyMeaning) (f : FrameForm) → MeansSection n f (Section kind extended body) → extended ≡ f.extended
+form_is zero kind extended body f is = is.1
+form_is (suc n) kind extended body f is = is.1
 
-pub section_known : (m : SectionMeaning) (starts : List ℕ) → IsReadSection m → BeginsWithStarts (volumes_in_section m) starts
-    → SectionKnown m starts
-section_known (Section kind extended body) starts (n, l, f, (b, small, most, stands), is) begins =
-    let m : SectionMeaning = Section kind extended body in
+pub section_fits : (m : SectionMeaning) → IsReadSection m → FitsForm (section_is_extended m) (body_len (body_of m)) × (section_len m < 2 ^ 32)
+section_fits (Section kind extended body) (n, l, f, (b, small, most, stands), is) =
     let part : List ℕ = drop f.offset b in
-    let bytes : IsBytes part = bytes_drop f.offset b small in
-    let image = sections_made n m f 0 starts (begun_bytes f part stands.rest bytes stands.begins).0 is begins in
-    let again = frame_again n (sections_again n) m f (frame_of 0 m starts) part stands.rest bytes stands.begins is image in
-    let whole = section_long n f m is in
-    let long : length (body_image body starts) ≡ body_len body = omega (arith, again.size, whole) in
-    record {
-      fits = subst (FitsForm extended) long again.fits;
-      long = long;
-      small = omega (arith, whole, length_begun f part stands.rest stands.begins, length-drop f.offset b, most);
-      is = image.2;
-    }
+    let form = form_is n kind extended body f is in (
+      rw (form, ← body_long n f kind body (rw form at is)) (fits f part stands.rest (bytes_drop f.offset b small) stands.begins),
+      omega (arith, section_long n f (Section kind extended body) is, length_begun f part stands.rest stands.begins, length-drop f.offset b, most),
+    )
+
+-- the body that a walk writes is the section's body in the image, and has the length that the layout assumed
+pub section_laid : (m : SectionMeaning) (starts : List ℕ) → IsReadSection m → BeginsWithStarts (volumes_in_section m) starts
+    → IsBodyImage (body_of m) (body_image (body_of m) starts) × (length (body_image (body_of m) starts) ≡ body_len (body_of m))
+section_laid (Section kind extended body) starts (n, l, f, (b, small, most, stands), is) begins =
+    let m : SectionMeaning = Section kind extended body in
+    let bytes = (begun_bytes f (drop f.offset b) stands.rest (bytes_drop f.offset b small) stands.begins).0 in
+    let image = sections_made n m f 0 starts bytes is begins in
+    let whole = section_long n (frame_of 0 m starts) m (sections_again n m f (frame_of 0 m starts) bytes is image).0 in
+    (image.2, omega (arith, whole))
 
 -- ---- all sections and the tail are the stream
 stream_whole : (at : ℕ) (s : SectionMeaning) (ss : SectionMeanings) (starts : List ℕ) (tail : ℕ)
@@ -58,15 +55,6 @@ stream_whole at (Section k e b) (MoreSections t ss) starts tail =
 
 -- ---- the walk over the sections of a stream
 
--- the starts that are left begin with the starts of the files of the volumes in this section, and go on with the starts
--- of the files of the volumes in the sections after this section
-pub section_passed : (left rest : List SectionMeaning) (s : SectionMeaning) (starts last : List ℕ) → left ≡ s ∷ rest
-    → ComesTo (volumes_in_sections (sections_from left)) starts last
-    → BeginsWithStarts (volumes_in_section s) starts
-    × ComesTo (volumes_in_sections (sections_from rest)) (drop (starts_in (volumes_in_section s)) starts) last
-section_passed left rest s starts last is comes =
-    passed_on (volumes_in_section s) (volumes_in_sections (sections_from rest)) starts last (rw is at comes)
-
 pub in_body : (s : SectionMeaning) → starts_in (volumes_in_section s) ≡ starts_in (volumes_in_body (body_of s))
 in_body s = ap starts_in (in_section s) ∙ count_deeper (volumes_in_body (body_of s))
 
@@ -74,12 +62,13 @@ pub body_laid : (s : SectionMeaning) (starts : List ℕ) → BeginsWithStarts (v
     → BeginsWithStarts (volumes_in_body (body_of s)) starts
 body_laid (Section kind extended body) starts begins = begins_higher (volumes_in_body body) starts begins
 
-pub goes_on : (left rest : List SectionMeaning) (s : SectionMeaning) (starts : List ℕ) (gap : ℕ) → left ≡ s ∷ rest → SectionKnown s starts
+pub goes_on : (left rest : List SectionMeaning) (s : SectionMeaning) (starts : List ℕ) (gap : ℕ) → left ≡ s ∷ rest
+    → length (body_image (body_of s) starts) ≡ body_len (body_of s)
     → sections_bytes gap (sections_from left) starts
     ≡ (replicate gap 0
     ++ (section_head_of (section_kind_of s) (section_is_extended s) (body_len (body_of s)) ++ body_image (body_of s) starts))
     ++ sections_bytes (up_to_4 (section_len s) - section_len s) (sections_from rest) (drop (starts_in (volumes_in_section s)) starts)
-goes_on left rest (Section kind extended body) starts gap is k = rw (is, k.long)
+goes_on left rest (Section kind extended body) starts gap is long = rw (is, long)
 
 -- after three pieces are put, the bytes after these pieces are left
 pub front_more : {S : Type 0} (takes : S → List ℕ → S → Type 0) → WalkLaws takes → (s t u v w : S) (whole rest a b c left : List ℕ)

@@ -112,7 +112,7 @@ module _ {S : Type 0} (takes : S → List ℕ → S → Type 0) (laws : WalkLaws
       image_stays_long (field p n b) image to ∙ length-take-le n (drop p b) (omega (arith, length-drop p b, within)) in
       let front_long : length (puts.bytes ++ gap) ≡ p = omega (arith, length-append puts.bytes gap, puts.long, gap_long, low) in
       let flat = λ (rest : List ℕ). append_assoc (puts.bytes ++ gap) image rest ∙ append_assoc puts.bytes gap (image ++ rest) in
-      let more : Puts takes s w b volumes vs (p + n) = record {
+      rw (← laid_long b p n v.laid volume puts.laid.0.2) (record {
         bytes = (puts.bytes ++ gap) ++ image;
         taken = laws.joined (laws.joined puts.taken put) put';
         long = omega (arith, length-append (puts.bytes ++ gap) image, front_long, image_long);
@@ -122,8 +122,7 @@ module _ {S : Type 0} (takes : S → List ℕ → S → Type 0) (laws : WalkLaws
         whole = λ rest after. subst (RenewsFrom 0 b (starts_of volumes)) (sym (flat rest)) (puts.whole (gap ++ (image ++ rest))
             (renews_more b (starts_of vs) puts.bytes gap image rest from p n low volume is puts.long gap_long front_long image_long to
             (subst (RenewsFrom (p + n) b (starts_of vs)) (flat rest) after)));
-      } in
-      subst (λ (k : ℕ). Puts takes s w b volumes vs (p + k)) (laid_long b p n v.laid volume puts.laid.0.2) more
+      })
 
   -- after the last volume, the bytes after it are put, and the renewed image is complete
   pub laid_all : {t u : S} (left : List LocatedVolume) (from : ℕ) (rest : List ℕ) → IsLaidOut b volumes → Puts takes s t b volumes left from

@@ -38,17 +38,12 @@ alignment_power a = power_at exponents (a / 8 % 8 + 8 * (a / 2 % 2)) refl (omega
 
 -- ---- the parts of a volume
 
-head_eighth : (large : Bool) → file_header_len large % 8 ≡ 0
-head_eighth true = refl
-head_eighth false = refl
-
 pub head_most : (large : Bool) → file_header_len large ≤ 32
-head_most true = omega arith
-head_most false = omega arith
+head_most large = grind arith
 
 part_is : (total : ℕ) (m : FileMeaning) → 32 + data_len_of m ≤ total → IsLawfulItem total (placement_item m)
 part_is total m l =
-    grind (arith, common_steps, head_eighth (needs_large (data_len_of m)), head_most (needs_large (data_len_of m)), alignment_power (attributes_of m)) steps 400000
+    grind (arith, common_steps, head_most (needs_large (data_len_of m)), alignment_power (attributes_of m)) steps 400000
 
 -- files that were read from at most `limit` bytes are lawful items of a volume that has at least 8 bytes more
 are_parts : (n : ℕ) (system : FileSystem) (limit total : ℕ) (fs : List FileForm) (ms : List FileMeaning)

@@ -6,22 +6,29 @@ use Rattle.fv_tree.specs.Words.{volumes_in_body, volumes_in_content, volumes_in_
 use Rattle.fv_canon.specs.Words.{AreStarts, BeginsWithStarts, IsBodyImage, IsData, StartsOfEach}
 use Rattle.fv_canon.specs.inner.ImageOf.{body_image, data_of}
 use Rattle.fv_canon.proofs.LaidFileLaws.{file_laid}
-use Rattle.fv_canon.proofs.LaidSectionLaws.{section_known}
+use Rattle.fv_canon.proofs.LaidSectionLaws.{section_laid}
 use Rattle.fv_canon.proofs.VolumeListLaws.{laid_deeper}
+
+-- a list that consists of the starts of the files of some volumes begins with these starts
+pub begin_all : (vs : List Inside) (starts : List ℕ) → StartsOfEach AreStarts vs starts → BeginsWithStarts vs starts
+begin_all vs starts laid = (starts, [], sym (append-nil starts), laid)
 
 -- the data that a walk writes for a file that was read and laid out are the file's data in the image
 pub data_laid : (m : FileMeaning) (starts : List ℕ) → IsReadFile m → BeginsWithStarts (volumes_in_content (content_of m)) starts
     → IsData (content_of m) (data_of (content_of m) starts) × (length (data_of (content_of m) starts) ≡ data_len_of m)
 data_laid (File name kind attributes content) = file_laid (File name kind attributes content)
 
--- a list that consists of the starts of the files of some volumes begins with these starts
-pub begin_all : (vs : List Inside) (starts : List ℕ) → StartsOfEach AreStarts vs starts → BeginsWithStarts vs starts
-begin_all vs starts laid = (starts, [], sym (append-nil starts), laid)
+pub data_long : (m : FileMeaning) (starts : List ℕ) → IsReadFile m → StartsOfEach AreStarts (volumes_in_content (content_of m)) starts
+    → (bytes : List ℕ) × IsData (content_of m) bytes × (length bytes ≡ data_len_of m)
+data_long m starts read laid = let is = data_laid m starts read (begin_all _ starts laid) in (data_of (content_of m) starts, is.0, is.1)
 
 -- the body that a walk writes for a section that was read and laid out is the section's body in the image
 pub body_is : (m : SectionMeaning) (starts : List ℕ) → IsReadSection m → StartsOfEach AreStarts (volumes_in_body (body_of m)) starts
     → IsBodyImage (body_of m) (body_image (body_of m) starts) × (length (body_image (body_of m) starts) ≡ body_len (body_of m))
 body_is (Section kind extended body) starts read laid =
-    let deeper = laid_deeper AreStarts (volumes_in_body body) starts laid in
-    let k = section_known (Section kind extended body) starts read (begin_all (volumes_in_section (Section kind extended body)) starts deeper) in
-    (k.is, k.long)
+    let m : SectionMeaning = Section kind extended body in
+    section_laid m starts read (begin_all (volumes_in_section m) starts (laid_deeper AreStarts (volumes_in_body body) starts laid))
+
+pub body_long : (m : SectionMeaning) (starts : List ℕ) → IsReadSection m → StartsOfEach AreStarts (volumes_in_body (body_of m)) starts
+    → (bytes : List ℕ) × IsBodyImage (body_of m) bytes × (length bytes ≡ body_len (body_of m))
+body_long m starts read laid = let is = body_is m starts read laid in (body_image (body_of m) starts, is.0, is.1)

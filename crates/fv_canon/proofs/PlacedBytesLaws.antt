@@ -82,8 +82,7 @@ length-ext_pad p h (Some x) used k =
     omega (arith, length-append (pad_head_of (24 + ext_len x) p) (ext_spelled x used), length-pad_head (24 + ext_len x) p, (ext_again x used k).1)
 
 pub first_is : (h : HeadFields) (x : Option Extension) → (canonical_end h x ≤ first_edge h x) × (first_edge h x % 8 ≡ 0)
-first_is h None = (omega arith, omega arith)
-first_is h (Some x) = (omega arith, omega arith)
+first_is h x = grind (arith, common_steps)
 
 -- the spans of a volume are in order, and the walk writes them
 volume_placed : (h : HeadFields) (fs : List StoredFile) (ss : List ℕ) → Writable h fs ss → InOrder h.length 0 (placed_in_volume h fs ss)

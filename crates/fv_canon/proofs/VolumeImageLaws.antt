@@ -65,8 +65,7 @@ half_moves a f = grind (arith, common_steps)
 
 large_system : (system : FileSystem) (l : Bool) (n : ℕ) → (l ≡ true → system ≡ Ffs3) → (l ≡ false → 24 + n < 16777216)
     → needs_large n ≡ true → system ≡ Ffs3
-large_system system true n h k needs = h refl
-large_system system false n h k needs = grind (arith, common_steps) steps 400000
+large_system system l n h k needs = grind (arith, common_steps) steps 400000
 
 file_again : (n : ℕ) → StreamsAgain (suc n) (Stream n) → (system : FileSystem) (limit : ℕ) (m : FileMeaning) (f : FileForm) (x : StoredFile)
     → limit ≤ 24 + data_limit → FileIsAccepted system limit f → MeansFile (Stream n) f m → IsStored m x → FileAgain n system m f x
@@ -99,8 +98,7 @@ file_again n streams system limit (File name kind attributes content) f x most r
     }
   where
     back : (l : Bool) (a y : ℕ) → y ≡ a / 2 * 2 → y ≡ without_large (with_large l y)
-    back true a y e = omega (arith, e)
-    back false a y e = omega (arith, e)
+    back l a y e = grind (arith, common_steps)
 
 -- ---- 2. file by file
 
@@ -144,8 +142,7 @@ ext_read (Some x) e b small (before, part, behind, text, at, least, within, is, 
 
 -- the first file begins after the header
 pub first_behind : (x : Option Extension) (e : Extent) (b : List ℕ) → HasExt x e b → e.header_len ≤ e.first
-first_behind None e b (none, first) = omega (arith, first)
-first_behind (Some x) e b (before, part, behind, text, at, least, within, is, first) = omega (arith, least, first)
+first_behind x e b has = grind (arith, common_steps) steps 400000
 
 -- the bytes after the header of an image begin with the extended header in its pad, if there is one
 rest_is : (p : Polarity) (x : Option Extension) (used : ℕ) (behind : List ℕ) → CanonicalRest x (ext_pad p x used ++ behind)
