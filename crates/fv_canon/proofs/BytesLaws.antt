@@ -1,14 +1,14 @@
 -- Everything that is written for a volume is a list of bytes.
-use Rattle.std.proofs.Common.{◌≡◌, ◌-◌, ◌+◌, ℕ, [], ◌∷◌, ◌++◌, if◌then◌else◌, ◌==◌, zero, suc, Bool, true, false, List, length, replicate, sym, subst}
-use Rattle.fv_base.proofs.Laws.{common_steps, arith, Option, None, Some, AllByRecursion, erased_byte, bytes_of, IsBytes, le_bytes, up_to_8}
-use Rattle.fv_base.proofs.Laws.{bytes_append, bytes_back, bytes_front, bytes_le_bytes, none_at}
+use Rattle.std.proofs.Common.{◌≡◌, ◌-◌, ◌+◌, ℕ, [], ◌∷◌, ◌++◌, if◌then◌else◌, ◌==◌, zero, suc, Bool, true, false, List, sym, subst}
+use Rattle.fv_base.proofs.Laws.{common_steps, arith, Option, None, Some, AllByRecursion, bytes_of, IsBytes, up_to_8, bytes_append, bytes_back}
+use Rattle.fv_base.proofs.Laws.{bytes_front, bytes_le_bytes, none_at}
 use Rattle.fv_base.specs.declared.flash.FileSystem.{FileSystem}
 use Rattle.fv_base.specs.declared.flash.Polarity.{Polarity}
 use Rattle.fv_file.specs.Words.{pad_head_of}
-use Rattle.fv_head.specs.Words.{Extension, SplitsEntries, kept_payload, is_used_size, zero_used_size, IsReadExt, IfRead, HeadFields, canonical_head}
-use Rattle.fv_head.specs.Words.{canonical_end, first_edge, payload_with, entry_bytes, entries_bytes, ext_len, ext_spelled, polarity_of}
+use Rattle.fv_head.specs.Words.{Extension, SplitsEntries, kept_payload, is_used_size, zero_used_size, IsReadExt, IfRead, HeadFields, first_edge}
+use Rattle.fv_head.specs.Words.{entry_bytes, entries_bytes, ext_len, ext_spelled, polarity_of}
 use Rattle.fv_head.proofs.Laws.{canonical_is}
-use Rattle.fv_canon.specs.Words.{StoredFile, stored_len, stored_bytes, pads, long_pad, gap_bytes, ext_pad, used_size}
+use Rattle.fv_canon.specs.Words.{StoredFile, stored_len, pads, long_pad, gap_bytes, ext_pad, used_size}
 use Rattle.fv_canon.specs.inner.ImageOf.{files_bytes, volume_bytes}
 use Rattle.fv_canon.proofs.CellLaws.{Storable, bytes_stored, bytes_pad_head, bytes_erased, bytes_pad}
 use Rattle.fv_canon.proofs.PlacedBytesLaws.{Writable}

@@ -3,7 +3,7 @@
 -- (`data_size`).
 use Rattle.std.proofs.Common.{◌≡◌, ◌+◌, ℕ, List, arith}
 use Rattle.fv_base.proofs.Laws.{common_steps}
-use Rattle.fv_tree.specs.Words.{FileMeaning, File, Plain, Sectioned, content_of, volumes_in_body, volumes_in_content, volumes_in_file}
+use Rattle.fv_tree.specs.Words.{FileMeaning, content_of, volumes_in_body, volumes_in_content, volumes_in_file}
 use Rattle.fv_tree.specs.inner.Sizes.{body_size, file_size}
 use Rattle.fv_canon.specs.inner.ImageOf.{data_body, body_image, data_of}
 

@@ -50,10 +50,6 @@ pub record Here (total e : ℕ) (f : FileMeaning) (s : ℕ) : Type 0 where
   pub ends : s + size_for (data_len_of f) ≤ total
   pub next : up_to_8 (s + size_for (data_len_of f)) ≤ total
 
-pub own_length : (total e : ℕ) (fs : List FileMeaning) (own : List ℕ) (i : ℕ) → i < length fs → ArePlaced total e (drop i fs) (drop i own)
-    → i < length own
-own_length total e fs own i l placed = grind (arith, common_steps, follow_length, length-map, length-drop)
-
 pub here_is : (total e : ℕ) (f : FileMeaning) (fs : List FileMeaning) (s : ℕ) (ss : List ℕ) → ArePlaced total e (f ∷ fs) (s ∷ ss)
     → Here total e f s
 here_is total e f fs s ss placed = grind (arith, common_steps, header_least) steps 400000
@@ -73,7 +69,8 @@ pub at_file : (total e : ℕ) (fs : List FileMeaning) (own : List ℕ) (i : ℕ)
     → ArePlaced total e (drop i fs) (drop i own) → AtFile total e fs own i f
 at_file total e fs own i f l is placed =
     let files = item_at fs i f l is in
-    let starts = drop_more own i 0 (own_length total e fs own i l placed) in
+    let less : i < length own = grind (arith, common_steps, follow_length, length-map, length-drop) in
+    let starts = drop_more own i 0 less in
     let both = rw (files, starts) at placed in
     record {
       files = files;

@@ -3,8 +3,7 @@
 --    assumed (`section_laid`).
 -- 2. A stream is its first section followed by the other sections (`stream_whole`).
 -- 3. The walk puts the filler of each section, its header and its body (`goes_on`, `front_more`).
--- 4. At the end the walk puts the tail (`front_end`), or nothing if there are no sections (`front_none`), and all
---    starts of the stream are taken (`walk_ended`).
+-- 4. At the end the walk puts the tail (`front_end`), or nothing if there are no sections (`front_none`).
 use Rattle.std.proofs.Common.{◌≡◌, ◌<◌, ◌+◌, ◌-◌, ◌^◌, ℕ, zero, suc, Bool, [], ◌∷◌, ◌++◌, List, length, drop, replicate, sym, ap, ◌∙◌, subst, arith}
 use Rattle.std.proofs.Common.{append_assoc, append-nil, length-drop}
 use Rattle.fv_base.proofs.Laws.{common_steps, WalkLaws, bytes_drop}
@@ -12,9 +11,9 @@ use Rattle.fv_section.specs.Words.{FrameForm, frame_len, up_to_4, FitsForm, sect
 use Rattle.fv_section.proofs.Laws.{begun_bytes, fits, length_begun}
 use Rattle.fv_tree.specs.Words.{BodyMeaning, MeansSection, SectionMeanings, NoSections, MoreSections, SectionMeaning, Section, body_len}
 use Rattle.fv_tree.specs.Words.{sections_from, body_of, section_is_extended, section_kind_of, section_len, IsReadSection, volumes_in_section}
-use Rattle.fv_tree.specs.Words.{volumes_in_sections, volumes_in_body}
+use Rattle.fv_tree.specs.Words.{volumes_in_body}
 use Rattle.fv_canon.specs.inner.ImageOf.{frames_of, frame_of, body_image, starts_in}
-use Rattle.fv_canon.proofs.ImageParts.{sections_bytes, ComesTo, TakesFront}
+use Rattle.fv_canon.proofs.ImageParts.{sections_bytes, TakesFront}
 use Rattle.fv_canon.specs.Words.{BeginsWithStarts, IsBodyImage}
 use Rattle.fv_tree.proofs.Laws.{body_long, in_section, section_long}
 use Rattle.fv_canon.proofs.VolumeListLaws.{begins_higher, count_deeper}
@@ -91,10 +90,4 @@ pub front_none : {S : Type 0} (takes : S → List ℕ → S → Type 0) (ss left
     → TakesFront takes s t (sections_bytes 0 (sections_from ss) starts) (sections_bytes gap (sections_from left) rest)
     → takes s (stream_of (frames_of 0 (sections_from ss) starts) tail) t
 front_none takes [] [] s t gap starts rest tail none same f = subst (λ ys. takes s ys t) (sym (append-nil f.front) ∙ f.whole_is) f.taken
-front_none takes (x ∷ xs) [] s t gap starts rest tail none same f = let bad : [] ≡ x ∷ xs = same in cc
-front_none takes ss (y ∷ ys) s t gap starts rest tail none same f = let bad : y ∷ ys ≡ [] = none in cc
-
--- after the last section, the starts that are left are the starts that follow the stream
-pub walk_ended : (left : List SectionMeaning) (rest last : List ℕ) → left ≡ []
-    → ComesTo (volumes_in_sections (sections_from left)) rest last → rest ≡ last
-walk_ended left rest last none walk = (subst (λ ss. ComesTo (volumes_in_sections (sections_from ss)) rest last) none walk).left
+front_none takes ss left s t gap starts rest tail none same f = absurd (grind arith)

@@ -1,7 +1,7 @@
 -- The volumes of a flash image are laid out, and then their images are put one after another. In a renewed image each
 -- volume of the flash image is replaced by its canonical image. The steps:
--- 1. The offset of a volume's fault is the volume's place in the flash image (`told_at`). A volume that is laid out has
---    an image (`has_image`).
+-- 1. The offset of a volume's fault is the volume's place in the flash image (`told_at`). Volumes that are laid
+--    out have images (`laid_images`).
 -- 2. If the first volumes are laid out and the next one is rejected, it is the first that is rejected (`lays_stop`).
 -- 3. The loop keeps `Puts`: the bytes that were put so far, followed by the rest of any renewed image, are a renewed
 --    image. It holds at first (`laid_none`) and after each volume (`laid_more`), and at the end all bytes are put
@@ -34,10 +34,6 @@ told_at b x p n own f v is why told = or_more (want_known f) (λ other. elim why
   | inr rejected ↦ (n, v, own, subst (λ (l : List ℕ). Rejects l own) is rejected, (told other).1)
 ])
 
--- a volume that is laid out has an image
-has_image : (b : List ℕ) (v : LocatedVolume) → IsLaid b v → HasImageAt b v.start
-has_image b v (n, at, accepted, image) = (n, image.0, at, (v.laid, accepted, image.1))
-
 -- the volume has the length that its header states
 laid_long : (b : List ℕ) (p n : ℕ) (m : Meaning) → VolumeAt b p n → Accepted (field p n b) m → n ≡ (head_of m).length
 laid_long b p n m v accepted = grind (arith, common_steps, length-take-le, length-drop, at_within)
@@ -48,7 +44,7 @@ laid_long b p n m v accepted = grind (arith, common_steps, length-take-le, lengt
 laid_images : (b : List ℕ) (volumes : List LocatedVolume) → AllByRecursion (IsLaid b) volumes
     → AllByRecursion (HasImageAt b) (starts_of volumes)
 laid_images b [] all = tt
-laid_images b (v ∷ vs) (h, all) = (has_image b v h, laid_images b vs all)
+laid_images b (v ∷ vs) ((n, at, accepted, image), all) = ((n, image.0, at, (v.laid, accepted, image.1)), laid_images b vs all)
 
 -- if the next volume is rejected, it is the first one that is rejected
 pub lays_stop : (b : List ℕ) (found : List FoundVolume) (i : ℕ) (d : FoundVolume) (volumes : List LocatedVolume) (f : Fault)

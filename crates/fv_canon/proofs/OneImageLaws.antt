@@ -2,15 +2,14 @@
 -- 1. Two lists of bytes that show the same spans are equal (`shows_one`), and files have at most one first placement
 --    (`starts_one` of fv_placement).
 -- 2. So by induction on the meaning there is at most one image (`image_one`).
-use Rattle.std.proofs.Common.{◌≡◌, ◌+◌, ℕ, ◌∷◌, List, length, sym, ap, ◌∙◌, subst}
+use Rattle.std.proofs.Common.{◌≡◌, ◌+◌, ℕ, ◌∷◌, List, length, sym, ◌∙◌, subst}
 use Rattle.fv_base.proofs.Laws.{erased_byte}
 use Rattle.fv_head.specs.Words.{first_edge, polarity_of}
 use Rattle.fv_placement.proofs.Laws.{starts_one}
-use Rattle.fv_section.specs.Words.{FrameForm, frame_len, up_to_4, stream_of}
+use Rattle.fv_section.specs.Words.{FrameForm, frame_len, up_to_4}
 use Rattle.fv_tree.specs.Words.{Meaning, Volume, head_of, FileMeanings, NoFiles, MoreFiles, FileMeaning, File, ContentMeaning, Plain, Sectioned}
 use Rattle.fv_tree.specs.Words.{SectionMeanings, NoSections, MoreSections, SectionMeaning, Section, BodyMeaning, Leaf, Group, Nested}
-use Rattle.fv_canon.specs.Words.{IsImage, AreStored, IsStored, IsData, AreFrames, IsFrame, IsBodyImage, placement_items, ShowsPlaced, StoredFile}
-use Rattle.fv_canon.specs.Words.{placed_in_volume}
+use Rattle.fv_canon.specs.Words.{IsImage, AreStored, IsStored, IsData, AreFrames, IsFrame, IsBodyImage, placement_items, StoredFile, placed_in_volume}
 use Rattle.fv_canon.proofs.PositionLaws.{shows_one}
 
 -- ---- there is one image at most

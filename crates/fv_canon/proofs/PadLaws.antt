@@ -1,5 +1,5 @@
 -- How a gap is split into pads.
-use Rattle.std.proofs.Common.{◌≡◌, ◌≤◌, ◌<◌, ◌-◌, ◌%◌, ℕ, [], ◌++◌, if◌then◌else◌, inl, inr, zero, suc, Bool, List, refl, sym, ap, ◌∙◌, subst, arith}
+use Rattle.std.proofs.Common.{◌≡◌, ◌≤◌, ◌<◌, ◌-◌, ◌%◌, ℕ, [], ◌++◌, if◌then◌else◌, inl, inr, zero, suc, Bool, List, refl, sym, ap, ◌∙◌, arith}
 use Rattle.fv_base.proofs.Laws.{common_steps, nat_le, le-leb, ne_eqb, cases_lt, if_true, if_false, not_at_most}
 use Rattle.fv_base.specs.declared.flash.Polarity.{Polarity}
 use Rattle.fv_canon.specs.Words.{pad_bytes, pads, long_pad, gap_bytes, PadsRule}
@@ -30,17 +30,12 @@ pub pads_rule : PadsRule
 pads_rule p gap least eighth = (
   λ fits. gap_some p gap least ∙ pads_fit p gap gap fits,
   λ past. (
-    gap_some p gap least ∙ split gap past
-        ∙ ap (λ xs. pad_bytes p long_pad ++ xs) (sym (gap_some p (gap - long_pad) (omega (arith, past, eighth)))),
+    gap_some p gap least ∙ pads_enough p gap (suc gap) gap (omega arith) (omega arith) ∙ pads_more p gap gap past
+        ∙ ap (λ xs. pad_bytes p long_pad ++ xs) (pads_enough p gap (gap - long_pad) (gap - long_pad) (omega arith) (omega arith)
+        ∙ sym (gap_some p (gap - long_pad) (omega (arith, past, eighth)))),
     omega (arith, past, eighth),
   ),
 )
-  where
-    split : (gap : ℕ) → 0xfffff8 < gap → pads p gap gap ≡ pad_bytes p long_pad ++ pads p (gap - long_pad) (gap - long_pad)
-    split zero past = absurd (omega (arith, past))
-    split (suc n) past =
-        pads_more p n (suc n) past ∙ ap (λ xs. pad_bytes p long_pad ++ xs)
-        (pads_enough p n (suc n - long_pad) (suc n - long_pad) (omega arith) (omega arith))
 
 -- if P holds of one pad, and of a pad of `long_pad` bytes followed by the pads of a gap of which P holds, then P holds
 -- of every gap that is a multiple of 8 and has at least 24 bytes

@@ -1,5 +1,5 @@
 -- The facts that the layout uses about the files of a volume that was read.
-use Rattle.std.proofs.Common.{◌≡◌, ◌≤◌, ◌<◌, ◌+◌, ◌*◌, ◌/◌, ◌%◌, ◌^◌, ℕ, [], ◌∷◌, zero, suc, Bool, true, false, List, length, drop, refl, ◌∙◌, arith}
+use Rattle.std.proofs.Common.{◌≡◌, ◌≤◌, ◌<◌, ◌+◌, ◌*◌, ◌/◌, ◌%◌, ◌^◌, ℕ, [], ◌∷◌, zero, suc, Bool, true, List, length, drop, refl, ◌∙◌, arith}
 use Rattle.fv_base.proofs.Laws.{common_steps, length-drop, All, All-from_recursion, map, nat_le, slice_index, AllByRecursion, alignment_of, and_split}
 use Rattle.fv_base.proofs.Laws.{volume_limit}
 use Rattle.std.proofs.lemmas.Bool.{leb-true}

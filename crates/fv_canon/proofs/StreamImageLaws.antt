@@ -7,9 +7,8 @@
 --    stream are read again (`frames_again`).
 -- 4. So a stream is read again if its sections are (`stream_again`), and a section is read again if the parts inside
 --    are (`section_again`).
-use Rattle.std.proofs.Common.{◌≡◌, ◌≤◌, ◌<◌, ◌+◌, ◌-◌, ℕ, [], ◌∷◌, ◌++◌, suc, Bool, true, false, List, length, replicate, refl, sym, ◌∙◌, subst, ap}
-use Rattle.std.proofs.Common.{arith}
-use Rattle.fv_base.proofs.Laws.{common_steps, AllByRecursion, IsBytes, le_bytes, bytes_append, bytes_back, bytes_cons, bytes_front, bytes_le_bytes}
+use Rattle.std.proofs.Common.{◌≡◌, ◌≤◌, ◌<◌, ◌+◌, ◌-◌, ℕ, [], ◌∷◌, ◌++◌, suc, Bool, List, length, replicate, refl, sym, ◌∙◌, subst, ap, arith}
+use Rattle.fv_base.proofs.Laws.{common_steps, AllByRecursion, IsBytes, bytes_append, bytes_back, bytes_cons, bytes_front, bytes_le_bytes}
 use Rattle.fv_base.proofs.Laws.{bytes_replicate, none_at}
 use Rattle.fv_section.specs.Words.{FrameForm, section_header_len, frame_len, BeginsFrame, SplitsFrom, Splits, up_to_4, FitsForm, InPlace}
 use Rattle.fv_section.specs.Words.{section_head_of, stream_of}
@@ -26,8 +25,7 @@ begun_kind : (f : FrameForm) (b rest : List ℕ) → IsBytes b → BeginsFrame f
 begun_kind f b rest small is = subst (λ (n : ℕ). n < 256) is.is_header.kind_is (bytes_front is.head (f.body ++ rest) (subst IsBytes is.text small) 3)
 
 bytes_section_head : (kind : ℕ) (extended : Bool) (n : ℕ) → kind < 256 → IsBytes (section_head_of kind extended n)
-bytes_section_head kind false n l = bytes_append (le_bytes 3 (4 + n)) (kind ∷ []) (bytes_le_bytes 3 (4 + n)) (bytes_cons kind [] l none_at)
-bytes_section_head kind true n l = grind (arith, common_steps, bytes_append, bytes_le_bytes, bytes_cons)
+bytes_section_head kind extended n l = grind (arith, common_steps, bytes_append, bytes_le_bytes, bytes_cons, none_at) steps 400000
 
 -- if a frame's body and the bytes after it are lists of bytes, the written frame and these bytes are a list of bytes
 bytes_begun : (g : FrameForm) → g.kind < 256 → IsBytes g.body → (rest : List ℕ) → IsBytes rest

@@ -7,10 +7,9 @@ use Rattle.fv_tree.proofs.Laws.{file_falls, section_body_falls}
 use Rattle.fv_canon.specs.Words.{size_for}
 use Rattle.fv_canon.specs.inner.ImageOf.{image_of}
 use Rattle.fv_canon.specs.inner.SummingSinks.{image_by, sums}
-use Rattle.fv_canon.proofs.DataBodyLaws.{data_image, data_size, data_volumes}
+use Rattle.fv_canon.proofs.DataBodyLaws.{data_image, data_size}
 use Rattle.fv_canon.proofs.LaidFileLaws.{file_laid, stored_is, size_is, at_file, files_end, walk_goes, placed_on}
-use Rattle.fv_canon.proofs.LaidSectionLaws.{section_fits, section_laid, in_body, body_laid, goes_on, front_more, front_end, front_none, walk_ended}
-use Rattle.fv_canon.proofs.SumWalks.{state_adds}
+use Rattle.fv_canon.proofs.LaidSectionLaws.{section_fits, section_laid, in_body, body_laid, goes_on, front_more, front_end}
 use Rattle.fv_canon.proofs.VolumeListLaws.{passed_on}
 use Rattle.fv_canon.proofs.VolumeWalks.{volume_is, volume_seen, volume_text, volume_rest}
 use Rattle.fv_canon.proofs.image_walk.+put.Goals.{put_file-else-is_summing-via-else-is_summing}
@@ -64,9 +63,6 @@ put_sections-returns-then-not-is_empty-clause-bytes g t c =
     front_end _ (image_by g.S.Sink.laws) c.args.sections.0 _ _ _ c.fill-then-not-is_empty.new.out _ _ _ c.args.sections.1
     (rw c.in_default.is at c.next_section.ensures.none).0 (c.loop-section.invariant.some c.if-not-is_empty.true) c.loop-section.invariant.done
     (rw (c.from.ensures, c.tail.ensures, c.next_section.ensures.tail, c.loop-section.invariant.tail) at fill)
-
-pub put_file-returns-then-is_summed-clause-bytes : goal.put_file-returns-then-is_summed-clause-bytes
-put_file-returns-then-is_summed-clause-bytes g t c = grind (arith, common_steps, state_adds) steps 400000
 
 pub put_file-returns-clause-bytes : goal.put_file-returns-clause-bytes
 put_file-returns-clause-bytes g t c =
@@ -173,20 +169,6 @@ put_files-returns-clause-bytes g t c =
     let fill = c.fill-2.ensures in
     files_end _ (image_by g.S.Sink.laws) _ _ _ _ _ _ _ _ _ c.fill-2.new.out _ c.loop-i-test.false c.loop-i.invariant.done
     (rw c.erased-2.ensures.value at fill)
-
-pub put_file-returns-clause-rest : goal.put_file-returns-clause-rest
-put_file-returns-clause-rest g t c = let rest = c.put_body.ensures.rest in rw (c.data_body.ensures, data_volumes c.args.file.now) at rest
-
-pub put_sections-returns-else-not-is_empty-clause-bytes : goal.put_sections-returns-else-not-is_empty-clause-bytes
-put_sections-returns-else-not-is_empty-clause-bytes g t c = grind (arith, common_steps, front_none) steps 400000
-
-pub put_sections-returns-else-not-is_empty-clause-rest : goal.put_sections-returns-else-not-is_empty-clause-rest
-put_sections-returns-else-not-is_empty-clause-rest g t c =
-    walk_ended c.loop-section.walk.0 _ _ (rw c.in_default.is at c.next_section.ensures.none).0 c.loop-section.invariant.comes
-
-pub put_sections-returns-then-not-is_empty-clause-rest : goal.put_sections-returns-then-not-is_empty-clause-rest
-put_sections-returns-then-not-is_empty-clause-rest g t c =
-    walk_ended c.loop-section.walk.0 _ _ (rw c.in_default.is at c.next_section.ensures.none).0 c.loop-section.invariant.comes
 
 pub put_file-file_sum-sum-requires : goal.put_file-file_sum-sum-requires
 put_file-file_sum-sum-requires g t c κs within =
