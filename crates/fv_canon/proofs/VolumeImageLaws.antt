@@ -71,8 +71,7 @@ file_again : (n : ℕ) → StreamsAgain (suc n) (Stream n) → (system : FileSys
     → limit ≤ 24 + data_limit → FileIsAccepted system limit f → MeansFile (Stream n) f m → IsStored m x → FileAgain n system m f x
 file_again n streams system limit (File name kind attributes content) f x most r (named, kinds, bits, is) (xn, xk, xa, image) =
     let d = data_again n kind streams content f.payload x.payload r.payload is image in
-    let len = d.2 in
-    let long : length x.payload ≡ length f.payload = len ∙ sym (content_long n f name kind attributes content (named, kinds, bits, is)) in
+    let long : length x.payload ≡ length f.payload = d.2 ∙ sym (content_long n f name kind attributes content (named, kinds, bits, is)) in
     let names : bytes_of x.name ≡ bytes_of f.head.name = ap bytes_of (xn ∙ named) in
     let kind_is : x.kind ≡ f.head.kind = xk ∙ kinds in
     let bits_are : x.attributes ≡ without_large (attribute_bits f.head.attributes) = xa ∙ bits in
@@ -90,10 +89,9 @@ file_again n streams system limit (File name kind attributes content) f x most r
         most = omega (arith, long, r.within, most);
         payload = d.1;
       };
-      part = λ i. record { header = head_len_for (len i); size = size_for (len i); alignment = alignment_of (xa i); top = bytes_eq (bytes_of (xn i)) top_name };
+      part = λ i. record { header = head_len_for (d.2 i); size = size_for (d.2 i); alignment = alignment_of (xa i); top = bytes_eq (bytes_of (xn i)) top_name };
       name = names;
-      form = λ p at.
-          (ap (λ (g : Guid). g) (sym xn) ∙ refl, sym xk, sym xa ∙ back (needs_large (length x.payload)) a x.attributes bits_are, d.0);
+      form = λ p at. (sym xn, sym xk, sym xa ∙ back (needs_large (length x.payload)) a x.attributes bits_are, d.0);
       meant = d.3;
     }
   where
