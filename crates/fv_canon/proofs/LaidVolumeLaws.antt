@@ -8,6 +8,7 @@
 --    (`laid_all`).
 -- 4. So a flash image whose volumes are laid out has a renewed image (`laid_renewed`).
 use Rattle.std.proofs.Common.{◌≡◌, ◌≢◌, ◌⊎◌, ◌≤◌, ◌<◌, ◌+◌, ◌-◌, ℕ, [], ◌∷◌, ◌++◌, List, length, take, drop, get_or, refl, sym, ap, ◌∙◌, subst, arith}
+use Rattle.std.proofs.Common.{length-take}
 use Rattle.fv_base.proofs.Laws.{inl, inr, append_assoc, length-append, length-drop, length-take-le, take-append-drop, common_steps, AllByRecursion}
 use Rattle.fv_base.proofs.Laws.{drop_at, drop_more, map-append, out_of_memory, volume_limit, WalkLaws, field, at_index, or_more, want_known}
 use Rattle.fv_base.specs.declared.fault.Fault.{Fault}
@@ -102,12 +103,10 @@ module _ {S : Type 0} (takes : S → List ℕ → S → Type 0) (laws : WalkLaws
       let to : NormalisesTo (field p n b) image = (v.laid, puts.laid.0.2, is_image) in
       let low : from ≤ p = puts.found.1.0 in
       let within : p + n ≤ length b = at_within b p n volume in
-      let gap_long : length gap ≡ p - from =
-      ap length is ∙ length-take-le (p - from) (drop from b) (omega (arith, length-drop from b, low, within)) in
+      let gap_long : length gap ≡ p - from = omega (arith, ap length is, length-take (p - from) (drop from b), length-drop from b, low, within) in
       let image_long : length image ≡ n =
-      image_stays_long (field p n b) image to ∙ length-take-le n (drop p b) (omega (arith, length-drop p b, within)) in
+      omega (arith, image_stays_long (field p n b) image to, length-take n (drop p b), length-drop p b, within) in
       let front_long : length (puts.bytes ++ gap) ≡ p = omega (arith, length-append puts.bytes gap, puts.long, gap_long, low) in
-      let flat = λ (rest : List ℕ). append_assoc (puts.bytes ++ gap) image rest ∙ append_assoc puts.bytes gap (image ++ rest) in
       rw (← laid_long b p n v.laid volume puts.laid.0.2) (record {
         bytes = (puts.bytes ++ gap) ++ image;
         taken = laws.joined (laws.joined puts.taken put) put';
@@ -115,9 +114,8 @@ module _ {S : Type 0} (takes : S → List ℕ → S → Type 0) (laws : WalkLaws
         inside = within;
         found = subst (λ (k : ℕ). FoundFrom (p + k) b (starts_of vs)) (one_length b p puts.found.0 n puts.found.1.3 volume) puts.found.2;
         laid = puts.laid.1;
-        whole = λ rest after. subst (RenewsFrom 0 b (starts_of volumes)) (sym (flat rest)) (puts.whole (gap ++ (image ++ rest))
-            (renews_more b (starts_of vs) puts.bytes gap image rest from p n low volume is puts.long gap_long front_long image_long to
-            (subst (RenewsFrom (p + n) b (starts_of vs)) (flat rest) after)));
+        whole = λ rest after. simp append_assoc (puts.whole (gap ++ (image ++ rest)) (renews_more b (starts_of vs) puts.bytes gap image rest
+            from p n low volume is puts.long gap_long front_long image_long to (simp append_assoc at after)));
       })
 
   -- after the last volume, the bytes after it are put, and the renewed image is complete
@@ -127,8 +125,7 @@ module _ {S : Type 0} (takes : S → List ℕ → S → Type 0) (laws : WalkLaws
       let puts = subst (λ (xs : List LocatedVolume). Puts takes s t b volumes xs from) none puts' in
       let o : List ℕ = puts.bytes ++ rest in
       let walk : RenewsFrom 0 b (starts_of volumes) o = puts.whole rest (drop_at puts.bytes rest from puts.long ∙ is) in
-      let long : length o ≡ length b =
-      omega (arith, length-append puts.bytes rest, ap length is, puts.long, length-drop from b, puts.inside) in (
+      let long : length o ≡ length b = omega (arith, length-append puts.bytes rest, ap length is, puts.long, length-drop from b, puts.inside) in (
         o,
         (short, starts_of volumes, subst (Found b) (sym same) found, renewed_is b (starts_of volumes) o walk long),
         laws.joined puts.taken put,

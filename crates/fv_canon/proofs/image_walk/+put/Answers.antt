@@ -1,11 +1,10 @@
-use Rattle.std.proofs.Common.{◌≡◌, ◌+◌, ℕ, true, List, false, length, drop, get_or, ap, ◌∙◌, arith, ◌∷◌}
+use Rattle.std.proofs.Common.{◌≡◌, ◌+◌, ℕ, true, List, false, length, ap, ◌∙◌, arith}
 use Rattle.fv_base.proofs.Laws.{common_steps}
-use Rattle.fv_head.specs.Words.{HeadFields, polarity_of}
-use Rattle.fv_tree.specs.Words.{Meaning, SectionMeaning, FileMeaning, body_of, files_from, body_view, volumes_in_section}
+use Rattle.fv_head.specs.Words.{polarity_of}
+use Rattle.fv_tree.specs.Words.{SectionMeaning, FileMeaning, body_of, files_from, body_view, volumes_in_section}
 use Rattle.fv_tree.specs.inner.Sizes.{volume_size, body_size, files_size}
 use Rattle.fv_tree.proofs.Laws.{file_falls, section_body_falls}
 use Rattle.fv_canon.specs.Words.{size_for}
-use Rattle.fv_canon.specs.inner.ImageOf.{image_of}
 use Rattle.fv_canon.specs.inner.SummingSinks.{image_by, sums}
 use Rattle.fv_canon.proofs.DataBodyLaws.{data_image, data_size}
 use Rattle.fv_canon.proofs.LaidFileLaws.{file_laid, stored_is, size_is, at_file, files_end, walk_goes, placed_on}
@@ -22,13 +21,11 @@ put_sections-put_section_head-requires g t c = (section_fits c.in-Some.section c
 pub put_sections-put_body-rest-requires : goal.put_sections-put_body-rest-requires
 put_sections-put_body-rest-requires g t c κs within =
     let first = rw c.in-Some.is at c.next_section.ensures.some in
+    let walk = passed_on _ _ _ _ (rw first at c.loop-section.invariant.comes) in
     let less = section_body_falls c.loop-section.walk.0 c.next_section.new.self.0 c.in-Some.section first in
     let same : body_size (body_view c.body.result) ≡ body_size (body_of c.in-Some.section) = ap body_size c.body.ensures in (
       omega (arith, c.decreases, less, same, c.loop-section.invariant.less),
-      (
-        within,
-        rw c.body.ensures (body_laid c.in-Some.section c.loop-section.rest.now (passed_on _ _ _ _ (rw first at c.loop-section.invariant.comes)).0),
-      ),
+      (within, rw c.body.ensures (body_laid c.in-Some.section c.loop-section.rest.now walk.0)),
     )
 
 pub put_sections-filler_of-gap-requires : goal.put_sections-filler_of-gap-requires
@@ -36,19 +33,17 @@ put_sections-filler_of-gap-requires g t c = (section_fits c.in-Some.section c.kn
 
 pub put_sections-loop-section-preserved : goal.put_sections-loop-section-preserved
 put_sections-loop-section-preserved g t c =
-    let left : List SectionMeaning = c.loop-section.walk.0 in
-    let after : List SectionMeaning = c.next_section.new.self.0 in
     let s : SectionMeaning = c.in-Some.section in
     let rest : List ℕ = c.loop-section.rest.now in
-    let first : left ≡ s ∷ after = rw c.in-Some.is at c.next_section.ensures.some in
+    let first = rw c.in-Some.is at c.next_section.ensures.some in
     let at = passed_on (volumes_in_section s) _ rest _ (rw first at c.loop-section.invariant.comes) in
     let body = c.put_body-rest.ensures.bytes in
-    let less = section_body_falls left after s first in
+    let less = section_body_falls _ _ s first in
     rw (c.put_body-rest.ensures.rest, c.body.ensures, ← in_body s, c.filler_of-gap.ensures) (record {
       small = omega arith;
       comes = at.1;
       done = front_more _ (image_by g.S.Sink.laws) _ _ c.fill.new.out c.put_section_head.new.out c.put_body-rest.new.out _ _ _ _ _ _
-          c.loop-section.invariant.done (goes_on left after s rest c.loop-section.gap first (section_laid s rest c.known.ensures at.0).1)
+          c.loop-section.invariant.done (goes_on _ _ s rest c.loop-section.gap first (section_laid s rest c.known.ensures at.0).1)
           c.fill.ensures c.put_section_head.ensures (rw c.body.ensures at body);
       tail = c.next_section.ensures.tail ∙ c.loop-section.invariant.tail;
       some = λ _. omega (arith, ap length first, c.loop-section.invariant.fewer);
@@ -105,21 +100,17 @@ put_files-up_to_8-edge-requires g t c =
 
 pub put_files-loop-i-preserved : goal.put_files-loop-i-preserved
 put_files-loop-i-preserved g t c =
-    let i : ℕ = c.loop-i.i in
-    let fs : List FileMeaning = c.args.files.now in
-    let own : List ℕ = c.args.own.now in
     let f : FileMeaning = c.index-files-i.result in
     let rest : List ℕ = c.loop-i.rest.now in
-    let total : ℕ = c.args.total in
     let at = at_file _ _ _ _ _ _ c.loop-i-test.true c.index-files-i.is c.loop-i.invariant.placed in
     let walk = passed_on _ _ _ _ (rw at.files at c.loop-i.invariant.walk) in
     let long = (file_laid f rest c.known.ensures walk.0).1 in
     let filled = c.fill.ensures in
     rw (c.up_to_8-edge.ensures, c.size_for.ensures, c.data_len.ensures, c.put_file-rest.ensures.rest) (record {
-      placed = placed_on total c.loop-i.edge f (drop (i + 1) fs) (get_or own i 0) (drop (i + 1) own) at.placed;
+      placed = placed_on _ _ _ _ _ _ at.placed;
       walk = walk.1;
       done = front_more _ (image_by g.S.Sink.laws) _ _ c.put_gap.new.out c.put_file-rest.new.out c.fill.new.out _ _ _ _ _ _
-          c.loop-i.invariant.done (walk_goes c.args.polarity total c.loop-i.edge fs own i f rest at (size_is f rest long)) c.put_gap.ensures
+          c.loop-i.invariant.done (walk_goes c.args.polarity _ _ _ _ _ f rest at (size_is f rest long)) c.put_gap.ensures
           c.put_file-rest.ensures.bytes (rw (c.up_to_8-edge.ensures, c.size_for.ensures, c.data_len.ensures, c.erased.ensures.value) at filled);
     })
 
@@ -135,28 +126,20 @@ put_volume-used_end-used-requires g t c =
 pub put_volume-put_files-requires : goal.put_volume-put_files-requires
 put_volume-put_files-requires g t c κs within =
     let v = volume_seen _ _ _ _ c.files-files.ensures c.head-head.ensures.head c.head-head.ensures.meaning c.requires.laid in
-    let falls : volume_size c.args.volume.now ≡ files_size (files_from c.files-files.result.now) + 1 =
-    ap volume_size c.files-files.ensures in (
+    let falls : volume_size c.args.volume.now ≡ files_size (files_from c.files-files.result.now) + 1 = ap volume_size c.files-files.ensures in (
       omega (arith, c.decreases, falls),
-      (
-        within,
-        rw (c.split_at.ensures.front, c.split_at.ensures.back, c.first_edge-first.ensures.edge, c.length.ensures) (v.placed, v.inner),
-      ),
+      (within, rw (c.split_at.ensures.front, c.split_at.ensures.back, c.first_edge-first.ensures.edge, c.length.ensures) (v.placed, v.inner)),
     )
 
 pub put_volume-returns-clause-bytes : goal.put_volume-returns-clause-bytes
 put_volume-returns-clause-bytes g t c =
-    let m : Meaning = c.args.volume.now in
-    let h : HeadFields = c.head-head.result.now in
-    let fs : List FileMeaning = c.files-files.result.now in
-    let starts : List ℕ = c.args.starts.now in
-    let v = volume_seen m h fs starts c.files-files.ensures c.head-head.ensures.head c.head-head.ensures.meaning c.requires.laid in
-    let text = ap (λ m. image_of m starts) (volume_is m h fs c.files-files.ensures c.head-head.ensures.head) ∙ volume_text h fs starts v in
+    let v = volume_seen _ _ _ _ c.files-files.ensures c.head-head.ensures.head c.head-head.ensures.meaning c.requires.laid in
+    let is = volume_is _ _ _ c.files-files.ensures c.head-head.ensures.head in
     let laws = image_by g.S.Sink.laws in
     let polar = c.polarity-polarity.ensures ∙ ap polarity_of c.attributes.ensures in
     let ext = c.put_ext_pad.ensures in
     let files = c.put_files.ensures.bytes in
-    rw text (laws.joined {s = c.args.out.now} {t = c.put_head.new.out} {u = c.put_files.new.out} c.put_head.ensures.bytes
+    rw (is, volume_text _ _ _ v) (laws.joined {s = c.args.out.now} {t = c.put_head.new.out} {u = c.put_files.new.out} c.put_head.ensures.bytes
     (laws.joined {s = c.put_head.new.out} {t = c.put_ext_pad.new.out} {u = c.put_files.new.out}
     (rw (c.used_end-used.ensures.used, c.first_edge-first.ensures.edge, c.split_at.ensures.front) at ext)
     (rw (polar, c.length.ensures, c.first_edge-first.ensures.edge, c.split_at.ensures.front, c.split_at.ensures.back) at files)))
