@@ -1,5 +1,6 @@
 -- Facts about a file that was read and laid out, and the walk over the files of a volume. The steps:
--- 1. The data of the file have the length that the layout assumed (`file_laid`, `size_is`).
+-- 1. The data that a walk writes are the file's data in the image, with the length that the layout assumed
+--    (`file_laid`, `size_is`).
 -- 2. The file begins at or after the edge, so that a pad fits in any gap between them, and ends within the volume
 --    (`here_is`). The same is true of the file at each place of the walk (`at_file`).
 -- 3. The bytes that are left to write are the gap before the file, the file, its filler, and then the files after it
@@ -21,7 +22,6 @@ use Rattle.fv_canon.proofs.VolumeImageLaws.{data_again, streams_again}
 use Rattle.fv_canon.specs.inner.FileWalks.{ArePlaced}
 
 -- ---- a file
--- the data that a walk writes for the file are its data in the image
 pub file_laid : (m : FileMeaning) (starts : List ℕ) → IsReadFile m → BeginsWithStarts (volumes_in_file m) starts
     → IsData (content_of m) (data_of (content_of m) starts) × (length (data_of (content_of m) starts) ≡ data_len_of m)
 file_laid (File name kind attributes content) starts (n, l, f, (system, p, b, small, most, cell), (named, kinds, bits, is)) begins =

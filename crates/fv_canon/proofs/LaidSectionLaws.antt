@@ -1,7 +1,7 @@
 -- A walk over the sections of a stream that was read and laid out puts the stream of the canonical image. The steps:
 -- 1. The body of a section fits the form of the section's header (`section_fits`), and has the length that the layout
 --    assumed (`section_laid`).
--- 2. A stream is its first section followed by the other sections (`stream_whole`).
+-- 2. All sections and the tail are the stream (`stream_whole`).
 -- 3. The walk puts the filler of each section, its header and its body (`goes_on`, `front_more`).
 -- 4. At the end the walk puts the tail (`front_end`), or nothing if there are no sections (`front_none`).
 use Rattle.std.proofs.Common.{◌≡◌, ◌<◌, ◌+◌, ◌-◌, ◌^◌, ℕ, zero, suc, Bool, [], ◌∷◌, ◌++◌, List, length, drop, replicate, sym, ap, ◌∙◌, subst, arith}
@@ -43,7 +43,7 @@ section_laid (Section kind extended body) starts (n, l, f, (b, small, most, stan
     let whole = section_long n (frame_of 0 m starts) m (sections_again n m f (frame_of 0 m starts) bytes is image).0 in
     (image.2, omega (arith, whole))
 
--- ---- all sections and the tail are the stream
+-- ---- a stream, wherever its first section begins
 stream_whole : (at : ℕ) (s : SectionMeaning) (ss : SectionMeanings) (starts : List ℕ) (tail : ℕ)
     → stream_of (frames_of at (MoreSections s ss) starts) tail ≡ sections_bytes 0 (MoreSections s ss) starts ++ replicate tail 0
 stream_whole at (Section k e b) NoSections starts tail = simp append_assoc

@@ -1,7 +1,7 @@
 -- The volumes of a flash image are laid out, and then their images are put one after another. In a renewed image each
 -- volume of the flash image is replaced by its canonical image. The steps:
--- 1. The offset of a volume's fault is the volume's place in the flash image (`told_at`). Volumes that are laid
---    out have images (`laid_images`).
+-- 1. The offset of a volume's fault is the volume's place in the flash image (`told_at`). Volumes that are laid out
+--    have images (`laid_images`).
 -- 2. If the first volumes are laid out and the next one is rejected, it is the first that is rejected (`lays_stop`).
 -- 3. The loop keeps `Puts`: the bytes that were put so far, followed by the rest of any renewed image, are a renewed
 --    image. It holds at first (`laid_none`) and after each volume (`laid_more`), and at the end all bytes are put

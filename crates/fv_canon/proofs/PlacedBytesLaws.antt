@@ -1,6 +1,6 @@
 -- The image that is defined by offsets is the image that a walk over the files writes. The steps:
--- 1. The erased bytes before a span may be written in two pieces (`painted_later`), and two spans that follow one another
---    come next (`two_spans`).
+-- 1. The erased bytes before a span may be written in two pieces (`painted_later`), and two spans that follow one
+--    another come next (`two_spans`).
 -- 2. So the files are in order, and the walk writes them (`files_placed`).
 -- 3. With the header and the extended header the same is true of the volume (`volume_placed`).
 -- 4. So the bytes that show the volume are the bytes that the walk writes (`volume_shows`, `volume_written`).

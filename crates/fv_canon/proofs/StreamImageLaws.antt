@@ -1,8 +1,8 @@
 -- A stream that is written as in the canonical image is read again as the same sections. The steps:
 -- 1. The type of a section that was read is a byte (`begun_kind`), so a written frame is a list of bytes if its body is
 --    (`bytes_begun`).
--- 2. The statements about the parts inside: sections, streams and volumes are read again, and each volume inside is the
---    meaning of some bytes (`SectionsAgain`, `StreamsAgain`, `VolumesAgain`).
+-- 2. The statements about the parts inside: sections, streams and volumes are read again, sections with the same type
+--    and form, and each volume inside is the meaning of some bytes (`SectionsAgain`, `StreamsAgain`, `VolumesAgain`).
 -- 3. A written frame is read again, and is as long as the frame that was read (`frame_again`). So the frames of a
 --    stream are read again (`frames_again`).
 -- 4. So a stream is read again if its sections are (`stream_again`), and a section is read again if the parts inside
