@@ -1,11 +1,11 @@
 -- Facts about a file that was read and laid out, and the walk over the files of a volume. The steps:
 -- 1. The data that a walk writes are the file's data in the image, with the length that the layout assumed
---    (`file_laid`, `size_is`).
+--    (`file_laid`).
 -- 2. The file begins at or after the edge, so that a pad fits in any gap between them, and ends within the volume
 --    (`here_is`). The same is true of the file at each place of the walk (`at_file`).
 -- 3. The bytes that are left to write are the gap before the file, the file, its filler, and then the files after it
 --    (`walk_goes`). At the end only erased bytes are left (`files_end`).
-use Rattle.std.proofs.Common.{◌≡◌, ◌≤◌, ◌<◌, ◌⊎◌, ◌+◌, ◌-◌, ◌%◌, ℕ, ◌∷◌, ◌++◌, List, length, drop, replicate, get_or, ap, arith, append_assoc}
+use Rattle.std.proofs.Common.{◌≡◌, ◌≤◌, ◌<◌, ◌⊎◌, ◌+◌, ◌-◌, ◌%◌, ℕ, ◌∷◌, ◌++◌, List, length, drop, replicate, get_or, arith, append_assoc}
 use Rattle.std.proofs.Common.{length-drop}
 use Rattle.fv_base.proofs.Laws.{common_steps, drop_all, drop_more, length-map, erased_byte, data_limit, up_to_8, WalkLaws, item_at}
 use Rattle.fv_base.specs.declared.flash.Polarity.{Polarity}
@@ -14,7 +14,7 @@ use Rattle.fv_file.proofs.Laws.{cell_read, header_least}
 use Rattle.fv_tree.specs.Words.{FileMeaning, File, file_name_of, attributes_of, content_of, data_len_of, files_from, file_kind_of, IsReadFile, Stream}
 use Rattle.fv_tree.specs.Words.{volumes_in_file}
 use Rattle.fv_canon.specs.inner.ImageOf.{stored_of, stored_file, data_of, starts_in, files_bytes}
-use Rattle.fv_canon.specs.Words.{BeginsWithStarts, IsData, stored_len, size_for, stored_bytes, gap_bytes}
+use Rattle.fv_canon.specs.Words.{BeginsWithStarts, IsData, size_for, stored_bytes, gap_bytes}
 use Rattle.fv_canon.proofs.ImageParts.{TakesFront}
 use Rattle.fv_canon.proofs.WrittenImageLaws.{data_made, streams_made}
 use Rattle.fv_placement.proofs.Laws.{follow_length}
@@ -34,10 +34,6 @@ pub stored_is : (p : Polarity) (m : FileMeaning) (starts : List ℕ) → length 
     (data_len_of m) (file_sum_for (attributes_of m) (data_of (content_of m) starts)) p ++ data_of (content_of m) starts
 unfolding stored_bytes
 stored_is p (File name kind attributes content) starts long = grind (arith, common_steps)
-
-pub size_is : (m : FileMeaning) (starts : List ℕ) → length (data_of (content_of m) starts) ≡ data_len_of m
-    → stored_len (stored_file m starts) ≡ size_for (data_len_of m)
-size_is (File name kind attributes content) starts long = ap size_for long
 
 -- ---- the walk over the files
 
@@ -81,13 +77,13 @@ at_file total e fs own i f l is placed =
 
 -- the bytes that are left at a file are its gap, the file and its filler, and then the files after it
 pub walk_goes : (p : Polarity) (total e : ℕ) (fs : List FileMeaning) (own : List ℕ) (i : ℕ) (f : FileMeaning) (starts : List ℕ)
-    → AtFile total e fs own i f → stored_len (stored_file f starts) ≡ size_for (data_len_of f)
+    → AtFile total e fs own i f → length (data_of (content_of f) starts) ≡ data_len_of f
     → files_bytes p total e (stored_of (files_from (drop i fs)) starts) (drop i own)
     ≡ (gap_bytes p (get_or own i 0 - e) ++ (stored_bytes p (stored_file f starts)
     ++ replicate (up_to_8 (get_or own i 0 + size_for (data_len_of f)) - (get_or own i 0 + size_for (data_len_of f))) (erased_byte p)))
     ++ files_bytes p total (up_to_8 (get_or own i 0 + size_for (data_len_of f)))
     (stored_of (files_from (drop (i + 1) fs)) (drop (starts_in (volumes_in_file f)) starts)) (drop (i + 1) own)
-walk_goes p total e fs own i f starts at size = rw (at.files, at.starts, ← size) (simp append_assoc)
+walk_goes p total e fs own i (File name kind attributes content) starts at long = rw (at.files, at.starts, long) (simp append_assoc)
 
 -- if no file is left, erased bytes up to the end of the volume complete the whole
 pub files_end : {S : Type 0} (takes : S → List ℕ → S → Type 0) → WalkLaws takes

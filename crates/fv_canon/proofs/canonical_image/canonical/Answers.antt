@@ -1,4 +1,5 @@
 use Rattle.fv_base.proofs.Laws.{arith, common_steps, IfOk-weaker, kept_whole}
+use Rattle.fv_canon.specs.Words.{IsImage}
 use Rattle.fv_canon.proofs.ImageLaws.{image_accepted}
 use Rattle.fv_canon.proofs.HeadlineLaws.{one_meaning_of}
 use Rattle.fv_canon.proofs.OneImageLaws.{image_one}
@@ -12,9 +13,11 @@ returns-clause-only c other image = grind (arith, common_steps, IfOk-weaker, ima
 
 pub returns-clause-denotes : goal.returns-clause-denotes
 returns-clause-denotes c =
-    IfOk-weaker c.finish.result _ _ (λ bytes is. image_accepted c.args.view.now bytes c.head.ensures.meaning is) (returns-clause-image c)
+    let m = c.args.view.now in
+    IfOk-weaker c.finish.result (IsImage m) _ (λ bytes is. image_accepted m bytes c.head.ensures.meaning is) (returns-clause-image c)
 
 pub returns-clause-meaning : goal.returns-clause-meaning
 returns-clause-meaning c =
-    IfOk-weaker c.finish.result _ _ (λ bytes is n some image. one_meaning_of c.args.view.now n bytes c.head.ensures.meaning some is image)
-    (returns-clause-image c)
+    let m = c.args.view.now in
+    IfOk-weaker c.finish.result (IsImage m) _
+    (λ bytes is n some image. one_meaning_of m n bytes c.head.ensures.meaning some is image) (returns-clause-image c)

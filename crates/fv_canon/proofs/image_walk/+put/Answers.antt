@@ -7,7 +7,7 @@ use Rattle.fv_tree.proofs.Laws.{file_falls, section_body_falls}
 use Rattle.fv_canon.specs.Words.{size_for}
 use Rattle.fv_canon.specs.inner.SummingSinks.{image_by, sums}
 use Rattle.fv_canon.proofs.DataBodyLaws.{data_image, data_size}
-use Rattle.fv_canon.proofs.LaidFileLaws.{file_laid, stored_is, size_is, at_file, files_end, walk_goes, placed_on}
+use Rattle.fv_canon.proofs.LaidFileLaws.{file_laid, stored_is, at_file, files_end, walk_goes, placed_on}
 use Rattle.fv_canon.proofs.LaidSectionLaws.{section_fits, section_laid, in_body, body_laid, goes_on, front_more, front_end}
 use Rattle.fv_canon.proofs.VolumeListLaws.{passed_on}
 use Rattle.fv_canon.proofs.VolumeWalks.{volume_is, volume_seen, volume_text, volume_rest}
@@ -110,7 +110,7 @@ put_files-loop-i-preserved g t c =
       placed = placed_on _ _ _ _ _ _ at.placed;
       walk = walk.1;
       done = front_more _ (image_by g.S.Sink.laws) _ _ c.put_gap.new.out c.put_file-rest.new.out c.fill.new.out _ _ _ _ _ _
-          c.loop-i.invariant.done (walk_goes c.args.polarity _ _ _ _ _ f rest at (size_is f rest long)) c.put_gap.ensures
+          c.loop-i.invariant.done (walk_goes c.args.polarity _ _ _ _ _ f rest at long) c.put_gap.ensures
           c.put_file-rest.ensures.bytes (rw (c.up_to_8-edge.ensures, c.size_for.ensures, c.data_len.ensures, c.erased.ensures.value) at filled);
     })
 
