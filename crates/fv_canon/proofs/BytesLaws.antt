@@ -1,14 +1,14 @@
 -- Everything that is written for a volume is a list of bytes.
-use Rattle.std.proofs.Common.{◌≡◌, ◌-◌, ◌+◌, ℕ, [], ◌∷◌, ◌++◌, if◌then◌else◌, ◌==◌, zero, suc, Bool, true, false, List, length, replicate, sym, subst}
-use Rattle.fv_base.proofs.Laws.{common_steps, arith, Option, None, Some, AllByRecursion, erased_byte, bytes_of, IsBytes, le_bytes, up_to_8}
-use Rattle.fv_base.proofs.Laws.{bytes_append, bytes_back, bytes_front, bytes_le_bytes, none_at}
+use Rattle.std.proofs.Common.{◌≡◌, ◌-◌, ◌+◌, ℕ, [], ◌∷◌, ◌++◌, if◌then◌else◌, ◌==◌, zero, suc, Bool, true, false, List, sym, subst}
+use Rattle.fv_base.proofs.Laws.{common_steps, arith, Option, None, Some, AllByRecursion, bytes_of, IsBytes, up_to_8, bytes_append, bytes_back}
+use Rattle.fv_base.proofs.Laws.{bytes_front, bytes_le_bytes, none_at}
 use Rattle.fv_base.specs.declared.flash.FileSystem.{FileSystem}
 use Rattle.fv_base.specs.declared.flash.Polarity.{Polarity}
 use Rattle.fv_file.specs.Words.{pad_head_of}
-use Rattle.fv_head.specs.Words.{Extension, SplitsEntries, kept_payload, is_used_size, zero_used_size, IsReadExt, IfRead, HeadFields, canonical_head}
-use Rattle.fv_head.specs.Words.{canonical_end, first_edge, payload_with, entry_bytes, entries_bytes, ext_len, ext_spelled, polarity_of}
+use Rattle.fv_head.specs.Words.{Extension, SplitsEntries, kept_payload, is_used_size, zero_used_size, IsReadExt, IfRead, HeadFields, first_edge}
+use Rattle.fv_head.specs.Words.{entry_bytes, entries_bytes, ext_len, ext_spelled, polarity_of}
 use Rattle.fv_head.proofs.Laws.{canonical_is}
-use Rattle.fv_canon.specs.Words.{StoredFile, stored_len, stored_bytes, pads, long_pad, gap_bytes, ext_pad, used_size}
+use Rattle.fv_canon.specs.Words.{StoredFile, stored_len, pads, long_pad, gap_bytes, ext_pad, used_size}
 use Rattle.fv_canon.specs.inner.ImageOf.{files_bytes, volume_bytes}
 use Rattle.fv_canon.proofs.CellLaws.{Storable, bytes_stored, bytes_pad_head, bytes_erased, bytes_pad}
 use Rattle.fv_canon.proofs.PlacedBytesLaws.{Writable}
@@ -31,11 +31,7 @@ bytes_files : (system : FileSystem) (p : Polarity) (total e : ℕ) (fs : List St
     → IsBytes (files_bytes p total e fs ss)
 bytes_files system p total e (f ∷ fs) (s ∷ ss) all =
     let x : ℕ = s + stored_len f in
-    let filler : List ℕ = replicate (up_to_8 x - x) (erased_byte p) in
-    let rest : List ℕ = files_bytes p total (up_to_8 x) fs ss in
-    bytes_append (gap_bytes p (s - e)) (stored_bytes p f ++ (filler ++ rest)) (bytes_gap p (s - e))
-    (bytes_append (stored_bytes p f) (filler ++ rest) (bytes_stored system p f all.0)
-    (bytes_append filler rest (bytes_erased p (up_to_8 x - x)) (bytes_files system p total (up_to_8 x) fs ss all.1)))
+    search (bytes_append, bytes_gap, bytes_stored system p f all.0, bytes_erased, bytes_files system p total (up_to_8 x) fs ss all.1)
 bytes_files system p total e fs ss all = bytes_erased p (total - e)
 
 -- ---- the extended header
@@ -44,11 +40,8 @@ bytes_files system p total e fs ss all = bytes_erased p (total - e)
 bytes_entry : (used : ℕ) (e : ℕ × List ℕ) (payload : List ℕ) → IsBytes payload → e.1 ≡ kept_payload e.0 payload
     → IsBytes (entry_bytes used e)
 bytes_entry used e payload small kept =
-    let own : IsBytes e.1 =
-    subst IsBytes (sym kept) (bytes_either (is_used_size e.0 payload) zero_used_size payload (bytes_le_bytes 4 0) small) in
-    bytes_append (le_bytes 2 (4 + length e.1) ++ le_bytes 2 e.0) (payload_with used e)
-    (bytes_append (le_bytes 2 (4 + length e.1)) (le_bytes 2 e.0) (bytes_le_bytes 2 (4 + length e.1)) (bytes_le_bytes 2 e.0))
-    (bytes_either (is_used_size e.0 e.1) (le_bytes 4 used) e.1 (bytes_le_bytes 4 used) own)
+    let small = bytes_either (is_used_size e.0 payload) zero_used_size payload (bytes_le_bytes 4 0) small in
+    search (bytes_append, bytes_le_bytes, bytes_either, subst IsBytes (sym kept) small)
 
 bytes_entries : (used : ℕ) (es : List (ℕ × List ℕ)) (tail b : List ℕ) → IsBytes b → SplitsEntries es tail b
     → IsBytes (entries_bytes used es) × IsBytes tail
@@ -64,10 +57,7 @@ bytes_ext x used (b, small, is) =
     let name : List ℕ = bytes_of x.name in
     let items : IsBytes (name ++ (is.head ++ is.rest)) = subst IsBytes is.text small in
     let entries = bytes_entries used x.entries x.tail is.rest (bytes_back is.head is.rest (bytes_back name (is.head ++ is.rest) items)) is.entries in
-    bytes_append (name ++ le_bytes 4 (ext_len x) ++ entries_bytes used x.entries) x.tail
-    (bytes_append (name ++ le_bytes 4 (ext_len x)) (entries_bytes used x.entries)
-    (bytes_append name (le_bytes 4 (ext_len x)) (bytes_front name (is.head ++ is.rest) items) (bytes_le_bytes 4 (ext_len x)))
-    entries.0) entries.1
+    search (bytes_append, bytes_le_bytes, bytes_front name (is.head ++ is.rest) items, entries.0, entries.1)
 
 bytes_ext_pad : (p : Polarity) (x : Option Extension) (used : ℕ) → IfRead x → IsBytes (ext_pad p x used)
 unfolding ext_pad
@@ -79,11 +69,7 @@ bytes_ext_pad p (Some x) used read =
 
 pub bytes_volume : (h : HeadFields) (fs : List StoredFile) (ss : List ℕ) → Writable h fs ss → IsBytes (volume_bytes h fs ss)
 bytes_volume h fs ss k =
-    let p : Polarity = polarity_of h.attributes in
     let first : ℕ = first_edge h h.ext in
-    let pad : List ℕ = ext_pad p h.ext (used_size first fs ss) in
-    let fill : List ℕ = replicate (first - canonical_end h h.ext) (erased_byte p) in
-    let files : List ℕ = files_bytes p h.length first fs ss in
-    bytes_append (canonical_head h) (pad ++ (fill ++ files)) (canonical_is h k.read).head.bytes
-    (bytes_append pad (fill ++ files) (bytes_ext_pad p h.ext (used_size first fs ss) k.ext)
-    (bytes_append fill files (bytes_erased p (first - canonical_end h h.ext)) (bytes_files h.file_system p h.length first fs ss k.files)))
+    let pad = bytes_ext_pad (polarity_of h.attributes) h.ext (used_size first fs ss) k.ext in
+    let files = bytes_files h.file_system (polarity_of h.attributes) h.length first fs ss k.files in
+    search (bytes_append, (canonical_is h k.read).head.bytes, pad, bytes_erased, files)

@@ -1,23 +1,20 @@
 -- The data of a file can be seen as the body of a section (`data_body`). This body contains the same volumes as the
 -- data (`data_volumes`, `data_held`) and has the same image (`data_image`). The file is larger than the body
 -- (`data_size`).
-use Rattle.std.proofs.Common.{◌≡◌, ◌+◌, ℕ, List, refl}
-use Rattle.fv_tree.specs.Words.{FileMeaning, File, Plain, Sectioned, content_of, volumes_in_body, volumes_in_content, volumes_in_file}
+use Rattle.std.proofs.Common.{◌≡◌, ◌+◌, ℕ, List, arith}
+use Rattle.fv_base.proofs.Laws.{common_steps}
+use Rattle.fv_tree.specs.Words.{FileMeaning, content_of, volumes_in_body, volumes_in_content, volumes_in_file}
 use Rattle.fv_tree.specs.inner.Sizes.{body_size, file_size}
 use Rattle.fv_canon.specs.inner.ImageOf.{data_body, body_image, data_of}
 
 pub data_volumes : (m : FileMeaning) → volumes_in_body (data_body m) ≡ volumes_in_file m
-data_volumes (File name kind attributes (Plain b)) = refl
-data_volumes (File name kind attributes (Sectioned ss tail)) = refl
+data_volumes m = grind (arith, common_steps)
 
 pub data_held : (m : FileMeaning) → volumes_in_body (data_body m) ≡ volumes_in_content (content_of m)
-data_held (File name kind attributes (Plain b)) = refl
-data_held (File name kind attributes (Sectioned ss tail)) = refl
+data_held m = grind (arith, common_steps)
 
 pub data_image : (m : FileMeaning) (starts : List ℕ) → body_image (data_body m) starts ≡ data_of (content_of m) starts
-data_image (File name kind attributes (Plain b)) starts = refl
-data_image (File name kind attributes (Sectioned ss tail)) starts = refl
+data_image m starts = grind (arith, common_steps)
 
 pub data_size : (m : FileMeaning) → file_size m ≡ body_size (data_body m) + 1
-data_size (File name kind attributes (Plain b)) = refl
-data_size (File name kind attributes (Sectioned ss tail)) = refl
+data_size m = grind (arith, common_steps)

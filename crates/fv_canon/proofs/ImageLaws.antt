@@ -10,7 +10,7 @@ use Rattle.fv_tree.proofs.Laws.{input_decided}
 use Rattle.fv_canon.specs.Words.{IsImage, Fits, BeginsWithStarts, AreAllStarts, MeanSame, NormalisesTo, Rejects, Unfit, WhatFitsHasAnImage}
 use Rattle.fv_canon.specs.inner.ImageOf.{image_of}
 use Rattle.fv_canon.proofs.FitLaws.{fits_laid, fits_or, not_layout, unfit_is, unfit_none}
-use Rattle.fv_canon.proofs.WrittenImageLaws.{image_made}
+use Rattle.fv_canon.proofs.WrittenImageLaws.{streams_made, volume_made}
 use Rattle.fv_canon.proofs.HeadlineLaws.{accepted, image_keeps_length_and_meaning, image_is_its_own_image, one_reading}
 use Rattle.fv_canon.proofs.InsideImageLaws.{image_fits}
 use Rattle.fv_canon.proofs.OneImageLaws.{image_one}
@@ -19,7 +19,7 @@ use Rattle.fv_canon.proofs.VolumeImageLaws.{image_denotes}
 -- if the starts begin with a layout of a meaning that some bytes have, the bytes that are written for these starts are
 -- the image of the meaning
 pub image_begun : (m : Meaning) (starts : List ℕ) → IsMeaning m → BeginsWithStarts (volumes_in m) starts → IsImage m (image_of m starts)
-image_begun m starts (n, l, b, small, d) begins = image_made n m b starts small d begins
+image_begun m starts (n, l, b, small, d) begins = volume_made n (streams_made n) m b starts small d begins
 
 -- the bytes that are written for a layout of a meaning that some bytes have are the image of the meaning
 pub image_is : (m : Meaning) (starts : List ℕ) → IsMeaning m → AreAllStarts m starts → IsImage m (image_of m starts)

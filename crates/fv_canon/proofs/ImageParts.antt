@@ -16,17 +16,13 @@ stored_item f = record {
   top = bytes_eq (bytes_of f.name) top_name;
 }
 
--- a frame is a section header followed by its body
-abbrev pub frame_bytes : FrameForm → List ℕ
-frame_bytes f = section_head_of f.kind f.extended (length f.body) ++ f.body
-
 -- the sections of a stream and the zero bytes between them; `gap` zero bytes come before the first section
 abbrev pub sections_bytes : ℕ → SectionMeanings → List ℕ → List ℕ
 sections_bytes gap NoSections starts = []
 sections_bytes gap (MoreSections s ss) starts =
-    (replicate gap 0 ++ frame_bytes (frame_of 0 s starts))
-    ++ sections_bytes (up_to_4 (frame_len (frame_of 0 s starts)) - frame_len (frame_of 0 s starts)) ss
-    (drop (starts_in (volumes_in_section s)) starts)
+    let f : FrameForm = frame_of 0 s starts in
+    (replicate gap 0 ++ (section_head_of f.kind f.extended (length f.body) ++ f.body))
+    ++ sections_bytes (up_to_4 (frame_len f) - frame_len f) ss (drop (starts_in (volumes_in_section s)) starts)
 
 -- the starts that are left begin with the starts of the files of these volumes, and `last` are the starts after them
 abbrev pub ComesTo : List Inside → List ℕ → List ℕ → Type 0

@@ -1,44 +1,39 @@
 -- Facts about a file that was read and laid out, and the walk over the files of a volume. The steps:
--- 1. The data of the file have the length that the layout assumed (`file_long`, `size_is`).
+-- 1. The data that a walk writes are the file's data in the image, with the length that the layout assumed
+--    (`file_laid`).
 -- 2. The file begins at or after the edge, so that a pad fits in any gap between them, and ends within the volume
 --    (`here_is`). The same is true of the file at each place of the walk (`at_file`).
 -- 3. The bytes that are left to write are the gap before the file, the file, its filler, and then the files after it
 --    (`walk_goes`). At the end only erased bytes are left (`files_end`).
-use Rattle.std.proofs.Common.{◌≡◌, ◌≤◌, ◌<◌, ◌⊎◌, ◌+◌, ◌-◌, ◌%◌, ℕ, ◌∷◌, ◌++◌, List, length, drop, replicate, get_or, ap, arith, append_assoc}
+use Rattle.std.proofs.Common.{◌≡◌, ◌≤◌, ◌<◌, ◌⊎◌, ◌+◌, ◌-◌, ◌%◌, ℕ, ◌∷◌, ◌++◌, List, length, drop, replicate, get_or, arith, append_assoc}
 use Rattle.std.proofs.Common.{length-drop}
 use Rattle.fv_base.proofs.Laws.{common_steps, drop_all, drop_more, length-map, erased_byte, data_limit, up_to_8, WalkLaws, item_at}
 use Rattle.fv_base.specs.declared.flash.Polarity.{Polarity}
 use Rattle.fv_file.specs.Words.{file_sum_for, file_head_of}
 use Rattle.fv_file.proofs.Laws.{cell_read, header_least}
-use Rattle.fv_tree.specs.Words.{FileMeaning, File, file_name_of, attributes_of, content_of, data_len_of, files_from, file_kind_of, IsReadFile}
-use Rattle.fv_tree.specs.Words.{Stream, volumes_in_files, volumes_in_file}
+use Rattle.fv_tree.specs.Words.{FileMeaning, File, file_name_of, attributes_of, content_of, data_len_of, files_from, file_kind_of, IsReadFile, Stream}
+use Rattle.fv_tree.specs.Words.{volumes_in_file}
 use Rattle.fv_canon.specs.inner.ImageOf.{stored_of, stored_file, data_of, starts_in, files_bytes}
-use Rattle.fv_canon.specs.Words.{BeginsWithStarts, stored_len, size_for, stored_bytes, gap_bytes}
-use Rattle.fv_canon.proofs.ImageParts.{ComesTo, TakesFront}
-use Rattle.fv_canon.proofs.VolumeListLaws.{passed_on}
+use Rattle.fv_canon.specs.Words.{BeginsWithStarts, IsData, size_for, stored_bytes, gap_bytes}
+use Rattle.fv_canon.proofs.ImageParts.{TakesFront}
 use Rattle.fv_canon.proofs.WrittenImageLaws.{data_made, streams_made}
 use Rattle.fv_placement.proofs.Laws.{follow_length}
-use Rattle.fv_canon.proofs.VolumeImageLaws.{content_is_long, data_again, streams_again}
+use Rattle.fv_canon.proofs.VolumeImageLaws.{data_again, streams_again}
 use Rattle.fv_canon.specs.inner.FileWalks.{ArePlaced}
 
 -- ---- a file
-pub file_long : (m : FileMeaning) (starts : List ℕ) → IsReadFile m → BeginsWithStarts (volumes_in_file m) starts
-    → length (data_of (content_of m) starts) ≡ data_len_of m
-file_long (File name kind attributes content) starts (n, l, f, (system, p, b, small, most, cell), (named, kinds, bits, is)) begins =
-    let r = cell_read system p f.offset f.head f.payload b small cell in
-    let bytes : List ℕ = data_of content starts in
-    let image = data_made (Stream n) (streams_made n) kind content f.payload starts r.payload is begins in
-    content_is_long n kind content bytes (data_again n kind (streams_again n) content f.payload bytes r.payload is image).0
+pub file_laid : (m : FileMeaning) (starts : List ℕ) → IsReadFile m → BeginsWithStarts (volumes_in_file m) starts
+    → IsData (content_of m) (data_of (content_of m) starts) × (length (data_of (content_of m) starts) ≡ data_len_of m)
+file_laid (File name kind attributes content) starts (n, l, f, (system, p, b, small, most, cell), (named, kinds, bits, is)) begins =
+    let bytes = (cell_read system p f.offset f.head f.payload b small cell).payload in
+    let image = data_made (Stream n) (streams_made n) kind content f.payload starts bytes is begins in
+    (image, (data_again n kind (streams_again n) content f.payload (data_of content starts) bytes is image).2)
 
 pub stored_is : (p : Polarity) (m : FileMeaning) (starts : List ℕ) → length (data_of (content_of m) starts) ≡ data_len_of m
     → stored_bytes p (stored_file m starts) ≡ file_head_of (file_name_of m) (file_kind_of m) (record { 0 = attributes_of m })
     (data_len_of m) (file_sum_for (attributes_of m) (data_of (content_of m) starts)) p ++ data_of (content_of m) starts
 unfolding stored_bytes
 stored_is p (File name kind attributes content) starts long = grind (arith, common_steps)
-
-pub size_is : (m : FileMeaning) (starts : List ℕ) → length (data_of (content_of m) starts) ≡ data_len_of m
-    → stored_len (stored_file m starts) ≡ size_for (data_len_of m)
-size_is (File name kind attributes content) starts long = ap size_for long
 
 -- ---- the walk over the files
 
@@ -51,10 +46,6 @@ pub record Here (total e : ℕ) (f : FileMeaning) (s : ℕ) : Type 0 where
   pub ends : s + size_for (data_len_of f) ≤ total
   pub next : up_to_8 (s + size_for (data_len_of f)) ≤ total
 
-pub own_length : (total e : ℕ) (fs : List FileMeaning) (own : List ℕ) (i : ℕ) → i < length fs → ArePlaced total e (drop i fs) (drop i own)
-    → i < length own
-own_length total e fs own i l placed = grind (arith, common_steps, follow_length, length-map, length-drop)
-
 pub here_is : (total e : ℕ) (f : FileMeaning) (fs : List FileMeaning) (s : ℕ) (ss : List ℕ) → ArePlaced total e (f ∷ fs) (s ∷ ss)
     → Here total e f s
 here_is total e f fs s ss placed = grind (arith, common_steps, header_least) steps 400000
@@ -62,17 +53,6 @@ here_is total e f fs s ss placed = grind (arith, common_steps, header_least) ste
 pub placed_on : (total e : ℕ) (f : FileMeaning) (fs : List FileMeaning) (s : ℕ) (ss : List ℕ) → ArePlaced total e (f ∷ fs) (s ∷ ss)
     → ArePlaced total (up_to_8 (s + size_for (data_len_of f))) fs ss
 placed_on total e f fs s ss placed = grind (arith, common_steps, here_is)
-
--- the bytes of the files from a place on are the bytes of the first of these files, and then the bytes of the other
--- files
-pub files_go : (p : Polarity) (total e : ℕ) (f : FileMeaning) (fs : List FileMeaning) (s : ℕ) (ss starts : List ℕ)
-    → stored_len (stored_file f starts) ≡ size_for (data_len_of f)
-    → files_bytes p total e (stored_of (files_from (f ∷ fs)) starts) (s ∷ ss)
-    ≡ (gap_bytes p (s - e) ++ (stored_bytes p (stored_file f starts)
-    ++ replicate (up_to_8 (s + size_for (data_len_of f)) - (s + size_for (data_len_of f))) (erased_byte p)))
-    ++ files_bytes p total (up_to_8 (s + size_for (data_len_of f))) (stored_of (files_from fs) (drop (starts_in (volumes_in_file f))
-    starts)) ss
-files_go p total e f fs s ss starts size = grind (arith, common_steps, append_assoc)
 
 -- the file at a place of the walk
 pub record AtFile (total e : ℕ) (fs : List FileMeaning) (own : List ℕ) (i : ℕ) (f : FileMeaning) : Type 0 where
@@ -85,7 +65,8 @@ pub at_file : (total e : ℕ) (fs : List FileMeaning) (own : List ℕ) (i : ℕ)
     → ArePlaced total e (drop i fs) (drop i own) → AtFile total e fs own i f
 at_file total e fs own i f l is placed =
     let files = item_at fs i f l is in
-    let starts = drop_more own i 0 (own_length total e fs own i l placed) in
+    let less : i < length own = grind (arith, common_steps, follow_length, length-map, length-drop) in
+    let starts = drop_more own i 0 less in
     let both = rw (files, starts) at placed in
     record {
       files = files;
@@ -94,24 +75,15 @@ at_file total e fs own i f l is placed =
       here = here_is total e f (drop (i + 1) fs) (get_or own i 0) (drop (i + 1) own) both;
     }
 
--- the starts that are left begin with the starts of the files of the volumes in this file, and go on with the starts of
--- the files of the volumes in the files after this file
-pub file_passed : (fs : List FileMeaning) (i : ℕ) (f : FileMeaning) (starts last : List ℕ) → i < length fs → f ≡ get_or fs i f
-    → ComesTo (volumes_in_files (files_from (drop i fs))) starts last
-    → BeginsWithStarts (volumes_in_file f) starts
-    × ComesTo (volumes_in_files (files_from (drop (i + 1) fs))) (drop (starts_in (volumes_in_file f)) starts) last
-file_passed fs i f starts last l is comes =
-    passed_on (volumes_in_file f) (volumes_in_files (files_from (drop (i + 1) fs))) starts last (rw (item_at fs i f l is) at comes)
-
 -- the bytes that are left at a file are its gap, the file and its filler, and then the files after it
 pub walk_goes : (p : Polarity) (total e : ℕ) (fs : List FileMeaning) (own : List ℕ) (i : ℕ) (f : FileMeaning) (starts : List ℕ)
-    → AtFile total e fs own i f → stored_len (stored_file f starts) ≡ size_for (data_len_of f)
+    → AtFile total e fs own i f → length (data_of (content_of f) starts) ≡ data_len_of f
     → files_bytes p total e (stored_of (files_from (drop i fs)) starts) (drop i own)
     ≡ (gap_bytes p (get_or own i 0 - e) ++ (stored_bytes p (stored_file f starts)
     ++ replicate (up_to_8 (get_or own i 0 + size_for (data_len_of f)) - (get_or own i 0 + size_for (data_len_of f))) (erased_byte p)))
     ++ files_bytes p total (up_to_8 (get_or own i 0 + size_for (data_len_of f)))
     (stored_of (files_from (drop (i + 1) fs)) (drop (starts_in (volumes_in_file f)) starts)) (drop (i + 1) own)
-walk_goes p total e fs own i f starts at size = grind (arith, common_steps, files_go)
+walk_goes p total e fs own i (File name kind attributes content) starts at long = rw (at.files, at.starts, long) (simp append_assoc)
 
 -- if no file is left, erased bytes up to the end of the volume complete the whole
 pub files_end : {S : Type 0} (takes : S → List ℕ → S → Type 0) → WalkLaws takes

@@ -1,76 +1,58 @@
 -- A walk over the sections of a stream that was read and laid out puts the stream of the canonical image. The steps:
--- 1. The body of a section has the length that the layout assumed, and fits the form of the section's header
---    (`section_known`).
--- 2. A stream is its first section followed by the other sections (`stream_goes`, `stream_whole`).
--- 3. The walk takes the starts of each section (`section_passed`), and puts its filler, its header and its body
---    (`goes_on`, `front_more`).
--- 4. At the end the walk puts the tail (`front_end`), or nothing if there are no sections (`front_none`), and all
---    starts of the stream are taken (`walk_ended`).
-use Rattle.std.proofs.Common.{◌≡◌, ◌<◌, ◌+◌, ◌-◌, ◌^◌, ℕ, [], ◌∷◌, ◌++◌, List, length, drop, replicate, sym, ap, ◌∙◌, subst, arith, append_assoc}
-use Rattle.std.proofs.Common.{append-nil, length-drop}
-use Rattle.fv_base.proofs.Laws.{common_steps, IsBytes, WalkLaws, bytes_drop}
-use Rattle.fv_section.specs.Words.{section_header_len, frame_len, up_to_4, FitsForm, section_head_of, stream_of}
-use Rattle.fv_section.proofs.Laws.{begun_bytes, length_begun}
-use Rattle.fv_tree.specs.Words.{SectionMeanings, NoSections, MoreSections, SectionMeaning, Section, body_len, sections_from, body_of}
-use Rattle.fv_tree.specs.Words.{section_is_extended, section_kind_of, section_len, IsReadSection, volumes_in_section, volumes_in_sections}
+-- 1. The body of a section fits the form of the section's header (`section_fits`), and has the length that the layout
+--    assumed (`section_laid`).
+-- 2. All sections and the tail are the stream (`stream_whole`).
+-- 3. The walk puts the filler of each section, its header and its body (`goes_on`, `front_more`).
+-- 4. At the end the walk puts the tail (`front_end`), or nothing if there are no sections (`front_none`).
+use Rattle.std.proofs.Common.{◌≡◌, ◌<◌, ◌+◌, ◌-◌, ◌^◌, ℕ, zero, suc, Bool, [], ◌∷◌, ◌++◌, List, length, drop, replicate, sym, ap, ◌∙◌, subst, arith}
+use Rattle.std.proofs.Common.{append_assoc, append-nil, length-drop}
+use Rattle.fv_base.proofs.Laws.{common_steps, WalkLaws, bytes_drop}
+use Rattle.fv_section.specs.Words.{FrameForm, frame_len, up_to_4, FitsForm, section_head_of, stream_of}
+use Rattle.fv_section.proofs.Laws.{begun_bytes, fits, length_begun}
+use Rattle.fv_tree.specs.Words.{BodyMeaning, MeansSection, SectionMeanings, NoSections, MoreSections, SectionMeaning, Section, body_len}
+use Rattle.fv_tree.specs.Words.{sections_from, body_of, section_is_extended, section_kind_of, section_len, IsReadSection, volumes_in_section}
 use Rattle.fv_tree.specs.Words.{volumes_in_body}
 use Rattle.fv_canon.specs.inner.ImageOf.{frames_of, frame_of, body_image, starts_in}
-use Rattle.fv_canon.proofs.ImageParts.{frame_bytes, sections_bytes, ComesTo, TakesFront}
-use Rattle.fv_canon.specs.Words.{BeginsWithStarts}
-use Rattle.fv_tree.proofs.Laws.{in_section, section_long}
-use Rattle.fv_canon.proofs.VolumeListLaws.{begins_higher, count_deeper, passed_on}
+use Rattle.fv_canon.proofs.ImageParts.{sections_bytes, TakesFront}
+use Rattle.fv_canon.specs.Words.{BeginsWithStarts, IsBodyImage}
+use Rattle.fv_tree.proofs.Laws.{body_long, in_section, section_long}
+use Rattle.fv_canon.proofs.VolumeListLaws.{begins_higher, count_deeper}
 use Rattle.fv_canon.proofs.WrittenImageLaws.{sections_made}
-use Rattle.fv_canon.proofs.StreamImageLaws.{frame_again}
 use Rattle.fv_canon.proofs.VolumeImageLaws.{sections_again}
 
 -- ---- a section
-pub record SectionKnown (m : SectionMeaning) (starts : List ℕ) : Type 0 where
-  pub fits : FitsForm (section_is_extended m) (body_len (body_of m))
-  pub long : length (body_image (body_of m) starts) ≡ body_len (body_of m)
-  pub small : section_len m < 2 ^ 32
+form_is : (n kind : ℕ) (extended : Bool) (body : BodyMeaning) (f : FrameForm) → MeansSection n f (Section kind extended body) → extended ≡ f.extended
+form_is zero kind extended body f is = is.1
+form_is (suc n) kind extended body f is = is.1
 
-pub section_known : (m : SectionMeaning) (starts : List ℕ) → IsReadSection m → BeginsWithStarts (volumes_in_section m) starts
-    → SectionKnown m starts
-section_known (Section kind extended body) starts (n, l, f, (b, small, most, stands), is) begins =
-    let m : SectionMeaning = Section kind extended body in
+pub section_fits : (m : SectionMeaning) → IsReadSection m → FitsForm (section_is_extended m) (body_len (body_of m)) × (section_len m < 2 ^ 32)
+section_fits (Section kind extended body) (n, l, f, (b, small, most, stands), is) =
     let part : List ℕ = drop f.offset b in
-    let bytes : IsBytes part = bytes_drop f.offset b small in
-    let image = sections_made n m f 0 starts (begun_bytes f part stands.rest bytes stands.begins).0 is begins in
-    let again = frame_again n (sections_again n) m f (frame_of 0 m starts) part stands.rest bytes stands.begins is image in
-    let whole = section_long n f m is in
-    let long : length (body_image body starts) ≡ body_len body = omega (arith, again.size, whole) in
-    record {
-      fits = subst (FitsForm extended) long again.fits;
-      long = long;
-      small = omega (arith, whole, length_begun f part stands.rest stands.begins, length-drop f.offset b, most);
-    }
+    let form = form_is n kind extended body f is in (
+      rw (form, ← body_long n f kind body (rw form at is)) (fits f part stands.rest (bytes_drop f.offset b small) stands.begins),
+      omega (arith, section_long n f (Section kind extended body) is, length_begun f part stands.rest stands.begins, length-drop f.offset b, most),
+    )
 
--- ---- a stream is its first section followed by the others
-stream_goes : (at : ℕ) (s : SectionMeaning) (ss : SectionMeanings) (starts : List ℕ) (tail : ℕ)
-    → stream_of (frames_of at (MoreSections s ss) starts) tail
-    ≡ frame_bytes (frame_of 0 s starts) ++ (sections_bytes (up_to_4 (frame_len (frame_of 0 s starts)) - frame_len (frame_of 0 s starts)) ss
-    (drop (starts_in (volumes_in_section s)) starts) ++ replicate tail 0)
-stream_goes at (Section k e b) NoSections starts tail = simp append_assoc
-stream_goes at (Section k e b) (MoreSections t ss) starts tail =
-    let goes = stream_goes (up_to_4 (at + frame_len (frame_of 0 (Section k e b) starts))) t ss
-    (drop (starts_in (volumes_in_section (Section k e b))) starts) tail in
-    rw goes (simp append_assoc)
+-- the body that a walk writes is the section's body in the image, and has the length that the layout assumed
+pub section_laid : (m : SectionMeaning) (starts : List ℕ) → IsReadSection m → BeginsWithStarts (volumes_in_section m) starts
+    → IsBodyImage (body_of m) (body_image (body_of m) starts) × (length (body_image (body_of m) starts) ≡ body_len (body_of m))
+section_laid (Section kind extended body) starts (n, l, f, (b, small, most, stands), is) begins =
+    let m : SectionMeaning = Section kind extended body in
+    let bytes = (begun_bytes f (drop f.offset b) stands.rest (bytes_drop f.offset b small) stands.begins).0 in
+    let image = sections_made n m f 0 starts bytes is begins in
+    let whole = section_long n (frame_of 0 m starts) m (sections_again n m f (frame_of 0 m starts) bytes is image).0 in
+    (image.2, omega (arith, whole))
 
--- all sections and the tail are the stream
-pub stream_whole : (s : SectionMeaning) (ss : SectionMeanings) (starts : List ℕ) (tail : ℕ)
-    → sections_bytes 0 (MoreSections s ss) starts ++ replicate tail 0 ≡ stream_of (frames_of 0 (MoreSections s ss) starts) tail
-stream_whole s ss starts tail = grind (arith, common_steps, append_assoc, stream_goes)
+-- ---- a stream, wherever its first section begins
+stream_whole : (at : ℕ) (s : SectionMeaning) (ss : SectionMeanings) (starts : List ℕ) (tail : ℕ)
+    → stream_of (frames_of at (MoreSections s ss) starts) tail ≡ sections_bytes 0 (MoreSections s ss) starts ++ replicate tail 0
+stream_whole at (Section k e b) NoSections starts tail = simp append_assoc
+stream_whole at (Section k e b) (MoreSections t ss) starts tail =
+    let s : SectionMeaning = Section k e b in
+    rw (stream_whole (up_to_4 (at + frame_len (frame_of 0 s starts))) t ss (drop (starts_in (volumes_in_section s)) starts) tail)
+    (simp append_assoc)
 
 -- ---- the walk over the sections of a stream
-
--- the starts that are left begin with the starts of the files of the volumes in this section, and go on with the starts
--- of the files of the volumes in the sections after this section
-pub section_passed : (left rest : List SectionMeaning) (s : SectionMeaning) (starts last : List ℕ) → left ≡ s ∷ rest
-    → ComesTo (volumes_in_sections (sections_from left)) starts last
-    → BeginsWithStarts (volumes_in_section s) starts
-    × ComesTo (volumes_in_sections (sections_from rest)) (drop (starts_in (volumes_in_section s)) starts) last
-section_passed left rest s starts last is comes =
-    passed_on (volumes_in_section s) (volumes_in_sections (sections_from rest)) starts last (rw is at comes)
 
 pub in_body : (s : SectionMeaning) → starts_in (volumes_in_section s) ≡ starts_in (volumes_in_body (body_of s))
 in_body s = ap starts_in (in_section s) ∙ count_deeper (volumes_in_body (body_of s))
@@ -79,19 +61,13 @@ pub body_laid : (s : SectionMeaning) (starts : List ℕ) → BeginsWithStarts (v
     → BeginsWithStarts (volumes_in_body (body_of s)) starts
 body_laid (Section kind extended body) starts begins = begins_higher (volumes_in_body body) starts begins
 
-framed : (s : SectionMeaning) (starts : List ℕ) → SectionKnown s starts → frame_bytes (frame_of 0 s starts)
-    ≡ section_head_of (section_kind_of s) (section_is_extended s) (body_len (body_of s)) ++ body_image (body_of s) starts
-framed (Section kind extended body) starts k = ap (λ (n : ℕ). section_head_of kind extended n ++ body_image body starts) k.long
-
-sized : (s : SectionMeaning) (starts : List ℕ) → SectionKnown s starts → frame_len (frame_of 0 s starts) ≡ section_len s
-sized (Section kind extended body) starts k = ap (λ (n : ℕ). section_header_len extended + n) k.long
-
-pub goes_on : (left rest : List SectionMeaning) (s : SectionMeaning) (starts : List ℕ) (gap : ℕ) → left ≡ s ∷ rest → SectionKnown s starts
+pub goes_on : (left rest : List SectionMeaning) (s : SectionMeaning) (starts : List ℕ) (gap : ℕ) → left ≡ s ∷ rest
+    → length (body_image (body_of s) starts) ≡ body_len (body_of s)
     → sections_bytes gap (sections_from left) starts
     ≡ (replicate gap 0
     ++ (section_head_of (section_kind_of s) (section_is_extended s) (body_len (body_of s)) ++ body_image (body_of s) starts))
     ++ sections_bytes (up_to_4 (section_len s) - section_len s) (sections_from rest) (drop (starts_in (volumes_in_section s)) starts)
-goes_on left rest s starts gap is k = grind (arith, common_steps, sized, framed) steps 400000
+goes_on left rest (Section kind extended body) starts gap is long = rw (is, long)
 
 -- after three pieces are put, the bytes after these pieces are left
 pub front_more : {S : Type 0} (takes : S → List ℕ → S → Type 0) → WalkLaws takes → (s t u v w : S) (whole rest a b c left : List ℕ)
@@ -105,10 +81,8 @@ pub front_end : {S : Type 0} (takes : S → List ℕ → S → Type 0) → WalkL
     → TakesFront takes s t (sections_bytes 0 (sections_from ss) starts) (sections_bytes gap (sections_from left) rest)
     → takes t (replicate tail 0) u → takes s (stream_of (frames_of 0 (sections_from ss) starts) tail) u
 front_end takes laws [] left s t u gap starts rest tail none some f p = absurd (omega (arith, some))
-front_end takes laws (x ∷ xs) [] s t u gap starts rest tail none some f p =
-    subst (λ (ys : List ℕ). takes s ys u) (ap (λ (ys : List ℕ). ys ++ replicate tail 0) (sym (append-nil f.front) ∙ f.whole_is)
-    ∙ stream_whole x (sections_from xs) starts tail) (laws.joined f.taken p)
-front_end takes laws (x ∷ xs) (y ∷ ys) s t u gap starts rest tail none some f p = let bad : y ∷ ys ≡ [] = none in cc
+front_end takes laws (x ∷ xs) left s t u gap starts rest tail none some f p =
+    let g = rw (none, append-nil) at f.whole_is in rw (stream_whole 0 x (sections_from xs) starts tail, ← g) (laws.joined f.taken p)
 
 -- if the stream has no sections, nothing is put
 pub front_none : {S : Type 0} (takes : S → List ℕ → S → Type 0) (ss left : List SectionMeaning) (s t : S) (gap : ℕ)
@@ -116,10 +90,4 @@ pub front_none : {S : Type 0} (takes : S → List ℕ → S → Type 0) (ss left
     → TakesFront takes s t (sections_bytes 0 (sections_from ss) starts) (sections_bytes gap (sections_from left) rest)
     → takes s (stream_of (frames_of 0 (sections_from ss) starts) tail) t
 front_none takes [] [] s t gap starts rest tail none same f = subst (λ ys. takes s ys t) (sym (append-nil f.front) ∙ f.whole_is) f.taken
-front_none takes (x ∷ xs) [] s t gap starts rest tail none same f = let bad : [] ≡ x ∷ xs = same in cc
-front_none takes ss (y ∷ ys) s t gap starts rest tail none same f = let bad : y ∷ ys ≡ [] = none in cc
-
--- after the last section, the starts that are left are the starts that follow the stream
-pub walk_ended : (left : List SectionMeaning) (rest last : List ℕ) → left ≡ []
-    → ComesTo (volumes_in_sections (sections_from left)) rest last → rest ≡ last
-walk_ended left rest last none walk = (subst (λ ss. ComesTo (volumes_in_sections (sections_from ss)) rest last) none walk).left
+front_none takes ss left s t gap starts rest tail none same f = absurd (grind arith)

@@ -1,13 +1,14 @@
 -- The volumes of a flash image are laid out, and then their images are put one after another. In a renewed image each
 -- volume of the flash image is replaced by its canonical image. The steps:
--- 1. The offset of a volume's fault is the volume's place in the flash image (`told_at`). A volume that is laid out has
---    an image (`has_image`).
+-- 1. The offset of a volume's fault is the volume's place in the flash image (`told_at`). Volumes that are laid out
+--    have images (`laid_images`).
 -- 2. If the first volumes are laid out and the next one is rejected, it is the first that is rejected (`lays_stop`).
 -- 3. The loop keeps `Puts`: the bytes that were put so far, followed by the rest of any renewed image, are a renewed
 --    image. It holds at first (`laid_none`) and after each volume (`laid_more`), and at the end all bytes are put
 --    (`laid_all`).
 -- 4. So a flash image whose volumes are laid out has a renewed image (`laid_renewed`).
 use Rattle.std.proofs.Common.{◌≡◌, ◌≢◌, ◌⊎◌, ◌≤◌, ◌<◌, ◌+◌, ◌-◌, ℕ, [], ◌∷◌, ◌++◌, List, length, take, drop, get_or, refl, sym, ap, ◌∙◌, subst, arith}
+use Rattle.std.proofs.Common.{length-take}
 use Rattle.fv_base.proofs.Laws.{inl, inr, append_assoc, length-append, length-drop, length-take-le, take-append-drop, common_steps, AllByRecursion}
 use Rattle.fv_base.proofs.Laws.{drop_at, drop_more, map-append, out_of_memory, volume_limit, WalkLaws, field, at_index, or_more, want_known}
 use Rattle.fv_base.specs.declared.fault.Fault.{Fault}
@@ -34,10 +35,6 @@ told_at b x p n own f v is why told = or_more (want_known f) (λ other. elim why
   | inr rejected ↦ (n, v, own, subst (λ (l : List ℕ). Rejects l own) is rejected, (told other).1)
 ])
 
--- a volume that is laid out has an image
-has_image : (b : List ℕ) (v : LocatedVolume) → IsLaid b v → HasImageAt b v.start
-has_image b v (n, at, accepted, image) = (n, image.0, at, (v.laid, accepted, image.1))
-
 -- the volume has the length that its header states
 laid_long : (b : List ℕ) (p n : ℕ) (m : Meaning) → VolumeAt b p n → Accepted (field p n b) m → n ≡ (head_of m).length
 laid_long b p n m v accepted = grind (arith, common_steps, length-take-le, length-drop, at_within)
@@ -48,7 +45,7 @@ laid_long b p n m v accepted = grind (arith, common_steps, length-take-le, lengt
 laid_images : (b : List ℕ) (volumes : List LocatedVolume) → AllByRecursion (IsLaid b) volumes
     → AllByRecursion (HasImageAt b) (starts_of volumes)
 laid_images b [] all = tt
-laid_images b (v ∷ vs) (h, all) = (has_image b v h, laid_images b vs all)
+laid_images b (v ∷ vs) ((n, at, accepted, image), all) = ((n, image.0, at, (v.laid, accepted, image.1)), laid_images b vs all)
 
 -- if the next volume is rejected, it is the first one that is rejected
 pub lays_stop : (b : List ℕ) (found : List FoundVolume) (i : ℕ) (d : FoundVolume) (volumes : List LocatedVolume) (f : Fault)
@@ -106,24 +103,20 @@ module _ {S : Type 0} (takes : S → List ℕ → S → Type 0) (laws : WalkLaws
       let to : NormalisesTo (field p n b) image = (v.laid, puts.laid.0.2, is_image) in
       let low : from ≤ p = puts.found.1.0 in
       let within : p + n ≤ length b = at_within b p n volume in
-      let gap_long : length gap ≡ p - from =
-      ap length is ∙ length-take-le (p - from) (drop from b) (omega (arith, length-drop from b, low, within)) in
+      let gap_long : length gap ≡ p - from = omega (arith, ap length is, length-take (p - from) (drop from b), length-drop from b, low, within) in
       let image_long : length image ≡ n =
-      image_stays_long (field p n b) image to ∙ length-take-le n (drop p b) (omega (arith, length-drop p b, within)) in
+      omega (arith, image_stays_long (field p n b) image to, length-take n (drop p b), length-drop p b, within) in
       let front_long : length (puts.bytes ++ gap) ≡ p = omega (arith, length-append puts.bytes gap, puts.long, gap_long, low) in
-      let flat = λ (rest : List ℕ). append_assoc (puts.bytes ++ gap) image rest ∙ append_assoc puts.bytes gap (image ++ rest) in
-      let more : Puts takes s w b volumes vs (p + n) = record {
+      rw (← laid_long b p n v.laid volume puts.laid.0.2) (record {
         bytes = (puts.bytes ++ gap) ++ image;
         taken = laws.joined (laws.joined puts.taken put) put';
         long = omega (arith, length-append (puts.bytes ++ gap) image, front_long, image_long);
         inside = within;
         found = subst (λ (k : ℕ). FoundFrom (p + k) b (starts_of vs)) (one_length b p puts.found.0 n puts.found.1.3 volume) puts.found.2;
         laid = puts.laid.1;
-        whole = λ rest after. subst (RenewsFrom 0 b (starts_of volumes)) (sym (flat rest)) (puts.whole (gap ++ (image ++ rest))
-            (renews_more b (starts_of vs) puts.bytes gap image rest from p n low volume is puts.long gap_long front_long image_long to
-            (subst (RenewsFrom (p + n) b (starts_of vs)) (flat rest) after)));
-      } in
-      subst (λ (k : ℕ). Puts takes s w b volumes vs (p + k)) (laid_long b p n v.laid volume puts.laid.0.2) more
+        whole = λ rest after. simp append_assoc (puts.whole (gap ++ (image ++ rest)) (renews_more b (starts_of vs) puts.bytes gap image rest
+            from p n low volume is puts.long gap_long front_long image_long to (simp append_assoc at after)));
+      })
 
   -- after the last volume, the bytes after it are put, and the renewed image is complete
   pub laid_all : {t u : S} (left : List LocatedVolume) (from : ℕ) (rest : List ℕ) → IsLaidOut b volumes → Puts takes s t b volumes left from
@@ -132,8 +125,7 @@ module _ {S : Type 0} (takes : S → List ℕ → S → Type 0) (laws : WalkLaws
       let puts = subst (λ (xs : List LocatedVolume). Puts takes s t b volumes xs from) none puts' in
       let o : List ℕ = puts.bytes ++ rest in
       let walk : RenewsFrom 0 b (starts_of volumes) o = puts.whole rest (drop_at puts.bytes rest from puts.long ∙ is) in
-      let long : length o ≡ length b =
-      omega (arith, length-append puts.bytes rest, ap length is, puts.long, length-drop from b, puts.inside) in (
+      let long : length o ≡ length b = omega (arith, length-append puts.bytes rest, ap length is, puts.long, length-drop from b, puts.inside) in (
         o,
         (short, starts_of volumes, subst (Found b) (sym same) found, renewed_is b (starts_of volumes) o walk long),
         laws.joined puts.taken put,

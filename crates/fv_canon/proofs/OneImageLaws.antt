@@ -2,15 +2,14 @@
 -- 1. Two lists of bytes that show the same spans are equal (`shows_one`), and files have at most one first placement
 --    (`starts_one` of fv_placement).
 -- 2. So by induction on the meaning there is at most one image (`image_one`).
-use Rattle.std.proofs.Common.{◌≡◌, ◌+◌, ℕ, ◌∷◌, List, length, sym, ap, ◌∙◌, subst}
+use Rattle.std.proofs.Common.{◌≡◌, ◌+◌, ℕ, ◌∷◌, List, length, sym, ◌∙◌, subst}
 use Rattle.fv_base.proofs.Laws.{erased_byte}
 use Rattle.fv_head.specs.Words.{first_edge, polarity_of}
 use Rattle.fv_placement.proofs.Laws.{starts_one}
-use Rattle.fv_section.specs.Words.{FrameForm, frame_len, up_to_4, stream_of}
+use Rattle.fv_section.specs.Words.{FrameForm, frame_len, up_to_4}
 use Rattle.fv_tree.specs.Words.{Meaning, Volume, head_of, FileMeanings, NoFiles, MoreFiles, FileMeaning, File, ContentMeaning, Plain, Sectioned}
 use Rattle.fv_tree.specs.Words.{SectionMeanings, NoSections, MoreSections, SectionMeaning, Section, BodyMeaning, Leaf, Group, Nested}
-use Rattle.fv_canon.specs.Words.{IsImage, AreStored, IsStored, IsData, AreFrames, IsFrame, IsBodyImage, placement_items, ShowsPlaced}
-use Rattle.fv_canon.specs.Words.{StoredFile, placed_in_volume}
+use Rattle.fv_canon.specs.Words.{IsImage, AreStored, IsStored, IsData, AreFrames, IsFrame, IsBodyImage, placement_items, StoredFile, placed_in_volume}
 use Rattle.fv_canon.proofs.PositionLaws.{shows_one}
 
 -- ---- there is one image at most
@@ -22,10 +21,9 @@ image_length (Volume h files) image (stored, starts, are, placed, shows) = shows
 mutual
   pub image_one : (m : Meaning) (b c : List ℕ) → IsImage m b → IsImage m c → b ≡ c
   image_one (Volume h files) b c (xs, ss, are, placed, shows) (ys, ts, are', placed', shows') =
-      let erased : ℕ = erased_byte (polarity_of h.attributes) in
       let starts : ss ≡ ts = starts_one h.length (first_edge h h.ext) (placement_items (Volume h files)) ss ts placed placed' in
-      let spans : placed_in_volume h xs ss ≡ placed_in_volume h ys ts = λ i. placed_in_volume h (stored_one files xs ys are are' i) (starts i) in
-      shows_one h.length erased (placed_in_volume h ys ts) b c (subst (λ ps. ShowsPlaced h.length erased ps b) spans shows) shows'
+      let stored : xs ≡ ys = stored_one files xs ys are are' in
+      shows_one h.length (erased_byte (polarity_of h.attributes)) (placed_in_volume h ys ts) b c (rw (← starts, ← stored) shows) shows'
 
   stored_one : (files : FileMeanings) (xs ys : List StoredFile) → AreStored files xs → AreStored files ys → xs ≡ ys
   stored_one NoFiles xs ys p q = p ∙ sym q
@@ -38,8 +36,7 @@ mutual
 
   pub data_one : (c : ContentMeaning) (d e : List ℕ) → IsData c d → IsData c e → d ≡ e
   data_one (Plain b) d e p q = p ∙ sym q
-  data_one (Sectioned sections tail) d e (fs, are, text) (gs, are', text') =
-      text ∙ ap (λ (xs : List FrameForm). stream_of xs tail) (frames_one 0 sections fs gs are are') ∙ sym text'
+  data_one (Sectioned sections tail) d e (fs, are, text) (gs, are', text') = cc (frames_one 0 sections fs gs are are')
 
   frames_one : (at : ℕ) (sections : SectionMeanings) (fs gs : List FrameForm) → AreFrames at sections fs → AreFrames at sections gs
       → fs ≡ gs
@@ -56,6 +53,5 @@ mutual
 
   pub body_one : (m : BodyMeaning) (d e : List ℕ) → IsBodyImage m d → IsBodyImage m e → d ≡ e
   body_one (Leaf b) d e p q = p ∙ sym q
-  body_one (Group sections tail) d e (fs, are, text) (gs, are', text') =
-      text ∙ ap (λ (xs : List FrameForm). stream_of xs tail) (frames_one 0 sections fs gs are are') ∙ sym text'
+  body_one (Group sections tail) d e (fs, are, text) (gs, are', text') = cc (frames_one 0 sections fs gs are are')
   body_one (Nested volume) d e p q = image_one volume d e p q

@@ -1,6 +1,6 @@
 -- How a gap is split into pads.
-use Rattle.std.proofs.Common.{◌≡◌, ◌≤◌, ◌<◌, ◌-◌, ◌%◌, ℕ, [], ◌++◌, if◌then◌else◌, inl, inr, zero, suc, Bool, List, refl, sym, ap, ◌∙◌, subst, arith}
-use Rattle.fv_base.proofs.Laws.{nat_le, le-leb, ne_eqb, cases_lt, if_true, if_false, not_at_most}
+use Rattle.std.proofs.Common.{◌≡◌, ◌≤◌, ◌<◌, ◌-◌, ◌%◌, ℕ, [], ◌++◌, if◌then◌else◌, inl, inr, zero, suc, Bool, List, refl, sym, ap, ◌∙◌, arith}
+use Rattle.fv_base.proofs.Laws.{common_steps, nat_le, le-leb, ne_eqb, cases_lt, if_true, if_false, not_at_most}
 use Rattle.fv_base.specs.declared.flash.Polarity.{Polarity}
 use Rattle.fv_canon.specs.Words.{pad_bytes, pads, long_pad, gap_bytes, PadsRule}
 
@@ -24,46 +24,32 @@ pads_more p n gap l = if_false (nat_le gap 0xfffff8) _ _ (not_at_most gap 0xffff
 pads_enough : (p : Polarity) (n k gap : ℕ) → gap ≤ n → gap ≤ k → pads p n gap ≡ pads p k gap
 pads_enough p zero k gap l m = sym (pads_fit p k gap (omega (arith, l)))
 pads_enough p (suc n) zero gap l m = pads_fit p (suc n) gap (omega (arith, m))
-pads_enough p (suc n) (suc k) gap l m = elim (cases_lt 0xfffff8 gap) [
-  | inl past ↦
-      pads_more p n gap past ∙ ap (λ xs. pad_bytes p long_pad ++ xs)
-      (pads_enough p n k (gap - long_pad) (less n gap past l) (less k gap past m)) ∙ sym (pads_more p k gap past)
-  | inr fits ↦ pads_fit p (suc n) gap fits ∙ sym (pads_fit p (suc k) gap fits)
-]
-  where
-    less : (n gap : ℕ) → 0xfffff8 < gap → gap ≤ suc n → gap - 0xffff00 ≤ n
-    less n gap past l = omega (arith, past, l)
+pads_enough p (suc n) (suc k) gap l m = grind (arith, common_steps, pads_enough p n k (gap - long_pad)) steps 400000
 
 pub pads_rule : PadsRule
 pads_rule p gap least eighth = (
   λ fits. gap_some p gap least ∙ pads_fit p gap gap fits,
   λ past. (
-    gap_some p gap least ∙ split gap past
-        ∙ ap (λ xs. pad_bytes p long_pad ++ xs) (sym (gap_some p (gap - long_pad) (omega (arith, past, eighth)))),
+    gap_some p gap least ∙ pads_enough p gap (suc gap) gap (omega arith) (omega arith) ∙ pads_more p gap gap past
+        ∙ ap (λ xs. pad_bytes p long_pad ++ xs) (pads_enough p gap (gap - long_pad) (gap - long_pad) (omega arith) (omega arith)
+        ∙ sym (gap_some p (gap - long_pad) (omega (arith, past, eighth)))),
     omega (arith, past, eighth),
   ),
 )
-  where
-    split : (gap : ℕ) → 0xfffff8 < gap → pads p gap gap ≡ pad_bytes p long_pad ++ pads p (gap - long_pad) (gap - long_pad)
-    split zero past = absurd (omega (arith, past))
-    split (suc n) past =
-        pads_more p n (suc n) past ∙ ap (λ xs. pad_bytes p long_pad ++ xs)
-        (pads_enough p n (suc n - long_pad) (suc n - long_pad) (omega arith) (omega arith))
 
 -- if P holds of one pad, and of a pad of `long_pad` bytes followed by the pads of a gap of which P holds, then P holds
 -- of every gap that is a multiple of 8 and has at least 24 bytes
 module _ (p : Polarity) (P : ℕ → List ℕ → Type 0)
     (one : (gap : ℕ) → 24 ≤ gap → gap ≤ 0xfffff8 → gap % 8 ≡ 0 → P gap (pad_bytes p gap))
     (more : (gap : ℕ) (xs : List ℕ) → 0xfffff8 < gap → P (gap - long_pad) xs → P gap (pad_bytes p long_pad ++ xs)) where
-  by_steps : (n gap : ℕ) → gap ≤ n → 24 ≤ gap → gap % 8 ≡ 0 → P gap (gap_bytes p gap)
+  by_steps : (n gap : ℕ) → gap ≤ n → 24 ≤ gap → gap % 8 ≡ 0 → P gap (pads p n gap)
   by_steps zero gap few least eighth = absurd (omega (arith, few, least))
   by_steps (suc n) gap few least eighth = elim (cases_lt 0xfffff8 gap) [
     | inl past ↦
-        let rule = (pads_rule p gap least eighth).1 past in
-        subst (P gap) (sym rule.0) (more gap (gap_bytes p (gap - long_pad)) past
-        (by_steps n (gap - long_pad) (omega (arith, few, past)) (omega (arith, rule.1)) (omega (arith, eighth, past))))
-    | inr fits ↦ subst (P gap) (sym ((pads_rule p gap least eighth).0 fits)) (one gap least fits eighth)
+        rw (pads_more p n gap past) (more gap (pads p n (gap - long_pad)) past
+        (by_steps n (gap - long_pad) (omega (arith, few, past)) (omega (arith, past)) (omega (arith, eighth, past))))
+    | inr fits ↦ rw (pads_fit p (suc n) gap fits) (one gap least fits eighth)
   ]
 
   pub gap_has : (gap : ℕ) → 24 ≤ gap → gap % 8 ≡ 0 → P gap (gap_bytes p gap)
-  gap_has gap least eighth = by_steps gap gap (omega arith) least eighth
+  gap_has gap least eighth = rw (gap_some p gap least) (by_steps gap gap (omega arith) least eighth)

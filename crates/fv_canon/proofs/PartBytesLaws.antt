@@ -1,7 +1,7 @@
 -- The facts that the layout uses about the files of a volume that was read.
-use Rattle.std.proofs.Common.{◌≡◌, ◌≤◌, ◌<◌, ◌+◌, ◌-◌, ◌*◌, ◌/◌, ◌%◌, ◌^◌, ℕ, [], ◌∷◌, zero, suc, Bool, true, false, List, length, drop, refl, ◌∙◌, arith}
-use Rattle.fv_base.proofs.Laws.{common_steps}
-use Rattle.fv_base.proofs.Laws.{length-drop, All, All-from_recursion, map, nat_le, slice_index, AllByRecursion, alignment_of, and_split, volume_limit}
+use Rattle.std.proofs.Common.{◌≡◌, ◌≤◌, ◌<◌, ◌+◌, ◌*◌, ◌/◌, ◌%◌, ◌^◌, ℕ, [], ◌∷◌, zero, suc, Bool, true, List, length, drop, refl, ◌∙◌, arith}
+use Rattle.fv_base.proofs.Laws.{common_steps, length-drop, All, All-from_recursion, map, nat_le, slice_index, AllByRecursion, alignment_of, and_split}
+use Rattle.fv_base.proofs.Laws.{volume_limit}
 use Rattle.std.proofs.lemmas.Bool.{leb-true}
 use Rattle.std.specs.List.{list_all}
 use Rattle.fv_base.specs.Words.{IsAlignment}
@@ -38,17 +38,12 @@ alignment_power a = power_at exponents (a / 8 % 8 + 8 * (a / 2 % 2)) refl (omega
 
 -- ---- the parts of a volume
 
-head_eighth : (large : Bool) → file_header_len large % 8 ≡ 0
-head_eighth true = refl
-head_eighth false = refl
-
 pub head_most : (large : Bool) → file_header_len large ≤ 32
-head_most true = omega arith
-head_most false = omega arith
+head_most large = grind arith
 
 part_is : (total : ℕ) (m : FileMeaning) → 32 + data_len_of m ≤ total → IsLawfulItem total (placement_item m)
 part_is total m l =
-    grind (arith, common_steps, head_eighth (needs_large (data_len_of m)), head_most (needs_large (data_len_of m)), alignment_power (attributes_of m)) steps 400000
+    grind (arith, common_steps, head_most (needs_large (data_len_of m)), alignment_power (attributes_of m)) steps 400000
 
 -- files that were read from at most `limit` bytes are lawful items of a volume that has at least 8 bytes more
 are_parts : (n : ℕ) (system : FileSystem) (limit total : ℕ) (fs : List FileForm) (ms : List FileMeaning)

@@ -1,10 +1,10 @@
 -- The image that is defined by offsets is the image that a walk over the files writes. The steps:
--- 1. The erased bytes before a span may be written in two pieces (`painted_later`), and a span that begins where the
---    walk is comes next (`painted_here`).
+-- 1. The erased bytes before a span may be written in two pieces (`painted_later`), and two spans that follow one
+--    another come next (`two_spans`).
 -- 2. So the files are in order, and the walk writes them (`files_placed`).
--- 3. With the header and the extended header the same is true of the volume (`volume_in_order`, `volume_painted`).
+-- 3. With the header and the extended header the same is true of the volume (`volume_placed`).
 -- 4. So the bytes that show the volume are the bytes that the walk writes (`volume_shows`, `volume_written`).
-use Rattle.std.proofs.Common.{◌≡◌, ◌≤◌, ◌+◌, ◌-◌, ◌%◌, ℕ, [], ◌∷◌, ◌++◌, List, length, replicate, refl, sym, ap, ◌∙◌, subst, arith}
+use Rattle.std.proofs.Common.{◌≡◌, ◌≤◌, ◌+◌, ◌-◌, ◌%◌, ℕ, [], ◌∷◌, ◌++◌, List, length, replicate, refl, ◌∙◌, arith}
 use Rattle.fv_base.proofs.Laws.{common_steps, length-append, append_assoc, map, Option, None, Some, AllByRecursion, erased_byte, up_to_8}
 use Rattle.std.proofs.lemmas.List.{replicate-append-replicate}
 use Rattle.fv_base.specs.declared.flash.FileSystem.{FileSystem}
@@ -22,9 +22,6 @@ use Rattle.fv_canon.proofs.CellLaws.{Storable, length-stored, length-pad_head}
 use Rattle.fv_canon.proofs.PositionLaws.{shows_walk, one_image}
 use Rattle.fv_canon.proofs.StoredTilingLaws.{apart, filler_is, length-gap}
 
-edges : (x total : ℕ) → total % 8 ≡ 0 → x ≤ total → (x ≤ up_to_8 x) × (up_to_8 x ≤ total)
-edges x total h l = (omega arith, omega arith)
-
 -- spans that are in order after an edge are in order after each lower edge
 lower : (total x y : ℕ) (ps : List PlacedBytes) → x ≤ y → InOrder total y ps → InOrder total x ps
 lower total x y [] l o = omega (arith, l, o)
@@ -40,10 +37,15 @@ painted_later : (erased total x y : ℕ) (ps : List PlacedBytes) → x ≤ y →
 painted_later erased total x y [] l o = two_fills erased x y total l o
 painted_later erased total x y (p ∷ ps) l o = rw (two_fills erased x y p.at l o.0) (simp append_assoc)
 
--- a span that begins where the walk is comes next
-painted_here : (erased total e at : ℕ) (bytes : List ℕ) (ps : List PlacedBytes) → at ≡ e
-    → painted erased total e (record { at = at; bytes = bytes } ∷ ps) ≡ bytes ++ painted erased total (e + length bytes) ps
-painted_here erased total e at bytes ps same = grind (arith, common_steps) steps 400000
+-- a span that begins where the walk is and a span that follows it come next, and then erased bytes up to the edge y
+two_spans : (erased total e at x y : ℕ) (a b : List ℕ) (ps : List PlacedBytes) → at ≡ e + length a → at + length b ≡ x → x ≤ y
+    → InOrder total y ps → InOrder total e (record { at = e; bytes = a } ∷ record { at = at; bytes = b } ∷ ps)
+    × (painted erased total e (record { at = e; bytes = a } ∷ record { at = at; bytes = b } ∷ ps)
+    ≡ a ++ (b ++ (replicate (y - x) erased ++ painted erased total y ps)))
+two_spans erased total e at x y a b ps place ends l o = (
+  (omega arith, (omega (arith, place), lower total (at + length b) y ps (omega (arith, ends, l)) o)),
+  grind (arith, common_steps, append_assoc, painted_later erased total x y ps l o),
+)
 
 -- ---- the files
 
@@ -56,22 +58,9 @@ files_placed system p total e [] [] h m r all follow = (r, refl)
 files_placed system p total e (f ∷ fs) (s ∷ ss) h m r all follow =
     let a = apart e s m follow.0.lawful.eighth follow.0.lawful.gap in
     let x : ℕ = s + stored_len f in
-    let b = edges x total h follow.0.within in
-    let erased : ℕ = erased_byte p in
-    let gap : List ℕ = gap_bytes p (s - e) in
-    let file : List ℕ = stored_bytes p f in
-    let later : List PlacedBytes = placed_files p (up_to_8 x) fs ss in
-    let rest = files_placed system p total (up_to_8 x) fs ss h (filler_is x).2 b.1 all.1 follow.1 in
-    let place : s ≡ e + length gap = sym (ap (λ (n : ℕ). e + n) (length-gap p (s - e) a.0 a.1) ∙ a.2) in
-    let ended : (e + length gap) + length file ≡ x =
-    ap (λ (n : ℕ). n + length file) (sym place) ∙ ap (λ (n : ℕ). s + n) (length-stored system p f all.0) in
-    let behind = lower total (s + length file) (up_to_8 x) later (omega (arith, length-stored system p f all.0, b.0)) rest.0 in (
-      (omega arith, (omega (arith, place), behind)),
-      painted_here erased total e e gap (record { at = s; bytes = file } ∷ later) refl
-          ∙ ap (λ (xs : List ℕ). gap ++ xs) (painted_here erased total (e + length gap) s file later place
-          ∙ ap (λ (xs : List ℕ). file ++ xs) (ap (λ (n : ℕ). painted erased total n later) ended
-          ∙ painted_later erased total x (up_to_8 x) later b.0 rest.0 ∙ ap (λ (xs : List ℕ). (replicate (up_to_8 x - x) erased) ++ xs) rest.1)),
-    )
+    let rest = files_placed system p total (up_to_8 x) fs ss h (filler_is x).2 (omega (arith, follow.0.within)) all.1 follow.1 in
+    rw rest.1 at (two_spans (erased_byte p) total e s x (up_to_8 x) (gap_bytes p (s - e)) (stored_bytes p f) (placed_files p (up_to_8 x) fs ss)
+    (omega (arith, length-gap p (s - e) a.0 a.1, a.2)) (omega (arith, length-stored system p f all.0)) (omega arith) rest.0)
 files_placed system p total e fs ss h m r all follow = absurd follow
 
 -- ---- the volume
@@ -93,49 +82,29 @@ length-ext_pad p h (Some x) used k =
     omega (arith, length-append (pad_head_of (24 + ext_len x) p) (ext_spelled x used), length-pad_head (24 + ext_len x) p, (ext_again x used k).1)
 
 pub first_is : (h : HeadFields) (x : Option Extension) → (canonical_end h x ≤ first_edge h x) × (first_edge h x % 8 ≡ 0)
-first_is h None = (omega arith, omega arith)
-first_is h (Some x) = (omega arith, omega arith)
+first_is h x = grind (arith, common_steps)
 
-volume_in_order : (h : HeadFields) (fs : List StoredFile) (ss : List ℕ) → Writable h fs ss → InOrder h.length 0 (placed_in_volume h fs ss)
-volume_in_order h fs ss k =
+-- the spans of a volume are in order, and the walk writes them
+volume_placed : (h : HeadFields) (fs : List StoredFile) (ss : List ℕ) → Writable h fs ss → InOrder h.length 0 (placed_in_volume h fs ss)
+    × (painted (erased_byte (polarity_of h.attributes)) h.length 0 (placed_in_volume h fs ss) ≡ volume_bytes h fs ss)
+volume_placed h fs ss k =
     let p : Polarity = polarity_of h.attributes in
     let first : ℕ = first_edge h h.ext in
     let used : ℕ = used_size first fs ss in
-    let f = first_is h h.ext in
-    let behind = lower h.length (header_len_of h + length (ext_pad p h.ext used)) first (placed_files p first fs ss)
-    (omega (arith, length-ext_pad p h h.ext used k.ext, f.0))
-    (files_placed h.file_system p h.length first fs ss k.multiple f.1 k.room k.files k.follow).0 in
-    (omega arith, (omega (arith, length-canonical h k.read), behind))
-
-pub volume_painted : (h : HeadFields) (fs : List StoredFile) (ss : List ℕ) → Writable h fs ss
-    → painted (erased_byte (polarity_of h.attributes)) h.length 0 (placed_in_volume h fs ss) ≡ volume_bytes h fs ss
-volume_painted h fs ss k =
-    let p : Polarity = polarity_of h.attributes in
-    let erased : ℕ = erased_byte p in
-    let first : ℕ = first_edge h h.ext in
-    let used : ℕ = used_size first fs ss in
-    let pad : List ℕ = ext_pad p h.ext used in
-    let head : List ℕ = canonical_head h in
-    let later : List PlacedBytes = placed_files p first fs ss in
     let f = first_is h h.ext in
     let files = files_placed h.file_system p h.length first fs ss k.multiple f.1 k.room k.files k.follow in
-    let place : header_len_of h ≡ 0 + length head = omega (arith, length-canonical h k.read) in
-    let ended : (0 + length head) + length pad ≡ canonical_end h h.ext =
-    ap (λ (n : ℕ). n + length pad) (sym place) ∙ length-ext_pad p h h.ext used k.ext in
-    painted_here erased h.length 0 0 head (record { at = header_len_of h; bytes = pad } ∷ later) refl
-    ∙ ap (λ (xs : List ℕ). head ++ xs) (painted_here erased h.length (0 + length head) (header_len_of h) pad later place
-    ∙ ap (λ (xs : List ℕ). pad ++ xs)
-    (ap (λ (n : ℕ). painted erased h.length n later) ended ∙ painted_later erased h.length (canonical_end h h.ext) first later f.0 files.0
-    ∙ ap (λ (xs : List ℕ). replicate (first - canonical_end h h.ext) erased ++ xs) files.1))
+    rw files.1 at (two_spans (erased_byte p) h.length 0 (header_len_of h) (canonical_end h h.ext) first (canonical_head h) (ext_pad p h.ext used)
+    (placed_files p first fs ss) (omega (arith, length-canonical h k.read)) (length-ext_pad p h h.ext used k.ext) f.0 files.0)
 
 -- only one list of bytes shows the volume, and the walk writes this list
 pub volume_shows : (h : HeadFields) (fs : List StoredFile) (ss b : List ℕ) → Writable h fs ss
     → ShowsPlaced h.length (erased_byte (polarity_of h.attributes)) (placed_in_volume h fs ss) b → b ≡ volume_bytes h fs ss
-volume_shows h fs ss b k shows = one_image (erased_byte (polarity_of h.attributes)) h.length (placed_in_volume h fs ss) b
-    (volume_in_order h fs ss k) shows ∙ volume_painted h fs ss k
+volume_shows h fs ss b k shows =
+    let v = volume_placed h fs ss k in
+    one_image (erased_byte (polarity_of h.attributes)) h.length (placed_in_volume h fs ss) b v.0 shows ∙ v.1
 
 pub volume_written : (h : HeadFields) (fs : List StoredFile) (ss : List ℕ) → Writable h fs ss
     → ShowsPlaced h.length (erased_byte (polarity_of h.attributes)) (placed_in_volume h fs ss) (volume_bytes h fs ss)
 volume_written h fs ss k =
-    subst (ShowsPlaced h.length (erased_byte (polarity_of h.attributes)) (placed_in_volume h fs ss)) (volume_painted h fs ss k)
-    (shows_walk (erased_byte (polarity_of h.attributes)) h.length (placed_in_volume h fs ss) (volume_in_order h fs ss k))
+    let v = volume_placed h fs ss k in
+    rw v.1 at (shows_walk (erased_byte (polarity_of h.attributes)) h.length (placed_in_volume h fs ss) v.0)

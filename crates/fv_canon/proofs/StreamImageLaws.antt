@@ -1,24 +1,23 @@
 -- A stream that is written as in the canonical image is read again as the same sections. The steps:
 -- 1. The type of a section that was read is a byte (`begun_kind`), so a written frame is a list of bytes if its body is
 --    (`bytes_begun`).
--- 2. The statements about the parts inside: sections, streams and volumes are read again, and each volume inside is the
---    meaning of some bytes (`SectionsAgain`, `StreamsAgain`, `VolumesAgain`).
+-- 2. The statements about the parts inside: sections, streams and volumes are read again, sections with the same type
+--    and form, and each volume inside is the meaning of some bytes (`SectionsAgain`, `StreamsAgain`, `VolumesAgain`).
 -- 3. A written frame is read again, and is as long as the frame that was read (`frame_again`). So the frames of a
 --    stream are read again (`frames_again`).
 -- 4. So a stream is read again if its sections are (`stream_again`), and a section is read again if the parts inside
 --    are (`section_again`).
-use Rattle.std.proofs.Common.{◌≡◌, ◌≤◌, ◌<◌, ◌+◌, ◌-◌, ℕ, [], ◌∷◌, ◌++◌, zero, suc, Bool, true, false, List, length, replicate, refl, sym, ◌∙◌, subst}
-use Rattle.std.proofs.Common.{ap, arith}
-use Rattle.fv_base.proofs.Laws.{common_steps, AllByRecursion, IsBytes, le_bytes, bytes_append, bytes_back, bytes_cons, bytes_front, bytes_le_bytes}
+use Rattle.std.proofs.Common.{◌≡◌, ◌≤◌, ◌<◌, ◌+◌, ◌-◌, ℕ, [], ◌∷◌, ◌++◌, suc, Bool, List, length, replicate, refl, sym, ◌∙◌, subst, ap, arith}
+use Rattle.fv_base.proofs.Laws.{common_steps, AllByRecursion, IsBytes, bytes_append, bytes_back, bytes_cons, bytes_front, bytes_le_bytes}
 use Rattle.fv_base.proofs.Laws.{bytes_replicate, none_at}
 use Rattle.fv_section.specs.Words.{FrameForm, section_header_len, frame_len, BeginsFrame, SplitsFrom, Splits, up_to_4, FitsForm, InPlace}
 use Rattle.fv_section.specs.Words.{section_head_of, stream_of}
 use Rattle.fv_section.proofs.Laws.{begun_bytes, fits, streams_are_read}
 use Rattle.fv_tree.specs.Words.{Meaning, SectionMeanings, NoSections, MoreSections, SectionMeaning, Section, Leaf, Group, Nested, sections_list}
-use Rattle.fv_tree.specs.Words.{SectionRelation, StreamRelation, VolumeRelation, Pairwise, SectionOver, MeansSection, Stream, Opens, Denotes}
-use Rattle.fv_tree.specs.Words.{Inside, deeper, volumes_in, volumes_in_sections, volumes_in_section}
+use Rattle.fv_tree.specs.Words.{SectionRelation, StreamRelation, VolumeRelation, Pairwise, SectionOver, MeansSection, Stream, Opens, Denotes, Inside}
+use Rattle.fv_tree.specs.Words.{deeper, volumes_in, volumes_in_sections, volumes_in_section}
 use Rattle.fv_tree.proofs.Laws.{section_long}
-use Rattle.fv_canon.specs.Words.{IsImage, AreFrames, IsFrame}
+use Rattle.fv_canon.specs.Words.{IsImage, AreFrames, IsFrame, IsBodyImage}
 use Rattle.fv_canon.proofs.VolumeListLaws.{each_joined}
 
 -- the type of a section that was read is a byte
@@ -26,8 +25,7 @@ begun_kind : (f : FrameForm) (b rest : List ℕ) → IsBytes b → BeginsFrame f
 begun_kind f b rest small is = subst (λ (n : ℕ). n < 256) is.is_header.kind_is (bytes_front is.head (f.body ++ rest) (subst IsBytes is.text small) 3)
 
 bytes_section_head : (kind : ℕ) (extended : Bool) (n : ℕ) → kind < 256 → IsBytes (section_head_of kind extended n)
-bytes_section_head kind false n l = bytes_append (le_bytes 3 (4 + n)) (kind ∷ []) (bytes_le_bytes 3 (4 + n)) (bytes_cons kind [] l none_at)
-bytes_section_head kind true n l = grind (arith, common_steps, bytes_append, bytes_le_bytes, bytes_cons)
+bytes_section_head kind extended n l = grind (arith, common_steps, bytes_append, bytes_le_bytes, bytes_cons, none_at) steps 400000
 
 -- if a frame's body and the bytes after it are lists of bytes, the written frame and these bytes are a list of bytes
 bytes_begun : (g : FrameForm) → g.kind < 256 → IsBytes g.body → (rest : List ℕ) → IsBytes rest
@@ -46,11 +44,11 @@ meant_deeper n (v ∷ vs) ((k, less, b, small, d), all) = ((k, omega (arith, les
 
 abbrev pub SectionsAgain : ℕ → SectionRelation → Type 0
 SectionsAgain n is_section = (s : SectionMeaning) (f g : FrameForm) → IsBytes f.body → is_section f s → IsFrame s g
-    → is_section g s × IsBytes g.body × AllByRecursion (MeantBelow n) (volumes_in_section s)
+    → is_section g s × IsBytes g.body × (g.kind ≡ f.kind) × (g.extended ≡ f.extended) × AllByRecursion (MeantBelow n) (volumes_in_section s)
 
 abbrev pub StreamsAgain : ℕ → StreamRelation → Type 0
 StreamsAgain n is_stream = (ss : SectionMeanings) (tail : ℕ) (b o : List ℕ) → IsBytes b → is_stream (sections_list ss) tail b
-    → ((frames : List FrameForm) × AreFrames 0 ss frames × (o ≡ stream_of frames tail))
+    → IsBodyImage (Group ss tail) o
     → is_stream (sections_list ss) tail o × IsBytes o × AllByRecursion (MeantBelow n) (volumes_in_sections ss)
 
 abbrev pub VolumesAgain : ℕ → VolumeRelation → Type 0
@@ -67,23 +65,18 @@ pub record FrameAgain (n : ℕ) (s : SectionMeaning) (f g : FrameForm) : Type 0 
   pub bytes : (rest : List ℕ) → IsBytes rest → IsBytes (section_head_of g.kind g.extended (length g.body) ++ (g.body ++ rest))
   pub meant : AllByRecursion (MeantBelow (suc n)) (volumes_in_section s)
 
-same_form : (n : ℕ) (s : SectionMeaning) (f g : FrameForm) → MeansSection n f s → IsFrame s g → (g.kind ≡ f.kind) × (g.extended ≡ f.extended)
-same_form zero (Section kind extended body) f g is image = (image.0 ∙ is.0, image.1 ∙ is.1)
-same_form (suc n) (Section kind extended body) f g is image = (image.0 ∙ is.0, image.1 ∙ is.1)
-
 pub frame_again : (n : ℕ) → SectionsAgain (suc n) (MeansSection n) → (s : SectionMeaning) (f g : FrameForm) (b rest : List ℕ) → IsBytes b
     → BeginsFrame f b rest → MeansSection n f s → IsFrame s g → FrameAgain n s f g
 frame_again n again s f g b rest small begun is image =
     let a = again s f g (begun_bytes f b rest small begun).0 is image in
-    let form = same_form n s f g is image in
     let size : frame_len g ≡ frame_len f = sym (section_long n g s a.0) ∙ section_long n f s is in
-    let long : length f.body ≡ length g.body = omega (arith, size, ap section_header_len form.1) in
+    let long : length f.body ≡ length g.body = omega (arith, size, ap section_header_len a.3) in
     record {
       is = a.0;
       size = size;
-      fits = subst (λ (x : Bool). FitsForm x (length g.body)) (sym form.1) (subst (FitsForm f.extended) long (fits f b rest small begun));
-      bytes = bytes_begun g (subst (λ (k : ℕ). k < 256) (sym form.0) (begun_kind f b rest small begun)) a.1;
-      meant = a.2;
+      fits = subst (λ (x : Bool). FitsForm x (length g.body)) (sym a.3) (subst (FitsForm f.extended) long (fits f b rest small begun));
+      bytes = bytes_begun g (subst (λ (k : ℕ). k < 256) (sym a.2) (begun_kind f b rest small begun)) a.1;
+      meant = a.4;
     }
 
 record FramesAgain (n at : ℕ) (ss : SectionMeanings) (gs : List FrameForm) (tail : ℕ) : Type 0 where
@@ -95,7 +88,6 @@ record FramesAgain (n at : ℕ) (ss : SectionMeanings) (gs : List FrameForm) (ta
 frames_again : (n : ℕ) → SectionsAgain (suc n) (MeansSection n) → (at : ℕ) (ss : SectionMeanings) (fs gs : List FrameForm)
     (tail : ℕ) (b : List ℕ) → IsBytes b → SplitsFrom at fs tail b → Pairwise (MeansSection n) fs (sections_list ss) → AreFrames at ss gs → FramesAgain n at ss gs tail
 frames_again n again at NoSections [] [] tail b small is p q = record { placed = is.1; pairs = tt; bytes = none_at; meant = tt }
-frames_again n again at NoSections [] (g ∷ gs) tail b small is p q = let bad : g ∷ gs ≡ [] = q in cc
 frames_again n again at (MoreSections s NoSections) (f ∷ []) (g ∷ []) tail b small (rest, begun, offset, count, most) p q =
     let a = frame_again n again s f g b rest small begun p.0 q.1 in
     record {
@@ -104,7 +96,6 @@ frames_again n again at (MoreSections s NoSections) (f ∷ []) (g ∷ []) tail b
       bytes = a.bytes (replicate tail 0) (bytes_replicate tail 0 (omega arith));
       meant = each_joined (MeantBelow (suc n)) (volumes_in_section s) [] a.meant tt;
     }
-frames_again n again at (MoreSections s NoSections) (f ∷ []) (g ∷ k ∷ gs) tail b small is p q = let bad : k ∷ gs ≡ [] = q.2 in cc
 frames_again n again at (MoreSections s (MoreSections t ss)) (f ∷ h ∷ fs) (g ∷ k ∷ gs) tail b small
     (filler, rest, begun, offset, count, more) p q =
     let a = frame_again n again s f g b (filler ++ rest) small begun p.0 q.1 in
@@ -120,7 +111,7 @@ frames_again n again at (MoreSections s (MoreSections t ss)) (f ∷ h ∷ fs) (g
           (bytes_append fill others (bytes_replicate (up_to_4 (frame_len g) - frame_len g) 0 (omega arith)) r.bytes);
       meant = each_joined (MeantBelow (suc n)) (volumes_in_section s) (volumes_in_sections (MoreSections t ss)) a.meant r.meant;
     }
-frames_again n again at ss fs gs tail b small is p q = absurd assumption
+frames_again n again at ss fs gs tail b small is p q = absurd (grind arith)
 
 -- a stream is read again if its sections are
 pub stream_again : (n : ℕ) → SectionsAgain (suc n) (MeansSection n) → StreamsAgain (suc n) (Stream n)
@@ -136,8 +127,8 @@ section_again n is_stream is_volume streams volumes (Section kind extended (Leaf
 section_again n is_stream is_volume streams volumes (Section kind extended (Group sections tail)) f g small
     (k, e, (is_group, is)) (gk, ge, image) =
     let a = streams sections tail f.body g.body small is image in
-    ((sym gk, sym ge, ((gk ∙ k) ∙ is_group, a.0)), a.1, meant_deeper n (volumes_in_sections sections) a.2)
+    ((sym gk, sym ge, ((gk ∙ k) ∙ is_group, a.0)), a.1, gk ∙ k, ge ∙ e, meant_deeper n (volumes_in_sections sections) a.2)
 section_again n is_stream is_volume streams volumes (Section kind extended (Nested volume)) f g small
     (k, e, (is_there, opens, is)) (gk, ge, image) =
     let a = volumes volume f.body g.body small is image in
-    ((sym gk, sym ge, ((gk ∙ k) ∙ is_there, a.2, a.0)), a.1, meant_deeper n (volumes_in volume) a.3)
+    ((sym gk, sym ge, ((gk ∙ k) ∙ is_there, a.2, a.0)), a.1, gk ∙ k, ge ∙ e, meant_deeper n (volumes_in volume) a.3)

@@ -15,19 +15,19 @@ use Rattle.fv_base.specs.declared.flash.Polarity.{Polarity}
 use Rattle.fv_base.specs.declared.guid.Guid.{Guid}
 use Rattle.fv_base.specs.declared.flash.FileSystem.TheVariants.{Ffs3}
 use Rattle.fv_file.specs.Words.{attribute_bits, is_large, is_fixed, without_large, pad_kind, needs_large, with_large, pad_head_of}
-use Rattle.fv_head.specs.Words.{Extension, HeadFields, HasExt, BeginsVolume, extent_of, IsReadHead, CanonicalRest, IfRead}
-use Rattle.fv_head.specs.Words.{canonical_head, canonical_end, first_edge, ext_len, ext_spelled, polarity_of}
+use Rattle.fv_head.specs.Words.{Extension, HeadFields, HasExt, BeginsVolume, extent_of, CanonicalRest, IfRead, canonical_head, canonical_end}
+use Rattle.fv_head.specs.Words.{first_edge, ext_len, ext_spelled, polarity_of}
 use Rattle.fv_head.specs.declared.extent.Extent.{Extent}
 use Rattle.fv_head.proofs.Laws.{canonical_front, front_lies, length-canonical}
 use Rattle.fv_placement.specs.Words.{StartsFollow, IsFirstPlacement}
 use Rattle.fv_tree.specs.Words.{Meaning, Volume, FileMeanings, NoFiles, MoreFiles, FileMeaning, File, ContentMeaning, Plain, Sectioned, AreFilesOf}
-use Rattle.fv_tree.specs.Words.{files_list, files_of, head_of, content_len, StreamRelation, Pairwise, MeansContent, MeansFile, VolumeOver}
-use Rattle.fv_tree.specs.Words.{Opens, MeansSection, Stream, Denotes, FileForm, files_in, NoTwins, current_in, top_name, volumes_in_files}
-use Rattle.fv_tree.specs.Words.{volumes_in_file, volumes_in_content}
-use Rattle.fv_tree.proofs.Laws.{section_long, stream_long}
-use Rattle.fv_canon.specs.Words.{AreStored, IsStored, IsData, AreStarts, placement_item, ShowsPlaced, StoredFile, size_for, head_len_for}
-use Rattle.fv_canon.specs.Words.{ext_pad, placed_in_volume, used_size}
-use Rattle.fv_canon.specs.inner.ImageOf.{files_bytes, volume_bytes}
+use Rattle.fv_tree.specs.Words.{files_list, files_of, head_of, content_len, StreamRelation, Pairwise, MeansContent, MeansFile, VolumeOver, Opens}
+use Rattle.fv_tree.specs.Words.{MeansSection, Stream, Denotes, FileForm, files_in, NoTwins, current_in, top_name, volumes_in_files, volumes_in_file}
+use Rattle.fv_tree.specs.Words.{volumes_in_content}
+use Rattle.fv_tree.proofs.Laws.{content_long, section_long, stream_long}
+use Rattle.fv_canon.specs.Words.{AreStored, IsStored, IsData, AreStarts, placement_item, ShowsPlaced, StoredFile, size_for, head_len_for, ext_pad}
+use Rattle.fv_canon.specs.Words.{placed_in_volume, used_size}
+use Rattle.fv_canon.specs.inner.ImageOf.{files_bytes}
 use Rattle.fv_canon.proofs.ImageParts.{stored_item}
 use Rattle.fv_canon.proofs.CurrentFileLaws.{names_in, names_of, NamesApart, current_apart, all_current, forms_unmarked, no_twins, TopLast, top_last}
 use Rattle.fv_canon.proofs.CurrentFileLaws.{forms_top, form_names}
@@ -49,35 +49,29 @@ record FileAgain (n : ℕ) (system : FileSystem) (m : FileMeaning) (f : FileForm
   pub form : (p : Polarity) (at : ℕ) → MeansFile (Stream n) (record { offset = at; head = stored_head p x; payload = x.payload }) m
   pub meant : AllByRecursion (MeantBelow (suc n)) (volumes_in_file m)
 
--- the data d that are written for data that were read have the same content, and each volume inside is the meaning of
--- some bytes
+-- the data d that are written for data that were read have the same content, and its length, and each volume inside is
+-- the meaning of some bytes
 pub data_again : (n kind : ℕ) → StreamsAgain (suc n) (Stream n) → (content : ContentMeaning) (payload d : List ℕ) → IsBytes payload
-    → MeansContent (Stream n) kind payload content → IsData content d
-    → MeansContent (Stream n) kind d content × IsBytes d × AllByRecursion (MeantBelow (suc n)) (volumes_in_content content)
-data_again n kind streams (Plain b) payload d small (plain, same) image = ((plain, sym image), subst IsBytes (sym (image ∙ same)) small, tt)
+    → MeansContent (Stream n) kind payload content → IsData content d → MeansContent (Stream n) kind d content × IsBytes d
+    × (length d ≡ content_len content) × AllByRecursion (MeantBelow (suc n)) (volumes_in_content content)
+data_again n kind streams (Plain b) payload d small (plain, same) image =
+    ((plain, sym image), subst IsBytes (sym (image ∙ same)) small, ap length image, tt)
 data_again n kind streams (Sectioned ss tail) payload d small (sectioned, is) image =
-    let a = streams ss tail payload d small is image in ((sectioned, a.0), a.1, a.2)
-
--- data have the length that their content states
-pub content_is_long : (n kind : ℕ) (content : ContentMeaning) (payload : List ℕ) → MeansContent (Stream n) kind payload content
-    → length payload ≡ content_len content
-content_is_long n kind (Plain b) payload is = ap length (sym is.1)
-content_is_long n kind (Sectioned ss tail) payload is = sym (stream_long (MeansSection n) (section_long n) ss tail payload is.1)
+    let a = streams ss tail payload d small is image in
+    ((sectioned, a.0), a.1, sym (stream_long (MeansSection n) (section_long n) ss tail d a.0), a.2)
 
 half_moves : (a : ℕ) → is_fixed a ≡ false → is_fixed (a / 2 * 2) ≡ false
 half_moves a f = grind (arith, common_steps)
 
 large_system : (system : FileSystem) (l : Bool) (n : ℕ) → (l ≡ true → system ≡ Ffs3) → (l ≡ false → 24 + n < 16777216)
     → needs_large n ≡ true → system ≡ Ffs3
-large_system system true n h k needs = h refl
-large_system system false n h k needs = grind (arith, common_steps) steps 400000
+large_system system l n h k needs = grind (arith, common_steps) steps 400000
 
 file_again : (n : ℕ) → StreamsAgain (suc n) (Stream n) → (system : FileSystem) (limit : ℕ) (m : FileMeaning) (f : FileForm) (x : StoredFile)
     → limit ≤ 24 + data_limit → FileIsAccepted system limit f → MeansFile (Stream n) f m → IsStored m x → FileAgain n system m f x
 file_again n streams system limit (File name kind attributes content) f x most r (named, kinds, bits, is) (xn, xk, xa, image) =
     let d = data_again n kind streams content f.payload x.payload r.payload is image in
-    let len = content_is_long n kind content x.payload d.0 in
-    let long : length x.payload ≡ length f.payload = len ∙ sym (content_is_long n kind content f.payload is) in
+    let long : length x.payload ≡ length f.payload = d.2 ∙ sym (content_long n f name kind attributes content (named, kinds, bits, is)) in
     let names : bytes_of x.name ≡ bytes_of f.head.name = ap bytes_of (xn ∙ named) in
     let kind_is : x.kind ≡ f.head.kind = xk ∙ kinds in
     let bits_are : x.attributes ≡ without_large (attribute_bits f.head.attributes) = xa ∙ bits in
@@ -95,16 +89,14 @@ file_again n streams system limit (File name kind attributes content) f x most r
         most = omega (arith, long, r.within, most);
         payload = d.1;
       };
-      part = λ i. record { header = head_len_for (len i); size = size_for (len i); alignment = alignment_of (xa i); top = bytes_eq (bytes_of (xn i)) top_name };
+      part = λ i. record { header = head_len_for (d.2 i); size = size_for (d.2 i); alignment = alignment_of (xa i); top = bytes_eq (bytes_of (xn i)) top_name };
       name = names;
-      form = λ p at.
-          (ap (λ (g : Guid). g) (sym xn) ∙ refl, sym xk, sym xa ∙ back (needs_large (length x.payload)) a x.attributes bits_are, d.0);
-      meant = d.2;
+      form = λ p at. (sym xn, sym xk, sym xa ∙ back (needs_large (length x.payload)) a x.attributes bits_are, d.0);
+      meant = d.3;
     }
   where
     back : (l : Bool) (a y : ℕ) → y ≡ a / 2 * 2 → y ≡ without_large (with_large l y)
-    back true a y e = omega (arith, e)
-    back false a y e = omega (arith, e)
+    back l a y e = grind (arith, common_steps)
 
 -- ---- 2. file by file
 
@@ -123,7 +115,6 @@ files_again : (n : ℕ) → StreamsAgain (suc n) (Stream n)
     → FilesAgain n system files forms stored
 files_again n streams system limit NoFiles [] [] most reads pairs are =
     record { storable = tt; items = refl; names = refl; are = λ p total e ss follow. tt; meant = tt }
-files_again n streams system limit NoFiles [] (x ∷ xs) most reads pairs are = let bad : x ∷ xs ≡ [] = are in cc
 files_again n streams system limit (MoreFiles m ms) (f ∷ fs) (x ∷ xs) most reads pairs are =
     let here = file_again n streams system limit m f x most reads.0 pairs.0 are.0 in
     let behind = files_again n streams system limit ms fs xs most reads.1 pairs.1 are.1 in
@@ -131,17 +122,13 @@ files_again n streams system limit (MoreFiles m ms) (f ∷ fs) (x ∷ xs) most r
       storable = (here.storable, behind.storable);
       items = λ i. here.part i ∷ behind.items i;
       names = λ i. here.name i ∷ behind.names i;
-      are = λ p total e ss follow. step p total e ss follow here.form behind.are;
+      are = λ p total e. elim [
+        | [] ↦ λ follow. absurd follow
+        | s ∷ ss ↦ λ follow. (here.form p s, behind.are p total _ ss follow.1)
+      ];
       meant = each_joined (MeantBelow (suc n)) (volumes_in_file m) (volumes_in_files ms) here.meant behind.meant;
     }
-  where
-    step : (p : Polarity) (total e : ℕ) (ss : List ℕ) → StartsFollow total e (map stored_item (x ∷ xs)) ss
-        → ((q : Polarity) (at : ℕ) → MeansFile (Stream n) (record { offset = at; head = stored_head q x; payload = x.payload }) m)
-        → ((q : Polarity) (t k : ℕ) (ts : List ℕ) → StartsFollow t k (map stored_item xs) ts → Pairwise (MeansFile (Stream n))
-        (forms_of q xs ts) (files_list ms)) → Pairwise (MeansFile (Stream n)) (forms_of p (x ∷ xs) ss) (files_list (MoreFiles m ms))
-    step p total e [] follow form behind = absurd follow
-    step p total e (s ∷ ss) follow form behind = (form p s, behind p total _ ss follow.1)
-files_again n streams system limit files forms stored most reads pairs are = absurd assumption
+files_again n streams system limit files forms stored most reads pairs are = absurd (grind arith)
 
 -- ---- 3. the head, the files and the pads of a volume
 
@@ -153,31 +140,14 @@ ext_read (Some x) e b small (before, part, behind, text, at, least, within, is, 
 
 -- the first file begins after the header
 pub first_behind : (x : Option Extension) (e : Extent) (b : List ℕ) → HasExt x e b → e.header_len ≤ e.first
-first_behind None e b (none, first) = omega (arith, first)
-first_behind (Some x) e b (before, part, behind, text, at, least, within, is, first) = omega (arith, least, first)
+first_behind x e b has = grind (arith, common_steps) steps 400000
 
 -- the bytes after the header of an image begin with the extended header in its pad, if there is one
-rest_is : (p : Polarity) (h : HeadFields) (x : Option Extension) (used : ℕ) (behind : List ℕ) → CanonicalRest x (ext_pad p x used ++ behind)
+rest_is : (p : Polarity) (x : Option Extension) (used : ℕ) (behind : List ℕ) → CanonicalRest x (ext_pad p x used ++ behind)
 unfolding ext_pad
-rest_is p h None used behind = tt
-rest_is p h (Some x) used behind =
+rest_is p None used behind = tt
+rest_is p (Some x) used behind =
     grind (arith, common_steps, append_assoc (pad_head_of (24 + ext_len x) p) (ext_spelled x used) behind, length-pad_head (24 + ext_len x) p) steps 400000
-
--- the body of an image
-body_is : (h : HeadFields) (fs : List StoredFile) (ss : List ℕ) → IsReadHead h → IfRead h.ext
-    → drop (first_edge h h.ext) (volume_bytes h fs ss)
-    ≡ files_bytes (polarity_of h.attributes) h.length (first_edge h h.ext) fs ss
-body_is h fs ss read ext =
-    let p : Polarity = polarity_of h.attributes in
-    let first : ℕ = first_edge h h.ext in
-    let used : ℕ = used_size first fs ss in
-    let head : List ℕ = canonical_head h in
-    let pad : List ℕ = ext_pad p h.ext used in
-    let fill : List ℕ = replicate (first - canonical_end h h.ext) (erased_byte p) in
-    let files : List ℕ = files_bytes p h.length first fs ss in
-    let joined : volume_bytes h fs ss ≡ ((head ++ pad) ++ fill) ++ files = simp append_assoc in
-    let long : length ((head ++ pad) ++ fill) ≡ first = omega (arith, length-canonical h read, length-ext_pad p h h.ext used ext, length-replicate (first - canonical_end h h.ext) (erased_byte p), (first_is h h.ext).0, length-append head pad, length-append (head ++ pad) fill) in
-    ap (drop first) joined ∙ drop_at ((head ++ pad) ++ fill) files first long
 
 -- bytes that begin with the header of a volume of their own length are opened as a volume
 opened : (h : HeadFields) (e : Extent) (o : List ℕ) → BeginsVolume h e o → length o ≡ h.length → Opens o
@@ -203,10 +173,8 @@ pub files_read : (n : ℕ) (h : HeadFields) (files : FileMeanings) (b : List ℕ
 files_read n h files b small d =
     let e : Extent = d.extent in
     let body : List ℕ = drop e.first b in
-    let reads = body_read e.file_system e.polarity (length body) e.first d.cells body (bytes_drop e.first b small) (omega arith) d.tiles in
-    subst (λ (s : FileSystem). AllByRecursion (FileIsAccepted s (length body)) d.files) d.begins.file_system
-    (subst (AllByRecursion (FileIsAccepted e.file_system (length body))) (sym d.current.files_are)
-    (current_read e.file_system (length body) (files_in d.cells) reads))
+    rw (← d.begins.file_system, d.current.files_are) (current_read e.file_system (length body) (files_in d.cells)
+    (body_read e.file_system e.polarity (length body) e.first d.cells body (bytes_drop e.first b small) (omega arith) d.tiles))
 
 pub known : (n : ℕ) → StreamsAgain (suc n) (Stream n) → (h : HeadFields) (files : FileMeanings) (b : List ℕ) → IsBytes b
     → (d : Denotes n b (Volume h files)) (stored : List StoredFile) (starts : List ℕ)
@@ -237,13 +205,11 @@ pub image_front : (h : HeadFields) (fs : List StoredFile) (ss o : List ℕ) → 
 image_front h fs ss o k shows =
     let p : Polarity = polarity_of h.attributes in
     let first : ℕ = first_edge h h.ext in
-    let text : o ≡ volume_bytes h fs ss = volume_shows h fs ss o k shows in
+    let used : ℕ = used_size first fs ss in
     let fill : List ℕ = replicate (first - canonical_end h h.ext) (erased_byte p) ++ files_bytes p h.length first fs ss in
-    let rest : List ℕ = ext_pad p h.ext (used_size first fs ss) ++ fill in
-    let long : h.length ≤ length (canonical_head h ++ rest) = omega (arith, ap length text, shows.length_is) in
-    subst (BeginsVolume h (extent_of h first)) (sym text)
-    (canonical_front h rest k.read k.ext (rest_is p h h.ext (used_size first fs ss) fill)
-    (omega (arith, (first_is h h.ext).0, k.room)) long)
+    let text = volume_shows h fs ss o k shows in
+    rw text (canonical_front h (ext_pad p h.ext used ++ fill) k.read k.ext (rest_is p h.ext used fill)
+    (omega (arith, (first_is h h.ext).0, k.room)) (omega (arith, ap length text, shows.length_is)))
 
 -- the files and pads of an image tile the bytes from the first edge on
 pub image_tiled : (h : HeadFields) (fs : List StoredFile) (ss o : List ℕ) → Writable h fs ss
@@ -253,8 +219,12 @@ pub image_tiled : (h : HeadFields) (fs : List StoredFile) (ss o : List ℕ) → 
 image_tiled h fs ss o k shows =
     let p : Polarity = polarity_of h.attributes in
     let first : ℕ = first_edge h h.ext in
-    let body : drop first o ≡ files_bytes p h.length first fs ss = ap (drop first) (volume_shows h fs ss o k shows) ∙ body_is h fs ss k.read k.ext in
-    rw body (body_tiles h.file_system p h.length first fs ss k.multiple (first_is h h.ext).1 k.files k.follow)
+    let used : ℕ = used_size first fs ss in
+    let front : List ℕ = (canonical_head h ++ ext_pad p h.ext used) ++ replicate (first - canonical_end h h.ext) (erased_byte p) in
+    let long : length front ≡ first = simp (length-append, length-replicate)
+    (omega (arith, length-canonical h k.read, length-ext_pad p h h.ext used k.ext, (first_is h h.ext).0)) in
+    let body = simp append_assoc at (drop_at front (files_bytes p h.length first fs ss) first long) in
+    rw (volume_shows h fs ss o k shows, body) (body_tiles h.file_system p h.length first fs ss k.multiple (first_is h h.ext).1 k.files k.follow)
 
 -- ---- 4. a volume is read again if the streams in it are
 
@@ -292,14 +262,9 @@ volume_again n streams (Volume h files) b o small d (stored, starts, are, placed
 
 -- ---- 5. all volumes, by induction on the nesting depth
 
-no_stream : StreamsAgain 0 (λ _ _ _. ⊥)
-no_stream ss tail b o small none image = absurd none
-
-no_volume : VolumesAgain 0 (λ _ _. ⊥)
-no_volume m b o small none image = absurd none
-
 pub sections_again : (n : ℕ) → SectionsAgain (suc n) (MeansSection n)
-sections_again zero = section_again 0 (λ _ _ _. ⊥) (λ _ _. ⊥) no_stream no_volume
+sections_again zero =
+    section_again 0 (λ _ _ _. ⊥) (λ _ _. ⊥) (λ ss tail b o small none image. absurd none) (λ m b o small none image. absurd none)
 sections_again (suc n) =
     let streams = stream_again n (sections_again n) in section_again (suc n) (Stream n) (Denotes n) streams (volume_again n streams)
 

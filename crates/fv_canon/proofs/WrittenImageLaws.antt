@@ -5,20 +5,20 @@
 --    `section_made`).
 -- 3. A volume is written as its image, file by file, if the streams in it are (`files_made`, `volume_made`).
 -- 4. By induction on the nesting depth each section is written as its image (`sections_made`), and so is each stream
---    and each volume (`streams_made`, `image_made`).
-use Rattle.std.proofs.Common.{◌≡◌, ◌+◌, ℕ, [], ◌∷◌, ◌++◌, zero, suc, List, length, take, drop, refl, arith}
-use Rattle.fv_base.proofs.Laws.{common_steps, AllByRecursion, IsBytes, bytes_back}
+--    (`streams_made`) and each volume.
+use Rattle.std.proofs.Common.{◌+◌, ℕ, [], ◌∷◌, zero, suc, List, length, take, drop, refl, arith}
+use Rattle.fv_base.proofs.Laws.{common_steps, AllByRecursion, IsBytes, bytes_drop}
 use Rattle.fv_base.specs.declared.flash.FileSystem.{FileSystem}
-use Rattle.fv_section.specs.Words.{FrameForm, frame_len, up_to_4, SplitsFrom}
-use Rattle.fv_section.proofs.Laws.{begun_bytes}
-use Rattle.fv_tree.specs.Words.{Meaning, Volume, FileMeanings, NoFiles, MoreFiles, FileMeaning, File, ContentMeaning, Plain, Sectioned}
-use Rattle.fv_tree.specs.Words.{SectionMeanings, NoSections, MoreSections, SectionMeaning, Section, Leaf, Group, Nested, files_list, sections_list}
-use Rattle.fv_tree.specs.Words.{SectionRelation, StreamRelation, VolumeRelation, Pairwise, StreamOver, SectionOver, MeansContent}
-use Rattle.fv_tree.specs.Words.{MeansFile, MeansSection, Stream, Denotes, FileForm, volumes_in, volumes_in_files, volumes_in_file, volumes_in_content}
-use Rattle.fv_tree.specs.Words.{volumes_in_sections, volumes_in_section}
-use Rattle.fv_canon.specs.Words.{IsImage, AreStored, IsStored, IsData, AreFrames, IsFrame, BeginsWithStarts}
-use Rattle.fv_canon.specs.inner.ImageOf.{starts_in, image_of, stored_of, stored_file, data_of, frames_of, frame_of}
-use Rattle.fv_canon.proofs.VolumeListLaws.{begins_own, begins_split, begins_higher}
+use Rattle.fv_section.specs.Words.{FrameForm, frame_len, up_to_4, HasFrameAt}
+use Rattle.fv_section.proofs.Laws.{begun_bytes, split_stands}
+use Rattle.fv_tree.specs.Words.{Meaning, Volume, FileMeanings, NoFiles, MoreFiles, File, ContentMeaning, Plain, Sectioned, SectionMeanings}
+use Rattle.fv_tree.specs.Words.{NoSections, MoreSections, SectionMeaning, Section, Leaf, Group, Nested, files_list, sections_list, Inside}
+use Rattle.fv_tree.specs.Words.{SectionRelation, StreamRelation, VolumeRelation, Pairwise, StreamOver, SectionOver, MeansContent, MeansFile}
+use Rattle.fv_tree.specs.Words.{MeansSection, Stream, Denotes, FileForm, volumes_in, volumes_in_files, volumes_in_content, volumes_in_sections}
+use Rattle.fv_tree.specs.Words.{volumes_in_section}
+use Rattle.fv_canon.specs.Words.{IsImage, AreStored, IsData, AreFrames, IsFrame, BeginsWithStarts}
+use Rattle.fv_canon.specs.inner.ImageOf.{starts_in, image_of, stored_of, data_of, frames_of, frame_of}
+use Rattle.fv_canon.proofs.VolumeListLaws.{begins_own, begins_split, begins_higher, each_weaker}
 use Rattle.fv_canon.proofs.PlacedBytesLaws.{volume_written}
 use Rattle.fv_canon.proofs.VolumeImageLaws.{known, files_read, streams_again}
 use Rattle.fv_canon.proofs.ReadLaws.{FileIsAccepted}
@@ -38,34 +38,25 @@ VolumesMade is_volume = (m : Meaning) (b starts : List ℕ) → IsBytes b → is
 
 -- ---- frame by frame
 
--- the bodies of the frames of a list of bytes are lists of bytes
-pub frames_bytes : (at : ℕ) (fs : List FrameForm) (tail : ℕ) (b : List ℕ) → IsBytes b → SplitsFrom at fs tail b
-    → AllByRecursion (λ f. IsBytes f.body) fs
-frames_bytes at [] tail b small is = tt
-frames_bytes at (f ∷ []) tail b small (rest, begun, offset, count, most) = ((begun_bytes f b rest small begun).0, tt)
-frames_bytes at (f ∷ g ∷ fs) tail b small (filler, rest, begun, offset, count, more) =
-    let parts = begun_bytes f b (filler ++ rest) small begun in
-    (parts.0, frames_bytes (up_to_4 (at + frame_len f)) (g ∷ fs) tail rest (bytes_back filler rest parts.1) more)
-
-offset_is : (at : ℕ) (s : SectionMeaning) (starts : List ℕ) → (frame_of at s starts).offset ≡ at
-offset_is at (Section kind extended body) starts = refl
-
 frames_made : (is_section : SectionRelation) → SectionsMade is_section → (at : ℕ) (ss : SectionMeanings) (fs : List FrameForm)
     (starts : List ℕ) → AllByRecursion (λ f. IsBytes f.body) fs → Pairwise is_section fs (sections_list ss)
     → BeginsWithStarts (volumes_in_sections ss) starts → AreFrames at ss (frames_of at ss starts)
 frames_made is_section made at NoSections fs starts small p begins = refl
 frames_made is_section made at (MoreSections s ss) [] starts small p begins = absurd p
-frames_made is_section made at (MoreSections s ss) (f ∷ fs) starts small p begins =
+frames_made is_section made at (MoreSections (Section kind extended body) ss) (f ∷ fs) starts small p begins =
+    let s : SectionMeaning = Section kind extended body in
     let parts = begins_split (volumes_in_section s) (volumes_in_sections ss) starts begins in (
-      offset_is at s starts,
+      refl,
       made s f at starts small.0 p.0 parts.0,
       frames_made is_section made (up_to_4 (at + frame_len (frame_of at s starts))) ss fs (drop (starts_in (volumes_in_section s)) starts)
           small.1 p.1 parts.1,
     )
 
+-- the bodies of the frames of a list of bytes are lists of bytes, so the stream is written as its image
 stream_made : (is_section : SectionRelation) → SectionsMade is_section → StreamsMade (StreamOver is_section)
 stream_made is_section made ss tail b starts small (fs, split, pairs) begins =
-    frames_made is_section made 0 ss fs starts (frames_bytes 0 fs tail b small split) pairs begins
+    frames_made is_section made 0 ss fs starts (each_weaker (λ f. HasFrameAt f f.offset b) (λ f. IsBytes f.body)
+    (λ f at. (begun_bytes f (drop f.offset b) at.rest (bytes_drop f.offset b small) at.begins).0) fs (split_stands fs tail b split)) pairs begins
 
 section_made : (is_stream : StreamRelation) (is_volume : VolumeRelation) → StreamsMade is_stream → VolumesMade is_volume
     → SectionsMade (SectionOver is_stream is_volume)
@@ -76,32 +67,27 @@ section_made is_stream is_volume streams volumes (Section kind extended (Nested 
     (refl, refl, volumes volume f.body starts small is.2.2 (begins_higher (volumes_in volume) starts begins))
 
 -- ---- file by file
-pub data_made : (is_stream : StreamRelation) → StreamsMade is_stream → (kind : ℕ) (content : ContentMeaning) (payload starts : List ℕ)
-    → IsBytes payload → MeansContent is_stream kind payload content → BeginsWithStarts (volumes_in_content content) starts
-    → IsData content (data_of content starts)
-data_made is_stream streams kind (Plain b) payload starts small is begins = refl
-data_made is_stream streams kind (Sectioned sections tail) payload starts small (sectioned, is) begins =
-    (frames_of 0 sections starts, streams sections tail payload starts small is begins, refl)
+module _ (is_stream : StreamRelation) (streams : StreamsMade is_stream) where
+  pub data_made : (kind : ℕ) (content : ContentMeaning) (payload starts : List ℕ) → IsBytes payload → MeansContent is_stream kind payload content
+      → BeginsWithStarts (volumes_in_content content) starts → IsData content (data_of content starts)
+  data_made kind (Plain b) payload starts small is begins = refl
+  data_made kind (Sectioned sections tail) payload starts small (sectioned, is) begins =
+      (frames_of 0 sections starts, streams sections tail payload starts small is begins, refl)
 
-file_made : (is_stream : StreamRelation) → StreamsMade is_stream → (m : FileMeaning) (f : FileForm) (starts : List ℕ) → IsBytes f.payload
-    → MeansFile is_stream f m → BeginsWithStarts (volumes_in_file m) starts → IsStored m (stored_file m starts)
-file_made is_stream streams (File name kind attributes content) f starts small (named, kinds, bits, is) begins =
-    (refl, refl, refl, data_made is_stream streams kind content f.payload starts small is begins)
-
-pub files_made : (is_stream : StreamRelation) → StreamsMade is_stream → (system : FileSystem) (limit : ℕ) (files : FileMeanings)
-    (forms : List FileForm) (starts : List ℕ) → AllByRecursion (FileIsAccepted system limit) forms
-    → Pairwise (MeansFile is_stream) forms (files_list files) → BeginsWithStarts (volumes_in_files files) starts
-    → AreStored files (stored_of files starts)
-files_made is_stream streams system limit NoFiles forms starts reads pairs begins = refl
-files_made is_stream streams system limit (MoreFiles m ms) [] starts reads pairs begins = absurd pairs
-files_made is_stream streams system limit (MoreFiles m ms) (f ∷ fs) starts reads pairs begins =
-    let parts = begins_split (volumes_in_file m) (volumes_in_files ms) starts begins in (
-      file_made is_stream streams m f starts reads.0.payload pairs.0 parts.0,
-      files_made is_stream streams system limit ms fs (drop (starts_in (volumes_in_file m)) starts) reads.1 pairs.1 parts.1,
-    )
+  pub files_made : (system : FileSystem) (limit : ℕ) (files : FileMeanings) (forms : List FileForm) (starts : List ℕ)
+      → AllByRecursion (FileIsAccepted system limit) forms → Pairwise (MeansFile is_stream) forms (files_list files)
+      → BeginsWithStarts (volumes_in_files files) starts → AreStored files (stored_of files starts)
+  files_made system limit NoFiles forms starts reads pairs begins = refl
+  files_made system limit (MoreFiles m ms) [] starts reads pairs begins = absurd pairs
+  files_made system limit (MoreFiles (File name kind attributes content) ms) (f ∷ fs) starts reads pairs begins =
+      let inside : List Inside = volumes_in_content content in
+      let parts = begins_split inside (volumes_in_files ms) starts begins in (
+        (refl, refl, refl, data_made kind content f.payload starts reads.0.payload pairs.0.3 parts.0),
+        files_made system limit ms fs (drop (starts_in inside) starts) reads.1 pairs.1 parts.1,
+      )
 
 -- ---- the volume
-volume_made : (n : ℕ) → StreamsMade (Stream n) → VolumesMade (Denotes n)
+pub volume_made : (n : ℕ) → StreamsMade (Stream n) → VolumesMade (Denotes n)
 volume_made n streams (Volume h files) b starts small d begins =
     let count : ℕ = length (files_list files) in
     let own = begins_own (record { depth = 0; volume = Volume h files }) (volumes_in_files files) count starts refl begins in
@@ -120,7 +106,3 @@ sections_made (suc n) =
 
 pub streams_made : (n : ℕ) → StreamsMade (Stream n)
 streams_made n = stream_made (MeansSection n) (sections_made n)
-
--- the bytes that a walk writes for a volume are its image
-pub image_made : (n : ℕ) → VolumesMade (Denotes n)
-image_made n = volume_made n (streams_made n)

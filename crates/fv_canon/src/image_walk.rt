@@ -41,6 +41,7 @@ fn complement(sum: u8) -> u8
 // and `put_volume` use and return `starts` in the same way; `file_sum`, `put_image` and
 // `put_body_image` use `starts` in the same way, but do not return starts.
 #[cycle(put)]
+#[tactic(auto, using(crate::proofs::LaidSectionLaws::front_none))]
 fn put_sections<'s, S: Sink>(
     out: &mut SummingSink<'_, S>,
     sections: Sections<'_, '_>,
@@ -123,6 +124,7 @@ fn skip_file<'s>(file: &FileView<'_>, starts: &'s [u64]) -> &'s [u64]
 // Puts a file. While the data of another file are being summed, a file with the checksum attribute
 // adds only its State byte (`summing_sink` explains why).
 #[cycle(put)]
+#[tactic(auto, using(crate::proofs::SumWalks::state_adds, crate::proofs::DataBodyLaws::data_volumes))]
 fn put_file<'s, S: Sink>(
     out: &mut SummingSink<'_, S>,
     file: &FileView<'_>,

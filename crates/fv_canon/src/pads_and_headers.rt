@@ -38,6 +38,7 @@ pub(crate) fn put_section_head<S: Sink>(out: &mut S, section: &SectionView<'_, '
 }
 
 // Puts a pad of `size` bytes.
+#[tactic(auto, unfolding(crate::specs::StoredFiles::pad_bytes))]
 fn put_pad<S: Sink>(out: &mut S, size: u64, polarity: Polarity)
     requires least { 24 ≤ size }
     requires most { size ≤ 0xffffff }
@@ -54,6 +55,7 @@ const PAD_MOST: u64 = 0xff_fff8;
 const LONG_PAD: u64 = 0xff_ff00;
 
 // Puts the pads of a gap of `gap` bytes.
+#[tactic(auto, using(crate::proofs::PadLaws::gap_none))]
 pub(crate) fn put_gap<S: Sink>(out: &mut S, gap: u64, polarity: Polarity)
     requires fits { (gap ≡ 0) ⊎ (24 ≤ gap) }
     requires multiple { gap % 8 ≡ 0 }

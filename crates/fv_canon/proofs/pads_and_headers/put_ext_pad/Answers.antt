@@ -1,4 +1,3 @@
-use Rattle.std.proofs.lemmas.Grind.{common_steps}
 use Rattle.std.proofs.Common.{◌≡◌, ◌+◌, ◌-◌, ℕ, [], ◌++◌, replicate, sym, ap, ◌∙◌, arith, append_assoc, Option, None, Some}
 use Rattle.fv_base.proofs.Laws.{option_copied, erased_byte, up_to_8}
 use Rattle.fv_base.specs.declared.flash.Polarity.{Polarity}
@@ -10,8 +9,8 @@ use Rattle.fv_canon.proofs.pads_and_headers.put_ext_pad.Goals as goal
 none_text : (p : Polarity) (h : HeadFields) (x : Option Extension) (used n : ℕ) → x ≡ None
     → ext_pad p x used ++ replicate (first_edge h x - canonical_end h x) n ≡ []
 unfolding ext_pad
-none_text p h None used n e = let none : first_edge h None - canonical_end h None ≡ 0 = omega arith in ap (λ (m : ℕ). replicate m n) none
-none_text p h (Some x) used n e = let bad : Some x ≡ None = e in cc
+none_text p h x used n e =
+    let none : first_edge h None - canonical_end h None ≡ 0 = omega arith in rw e (ap (λ (m : ℕ). replicate m n) none)
 
 some_text : (p : Polarity) (h : HeadFields) (x : Option Extension) (y : Extension) (used n : ℕ) → x ≡ Some y
     → ext_pad p x used ++ replicate (first_edge h x - canonical_end h x) n
@@ -39,6 +38,3 @@ returns-in-Some g c =
     (laws.joined (rw (c.as_slice.ensures, c.pad_head_bytes.ensures.bytes, len, polar) at head)
     (laws.joined c.put_ext.ensures.bytes
     (rw (c.up_to_8.ensures, c.from-header.ensures ∙ c.header_len.ensures.length, len, c.erased.ensures.value, polar) at filler)))
-
-pub up_to_8-requires : goal.up_to_8-requires
-up_to_8-requires c = grind (arith, common_steps)

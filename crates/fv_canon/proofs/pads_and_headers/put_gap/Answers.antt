@@ -1,18 +1,7 @@
-use Rattle.std.proofs.Common.{◌-◌, ℕ, List, [], ◌++◌, refl, sym, ap, ◌∙◌, arith, append_assoc}
+use Rattle.std.proofs.Common.{◌-◌, ℕ, List, ◌++◌, sym, ap, ◌∙◌, arith, append_assoc}
 use Rattle.fv_canon.specs.Words.{pad_bytes, long_pad, gap_bytes}
-use Rattle.fv_canon.proofs.PadLaws.{gap_none, pads_rule}
+use Rattle.fv_canon.proofs.PadLaws.{pads_rule}
 use Rattle.fv_canon.proofs.pads_and_headers.put_gap.Goals as goal
-
-pub returns-then-gap-eq0 : goal.returns-then-gap-eq0
-returns-then-gap-eq0 g c = rw (gap_none c.args.polarity c.args.gap c.if-gap-eq0.true) (g.S.Sink.laws.none c.args.out.now)
-
-pub loop-left-init : goal.loop-left-init
-loop-left-init g c = record {
-  least = omega (arith, c.requires.fits, c.if-gap-eq0.false);
-  most = omega arith;
-  multiple = c.requires.multiple;
-  done = record { front = []; taken = g.S.Sink.laws.none c.args.out.now; whole_is = refl };
-}
 
 pub loop-left-preserved : goal.loop-left-preserved
 loop-left-preserved g c =

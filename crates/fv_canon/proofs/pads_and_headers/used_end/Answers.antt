@@ -35,6 +35,3 @@ returns-clause-used c =
 
 pub returns-clause-most : goal.returns-clause-most
 returns-clause-most c = omega (arith, (last_end (goal.at.returns-clause-most c).After-data_len).1, c.size_for.ensures)
-
-pub returns-then-is_empty-clause-used : goal.returns-then-is_empty-clause-used
-returns-then-is_empty-clause-used c = grind (arith, common_steps) steps 300000
