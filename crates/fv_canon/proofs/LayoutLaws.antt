@@ -7,13 +7,11 @@ use Rattle.fv_canon.specs.Words.{AreStarts, placement_items, StartsOfEach, AreAl
 use Rattle.fv_placement.proofs.Laws.{starts_one}
 use Rattle.fv_canon.proofs.VolumeListLaws.{begins_own}
 
-starts_same : (vs : List Inside) (a b : List ℕ) → StartsOfEach AreStarts vs a → StartsOfEach AreStarts vs b → a ≡ b
+-- the volumes of a list have at most one list of starts
+pub starts_same : (vs : List Inside) (a b : List ℕ) → StartsOfEach AreStarts vs a → StartsOfEach AreStarts vs b → a ≡ b
 starts_same [] a b p q = p ∙ sym q
 starts_same (v ∷ vs) a b (own, inner, p, placed, laid) (own', inner', q, placed', laid') =
     p ∙ (λ i. starts_one _ _ (placement_items v.volume) own own' placed placed' i ++ starts_same vs inner inner' laid laid' i) ∙ sym q
-
-pub one_layout : (m : Meaning) (a b : List ℕ) → AreAllStarts m a → AreAllStarts m b → a ≡ b
-one_layout m a b p q = starts_same (volumes_in m) a b p q
 
 -- ---- a layout and its two parts
 

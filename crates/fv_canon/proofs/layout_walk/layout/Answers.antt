@@ -1,9 +1,10 @@
 use Rattle.fv_base.proofs.Laws.{common_steps, arith, err_is, first_only}
 use Rattle.fv_rows.proofs.Laws.{tree_volumes}
 use Rattle.fv_canon.specs.Words.{AreAllStarts}
+use Rattle.fv_tree.specs.Words.{volumes_in}
 use Rattle.fv_canon.proofs.FitLaws.{unfit_none}
 use Rattle.fv_canon.proofs.LayoutWalkLaws.{starts_need_file}
-use Rattle.fv_canon.proofs.LayoutLaws.{layout_is, one_layout, own_first}
+use Rattle.fv_canon.proofs.LayoutLaws.{layout_is, own_first, starts_same}
 use Rattle.fv_canon.proofs.layout_walk.layout.Goals as goal
 
 pub returns-clause-layout : goal.returns-clause-layout
@@ -14,7 +15,7 @@ returns-clause-layout c =
     c.new.ensures.inner
 
 pub returns-clause-only : goal.returns-clause-only
-returns-clause-only c starts laid = one_layout c.args.view.now starts _ laid (returns-clause-layout c).0
+returns-clause-only c starts laid = starts_same (volumes_in c.args.view.now) starts _ laid (returns-clause-layout c).0
 
 pub returns-clause-least : goal.returns-clause-least
 returns-clause-least c = (own_first c.args.view.now c.new.result (returns-clause-layout c)).least
@@ -30,12 +31,3 @@ returns-in_err-starts-clause-memory c =
     let memory = c.in_err-starts.ensures.memory in
     rw (err_is c.from_residual.ensures.1) (λ want. starts_need_file c.args.view.now
     ((rw (c.of.ensures, tree_volumes c.args.view.now) at memory) want))
-
-pub returns-clause-err : goal.returns-clause-err
-returns-clause-err c = tt
-
-pub returns-clause-fits : goal.returns-clause-fits
-returns-clause-fits c fit = tt
-
-pub returns-clause-memory : goal.returns-clause-memory
-returns-clause-memory c = tt
