@@ -90,7 +90,5 @@ pub one_reading : (b : List ℕ) (m k : Meaning) → Accepted b m → Accepted b
 one_reading b m k (small, d) (little, e) = one_meaning 8 8 b m k d e
 
 pub same_reading : (a b : List ℕ) (m k : Meaning) → Accepted a m → Accepted b k → (MeanSame a b → m ≡ k) × (m ≡ k → MeanSame a b)
-same_reading a b m k d e = (
-  λ (same : MeanSame a b). sym (one_reading a same.0 m same.1 d) ∙ one_reading b same.0 k same.2 e,
-  λ (one : m ≡ k). (m, d, subst (λ (j : Meaning). Accepted b j) (sym one) e),
-)
+same_reading a b m k d e =
+    (λ (j, of_a, of_b). sym (one_reading a j m of_a d) ∙ one_reading b j k of_b e, λ one. (m, d, rw one e))

@@ -39,13 +39,7 @@ file_adds p f = if is_summed f.attributes then state_byte p else (fixed_checksum
 stored_adds : (p : Polarity) (f : StoredFile) → sum (stored_bytes p f) % 256 ≡ file_adds p f % 256
 unfolding stored_bytes
 stored_adds p f =
-    let large : Bool = needs_large (length f.payload) in
-    let attributes : ℕ = with_large large f.attributes in
-    let file_sum : ℕ = file_sum_for f.attributes f.payload in
-    let size : ℕ = head_len_for (length f.payload) + length f.payload in
-    let head : List ℕ = header_bytes file_sum (bytes_of f.name) f.kind attributes size large (state_byte p) in
-    ap (λ (n : ℕ). n % 256) (sum-joined head f.payload) ∙ joined (sum head) (sum f.payload) (state_byte p) (is_summed f.attributes)
-    (header_adds file_sum (bytes_of f.name) f.kind attributes size large (state_byte p))
+    rw sum-joined (joined _ (sum f.payload) (state_byte p) (is_summed f.attributes) (header_adds (file_sum_for f.attributes f.payload) _ _ _ _ _ _))
   where
     joined : (h d s : ℕ) (b : Bool) → h % 256 ≡ ((if b then complement d else fixed_checksum) + s) % 256
         → (h + d) % 256 ≡ (if b then s else (fixed_checksum + s + d)) % 256
