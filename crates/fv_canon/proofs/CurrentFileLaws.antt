@@ -1,5 +1,5 @@
 -- No two current files of a body have the same name, and all files of a written body are current.
-use Rattle.std.proofs.Common.{◌≡◌, ◌+◌, ℕ, [], ◌∷◌, ◌++◌, true, false, List, refl, ap, map, not, arith, append_assoc}
+use Rattle.std.proofs.Common.{◌≡◌, ◌+◌, ℕ, [], ◌∷◌, ◌++◌, false, List, refl, ap, map, not, arith, append_assoc}
 use Rattle.fv_base.proofs.Laws.{common_steps, AllByRecursion, filter, list_any, bytes_eq, bytes_of, up_to_8, or_both, or_parts}
 use Rattle.std.proofs.lemmas.Bool.{and_right, false_from_ne_true}
 use Rattle.fv_base.specs.declared.flash.Polarity.{Polarity}

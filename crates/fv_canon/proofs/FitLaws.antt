@@ -1,15 +1,14 @@
 -- A volume fits exactly if it has a layout, which places its files and the files of each volume inside. It is rejected
 -- exactly if it does not fit, with a fault of the layout at offset 0.
-use Rattle.std.proofs.Common.{◌≡◌, ◌≢◌, ◌⊎◌, inl, inr, ⊎_elim, ◌+◌, ℕ, List, [], ◌∷◌, refl, subst, sym, ◌∙◌}
+use Rattle.std.proofs.Common.{◌≡◌, ◌≢◌, ◌⊎◌, inl, inr, ⊎_elim, ◌+◌, ℕ, List, [], ◌∷◌, refl, subst, sym}
 use Rattle.fv_base.proofs.Laws.{arith, common_steps, or_more}
 use Rattle.fv_base.specs.declared.fault.Fault.{Fault}
 use Rattle.fv_base.specs.declared.fault.FaultKind.{FaultKind}
 use Rattle.fv_base.specs.declared.fault.FaultKind.TheVariants as kinds
 use Rattle.fv_head.specs.Words.{first_edge}
-use Rattle.fv_placement.specs.Words.{IsFirstPlacement}
 use Rattle.fv_placement.proofs.Laws.{agree, placed_or_not, top_none}
 use Rattle.fv_tree.specs.Words.{Meaning, head_of, length_of, Inside, volumes_in}
-use Rattle.fv_canon.specs.Words.{IsOfLayout, Rejects, WhatDoesNotFitIsRejected, placement_items, AreStarts, IsPlaced, Fits, AreLeast, StartsOfEach}
+use Rattle.fv_canon.specs.Words.{IsOfLayout, WhatDoesNotFitIsRejected, placement_items, AreStarts, IsPlaced, Fits, AreLeast, StartsOfEach}
 use Rattle.fv_canon.specs.Words.{AreAllStarts, layout_fault, AllFit, UnfitHere, FirstUnplaced, Unfit}
 use Rattle.fv_canon.proofs.VolumeListLaws.{fit_laid}
 

@@ -7,9 +7,9 @@
 --    is unique (`normalised_one`).
 -- 4. A volume that has a canonical image is not rejected. So if all volumes have one, the only error is OutOfMemory
 --    (`only_want`).
-use Rattle.std.proofs.Common.{◌≡◌, ◌⊎◌, ◌≤◌, ◌<◌, ◌+◌, ◌-◌, ◌^◌, ℕ, [], ◌∷◌, ◌++◌, List, length, drop, get_or, refl, sym, ◌∙◌, arith, inl, inr, append_assoc}
-use Rattle.fv_base.proofs.Laws.{common_steps, AllByRecursion, All-contains, All-from_recursion, cases_lt, drop_at, take-append_seam, out_of_memory, field}
-use Rattle.fv_base.proofs.Laws.{in_middle, one_behind, first_only, ext_get_or, get_or-drop, get_or-take}
+use Rattle.std.proofs.Common.{◌≡◌, ◌⊎◌, ◌≤◌, ◌<◌, ◌+◌, ◌-◌, ◌^◌, ℕ, [], ◌∷◌, ◌++◌, List, length, drop, get_or}
+use Rattle.fv_base.proofs.Laws.{common_steps, AllByRecursion, All-contains, All-from_recursion, cases_lt, drop_at, take-append_seam, out_of_memory}
+use Rattle.fv_base.proofs.Laws.{field, in_middle, one_behind, first_only, ext_get_or, get_or-take, refl, sym, ◌∙◌, arith, inl, inr, append_assoc}
 use Rattle.fv_base.specs.declared.fault.Fault.{Fault}
 use Rattle.fv_flash.specs.Words.{Found, IsCovered, VolumeAt}
 use Rattle.fv_flash.proofs.Laws.{at_within, one_found, one_length}

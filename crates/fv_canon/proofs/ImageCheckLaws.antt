@@ -4,7 +4,7 @@
 -- 2. If a volume is not read, either it is rejected or memory ran out (`ran_out_only`, `is_rejected`).
 -- 3. All volumes are canonical exactly if `normalise --all` does not change the image (`canonical_images_stay`).
 use Rattle.std.proofs.Common.{◌≡◌, ◌≢◌, ◌⊎◌, ℕ, [], ◌∷◌, List, map, refl, sym, ap, ◌∙◌, subst, arith, inl, inr, ⊎_elim}
-use Rattle.fv_base.proofs.Laws.{common_steps, AllByRecursion, out_of_memory, outer_fault, depth_limit, field, first_only, First}
+use Rattle.fv_base.proofs.Laws.{common_steps, AllByRecursion, out_of_memory, depth_limit, field, first_only, First}
 use Rattle.fv_base.specs.declared.fault.Fault.{Fault}
 use Rattle.fv_flash.specs.Words.{VolumeAt}
 use Rattle.fv_flash.proofs.Laws.{one_found, one_length}

@@ -1,8 +1,8 @@
 -- A volume has at most one layout.
-use Rattle.std.proofs.Common.{◌≡◌, ℕ, List, [], ◌∷◌, ◌++◌, length, take, drop, refl, sym, ap, append-nil, ◌∙◌, subst}
-use Rattle.std.proofs.lemmas.List.{take-append-drop, length-take-le, take_at}
+use Rattle.std.proofs.Common.{◌≡◌, ℕ, List, [], ◌∷◌, ◌++◌, length, take, drop, refl, sym, ap, append-nil, ◌∙◌, subst, take-append-drop}
+use Rattle.std.proofs.Common.{length-take-le, take_at}
 use Rattle.fv_tree.proofs.Laws.{files_list_back}
-use Rattle.fv_tree.specs.Words.{Meaning, Volume, FileMeaning, files_list, files_of, head_of, files_from, Inside, volumes_in, volumes_in_files}
+use Rattle.fv_tree.specs.Words.{Meaning, Volume, FileMeaning, files_list, files_of, head_of, files_from, Inside, volumes_in_files}
 use Rattle.fv_canon.specs.Words.{AreStarts, placement_items, StartsOfEach, AreAllStarts, LayoutParts, IsLayout}
 use Rattle.fv_placement.proofs.Laws.{starts_one}
 use Rattle.fv_canon.proofs.VolumeListLaws.{begins_own}

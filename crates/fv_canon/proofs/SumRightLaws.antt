@@ -5,9 +5,8 @@
 -- 2. The pad that contains the extended header is such a cell, so such cells tile the bytes after the header
 --    (`rest_summed`).
 -- 3. So all checksums of an image are right (`sums_are_right`).
-use Rattle.std.proofs.Common.{◌≡◌, ◌<◌, ◌+◌, ◌-◌, ℕ, [], ◌∷◌, ◌++◌, List, length, take, drop, replicate, refl, sym, ap, ◌∙◌, subst, arith}
-use Rattle.std.proofs.Common.{length-append, append_assoc, slice_index, Option, None, Some, drop-drop, drop_at, take_at}
-use Rattle.fv_base.proofs.Laws.{common_steps, AllByRecursion, length-replicate, erased_byte, up_to_8}
+use Rattle.std.proofs.Common.{◌≡◌, ◌+◌, ◌-◌, ℕ, [], ◌∷◌, ◌++◌, List, length, take, drop, replicate, refl, sym, ap, ◌∙◌, arith}
+use Rattle.fv_base.proofs.Laws.{common_steps, AllByRecursion, erased_byte, append_assoc, slice_index, Option, None, Some, drop-drop, drop_at, take_at}
 use Rattle.fv_base.specs.declared.flash.FileSystem.{FileSystem}
 use Rattle.fv_base.specs.declared.flash.Polarity.{Polarity}
 use Rattle.fv_file.specs.Words.{CellForm, Valid, Pad, IsCell, IsFilled, Tiles, offset_of, header_sum_of, pad_fields, pad_head_of}

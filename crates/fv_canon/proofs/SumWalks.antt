@@ -1,12 +1,12 @@
 -- The number that a walk over a file adds to the sum of the file's bytes.
-use Rattle.std.proofs.Common.{◌≡◌, ◌+◌, ◌%◌, ℕ, [], ◌∷◌, if◌then◌else◌, Bool, true, false, List, ap, ◌∙◌, arith, sum, ◌++◌, length}
-use Rattle.fv_base.proofs.Laws.{common_steps, sum_by-append, bytes_of, le_bytes}
+use Rattle.std.proofs.Common.{◌≡◌, ◌+◌, ◌%◌, ℕ, [], ◌∷◌, if◌then◌else◌, Bool, true, false, List, ap, ◌∙◌, arith, sum, ◌++◌}
+use Rattle.fv_base.proofs.Laws.{common_steps, sum_by-append, le_bytes}
 use Rattle.fv_base.specs.declared.flash.Polarity.{Polarity}
-use Rattle.fv_file.specs.Words.{is_summed, state_byte, fixed_checksum, file_sum_for, complement, header_with, header_bytes, needs_large, with_large}
+use Rattle.fv_file.specs.Words.{is_summed, state_byte, fixed_checksum, file_sum_for, complement, header_with, header_bytes}
 use Rattle.fv_tree.specs.Words.{FileMeaning, File, attributes_of}
 use Rattle.fv_canon.specs.inner.ImageOf.{stored_file, data_of}
 use Rattle.fv_canon.specs.inner.SummingSinks.{AddsOrPuts}
-use Rattle.fv_canon.specs.Words.{stored_bytes, StoredFile, head_len_for}
+use Rattle.fv_canon.specs.Words.{stored_bytes, StoredFile}
 
 -- ---- the number that the bytes of a file add to a sum
 

@@ -5,7 +5,7 @@
 --    depend on the depth (`each_deeper`).
 -- 3. A walk that takes starts goes from one list to the next (`passed_on`).
 use Rattle.std.proofs.Common.{◌≡◌, ◌≤◌, ◌+◌, ℕ, [], ◌∷◌, ◌++◌, List, length, take, drop, refl, ap, ◌∙◌, arith, append_assoc}
-use Rattle.fv_base.proofs.Laws.{common_steps, length-append, drop-drop, drop_at, take_at, AllByRecursion, length-map, append-nil, sym}
+use Rattle.fv_base.proofs.Laws.{common_steps, length-append, drop-drop, drop_at, take_at, AllByRecursion, length-map, append-nil}
 use Rattle.fv_rows.specs.inner.RowVolumes.{deeper_by}
 use Rattle.fv_tree.specs.Words.{Meaning, Volume, FileMeaning, files_of, head_of, files_from, Inside, deeper, volumes_in, volumes_in_files}
 use Rattle.fv_canon.specs.inner.ImageOf.{starts_in}

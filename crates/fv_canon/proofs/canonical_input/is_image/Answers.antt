@@ -1,4 +1,4 @@
-use Rattle.std.proofs.Common.{◌≡◌, ℕ, [], ◌++◌, List, sym, ◌∙◌, append-nil, arith, Bool, true, false}
+use Rattle.std.proofs.Common.{◌≡◌, ℕ, [], List, sym, ◌∙◌, append-nil, arith, Bool, true, false}
 use Rattle.fv_base.proofs.Laws.{IsTrue, common_steps}
 use Rattle.fv_canon.specs.inner.Matching.{MatchLatched}
 use Rattle.fv_canon.proofs.canonical_input.is_image.Goals as goal

@@ -1,6 +1,5 @@
 use Rattle.std.proofs.Common.{ℕ, List, subst, sym, arith}
 use Rattle.fv_base.proofs.Laws.{common_steps, err_is}
-use Rattle.fv_base.specs.declared.fault.FaultKind.TheVariants as kinds
 use Rattle.fv_flash.specs.Words.{AreFound, offsets_of}
 use Rattle.fv_canon.proofs.FlashImageLaws.{only_want}
 use Rattle.fv_canon.proofs.flash_image.lay_out_image.Goals as goal

@@ -1,5 +1,4 @@
-use Rattle.std.proofs.Common.{length, take, refl, sym, ap, ◌∙◌, ◌++◌, take-append-drop}
-use Rattle.fv_base.proofs.Laws.{take_at}
+use Rattle.std.proofs.Common.{length, take, refl, sym, ap, ◌∙◌, ◌++◌, take-append-drop, take_at}
 use Rattle.std.specs.Cmp.Lexicographic.{same_text, other_text}
 use Rattle.fv_canon.proofs.canonical_input.MatchSinkSink.put.Goals as goal
 
