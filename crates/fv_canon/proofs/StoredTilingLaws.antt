@@ -40,9 +40,6 @@ pub record Tiled (system : FileSystem) (p : Polarity) (at : ℕ) (b : List ℕ) 
   pub erased : AllByRecursion (PadErased p) cells
   pub fixed : AllByRecursion PadFixed cells
 
-pub never : {A : Type 0} → false ≡ true → A
-never e = absurd cc
-
 -- ---- a gap
 
 pad_tiles : (system : FileSystem) (p : Polarity) (size at : ℕ) (rest : List ℕ) (forms : List FileForm) → 24 ≤ size → size ≤ 0xffffff
@@ -53,12 +50,10 @@ pad_tiles system p size at rest forms least most multiple behind =
     let payload : List ℕ = replicate (size - 24) (erased_byte p) in
     let cell : CellForm = Pad at (pad_fields size (slice_index (pad_head_of size p) 16)) payload in
     let long : 24 + length payload ≡ size = omega (arith, least, length-replicate (size - 24) (erased_byte p)) in
-    let is = subst (IsCell system p cell) (append-nil (pad_bytes p size)) (pad_cell system p size payload [] most long (omega arith)
-    (omega (arith, multiple)) at) in
-    let later = subst (λ (n : ℕ). Tiles system p (at + n) behind.cells rest) (sym (length-pad p size least)) behind.tiles in
+    let is = rw append-nil at (pad_cell system p size payload [] most long (omega arith) (omega (arith, multiple)) at) in
     record {
       cells = cell ∷ behind.cells;
-      tiles = (pad_bytes p size, rest, refl, is, refl, λ e. never e, later);
+      tiles = (pad_bytes p size, rest, refl, is, refl, λ e. let bad : false ≡ true = e in cc, rw (length-pad p size least) behind.tiles);
       files_are = behind.files_are;
       aligned = behind.aligned;
       erased = (all-of_replicate (erased_byte p) (size - 24), behind.erased);

@@ -33,10 +33,8 @@ header_adds file_sum name kind attributes size large state = grind (arith, commo
 
 -- a file with the checksum attribute adds only its State, because its data and its file checksum sum to zero; any other
 -- file adds 0xAA, its State and its data
-abbrev file_adds : Polarity → StoredFile → ℕ
-file_adds p f = if is_summed f.attributes then state_byte p else (fixed_checksum + state_byte p + sum f.payload)
-
-stored_adds : (p : Polarity) (f : StoredFile) → sum (stored_bytes p f) % 256 ≡ file_adds p f % 256
+stored_adds : (p : Polarity) (f : StoredFile) → sum (stored_bytes p f) % 256
+    ≡ (if is_summed f.attributes then state_byte p else (fixed_checksum + state_byte p + sum f.payload)) % 256
 unfolding stored_bytes
 stored_adds p f =
     rw sum-joined (joined _ (sum f.payload) (state_byte p) (is_summed f.attributes) (header_adds (file_sum_for f.attributes f.payload) _ _ _ _ _ _))
