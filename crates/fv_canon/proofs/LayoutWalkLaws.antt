@@ -1,8 +1,7 @@
 -- The two loops over the rows of a part of a volume: one adds the starts of the files of each volume among the rows,
 -- the other skips these starts.
-use Rattle.std.proofs.Common.{◌≡◌, ◌≢◌, ◌<◌, ◌≤◌, ℕ, [], ◌∷◌, ◌++◌, inl, inr, ◌∙◌, suc, List, append_assoc, add-zero}
+use Rattle.std.proofs.Common.{◌≡◌, ◌≢◌, ◌<◌, ◌≤◌, ℕ, [], ◌∷◌, ◌++◌, inl, inr, ◌∙◌, suc, List, append_assoc, add-zero, Any}
 use Rattle.fv_base.proofs.Laws.{common_steps, cases_lt, subst, arith, true, false, true≢false, append-nil, length, drop, refl, sym, ap}
-use Rattle.std.specs.List.{Any}
 use Rattle.fv_base.specs.declared.fault.Fault.{Fault}
 use Rattle.fv_rows.proofs.Laws.{file_inside}
 use Rattle.fv_rows.specs.Words.{VolumeNode, FileNode, TreeRow, part_node, row_of, rows_inside}
