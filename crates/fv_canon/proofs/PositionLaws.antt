@@ -47,14 +47,16 @@ walk_shows erased total e (p ∷ ps) b long is o =
     let here : drop p.at b ≡ p.bytes ++ behind = dropped b (replicate (p.at - e) erased) (p.bytes ++ behind) e p.at
     (is ∙ append_assoc (replicate (p.at - e) erased) p.bytes behind) (omega (arith, length-replicate (p.at - e) erased, o.0)) in
     let later = walk_shows erased total (p.at + length p.bytes) ps b long (dropped b p.bytes behind p.at (p.at + length p.bytes) here refl) o.1 in
-    let within : p.at + length p.bytes ≤ length b = omega (arith, walk_length erased total (p.at + length p.bytes) ps o.1, long) in
-    (((within, ap (take (length p.bytes)) here ∙ take_at p.bytes behind (length p.bytes) refl), later.0), λ k low high none. elim (cases_lt k p.at) [
-      | inl before ↦ erased_at b (p.bytes ++ behind) e (p.at - e) k erased (is ∙ append_assoc (replicate (p.at - e) erased) p.bytes behind) low (omega (arith, low, before))
-      | inr at ↦ elim (cases_lt k (p.at + length p.bytes)) [
-        | inl inside ↦ absurd (none.0 (at, inside))
-        | inr past ↦ later.1 k past high none.1
-      ]
-    ])
+    let within : p.at + length p.bytes ≤ length b = omega (arith, walk_length erased total (p.at + length p.bytes) ps o.1, long) in (
+      ((within, ap (take (length p.bytes)) here ∙ take_at p.bytes behind (length p.bytes) refl), later.0),
+      λ k low high none. elim (cases_lt k p.at) [
+        | inl before ↦ erased_at b (p.bytes ++ behind) e (p.at - e) k erased (is ∙ append_assoc (replicate (p.at - e) erased) p.bytes behind) low (omega (arith, low, before))
+        | inr at ↦ elim (cases_lt k (p.at + length p.bytes)) [
+          | inl inside ↦ absurd (none.0 (at, inside))
+          | inr past ↦ later.1 k past high none.1
+        ]
+      ],
+    )
 
 pub shows_walk : (erased total : ℕ) (ps : List PlacedBytes) → InOrder total 0 ps → ShowsPlaced total erased ps (painted erased total 0 ps)
 shows_walk erased total ps o =

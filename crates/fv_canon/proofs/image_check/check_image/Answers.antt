@@ -15,13 +15,15 @@ returns-in_err-check-clause-memory c = grind (arith, common_steps, err_is) steps
 
 pub returns-in_err-check_at-clause-memory : goal.returns-in_err-check_at-clause-memory
 returns-in_err-check_at-clause-memory c =
-    rw (err_is c.from_residual-in_err-check_at.ensures.1) (λ want. (search rules, some_place c.args.image.now c.in_ok-found.found.items
-    c.loop-volume.volume-index c.in_ok-found.ensures.found (rw (← c.as_slice-volume-items.ensures.value) c.loop-volume-test.true)))
+    let place = some_place c.args.image.now c.in_ok-found.found.items c.loop-volume.volume-index c.in_ok-found.ensures.found
+    (rw (← c.as_slice-volume-items.ensures.value) c.loop-volume-test.true) in
+    rw (err_is c.from_residual-in_err-check_at.ensures.1) (λ want. (search rules, place))
 
 pub returns-in_err-push-clause-memory : goal.returns-in_err-push-clause-memory
 returns-in_err-push-clause-memory c =
-    rw (err_is c.from_residual-in_err-push.ensures.1) (λ want. (search rules, some_place c.args.image.now c.in_ok-found.found.items
-    c.loop-volume.volume-index c.in_ok-found.ensures.found (rw (← c.as_slice-volume-items.ensures.value) c.loop-volume-test.true)))
+    let place = some_place c.args.image.now c.in_ok-found.found.items c.loop-volume.volume-index c.in_ok-found.ensures.found
+    (rw (← c.as_slice-volume-items.ensures.value) c.loop-volume-test.true) in
+    rw (err_is c.from_residual-in_err-push.ensures.1) (λ want. (search rules, place))
 
 pub returns-clause-found : goal.returns-clause-found
 returns-clause-found c = grind (arith, common_steps)

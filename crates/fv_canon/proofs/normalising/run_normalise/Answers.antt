@@ -9,8 +9,9 @@ returns-in_err-input-clause-err g c = search rules
 
 pub returns-in_err-laid-clause-err : goal.returns-in_err-laid-clause-err
 returns-in_err-laid-clause-err g c =
-    rw (err_is c.from_residual-in_err-laid.ensures.1) (inr (_, c.in_ok-input.ensures.ok, inl (Keeps-refl _, ran_out _ _
-    (rw c.deref.ensures.value at c.in_err-laid.ensures.err) (rw c.deref.ensures.value at c.in_err-laid.ensures.memory))))
+    let front = rw c.deref.ensures.value at c.in_err-laid.ensures.memory in
+    rw (err_is c.from_residual-in_err-laid.ensures.1)
+    (inr (_, c.in_ok-input.ensures.ok, inl (Keeps-refl _, ran_out _ _ (rw c.deref.ensures.value at c.in_err-laid.ensures.err) front)))
 
 pub returns-clause-ok : goal.returns-clause-ok
 returns-clause-ok g c =
