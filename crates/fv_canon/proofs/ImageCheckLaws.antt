@@ -3,7 +3,7 @@
 --    image has at most one list of checks (`checks_one`).
 -- 2. If a volume is not read, either it is rejected or memory ran out (`ran_out_only`, `is_rejected`).
 -- 3. All volumes are canonical exactly if `normalise --all` does not change the image (`canonical_images_stay`).
-use Rattle.std.proofs.Common.{◌≡◌, ◌≢◌, ◌⊎◌, ℕ, [], ◌∷◌, List, map, refl, sym, ap, ◌∙◌, subst, arith, inl, inr, ⊎_elim}
+use Rattle.std.proofs.Common.{◌≡◌, ◌≢◌, ◌↔◌, ◌⊎◌, ℕ, [], ◌∷◌, List, map, refl, sym, ap, ◌∙◌, subst, arith, inl, inr, ⊎_elim}
 use Rattle.fv_base.proofs.Laws.{common_steps, AllByRecursion, out_of_memory, depth_limit, field, first_only, First}
 use Rattle.fv_base.specs.declared.fault.Fault.{Fault}
 use Rattle.fv_flash.specs.Words.{VolumeAt}
@@ -85,19 +85,16 @@ is_rejected at b own f why other moved kind = grind (arith, common_steps, is_not
 
 -- ---- 3. an image whose volumes are all canonical
 
--- if all checks are Canonical, the image has the canonical image of each volume
-renewed_own : (b : List ℕ) (checks : List VolumeCheck) → AllByRecursion (IsChecked b) checks → AreCanonical checks
-    → AllByRecursion (IsNormalisedAt b b) (map (λ c. c.offset) checks)
-renewed_own b [] all own = tt
-renewed_own b (c ∷ cs) ((v, has), all) (is, own) = ((c.length, v, rw is at has), renewed_own b cs all own)
-
--- if each volume is its own canonical image, all checks are Canonical
-own_renewed : (b : List ℕ) (checks : List VolumeCheck) → AllByRecursion (IsChecked b) checks
-    → AllByRecursion (IsNormalisedAt b b) (map (λ c. c.offset) checks) → AreCanonical checks
-own_renewed b [] all renewed = tt
-own_renewed b (c ∷ cs) ((v, has), all) ((n, w, to), renewed) =
-    let own : NormalisesTo (field c.offset c.length b) (field c.offset c.length b) = rw (one_length b c.offset n c.length w v) at to in
-    (one_outcome c.offset (field c.offset c.length b) c.outcome Canonical has own, own_renewed b cs all renewed)
+-- all checks are Canonical exactly if the image has the canonical image of each volume
+each_own : (b : List ℕ) (checks : List VolumeCheck) → AllByRecursion (IsChecked b) checks
+    → AreCanonical checks ↔ AllByRecursion (IsNormalisedAt b b) (map (λ c. c.offset) checks)
+each_own b [] all = (λ own. tt, λ renewed. tt)
+each_own b (c ∷ cs) ((v, has), all) = (
+  λ own. ((c.length, v, rw own.0 at has), (each_own b cs all).0 own.1),
+  λ ((n, w, to), renewed).
+      let own : NormalisesTo (field c.offset c.length b) (field c.offset c.length b) = rw (one_length b c.offset n c.length w v) at to in
+      (one_outcome c.offset (field c.offset c.length b) c.outcome Canonical has own, (each_own b cs all).1 renewed),
+)
 
 pub canonical_images_stay : CanonicalImagesStay
-canonical_images_stay b checks (short, offsets, found, (at, all)) = grind (arith, common_steps, renewed_own, own_renewed, one_found)
+canonical_images_stay b checks (short, offsets, found, (at, all)) = grind (arith, common_steps, each_own b checks all, one_found)

@@ -41,8 +41,7 @@ stored_adds p f =
   where
     joined : (h d s : ℕ) (b : Bool) → h % 256 ≡ ((if b then complement d else fixed_checksum) + s) % 256
         → (h + d) % 256 ≡ (if b then s else (fixed_checksum + s + d)) % 256
-    joined h d s true e = omega (arith, e)
-    joined h d s false e = omega (arith, e)
+    joined h d s b e = grind (arith, common_steps)
 
 -- a file with the checksum attribute adds only its State
 pub summed_adds : (p : Polarity) (m : FileMeaning) (starts : List ℕ) (t u : ℕ) → is_summed (attributes_of m) ≡ true

@@ -9,8 +9,7 @@ use Rattle.fv_canon.proofs.layout_walk.layout.Goals as goal
 
 pub returns-clause-layout : goal.returns-clause-layout
 returns-clause-layout c =
-    let ok = c.in_ok-starts.ensures.ok in
-    let laid : AreAllStarts c.args.view.now c.in_ok-starts.starts.items = rw (c.of.ensures, tree_volumes c.args.view.now) at ok in
+    let laid : AreAllStarts c.args.view.now c.in_ok-starts.starts.items = rw (c.of.ensures, tree_volumes c.args.view.now) at c.in_ok-starts.ensures.ok in
     layout_is c.args.view.now c.files-own.result.now c.in_ok-starts.starts.items c.new.result c.files-own.ensures laid c.new.ensures.own
     c.new.ensures.inner
 
@@ -28,6 +27,5 @@ returns-in_err-starts-clause-fits c fit = grind (arith, common_steps, err_is, fi
 
 pub returns-in_err-starts-clause-memory : goal.returns-in_err-starts-clause-memory
 returns-in_err-starts-clause-memory c =
-    let memory = c.in_err-starts.ensures.memory in
     rw (err_is c.from_residual.ensures.1) (λ want. starts_need_file c.args.view.now
-    ((rw (c.of.ensures, tree_volumes c.args.view.now) at memory) want))
+    ((rw (c.of.ensures, tree_volumes c.args.view.now) at c.in_err-starts.ensures.memory) want))

@@ -20,8 +20,7 @@ loop-row-preserved-in-Volume c =
 
 pub loop-row-preserved : goal.loop-row-preserved
 loop-row-preserved c =
-    let comes = c.loop-row.invariant.2 in
-    (tt, tt, rw (other_first _ _ c.in-Some.row c.in-Some.ensures.steps c.in_default.not-Volume) at comes)
+    (tt, tt, rw (other_first _ _ c.in-Some.row c.in-Some.ensures.steps c.in_default.not-Volume) at c.loop-row.invariant.2)
 
 pub returns : goal.returns
 returns c = let comes = c.loop-row.invariant.2 in (rw c.in-None.ensures.steps.0 at comes).left
