@@ -60,7 +60,6 @@ fn outcome_of(alloc: Global, start: u64, volume: &[u8]) -> Result<VolumeOutcome,
 }
 
 // Checks a volume of the image.
-#[tactic(auto, using(fv_flash::proofs::Laws::at_within))]
 fn check_at(alloc: Global, image: &[u8], volume: FoundVolume) -> Result<VolumeCheck, Fault>
     requires { VolumeAt image.now volume.offset volume.length }
     ensures start { IfOk result (λ c. c.offset ≡ volume.offset) }
