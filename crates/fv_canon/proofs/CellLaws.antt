@@ -7,6 +7,7 @@ use Rattle.std.proofs.Common.{length-append, append_assoc, slice_index, eq-eqb}
 use Rattle.fv_base.proofs.Laws.{common_steps, length-replicate, erased_byte, bytes_of, data_limit, IsBytes, bytes_append, bytes_replicate}
 use Rattle.fv_base.specs.declared.flash.FileSystem.{FileSystem}
 use Rattle.fv_base.specs.declared.flash.Polarity.{Polarity}
+use Rattle.fv_base.specs.declared.flash.Polarity.TheVariants.{Ones, Zeros}
 use Rattle.fv_base.specs.declared.flash.FileSystem.TheVariants.{Ffs3}
 use Rattle.fv_file.specs.Words.{Valid, Pad, IsCell, is_large, is_fixed, pad_kind, file_sum_right, fixed_checksum, file_sum_for, needs_large}
 use Rattle.fv_file.specs.Words.{with_large, pad_name, state_byte, file_fields, pad_fields, file_head_of, pad_head_of}
@@ -85,7 +86,8 @@ bytes_pad_head size p =
     (omega arith) (omega arith) (state_small p)
 
 pub bytes_erased : (p : Polarity) (n : ℕ) → IsBytes (replicate n (erased_byte p))
-bytes_erased p n = bytes_replicate n (erased_byte p) (grind (arith, common_steps))
+bytes_erased Ones n = bytes_replicate n (erased_byte Ones) (omega arith)
+bytes_erased Zeros n = bytes_replicate n (erased_byte Zeros) (omega arith)
 
 pub bytes_pad : (p : Polarity) (size : ℕ) → IsBytes (pad_bytes p size)
 unfolding pad_bytes
