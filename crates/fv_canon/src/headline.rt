@@ -43,7 +43,6 @@ pub fn data_are_aligned()
 /// extended header, the pad that holds it is one of these pads. Each volume inside is its own
 /// canonical image, so this is true at every level. (PI specification, volume 3, sections 3.2.1.1
 /// and 3.2.3.1.)
-#[tactic(auto, using(crate::proofs::SumRightLaws::sums_are_right))]
 pub fn sums_are_right()
     ensures { SumsAreRight }
 {}
