@@ -2,18 +2,18 @@
 -- 1. A storable file has a header that is read again, and the right file checksum (`sum_is_right`). So with its filler
 --    it is a cell (`file_cell`), of a known length (`length-stored`).
 -- 2. A pad is a cell too (`pad_cell`, `length-pad`).
-use Rattle.std.proofs.Common.{◌≡◌, ◌≢◌, ◌≤◌, ◌<◌, ◌+◌, ◌-◌, ◌%◌, ℕ, ◌++◌, Bool, true, false, List, length, replicate, refl, sym, ap, ◌∙◌, subst}
-use Rattle.std.proofs.Common.{arith, length-append, append_assoc, slice_index, eq-eqb}
+use Rattle.std.proofs.Common.{◌≡◌, ◌≢◌, ◌≤◌, ◌<◌, ◌+◌, ◌%◌, ℕ, ◌++◌, Bool, true, false, List, length, replicate, refl, sym, ap, ◌∙◌, arith}
+use Rattle.std.proofs.Common.{length-append, append_assoc, slice_index, eq-eqb}
 use Rattle.fv_base.proofs.Laws.{common_steps, length-replicate, erased_byte, bytes_of, data_limit, IsBytes, bytes_append, bytes_replicate}
 use Rattle.fv_base.specs.declared.flash.FileSystem.{FileSystem}
 use Rattle.fv_base.specs.declared.flash.Polarity.{Polarity}
-use Rattle.fv_base.specs.declared.flash.FileSystem.TheVariants.{Ffs3}
 use Rattle.fv_base.specs.declared.flash.Polarity.TheVariants.{Ones, Zeros}
+use Rattle.fv_base.specs.declared.flash.FileSystem.TheVariants.{Ffs3}
 use Rattle.fv_file.specs.Words.{Valid, Pad, IsCell, is_large, is_fixed, pad_kind, file_sum_right, fixed_checksum, file_sum_for, needs_large}
 use Rattle.fv_file.specs.Words.{with_large, pad_name, state_byte, file_fields, pad_fields, file_head_of, pad_head_of}
 use Rattle.fv_file.specs.declared.head.FileHead.{FileHead}
 use Rattle.fv_file.proofs.Laws.{bytes_header, complement_small, file_written, fixed_with, head_of_file, head_of_pad, length-header, pad_written}
-use Rattle.fv_file.proofs.Laws.{set_large, state_small, summed_with, with_large_small}
+use Rattle.fv_file.proofs.Laws.{state_small, with_large_is, summed_with, with_large_small}
 use Rattle.fv_canon.specs.Words.{StoredFile, stored_len, head_len_for, stored_bytes, pad_bytes}
 
 -- ---- a file
@@ -38,10 +38,6 @@ stored_header p f = file_head_of f.name f.kind (record { 0 = f.attributes }) (le
 abbrev pub stored_head : Polarity → StoredFile → FileHead
 stored_head p f = file_fields f.name f.kind (record { 0 = f.attributes }) (length f.payload) (file_sum_for f.attributes f.payload)
     (slice_index (stored_header p f) 16)
-
-large_back : (l : Bool) (a : ℕ) → is_large a ≡ false → is_large (with_large l a) ≡ l
-large_back true a h = set_large a h
-large_back false a h = h
 
 -- the written file checksum is right
 sum_is_right : (l : Bool) (a : ℕ) (payload : List ℕ) → is_large a ≡ false
@@ -68,16 +64,14 @@ pub file_cell : (system : FileSystem) (p : Polarity) (f : StoredFile) → Storab
 unfolding stored_bytes
 file_cell system p f k at filler few multiple =
     let n : ℕ = length f.payload in
-    let fs : ℕ = file_sum_for f.attributes f.payload in
     let h : List ℕ = stored_header p f in
-    let large : Bool = needs_large n in
-    let written = file_written p f.name f.kind (record { 0 = f.attributes }) n fs h k.name k.short k.most (bytes_stored_header system p f k) refl in
-    subst (λ (x : List ℕ). IsCell system p (Valid at (stored_head p f) f.payload) x) (sym (append_assoc h f.payload filler))
-    ((head_of_file p (stored_head p f) h written refl) system at f.payload filler (λ e. k.large (sym (large_back large f.attributes k.short) ∙ e))
-    (ap (λ (m : ℕ). m + n) (sym (length-stored_header system p f k))) (record {
+    let written = file_written p f.name f.kind (record { 0 = f.attributes }) n (file_sum_for f.attributes f.payload) h k.name k.short k.most
+    (bytes_stored_header system p f k) refl in
+    rw (append_assoc h f.payload filler) (head_of_file p (stored_head p f) h written refl system at f.payload filler
+    (λ e. k.large (sym (with_large_is (needs_large n) f.attributes k.short) ∙ e)) (ap (λ (m : ℕ). m + n) (sym (length-stored_header system p f k))) (record {
       kind = k.kind;
-      moves = fixed_with large f.attributes k.short ∙ k.moves;
-      file_sum = sum_is_right large f.attributes f.payload k.short;
+      moves = fixed_with (needs_large n) f.attributes k.short ∙ k.moves;
+      file_sum = sum_is_right (needs_large n) f.attributes f.payload k.short;
     }) few multiple)
 
 pub length-stored : (system : FileSystem) (p : Polarity) (f : StoredFile) → Storable system f → length (stored_bytes p f) ≡ stored_len f
@@ -112,7 +106,5 @@ pub pad_cell : (system : FileSystem) (p : Polarity) (size : ℕ) (payload filler
     → IsCell system p (Pad at (pad_fields size (slice_index (pad_head_of size p) 16)) payload) ((pad_head_of size p ++ payload) ++ filler)
 pad_cell system p size payload filler most long few multiple at =
     let h : List ℕ = pad_head_of size p in
-    let head : FileHead = pad_fields size (slice_index h 16) in
-    let cell = head_of_pad p head h (pad_written p size h most (bytes_pad_head size p) refl) refl refl refl in
-    subst (IsCell system p (Pad at head payload)) (sym (append_assoc h payload filler))
-    (cell system at payload filler (omega (arith, length-pad_head size p, long)) few multiple)
+    let cell = head_of_pad p (pad_fields size (slice_index h 16)) h (pad_written p size h most (bytes_pad_head size p) refl) refl refl refl in
+    rw (append_assoc h payload filler) (cell system at payload filler (omega (arith, length-pad_head size p, long)) few multiple)

@@ -1,6 +1,6 @@
 -- No two current files of a body have the same name, and all files of a written body are current.
-use Rattle.std.proofs.Common.{◌≡◌, ◌+◌, ℕ, [], ◌∷◌, ◌++◌, true, false, List, refl, ap, map, not, arith}
-use Rattle.fv_base.proofs.Laws.{common_steps, filter, list_any, bytes_eq, bytes_of, up_to_8, or_both, or_parts}
+use Rattle.std.proofs.Common.{◌≡◌, ◌+◌, ℕ, [], ◌∷◌, ◌++◌, false, List, refl, ap, map, not, arith, append_assoc}
+use Rattle.fv_base.proofs.Laws.{common_steps, AllByRecursion, filter, list_any, bytes_eq, bytes_of, up_to_8, or_both, or_parts}
 use Rattle.std.proofs.lemmas.Bool.{and_right, false_from_ne_true}
 use Rattle.fv_base.specs.declared.flash.Polarity.{Polarity}
 use Rattle.fv_placement.specs.Words.{StartsFollow}
@@ -12,45 +12,34 @@ use Rattle.fv_tree.proofs.Laws.{names_differ, same_name_back}
 
 -- ---- names
 abbrev pub names_in : List FileForm → List (List ℕ)
-names_in [] = []
-names_in (f ∷ fs) = bytes_of f.head.name ∷ names_in fs
+names_in fs = map (λ f. bytes_of f.head.name) fs
 
 abbrev pub names_of : List StoredFile → List (List ℕ)
-names_of [] = []
-names_of (f ∷ fs) = bytes_of f.name ∷ names_of fs
+names_of fs = map (λ f. bytes_of f.name) fs
 
 -- no two of the names are equal
 abbrev pub NamesApart : List (List ℕ) → Type 0
 NamesApart [] = Unit {0}
 NamesApart (n ∷ ns) = (list_any (bytes_eq n) ns ≡ false) × NamesApart ns
 
-none_named : (f : FileForm) (xs : List FileForm)
-    → ((mid : List FileForm) (g : FileForm) (after : List FileForm) → xs ≡ mid ++ (g ∷ after) → same_name f g ≡ true → ⊥)
+-- no two of the names of current files are equal
+none_named : (fs before : List FileForm) (f : FileForm) (mid xs : List FileForm) → NoTwins fs → current_in fs ≡ before ++ (f ∷ (mid ++ xs))
     → list_any (bytes_eq (bytes_of f.head.name)) (names_in xs) ≡ false
-none_named f [] differ = refl
-none_named f (x ∷ xs) differ =
-    or_both (same_name f x) (list_any (bytes_eq (bytes_of f.head.name)) (names_in xs))
-    (false_from_ne_true (same_name f x) (differ [] x xs refl))
-    (none_named f xs (λ mid g after is. differ (x ∷ mid) g after (ap (λ (l : List FileForm). x ∷ l) is)))
+none_named fs before f mid [] none is = refl
+none_named fs before f mid (x ∷ xs) none is = or_both (same_name f x) (list_any (bytes_eq (bytes_of f.head.name)) (names_in xs))
+    (false_from_ne_true (same_name f x) (λ same. names_differ fs before f mid x xs none is same (same_name_back f x same)))
+    (none_named fs before f (mid ++ x ∷ []) xs none (rw append_assoc is))
 
--- if no two files have the same name, no two of their names are equal
-names_apart : (xs : List FileForm)
-    → ((before : List FileForm) (f : FileForm) (mid : List FileForm) (g : FileForm) (after : List FileForm)
-    → xs ≡ before ++ (f ∷ (mid ++ (g ∷ after))) → same_name f g ≡ true → ⊥) → NamesApart (names_in xs)
-names_apart [] differ = tt
-names_apart (x ∷ xs) differ = (
-  none_named x xs (λ mid g after is. differ [] x mid g after (ap (λ (l : List FileForm). x ∷ l) is)),
-  names_apart xs (λ before f mid g after is. differ (x ∷ before) f mid g after (ap (λ (l : List FileForm). x ∷ l) is)),
-)
+names_apart : (fs before xs : List FileForm) → NoTwins fs → current_in fs ≡ before ++ xs → NamesApart (names_in xs)
+names_apart fs before [] none is = tt
+names_apart fs before (x ∷ xs) none is = (none_named fs before x [] xs none is, names_apart fs (before ++ x ∷ []) xs none (rw append_assoc is))
 
 pub current_apart : (fs : List FileForm) → NoTwins fs → NamesApart (names_in (current_in fs))
-current_apart fs none =
-    names_apart (current_in fs) (λ before f mid g after is same. names_differ fs before f mid g after none is same (same_name_back f g same))
+current_apart fs none = names_apart fs [] (current_in fs) none refl
 
 -- ---- files of a written body
 abbrev pub NoneMarked : List FileForm → Type 0
-NoneMarked [] = Unit {0}
-NoneMarked (f ∷ fs) = (is_marked f.head.state ≡ false) × NoneMarked fs
+NoneMarked fs = AllByRecursion (λ f. is_marked f.head.state ≡ false) fs
 
 pub forms_unmarked : (p : Polarity) (fs : List StoredFile) (ss : List ℕ) → NoneMarked (forms_of p fs ss)
 forms_unmarked p (f ∷ fs) (s ∷ ss) = (refl, forms_unmarked p fs ss)

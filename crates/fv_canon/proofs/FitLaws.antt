@@ -1,15 +1,14 @@
 -- A volume fits exactly if it has a layout, which places its files and the files of each volume inside. It is rejected
 -- exactly if it does not fit, with a fault of the layout at offset 0.
-use Rattle.std.proofs.Common.{◌≡◌, ◌≢◌, ◌⊎◌, inl, inr, ◌+◌, ℕ, List, [], ◌∷◌, refl, subst, sym, ◌∙◌}
-use Rattle.fv_base.proofs.Laws.{arith, common_steps}
+use Rattle.std.proofs.Common.{◌≡◌, ◌≢◌, ◌⊎◌, inl, inr, ⊎_elim, ◌+◌, ℕ, List, [], ◌∷◌, refl, subst, sym}
+use Rattle.fv_base.proofs.Laws.{arith, common_steps, or_more}
 use Rattle.fv_base.specs.declared.fault.Fault.{Fault}
 use Rattle.fv_base.specs.declared.fault.FaultKind.{FaultKind}
 use Rattle.fv_base.specs.declared.fault.FaultKind.TheVariants as kinds
 use Rattle.fv_head.specs.Words.{first_edge}
-use Rattle.fv_placement.specs.Words.{IsFirstPlacement}
 use Rattle.fv_placement.proofs.Laws.{agree, placed_or_not, top_none}
 use Rattle.fv_tree.specs.Words.{Meaning, head_of, length_of, Inside, volumes_in}
-use Rattle.fv_canon.specs.Words.{IsOfLayout, Rejects, WhatDoesNotFitIsRejected, placement_items, AreStarts, IsPlaced, Fits, AreLeast, StartsOfEach}
+use Rattle.fv_canon.specs.Words.{IsOfLayout, WhatDoesNotFitIsRejected, placement_items, AreStarts, IsPlaced, Fits, AreLeast, StartsOfEach}
 use Rattle.fv_canon.specs.Words.{AreAllStarts, layout_fault, AllFit, UnfitHere, FirstUnplaced, Unfit}
 use Rattle.fv_canon.proofs.VolumeListLaws.{fit_laid}
 
@@ -29,8 +28,7 @@ unfit_is m depth f unfit = unfit_has (λ g. IsOfLayout g.kind) (λ d. inl refl) 
 
 -- out of memory is not a fault of the layout
 pub not_layout : (kind : FaultKind) → IsOfLayout kind → kind ≢ kinds.OutOfMemory
-not_layout kind (inl is) same = let never : kinds.TopAlignment ≡ kinds.OutOfMemory = sym is ∙ same in cc
-not_layout kind (inr is) same = let never : kinds.NoRoom ≡ kinds.OutOfMemory = sym is ∙ same in cc
+not_layout kind layout = grind (arith, common_steps)
 
 -- the fault of a volume that does not fit is at offset 0
 pub unfit_place : (m : Meaning) (depth : ℕ) (f : Fault) → Unfit m depth f → f.place.offset ≡ 0
@@ -57,10 +55,7 @@ unfit_none m depth f un fit = first_none (volumes_in m) depth f un fit
 
 -- a volume has at most one fault of the layout
 here_fault : (m : Meaning) (depth : ℕ) (f g : Fault) → UnfitHere m depth f → UnfitHere m depth g → f ≡ g
-here_fault m depth f g (inl (off, is)) (inl (off', is')) = is ∙ sym is'
-here_fault m depth f g (inl (off, is)) (inr (short, is')) = absurd (short.top_is_aligned off)
-here_fault m depth f g (inr (short, is)) (inl (off, is')) = absurd (short.top_is_aligned off)
-here_fault m depth f g (inr (short, is)) (inr (short', is')) = is ∙ sym is'
+here_fault m depth f g un other = grind (arith, common_steps)
 
 pub first_fault : (vs : List Inside) (depth : ℕ) (f g : Fault) → FirstUnplaced vs depth f → FirstUnplaced vs depth g → f ≡ g
 first_fault [] depth f g un other = absurd un
@@ -77,15 +72,11 @@ least_are (v ∷ vs) starts (own, inner, text, (least, placed), laid) =
 
 -- ---- a layout or a fault
 
-here_or : (m : Meaning) (depth : ℕ) → ((starts : List ℕ)
-    × IsFirstPlacement (length_of m) (first_edge (head_of m) (head_of m).ext) (placement_items m) starts) ⊎ ((f : Fault) × UnfitHere m depth f)
-here_or m depth = elim (placed_or_not (length_of m) (first_edge (head_of m) (head_of m).ext) (placement_items m)) [
-  | inl placed ↦ inl placed
-  | inr other ↦ elim other [
-    | inl off ↦ inr (layout_fault kinds.TopAlignment depth, inl (off, refl))
-    | inr short ↦ inr (layout_fault kinds.NoRoom depth, inr (short, refl))
-  ]
-]
+here_or : (m : Meaning) (depth : ℕ) → ((starts : List ℕ) × AreStarts m starts) ⊎ ((f : Fault) × UnfitHere m depth f)
+here_or m depth = or_more (placed_or_not (length_of m) (first_edge (head_of m) (head_of m).ext) (placement_items m)) (λ other. elim other [
+  | inl off ↦ (layout_fault kinds.TopAlignment depth, inl (off, refl))
+  | inr short ↦ (layout_fault kinds.NoRoom depth, inr (short, refl))
+])
 
 all_or : (vs : List Inside) (depth : ℕ) → AllFit vs ⊎ ((f : Fault) × FirstUnplaced vs depth f)
 all_or [] depth = inl tt
@@ -97,7 +88,4 @@ fits_or m = all_or (volumes_in m) 0
 
 -- an input that does not fit is rejected with NoRoom or TopAlignment
 pub unfit_is_refused : WhatDoesNotFitIsRejected
-unfit_is_refused input (m, d, unfit) = go (fits_or m) where
-  go : Fits m ⊎ ((f : Fault) × Unfit m 0 f) → (f : Fault) × Rejects input f × IsOfLayout f.kind
-  go (inl fits) = absurd (unfit fits)
-  go (inr (f, bad)) = (f, inr (m, d, bad), unfit_is m 0 f bad)
+unfit_is_refused input (m, d, unfit) = ⊎_elim (λ fits. absurd (unfit fits)) (λ (f, bad). (f, inr (m, d, bad), unfit_is m 0 f bad)) (fits_or m)

@@ -58,21 +58,26 @@ to_limit (suc k) n b m e d = to_limit k (suc n) b m (omega (arith, e)) (one_deep
 pub accepted : (n : ℕ) (b : List ℕ) (m : Meaning) → IsBytes b → n ≤ depth_limit → Denotes n b m → Accepted b m
 accepted n b m small l d = (small, to_limit (depth_limit - n) n b m (omega (arith, l)) d)
 
+-- ---- one reading
+
+-- bytes are a volume of at most one meaning, so two volumes mean the same exactly if their meanings are equal
+pub one_reading : (b : List ℕ) (m k : Meaning) → Accepted b m → Accepted b k → m ≡ k
+one_reading b m k (small, d) (little, e) = one_meaning 8 8 b m k d e
+
+pub same_reading : (a b : List ℕ) (m k : Meaning) → Accepted a m → Accepted b k → (MeanSame a b → m ≡ k) × (m ≡ k → MeanSame a b)
+same_reading a b m k d e =
+    (λ (j, of_a, of_b). sym (one_reading a j m of_a d) ∙ one_reading b j k of_b e, λ one. (m, d, rw one e))
+
 -- ---- the headline
-pub same_meaning_iff_same_image : SameMeaningIffSameImage
-same_meaning_iff_same_image a b image other (m, (small, means), is) (k, (little, means'), is') = (
-  λ (same : MeanSame a b).
-      let of_b : same.0 ≡ k = one_meaning 8 8 b same.0 k same.2.1 means' in
-      image_one k image other (subst (λ (j : Meaning). IsImage j image) (sym (one_meaning 8 8 a same.0 m same.1.1 means) ∙ of_b) is) is',
-  λ (same : image ≡ other).
-      let first = (image_denotes 8 m a image small means is).0 in
-      let second = (image_denotes 8 k b other little means' is').0 in
-      let one : m ≡ k = one_meaning 8 8 other m k (subst (λ (xs : List ℕ). Denotes 8 xs m) same first) second in
-      (m, (small, means), (little, subst (λ (j : Meaning). Denotes 8 b j) (sym one) means')),
-)
 
 image_read : (m : Meaning) (a image : List ℕ) → Accepted a m → IsImage m image → Accepted image m
 image_read m a image (small, means) is = let again = image_denotes 8 m a image small means is in (again.1, again.0)
+
+pub same_meaning_iff_same_image : SameMeaningIffSameImage
+same_meaning_iff_same_image a b image other (m, d, is) (k, d', is') =
+    let reading = same_reading a b m k d d' in
+    let again = λ (same : image ≡ other). one_reading other m k (rw same at (image_read m a image d is)) (image_read k b other d' is') in
+    (λ same. image_one k image other (rw (reading.0 same) at is) is', λ same. reading.1 (again same))
 
 pub image_keeps_length_and_meaning : ImageKeepsLengthAndMeaning
 image_keeps_length_and_meaning a image (m, d, is) =
@@ -84,13 +89,3 @@ image_is_its_own_image a image (m, d, is) = (m, image_read m a image d is, is)
 pub one_meaning_of : OneMeaning
 one_meaning_of m other image (n, l, b, small, d) (k, l', c, little, d') is is' =
     one_meaning k n image other m (image_denotes k other c image little d' is').0 (image_denotes n m b image small d is).0
-
--- bytes are a volume of at most one meaning, so two volumes mean the same exactly if their meanings are equal
-pub one_reading : (b : List ℕ) (m k : Meaning) → Accepted b m → Accepted b k → m ≡ k
-one_reading b m k (small, d) (little, e) = one_meaning 8 8 b m k d e
-
-pub same_reading : (a b : List ℕ) (m k : Meaning) → Accepted a m → Accepted b k → (MeanSame a b → m ≡ k) × (m ≡ k → MeanSame a b)
-same_reading a b m k d e = (
-  λ (same : MeanSame a b). sym (one_reading a same.0 m same.1 d) ∙ one_reading b same.0 k same.2 e,
-  λ (one : m ≡ k). (m, d, subst (λ (j : Meaning). Accepted b j) (sym one) e),
-)

@@ -3,16 +3,16 @@
 --    image has at most one list of checks (`checks_one`).
 -- 2. If a volume is not read, either it is rejected or memory ran out (`ran_out_only`, `is_rejected`).
 -- 3. All volumes are canonical exactly if `normalise --all` does not change the image (`canonical_images_stay`).
-use Rattle.std.proofs.Common.{◌≡◌, ◌≢◌, ◌⊎◌, ℕ, [], ◌∷◌, List, map, refl, sym, ap, ◌∙◌, subst, arith, inl, inr}
-use Rattle.fv_base.proofs.Laws.{common_steps, AllByRecursion, out_of_memory, outer_fault, depth_limit, field, first_only, First}
+use Rattle.std.proofs.Common.{◌≡◌, ◌≢◌, ◌↔◌, ◌⊎◌, ℕ, [], ◌∷◌, List, map, refl, sym, ap, ◌∙◌, subst, arith, inl, inr, ⊎_elim}
+use Rattle.fv_base.proofs.Laws.{common_steps, AllByRecursion, out_of_memory, depth_limit, field, first_only, First}
 use Rattle.fv_base.specs.declared.fault.Fault.{Fault}
 use Rattle.fv_flash.specs.Words.{VolumeAt}
 use Rattle.fv_flash.proofs.Laws.{one_found, one_length}
 use Rattle.fv_head.proofs.Laws.{one_front}
-use Rattle.fv_head.specs.declared.extent.Extent.{Extent}
 use Rattle.fv_tree.specs.Words.{moved_fault, BytesFollowVolume, IsFirstOfInput, IsFirstOfVolume, NotRead, head_of, length_of, outermost}
-use Rattle.fv_tree.proofs.Laws.{fault_refuses, fault_stands, first_once, front_of, one_meaning, stands_other}
-use Rattle.fv_canon.specs.Words.{AreCanonical, CanonicalImagesStay, ChecksImage, HasOutcome, IsChecked, IsNormalisedAt, NormalisesTo}
+use Rattle.fv_tree.proofs.Laws.{fault_refuses, first_once, front_of, one_meaning}
+use Rattle.fv_canon.specs.Words.{AreCanonical, AreChecked, CanonicalImagesStay, ChecksImage, HasOutcome, IsChecked, IsNormalisedAt, NormalisesTo}
+use Rattle.fv_canon.proofs.RejectedInputLaws.{first_reads}
 use Rattle.fv_canon.specs.declared.image_check.VolumeCheck.{VolumeCheck}
 use Rattle.fv_canon.specs.declared.image_check.VolumeOutcome.{VolumeOutcome}
 use Rattle.fv_canon.specs.declared.image_check.VolumeOutcome.TheVariants.{Canonical, NotCanonical, Rejected}
@@ -29,8 +29,7 @@ one_end : (b : List ℕ) (f g : Fault) → BytesFollowVolume b f → BytesFollow
 one_end b f g (m, d, less, is) (k, d', less', is') =
     let front = front_of depth_limit (length_of m) b m (omega (arith, less)) d.1 in
     let front' = front_of depth_limit (length_of k) b k (omega (arith, less')) d'.1 in
-    let same = one_front b (head_of m) (head_of k) d.1.extent d'.1.extent front.0 front'.0 in
-    is ∙ (ap (outer_fault kinds.Length) (sym front.1 ∙ (ap (λ (e : Extent). e.length) same.1 ∙ front'.1)) ∙ sym is')
+    let same = one_front b (head_of m) (head_of k) d.1.extent d'.1.extent front.0 front'.0 in cc
 
 -- an input has at most one first fault
 one_first : (b : List ℕ) (f g : Fault) → IsFirstOfInput b f → IsFirstOfInput b g → f ≡ g
@@ -57,43 +56,27 @@ one_check b c d same (v, has) (w, has') =
     let out : c.outcome ≡ d.outcome = one_outcome d.offset (field d.offset d.length b) c.outcome d.outcome (rw (← same, ← long) has) has' in
     λ i. record { offset = same i; length = long i; outcome = out i }
 
--- the offsets of some checks
-abbrev offsets_in : List VolumeCheck → List ℕ
-offsets_in checks = map (λ (c : VolumeCheck). c.offset) checks
-
 -- so the volumes at some places have at most one list of checks
-each_one : (b : List ℕ) (xs ys : List VolumeCheck) → offsets_in xs ≡ offsets_in ys → AllByRecursion (IsChecked b) xs
-    → AllByRecursion (IsChecked b) ys → xs ≡ ys
-each_one b [] [] at all all' = refl
-each_one b [] (y ∷ ys) at all all' = let bad : [] ≡ y.offset ∷ offsets_in ys = at in cc
-each_one b (x ∷ xs) [] at all all' = let bad : x.offset ∷ offsets_in xs ≡ [] = at in cc
-each_one b (x ∷ xs) (y ∷ ys) at (is, all) (is', all') =
-    let first : x.offset ≡ y.offset = cc in
-    let rest : offsets_in xs ≡ offsets_in ys = cc in
-    λ i. one_check b x y first is is' i ∷ each_one b xs ys rest all all' i
+each_one : (b offsets : List ℕ) (xs ys : List VolumeCheck) → AreChecked b offsets xs → AreChecked b offsets ys → xs ≡ ys
+each_one b [] [] [] has has' = refl
+each_one b (o ∷ os) (x ∷ xs) (y ∷ ys) (at, (is, all)) (at', (is', all')) =
+    λ i. one_check b x y (cc) is is' i ∷ each_one b os xs ys (cc, all) (cc, all') i
+each_one b offsets xs ys (at, all) (at', all') = cc
 
 -- so the volumes of an image have at most one list of checks
 pub checks_one : (b : List ℕ) (xs ys : List VolumeCheck) → ChecksImage b xs → ChecksImage b ys → xs ≡ ys
-checks_one b xs ys (short, offsets, found, (at, all)) (short', offsets', found', (at', all')) =
-    each_one b xs ys (at ∙ (one_found b offsets offsets' found found' ∙ sym at')) all all'
+checks_one b xs ys (short, offsets, found, are) (short', offsets', found', are') =
+    each_one b offsets xs ys are (rw (one_found b offsets' offsets found' found) at are')
 
 -- ---- 2. a volume that is rejected
 
--- the first fault of an input is not out of memory
-not_memory : (b : List ℕ) (f : Fault) → NotRead b f → f.kind ≢ kinds.OutOfMemory
-not_memory b f bad = go bad.first where
-  go : IsFirstOfInput b f → f.kind ≢ kinds.OutOfMemory
-  go (inl first) = stands_other b f kinds.OutOfMemory refl (fault_stands b f first)
-  go (inr (m, d, less, is)) = λ want. let never : kinds.Length ≡ kinds.OutOfMemory = sym (ap (λ (g : Fault). g.kind) is) ∙ want in cc
-
 -- if reading fails with a fault of the kind OutOfMemory, the fault is `out_of_memory`, so it is at offset 0 and depth 0
 pub ran_out_only : (b : List ℕ) (f : Fault) → (f ≡ out_of_memory) ⊎ NotRead b f → f.kind ≡ kinds.OutOfMemory → f ≡ out_of_memory
-ran_out_only b f why kind = first_only why (λ bad. not_memory b f bad kind)
+ran_out_only b f why kind = first_only why (λ bad. first_reads b f kinds.OutOfMemory refl bad.first kind)
 
 -- if reading fails with a fault of another kind, the bytes are rejected
 pub is_not_read : (b : List ℕ) (f : Fault) → (f ≡ out_of_memory) ⊎ NotRead b f → f.kind ≢ kinds.OutOfMemory → NotRead b f
-is_not_read b f (inl want) other = absurd (other (ap (λ (g : Fault). g.kind) want))
-is_not_read b f (inr bad) other = bad
+is_not_read b f why other = ⊎_elim (λ want. absurd (other (ap (λ (g : Fault). g.kind) want))) (λ bad. bad) why
 
 pub is_rejected : (at : ℕ) (b : List ℕ) (own f : Fault) → (own ≡ out_of_memory) ⊎ NotRead b own → own.kind ≢ kinds.OutOfMemory
     → (f ≢ out_of_memory → (own ≢ out_of_memory) × (f ≡ moved_fault at own.place.depth own)) → f.kind ≡ own.kind
@@ -102,19 +85,16 @@ is_rejected at b own f why other moved kind = grind (arith, common_steps, is_not
 
 -- ---- 3. an image whose volumes are all canonical
 
--- if all checks are Canonical, the image has the canonical image of each volume
-renewed_own : (b : List ℕ) (checks : List VolumeCheck) → AllByRecursion (IsChecked b) checks → AreCanonical checks
-    → AllByRecursion (IsNormalisedAt b b) (offsets_in checks)
-renewed_own b [] all own = tt
-renewed_own b (c ∷ cs) ((v, has), all) (is, own) = ((c.length, v, rw is at has), renewed_own b cs all own)
-
--- if each volume is its own canonical image, all checks are Canonical
-own_renewed : (b : List ℕ) (checks : List VolumeCheck) → AllByRecursion (IsChecked b) checks
-    → AllByRecursion (IsNormalisedAt b b) (offsets_in checks) → AreCanonical checks
-own_renewed b [] all renewed = tt
-own_renewed b (c ∷ cs) ((v, has), all) ((n, w, to), renewed) =
-    let own : NormalisesTo (field c.offset c.length b) (field c.offset c.length b) = rw (one_length b c.offset n c.length w v) at to in
-    (one_outcome c.offset (field c.offset c.length b) c.outcome Canonical has own, own_renewed b cs all renewed)
+-- all checks are Canonical exactly if the image has the canonical image of each volume
+each_own : (b : List ℕ) (checks : List VolumeCheck) → AllByRecursion (IsChecked b) checks
+    → AreCanonical checks ↔ AllByRecursion (IsNormalisedAt b b) (map (λ c. c.offset) checks)
+each_own b [] all = (λ own. tt, λ renewed. tt)
+each_own b (c ∷ cs) ((v, has), all) = (
+  λ own. ((c.length, v, rw own.0 at has), (each_own b cs all).0 own.1),
+  λ ((n, w, to), renewed).
+      let own : NormalisesTo (field c.offset c.length b) (field c.offset c.length b) = rw (one_length b c.offset n c.length w v) at to in
+      (one_outcome c.offset (field c.offset c.length b) c.outcome Canonical has own, (each_own b cs all).1 renewed),
+)
 
 pub canonical_images_stay : CanonicalImagesStay
-canonical_images_stay b checks (short, offsets, found, (at, all)) = grind (arith, common_steps, renewed_own, own_renewed, one_found)
+canonical_images_stay b checks (short, offsets, found, (at, all)) = grind (arith, common_steps, each_own b checks all, one_found)

@@ -1,19 +1,17 @@
 -- A volume has at most one layout.
-use Rattle.std.proofs.Common.{◌≡◌, ℕ, List, [], ◌∷◌, ◌++◌, length, take, drop, refl, sym, ap, append-nil, ◌∙◌, subst}
-use Rattle.std.proofs.lemmas.List.{take-append-drop, length-take-le, take_at}
+use Rattle.std.proofs.Common.{◌≡◌, ℕ, List, [], ◌∷◌, ◌++◌, length, take, drop, refl, sym, ap, append-nil, ◌∙◌, subst, take-append-drop}
+use Rattle.std.proofs.Common.{length-take-le, take_at}
 use Rattle.fv_tree.proofs.Laws.{files_list_back}
-use Rattle.fv_tree.specs.Words.{Meaning, Volume, FileMeaning, files_list, files_of, head_of, files_from, Inside, volumes_in, volumes_in_files}
+use Rattle.fv_tree.specs.Words.{Meaning, Volume, FileMeaning, files_list, files_of, head_of, files_from, Inside, volumes_in_files}
 use Rattle.fv_canon.specs.Words.{AreStarts, placement_items, StartsOfEach, AreAllStarts, LayoutParts, IsLayout}
 use Rattle.fv_placement.proofs.Laws.{starts_one}
 use Rattle.fv_canon.proofs.VolumeListLaws.{begins_own}
 
-starts_same : (vs : List Inside) (a b : List ℕ) → StartsOfEach AreStarts vs a → StartsOfEach AreStarts vs b → a ≡ b
+-- the volumes of a list have at most one list of starts
+pub starts_same : (vs : List Inside) (a b : List ℕ) → StartsOfEach AreStarts vs a → StartsOfEach AreStarts vs b → a ≡ b
 starts_same [] a b p q = p ∙ sym q
 starts_same (v ∷ vs) a b (own, inner, p, placed, laid) (own', inner', q, placed', laid') =
     p ∙ (λ i. starts_one _ _ (placement_items v.volume) own own' placed placed' i ++ starts_same vs inner inner' laid laid' i) ∙ sym q
-
-pub one_layout : (m : Meaning) (a b : List ℕ) → AreAllStarts m a → AreAllStarts m b → a ≡ b
-one_layout m a b p q = starts_same (volumes_in m) a b p q
 
 -- ---- a layout and its two parts
 

@@ -1,9 +1,7 @@
 -- The two loops over the rows of a part of a volume: one adds the starts of the files of each volume among the rows,
 -- the other skips these starts.
-use Rattle.std.proofs.Common.{◌≡◌, ◌≢◌, ◌<◌, ◌≤◌, ◌+◌, ℕ, [], ◌∷◌, ◌++◌, inr, ◌∙◌, suc, List, append_assoc, append-nil, length, drop, refl, sym, ap}
-use Rattle.std.proofs.Common.{subst, arith, true, false, true≢false, drop-drop}
-use Rattle.std.specs.List.{Any}
-use Rattle.fv_base.proofs.Laws.{common_steps}
+use Rattle.std.proofs.Common.{◌≡◌, ◌≢◌, ◌<◌, ◌≤◌, ℕ, [], ◌∷◌, ◌++◌, inl, inr, ◌∙◌, suc, List, append_assoc, add-zero, Any}
+use Rattle.fv_base.proofs.Laws.{common_steps, cases_lt, subst, arith, true, false, true≢false, append-nil, length, drop, refl, sym, ap}
 use Rattle.fv_base.specs.declared.fault.Fault.{Fault}
 use Rattle.fv_rows.proofs.Laws.{file_inside}
 use Rattle.fv_rows.specs.Words.{VolumeNode, FileNode, TreeRow, part_node, row_of, rows_inside}
@@ -15,7 +13,7 @@ use Rattle.fv_canon.specs.inner.ImageOf.{starts_in}
 use Rattle.fv_canon.specs.Words.{AreStarts, StartsOfEach, FirstUnplaced, UnfitHere}
 use Rattle.fv_canon.proofs.DataBodyLaws.{data_held, data_volumes}
 use Rattle.fv_canon.proofs.ImageParts.{ComesTo}
-use Rattle.fv_canon.proofs.VolumeListLaws.{begins_own}
+use Rattle.fv_canon.proofs.VolumeListLaws.{begins_own, passed_on}
 use Rattle.fv_rows.specs.declared.tree_walk.Part.TheVariants as kinds
 
 -- ---- the next row
@@ -54,7 +52,7 @@ pub collects_other : (rows left rest : List TreeRow) (starts : List ℕ) (r : Ro
     → ((v : _) → r.part ≡ kinds.Volume v → ⊥) → Collects rows left starts → Collects rows rest starts
 collects_other rows left rest starts r steps not before = grind (arith, common_steps, other_first)
 
-module _ (rows left rest : List TreeRow) (starts : List ℕ) (r : Row) (v : Meaning) (steps : left ≡ row_of r ∷ rest)
+module _ {rows left rest : List TreeRow} {starts : List ℕ} (r : Row) {v : Meaning} (steps : left ≡ row_of r ∷ rest)
     (node : part_node r.part ≡ VolumeNode v) (before : Collects rows left starts) where
   is : volumes_of left ≡ record { depth = r.nesting; volume = v } ∷ volumes_of rest
   is = volume_first left rest r v steps node
@@ -80,15 +78,9 @@ pub passed_next : (left rest : List TreeRow) (r : Row) (v : Meaning) (count : �
     → part_node r.part ≡ VolumeNode v → length (files_of v) ≡ count → ComesTo (volumes_of left) starts last
     → (count ≤ length starts) × ComesTo (volumes_of rest) (drop count starts) last
 passed_next left rest r v count starts last steps node many comes =
-    let begun = subst (λ vs. ComesTo vs starts last) (volume_first left rest r v steps node) comes in
-    let own = begins_own (record { depth = r.nesting; volume = v }) (volumes_of rest) count starts many begun.laid in (
-      own.0,
-      record {
-        laid = own.2;
-        left = drop-drop (starts_in (volumes_of rest)) count starts
-            ∙ ap (λ j. drop j starts) (ap (λ j. j + starts_in (volumes_of rest)) (sym many)) ∙ begun.left;
-      },
-    )
+    let own : Inside = record { depth = r.nesting; volume = v } in
+    let (here, behind) = passed_on (own ∷ []) (volumes_of rest) starts last (rw (volume_first left rest r v steps node) at comes) in
+    ((begins_own own [] count starts many here).0, rw (add-zero, many) at behind)
 
 -- the volumes in a file are the volumes among the rows of its contents
 pub file_volumes : (m : FileMeaning) → volumes_of (rows_inside 0 0 (FileNode m)) ≡ volumes_in_file m
@@ -109,9 +101,7 @@ starts_need_file (Volume h (MoreFiles f fs)) some none = cc
 -- if there are starts of the files of some volumes, one of these volumes has files
 pub starts_need_some : (vs : List Inside) → 0 < starts_in vs → Any (λ v. files_of v.volume ≢ []) vs
 starts_need_some [] some = absurd (omega (arith, some))
-starts_need_some (v ∷ vs) some = here (files_of v.volume) refl (λ less. starts_need_some vs less)
-  where
-    here : (fs : List FileMeaning) → files_of v.volume ≡ fs → (0 < starts_in vs → Any (λ w. files_of w.volume ≢ []) vs)
-        → Any (λ w. files_of w.volume ≢ []) (v ∷ vs)
-    here [] none rest = let (k, w, less, is, has) = rest (omega (arith, some, ap length none)) in (suc k, w, omega (arith, less), is, has)
-    here (f ∷ fs) is rest = (0, v, omega arith, refl, λ none. let bad : f ∷ fs ≡ [] = sym is ∙ none in cc)
+starts_need_some (v ∷ vs) some = elim (cases_lt 0 (length (files_of v.volume))) [
+  | inl has ↦ (0, v, omega arith, refl, λ none. omega (arith, has, ap length none))
+  | inr none ↦ let (k, w, less, is, has) = starts_need_some vs (omega (arith, some, none)) in (suc k, w, omega (arith, less), is, has)
+]

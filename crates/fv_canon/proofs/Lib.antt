@@ -17,8 +17,6 @@ pub mod LaidVolumeLaws
 pub mod Laws
 pub mod LayoutLaws
 pub mod LayoutWalkLaws
-pub mod MatchingLemmas
-pub mod NormaliseRunLaws
 pub mod OneImageLaws
 pub mod PositionLaws
 pub mod ReadLaws

@@ -5,67 +5,64 @@
 -- 2. Two lists of bytes that show the same spans are equal (`shows_one`). So bytes that show the spans are the bytes
 --    that the walk writes (`one_image`).
 use Rattle.std.proofs.Common.{◌≡◌, ℕ, ◌+◌, ◌-◌, ◌<◌, ◌≤◌, [], ◌∷◌, ◌++◌, inl, inr, List, length, take, drop, get_or, replicate, refl, sym, ◌∙◌, ap}
-use Rattle.std.proofs.Common.{subst, arith, append_assoc, length-append, zero-add, take_at, drop_at}
+use Rattle.std.proofs.Common.{arith, append_assoc, append-nil, length-append, take_at, drop_at, drop-drop, ⊎_elim}
 use Rattle.fv_base.proofs.Laws.{common_steps, get_or-take, get_or-drop, ext_get_or, AllByRecursion, cases_lt, length-replicate}
-use Rattle.std.proofs.lemmas.List.{get_or_append_left, get_or-append_right, get_or-replicate}
+use Rattle.std.proofs.lemmas.Bool.{cases_eq}
+use Rattle.std.proofs.lemmas.List.{get_or_append_left, get_or-replicate}
 use Rattle.fv_canon.specs.Words.{PlacedBytes, IsIn, ContainsSpan, ShowsPlaced, painted, InOrder}
 
--- a byte after the first of two joined lists is a byte of the second list
-get_behind : (front back : List ℕ) (k : ℕ) → length front ≤ k → get_or (front ++ back) k 0 ≡ get_or back (k - length front) 0
-get_behind front back k l = get_or-append_right front back (length front) k 0 refl l
+-- a byte at or after the offset `from` is a byte of the list without its first `from` bytes
+pub rest_at : (b : List ℕ) (from k : ℕ) → from ≤ k → get_or (drop from b) (k - from) 0 ≡ get_or b k 0
+rest_at b from k low = grind (arith, common_steps, get_or-drop)
 
--- ---- from the walk to the offsets: `front` are the bytes before e
+-- the bytes from e on begin with n erased bytes, so a byte among these is erased
+erased_at : (b more : List ℕ) (e n k erased : ℕ) → drop e b ≡ replicate n erased ++ more → e ≤ k → k < e + n → get_or b k 0 ≡ erased
+erased_at b more e n k erased is low high =
+    sym (rest_at b e k low) ∙ ap (λ l. get_or l (k - e) 0) is ∙ get_or_append_left (replicate n erased) more 0 (k - e) (omega (arith, length-replicate n erased))
+    ∙ get_or-replicate n (k - e) erased 0 (omega arith)
 
--- b shows the spans after e, and erased bytes elsewhere after e
-record ShowsFrom (erased total e : ℕ) (ps : List PlacedBytes) (b : List ℕ) : Type 0 where
-  contained : AllByRecursion (ContainsSpan b) ps
-  rest : (k : ℕ) → e ≤ k → k < total → AllByRecursion (λ p. IsIn k p → ⊥) ps → get_or b k 0 ≡ erased
-
-walk_shows : (erased total e : ℕ) (ps : List PlacedBytes) (front : List ℕ) → length front ≡ e → InOrder total e ps
-    → ShowsFrom erased total e ps (front ++ painted erased total e ps)
-walk_shows erased total e [] front l o = grind (arith, common_steps, get_behind, get_or-replicate) steps 400000
-walk_shows erased total e (p ∷ ps) front l o =
-    let gap = replicate (p.at - e) erased in
-    let behind = painted erased total (p.at + length p.bytes) ps in
-    let there : length (front ++ gap) ≡ p.at = length-append front gap ∙ there_is (length gap) (length-replicate (p.at - e) erased) in
-    let moved : front ++ ((gap ++ p.bytes) ++ behind) ≡ ((front ++ gap) ++ p.bytes) ++ behind = simp append_assoc in
-    let apart : front ++ ((gap ++ p.bytes) ++ behind) ≡ (front ++ gap) ++ (p.bytes ++ behind) = simp append_assoc in
-    let far : length ((front ++ gap) ++ p.bytes) ≡ p.at + length p.bytes =
-    length-append (front ++ gap) p.bytes ∙ ap (λ n. n + length p.bytes) there in
-    let later = walk_shows erased total (p.at + length p.bytes) ps ((front ++ gap) ++ p.bytes) far o.1 in
-    record {
-      contained = (
-        (
-          subst (λ xs. p.at + length p.bytes ≤ length xs) (sym moved) (omega (arith, length-append ((front ++ gap) ++ p.bytes) behind ∙ ap (λ n. n + length behind) far)),
-          ap (λ xs. take (length p.bytes) (drop p.at xs)) apart ∙ (ap (λ xs. take (length p.bytes) xs)
-              (drop_at (front ++ gap) (p.bytes ++ behind) p.at there) ∙ take_at p.bytes behind (length p.bytes) refl),
-        ),
-        subst (λ xs. AllByRecursion (ContainsSpan xs) ps) (sym moved) later.contained,
-      );
-      rest = λ k a b n. elim (cases_lt k p.at) [
-        | inl c ↦
-            ap (λ xs. get_or xs k 0) apart
-            ∙ (get_or_append_left (front ++ gap) (p.bytes ++ behind) 0 k (omega (arith, there, c))
-            ∙ (get_behind front gap k (omega arith)
-            ∙ get_or-replicate (p.at - e) (k - length front) erased 0 (omega (arith, o.0))))
-        | inr c ↦ elim (cases_lt k (p.at + length p.bytes)) [
-          | inl d ↦ absurd (n.0 (c, d))
-          | inr d ↦ ap (λ xs. get_or xs k 0) moved ∙ later.rest k d b n.1
-        ]
-      ];
-    }
-  where
-    there_is : (g : ℕ) → g ≡ p.at - e → length front + g ≡ p.at
-    there_is g h = omega (arith, o.0)
+dropped : (b front back : List ℕ) (e at : ℕ) → drop e b ≡ front ++ back → e + length front ≡ at → drop at b ≡ back
+dropped b front back e at is long =
+    rw (← long) (sym (drop-drop (length front) e b) ∙ ap (drop (length front)) is ∙ drop_at front back (length front) refl)
 
 pub walk_length : (erased total e : ℕ) (ps : List PlacedBytes) → InOrder total e ps → e + length (painted erased total e ps) ≡ total
 walk_length erased total e [] o = let g = length-replicate (total - e) erased in omega arith
 walk_length erased total e (p ∷ ps) o =
     grind (arith, common_steps, walk_length erased total (p.at + length p.bytes) ps o.1, length-replicate, length-append) steps 400000
 
+-- two numbers are equal if they are not apart
+pub unless_apart : (a b : ℕ) → ((a ≡ b → ⊥) → a ≡ b) → a ≡ b
+unless_apart a b same = ⊎_elim (λ e. e) same (cases_eq a b)
+
+-- ---- from the walk to the offsets
+
+-- if b has `total` bytes and is the bytes that the walk writes from e on, it shows the spans after e, and erased bytes
+-- elsewhere after e
+walk_shows : (erased total e : ℕ) (ps : List PlacedBytes) (b : List ℕ) → length b ≡ total → drop e b ≡ painted erased total e ps
+    → InOrder total e ps → AllByRecursion (ContainsSpan b) ps
+    × ((k : ℕ) → e ≤ k → k < total → AllByRecursion (λ p. IsIn k p → ⊥) ps → get_or b k 0 ≡ erased)
+walk_shows erased total e [] b long is o = (tt, λ k low high none. erased_at b [] e (total - e) k erased (is ∙ sym (append-nil (replicate (total - e) erased))) low (omega (arith, low, high)))
+walk_shows erased total e (p ∷ ps) b long is o =
+    let behind = painted erased total (p.at + length p.bytes) ps in
+    let here : drop p.at b ≡ p.bytes ++ behind = dropped b (replicate (p.at - e) erased) (p.bytes ++ behind) e p.at
+    (is ∙ append_assoc (replicate (p.at - e) erased) p.bytes behind) (omega (arith, length-replicate (p.at - e) erased, o.0)) in
+    let later = walk_shows erased total (p.at + length p.bytes) ps b long (dropped b p.bytes behind p.at (p.at + length p.bytes) here refl) o.1 in
+    let within : p.at + length p.bytes ≤ length b = omega (arith, walk_length erased total (p.at + length p.bytes) ps o.1, long) in (
+      ((within, ap (take (length p.bytes)) here ∙ take_at p.bytes behind (length p.bytes) refl), later.0),
+      λ k low high none. elim (cases_lt k p.at) [
+        | inl before ↦ erased_at b (p.bytes ++ behind) e (p.at - e) k erased (is ∙ append_assoc (replicate (p.at - e) erased) p.bytes behind) low (omega (arith, low, before))
+        | inr at ↦ elim (cases_lt k (p.at + length p.bytes)) [
+          | inl inside ↦ absurd (none.0 (at, inside))
+          | inr past ↦ later.1 k past high none.1
+        ]
+      ],
+    )
+
 pub shows_walk : (erased total : ℕ) (ps : List PlacedBytes) → InOrder total 0 ps → ShowsPlaced total erased ps (painted erased total 0 ps)
 shows_walk erased total ps o =
-    grind (arith, common_steps, walk_shows erased total 0 ps [] refl o, zero-add (length (painted erased total 0 ps)), walk_length erased total 0 ps o) steps 400000
+    let long : length (painted erased total 0 ps) ≡ total = omega (arith, walk_length erased total 0 ps o) in
+    let shown = walk_shows erased total 0 ps (painted erased total 0 ps) long refl o in
+    record { length_is = long; contained = shown.0; rest = λ k. shown.1 k (omega arith) }
 
 -- ---- only one list of bytes shows the spans
 
@@ -74,29 +71,19 @@ byte_in : (b : List ℕ) (p : PlacedBytes) (k : ℕ) → ContainsSpan b p → p.
     → get_or b k 0 ≡ get_or p.bytes (k - p.at) 0
 byte_in b p k stands low high = grind (arith, common_steps, get_or-drop, get_or-take) steps 400000
 
-same_byte : (ps : List PlacedBytes) (b c : List ℕ) (k e : ℕ) → AllByRecursion (ContainsSpan b) ps
-    → AllByRecursion (ContainsSpan c) ps → (AllByRecursion (λ p. IsIn k p → ⊥) ps → get_or b k 0 ≡ e)
-    → (AllByRecursion (λ p. IsIn k p → ⊥) ps → get_or c k 0 ≡ e) → get_or b k 0 ≡ get_or c k 0
-same_byte [] b c k e sb sc rb rc = rb tt ∙ sym (rc tt)
-same_byte (p ∷ ps) b c k e sb sc rb rc = elim (cases_lt k p.at) [
-  | inl before ↦ same_byte ps b c k e sb.1 sc.1 (λ n. rb (λ i. under i.0 before, n)) (λ n. rc (λ i. under i.0 before, n))
-  | inr low ↦ elim (cases_lt k (p.at + length p.bytes)) [
-    | inl high ↦ byte_in b p k sb.0 low high ∙ sym (byte_in c p k sc.0 low high)
-    | inr past ↦ same_byte ps b c k e sb.1 sc.1 (λ n. rb (λ i. over i.1 past, n)) (λ n. rc (λ i. over i.1 past, n))
-  ]
-]
-  where
-    under : {k a : ℕ} → a ≤ k → k < a → ⊥
-    under p q = omega arith
-
-    over : {k m : ℕ} → k < m → m ≤ k → ⊥
-    over p q = omega arith
+-- at an offset where two lists that contain the spans differ, there is no span
+none_in : (ps : List PlacedBytes) (b c : List ℕ) (k : ℕ) → AllByRecursion (ContainsSpan b) ps → AllByRecursion (ContainsSpan c) ps
+    → (get_or b k 0 ≡ get_or c k 0 → ⊥) → AllByRecursion (λ p. IsIn k p → ⊥) ps
+none_in [] b c k sb sc differ = tt
+none_in (p ∷ ps) b c k sb sc differ =
+    (λ i. differ (byte_in b p k sb.0 i.0 i.1 ∙ sym (byte_in c p k sc.0 i.0 i.1)), none_in ps b c k sb.1 sc.1 differ)
 
 pub shows_one : (total erased : ℕ) (ps : List PlacedBytes) (b c : List ℕ) → ShowsPlaced total erased ps b → ShowsPlaced total erased ps c
     → b ≡ c
 shows_one total erased ps b c p q =
-    ext_get_or 0 b c (p.length_is ∙ sym q.length_is) (λ k l. let within : k < total = subst (λ (n : ℕ). k < n) p.length_is l in
-    same_byte ps b c k erased p.contained q.contained (p.rest k within) (q.rest k within))
+    ext_get_or 0 b c (p.length_is ∙ sym q.length_is) (λ k l. unless_apart (get_or b k 0) (get_or c k 0) (λ differ.
+    let within : k < total = omega (arith, l, p.length_is) in
+    let none = none_in ps b c k p.contained q.contained differ in p.rest k within none ∙ sym (q.rest k within none)))
 
 -- so only the bytes that the walk writes show the spans
 pub one_image : (erased total : ℕ) (ps : List PlacedBytes) (b : List ℕ) → InOrder total 0 ps → ShowsPlaced total erased ps b

@@ -1,9 +1,10 @@
 -- The laws of inputs that are rejected.
-use Rattle.std.proofs.Common.{◌≡◌, ◌≢◌, ◌≤◌, ℕ, ◌⊎◌, List, arith, length, refl, sym, ap, subst, inl, inr}
-use Rattle.fv_base.proofs.Laws.{common_steps, or_more, first_only, out_of_memory}
+use Rattle.std.proofs.Common.{◌≡◌, ◌≢◌, ◌≤◌, ℕ, ◌⊎◌, ⊎_elim, List, arith, length, refl, sym, ap, ◌∙◌, subst, inl, inr, false}
+use Rattle.fv_base.proofs.Laws.{or_more, first_only, out_of_memory, up_is_not_down}
+use Rattle.fv_base.specs.declared.fault.FaultKind.{FaultKind}
 use Rattle.fv_base.specs.declared.fault.Fault.{Fault}
 use Rattle.fv_tree.specs.Words.{Accepted, IsFirstOfInput, NotRead, Meaning, volumes_in}
-use Rattle.fv_tree.proofs.Laws.{IsOfInput, fault_stands, first_within, stands_other}
+use Rattle.fv_tree.proofs.Laws.{IsOfInput, is_reading, fault_stands, first_within, stands_other}
 use Rattle.fv_canon.specs.Words.{NormalisesTo, IsNotVolume, IsOfLayout, IsUnfit, NotPlaced, Rejects, OnlyWhatDoesNotFitIsRejected, Fits, Unfit}
 use Rattle.fv_canon.proofs.FitLaws.{not_layout, unfit_has, unfit_is, unfit_none, unfit_place}
 use Rattle.fv_canon.proofs.InsideImageLaws.{image_fits as has_image_fits}
@@ -38,19 +39,20 @@ unfit_kind v f (inr unfit) = unfit_has (λ g. IsOfInput g.kind) (λ d. (λ e. cc
 
 -- the fault with which an input is rejected lies within the input or at its end
 pub refused_within : (b : List ℕ) (e : Fault) → Rejects b e → e.place.offset ≤ length b
-refused_within b e (inl bad) = go bad.first where
-  go : IsFirstOfInput b e → e.place.offset ≤ length b
-  go (inl first) = (first_within b e first).0
-  go (inr (m, accepted, less, is)) = subst (λ (g : Fault). g.place.offset ≤ length b) (sym is) (omega (arith, less))
+refused_within b e (inl bad) =
+    ⊎_elim (λ first. (first_within b e first).0) (λ (m, accepted, less, is). rw is (omega (arith, less))) bad.first
 refused_within b e (inr (m, accepted, unfit)) = omega (arith, unfit_place m 0 e unfit)
 
 -- ---- which inputs are rejected with which kind of fault
 
--- the first fault of an input is not a fault of the layout
+-- the first fault of an input has a kind of the faults of reading, so it is not a fault of the layout
+pub first_reads : (b : List ℕ) (f : Fault) (k : FaultKind) → is_reading k ≡ false → IsFirstOfInput b f → f.kind ≢ k
+first_reads b f k other (inl first) = stands_other b f k other (fault_stands b f first)
+first_reads b f k other (inr (m, d, less, is)) = λ same.
+    up_is_not_down (is_reading k) (sym (ap is_reading same) ∙ ap (λ (g : Fault). is_reading g.kind) is) other
+
 first_kind : (b : List ℕ) (f : Fault) → IsFirstOfInput b f → IsOfLayout f.kind → ⊥
-first_kind b f (inl first) (inl top) = stands_other b f kinds.TopAlignment refl (fault_stands b f first) top
-first_kind b f (inl first) (inr room) = stands_other b f kinds.NoRoom refl (fault_stands b f first) room
-first_kind b f (inr (m, d, less, is)) layout = grind (arith, common_steps) steps 400000
+first_kind b f first layout = ⊎_elim (first_reads b f kinds.TopAlignment refl first) (first_reads b f kinds.NoRoom refl first) layout
 
 -- an input that is rejected with a fault of the layout does not fit; an input that is rejected with another fault is
 -- not a volume

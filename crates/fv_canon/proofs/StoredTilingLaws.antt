@@ -6,7 +6,7 @@ use Rattle.std.proofs.Common.{sym, ap, ◌∙◌, subst, arith, length-append, a
 use Rattle.fv_base.proofs.Laws.{common_steps, AllByRecursion, length-replicate, alignment_of, AllAre, erased_byte, up_to_8, all-of_replicate}
 use Rattle.fv_base.specs.declared.flash.FileSystem.{FileSystem}
 use Rattle.fv_base.specs.declared.flash.Polarity.{Polarity}
-use Rattle.fv_file.specs.Words.{CellForm, Valid, Pad, Free, IsCell, Tiles, attribute_bits, is_large, fixed_checksum, pad_fields, pad_head_of}
+use Rattle.fv_file.specs.Words.{CellForm, Valid, Pad, Free, IsCell, Tiles, offset_of, is_free, attribute_bits, is_large, fixed_checksum, pad_fields, pad_head_of}
 use Rattle.fv_file.proofs.Laws.{alignment_with}
 use Rattle.fv_placement.specs.Words.{StartsFollow}
 use Rattle.fv_tree.specs.Words.{FileForm, files_in}
@@ -40,9 +40,6 @@ pub record Tiled (system : FileSystem) (p : Polarity) (at : ℕ) (b : List ℕ) 
   pub erased : AllByRecursion (PadErased p) cells
   pub fixed : AllByRecursion PadFixed cells
 
-pub never : {A : Type 0} → false ≡ true → A
-never e = absurd cc
-
 -- ---- a gap
 
 pad_tiles : (system : FileSystem) (p : Polarity) (size at : ℕ) (rest : List ℕ) (forms : List FileForm) → 24 ≤ size → size ≤ 0xffffff
@@ -53,12 +50,10 @@ pad_tiles system p size at rest forms least most multiple behind =
     let payload : List ℕ = replicate (size - 24) (erased_byte p) in
     let cell : CellForm = Pad at (pad_fields size (slice_index (pad_head_of size p) 16)) payload in
     let long : 24 + length payload ≡ size = omega (arith, least, length-replicate (size - 24) (erased_byte p)) in
-    let is = subst (IsCell system p cell) (append-nil (pad_bytes p size)) (pad_cell system p size payload [] most long (omega arith)
-    (omega (arith, multiple)) at) in
-    let later = subst (λ (n : ℕ). Tiles system p (at + n) behind.cells rest) (sym (length-pad p size least)) behind.tiles in
+    let is = rw append-nil at (pad_cell system p size payload [] most long (omega arith) (omega (arith, multiple)) at) in
     record {
       cells = cell ∷ behind.cells;
-      tiles = (pad_bytes p size, rest, refl, is, refl, λ e. never e, later);
+      tiles = (pad_bytes p size, rest, refl, is, refl, λ e. let bad : false ≡ true = e in cc, rw (length-pad p size least) behind.tiles);
       files_are = behind.files_are;
       aligned = behind.aligned;
       erased = (all-of_replicate (erased_byte p) (size - 24), behind.erased);
@@ -115,6 +110,18 @@ data_aligned : (p : Polarity) (f : StoredFile) (s : ℕ) → is_large f.attribut
     → (s + (stored_head p f).header_len) % alignment_of (attribute_bits (stored_head p f).attributes) ≡ 0
 data_aligned p f s short h = grind (arith, common_steps, alignment_with)
 
+-- a file or a pad with the filler after it is a cell, and cells tile the bytes after the filler
+pub cell_tiles : (system : FileSystem) (p : Polarity) (at end : ℕ) (c : CellForm) (x rest : List ℕ) (cells : List CellForm)
+    → at % 8 ≡ 0 → at + length x ≡ end → offset_of c ≡ at → is_free c ≡ false
+    → ((filler : List ℕ) → length filler < 8 → (length x + length filler) % 8 ≡ 0 → IsCell system p c (x ++ filler))
+    → Tiles system p (up_to_8 end) cells rest
+    → Tiles system p at (c ∷ cells) (x ++ (replicate (up_to_8 end - end) (erased_byte p) ++ rest))
+cell_tiles system p at end c x rest cells eighth long place kept cell more =
+    let filler : List ℕ = replicate (up_to_8 end - end) (erased_byte p) in
+    let short : length filler ≡ up_to_8 end - end = length-replicate (up_to_8 end - end) (erased_byte p) in
+    let last : at + length (x ++ filler) ≡ up_to_8 end = omega (arith, length-append x filler) in
+    (x ++ filler, rest, sym (append_assoc x filler rest), cell filler (omega arith) (omega arith), place, λ e. cc, rw last more)
+
 pub body_tiles : (system : FileSystem) (p : Polarity) (total e : ℕ) (fs : List StoredFile) (ss : List ℕ) → total % 8 ≡ 0 → e % 8 ≡ 0
     → AllByRecursion (Storable system) fs → StartsFollow total e (map stored_item fs) ss
     → Tiled system p e (files_bytes p total e fs ss) (forms_of p fs ss)
@@ -122,20 +129,14 @@ body_tiles system p total e [] [] h m all follow = free_tiles system p e (total 
 body_tiles system p total e (f ∷ fs) (s ∷ ss) h m all follow =
     let a = apart e s m follow.0.lawful.eighth follow.0.lawful.gap in
     let x : ℕ = s + stored_len f in
-    let filler : List ℕ = replicate (up_to_8 x - x) (erased_byte p) in
-    let fill = filler_is x in
-    let short : length filler ≡ up_to_8 x - x = length-replicate (up_to_8 x - x) (erased_byte p) in
-    let behind = body_tiles system p total (up_to_8 x) fs ss h fill.2 all.1 follow.1 in
+    let behind = body_tiles system p total (up_to_8 x) fs ss h (filler_is x).2 all.1 follow.1 in
     let rest : List ℕ = files_bytes p total (up_to_8 x) fs ss in
-    let cell = file_cell system p f all.0 s filler (subst (λ (n : ℕ). n < 8) (sym short) fill.0)
-    (omega (arith, follow.0.lawful.eighth, fill.2, ap (λ (n : ℕ). x + n) short ∙ fill.1)) in
-    let place : s + length (stored_bytes p f ++ filler) ≡ up_to_8 x =
-    omega (arith, length-append (stored_bytes p f) filler, length-stored system p f all.0, ap (λ (n : ℕ). x + n) short ∙ fill.1) in
-    let later = subst (λ (n : ℕ). Tiles system p n behind.cells rest) (sym place) behind.tiles in
-    gap_tiles system p (s - e) e (stored_bytes p f ++ (filler ++ rest)) (forms_of p (f ∷ fs) (s ∷ ss)) a.0 a.1
-    (subst (λ (k : ℕ). Tiled system p k (stored_bytes p f ++ (filler ++ rest)) (forms_of p (f ∷ fs) (s ∷ ss))) (sym a.2) (record {
-      cells = Valid s (stored_head p f) f.payload ∷ behind.cells;
-      tiles = (stored_bytes p f ++ filler, rest, sym (append_assoc (stored_bytes p f) filler rest), cell, refl, λ e. never e, later);
+    let cell = Valid s (stored_head p f) f.payload in
+    gap_tiles system p (s - e) e (stored_bytes p f ++ (replicate (up_to_8 x - x) (erased_byte p) ++ rest)) (forms_of p (f ∷ fs) (s ∷ ss)) a.0 a.1
+    (rw a.2 (record {
+      cells = cell ∷ behind.cells;
+      tiles = cell_tiles system p s x cell (stored_bytes p f) rest behind.cells follow.0.lawful.eighth (ap (λ (n : ℕ). s + n) (length-stored system p f all.0))
+          refl refl (λ filler few multiple. file_cell system p f all.0 s filler few (rw (length-stored system p f all.0) at multiple)) behind.tiles;
       files_are = ap (λ (xs : List FileForm). record { offset = s; head = stored_head p f; payload = f.payload } ∷ xs) behind.files_are;
       aligned = (data_aligned p f s all.0.short follow.0.lawful.aligned, behind.aligned);
       erased = (tt, behind.erased);

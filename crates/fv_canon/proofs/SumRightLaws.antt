@@ -5,9 +5,8 @@
 -- 2. The pad that contains the extended header is such a cell, so such cells tile the bytes after the header
 --    (`rest_summed`).
 -- 3. So all checksums of an image are right (`sums_are_right`).
-use Rattle.std.proofs.Common.{◌≡◌, ◌<◌, ◌+◌, ◌-◌, ℕ, [], ◌∷◌, ◌++◌, List, length, take, drop, replicate, refl, sym, ap, ◌∙◌, subst, arith}
-use Rattle.std.proofs.Common.{length-append, append_assoc, slice_index, Option, None, Some, drop-drop, drop_at, take_at}
-use Rattle.fv_base.proofs.Laws.{common_steps, AllByRecursion, length-replicate, erased_byte, up_to_8}
+use Rattle.std.proofs.Common.{◌≡◌, ◌+◌, ◌-◌, ℕ, [], ◌∷◌, ◌++◌, List, length, take, drop, replicate, refl, sym, ap, ◌∙◌, arith}
+use Rattle.fv_base.proofs.Laws.{common_steps, AllByRecursion, erased_byte, append_assoc, slice_index, Option, None, Some, drop-drop, drop_at, take_at}
 use Rattle.fv_base.specs.declared.flash.FileSystem.{FileSystem}
 use Rattle.fv_base.specs.declared.flash.Polarity.{Polarity}
 use Rattle.fv_file.specs.Words.{CellForm, Valid, Pad, IsCell, IsFilled, Tiles, offset_of, header_sum_of, pad_fields, pad_head_of}
@@ -20,7 +19,7 @@ use Rattle.fv_canon.specs.Words.{CellSums, SumsAreRight, ext_pad, used_size}
 use Rattle.fv_canon.specs.inner.ImageOf.{files_bytes}
 use Rattle.fv_canon.proofs.CellLaws.{pad_cell}
 use Rattle.fv_canon.proofs.PlacedBytesLaws.{first_is, length-ext_pad, volume_shows}
-use Rattle.fv_canon.proofs.StoredTilingLaws.{PadFixed, body_tiles, filler_is, never}
+use Rattle.fv_canon.proofs.StoredTilingLaws.{PadFixed, body_tiles, cell_tiles}
 use Rattle.fv_canon.proofs.VolumeImageLaws.{known, image_front, streams_again}
 
 -- ---- cells that tile bytes
@@ -49,10 +48,8 @@ tiles_sums system p at (c ∷ cs) b image (x, rest, text, cell, place, last, mor
 -- ---- the pad that contains the extended header
 
 -- cells tile the bytes, and the file checksum of each pad is 0xAA
-record Summed (system : FileSystem) (p : Polarity) (at : ℕ) (b : List ℕ) : Type 0 where
-  pub cells : List CellForm
-  pub tiles : Tiles system p at cells b
-  pub fixed : AllByRecursion PadFixed cells
+abbrev Summed : FileSystem → Polarity → ℕ → List ℕ → Type 0
+Summed system p at b = (cells : List CellForm) × Tiles system p at cells b × AllByRecursion PadFixed cells
 
 -- after the header come the pad with the extended header, if there is one, and then the files; cells with right
 -- checksums tile these bytes
@@ -61,24 +58,14 @@ rest_summed : (system : FileSystem) (p : Polarity) (h : HeadFields) (x : Option 
     → Summed system p (header_len_of h) (ext_pad p x used ++ (replicate (first_edge h x - canonical_end h x) (erased_byte p) ++ files))
 unfolding ext_pad
 rest_summed system p h None used files read behind = grind (arith, common_steps) steps 400000
-rest_summed system p h (Some x) used files read behind =
-    let end : ℕ = canonical_end h (Some x) in
-    let filler : List ℕ = replicate (up_to_8 end - end) (erased_byte p) in
-    let pad : List ℕ = ext_pad p (Some x) used in
-    let fill = filler_is end in
-    let short : length filler ≡ up_to_8 end - end = length-replicate (up_to_8 end - end) (erased_byte p) in
-    let few : length filler < 8 = subst (λ (n : ℕ). n < 8) (sym short) fill.0 in
-    let edge : end + length filler ≡ up_to_8 end = ap (λ (n : ℕ). end + n) short ∙ fill.1 in
-    let cell = pad_cell system p (24 + ext_len x) (ext_spelled x used) filler (omega (arith, ext_len_most x read))
-    (omega (arith, (ext_again x used read).1)) few (omega (arith, (first_is h None).1, fill.2, edge)) (header_len_of h) in
-    let place : header_len_of h + length (pad ++ filler) ≡ up_to_8 end =
-    omega (arith, length-append pad filler, length-ext_pad p h (Some x) used read, edge) in
-    let later = subst (λ (n : ℕ). Tiles system p n behind.cells files) (sym place) behind.tiles in
-    record {
-      cells = Pad (header_len_of h) (pad_fields (24 + ext_len x) (slice_index (pad_head_of (24 + ext_len x) p) 16)) (ext_spelled x used) ∷ behind.cells;
-      tiles = (pad ++ filler, files, sym (append_assoc pad filler files), cell, refl, λ e. never e, later);
-      fixed = (refl, behind.fixed);
-    }
+rest_summed system p h (Some x) used files read (cells, tiles, fixed) =
+    let size : ℕ = 24 + ext_len x in
+    let pad : CellForm = Pad (header_len_of h) (pad_fields size (slice_index (pad_head_of size p) 16)) (ext_spelled x used) in
+    let long = length-ext_pad p h (Some x) used read in
+    let tiled = cell_tiles system p (header_len_of h) (canonical_end h (Some x)) pad (ext_pad p (Some x) used) files cells (first_is h None).1 long refl refl
+    (λ filler few multiple. pad_cell system p size (ext_spelled x used) filler (omega (arith, ext_len_most x read)) (omega (arith, (ext_again x used read).1)) few
+    (omega (arith, long, multiple)) (header_len_of h)) tiles in
+    (pad ∷ cells, tiled, (refl, fixed))
 
 -- ---- the image
 
@@ -95,14 +82,5 @@ sums_are_right (Volume h files) image (n, most, b, small, d) (stored, starts, ar
     ap (drop (header_len_of h)) (volume_shows h stored starts image k shows)
     ∙ drop_at (canonical_head h) rest (header_len_of h) (length-canonical h k.read) in
     let tiled = body_tiles h.file_system p h.length first stored starts k.multiple (first_is h h.ext).1 k.files k.follow in
-    let summed = rest_summed h.file_system p h h.ext used body k.ext
-    (record { cells = tiled.cells; tiles = tiled.tiles; fixed = tiled.fixed }) in (
-      extent_of h first,
-      front,
-      front.head.sum,
-      (
-        summed.cells,
-        subst (Tiles h.file_system p (header_len_of h) summed.cells) (sym text) summed.tiles,
-        tiles_sums h.file_system p (header_len_of h) summed.cells rest image summed.tiles summed.fixed text,
-      ),
-    )
+    let (cells, tiles, fixed) = rest_summed h.file_system p h h.ext used body k.ext (tiled.cells, tiled.tiles, tiled.fixed) in
+    (extent_of h first, front, front.head.sum, (cells, rw text tiles, tiles_sums h.file_system p (header_len_of h) cells rest image tiles fixed text))

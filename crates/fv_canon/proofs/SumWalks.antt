@@ -1,12 +1,12 @@
 -- The number that a walk over a file adds to the sum of the file's bytes.
-use Rattle.std.proofs.Common.{◌≡◌, ◌+◌, ◌%◌, ℕ, [], ◌∷◌, if◌then◌else◌, Bool, true, false, List, ap, ◌∙◌, arith, sum, ◌++◌, length}
-use Rattle.fv_base.proofs.Laws.{common_steps, sum_by-append, bytes_of, le_bytes}
+use Rattle.std.proofs.Common.{◌≡◌, ◌+◌, ◌%◌, ℕ, [], ◌∷◌, if◌then◌else◌, Bool, true, false, List, ap, ◌∙◌, arith, sum, ◌++◌}
+use Rattle.fv_base.proofs.Laws.{common_steps, sum_by-append, le_bytes}
 use Rattle.fv_base.specs.declared.flash.Polarity.{Polarity}
-use Rattle.fv_file.specs.Words.{is_summed, state_byte, fixed_checksum, file_sum_for, complement, header_with, header_bytes, needs_large, with_large}
+use Rattle.fv_file.specs.Words.{is_summed, state_byte, fixed_checksum, file_sum_for, complement, header_with, header_bytes}
 use Rattle.fv_tree.specs.Words.{FileMeaning, File, attributes_of}
 use Rattle.fv_canon.specs.inner.ImageOf.{stored_file, data_of}
 use Rattle.fv_canon.specs.inner.SummingSinks.{AddsOrPuts}
-use Rattle.fv_canon.specs.Words.{stored_bytes, StoredFile, head_len_for}
+use Rattle.fv_canon.specs.Words.{stored_bytes, StoredFile}
 
 -- ---- the number that the bytes of a file add to a sum
 
@@ -33,24 +33,15 @@ header_adds file_sum name kind attributes size large state = grind (arith, commo
 
 -- a file with the checksum attribute adds only its State, because its data and its file checksum sum to zero; any other
 -- file adds 0xAA, its State and its data
-abbrev file_adds : Polarity → StoredFile → ℕ
-file_adds p f = if is_summed f.attributes then state_byte p else (fixed_checksum + state_byte p + sum f.payload)
-
-stored_adds : (p : Polarity) (f : StoredFile) → sum (stored_bytes p f) % 256 ≡ file_adds p f % 256
+stored_adds : (p : Polarity) (f : StoredFile) → sum (stored_bytes p f) % 256
+    ≡ (if is_summed f.attributes then state_byte p else (fixed_checksum + state_byte p + sum f.payload)) % 256
 unfolding stored_bytes
 stored_adds p f =
-    let large : Bool = needs_large (length f.payload) in
-    let attributes : ℕ = with_large large f.attributes in
-    let file_sum : ℕ = file_sum_for f.attributes f.payload in
-    let size : ℕ = head_len_for (length f.payload) + length f.payload in
-    let head : List ℕ = header_bytes file_sum (bytes_of f.name) f.kind attributes size large (state_byte p) in
-    ap (λ (n : ℕ). n % 256) (sum-joined head f.payload) ∙ joined (sum head) (sum f.payload) (state_byte p) (is_summed f.attributes)
-    (header_adds file_sum (bytes_of f.name) f.kind attributes size large (state_byte p))
+    rw sum-joined (joined _ (sum f.payload) (state_byte p) (is_summed f.attributes) (header_adds (file_sum_for f.attributes f.payload) _ _ _ _ _ _))
   where
     joined : (h d s : ℕ) (b : Bool) → h % 256 ≡ ((if b then complement d else fixed_checksum) + s) % 256
         → (h + d) % 256 ≡ (if b then s else (fixed_checksum + s + d)) % 256
-    joined h d s true e = omega (arith, e)
-    joined h d s false e = omega (arith, e)
+    joined h d s b e = grind (arith, common_steps)
 
 -- a file with the checksum attribute adds only its State
 pub summed_adds : (p : Polarity) (m : FileMeaning) (starts : List ℕ) (t u : ℕ) → is_summed (attributes_of m) ≡ true

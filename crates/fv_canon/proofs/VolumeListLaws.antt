@@ -1,11 +1,12 @@
 -- Facts about each volume of a list, if two lists are joined or nest one level deeper. The steps:
 -- 1. The starts of the files of two lists of volumes can be split (`laid_split`), and do not change one level deeper
---    (`laid_deeper`, `laid_higher`). The same is true of the number of these starts (`count_joined`, `count_deeper`).
+--    (`laid_level`). The same is true of the number of these starts (`count_joined`, `count_deeper`).
 -- 2. A fact about each volume of two lists is a fact about each volume of the joined list (`each_joined`), and does not
 --    depend on the depth (`each_deeper`).
 -- 3. A walk that takes starts goes from one list to the next (`passed_on`).
 use Rattle.std.proofs.Common.{◌≡◌, ◌≤◌, ◌+◌, ℕ, [], ◌∷◌, ◌++◌, List, length, take, drop, refl, ap, ◌∙◌, arith, append_assoc}
-use Rattle.fv_base.proofs.Laws.{common_steps, length-append, drop-drop, drop_at, take_at, AllByRecursion, length-map}
+use Rattle.fv_base.proofs.Laws.{common_steps, length-append, drop-drop, drop_at, take_at, AllByRecursion, length-map, append-nil}
+use Rattle.fv_rows.specs.inner.RowVolumes.{deeper_by}
 use Rattle.fv_tree.specs.Words.{Meaning, Volume, FileMeaning, files_of, head_of, files_from, Inside, deeper, volumes_in, volumes_in_files}
 use Rattle.fv_canon.specs.inner.ImageOf.{starts_in}
 use Rattle.fv_canon.proofs.ImageParts.{ComesTo}
@@ -21,13 +22,15 @@ laid_split own [] ws starts laid = ([], starts, refl, refl, laid)
 laid_split own (v ∷ vs) ws starts (first, inner, text, p, r) =
     grind (arith, common_steps, laid_split own vs ws inner r, append_assoc first (laid_split own vs ws inner r).0 (laid_split own vs ws inner r).1) steps 400000
 
-pub laid_deeper : (own : Meaning → List ℕ → Type 0) (vs : List Inside) (starts : List ℕ) → StartsOfEach own vs starts → StartsOfEach own (deeper vs) starts
-laid_deeper own [] starts laid = laid
-laid_deeper own (v ∷ vs) starts (first, inner, text, p, r) = (first, inner, text, p, laid_deeper own vs inner r)
+-- the depths of the first of some volumes do not matter
+laid_level : (own : Meaning → List ℕ → Type 0) (n : ℕ) (vs ws : List Inside) (starts : List ℕ)
+    → StartsOfEach own (deeper_by n vs ++ ws) starts ≡ StartsOfEach own (vs ++ ws) starts
+laid_level own n [] ws starts = refl
+laid_level own n (v ∷ vs) ws starts =
+    λ i. (first : List ℕ) × (inner : List ℕ) × (starts ≡ first ++ inner) × own v.volume first × laid_level own n vs ws inner i
 
-pub laid_higher : (own : Meaning → List ℕ → Type 0) (vs : List Inside) (starts : List ℕ) → StartsOfEach own (deeper vs) starts → StartsOfEach own vs starts
-laid_higher own [] starts laid = laid
-laid_higher own (v ∷ vs) starts (first, inner, text, p, r) = (first, inner, text, p, laid_higher own vs inner r)
+pub laid_deeper : (own : Meaning → List ℕ → Type 0) (vs : List Inside) (starts : List ℕ) → StartsOfEach own vs starts → StartsOfEach own (deeper vs) starts
+laid_deeper own vs starts laid = rw (← append-nil (deeper vs), laid_level own 1 vs [] starts, append-nil) laid
 
 -- a list of the starts of files has one start for each of these files
 pub own_count : (m : Meaning) (own : List ℕ) → AreStarts m own → length own ≡ length (files_of m)
@@ -39,7 +42,7 @@ laid_count (v ∷ vs) starts (own, inner, text, placed, laid) = grind (arith, co
 
 pub count_joined : (vs ws : List Inside) → starts_in (vs ++ ws) ≡ starts_in vs + starts_in ws
 count_joined [] ws = omega arith
-count_joined (v ∷ vs) ws = let r = count_joined vs ws in omega (arith, r)
+count_joined (v ∷ vs) ws = omega (arith, count_joined vs ws)
 
 pub count_deeper : (vs : List Inside) → starts_in (deeper vs) ≡ starts_in vs
 count_deeper [] = refl
@@ -68,9 +71,13 @@ pub begins_split : (vs ws : List Inside) (starts : List ℕ) → BeginsWithStart
     → BeginsWithStarts vs starts × BeginsWithStarts ws (drop (starts_in vs) starts)
 begins_split vs ws starts (whole, rest, text, laid) = grind (arith, common_steps, laid_split, append_assoc, drop_at, laid_count)
 
--- the depth of the volumes does not matter
+-- the depths of the first of some volumes do not matter
+pub begins_level : (n : ℕ) (vs ws : List Inside) (starts : List ℕ)
+    → BeginsWithStarts (deeper_by n vs ++ ws) starts ≡ BeginsWithStarts (vs ++ ws) starts
+begins_level n vs ws starts = λ i. (laid : List ℕ) × (more : List ℕ) × (starts ≡ laid ++ more) × laid_level AreStarts n vs ws laid i
+
 pub begins_higher : (vs : List Inside) (starts : List ℕ) → BeginsWithStarts (deeper vs) starts → BeginsWithStarts vs starts
-begins_higher vs starts (laid, more, text, lays) = (laid, more, text, laid_higher AreStarts vs laid lays)
+begins_higher vs starts begins = rw (← append-nil vs, ← begins_level 1 vs [] starts, append-nil) begins
 
 -- ---- facts about each volume
 

@@ -1,12 +1,11 @@
 -- Facts about a volume that was read and laid out, and the bytes that the walk over it writes.
-use Rattle.std.proofs.Common.{◌≡◌, ◌≤◌, ◌<◌, ◌+◌, ◌-◌, ℕ, [], ◌∷◌, ◌++◌, zero, suc, List, length, take, drop, replicate, get_or, refl, sym, ap, ◌∙◌}
-use Rattle.std.proofs.Common.{subst, arith, append_assoc, drop-drop, map, Option, None, Some}
-use Rattle.fv_base.proofs.Laws.{common_steps, erased_byte, up_to_8}
+use Rattle.std.proofs.Common.{◌≡◌, ◌≤◌, ◌<◌, ◌+◌, ◌-◌, ℕ, [], ◌∷◌, ◌++◌, zero, suc, List, length, take, drop, replicate}
+use Rattle.fv_base.proofs.Laws.{common_steps, erased_byte, up_to_8, get_or, refl, sym, ap, ◌∙◌, subst, arith, append_assoc, drop-drop, map, Option}
 use Rattle.fv_head.specs.Words.{Extension, HeadFields, canonical_head, canonical_end, first_edge, polarity_of}
 use Rattle.fv_placement.specs.Words.{StartsFollow}
 use Rattle.fv_placement.specs.declared.first_placement.PlacementItem.{PlacementItem}
-use Rattle.fv_tree.specs.Words.{Meaning, Volume, FileMeanings, FileMeaning, head_of, data_len_of, files_from, IsMeaning, Stream}
-use Rattle.fv_tree.specs.Words.{volumes_in, volumes_in_files}
+use Rattle.fv_tree.specs.Words.{Meaning, Volume, FileMeanings, FileMeaning, head_of, data_len_of, files_from, IsMeaning, Stream, volumes_in}
+use Rattle.fv_tree.specs.Words.{volumes_in_files}
 use Rattle.fv_canon.specs.inner.ImageOf.{image_of, stored_of, starts_in, files_bytes}
 use Rattle.fv_canon.proofs.ImageParts.{stored_item}
 use Rattle.fv_canon.specs.Words.{BeginsWithStarts, AreStored, placement_items, placement_item, StoredFile, size_for, stored_len, used_size, ext_pad}
@@ -40,9 +39,8 @@ pub record VolumeLaid (h : HeadFields) (fs : List FileMeaning) (starts : List �
   pub used : used_size (first_edge h h.ext) (stored_of (files_from fs) (drop (length fs) starts)) (take (length fs) starts)
       ≡ used_by (first_edge h h.ext) (map placement_item fs) (take (length fs) starts)
 
-least_first : (h : HeadFields) (x : Option Extension) → 64 ≤ canonical_end h x
-least_first h None = omega arith
-least_first h (Some x) = omega arith
+least_first : (h : HeadFields) (x : Option Extension) → 64 ≤ first_edge h x
+least_first h x = grind (arith, common_steps)
 
 pub volume_laid : (h : HeadFields) (fs : List FileMeaning) (starts : List ℕ) → IsMeaning (Volume h (files_from fs))
     → BeginsWithStarts (volumes_in (Volume h (files_from fs))) starts → VolumeLaid h fs starts
@@ -53,18 +51,16 @@ volume_laid h fs starts (k, few, b, small, d) begins =
     let stored : List StoredFile = stored_of files (drop (length fs) starts) in
     let parts = begins_own (record { depth = 0; volume = Volume h files }) (volumes_in_files files) (length fs) starts
     (ap length (files_list_back fs)) begins in
-    let items : placement_items (Volume h files) ≡ map placement_item fs = ap (λ (xs : List FileMeaning). map placement_item xs) (files_list_back
-    fs) in
+    let items : placement_items (Volume h files) ≡ map placement_item fs = ap (map placement_item) (files_list_back fs) in
     let are : AreStored files stored = files_made (Stream k) (streams_made k) h.file_system (length (drop d.extent.first b)) files d.files
     (drop (length fs) starts) (files_read k h files b small d) d.meanings parts.2 in
     let same = (known k (streams_again k) h files b small d stored own are parts.1).again.items in
-    let f = first_is h h.ext in
     record {
       enough = parts.0;
       placed = record {
         follow = subst (λ (ps : List PlacementItem). StartsFollow h.length first ps own) items parts.1.placement.follow;
-        eighth = f.1;
-        after_header = omega (arith, least_first h h.ext, f.0);
+        eighth = (first_is h h.ext).1;
+        after_header = least_first h h.ext;
         within = parts.1.placement.room;
         multiple = d.begins.head.volume_multiple;
         limit = d.begins.head.volume_most;
@@ -83,10 +79,6 @@ pub volume_text : (h : HeadFields) (fs : List FileMeaning) (starts : List ℕ) �
     (take (length fs) starts))
 volume_text h fs starts v = grind (arith, common_steps, files_list_back, append_assoc)
 
-volume_left : (h : HeadFields) (fs : List FileMeaning)
-    → starts_in (volumes_in (Volume h (files_from fs))) ≡ length fs + starts_in (volumes_in_files (files_from fs))
-volume_left h fs = ap (λ (k : ℕ). k + starts_in (volumes_in_files (files_from fs))) (ap length (files_list_back fs))
-
 -- the same for a meaning whose header and files are given
 pub volume_is : (m : Meaning) (h : HeadFields) (fs : List FileMeaning) → m ≡ Volume (head_of m) (files_from fs) → h ≡ head_of m
     → m ≡ Volume h (files_from fs)
@@ -102,4 +94,4 @@ pub volume_rest : (m : Meaning) (fs : List FileMeaning) (starts inner rest : Lis
     → inner ≡ drop (length fs) starts → rest ≡ drop (starts_in (volumes_in_files (files_from fs))) inner
     → rest ≡ drop (starts_in (volumes_in m)) starts
 volume_rest m fs starts inner rest is behind left =
-    grind (arith, common_steps, drop-drop (starts_in (volumes_in_files (files_from fs))) (length fs) starts, volume_left (head_of m) fs) steps 400000
+    grind (arith, common_steps, drop-drop (starts_in (volumes_in_files (files_from fs))) (length fs) starts, files_list_back fs) steps 400000

@@ -16,12 +16,14 @@ ghost use Rattle.fv_canon.specs.PlacedBytes.{ShowsPlaced, PlacedBytes};
 
 /// A meaning has at most one canonical image. If two meanings differ, and each of them is the
 /// meaning of some bytes, they never have the same image.
+#[tactic(auto, using(crate::proofs::OneImageLaws::image_one, crate::proofs::HeadlineLaws::one_meaning_of))]
 pub fn one_image()
     ensures image { OneImage }
     ensures meaning { OneMeaning }
 {}
 
 /// A volume fits exactly if it has a layout. A volume with a fault of its layout does not fit.
+#[tactic(auto, using(crate::proofs::VolumeListLaws::laid_fit, crate::proofs::FitLaws::fits_laid, crate::proofs::FitLaws::unfit_none))]
 pub fn fits()
     ensures laid { (m : Meaning) (starts : List ℕ) → AreAllStarts m starts → Fits m }
     ensures lays { (m : Meaning) → Fits m → (starts : List ℕ) × AreAllStarts m starts }
@@ -29,11 +31,13 @@ pub fn fits()
 {}
 
 /// The layout of a volume has at most one fault.
+#[tactic(auto, using(crate::proofs::FitLaws::first_fault))]
 pub fn one_fault()
     ensures { (m : Meaning) (depth : ℕ) (f g : Fault) → Unfit m depth f → Unfit m depth g → f ≡ g }
 {}
 
 /// If the least starts of each volume, at every level, are a placement, they are the layout.
+#[tactic(auto, using(crate::proofs::FitLaws::least_are))]
 pub fn least_starts()
     ensures { (m : Meaning) (starts : List ℕ) → AreAllLeastStarts m starts → AreAllStarts m starts }
 {}
@@ -41,6 +45,7 @@ pub fn least_starts()
 /// A gap whose length is a multiple of 8 and at least 24 is one pad if it has at most 0xFFFFF8
 /// bytes. Otherwise it begins with a pad of 0xFFFF00 bytes, and at least 256 bytes are left for the
 /// pads after it.
+#[tactic(auto, using(crate::proofs::PadLaws::pads_rule))]
 pub fn pads()
     ensures { PadsRule }
 {}
@@ -62,6 +67,7 @@ pub fn one_reading()
 
 /// Either a volume fits, or its layout has a fault. So a volume that does not fit is rejected as
 /// NoRoom or TopAlignment.
+#[tactic(auto, using(crate::proofs::FitLaws::fits_or, crate::proofs::FitLaws::unfit_is_refused))]
 pub fn what_does_not_fit_is_rejected()
     ensures either { (m : Meaning) → Fits m ⊎ ((f : Fault) × Unfit m 0 f) }
     ensures rejected { WhatDoesNotFitIsRejected }

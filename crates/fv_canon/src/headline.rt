@@ -32,6 +32,7 @@ pub fn image_is_its_own_image()
 /// In the canonical image of a volume the data of each file are aligned, counted from the volume's
 /// first byte. Each volume inside is its own canonical image, so this is true at every level. (PI
 /// specification, volume 3, section 3.2.3.1.)
+#[tactic(auto, using(crate::proofs::AlignedLaws::data_are_aligned))]
 pub fn data_are_aligned()
     ensures { DataAreAligned }
 {}
@@ -49,11 +50,13 @@ pub fn sums_are_right()
 /// For a volume and for each volume inside it, some bytes have that volume's meaning, and the
 /// canonical image of the outer volume contains that volume's canonical image as consecutive bytes.
 /// So a law of all canonical images holds at every level.
+#[tactic(auto, using(crate::proofs::InsideImageLaws::each_volume_has_its_image))]
 pub fn each_volume_has_its_image()
     ensures { EachVolumeHasItsImage }
 {}
 
 /// A volume fits exactly if it has a canonical image.
+#[tactic(auto, using(crate::proofs::ImageLaws::what_fits_has_an_image))]
 pub fn what_fits_has_an_image()
     ensures { WhatFitsHasAnImage }
 {}

@@ -1,6 +1,4 @@
-use Rattle.std.proofs.Common.{inl}
-use Rattle.fv_base.proofs.Laws.{IfOk-weaker, IfErr-weaker, err_is}
-use Rattle.fv_tree.specs.Words.{head_of}
+use Rattle.fv_base.proofs.Laws.{IfOk-weaker, IfErr-weaker, err_is, inl}
 use Rattle.fv_canon.proofs.canonical_input.is_canonical.Goals as goal
 
 pub returns-in_err-view-clause-memory : goal.returns-in_err-view-clause-memory
@@ -16,6 +14,5 @@ returns-clause-err c = IfErr-weaker c.is_canonical_image.result _ _ (λ f want. 
 
 pub returns-clause-memory : goal.returns-clause-memory
 returns-clause-memory c =
-    let d = c.in_ok-view.ensures.found.1 in
-    IfErr-weaker c.is_canonical_image.result _ _ (λ f why want. (head_of c.in_ok-view.view, d.extent, d.begins))
+    IfErr-weaker c.is_canonical_image.result _ _ (λ f why want. (_, c.in_ok-view.ensures.found.1.extent, c.in_ok-view.ensures.found.1.begins))
     c.is_canonical_image.ensures.err

@@ -6,9 +6,8 @@ use Rattle.fv_canon.proofs.canonical_input.is_canonical_image.Goals as goal
 
 pub returns-in-Ok-clause-ok : goal.returns-in-Ok-clause-ok
 returns-in-Ok-clause-ok c =
-    let decides = c.is_image.ensures in
     image_told c.args.view.now c.args.bytes.now (c.in-Ok.places.own ++ c.in-Ok.places.inner) c.is_image.result c.known.ensures
-    c.in-Ok.ensures.layout.0 (rw c.starts.ensures at decides)
+    c.in-Ok.ensures.layout.0 (rw c.starts.ensures at c.is_image.ensures)
 
 pub returns-then-eq-clause-err : goal.returns-then-eq-clause-err
 returns-then-eq-clause-err c =

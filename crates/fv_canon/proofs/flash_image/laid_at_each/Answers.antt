@@ -1,6 +1,4 @@
-use Rattle.std.proofs.Common.{arith}
-use Rattle.std.proofs.lemmas.Grind.{common_steps}
-use Rattle.fv_base.proofs.Laws.{at_index, err_is}
+use Rattle.fv_base.proofs.Laws.{at_index, err_is, common_steps, arith}
 use Rattle.fv_flash.specs.Words.{VolumeAt}
 use Rattle.fv_flash.proofs.Laws.{some_place}
 use Rattle.fv_canon.proofs.LayoutWalkLaws.{some_items}

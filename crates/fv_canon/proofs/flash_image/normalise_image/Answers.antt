@@ -1,6 +1,4 @@
-use Rattle.std.proofs.Common.{◌≡◌, ℕ, List, arith}
-use Rattle.fv_base.proofs.Laws.{common_steps, IfOk-weaker, kept_whole, err_is}
-use Rattle.fv_canon.specs.Words.{NormalisesAll}
+use Rattle.fv_base.proofs.Laws.{arith, common_steps, IfOk-weaker, kept_whole, err_is}
 use Rattle.fv_canon.proofs.FlashImageLaws.{normalised_one}
 use Rattle.fv_canon.proofs.flash_image.normalise_image.Goals as goal
 
@@ -12,5 +10,4 @@ returns-clause-ok c = grind (arith, common_steps, IfOk-weaker, kept_whole) steps
 
 pub returns-clause-only : goal.returns-clause-only
 returns-clause-only c = λ other to.
-    IfOk-weaker c.finish.result (NormalisesAll c.args.image.now) (λ (bytes : List ℕ). bytes ≡ other)
-    (λ bytes is. normalised_one c.args.image.now bytes other is to) (returns-clause-ok c)
+    IfOk-weaker c.finish.result _ _ (λ bytes is. normalised_one c.args.image.now bytes other is to) (returns-clause-ok c)

@@ -1,5 +1,4 @@
-use Rattle.std.proofs.Common.{arith}
-use Rattle.fv_base.proofs.Laws.{common_steps}
+use Rattle.fv_base.proofs.Laws.{common_steps, arith}
 use Rattle.fv_flash.proofs.Laws.{at_within}
 use Rattle.fv_canon.proofs.image_check.check_at.Goals as goal
 

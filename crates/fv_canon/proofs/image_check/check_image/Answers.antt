@@ -1,9 +1,8 @@
 use Rattle.std.proofs.Common.{rules, sym, subst, arith}
-use Rattle.fv_base.proofs.Laws.{at_index, err_is, arith, common_steps}
+use Rattle.fv_base.proofs.Laws.{at_index, err_is, common_steps}
 use Rattle.fv_flash.specs.Words.{AreFound, VolumeAt}
 use Rattle.fv_flash.proofs.Laws.{some_place}
 use Rattle.fv_canon.proofs.ImageCheckLaws.{checks_one}
-use Rattle.fv_base.specs.declared.fault.FaultKind.TheVariants as kinds
 use Rattle.fv_canon.proofs.image_check.check_image.Goals as goal
 
 pub check_at-requires : goal.check_at-requires
@@ -16,19 +15,15 @@ returns-in_err-check-clause-memory c = grind (arith, common_steps, err_is) steps
 
 pub returns-in_err-check_at-clause-memory : goal.returns-in_err-check_at-clause-memory
 returns-in_err-check_at-clause-memory c =
-    rw (err_is c.from_residual-in_err-check_at.ensures.1) (λ want. (
-      search rules,
-      some_place c.args.image.now c.in_ok-found.found.items
-          c.loop-volume.volume-index c.in_ok-found.ensures.found (rw (← c.as_slice-volume-items.ensures.value) c.loop-volume-test.true),
-    ))
+    let place = some_place c.args.image.now c.in_ok-found.found.items c.loop-volume.volume-index c.in_ok-found.ensures.found
+    (rw (← c.as_slice-volume-items.ensures.value) c.loop-volume-test.true) in
+    rw (err_is c.from_residual-in_err-check_at.ensures.1) (λ want. (search rules, place))
 
 pub returns-in_err-push-clause-memory : goal.returns-in_err-push-clause-memory
 returns-in_err-push-clause-memory c =
-    rw (err_is c.from_residual-in_err-push.ensures.1) (λ want. (
-      search rules,
-      some_place c.args.image.now c.in_ok-found.found.items
-          c.loop-volume.volume-index c.in_ok-found.ensures.found (rw (← c.as_slice-volume-items.ensures.value) c.loop-volume-test.true),
-    ))
+    let place = some_place c.args.image.now c.in_ok-found.found.items c.loop-volume.volume-index c.in_ok-found.ensures.found
+    (rw (← c.as_slice-volume-items.ensures.value) c.loop-volume-test.true) in
+    rw (err_is c.from_residual-in_err-push.ensures.1) (λ want. (search rules, place))
 
 pub returns-clause-found : goal.returns-clause-found
 returns-clause-found c = grind (arith, common_steps)

@@ -1,7 +1,6 @@
-use Rattle.std.proofs.Common.{◌≢◌, arith, inl, rules, sym}
+use Rattle.std.proofs.Common.{arith, inl, rules, sym}
 use denote.Enum.Bare.{same_false, same_true}
 use Rattle.fv_base.specs.contracts.fault.FaultKind.{the_type}
-use Rattle.fv_base.specs.declared.fault.FaultKind.TheVariants as kinds
 use Rattle.fv_canon.proofs.RejectedInputLaws.{refused_within}
 use Rattle.fv_canon.proofs.ImageCheckLaws.{is_not_read, is_rejected, ran_out_only}
 use Rattle.fv_canon.proofs.image_check.outcome_of.Goals as goal
@@ -17,6 +16,5 @@ fault_within-requires c =
 
 pub returns-else-eq-clause-ok : goal.returns-else-eq-clause-ok
 returns-else-eq-clause-ok c =
-    let other : c.in-Err.fault.kind ≢ kinds.OutOfMemory = same_false the_type _ _ (sym c.if-eq.ensures) in
-    is_rejected c.args.start c.args.volume.now c.in-Err.fault c.fault_within.result c.in-Err.ensures.err other
-    c.fault_within.ensures.moved c.fault_within.ensures.kind
+    is_rejected c.args.start c.args.volume.now c.in-Err.fault c.fault_within.result c.in-Err.ensures.err
+    (same_false the_type _ _ (sym c.if-eq.ensures)) c.fault_within.ensures.moved c.fault_within.ensures.kind

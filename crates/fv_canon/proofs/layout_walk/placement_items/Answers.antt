@@ -11,9 +11,8 @@ use Rattle.fv_canon.proofs.layout_walk.placement_items.Goals as goal
 pub returns-clause-ok : goal.returns-clause-ok
 returns-clause-ok c =
     let fs : List FileMeaning = c.files-files.result.now in
-    let are : files_of c.args.view.now ≡ fs = ap files_of c.files-files.ensures ∙ files_list_back fs in
-    let is : c.loop-file.items.items ≡ map placement_item (files_of c.args.view.now) =
-    c.loop-file.invariant ∙ ap (map placement_item) (take_all c.loop-file.file-index fs c.loop-file-test.false ∙ sym are) in
+    let are : fs ≡ files_of c.args.view.now = sym (ap files_of c.files-files.ensures ∙ files_list_back fs) in
+    let is = c.loop-file.invariant ∙ ap (map placement_item) (take_all c.loop-file.file-index fs c.loop-file-test.false ∙ are) in
     (is, rw is (parts_fit c.args.view.now c.known.ensures))
 
 -- the items of the first files and of one more file are the items of the first files, and the item of this file
@@ -27,10 +26,8 @@ loop-file-preserved c = grind (arith, common_steps, item_more) steps 400000
 
 pub returns-in_err-items-clause-some : goal.returns-in_err-items-clause-some
 returns-in_err-items-clause-some c =
-    let are = ap files_of c.files-files.ensures ∙ files_list_back c.files-files.result.now in
-    rw (err_is c.from_residual.ensures.1) (omega (arith, ap length are, some_items c.files-files.result.now c.in_err-items.ensures.succeeds))
+    rw (err_is c.from_residual.ensures.1, c.files-files.ensures, files_list_back) (some_items c.files-files.result.now c.in_err-items.ensures.succeeds)
 
 pub returns-in_err-push-clause-some : goal.returns-in_err-push-clause-some
 returns-in_err-push-clause-some c =
-    let are = ap files_of c.files-files.ensures ∙ files_list_back c.files-files.result.now in
-    rw (err_is c.from_residual-in_err-push.ensures.1) (omega (arith, ap length are, c.loop-file-test.true))
+    rw (err_is c.from_residual-in_err-push.ensures.1, c.files-files.ensures, files_list_back) (omega arith)

@@ -16,13 +16,11 @@ split_at-requires c =
 pub loop-row-preserved-in-Volume : goal.loop-row-preserved-in-Volume
 loop-row-preserved-in-Volume c =
     let many = ap length (ap files_of c.files.ensures ∙ files_list_back c.files.result.now) in
-    let next = (passed_next _ _ c.in-Some.row _ _ _ _ c.in-Some.ensures.steps (ap part_node c.in-Volume.is) many c.loop-row.invariant.2).1 in
-    (tt, tt, rw c.split_at.ensures.back next)
+    (tt, tt, rw c.split_at.ensures.back (passed_next _ _ c.in-Some.row _ _ _ _ c.in-Some.ensures.steps (ap part_node c.in-Volume.is) many c.loop-row.invariant.2).1)
 
 pub loop-row-preserved : goal.loop-row-preserved
 loop-row-preserved c =
-    let comes = c.loop-row.invariant.2 in
-    (tt, tt, rw (other_first _ _ c.in-Some.row c.in-Some.ensures.steps c.in_default.not-Volume) at comes)
+    (tt, tt, rw (other_first _ _ c.in-Some.row c.in-Some.ensures.steps c.in_default.not-Volume) at c.loop-row.invariant.2)
 
 pub returns : goal.returns
 returns c = let comes = c.loop-row.invariant.2 in (rw c.in-None.ensures.steps.0 at comes).left
