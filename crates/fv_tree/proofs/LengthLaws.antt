@@ -41,7 +41,7 @@ stream_long R each NoSections tail b (f ∷ fs, split, p) = absurd p
 stream_long R each (MoreSections s ss) tail b ([], split, p) = absurd p
 stream_long R each (MoreSections s ss) tail b (f ∷ fs, split, p) = let z = from_long R each 0 0 f fs s ss tail b refl split p in omega (arith, z)
 
-volume_long : (S : StreamRelation) (b : List ℕ) (m : Meaning) → VolumeOver S b m → length_of m ≡ length b
+pub volume_long : (S : StreamRelation) (b : List ℕ) (m : Meaning) → VolumeOver S b m → length_of m ≡ length b
 volume_long S b (Volume h fs) d = sym (d.length_is ∙ d.begins.length_is)
 
 section_long_over : (S : StreamRelation) (V : VolumeRelation)
