@@ -5,8 +5,7 @@
 --    a body and a volume (`stream_by`, `body_by`, `volume_by`).
 -- 3. By induction on the nesting depth the first fault of each section lies within the section (`section_lies`), and so
 --    the first fault of bytes lies within them (`first_within`).
-use Rattle.std.proofs.Common.{◌≢◌, ◌≤◌, ℕ, ◌+◌, zero, suc, List, length, take, drop, arith, inl, inr, length-drop}
-use Rattle.std.proofs.Common.{length-take-le}
+use Rattle.std.proofs.Common.{◌≢◌, ◌≤◌, ℕ, ◌+◌, zero, suc, List, length, take, drop, arith, inl, inr, length-drop, length-take-le}
 use Rattle.fv_base.proofs.Laws.{common_steps, AllByRecursion, in_middle, want_known, First, out_of_memory, depth_limit}
 use Rattle.fv_base.specs.declared.fault.Fault.{Fault}
 use Rattle.fv_base.specs.declared.fault.Place.{Place}

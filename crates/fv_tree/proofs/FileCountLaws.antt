@@ -24,15 +24,8 @@ pub few_files : (n : ℕ) (b : List ℕ) (m : Meaning) → Denotes n b m → len
 few_files n b m d =
     let cells = cells_few d.extent.file_system d.extent.polarity d.extent.first d.cells (drop d.extent.first b) d.tiles in
     let all = filter_few (λ f. not (list_any (replaced_by f) (files_in d.cells))) (files_in d.cells) in
-    omega (
-      arith,
-      cells,
-      length-drop d.extent.first b,
-      files_few d.cells,
-      all,
-      ap length d.current.files_are,
-      pairs_length (MeansFile (Stream n)) d.files (files_of m) d.meanings,
-    )
+    let pairs = pairs_length (MeansFile (Stream n)) d.files (files_of m) d.meanings in
+    omega (arith, cells, length-drop d.extent.first b, files_few d.cells, all, ap length d.current.files_are, pairs)
 
 pub few_of : (m : Meaning) → IsMeaning m → length (files_of m) < 2 ^ 32
 few_of m (n, low, b, small, d) = omega (arith, few_files n b m d, d.length_is, (front_lies b (head_of m) d.extent d.begins).limit)

@@ -16,9 +16,8 @@ use Rattle.fv_head.specs.declared.extent.Extent.{Extent}
 use Rattle.fv_head.proofs.Laws.{front_holds, one_front}
 use Rattle.fv_section.specs.Words.{FrameForm}
 use Rattle.fv_section.proofs.Laws.{one_frame_fault, one_split}
-use Rattle.fv_tree.specs.Words.{MeansFile, MeansSection, Stream, Denotes, Moved, NamesFault, StoredFault, FileFault, BodyFault}
-use Rattle.fv_tree.specs.Words.{data_at, outermost, InSection, InStream, InVolume, IsFirstOfVolume, FaultHolds, Meaning, length_of, FileForm}
-use Rattle.fv_tree.specs.Words.{files_in, current_in}
+use Rattle.fv_tree.specs.Words.{MeansFile, MeansSection, Stream, Denotes, Moved, NamesFault, StoredFault, FileFault, BodyFault, data_at, outermost}
+use Rattle.fv_tree.specs.Words.{InSection, InStream, InVolume, IsFirstOfVolume, FaultHolds, Meaning, length_of, FileForm, files_in, current_in}
 use Rattle.fv_tree.specs.inner.ReadingParts.{ReadsOrFails}
 use Rattle.fv_tree.proofs.ListPairs.{first_of_once}
 use Rattle.fv_tree.proofs.MeaningLaws.{one_beginning}

@@ -14,9 +14,8 @@ use Rattle.fv_head.specs.declared.extent.Extent.{Extent}
 use Rattle.fv_head.proofs.Laws.{front_holds}
 use Rattle.fv_section.specs.Words.{FrameForm}
 use Rattle.fv_section.proofs.Laws.{one_split}
-use Rattle.fv_tree.specs.Words.{AreFilesOf, MeansFile, MeansSection, Stream, Denotes, FileFault, StoredFault, Moved, InSection}
-use Rattle.fv_tree.specs.Words.{InStream, InVolume, data_at, Meaning, FileMeaning, SectionMeaning, files_of, head_of, FileForm, NoTwins, TopAtEnd, files_in}
-use Rattle.fv_tree.specs.Words.{current_in}
+use Rattle.fv_tree.specs.Words.{AreFilesOf, MeansFile, MeansSection, Stream, Denotes, FileFault, StoredFault, Moved, InSection, InStream, InVolume}
+use Rattle.fv_tree.specs.Words.{data_at, Meaning, FileMeaning, SectionMeaning, files_of, head_of, FileForm, NoTwins, TopAtEnd, files_in, current_in}
 use Rattle.fv_tree.proofs.ListPairs.{one_of_none}
 use Rattle.fv_tree.proofs.NamesFaultLaws.{names_wrong}
 use Rattle.fv_tree.proofs.SectionShapeLaws.{group_only, opened_only, stream_bad}

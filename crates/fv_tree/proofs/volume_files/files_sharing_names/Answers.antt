@@ -18,15 +18,10 @@ returns-in_err-check_top-clause-first c = rw (err_is c.from_residual-in_err-chec
 pub refill-requires : goal.refill-requires
 refill-requires c =
     let form = file_form [] in
-    omega (
-      arith,
-      ap length c.as_slice-3.ensures.value,
-      ap length (c.keep_current.ensures []),
-      length-map c.keep_current.new.files.items form,
-      length-map c.args.files.items form,
-      filter_few (λ f. not (list_any (replaced_by f) (map form c.args.files.items))) (map form c.args.files.items),
-      c.requires.few,
-    )
+    let kept = ap length (c.keep_current.ensures []) in
+    let new = length-map c.keep_current.new.files.items form in
+    let few = filter_few (λ f. not (list_any (replaced_by f) (map form c.args.files.items))) (map form c.args.files.items) in
+    omega (arith, ap length c.as_slice-3.ensures.value, kept, new, length-map c.args.files.items form, few, c.requires.few)
 
 pub returns-clause-found : goal.returns-clause-found
 returns-clause-found c = λ b. record {
