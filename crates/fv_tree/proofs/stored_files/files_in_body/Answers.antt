@@ -1,5 +1,4 @@
 use Rattle.std.proofs.Common.{length, arith, ap, inl, inr}
-use Rattle.fv_names.specs.Words.{entries_of}
 use Rattle.std.proofs.lemmas.List.{length-drop, length-map}
 use Rattle.fv_file.proofs.Laws.{cells_few}
 use Rattle.fv_head.specs.declared.extent.Extent.{Extent}
@@ -46,11 +45,8 @@ returns-in-Err-current_files-clause-read c = λ ne.
     (c.in-Err-current_files.fault, inr (cs, tiles, rw files at (c.in-Err-current_files.ensures.first w.0 c.args.volume.now)), w.1)
 
 pub returns-clause-order : goal.returns-clause-order
-returns-clause-order c = record {
-  entries = entries_of c.in-Ok-current_files.read.1;
-  index = c.in-Ok-current_files.ensures.index;
-  are_numbers = c.in_ok-order.ensures.found;
-}
+returns-clause-order c =
+    record { entries = _; index = c.in-Ok-current_files.ensures.index; are_numbers = c.in_ok-order.ensures.found }
 
 pub returns-in_err-order-clause-read : goal.returns-in_err-order-clause-read
 returns-in_err-order-clause-read c = rw (err_is c.from_residual.ensures.1) (λ ne. absurd (ne c.in_err-order.ensures.err))
