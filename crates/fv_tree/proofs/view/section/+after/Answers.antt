@@ -28,10 +28,9 @@ after_section-returns-in-Volume t c =
     ∙ sym (ap (λ (r : SectionMeaning × List Meaning). r.1) view)
 
 pub after_stream-after_section-rest-requires : goal.after_stream-after_section-rest-requires
-after_stream-after_section-rest-requires t c = (
-  omega arith,
-  rw c.split_frame.ensures.frame (first_kept c.args.left c.loop-bytes.bytes.now _ (omega (arith, c.loop-bytes-test.true)) c.loop-bytes.invariant.kept),
-)
+after_stream-after_section-rest-requires t c =
+    let least : 4 ≤ length c.loop-bytes.bytes.now = omega (arith, c.loop-bytes-test.true) in
+    (omega arith, rw c.split_frame.ensures.frame (first_kept c.args.left c.loop-bytes.bytes.now _ least c.loop-bytes.invariant.kept))
 
 pub after_stream-loop-bytes-preserved : goal.after_stream-loop-bytes-preserved
 after_stream-loop-bytes-preserved t c =
