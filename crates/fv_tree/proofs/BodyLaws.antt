@@ -51,8 +51,7 @@ files_first n I e volume at fs g stand first = grind (arith, common_steps)
 -- ---- the bytes of every file lie in some bytes
 
 pub stored_in : (s : FileSystem) (p : Polarity) (at base end : ℕ) (cs : List CellForm) (b : List ℕ) → IsBytes b
-    → length b ≤ volume_limit → base + end < 2 ^ 63 → Tiles s p at cs b → CellsWithin end cs
-    → AllStored base (files_in cs)
+    → length b ≤ volume_limit → base + end < 2 ^ 63 → Tiles s p at cs b → CellsWithin end cs → AllStored base (files_in cs)
 stored_in s p at base end [] b small short fits tiles within = tt
 stored_in s p at base end (Valid o head payload ∷ cs) b small short fits (x, rest, text, is, place, free, more) (ends, agrees, others) =
     let long = ap length text ∙ length-append x rest in

@@ -14,9 +14,8 @@ abbrev pub AsLong : SectionRelation → Type 0
 AsLong R = (f : FrameForm) (s : SectionMeaning) → R f s → section_len s ≡ frame_len f
 
 from_long : (R : SectionRelation) → AsLong R → (at end : ℕ) (f : FrameForm) (fs : List FrameForm) (s : SectionMeaning) (ss : SectionMeanings)
-    (tail : ℕ) (b : List ℕ) → up_to_4 end ≡ at
-    → SplitsFrom at (f ∷ fs) tail b → Pairwise R (f ∷ fs) (s ∷ sections_list ss) → sections_end end (MoreSections s ss) + tail ≡ at +
-    length b
+    (tail : ℕ) (b : List ℕ) → up_to_4 end ≡ at → SplitsFrom at (f ∷ fs) tail b → Pairwise R (f ∷ fs) (s ∷ sections_list ss)
+    → sections_end end (MoreSections s ss) + tail ≡ at + length b
 from_long R each at end f [] s NoSections tail b e (rest, begun, o, t, most) (r, _) =
     omega (arith, e, each f s r, length_begun f b rest begun, t)
 from_long R each at end f (g ∷ gs) s (MoreSections u us) tail b e (filler, rest, begun, o, fill, more) (r, p) =

@@ -24,8 +24,7 @@ files_list_back (f ∷ fs) = ap (λ l. f ∷ l) (files_list_back fs)
 -- ---- a header and files make a volume
 
 pub made : (n : ℕ) (b : List ℕ) (h : HeadFields) (e : Extent) (ms : List FileMeaning) → BeginsVolume h e b
-    → HasFiles (Stream n) e (take e.length b) ms
-    → Denotes n (take e.length b) (Volume h (files_from ms))
+    → HasFiles (Stream n) e (take e.length b) ms → Denotes n (take e.length b) (Volume h (files_from ms))
 made n b h e ms front (files, stand, pairs) =
     let long : length (take e.length b) ≡ e.length = length-take-le e.length b front.is_within in
     record {
@@ -52,8 +51,7 @@ has_of S b (Volume h fs) d = (d.files, record { cells = d.cells; tiles = d.tiles
 
 -- a volume that bytes begin with has the header that the bytes begin with, its length, and files in the body
 pub has_files : (n k : ℕ) (b : List ℕ) (m : Meaning) (h : HeadFields) (e : Extent) → BeginsVolume h e b → k ≤ length b
-    → Denotes n (take k b) m
-    → (head_of m ≡ h) × (k ≡ e.length) × HasFiles (Stream n) e (take e.length b) (files_of m)
+    → Denotes n (take k b) m → (head_of m ≡ h) × (k ≡ e.length) × HasFiles (Stream n) e (take e.length b) (files_of m)
 has_files n k b m h e front within d =
     let other = front_of n k b m within d in
     let same = one_front b (head_of m) h d.extent e other.0 front in
