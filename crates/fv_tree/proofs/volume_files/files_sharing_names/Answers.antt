@@ -1,7 +1,7 @@
-use Rattle.std.proofs.Common.{[], ap, inl, inr, map, length, arith, not}
-use Rattle.fv_base.proofs.Laws.{err_is, list_any, length-map}
-use Rattle.fv_tree.specs.Words.{file_form, replaced_by}
-use Rattle.fv_tree.proofs.FileCountLaws.{filter_few}
+use Rattle.std.proofs.Common.{[], ap, inl, inr, map, length, arith}
+use Rattle.fv_base.proofs.Laws.{err_is, length-map}
+use Rattle.fv_tree.specs.Words.{file_form}
+use Rattle.fv_tree.proofs.FileCountLaws.{current_few}
 use Rattle.fv_tree.proofs.NamedLaws.{twins_from}
 use Rattle.fv_tree.proofs.volume_files.files_sharing_names.Goals as goal
 
@@ -20,7 +20,7 @@ refill-requires c =
     let form = file_form [] in
     let kept = ap length (c.keep_current.ensures []) in
     let new = length-map c.keep_current.new.files.items form in
-    let few = filter_few (λ f. not (list_any (replaced_by f) (map form c.args.files.items))) (map form c.args.files.items) in
+    let few = current_few (map form c.args.files.items) in
     omega (arith, ap length c.as_slice-3.ensures.value, kept, new, length-map c.args.files.items form, few, c.requires.few)
 
 pub returns-clause-found : goal.returns-clause-found
