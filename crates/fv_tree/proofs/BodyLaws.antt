@@ -1,13 +1,12 @@
 -- The files of a volume are the files of its cells.
-use Rattle.std.proofs.Common.{◌≡◌, ◌≤◌, ◌<◌, ℕ, ◌+◌, ◌^◌, [], ◌∷◌, ◌++◌, List, length, drop, sym, ap, ◌∙◌, subst, arith, length-append, not}
+use Rattle.std.proofs.Common.{◌≡◌, ◌≤◌, ◌<◌, ℕ, ◌+◌, ◌^◌, [], ◌∷◌, ◌++◌, List, length, drop, ap, ◌∙◌, arith, length-append, not}
 use Rattle.fv_base.proofs.Laws.{AllByRecursion, length-drop, common_steps, list_any, First, volume_limit, IsBytes, all_filter, bytes_back, bytes_drop}
 use Rattle.fv_base.proofs.Laws.{bytes_front}
 use Rattle.fv_base.specs.declared.fault.Fault.{Fault}
 use Rattle.fv_base.specs.declared.flash.FileSystem.{FileSystem}
 use Rattle.fv_base.specs.declared.flash.Polarity.{Polarity}
 use Rattle.fv_base.specs.declared.fault.Place.{Place}
-use Rattle.fv_file.specs.Words.{CellForm, Valid, Tiles, IsCell, offset_of, CellsWithin, LengthsAgree, cell_len}
-use Rattle.fv_file.specs.declared.head.FileHead.{FileHead}
+use Rattle.fv_file.specs.Words.{CellForm, Valid, Tiles, CellsWithin}
 use Rattle.fv_file.proofs.Laws.{all_within, cell_span}
 use Rattle.fv_head.specs.declared.extent.Extent.{Extent}
 use Rattle.fv_tree.specs.inner.ReadingParts.{IsReadyFile, AllStored}
@@ -15,14 +14,6 @@ use Rattle.fv_tree.specs.Words.{AreFilesOf, Stream, MeansFile, FileForm, files_i
 use Rattle.fv_tree.specs.Words.{BodyFault, OneOf}
 
 -- ---- a property of each file
-
--- a property of the file in each valid cell is a property of each file of the cells
-pub each_file : (P : CellForm → Type 0) (Q : FileForm → Type 0)
-    → ((at : ℕ) (head : FileHead) (payload : List ℕ) → P (Valid at head payload) → Q (record { offset = at; head = head; payload = payload }))
-    → (cs : List CellForm) → AllByRecursion P cs → AllByRecursion Q (files_in cs)
-each_file P Q one [] all = tt
-each_file P Q one (Valid at head payload ∷ cs) all = (one at head payload all.0, each_file P Q one cs all.1)
-each_file P Q one (_ ∷ cs) all = each_file P Q one cs all.1
 
 -- a property of each file is a property of each current file
 pub of_current : (P : FileForm → Type 0) (fs : List FileForm) → AllByRecursion P fs → AllByRecursion P (current_in fs)
@@ -36,13 +27,9 @@ pub record LiesBy (end : ℕ) (f : FileForm) : Type 0 where
 
 -- so does each file of the cells that lie within these bytes
 pub files_lie : (end : ℕ) (cs : List CellForm) → CellsWithin end cs → AllByRecursion (LiesBy end) (files_in cs)
-files_lie end cs within =
-    each_file (λ c. (offset_of c + cell_len c ≤ end) × LengthsAgree c) (LiesBy end)
-    (λ at head payload lies. record { ends = omega (arith, lies.0); agrees = lies.1 }) cs (each cs within)
-  where
-    each : (cs : List CellForm) → CellsWithin end cs → AllByRecursion (λ c. (offset_of c + cell_len c ≤ end) × LengthsAgree c) cs
-    each [] within = tt
-    each (c ∷ cs) (lies, agree, rest) = ((lies, agree), each cs rest)
+files_lie end [] within = tt
+files_lie end (Valid at head payload ∷ cs) (lies, agree, rest) = (record { ends = omega (arith, lies); agrees = agree }, files_lie end cs rest)
+files_lie end (_ ∷ cs) (lies, agree, rest) = files_lie end cs rest
 
 -- cells that tile the body of a volume lie within the volume
 pub cells_inside : (e : Extent) (volume : List ℕ) (cs : List CellForm) → e.first ≤ length volume
@@ -63,33 +50,22 @@ files_first n I e volume at fs g stand first = grind (arith, common_steps)
 
 -- ---- the bytes of every file lie in some bytes
 
--- some bytes are the cell, which ends at most `end` bytes after the volume's start
-record IsCellBy (s : FileSystem) (p : Polarity) (end : ℕ) (c : CellForm) : Type 0 where
-  pub bytes : List ℕ
-  pub small : IsBytes bytes
-  pub short : length bytes ≤ volume_limit
-  pub is : IsCell s p c bytes
-  pub ends : offset_of c + cell_len c ≤ end
-  pub agrees : LengthsAgree c
-
-cells_stored : (s : FileSystem) (p : Polarity) (at end : ℕ) (cs : List CellForm) (b : List ℕ) → IsBytes b → length b ≤ volume_limit
-    → Tiles s p at cs b → CellsWithin end cs → AllByRecursion (IsCellBy s p end) cs
-cells_stored s p at end [] b small short tiles within = tt
-cells_stored s p at end (c ∷ cs) b small short (x, rest, text, is, o, free, more) (ends, agrees, others) =
-    let long : length b ≡ length x + length rest = ap length text ∙ length-append x rest in
-    let parts : IsBytes (x ++ rest) = subst IsBytes text small in (
-      record { bytes = x; small = bytes_front x rest parts; short = omega (arith, long, short); is = is; ends = ends; agrees = agrees },
-      cells_stored s p (at + length x) end cs rest (bytes_back x rest parts) (omega (arith, long, short)) more others,
-    )
-
 pub stored_in : (s : FileSystem) (p : Polarity) (at base end : ℕ) (cs : List CellForm) (b : List ℕ) → IsBytes b
-    → length b ≤ volume_limit → base + end < 2 ^ 63 → Tiles s p at cs b → CellsWithin end cs
-    → AllStored base (files_in cs)
-stored_in s p at base end cs b small short fits tiles within = each_file (IsCellBy s p end) (IsReadyFile base) (λ head_at head payload cell. (
-  (s, p, cell.bytes, cell.small, cell.short, cell.is),
-  omega (arith, fits, cell.ends, cell.agrees),
-  omega (arith, cell.short, cell.agrees, cell_span s p (Valid head_at head payload) cell.bytes cell.is),
-)) cs (cells_stored s p at end cs b small short tiles within)
+    → length b ≤ volume_limit → base + end < 2 ^ 63 → Tiles s p at cs b → CellsWithin end cs → AllStored base (files_in cs)
+stored_in s p at base end [] b small short fits tiles within = tt
+stored_in s p at base end (Valid o head payload ∷ cs) b small short fits (x, rest, text, is, place, free, more) (ends, agrees, others) =
+    let long = ap length text ∙ length-append x rest in
+    let parts : IsBytes (x ++ rest) = rw text at small in (
+      (
+        (s, p, x, bytes_front x rest parts, omega (arith, long), is),
+        omega (arith, ends, agrees),
+        omega (arith, long, agrees, cell_span s p (Valid o head payload) x is),
+      ),
+      stored_in s p (at + length x) base end cs rest (bytes_back x rest parts) (omega (arith, long)) fits more others,
+    )
+stored_in s p at base end (_ ∷ cs) b small short fits (x, rest, text, is, place, free, more) (ends, agrees, others) =
+    let long = ap length text ∙ length-append x rest in
+    stored_in s p (at + length x) base end cs rest (bytes_back x rest (rw text at small)) (omega (arith, long)) fits more others
 
 pub files_stored : (e : Extent) (volume : List ℕ) (base : ℕ) (cs : List CellForm) (fs : List FileForm) → IsBytes volume
     → length volume ≤ volume_limit → base + length volume < 2 ^ 63
@@ -97,5 +73,5 @@ pub files_stored : (e : Extent) (volume : List ℕ) (base : ℕ) (cs : List Cell
     → AllStored base fs
 files_stored e volume base cs fs small short fits tiles within current =
     let short' : length (drop e.first volume) ≤ volume_limit = omega (arith, length-drop e.first volume, short) in
-    let all = stored_in e.file_system e.polarity e.first base (length volume) cs _ (bytes_drop e.first volume small) short' fits tiles within in
-    subst (AllStored base) (sym current.files_are) (of_current (IsReadyFile base) (files_in cs) all)
+    rw current.files_are (of_current (IsReadyFile base) (files_in cs)
+    (stored_in e.file_system e.polarity e.first base (length volume) cs _ (bytes_drop e.first volume small) short' fits tiles within))

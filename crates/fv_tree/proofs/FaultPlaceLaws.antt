@@ -5,18 +5,17 @@
 --    a body and a volume (`stream_by`, `body_by`, `volume_by`).
 -- 3. By induction on the nesting depth the first fault of each section lies within the section (`section_lies`), and so
 --    the first fault of bytes lies within them (`first_within`).
-use Rattle.std.proofs.Common.{◌≡◌, ◌≢◌, ◌≤◌, ◌⊎◌, ℕ, ◌+◌, ◌∷◌, ◌++◌, zero, suc, List, length, take, drop, subst, sym, arith, inl, inr, length-drop}
-use Rattle.std.proofs.Common.{length-take-le}
+use Rattle.std.proofs.Common.{◌≢◌, ◌≤◌, ℕ, ◌+◌, zero, suc, List, length, take, drop, arith, inl, inr, length-drop, length-take-le}
 use Rattle.fv_base.proofs.Laws.{common_steps, AllByRecursion, in_middle, want_known, First, out_of_memory, depth_limit}
 use Rattle.fv_base.specs.declared.fault.Fault.{Fault}
 use Rattle.fv_base.specs.declared.fault.Place.{Place}
 use Rattle.fv_file.proofs.Laws.{body_within}
 use Rattle.fv_head.specs.declared.extent.Extent.{Extent}
 use Rattle.fv_head.proofs.Laws.{fault_within, first_lies}
-use Rattle.fv_section.specs.Words.{FrameForm, frame_len, FramesWithin}
+use Rattle.fv_section.specs.Words.{FrameForm, frame_len}
 use Rattle.fv_section.proofs.Laws.{frame_within, whole_within}
 use Rattle.fv_tree.specs.Words.{Moved, NamesFault, StoredFault, BodyFault, InSection, InStream, InVolume, IsFirstOfVolume, data_at, outermost}
-use Rattle.fv_tree.specs.Words.{FileForm, files_in, current_in}
+use Rattle.fv_tree.specs.Words.{FileForm, files_in}
 use Rattle.fv_tree.proofs.BodyLaws.{LiesBy, cells_inside, files_lie, of_current}
 
 -- ---- one level of nesting
@@ -33,17 +32,10 @@ moved_lies P at len n e within (f, first, is) = grind (arith, common_steps)
 -- a fault of the names of files lies within the bytes in which the files lie
 names_within : (end len : ℕ) (fs : List FileForm) (f : Fault) → AllByRecursion (LiesBy end) fs → NamesFault First len fs f
     → f.place.offset ≤ end
-names_within end len fs f all fault = go fault where
-  begins : (gs before : List FileForm) (x : FileForm) (after : List FileForm) → AllByRecursion (LiesBy end) gs → gs ≡ before ++ (x ∷ after)
-      → x.offset ≤ end
-  begins gs before x after lie cut =
-      let here = in_middle (LiesBy end) before x after (subst (AllByRecursion (LiesBy end)) cut lie) in omega (arith, here.ends)
-
-  go : NamesFault First len fs f → f.place.offset ≤ end
-  go (inl (x, (before, after, cut, none, has), is)) =
-      subst (λ (g : Fault). g.place.offset ≤ end) (sym is) (begins fs before x after all cut)
-  go (inr (none, x, (before, after, cut, top, off), is)) =
-      subst (λ (g : Fault). g.place.offset ≤ end) (sym is) (begins (current_in fs) before x after (of_current (LiesBy end) fs all) cut)
+names_within end len fs f all (inl (x, (before, after, cut, none, has), is)) =
+    rw is (omega (arith, in_middle (LiesBy end) before x after (rw cut at all)))
+names_within end len fs f all (inr (none, x, (before, after, cut, top, off), is)) =
+    rw is (omega (arith, in_middle (LiesBy end) before x after (rw cut at (of_current (LiesBy end) fs all))))
 
 module _ (x : Extent) (v : List ℕ) (within : x.first ≤ length v) where
   -- the first fault of the cells of a body and the files in them lies within the volume
@@ -66,10 +58,8 @@ SectionLies n = (e : Fault) (f : FrameForm) (at : Place) → InSection First n e
 stream_by : (n : ℕ) → SectionLies n → (e : Fault) (b : List ℕ) (at : Place) → InStream First n e b at → LiesIn at (length b) n e
 stream_by n low e b at (inl moved) = moved_lies _ at (length b) n e (frame_within b) moved
 stream_by n low e b at (inr (frames, tail, split, (before, f, behind, is, read, first))) =
-    let ends = in_middle (λ g. g.offset + frame_len g ≤ length b) before f behind (subst (FramesWithin (length b)) is
-    (whole_within frames tail b split)) in
-    let lies = low e f at first in
-    (omega (arith, lies.0, ends), lies.1)
+    let ends = in_middle (λ g. g.offset + frame_len g ≤ length b) before f behind (rw is at (whole_within frames tail b split)) in
+    omega (arith, low e f at first, ends)
 
 module _ (n : ℕ) (low : SectionLies n) (e : Fault) (at : Place) where
   -- the first fault of a body lies within the volume
@@ -77,39 +67,29 @@ module _ (n : ℕ) (low : SectionLies n) (e : Fault) (at : Place) where
   body_by x v within (inl moved) = moved_lies _ at (length v) n e (stored_within x v within) moved
   body_by x v within (inr (cells, tiles, right, (before, f, behind, is, read, (holds, first)))) =
       let all = of_current (LiesBy (length v)) (files_in cells) (files_lie (length v) cells (cells_inside x v cells within tiles)) in
-      let fits = in_middle (LiesBy (length v)) before f behind (subst (AllByRecursion (LiesBy (length v))) is all) in
-      let lies = stream_by n low e f.payload (data_at at f) first in
-      (omega (arith, lies.0, fits.ends, fits.agrees), lies.1)
+      omega (arith, stream_by n low e f.payload (data_at at f) first, in_middle (LiesBy (length v)) before f behind (rw is at all))
 
   -- the first fault of a volume lies within its bytes
   volume_by : (b : List ℕ) → InVolume First n e b at → LiesIn at (length b) n e
   volume_by b (inl moved) = moved_lies _ at (length b) n e (fault_within b) moved
   volume_by b (inr (h, x, front, first)) =
-      let v : List ℕ = take x.length b in
-      let long : length v ≡ x.length = length-take-le x.length b front.is_within in
-      let lies = body_by x v (omega (arith, long, (first_lies b h x front).1)) first in
-      (omega (arith, lies.0, long, front.is_within), lies.1)
+      let long = length-take-le x.length b front.is_within in
+      omega (arith, body_by x (take x.length b) (omega (arith, long, first_lies b h x front)) first, long, front.is_within)
 
 -- ---- the recursion
 
 section_lies : (n : ℕ) → SectionLies n
-section_lies zero e f at (which, is) = subst (LiesIn at (f.offset + frame_len f) zero) (sym is) (omega arith, omega arith)
-section_lies (suc n) e f at (inl (group, first)) =
-    let lies = stream_by n (section_lies n) e f.body _ first in (omega (arith, lies.0), omega (arith, lies.1))
-section_lies (suc n) e f at (inr (kind, opens, first)) =
-    let lies = volume_by n (section_lies n) e _ f.body first in (omega (arith, lies.0), omega (arith, lies.1))
+section_lies zero e f at (which, is) = rw is (omega arith)
+section_lies (suc n) e f at (inl (group, first)) = omega (arith, stream_by n (section_lies n) e f.body _ first)
+section_lies (suc n) e f at (inr (kind, opens, first)) = omega (arith, volume_by n (section_lies n) e _ f.body first)
 
 -- ---- bytes that are passed to a call
 
 -- their first fault lies within them or at their end, and at most 8 levels deep
 pub first_within : (b : List ℕ) (e : Fault) → IsFirstOfVolume b e → (e.place.offset ≤ length b) × (e.place.depth ≤ depth_limit)
-first_within b e first =
-    let lies = volume_by depth_limit (section_lies depth_limit) e outermost b first in (omega (arith, lies.0), omega (arith, lies.1))
+first_within b e first = omega (arith, volume_by depth_limit (section_lies depth_limit) e outermost b first)
 
 -- a fault that is returned lies there too, because it is their first fault or out of memory
 pub refused_within : (b : List ℕ) (e : Fault) → (e ≢ out_of_memory → IsFirstOfVolume b e)
     → (e.place.offset ≤ length b) × (e.place.depth ≤ depth_limit)
-refused_within b e first = go (want_known e) where
-  go : (e ≡ out_of_memory) ⊎ (e ≢ out_of_memory) → (e.place.offset ≤ length b) × (e.place.depth ≤ depth_limit)
-  go (inl want) = subst (λ (g : Fault). (g.place.offset ≤ length b) × (g.place.depth ≤ depth_limit)) (sym want) (omega arith, omega arith)
-  go (inr other) = first_within b e (first other)
+refused_within b e first = elim (want_known e) [ inl want ↦ rw want (omega arith) | inr other ↦ first_within b e (first other) ]

@@ -1,19 +1,18 @@
 -- A volume has fewer files than bytes.
-use Rattle.std.proofs.Common.{◌≡◌, ◌≤◌, ◌<◌, ℕ, ◌^◌, [], ◌∷◌, List, length, drop, Bool, refl, ap, arith, not, length-drop}
-use Rattle.fv_base.proofs.Laws.{filter, list_any}
+use Rattle.std.proofs.Common.{◌≡◌, ◌≤◌, ◌<◌, ℕ, ◌^◌, [], ◌∷◌, List, length, drop, refl, ap, arith, length-drop}
 use Rattle.std.proofs.lemmas.List.Sums.{count_by-le-length, length-filter}
 use Rattle.fv_file.specs.Words.{CellForm, Valid}
 use Rattle.fv_file.proofs.Laws.{cells_few}
 use Rattle.fv_head.proofs.Laws.{front_lies}
-use Rattle.fv_tree.specs.Words.{Pairwise, Stream, Denotes, MeansFile, IsMeaning, Meaning, files_of, head_of, FileForm, files_in, replaced_by}
+use Rattle.fv_tree.specs.Words.{Pairwise, Stream, Denotes, MeansFile, IsMeaning, Meaning, files_of, head_of, FileForm, files_in, current_in}
 
 pub files_few : (cs : List CellForm) → length (files_in cs) ≤ length cs
 files_few [] = omega arith
 files_few (Valid at head payload ∷ cs) = omega (arith, files_few cs)
 files_few (_ ∷ cs) = omega (arith, files_few cs)
 
-pub filter_few : (test : FileForm → Bool) (fs : List FileForm) → length (filter test fs) ≤ length fs
-filter_few test fs = omega (arith, length-filter test fs, count_by-le-length test fs)
+pub current_few : (fs : List FileForm) → length (current_in fs) ≤ length fs
+current_few fs = omega (arith, length-filter {X = FileForm}, count_by-le-length {X = FileForm})
 
 pairs_length : {A B : Type 0} (R : A → B → Type 0) (xs : List A) (ys : List B) → Pairwise R xs ys → length ys ≡ length xs
 pairs_length R [] [] p = refl
@@ -23,16 +22,8 @@ pairs_length R _ _ p = absurd p
 pub few_files : (n : ℕ) (b : List ℕ) (m : Meaning) → Denotes n b m → length (files_of m) ≤ length b
 few_files n b m d =
     let cells = cells_few d.extent.file_system d.extent.polarity d.extent.first d.cells (drop d.extent.first b) d.tiles in
-    let all = filter_few (λ f. not (list_any (replaced_by f) (files_in d.cells))) (files_in d.cells) in
-    omega (
-      arith,
-      cells,
-      length-drop d.extent.first b,
-      files_few d.cells,
-      all,
-      ap length d.current.files_are,
-      pairs_length (MeansFile (Stream n)) d.files (files_of m) d.meanings,
-    )
+    let pairs = pairs_length (MeansFile (Stream n)) d.files (files_of m) d.meanings in
+    omega (arith, cells, length-drop d.extent.first b, files_few d.cells, current_few (files_in d.cells), ap length d.current.files_are, pairs)
 
 pub few_of : (m : Meaning) → IsMeaning m → length (files_of m) < 2 ^ 32
 few_of m (n, low, b, small, d) = omega (arith, few_files n b m d, d.length_is, (front_lies b (head_of m) d.extent d.begins).limit)

@@ -6,28 +6,25 @@
 -- 3. By induction on the nesting depth each section has at most one (`section_once`), and so has each volume
 --    (`first_once`).
 -- 4. So the result of a reader is determined by the bytes (`only_answer`, `one_answer`, `sound_answer`).
-use Rattle.std.proofs.Common.{◌≡◌, ◌≢◌, ◌≤◌, ℕ, zero, suc, List, length, take, drop, refl, sym, ap, ◌∙◌, subst, inl, inr, Result, Ok, Err, IfOk}
-use Rattle.fv_base.proofs.Laws.{IfErr, First, Any, outer_fault, out_of_memory, depth_limit, none_fails, one_fault}
+use Rattle.std.proofs.Common.{◌≡◌, ◌≢◌, ◌≤◌, ℕ, zero, suc, List, length, take, drop, sym, ◌∙◌, inl, inr, Result, Ok, Err, IfOk}
+use Rattle.fv_base.proofs.Laws.{IfErr, First, Any, out_of_memory, depth_limit, none_fails, one_fault}
 use Rattle.fv_base.specs.declared.fault.Fault.{Fault}
 use Rattle.fv_base.specs.declared.fault.Place.{Place}
-use Rattle.fv_file.specs.Words.{CellForm}
 use Rattle.fv_file.proofs.Laws.{one_cell_fault, only_one}
 use Rattle.fv_head.specs.Words.{head_checks}
 use Rattle.fv_head.specs.declared.extent.Extent.{Extent}
 use Rattle.fv_head.proofs.Laws.{front_holds, one_front}
 use Rattle.fv_section.specs.Words.{FrameForm}
 use Rattle.fv_section.proofs.Laws.{one_frame_fault, one_split}
-use Rattle.fv_tree.specs.Words.{MeansFile, MeansSection, Stream, Denotes, moved_fault, Moved, OneOf, NamesFault, StoredFault, FileFault, BodyFault}
-use Rattle.fv_tree.specs.Words.{data_at, outermost, InSection, InStream, InVolume, IsFirstOfVolume, FaultHolds, Meaning, length_of, FileForm}
-use Rattle.fv_tree.specs.Words.{AreCurrent, NoTwins, TopAtEnd, files_in, current_in}
+use Rattle.fv_tree.specs.Words.{MeansFile, MeansSection, Stream, Denotes, Moved, NamesFault, StoredFault, FileFault, BodyFault, data_at, outermost}
+use Rattle.fv_tree.specs.Words.{InSection, InStream, InVolume, IsFirstOfVolume, FaultHolds, Meaning, length_of, FileForm, files_in, current_in}
 use Rattle.fv_tree.specs.inner.ReadingParts.{ReadsOrFails}
 use Rattle.fv_tree.proofs.ListPairs.{first_of_once}
 use Rattle.fv_tree.proofs.MeaningLaws.{one_beginning}
 use Rattle.fv_tree.proofs.NamesFaultLaws.{twin_none}
-use Rattle.fv_tree.proofs.RefusalLaws.{StreamRefuses, stored_by, file_by, section_refuses, stream_refuses, fault_refuses}
+use Rattle.fv_tree.proofs.RefusalLaws.{stored_by, file_by, section_refuses, stream_refuses, fault_refuses}
 use Rattle.fv_tree.proofs.TwinLaws.{one_twin, one_top}
 use Rattle.fv_tree.proofs.SectionShapeLaws.{group_is_no_volume}
-use Rattle.fv_base.specs.declared.fault.FaultKind.TheVariants as kinds
 use Rattle.fv_file.proofs.Laws as cellular
 use Rattle.fv_section.proofs.Laws as framed
 
@@ -35,16 +32,14 @@ use Rattle.fv_section.proofs.Laws as framed
 
 -- if bytes have at most one fault of a kind, they have at most one fault of this kind that is moved to a place
 moved_once : (P : Fault → Type 0) → ((f g : Fault) → P f → P g → f ≡ g) → (at : Place) (e g : Fault) → Moved at P e → Moved at P g → e ≡ g
-moved_once P once at e g (f, p, is) (f', p', is') = is ∙ ap (moved_fault at.offset at.depth) (once f f' p p') ∙ sym is'
+moved_once P once at e g (f, p, is) (f', p', is') = cc (once f f' p p')
 
 -- the names of files
 names_once : (len : ℕ) (fs : List FileForm) (e g : Fault) → NamesFault First len fs e → NamesFault First len fs g → e ≡ g
-names_once len fs e g (inl (f, twin, is)) (inl (f', twin', is')) =
-    is ∙ ap (λ (h : FileForm). outer_fault kinds.DuplicateName h.offset) (one_twin f f' fs twin twin') ∙ sym is'
+names_once len fs e g (inl (f, twin, is)) (inl (f', twin', is')) = cc (one_twin f f' fs twin twin')
 names_once len fs e g (inl (f, twin, is)) (inr (none, _, _, _)) = absurd (twin_none First f fs twin none)
 names_once len fs e g (inr (none, _, _, _)) (inl (f, twin, is)) = absurd (twin_none First f fs twin none)
-names_once len fs e g (inr (none, f, top, is)) (inr (_, f', top', is')) =
-    is ∙ ap (λ (h : FileForm). outer_fault kinds.TopFile h.offset) (one_top len f f' fs none top top') ∙ sym is'
+names_once len fs e g (inr (none, f, top, is)) (inr (_, f', top', is')) = cc (one_top len f f' fs none top top')
 
 -- the cells of a body and the files in them have at most one first fault
 stored_once : (x : Extent) (volume : List ℕ) (e g : Fault) → StoredFault First x volume e → StoredFault First x volume g → e ≡ g
@@ -52,14 +47,7 @@ stored_once x volume e g (inl first) (inl first') = one_cell_fault x.file_system
 stored_once x volume e g (inl first) (inr (cells, tiles, _)) = absurd (cellular.none_after First _ x.polarity x.first _ e cells first tiles)
 stored_once x volume e g (inr (cells, tiles, _)) (inl first) = absurd (cellular.none_after First _ x.polarity x.first _ g cells first tiles)
 stored_once x volume e g (inr (cells, tiles, names)) (inr (others, tiles', names')) =
-    let same = only_one x.file_system x.polarity x.first (drop x.first volume) cells others tiles tiles' in
-    let P : List CellForm → Type 0 = λ cs. NamesFault First x.length (files_in cs) g in
-    names_once x.length (files_in cells) e g names (subst P same names')
-
--- the current files of cells whose files have no fault
-current : (len : ℕ) (cells : List CellForm) → NoTwins (files_in cells) × TopAtEnd len (current_in (files_in cells))
-    → AreCurrent len (files_in cells) (current_in (files_in cells))
-current len cells right = record { no_twins = right.0; files_are = refl; top = right.1 }
+    names_once x.length (files_in cells) e g names (rw (only_one x.file_system x.polarity x.first _ cells others tiles tiles') at names')
 
 -- ---- a stream and a volume, given the same of their sections
 
@@ -76,27 +64,24 @@ stream_once n once e g b at (inl moved) (inl moved') = moved_once _ (one_frame_f
 stream_once n once e g b at (inl (f, first, is)) (inr (frames, tail, split, _)) = absurd (framed.none_after First b f frames tail first split)
 stream_once n once e g b at (inr (frames, tail, split, _)) (inl (f, first, is)) = absurd (framed.none_after First b f frames tail first split)
 stream_once n once e g b at (inr (frames, tail, split, first)) (inr (others, tail', split', first')) =
-    let P : List FrameForm → Type 0 = λ l. OneOf First (MeansSection n) (λ f. InSection First n g f at) l in
-    let here = subst P (one_split 0 others frames tail' tail b split' split).0 first' in
     let one = first_of_once (MeansSection n) (λ f. InSection First n e f at) (λ f. InSection First n g f at) frames
-    (λ f s. section_refuses First n e f at s) (λ f s. section_refuses First n g f at s) first here in
+    (λ f s. section_refuses First n e f at s) (λ f s. section_refuses First n g f at s) first
+    (rw (one_split 0 others frames tail' tail b split' split).0 at first') in
     once e g one.0 at one.1 one.2
 
-module _ (n : ℕ) (rejected : StreamRefuses First n) (once : StreamOnce n) (e g : Fault) (at : Place) where
+module _ (n : ℕ) (once : StreamOnce n) (e g : Fault) (at : Place) where
   -- a body has at most one first fault
   body_once : (x : Extent) (volume : List ℕ) → BodyFault First n (InStream First n) x e volume at
       → BodyFault First n (InStream First n) x g volume at → e ≡ g
   body_once x volume (inl moved) (inl moved') = moved_once _ (stored_once x volume) at e g moved moved'
   body_once x volume (inl (f, first, is)) (inr (cells, tiles, right, _)) =
-      absurd (stored_by First x volume f cells _ first tiles (current x.length cells right))
+      absurd (stored_by First x volume f cells first tiles right)
   body_once x volume (inr (cells, tiles, right, _)) (inl (f, first, is)) =
-      absurd (stored_by First x volume f cells _ first tiles (current x.length cells right))
+      absurd (stored_by First x volume f cells first tiles right)
   body_once x volume (inr (cells, tiles, right, first)) (inr (others, tiles', right', first')) =
-      let same : others ≡ cells = only_one x.file_system x.polarity x.first (drop x.first volume) cells others tiles tiles' in
-      let Q : List CellForm → Type 0 =
-      λ cs. OneOf First (MeansFile (Stream n)) (λ f. FileFault (InStream First n) g f at) (current_in (files_in cs)) in
       let one = first_of_once (MeansFile (Stream n)) (λ f. FileFault (InStream First n) e f at) (λ f. FileFault (InStream First n) g f at)
-      (current_in (files_in cells)) (file_by First n rejected e at) (file_by First n rejected g at) first (subst Q same first') in
+      (current_in (files_in cells)) (file_by First n (stream_refuses First n) e at) (file_by First n (stream_refuses First n) g at) first
+      (rw (only_one x.file_system x.polarity x.first _ cells others tiles tiles') at first') in
       once e g (one.0).payload (data_at at one.0) one.1.1 one.2.1
 
   -- bytes have at most one first fault as a volume
@@ -106,8 +91,7 @@ module _ (n : ℕ) (rejected : StreamRefuses First n) (once : StreamOnce n) (e g
       absurd (none_fails First (head_checks b) f first (front_holds b h x front))
   volume_once b (inr (h, x, front, _)) (inl (f, first, is)) = absurd (none_fails First (head_checks b) f first (front_holds b h x front))
   volume_once b (inr (h, x, front, first)) (inr (h', x', front', first')) =
-      let P : Extent → Type 0 = λ y. BodyFault First n (InStream First n) y g (take y.length b) at in
-      body_once x (take x.length b) first (subst P (one_front b h' h x' x front' front).1 first')
+      body_once x (take x.length b) first (rw (one_front b h' h x' x front' front).1 at first')
 
 -- ---- the recursion
 
@@ -118,11 +102,11 @@ section_once (suc n) e g f at (inl (group, first)) (inl (_, first')) = stream_on
 section_once (suc n) e g f at (inl (group, _)) (inr (kind, opens, _)) = absurd (group_is_no_volume f group kind)
 section_once (suc n) e g f at (inr (kind, opens, _)) (inl (group, _)) = absurd (group_is_no_volume f group kind)
 section_once (suc n) e g f at (inr (kind, opens, first)) (inr (_, _, first')) =
-    volume_once n (stream_refuses First n) (stream_once n (section_once n)) e g _ f.body first first'
+    volume_once n (stream_once n (section_once n)) e g _ f.body first first'
 
 -- bytes have at most one first fault as a volume, at every level
 pub first_once : (n : ℕ) (e g : Fault) (b : List ℕ) (at : Place) → InVolume First n e b at → InVolume First n g b at → e ≡ g
-first_once n e g b at first first' = volume_once n (stream_refuses First n) (stream_once n (section_once n)) e g at b first first'
+first_once n e g b at = volume_once n (stream_once n (section_once n)) e g at b
 
 -- ---- the result of reading bytes as a volume
 

@@ -1,6 +1,6 @@
 -- A stream, a section, a body and a content have the length of the bytes that they were read from.
 use Rattle.std.proofs.lemmas.Grind.{common_steps}
-use Rattle.std.proofs.Common.{◌≡◌, ℕ, ◌+◌, [], ◌∷◌, ◌++◌, zero, suc, List, length, refl, sym, ap, ◌∙◌, subst, arith, length-append}
+use Rattle.std.proofs.Common.{◌≡◌, ℕ, ◌+◌, [], ◌∷◌, ◌++◌, zero, suc, List, length, refl, sym, ap, ◌∙◌, arith, length-append}
 use Rattle.fv_base.specs.declared.guid.Guid.{Guid}
 use Rattle.fv_section.specs.Words.{FrameForm, SplitsFrom, frame_len, up_to_4}
 use Rattle.fv_section.proofs.Laws.{length_begun}
@@ -14,34 +14,24 @@ abbrev pub AsLong : SectionRelation → Type 0
 AsLong R = (f : FrameForm) (s : SectionMeaning) → R f s → section_len s ≡ frame_len f
 
 from_long : (R : SectionRelation) → AsLong R → (at end : ℕ) (f : FrameForm) (fs : List FrameForm) (s : SectionMeaning) (ss : SectionMeanings)
-    (tail : ℕ) (b : List ℕ) → up_to_4 end ≡ at
-    → SplitsFrom at (f ∷ fs) tail b → Pairwise R (f ∷ fs) (s ∷ sections_list ss) → sections_end end (MoreSections s ss) + tail ≡ at +
-    length b
+    (tail : ℕ) (b : List ℕ) → up_to_4 end ≡ at → SplitsFrom at (f ∷ fs) tail b → Pairwise R (f ∷ fs) (s ∷ sections_list ss)
+    → sections_end end (MoreSections s ss) + tail ≡ at + length b
 from_long R each at end f [] s NoSections tail b e (rest, begun, o, t, most) (r, _) =
-    let long = length_begun f b rest begun in
-    let same = each f s r in
-    let x : sections_end (up_to_4 end + section_len s) NoSections ≡ at + frame_len f = omega (arith, e, same) in
-    omega (arith, x, long, t)
-from_long R each at end f [] s (MoreSections u us) tail b e from (r, p) = absurd p
-from_long R each at end f (g ∷ gs) s NoSections tail b e from (r, p) = absurd p
+    omega (arith, e, each f s r, length_begun f b rest begun, t)
 from_long R each at end f (g ∷ gs) s (MoreSections u us) tail b e (filler, rest, begun, o, fill, more) (r, p) =
-    let long = length_begun f b (filler ++ rest) begun in
-    let joined = length-append filler rest in
-    let same = each f s r in
-    let here : up_to_4 end + section_len s ≡ at + frame_len f = omega (arith, e, same) in
+    let here : up_to_4 end + section_len s ≡ at + frame_len f = omega (arith, e, each f s r) in
     let go = from_long R each (up_to_4 (at + frame_len f)) (at + frame_len f) g gs u us tail rest refl more p in
-    let P : ℕ → Type 0 = λ n. sections_end n (MoreSections u us) + tail ≡ at + length b in
-    subst P (sym here) (go ∙ omega (arith, long, joined, fill))
+    rw here (go ∙ omega (arith, length_begun f b (filler ++ rest) begun, length-append filler rest, fill))
+from_long R each at end f _ s _ tail b e from (r, p) = absurd p
 
 -- the sections of a stream and its tail have the length of the stream
 pub stream_long : (R : SectionRelation) → AsLong R → (ss : SectionMeanings) (tail : ℕ) (b : List ℕ) → StreamOver R (sections_list ss) tail b
     → sections_end 0 ss + tail ≡ length b
-stream_long R each NoSections tail b ([], split, p) = let e : b ≡ [] = split.0 in (let t : tail ≡ 0 = split.1 in omega (arith, t, ap length e))
-stream_long R each NoSections tail b (f ∷ fs, split, p) = absurd p
-stream_long R each (MoreSections s ss) tail b ([], split, p) = absurd p
+stream_long R each NoSections tail b ([], split, p) = omega (arith, split.1, ap length split.0)
 stream_long R each (MoreSections s ss) tail b (f ∷ fs, split, p) = let z = from_long R each 0 0 f fs s ss tail b refl split p in omega (arith, z)
+stream_long R each _ tail b (_, split, p) = absurd p
 
-volume_long : (S : StreamRelation) (b : List ℕ) (m : Meaning) → VolumeOver S b m → length_of m ≡ length b
+pub volume_long : (S : StreamRelation) (b : List ℕ) (m : Meaning) → VolumeOver S b m → length_of m ≡ length b
 volume_long S b (Volume h fs) d = sym (d.length_is ∙ d.begins.length_is)
 
 section_long_over : (S : StreamRelation) (V : VolumeRelation)

@@ -5,7 +5,7 @@
 --    (`content_one`, `file_one`, `volume_one`, `section_one`).
 -- 3. By induction on the nesting depth each section has at most one meaning (`sections_one`), and so has each volume
 --    (`one_meaning`, `one_beginning`).
-use Rattle.std.proofs.Common.{◌≡◌, ◌≤◌, ℕ, [], ◌∷◌, zero, suc, true, false, List, length, take, refl, sym, ap, ◌∙◌, subst, arith}
+use Rattle.std.proofs.Common.{◌≡◌, ◌≤◌, ℕ, [], ◌∷◌, zero, suc, true, false, List, length, take, refl, sym, ap, ◌∙◌, subst, arith, rules}
 use Rattle.fv_base.proofs.Laws.{common_steps}
 use Rattle.fv_file.proofs.Laws.{only_one}
 use Rattle.fv_head.specs.declared.extent.Extent.{Extent}
@@ -17,7 +17,7 @@ use Rattle.fv_tree.specs.Words.{Sectioned, files_from, sections_from, files_list
 use Rattle.fv_tree.specs.Words.{BodyMeaning, Leaf, Group, Nested, sections_list, SectionRelation, StreamRelation, VolumeRelation, Pairwise}
 use Rattle.fv_tree.specs.Words.{StreamOver, SectionOver, VolumeOver, MeansBody, MeansContent, MeansFile, MeansSection, Stream, Denotes}
 use Rattle.fv_tree.proofs.SectionShapeLaws.{group_is_no_volume}
-use Rattle.fv_tree.proofs.VolumePartLaws.{front_of, has_files}
+use Rattle.fv_tree.proofs.VolumePartLaws.{front_of, has_files, has_of}
 
 -- two lists of files that are stored in a volume are equal
 pub one_stand : (e : Extent) (volume : List ℕ) (fs gs : List FileForm) → AreFilesOf e volume fs → AreFilesOf e volume gs → gs ≡ fs
@@ -29,7 +29,7 @@ abbrev SectionsOne : SectionRelation → SectionRelation → Type 0
 SectionsOne p q = (f : FrameForm) (s t : SectionMeaning) → p f s → q f t → s ≡ t
 
 abbrev StreamsOne : StreamRelation → StreamRelation → Type 0
-StreamsOne p q = (ss ts : List SectionMeaning) (n k : ℕ) (b : List ℕ) → p ss n b → q ts k b → (ss ≡ ts) × (n ≡ k)
+StreamsOne p q = (ss ts : SectionMeanings) (n k : ℕ) (b : List ℕ) → p (sections_list ss) n b → q (sections_list ts) k b → (ss ≡ ts) × (n ≡ k)
 
 abbrev VolumesOne : VolumeRelation → VolumeRelation → Type 0
 VolumesOne p q = (b : List ℕ) (m k : Meaning) → p b m → q b k → m ≡ k
@@ -48,16 +48,11 @@ same_sections xs ys e = sym (sections_back xs) ∙ ap sections_from e ∙ sectio
 pairs_one : {A B : Type 0} (p q : A → B → Type 0) → ((x : A) (y z : B) → p x y → q x z → y ≡ z) → (xs : List A) (ys zs : List B)
     → Pairwise p xs ys → Pairwise q xs zs → ys ≡ zs
 pairs_one p q one [] [] [] h k = refl
-pairs_one p q one [] [] (z ∷ zs) h k = absurd k
-pairs_one p q one (x ∷ xs) (y ∷ ys) [] h k = absurd k
-pairs_one p q one (x ∷ xs) (y ∷ ys) (z ∷ zs) h k =
-    let a : y ≡ z = one x y z h.0 k.0 in
-    let b : ys ≡ zs = pairs_one p q one xs ys zs h.1 k.1 in
-    cc
-pairs_one p q one _ _ zs h k = absurd h
+pairs_one p q one (x ∷ xs) (y ∷ ys) (z ∷ zs) h k = cc (one x y z h.0 k.0, pairs_one p q one xs ys zs h.1 k.1)
+pairs_one p q one _ _ _ h k = absurd assumption
 
 stream_one : (p q : SectionRelation) → SectionsOne p q → StreamsOne (StreamOver p) (StreamOver q)
-stream_one p q one ss ts n k b (fs, split, pairs) (gs, split', pairs') = grind (arith, common_steps, one_split, pairs_one)
+stream_one p q one ss ts n k b (fs, split, pairs) (gs, split', pairs') = grind (arith, common_steps, one_split, pairs_one, same_sections)
 
 -- ---- a content, a file and a volume, given the same of their streams
 
@@ -67,10 +62,7 @@ module _ (s s' : StreamRelation) (streams : StreamsOne s s') where
   content_one kind payload (Plain b) (Sectioned ts k) (none, is) (some, inside) = let t : false ≡ true = sym none ∙ some in cc
   content_one kind payload (Sectioned ss n) (Plain c) (some, inside) (none, is) = let t : false ≡ true = sym none ∙ some in cc
   content_one kind payload (Sectioned ss n) (Sectioned ts k) (p, inside) (p', inside') =
-      let same = streams (sections_list ss) (sections_list ts) n k payload inside inside' in
-      let list : ss ≡ ts = same_sections ss ts same.0 in
-      let tail : n ≡ k = same.1 in
-      cc
+      let same = streams ss ts n k payload inside inside' in cc
 
   file_one : (f : FileForm) (m k : FileMeaning) → MeansFile s f m → MeansFile s' f k → m ≡ k
   file_one f m k means_file other_means_file = grind (arith, common_steps, content_one) steps 150000
@@ -78,30 +70,18 @@ module _ (s s' : StreamRelation) (streams : StreamsOne s s') where
   volume_one : VolumesOne (VolumeOver s) (VolumeOver s')
   volume_one b (Volume h fs) (Volume k gs) d d' =
       let heads = one_front b h k d.extent d'.extent d.begins d'.begins in
-      let stand : AreFilesOf d.extent b d.files = record { cells = d.cells; tiles = d.tiles; current = d.current } in
-      let stand' : AreFilesOf d'.extent b d'.files = record { cells = d'.cells; tiles = d'.tiles; current = d'.current } in
-      let forms = one_stand d.extent b d.files d'.files stand (subst (λ (x : Extent). AreFilesOf x b d'.files) (sym heads.1) stand') in
-      let lists = pairs_one (MeansFile s) (MeansFile s') file_one d.files (files_list fs) (files_list gs) d.meanings
-      (subst (λ (xs : List FileForm). Pairwise (MeansFile s') xs (files_list gs)) forms d'.meanings) in
-      let files : fs ≡ gs = sym (files_back fs) ∙ ap files_from lists ∙ files_back gs in
-      let same : h ≡ k = heads.0 in
-      cc
+      let (xs, stand, pairs) = has_of s b (Volume h fs) d in
+      let (ys, stand', pairs') = has_of s' b (Volume k gs) d' in
+      let forms = one_stand d.extent b xs ys stand (subst (λ (x : Extent). AreFilesOf x b ys) (sym heads.1) stand') in
+      let lists = pairs_one (MeansFile s) (MeansFile s') file_one xs (files_list fs) (files_list gs) pairs (rw forms at pairs') in
+      cc (heads.0, ap files_from lists, files_back fs, files_back gs)
 
   module _ (v v' : VolumeRelation) (volumes : VolumesOne v v') where
     body_one : (f : FrameForm) (b c : BodyMeaning) → MeansBody s v f b → MeansBody s' v' f c → b ≡ c
     body_one f (Leaf b) (Leaf c) (_, _, is) (_, _, is') = ap Leaf (is ∙ sym is')
-    body_one f (Leaf b) (Group ts k) (off, _, _) (group, _) = absurd (off group)
-    body_one f (Leaf b) (Nested k) (_, shut, _) (kind, opens, _) = absurd (shut kind opens)
-    body_one f (Group ss n) (Leaf c) (group, _) (off, _, _) = absurd (off group)
-    body_one f (Group ss n) (Group ts k) (_, inside) (_, inside') =
-        let same = streams (sections_list ss) (sections_list ts) n k f.body inside inside' in
-        let list : ss ≡ ts = same_sections ss ts same.0 in
-        let tail : n ≡ k = same.1 in
-        cc
-    body_one f (Group ss n) (Nested k) (group, _) (kind, _, _) = absurd (group_is_no_volume f group kind)
-    body_one f (Nested m) (Leaf c) (kind, opens, _) (_, shut, _) = absurd (shut kind opens)
-    body_one f (Nested m) (Group ts k) (kind, _, _) (group, _) = absurd (group_is_no_volume f group kind)
+    body_one f (Group ss n) (Group ts k) (_, inside) (_, inside') = let same = streams ss ts n k f.body inside inside' in cc
     body_one f (Nested m) (Nested k) (_, _, d) (_, _, d') = ap Nested (volumes f.body m k d d')
+    body_one f _ _ means other_means = absurd (search (rules, group_is_no_volume))
 
     section_one : SectionsOne (SectionOver s v) (SectionOver s' v')
     section_one f s t means other_means = grind (arith, common_steps, body_one) steps 150000
@@ -126,4 +106,4 @@ pub one_beginning : (n k j : ℕ) (b : List ℕ) (m v : Meaning) → k ≤ lengt
 one_beginning n k j b m v within d within' d' =
     let front = front_of n j b v within' d' in
     let len : k ≡ j = (has_files n k b m _ d'.extent front.0 within d).1 ∙ front.1 in
-    (one_meaning n n (take j b) m v (subst (λ (i : ℕ). Denotes n (take i b) m) len d) d', len)
+    (one_meaning n n (take j b) m v (rw len at d) d', len)

@@ -1,11 +1,10 @@
 -- Files with a twin, or with a volume top file that is not at the end, are not the files of a volume.
-use Rattle.std.proofs.Common.{◌≡◌, ◌∙◌, ◌⊎◌, ℕ, [], ◌∷◌, ◌++◌, List, length-append, Bool, true, refl, subst, arith, inl, inr}
+use Rattle.std.proofs.Common.{◌≡◌, ℕ, [], ◌∷◌, ◌++◌, List, length-append, Bool, true, refl, subst, arith, inl, inr}
 use Rattle.fv_base.proofs.Laws.{common_steps, list_any, list_any_at, bytes_eq-Decides, Which, and_join, and_split, up_is_not_down}
 use Rattle.std.proofs.lemmas.Bool.{or_cases}
 use Rattle.std.proofs.lemmas.List.{get_or_at}
 use Rattle.fv_base.specs.declared.fault.Fault.{Fault}
-use Rattle.fv_file.specs.Words.{CellForm}
-use Rattle.fv_tree.specs.Words.{HasTwin, NamesFault, FileForm, files_in, same_name, is_twin, NoTwins, is_top, end_of, TopAtEnd, AreCurrent}
+use Rattle.fv_tree.specs.Words.{HasTwin, NamesFault, FileForm, same_name, is_twin, NoTwins, current_in, is_top, end_of, TopAtEnd}
 
 pub same_name_back : (f g : FileForm) → same_name f g ≡ true → same_name g f ≡ true
 same_name_back f g h = grind (arith, common_steps, bytes_eq-Decides)
@@ -19,11 +18,11 @@ any_behind p xs f ys h = grind (arith, common_steps, list_any_at, length-append,
 
 twin_not : (before : List FileForm) (f : FileForm) (after : List FileForm) → NoTwins (before ++ (f ∷ after))
     → list_any (is_twin f) before ≡ true → ⊥
-twin_not [] f after none h = let x : ⊥ = cc in x
-twin_not (g ∷ gs) f after none h = go (twin_not gs f after none.1) (or_cases (is_twin f g) (list_any (is_twin f) gs) h) where
-  go : (list_any (is_twin f) gs ≡ true → ⊥) → (is_twin f g ≡ true) ⊎ (list_any (is_twin f) gs ≡ true) → ⊥
-  go rest (inl t) = up_is_not_down (list_any (is_twin g) (gs ++ (f ∷ after))) (any_behind (is_twin g) gs f after (twin_back f g t)) none.0
-  go rest (inr t) = rest t
+twin_not [] f after none h = cc
+twin_not (g ∷ gs) f after none h = elim (or_cases (is_twin f g) (list_any (is_twin f) gs) h) [
+  | inl t ↦ up_is_not_down _ (any_behind (is_twin g) gs f after (twin_back f g t)) none.0
+  | inr t ↦ twin_not gs f after none.1 t
+]
 
 pub twin_none : (which : Which) (f : FileForm) (fs : List FileForm) → HasTwin which f fs → NoTwins fs → ⊥
 twin_none which f fs (before, after, is, none, has) all = twin_not before f after (subst NoTwins is all) has
@@ -35,9 +34,7 @@ top_not n [] f (g ∷ gs) all top off = up_is_not_down (is_top f) top all.0
 top_not n (x ∷ []) f after all top off = top_not n [] f after all.1 top off
 top_not n (x ∷ y ∷ xs) f after all top off = top_not n (y ∷ xs) f after all.1 top off
 
--- if the names of the files in the cells have a fault, no files are current
-pub current_none : (which : Which) (n : ℕ) (cells : List CellForm) (f : Fault) (files : List FileForm)
-    → NamesFault which n (files_in cells) f → AreCurrent n (files_in cells) files → ⊥
-current_none which n cells f files (inl (x, twin, is)) all = twin_none which x (files_in cells) twin all.no_twins
-current_none which n cells f files (inr (none, x, (before, after, cut, top, off), is)) all =
-    top_not n before x after (subst (TopAtEnd n) (all.files_are ∙ cut) all.top) top off
+-- if the names of the files have a fault, there are twins, or a volume top file that is not at the end
+pub names_wrong : (which : Which) (n : ℕ) (fs : List FileForm) (f : Fault) → NamesFault which n fs f → NoTwins fs × TopAtEnd n (current_in fs) → ⊥
+names_wrong which n fs f (inl (x, twin, is)) right = twin_none which x fs twin right.0
+names_wrong which n fs f (inr (none, x, (before, after, cut, top, off), is)) right = top_not n before x after (rw cut at right.1) top off

@@ -1,9 +1,9 @@
 -- A part with a fault is not read. This is true of a first fault and of any fault whose condition holds. The steps:
 -- 1. If no section with a fault is read, then bytes with a fault are not a stream, not a body and not a volume
---    (`stream_by`, `stored_by`, `file_by`, `body_by`, `volume_by`).
+--    (`stream_by`, `stored_by`, `file_by`, `volume_by`).
 -- 2. By induction on the nesting depth no section with a fault is read (`section_refuses`), so no stream and no volume
 --    with a fault is read (`stream_refuses`, `fault_refuses`).
-use Rattle.std.proofs.Common.{◌≡◌, ◌≤◌, ℕ, zero, suc, List, length, take, drop, ap, ◌∙◌, subst, sym, inl, inr, arith, take_all}
+use Rattle.std.proofs.Common.{◌≤◌, ℕ, zero, suc, List, length, take, drop, inl, inr, arith, take_all}
 use Rattle.fv_base.proofs.Laws.{Which, none_fails}
 use Rattle.fv_base.specs.declared.fault.Fault.{Fault}
 use Rattle.fv_base.specs.declared.fault.Place.{Place}
@@ -14,13 +14,12 @@ use Rattle.fv_head.specs.declared.extent.Extent.{Extent}
 use Rattle.fv_head.proofs.Laws.{front_holds}
 use Rattle.fv_section.specs.Words.{FrameForm}
 use Rattle.fv_section.proofs.Laws.{one_split}
-use Rattle.fv_tree.specs.Words.{AreFilesOf, Pairwise, MeansFile, MeansSection, Stream, Denotes, FileFault, StoredFault, Moved, BodyFault, InSection}
-use Rattle.fv_tree.specs.Words.{InStream, InVolume, data_at, Meaning, FileMeaning, SectionMeaning, files_of, head_of, FileForm, AreCurrent, files_in}
-use Rattle.fv_tree.specs.Words.{current_in}
+use Rattle.fv_tree.specs.Words.{AreFilesOf, MeansFile, MeansSection, Stream, Denotes, FileFault, StoredFault, Moved, InSection, InStream, InVolume}
+use Rattle.fv_tree.specs.Words.{data_at, Meaning, FileMeaning, SectionMeaning, files_of, head_of, FileForm, NoTwins, TopAtEnd, files_in, current_in}
 use Rattle.fv_tree.proofs.ListPairs.{one_of_none}
-use Rattle.fv_tree.proofs.NamesFaultLaws.{current_none}
+use Rattle.fv_tree.proofs.NamesFaultLaws.{names_wrong}
 use Rattle.fv_tree.proofs.SectionShapeLaws.{group_only, opened_only, stream_bad}
-use Rattle.fv_tree.proofs.VolumePartLaws.{HasFiles, front_of, has_files}
+use Rattle.fv_tree.proofs.VolumePartLaws.{front_of, has_files}
 use Rattle.fv_file.proofs.Laws as cellular
 use Rattle.fv_section.proofs.Laws as framed
 
@@ -39,21 +38,22 @@ module _ (which : Which) where
   stream_by n rejected e b at ss t (inl (f, bad, is)) (frames, split, pairs) = framed.none_after which b f frames t bad split
   stream_by n rejected e b at ss t (inr (frames, tail, split, bad)) (others, split', pairs) =
       one_of_none which (MeansSection n) (λ f. InSection which n e f at) frames ss (λ f s. rejected e f at s) bad
-      (subst (λ (l : List FrameForm). Pairwise (MeansSection n) l ss) (one_split 0 others frames t tail b split' split).0 pairs)
+      (rw (one_split 0 others frames t tail b split' split).0 at pairs)
 
-  -- if a body has a fault of a cell or of the files in the cells, no files are the current files of its cells
-  pub stored_by : (x : Extent) (volume : List ℕ) (f : Fault) (cells : List CellForm) (files : List FileForm) → StoredFault which x volume f
-      → Tiles x.file_system x.polarity x.first cells (drop x.first volume) → AreCurrent x.length (files_in cells) files → ⊥
-  stored_by x volume f cells files (inl bad) tiles current =
+  -- if a body has a fault of a cell or of the files in the cells, there are no cells whose files have the right names
+  pub stored_by : (x : Extent) (volume : List ℕ) (f : Fault) (cells : List CellForm) → StoredFault which x volume f
+      → Tiles x.file_system x.polarity x.first cells (drop x.first volume)
+      → NoTwins (files_in cells) × TopAtEnd x.length (current_in (files_in cells)) → ⊥
+  stored_by x volume f cells (inl bad) tiles right =
       cellular.none_after which x.file_system x.polarity x.first (drop x.first volume) f cells bad tiles
-  stored_by x volume f cells files (inr (others, tiles', names)) tiles current =
-      let same = only_one x.file_system x.polarity x.first (drop x.first volume) others cells tiles' tiles in
-      current_none which x.length others f files names (subst (λ (l : List CellForm). AreCurrent x.length (files_in l) files) same current)
+  stored_by x volume f cells (inr (others, tiles', names)) tiles right =
+      names_wrong which x.length (files_in cells) f (rw (only_one x.file_system x.polarity x.first _ cells others tiles tiles') at names) right
 
-  -- the same if the fault is moved to where the volume begins
+  -- so it has no files, also if the fault is moved to where the volume begins
   pub files_refused : (x : Extent) (volume : List ℕ) (at : Place) (e : Fault) (files : List FileForm)
       → Moved at (StoredFault which x volume) e → AreFilesOf x volume files → ⊥
-  files_refused x volume at e files (f, bad, is) stand = stored_by x volume f stand.cells files bad stand.tiles stand.current
+  files_refused x volume at e files (f, bad, is) stand =
+      stored_by x volume f stand.cells bad stand.tiles (stand.current.no_twins, rw stand.current.files_are at stand.current.top)
 
   module _ (n : ℕ) (rejected : StreamRefuses n) where
     -- a file with a fault is not read
@@ -61,22 +61,18 @@ module _ (which : Which) where
         → ⊥
     file_by e at f m (holds, inside) is = stream_bad n f holds (λ us u s. rejected e f.payload (data_at at f) us u inside s) m is
 
-    -- a body with a fault has no files
-    body_by : (x : Extent) (volume : List ℕ) (e : Fault) (at : Place) (ms : List FileMeaning)
-        → BodyFault which n (InStream which n) x e volume at → HasFiles (Stream n) x volume ms → ⊥
-    body_by x volume e at ms (inl moved) (files, stand, pairs) = files_refused x volume at e files moved stand
-    body_by x volume e at ms (inr (cells, tiles, right, bad)) (files, stand, pairs) =
-        let same : stand.cells ≡ cells = only_one x.file_system x.polarity x.first (drop x.first volume) cells stand.cells tiles stand.tiles in
-        let current : files ≡ current_in (files_in cells) = stand.current.files_are ∙ ap (λ (l : List CellForm). current_in (files_in l)) same in
-        one_of_none which (MeansFile (Stream n)) (λ f. FileFault (InStream which n) e f at) (current_in (files_in cells)) ms
-        (file_by e at) bad (subst (λ (l : List FileForm). Pairwise (MeansFile (Stream n)) l ms) current pairs)
-
     -- bytes with a fault do not begin with a volume
     volume_by : (e : Fault) (b : List ℕ) (at : Place) (k : ℕ) (m : Meaning) → k ≤ length b → InVolume which n e b at
         → Denotes n (take k b) m → ⊥
     volume_by e b at k m within (inl (f, bad, is)) d =
         none_fails which (head_checks b) f bad (front_holds b (head_of m) d.extent (front_of n k b m within d).0)
-    volume_by e b at k m within (inr (h, x, front, bad)) d = body_by x _ e at (files_of m) bad (has_files n k b m h x front within d).2
+    volume_by e b at k m within (inr (h, x, front, inl moved)) d =
+        let (files, stand, pairs) = (has_files n k b m h x front within d).2 in files_refused x (take x.length b) at e files moved stand
+    volume_by e b at k m within (inr (h, x, front, inr (cells, tiles, right, bad))) d =
+        let (files, stand, pairs) = (has_files n k b m h x front within d).2 in
+        let same = only_one x.file_system x.polarity x.first _ cells stand.cells tiles stand.tiles in
+        one_of_none which (MeansFile (Stream n)) (λ f. FileFault (InStream which n) e f at) (current_in (files_in cells)) (files_of m)
+        (file_by e at) bad (rw (stand.current.files_are, same) at pairs)
 
   -- ---- the recursion
 
@@ -89,7 +85,7 @@ module _ (which : Which) where
       group_only (Stream n) (Denotes n) f group (λ us u r. stream_by n (section_refuses n) e f.body _ us u bad r) s h
   section_refuses (suc n) e f at s (inr (kind, opens, bad)) h =
       opened_only (Stream n) (Denotes n) f (record { kind = kind; opens = opens }) (λ v d. volume_by n (stream_by n (section_refuses n)) e f.body _
-      (length f.body) v (omega arith) bad (subst (λ b. Denotes n b v) (sym (take_all (length f.body) f.body (omega arith))) d)) s h
+      (length f.body) v (omega arith) bad (rw (take_all (length f.body) f.body (omega arith)) d)) s h
 
   -- at every level, bytes with a fault are not a stream
   pub stream_refuses : (n : ℕ) → StreamRefuses n

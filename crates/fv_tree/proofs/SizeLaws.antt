@@ -3,13 +3,6 @@ use Rattle.std.proofs.Common.{◌≡◌, ℕ, zero, suc, ◌+◌, ◌<◌, ◌�
 use Rattle.fv_tree.specs.Words.{FileMeaning, File, SectionMeaning, Section, content_of, files_from, sections_from, body_of}
 use Rattle.fv_tree.specs.inner.Sizes.{files_size, file_size, content_size, sections_size, section_size, body_size}
 
--- if a list is larger than its first item and the rest together, it is larger than each of its items
-item_falls : {X : Type 0} (size : X → ℕ) (whole : List X → ℕ) → ((x : X) (xs : List X) → size x + whole xs + 1 ≤ whole (x ∷ xs))
-    → (xs : List X) (i : ℕ) (x : X) → i < length xs → x ≡ get_or xs i x → size x + 1 ≤ whole xs
-item_falls size whole more [] i x l is = absurd (omega (arith, l))
-item_falls size whole more (y ∷ ys) zero x l is = omega (arith, ap size is, more y ys)
-item_falls size whole more (y ∷ ys) (suc i) x l is = omega (arith, item_falls size whole more ys i x (omega (arith, l)) is, more y ys)
-
 -- the size of a list of sections is the size of its first section plus the size of the sections after it plus 1
 pub section_falls : (ss rest : List SectionMeaning) (s : SectionMeaning) → ss ≡ s ∷ rest
     → section_size s + sections_size (sections_from rest) + 1 ≡ sections_size (sections_from ss)
@@ -24,7 +17,9 @@ section_body_falls ss rest s is = omega (arith, section_falls ss rest s is, body
 
 pub file_falls : (fs : List FileMeaning) (i : ℕ) (f : FileMeaning) → i < length fs → f ≡ get_or fs i f
     → file_size f + 1 ≤ files_size (files_from fs)
-file_falls = item_falls file_size (λ fs. files_size (files_from fs)) (λ f fs. omega arith)
+file_falls [] i f l is = absurd (omega (arith, l))
+file_falls (g ∷ fs) zero f l is = omega (arith, ap file_size is)
+file_falls (g ∷ fs) (suc i) f l is = omega (arith, file_falls fs i f (omega (arith, l)) is)
 
 pub content_falls : (f : FileMeaning) → file_size f ≡ content_size (content_of f) + 1
 content_falls (File n k a c) = refl

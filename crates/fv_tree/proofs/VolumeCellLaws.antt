@@ -1,9 +1,9 @@
 -- If the header at the start of some bytes or a cell of the body has a fault, the bytes do not begin with a volume
 -- whose body is tiled by cells.
-use Rattle.std.proofs.Common.{List, ℕ, drop, inl, inr, subst, take}
+use Rattle.std.proofs.Common.{List, ℕ, drop, inl, inr, take}
 use Rattle.fv_base.proofs.Laws.{First, IsFirstFault, none_faulty, not_first}
 use Rattle.fv_base.specs.declared.fault.Fault.{Fault}
-use Rattle.fv_file.specs.Words.{Tiles, IsFirstCellFault}
+use Rattle.fv_file.specs.Words.{IsFirstCellFault}
 use Rattle.fv_file.proofs.Laws.{none_after}
 use Rattle.fv_head.specs.Words.{HeadFields, BeginsVolume, head_checks}
 use Rattle.fv_head.specs.declared.extent.Extent.{Extent}
@@ -22,8 +22,6 @@ pub bad_cell : (b : List ℕ) (h : HeadFields) (e : Extent) (f : Fault) → Begi
     → IsFirstCellFault e.file_system e.polarity e.first (drop e.first (take e.length b)) f → NotTiled b f
 bad_cell b h e f front first = record {
   none = λ x cs has.
-      none_after First e.file_system e.polarity e.first (drop e.first (take e.length b)) f cs first
-      (subst (λ (y : Extent). Tiles y.file_system y.polarity y.first cs (drop y.first (take y.length b)))
-      (one_front b has.head h x e has.begins front).1 has.tiles);
+      none_after First e.file_system e.polarity e.first _ f cs first (rw (one_front b has.head h x e has.begins front).1 at has.tiles);
   first = inr (h, e, front, first);
 }

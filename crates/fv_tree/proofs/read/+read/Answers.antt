@@ -1,18 +1,13 @@
-use Rattle.std.proofs.Common.{◌≡◌, ℕ, [], ◌∷◌, ◌++◌, rules, ◌⊎◌, List, map, length, take, sym, ap, ◌∙◌, subst, arith, inl, inr, refl, length-take-le}
-use Rattle.fv_base.proofs.Laws.{IfErr-weaker, out_of_memory, IsFirstFault, First, IsBytes, bytes_take, err_is, common_steps}
+use Rattle.std.proofs.Common.{◌≡◌, ℕ, [], ◌∷◌, ◌++◌, rules, length, take, sym, ap, ◌∙◌, subst, arith, inl, inr, refl, length-take-le}
+use Rattle.fv_base.proofs.Laws.{IfErr-weaker, First, bytes_take, err_is, first_only, common_steps}
 use Rattle.std.proofs.lemmas.Result.{MatchResult-from_both, MatchResult-weaker}
 use Rattle.fv_base.specs.declared.fault.Fault.{Fault}
 use Rattle.fv_base.specs.declared.fault.Place.{Place}
-use Rattle.fv_base.specs.declared.guid.Guid.{Guid}
 use Rattle.fv_head.proofs.Laws.{fault_known, front_lies, first_lies}
-use Rattle.fv_head.specs.Words.{HeadFields, BeginsVolume, head_checks}
-use Rattle.fv_head.specs.declared.extent.Extent.{Extent}
 use Rattle.fv_section.specs.Words.{FrameForm}
-use Rattle.std.specs.Prelude.{IfOk}
 use Rattle.fv_tree.specs.inner.ReadingParts.{IsReadyFile}
-use Rattle.fv_tree.specs.Words.{IsStoredFile, Denotes, MeansFile, Stream, FileFault, InStream, data_at, Volume, length_of, files_from, bare_form}
+use Rattle.fv_tree.specs.Words.{Denotes, MeansFile, Stream, FileFault, InStream, data_at, Volume, length_of, files_from, bare_form}
 use Rattle.fv_tree.specs.Words.{file_form, with_data}
-use Rattle.fv_names.specs.Words.{IsOrder, numbers_of}
 use Rattle.fv_tree.proofs.BodyLaws.{files_first}
 use Rattle.fv_tree.proofs.FilledLaws.{stands}
 use Rattle.fv_tree.proofs.ListPairs.{of_item, kept_pairs, first_refused, all_pairs}
@@ -37,10 +32,14 @@ pub read_files-bounds-files-file-index : goal.read_files-bounds-files-file-index
 read_files-bounds-files-file-index t c = c.loop-file-test.true
 
 pub read_files-read_file-requires : goal.read_files-read_file-requires
-read_files-read_file-requires t c =
-    let all = of_item (MeansFile (Stream c.args.at.left)) (file_form c.args.volume.now) c.args.files.now c.loop-file.file-index no_file
-    (IsReadyFile c.args.at.place.offset) c.requires.stored c.loop-file-test.true in
-    (omega arith, (c.requires.depth, all))
+read_files-read_file-requires t c = (
+  omega arith,
+  (
+    c.requires.depth,
+    of_item (MeansFile (Stream c.args.at.left)) (file_form c.args.volume.now) c.args.files.now _ no_file
+        (IsReadyFile c.args.at.place.offset) c.requires.stored c.loop-file-test.true,
+  ),
+)
 
 pub read_files-returns-in_err-view : goal.read_files-returns-in_err-view
 read_files-returns-in_err-view t c =
@@ -72,8 +71,7 @@ pub read_data-overflow_add-place-2 : goal.read_data-overflow_add-place-2
 read_data-overflow_add-place-2 t c = omega (arith, c.from.ensures, c.header_len.ensures.is, c.requires.place)
 
 pub read_data-read_stream-requires : goal.read_data-read_stream-requires
-read_data-read_stream-requires t c =
-    (omega arith, (omega (arith, c.from.ensures, c.header_len.ensures.is, c.requires.place), (c.requires.depth, c.requires.small)))
+read_data-read_stream-requires t c = omega (arith, c.from.ensures, c.header_len.ensures.is, c.requires)
 
 pub read_data-returns-in_err-read_stream : goal.read_data-returns-in_err-read_stream
 read_data-returns-in_err-read_stream t c =
@@ -89,20 +87,16 @@ pub read_file-read_data-requires : goal.read_file-read_data-requires
 read_file-read_data-requires t c = grind (arith, common_steps) steps 150000
 
 pub read_file-new-requires-clause-stored : goal.read_file-new-requires-clause-stored
-read_file-new-requires-clause-stored t c =
-    subst (λ (b : List ℕ). IsStoredFile (with_data b (bare_form c.args.file.now))) (sym c.payload-payload.ensures) c.requires.ready.0
+read_file-new-requires-clause-stored t c = rw c.payload-payload.ensures c.requires.ready.0
 
 pub read_file-returns : goal.read_file-returns
 read_file-returns t c =
-    MatchResult-from_both c.new.result _ _ (subst
-    (λ (b : List ℕ). IfOk c.new.result (MeansFile (Stream c.args.at.left) (with_data b (bare_form c.args.file.now)))) c.payload-payload.ensures
-    c.new.ensures.ok) (IfErr-weaker c.new.result _ _ (λ e is ne. absurd (ne is)) c.new.ensures.err)
+    MatchResult-from_both c.new.result _ _ (rw c.payload-payload.ensures at c.new.ensures.ok)
+    (IfErr-weaker c.new.result _ _ (λ e is ne. absurd (ne is)) c.new.ensures.err)
 
 pub read_file-returns-in_err-volumes : goal.read_file-returns-in_err-volumes
 read_file-returns-in_err-volumes t c =
-    let Bad : List ℕ → Type 0 = λ b. FileFault (InStream First c.args.at.left) c.in_err-volumes.field-0.0
-    (with_data b (bare_form c.args.file.now)) c.args.at.place in
-    rw (err_is c.from_residual.ensures.1) (λ ne. subst Bad c.payload-payload.ensures (c.in_err-volumes.ensures ne))
+    rw (err_is c.from_residual.ensures.1) (λ ne. rw c.payload-payload.ensures at (c.in_err-volumes.ensures ne))
 
 -- ---- a volume
 
@@ -114,11 +108,8 @@ read_with_files-returns-in-Err-clause-read t c = λ ne.
     head_first c.args.at.left _ c.in-Err.fault _ _ c.in-Err.ensures.first (c.fault_within.ensures.moved ne).0 (c.fault_within.ensures.moved ne).1
 
 pub read_with_files-returns-in-Err-clause-memory : goal.read_with_files-returns-in-Err-clause-memory
-read_with_files-returns-in-Err-clause-memory t c = λ want. go c.in-Err.ensures.first want where
-  go : (c.in-Err.fault ≡ out_of_memory) ⊎ IsFirstFault (head_checks c.args.bytes.now) c.in-Err.fault
-      → c.fault_within.result ≡ out_of_memory → (h : HeadFields) × (e : Extent) × BeginsVolume h e c.args.bytes.now
-  go (inl same) want = c.in-Err.ensures.memory same
-  go (inr first) want = absurd (fault_known c.args.bytes.now c.in-Err.fault first (sym c.fault_within.ensures.kind ∙ ap (λ (f : Fault). f.kind) want))
+read_with_files-returns-in-Err-clause-memory t c = λ want. c.in-Err.ensures.memory (first_only c.in-Err.ensures.first
+    (λ first. fault_known c.args.bytes.now _ first (sym c.fault_within.ensures.kind ∙ ap (λ (f : Fault). f.kind) want)))
 
 pub read_with_files-slice_bounds-volume-end : goal.read_with_files-slice_bounds-volume-end
 read_with_files-slice_bounds-volume-end t c = sym (length-take-le c.in-Ok.read.1.length c.args.bytes.now c.in-Ok.ensures.found.is_within)
@@ -126,72 +117,49 @@ read_with_files-slice_bounds-volume-end t c = sym (length-take-le c.in-Ok.read.1
 pub read_with_files-files_in_body-requires : goal.read_with_files-files_in_body-requires
 read_with_files-files_in_body-requires t c =
     let found = c.in-Ok.ensures.found in
-    let long = length-take-le c.in-Ok.read.1.length c.args.bytes.now found.is_within in
-    let lies = front_lies c.args.bytes.now c.in-Ok.read.0 c.in-Ok.read.1 found in
-    let first = first_lies c.args.bytes.now c.in-Ok.read.0 c.in-Ok.read.1 found in
-    record {
-      place = omega (arith, long, found.is_within, c.requires.place);
-      small = omega (arith, long, lies.limit);
-      multiple = omega (arith, long, first.2);
-      first_multiple = first.0;
-      first_within = omega (arith, long, first.1);
-      length_is = sym long;
-    }
+    let long = length-take-le _ c.args.bytes.now found.is_within in
+    omega (arith, long, found.is_within, front_lies c.args.bytes.now _ _ found, first_lies c.args.bytes.now _ _ found)
 
 pub read_with_files-read_files-requires : goal.read_with_files-read_files-requires
 read_with_files-read_files-requires t c = (omega arith, (c.requires.depth, rw c.as_slice.ensures.value c.in_ok-files.ensures.stored))
 
-pub read_with_files-returns-in_err-files-clause-read : goal.read_with_files-returns-in_err-files-clause-read
-read_with_files-returns-in_err-files-clause-read t c =
-    rw (err_is c.from_residual.ensures.1) (λ ne. inr (c.in-Ok.read.0, c.in-Ok.read.1, c.in-Ok.ensures.found, inl (c.in_err-files.ensures.read ne)))
+pub read_with_files-returns-in_err-files : goal.read_with_files-returns-in_err-files
+read_with_files-returns-in_err-files t c = rw (err_is c.from_residual.ensures.1) (record {
+  read = λ ne. inr (c.in-Ok.read.0, c.in-Ok.read.1, c.in-Ok.ensures.found, inl (c.in_err-files.ensures.read ne));
+  length = tt;
+  files = tt;
+  memory = λ want. (c.in-Ok.read.0, c.in-Ok.read.1, c.in-Ok.ensures.found);
+})
 
-pub read_with_files-returns-in_err-files-clause-length : goal.read_with_files-returns-in_err-files-clause-length
-read_with_files-returns-in_err-files-clause-length t c = rw (err_is c.from_residual.ensures.1) tt
-
-pub read_with_files-returns-in_err-files-clause-memory : goal.read_with_files-returns-in_err-files-clause-memory
-read_with_files-returns-in_err-files-clause-memory t c =
-    rw (err_is c.from_residual.ensures.1) (λ want. (c.in-Ok.read.0, c.in-Ok.read.1, c.in-Ok.ensures.found))
-
-pub read_with_files-returns-in_err-views-clause-read : goal.read_with_files-returns-in_err-views-clause-read
-read_with_files-returns-in_err-views-clause-read t c =
-    let read = c.in-Ok.read in
-    let first = rw c.as_slice.ensures.value at c.in_err-views.ensures in
-    rw (err_is c.from_residual-in_err-views.ensures.1) (λ ne. inr (
-      read.0,
-      read.1,
-      c.in-Ok.ensures.found,
-      files_first c.args.at.left (InStream First c.args.at.left) read.1
-          (take read.1.length c.args.bytes.now) c.args.at.place (map (file_form (take c.in-Ok.read.1.length c.args.bytes.now)) c.in_ok-files.files.items) c.in_err-views.field-0.0
-          c.in_ok-files.ensures.read (first ne),
-    ))
-
-pub read_with_files-returns-in_err-views-clause-length : goal.read_with_files-returns-in_err-views-clause-length
-read_with_files-returns-in_err-views-clause-length t c = rw (err_is c.from_residual-in_err-views.ensures.1) tt
-
-pub read_with_files-returns-in_err-views-clause-memory : goal.read_with_files-returns-in_err-views-clause-memory
-read_with_files-returns-in_err-views-clause-memory t c =
-    rw (err_is c.from_residual-in_err-views.ensures.1) (λ want. (c.in-Ok.read.0, c.in-Ok.read.1, c.in-Ok.ensures.found))
+pub read_with_files-returns-in_err-views : goal.read_with_files-returns-in_err-views
+read_with_files-returns-in_err-views t c = rw (err_is c.from_residual-in_err-views.ensures.1) (record {
+  read = λ ne. inr (
+    _,
+    _,
+    c.in-Ok.ensures.found,
+    files_first c.args.at.left (InStream First c.args.at.left) c.in-Ok.read.1 _ _ _ _
+        c.in_ok-files.ensures.read (rw c.as_slice.ensures.value at (c.in_err-views.ensures ne)),
+  );
+  length = tt;
+  files = tt;
+  memory = λ want. (c.in-Ok.read.0, c.in-Ok.read.1, c.in-Ok.ensures.found);
+})
 
 -- the header and the views of the files are the meaning of the volume
 volume_made : (t : ℕ) (c : read_with_files-In_ok-views t) → Denotes c.args.at.left (take c.in-Ok.read.1.length c.args.bytes.now)
     (Volume c.in-Ok.read.0 (files_from c.in_ok-views.views.items))
 volume_made t c =
-    made c.args.at.left c.args.bytes.now c.in-Ok.read.0 c.in-Ok.read.1 c.in_ok-views.views.items c.in-Ok.ensures.found
-    (map (file_form (take c.in-Ok.read.1.length c.args.bytes.now)) c.in_ok-files.files.items, c.in_ok-files.ensures.read, rw c.as_slice.ensures.value at c.in_ok-views.ensures)
+    made _ c.args.bytes.now _ _ _ c.in-Ok.ensures.found (_, c.in_ok-files.ensures.read, rw c.as_slice.ensures.value at c.in_ok-views.ensures)
 
 pub read_with_files-new-requires-clause-meaning : goal.read_with_files-new-requires-clause-meaning
 read_with_files-new-requires-clause-meaning t c =
-    let small : IsBytes c.args.bytes.now = search rules in
-    let bytes : List ℕ = take c.in-Ok.read.1.length c.args.bytes.now in
     let made = volume_made t (goal.at.read_with_files-new-requires-clause-meaning t c).In_ok-views in
-    (c.args.at.left, omega arith, bytes, bytes_take c.in-Ok.read.1.length c.args.bytes.now small, made)
+    (c.args.at.left, omega arith, _, bytes_take c.in-Ok.read.1.length c.args.bytes.now (search rules), made)
 
 pub read_with_files-new-requires-clause-order : goal.read_with_files-new-requires-clause-order
 read_with_files-new-requires-clause-order t c =
     let pairs = rw c.as_slice.ensures.value at c.in_ok-views.ensures in
-    subst (λ (ns : List Guid). IsOrder ns (numbers_of c.in_ok-files.order))
-    (sym (read_names (Stream c.args.at.left) (take c.in-Ok.read.1.length c.args.bytes.now) c.in_ok-files.files.items c.in_ok-views.views.items pairs))
-    c.in_ok-files.ensures.order
+    rw (read_names (Stream c.args.at.left) _ c.in_ok-files.files.items c.in_ok-views.views.items pairs) c.in_ok-files.ensures.order
 
 pub read_with_files-returns-clause-read : goal.read_with_files-returns-clause-read
 read_with_files-returns-clause-read t c = rw c.new.ensures (volume_made t (goal.at.read_with_files-returns-clause-read t c).In_ok-views)
@@ -200,12 +168,8 @@ pub read_with_files-returns-clause-length : goal.read_with_files-returns-clause-
 read_with_files-returns-clause-length t c = (c.in-Ok.ensures.found.length_is ∙ ap length_of (sym c.new.ensures), c.in-Ok.ensures.found.is_within)
 
 pub read_with_files-returns-clause-files : goal.read_with_files-returns-clause-files
-read_with_files-returns-clause-files t c = (
-  c.in-Ok.read.0,
-  c.in-Ok.read.1,
-  c.in-Ok.ensures.found,
-  stands c.args.bytes.now c.in-Ok.read.0 c.in-Ok.read.1 c.in_ok-files.files.items c.in-Ok.ensures.found c.in_ok-files.ensures.read,
-)
+read_with_files-returns-clause-files t c =
+    (_, _, c.in-Ok.ensures.found, stands c.args.bytes.now _ _ c.in_ok-files.files.items c.in-Ok.ensures.found c.in_ok-files.ensures.read)
 
 -- ---- a stream
 
@@ -217,17 +181,14 @@ read_stream-loop-frame-init t c = walk_begun c.args.at.left c.args.bytes.now c.i
 
 pub read_stream-read_section-requires : goal.read_stream-read_section-requires
 read_stream-read_section-requires t c =
-    let small : IsBytes c.args.bytes.now = search rules in
-    let ready = walk_ready c.args.at.left c.args.bytes.now c.loop-frame.walk.1 c.loop-frame.walk.0 c.next_frame.new.self.0
-    (framed.frame_form c.in-Some.frame) _ _ c.loop-frame.invariant (rw c.in-Some.is at c.next_frame.ensures.some)
-    small c.requires.small in
+    let ready = walk_ready _ c.args.bytes.now _ _ _ _ _ _ c.loop-frame.invariant (rw c.in-Some.is at c.next_frame.ensures.some)
+    (search rules) c.requires.small in
     (omega arith, (omega (arith, ready.0, c.requires.place), (c.requires.depth, ready.1)))
 
 pub read_stream-loop-frame-preserved : goal.read_stream-loop-frame-preserved
 read_stream-loop-frame-preserved t c =
-    rw c.next_frame.ensures.tail (walk_more c.args.at.left c.args.bytes.now c.loop-frame.walk.1 c.loop-frame.walk.0 c.next_frame.new.self.0
-    (framed.frame_form c.in-Some.frame) c.args.volumes.now.items c.loop-frame.volumes.items c.loop-frame.invariant
-    (rw c.in-Some.is at c.next_frame.ensures.some) c.read_section.new.volumes.items c.in_ok-read_section.ensures)
+    rw c.next_frame.ensures.tail (walk_more _ _ _ _ _ _ _ _ c.loop-frame.invariant (rw c.in-Some.is at c.next_frame.ensures.some) _
+    c.in_ok-read_section.ensures)
 
 pub read_stream-loop-frame-smaller : goal.read_stream-loop-frame-smaller
 read_stream-loop-frame-smaller t c = omega (arith, ap length (rw c.in-Some.is at c.next_frame.ensures.some))
@@ -237,24 +198,16 @@ read_stream-returns-in-Err t c = λ ne. inl (c.in-Err.fault, c.in-Err.ensures.fi
 
 pub read_stream-returns-in_err-read_section : goal.read_stream-returns-in_err-read_section
 read_stream-returns-in_err-read_section t c =
-    rw (err_is c.from_residual.ensures.1) (λ ne.
-    walk_first c.args.at.left c.args.bytes.now c.loop-frame.walk.1 c.loop-frame.walk.0 c.next_frame.new.self.0
-    (framed.frame_form c.in-Some.frame) c.args.volumes.now.items c.loop-frame.volumes.items c.loop-frame.invariant
-    (rw c.in-Some.is at c.next_frame.ensures.some) c.in_err-read_section.field-0.0 c.args.at.place (c.in_err-read_section.ensures ne))
+    rw (err_is c.from_residual.ensures.1) (λ ne. walk_first _ _ _ _ _ _ _ _ c.loop-frame.invariant
+    (rw c.in-Some.is at c.next_frame.ensures.some) _ _ (c.in_err-read_section.ensures ne))
 
 pub read_stream-returns : goal.read_stream-returns
-read_stream-returns t c =
-    let small : IsBytes c.args.bytes.now = search rules in
-    walk_found c.args.at.left c.args.bytes.now c.loop-frame.walk.1 c.loop-frame.walk.0 _ _ small c.loop-frame.invariant
-    (rw c.in_default.is at c.next_frame.ensures.none).0
+read_stream-returns t c = walk_found _ _ _ _ _ _ (search rules) c.loop-frame.invariant (rw c.in_default.is at c.next_frame.ensures.none).0
 
 -- ---- a section that is a group
 
-pub read_section-deeper-requires-clause-place : goal.read_section-deeper-requires-clause-place
-read_section-deeper-requires-clause-place t c = c.requires.place
-
-pub read_section-deeper-requires-clause-depth : goal.read_section-deeper-requires-clause-depth
-read_section-deeper-requires-clause-depth t c = c.requires.depth
+pub read_section-deeper-requires : goal.read_section-deeper-requires
+read_section-deeper-requires t c = record { place = c.requires.place; depth = c.requires.depth }
 
 pub read_section-returns-in_err-inside-in-Group : goal.read_section-returns-in_err-inside-in-Group
 read_section-returns-in_err-inside-in-Group t c =
@@ -264,41 +217,27 @@ read_section-returns-in_err-inside-in-Group t c =
 
 pub read_section-read_stream-requires : goal.read_section-read_stream-requires
 read_section-read_stream-requires t c =
-    let ok = c.in_ok-inside-in-Group.ensures.ok in (
-      omega (arith, ok.0),
-      (
-        omega (arith, ok.1, c.requires.place),
-        (
-          omega (arith, ok.0, ok.2, c.requires.depth),
-          frame_small (framed.frame_form c.args.frame.now) c.requires.stored,
-        ),
-      ),
-    )
+    let ok = c.in_ok-inside-in-Group.ensures.ok in
+    omega (arith, ok, c.requires, frame_small (framed.frame_form c.args.frame.now) c.requires.stored)
 
 pub read_section-returns-in_ok-inside-in-Group : goal.read_section-returns-in_ok-inside-in-Group
 read_section-returns-in_ok-inside-in-Group t c =
     let f : FrameForm = framed.frame_form c.args.frame.now in
-    let n = c.args.at.left in
-    let inside = c.in_ok-inside-in-Group.inside in
     let ok = c.in_ok-inside-in-Group.ensures.ok in
     let is = sym c.shape_of.ensures ∙ c.in-Group.is in
-    MatchResult-weaker c.read_stream.result c.read_stream.ensures (λ x read. group_read n inside.left f c.args.volumes.now.items _ ok.0 is read)
-    (λ e bad ne. group_first n inside.left f e c.args.at.place inside.place ok.0 (group_shape f is) ok.1 ok.2 (bad ne))
+    MatchResult-weaker c.read_stream.result c.read_stream.ensures (λ x read. group_read _ _ f c.args.volumes.now.items _ ok.0 is read)
+    (λ e bad ne. group_first _ _ f e c.args.at.place _ ok.0 (group_shape f is) ok.1 ok.2 (bad ne))
 
 -- ---- a section that is opened as a volume
 
-pub read_section-deeper-requires-in-Volume-clause-place : goal.read_section-deeper-requires-in-Volume-clause-place
-read_section-deeper-requires-in-Volume-clause-place t c = c.requires.place
-
-pub read_section-deeper-requires-in-Volume-clause-depth : goal.read_section-deeper-requires-in-Volume-clause-depth
-read_section-deeper-requires-in-Volume-clause-depth t c = c.requires.depth
+pub read_section-deeper-requires-in-Volume : goal.read_section-deeper-requires-in-Volume
+read_section-deeper-requires-in-Volume t c = record { place = c.requires.place; depth = c.requires.depth }
 
 pub read_section-returns-in_err-inside-in-Volume : goal.read_section-returns-in_err-inside-in-Volume
 read_section-returns-in_err-inside-in-Volume t c =
-    let f : FrameForm = framed.frame_form c.args.frame.now in
     let err = c.in_err-inside-in-Volume.ensures.err in
-    rw (err_is c.from_residual-in_err-inside-in-Volume.ensures.1) (λ ne. deep_fault c.args.at.left f c.in_err-inside-in-Volume.field-0.0
-    c.args.at.place err.0 (inr (volume_shape f (sym c.shape_of.ensures ∙ c.in-Volume.is))) err.1)
+    rw (err_is c.from_residual-in_err-inside-in-Volume.ensures.1)
+    (λ ne. deep_fault _ _ _ _ err.0 (inr (volume_shape _ (sym c.shape_of.ensures ∙ c.in-Volume.is))) err.1)
 
 pub read_section-read_at-requires : goal.read_section-read_at-requires
 read_section-read_at-requires t c = grind (arith, common_steps) steps 150000
@@ -306,9 +245,8 @@ read_section-read_at-requires t c = grind (arith, common_steps) steps 150000
 pub read_section-returns-in_err-volume-in-Volume : goal.read_section-returns-in_err-volume-in-Volume
 read_section-returns-in_err-volume-in-Volume t c =
     let ok = c.in_ok-inside-in-Volume.ensures.ok in
-    let f : FrameForm = framed.frame_form c.args.frame.now in
-    rw (err_is c.from_residual-in_err-volume-in-Volume.ensures.1) (λ ne. nested_first c.args.at.left _ f c.in_err-volume-in-Volume.field-0.0
-    c.args.at.place _ ok.0 (volume_shape f (sym c.shape_of.ensures ∙ c.in-Volume.is)) ok.1 ok.2 (c.in_err-volume-in-Volume.ensures.read ne))
+    rw (err_is c.from_residual-in_err-volume-in-Volume.ensures.1) (λ ne. nested_first _ _ _ _ _ _ ok.0
+    (volume_shape _ (sym c.shape_of.ensures ∙ c.in-Volume.is)) ok.1 ok.2 (c.in_err-volume-in-Volume.ensures.read ne))
 
 pub read_section-returns-in_err-push-in-Volume : goal.read_section-returns-in_err-push-in-Volume
 read_section-returns-in_err-push-in-Volume t c = rw (err_is c.from_residual-in_err-push-in-Volume.ensures.1) (λ ne. absurd (ne refl))
@@ -317,12 +255,9 @@ pub read_section-returns-in_ok-push-in-Volume : goal.read_section-returns-in_ok-
 read_section-returns-in_ok-push-in-Volume t c =
     let f : FrameForm = framed.frame_form c.args.frame.now in
     let is = sym c.shape_of.ensures ∙ c.in-Volume.is in
-    let left = c.in_ok-inside-in-Volume.inside.left in
-    let volume = c.in_ok-volume-in-Volume.volume in
     let read = c.in_ok-volume-in-Volume.ensures in
-    volume_read c.args.at.left left f c.args.volumes.now.items c.push.new.self.items volume c.in_ok-inside-in-Volume.ensures.ok.0 is
-    (opened_whole left c.in_ok-volume-in-Volume.field-0-1 f.body volume (volume_shape f is).opens read.length.1 read.read)
-    c.in_ok-push-in-Volume.ensures.items
+    volume_read _ _ f _ _ _ c.in_ok-inside-in-Volume.ensures.ok.0 is
+    (opened_whole _ _ f.body _ (volume_shape f is).opens read.length.1 read.read) c.in_ok-push-in-Volume.ensures.items
 
 -- ---- a leaf
 

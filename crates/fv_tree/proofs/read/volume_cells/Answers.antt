@@ -14,14 +14,8 @@ returns-in_err-extent-clause-memory c =
 
 pub cells-requires : goal.cells-requires
 cells-requires c =
-    let e = c.in_ok-extent.extent in
-    let f = first_lies c.args.bytes.now c.in_ok-extent.ensures.found.0 e c.in_ok-extent.ensures.found.1 in
-    let n = length-take-le e.length c.args.bytes.now c.in_ok-extent.ensures.found.1.is_within in
-    record {
-      multiple = omega (arith, f.2, n);
-      first_multiple = f.0;
-      within = omega (arith, f.1, n);
-    }
+    let found = c.in_ok-extent.ensures.found in
+    omega (arith, first_lies c.args.bytes.now _ _ found.1, length-take-le _ c.args.bytes.now found.1.is_within)
 
 pub returns-in_err-list-clause-err : goal.returns-in_err-list-clause-err
 returns-in_err-list-clause-err c =

@@ -1,6 +1,6 @@
 use Rattle.std.proofs.Common.{◌≢◌, rules, map, inl, inr, subst, sym, IfErr, Ok}
-use Rattle.fv_base.proofs.Laws.{err_is, bytes_take, IsBytes, out_of_memory, depth_limit}
-use Rattle.fv_tree.specs.Words.{head_of, FaultHoldsInInput, file_form}
+use Rattle.fv_base.proofs.Laws.{err_is, bytes_take, out_of_memory, depth_limit}
+use Rattle.fv_tree.specs.Words.{FaultHoldsInInput, file_form}
 use Rattle.fv_tree.proofs.FaultLaws.{fault_stands}
 use Rattle.fv_tree.proofs.FirstLaws.{only_answer}
 use Rattle.fv_tree.proofs.LocatedLaws.{begun_data}
@@ -24,20 +24,16 @@ returns-in_err-view-clause-memory c = rw (err_is c.from_residual.ensures.1) c.in
 
 pub returns-in_err-check-clause-rejected : goal.returns-in_err-check-clause-rejected
 returns-in_err-check-clause-rejected c =
-    let b = c.args.input.now in
     let read = c.in_ok-view.ensures.read in
     let long = c.in_ok-view.ensures.length in
-    let small : IsBytes c.args.input.now = search rules in
-    rw (err_is c.from_residual-in_err-check.ensures.1)
-    (inr (end_refused b _ c.in_ok-view.view c.in_ok-view.length (bytes_take c.in_ok-view.length b small, read) long
-    c.in_err-check.ensures.err.0 c.in_err-check.ensures.err.1 (only_answer b (Ok (c.in_ok-view.view, c.in_ok-view.length)) read long)))
+    let only = only_answer c.args.input.now (Ok (c.in_ok-view.view, c.in_ok-view.length)) read long in
+    rw (err_is c.from_residual-in_err-check.ensures.1) (inr (end_refused _ _ _ _ (bytes_take _ c.args.input.now (search rules), read) long
+    c.in_err-check.ensures.err.0 c.in_err-check.ensures.err.1 only))
 
 pub returns-in_err-check-clause-holds : goal.returns-in_err-check-clause-holds
 returns-in_err-check-clause-holds c =
-    let b = c.args.input.now in
-    let small : IsBytes c.args.input.now = search rules in
     subst (λ r. IfErr r (λ f. f ≢ out_of_memory → FaultHoldsInInput c.args.input.now f)) (sym (err_is c.from_residual-in_err-check.ensures.1))
-    (λ other. inr (goes_on b _ c.in_ok-view.view c.in_ok-view.length (bytes_take c.in_ok-view.length b small, c.in_ok-view.ensures.read)
+    (λ other. inr (goes_on _ _ _ _ (bytes_take _ c.args.input.now (search rules), c.in_ok-view.ensures.read)
     c.in_ok-view.ensures.length c.in_err-check.ensures.err.0 c.in_err-check.ensures.err.1))
 
 pub returns-in_err-check-clause-kind : goal.returns-in_err-check-clause-kind
@@ -45,14 +41,12 @@ returns-in_err-check-clause-kind c = rw (err_is c.from_residual-in_err-check.ens
 
 pub returns-in_err-check-clause-memory : goal.returns-in_err-check-clause-memory
 returns-in_err-check-clause-memory c =
-    let d = c.in_ok-view.ensures.read in
-    let front = front_of depth_limit c.in_ok-view.length c.args.input.now c.in_ok-view.view c.in_ok-view.ensures.length.1 d in
-    rw (err_is c.from_residual-in_err-check.ensures.1) (λ want. (head_of c.in_ok-view.view, d.extent, front.0))
+    let front = front_of depth_limit c.in_ok-view.length c.args.input.now _ c.in_ok-view.ensures.length.1 c.in_ok-view.ensures.read in
+    rw (err_is c.from_residual-in_err-check.ensures.1) (λ want. (_, _, front.0))
 
 pub returns-clause-found : goal.returns-clause-found
 returns-clause-found c =
-    let small : IsBytes c.args.input.now = search rules in
-    end_found c.args.input.now c.in_ok-view.view _ (bytes_take _ c.args.input.now small, c.in_ok-view.ensures.read) c.in_ok-check.ensures.ok
+    end_found c.args.input.now _ _ (bytes_take _ c.args.input.now (search rules), c.in_ok-view.ensures.read) c.in_ok-check.ensures.ok
 
 pub returns-clause-only : goal.returns-clause-only
 returns-clause-only c =

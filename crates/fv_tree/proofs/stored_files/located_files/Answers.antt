@@ -12,19 +12,13 @@ use Rattle.fv_tree.proofs.stored_files.located_files.Goals as goal
 -- the files of a volume, with their data in all bytes
 pub returns-clause-found : goal.returns-clause-found
 returns-clause-found c =
-    let front = c.in_ok-extent.ensures.found in (
-      front.0,
-      c.in_ok-extent.extent,
-      front.1,
-      stands c.args.bytes.now front.0 c.in_ok-extent.extent c.in_ok-files.files.items front.1 c.in_ok-files.ensures.read,
-    )
+    let front = c.in_ok-extent.ensures.found in
+    (_, _, front.1, stands c.args.bytes.now _ _ c.in_ok-files.files.items front.1 c.in_ok-files.ensures.read)
 
 pub returns-in_err-files-clause-none : goal.returns-in_err-files-clause-none
 returns-in_err-files-clause-none c =
-    let front = c.in_ok-extent.ensures.found in
-    rw (err_is c.from_residual-in_err-files.ensures.1)
-    (λ ne gs begins. files_refused First c.in_ok-extent.extent _ _ _ gs (c.in_err-files.ensures.read ne)
-    (located_stand c.args.bytes.now front.0 c.in_ok-extent.extent front.1 gs begins))
+    rw (err_is c.from_residual-in_err-files.ensures.1) (λ ne gs begins. files_refused First c.in_ok-extent.extent _ _ _ gs
+    (c.in_err-files.ensures.read ne) (located_stand c.args.bytes.now _ _ c.in_ok-extent.ensures.found.1 gs begins))
 
 pub returns-clause-data : goal.returns-clause-data
 returns-clause-data c = begun_data c.args.bytes.now (map (file_form c.args.bytes.now) c.in_ok-files.files.items) (returns-clause-found c)
@@ -39,16 +33,12 @@ returns-in_err-extent-clause-memory c =
 
 pub returns-in_err-files-clause-memory : goal.returns-in_err-files-clause-memory
 returns-in_err-files-clause-memory c =
-    let front = c.in_ok-extent.ensures.found in
-    rw (err_is c.from_residual-in_err-files.ensures.1) (λ want. (front.0, c.in_ok-extent.extent, front.1))
+    rw (err_is c.from_residual-in_err-files.ensures.1) (λ want. (_, _, c.in_ok-extent.ensures.found.1))
 
 pub files_in_body-requires-clause-first_multiple : goal.files_in_body-requires-clause-first_multiple
 files_in_body-requires-clause-first_multiple c =
-    let front = c.in_ok-extent.ensures.found in
-    (first_lies c.args.bytes.now front.0 _ front.1).0
+    (first_lies c.args.bytes.now _ _ c.in_ok-extent.ensures.found.1).0
 
 pub files_in_body-requires-clause-first_within : goal.files_in_body-requires-clause-first_within
 files_in_body-requires-clause-first_within c =
-    let front = c.in_ok-extent.ensures.found in
-    let lies = first_lies c.args.bytes.now front.0 _ front.1 in
-    grind (arith, common_steps, lies)
+    let lies = first_lies c.args.bytes.now _ _ c.in_ok-extent.ensures.found.1 in grind (arith, common_steps, lies)

@@ -1,4 +1,4 @@
-use Rattle.std.proofs.Common.{◌≡◌, ℕ, ◌+◌, ◌-◌, [], ◌∷◌, ◌==◌, ◌&&◌, ◌||◌, ◌∙◌, sym, ap, arith, length, take, drop, get_or, map, List, true, not}
+use Rattle.std.proofs.Common.{◌≡◌, ℕ, ◌+◌, ◌-◌, [], ◌∷◌, ◌==◌, ◌&&◌, ◌||◌, ◌∙◌, sym, ap, arith, length, drop, get_or, map, List, true, not}
 use Rattle.fv_base.proofs.Laws.{subst, length-drop, Decides-eqb, eqb-true, drop_all, get_or-map, item_at, length-map, err_is, seam_items, outer_fault}
 use Rattle.fv_tree.specs.Words.{file_form, FileForm, TopAtEnd, is_top, end_of}
 use Rattle.fv_tree.proofs.NamedLaws.{no_file}
@@ -14,11 +14,9 @@ returns-in_err-check-clause-first c = rw (err_is c.from_residual.ensures.1) (λ 
     let bad = misplaced (is_top f) (c.loop-file.left - 1 == 0) (end_of f == c.args.length) (sym c.is_placed.ensures ∙ c.in_err-check.ensures.err.0) in
     let off : drop (i + 1) all ≡ [] → end_of f ≡ c.args.length → ⊥ = λ none ends. bad.1 ((Decides-eqb (c.loop-file.left - 1) 0).1 (omega
     (arith, ap length none, length-drop (i + 1) all, length-map c.args.files.now (file_form b), c.loop-file.invariant.count, c.loop-file-test.true)))
-    ((Decides-eqb (end_of f) c.args.length).1 ends) in (
-      f,
-      (take i all, drop (i + 1) all, seam_items (file_form b) c.args.files.now i no_file c.loop-file-test.true, bad.0, off),
-      c.in_err-check.ensures.err.1 ∙ ap (outer_fault kinds.TopFile) c.from.ensures,
-    ))
+    ((Decides-eqb (end_of f) c.args.length).1 ends) in
+    let same = c.in_err-check.ensures.err.1 ∙ ap (outer_fault kinds.TopFile) c.from.ensures in
+    (f, (_, _, seam_items (file_form b) c.args.files.now i no_file c.loop-file-test.true, bad.0, off), same))
 
 pub loop-file-preserved : goal.loop-file-preserved
 loop-file-preserved c = record {

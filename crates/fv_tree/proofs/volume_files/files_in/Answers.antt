@@ -28,24 +28,17 @@ pub loop-files-preserved-in_default-file_of : goal.loop-files-preserved-in_defau
 loop-files-preserved-in_default-file_of c =
     let (cs, walked, are) = c.loop-files.invariant in
     let cell = cell_form c.in-Some.cell in
-    let step : Walked c.loop-files.walk (cell ∷ []) c.next_cell.new.self = search rules in (
-      cs ++ cell ∷ [],
-      walked_on _ _ _ _ _ walked step,
-      are ∙ ap (map bare) (sym (files_in_more cs cell ∙ ap (λ l. files_in cs ++ l) c.in_default-file_of.ensures.none ∙ append-nil (files_in cs))),
-    )
+    let step : Walked c.loop-files.walk (cell ∷ []) c.next_cell.new.self = search rules in
+    let same = files_in_more cs cell ∙ ap (λ l. files_in cs ++ l) c.in_default-file_of.ensures.none ∙ append-nil (files_in cs) in
+    (_, walked_on _ _ _ _ _ walked step, are ∙ ap (map bare) (sym same))
 
 pub loop-files-preserved : goal.loop-files-preserved
 loop-files-preserved c =
     let (cs, walked, are) = c.loop-files.invariant in
-    let cell = cell_form c.in-Some.cell in
-    let step : Walked c.loop-files.walk (cell ∷ []) c.next_cell.new.self = search rules in
-    let items : c.push.new.self.items ≡ c.loop-files.files.items ++ c.in-Some-file_of.file ∷ [] = search rules in (
-      cs ++ cell ∷ [],
-      walked_on _ _ _ _ _ walked step,
-      ap (map bare_form) items ∙ map_push bare_form c.loop-files.files.items c.in-Some-file_of.file ∙ ap
-          (λ l. l ++ bare_form c.in-Some-file_of.file ∷ []) are ∙ ap (λ l. map bare (files_in cs) ++ l) (sym c.in-Some-file_of.ensures.some) ∙ sym
-          (ap (map bare) (files_in_more cs cell) ∙ map-append bare (files_in cs) (files_in (cell ∷ []))),
-    )
+    let step : Walked c.loop-files.walk (cell_form c.in-Some.cell ∷ []) c.next_cell.new.self = search rules in
+    let items : c.push.new.self.items ≡ c.loop-files.files.items ++ c.in-Some-file_of.file ∷ [] = search rules in
+    let some = c.in-Some-file_of.ensures.some in
+    (_, walked_on _ _ _ _ _ walked step, rw (items, map_push, files_in_more, map-append) (cc (are, some)))
 
 pub returns-in_err-cell-clause-first : goal.returns-in_err-cell-clause-first
 returns-in_err-cell-clause-first c =
@@ -63,11 +56,9 @@ returns-clause-found c =
     let tiles = walk_ends _ _ _ walked none in
     let rest : IsBytes (drop e.first volume) = bytes_drop e.first volume bytes in
     let stored = stored_in e.file_system e.polarity e.first 0 (length volume) cs _ rest (omega (arith, length-drop e.first volume, c.requires.small))
-    (omega (arith, c.requires.small)) tiles (cells_inside e volume cs c.requires.within tiles) in (
-      cs,
-      tiles,
-      sym (map-map (filled _) bare_form c.loop-files.files.items) ∙ ap (map (filled _)) are ∙ all_back _ 0 cs (body_payloads _ _ _ cs _ tiles) stored,
-    )
+    (omega (arith, c.requires.small)) tiles (cells_inside e volume cs c.requires.within tiles) in
+    let back = all_back volume 0 cs (body_payloads _ _ _ cs _ tiles) stored in
+    (cs, tiles, sym (map-map (filled volume) bare_form c.loop-files.files.items) ∙ ap (map (filled volume)) are ∙ back)
 
 pub loop-files-smaller : goal.loop-files-smaller
 loop-files-smaller c = grind (arith, common_steps)

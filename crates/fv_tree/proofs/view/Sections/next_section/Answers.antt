@@ -1,19 +1,16 @@
 use Rattle.std.proofs.lemmas.Grind.{common_steps}
-use Rattle.std.proofs.Common.{◌≡◌, ◌∙◌, ◌≤◌, List, length, sym, ap, subst, arith}
-use Rattle.fv_section.specs.Words.{FrameForm, frame_in}
-use Rattle.fv_tree.specs.Words.{Meaning, SectionMeaning, section_by, IsKept}
+use Rattle.std.proofs.Common.{◌≤◌, List, length, ap, arith}
+use Rattle.fv_tree.specs.Words.{Meaning, SectionMeaning}
 use Rattle.fv_tree.proofs.WalkedSectionLaws.{first_kept, rest_kept, each_first, tail_after}
 use Rattle.fv_tree.proofs.view.Sections.next_section.Goals as goal
 
 pub volumes_after-self-inside-requires : goal.volumes_after-self-inside-requires
 volumes_after-self-inside-requires c =
-    subst (λ (f : FrameForm). IsKept c.self.inside.left f c.self.inside.volumes.now) (sym c.split_frame.ensures.frame)
-    (first_kept c.self.inside.left c.self.inside.rest.now c.self.inside.volumes.now (omega arith) c.self.invariant)
+    rw c.split_frame.ensures.frame (first_kept c.self.inside.left c.self.inside.rest.now _ (omega arith) c.self.invariant)
 
 pub invariant_of-result : goal.invariant_of-result
 invariant_of-result c =
-    subst (λ (f : FrameForm). IsKept c.self.inside.left f c.self.inside.volumes.now) (sym c.split_frame.ensures.frame)
-    (first_kept c.self.inside.left c.self.inside.rest.now c.self.inside.volumes.now (omega arith) c.self.invariant)
+    rw c.split_frame.ensures.frame (first_kept c.self.inside.left c.self.inside.rest.now _ (omega arith) c.self.invariant)
 
 pub invariant_of-self : goal.invariant_of-self
 invariant_of-self c = grind (arith, common_steps, rest_kept) steps 150000
@@ -21,9 +18,7 @@ invariant_of-self c = grind (arith, common_steps, rest_kept) steps 150000
 pub returns-clause-some : goal.returns-clause-some
 returns-clause-some c =
     let least : 4 ≤ length c.self.inside.rest.now = omega arith in
-    let taken : c.volumes_after-self-inside.result.now ≡ (section_by c.self.inside.left (frame_in 0 c.self.inside.rest.now) c.self.inside.volumes.now).1 =
-    c.volumes_after-self-inside.ensures
-    ∙ ap (λ (f : FrameForm). (section_by c.self.inside.left f c.self.inside.volumes.now).1) c.split_frame.ensures.frame in
+    let taken = rw c.split_frame.ensures.frame at c.volumes_after-self-inside.ensures in
     rw (← c.self.view_is, c.split_frame.ensures.after, c.split_frame.ensures.frame, taken)
     (ap (λ (r : List SectionMeaning × List Meaning). r.0) (each_first c.self.inside.left c.self.inside.rest.now c.self.inside.volumes.now least))
 

@@ -8,13 +8,8 @@ use Rattle.fv_tree.proofs.view.VolumeView.file_count.Goals as goal
 pub overflow_cast-result : goal.overflow_cast-result
 overflow_cast-result c =
     let files = c.self.inside.files in
-    omega (
-      arith,
-      few_of (Volume c.self.inside.head (files_from files.items)) c.self.invariant.0,
-      ap length (files_list_back files.items),
-      c.len.ensures,
-      files.ok.0,
-    )
+    let few = few_of (Volume c.self.inside.head (files_from files.items)) c.self.invariant.0 in
+    omega (arith, few, ap length (files_list_back files.items), c.len.ensures, files.ok.0)
 
 pub returns : goal.returns
 returns c = grind (arith, common_steps, files_list_back) steps 150000

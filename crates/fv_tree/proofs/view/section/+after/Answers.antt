@@ -1,9 +1,9 @@
 use Rattle.std.proofs.lemmas.Grind.{common_steps}
-use Rattle.std.proofs.Common.{◌≡◌, ◌∙◌, ◌-◌, ◌≤◌, ◌∷◌, List, length, take, drop, sym, ap, subst, arith}
+use Rattle.std.proofs.Common.{◌∙◌, ◌-◌, ◌≤◌, ◌∷◌, List, length, take, drop, sym, ap, arith}
 use Rattle.std.proofs.lemmas.Bool.{eqb-true}
 use Rattle.std.proofs.lemmas.List.{take_all}
-use Rattle.fv_section.specs.Words.{FrameForm, frame_form, frame_in}
-use Rattle.fv_tree.specs.Words.{Meaning, SectionMeaning, section_by, IsKept}
+use Rattle.fv_section.specs.Words.{frame_form}
+use Rattle.fv_tree.specs.Words.{Meaning, SectionMeaning}
 use Rattle.fv_tree.proofs.WalkedSectionLaws.{none_after, group_kept, group_view, volume_view, first_kept, rest_kept, each_first, no_sections}
 use Rattle.fv_tree.proofs.view.section.+after.Goals as goal
 
@@ -28,17 +28,14 @@ after_section-returns-in-Volume t c =
     ∙ sym (ap (λ (r : SectionMeaning × List Meaning). r.1) view)
 
 pub after_stream-after_section-rest-requires : goal.after_stream-after_section-rest-requires
-after_stream-after_section-rest-requires t c = (
-  omega arith,
-  subst (λ (f : FrameForm). IsKept c.args.left f c.loop-bytes.rest.now) (sym c.split_frame.ensures.frame)
-      (first_kept c.args.left c.loop-bytes.bytes.now c.loop-bytes.rest.now (omega (arith, c.loop-bytes-test.true)) c.loop-bytes.invariant.kept),
-)
+after_stream-after_section-rest-requires t c =
+    let least : 4 ≤ length c.loop-bytes.bytes.now = omega (arith, c.loop-bytes-test.true) in
+    (omega arith, rw c.split_frame.ensures.frame (first_kept c.args.left c.loop-bytes.bytes.now _ least c.loop-bytes.invariant.kept))
 
 pub after_stream-loop-bytes-preserved : goal.after_stream-loop-bytes-preserved
 after_stream-loop-bytes-preserved t c =
     let least : 4 ≤ length c.loop-bytes.bytes.now = omega (arith, c.loop-bytes-test.true) in
-    let taken : c.after_section-rest.result.now ≡ (section_by c.args.left (frame_in 0 c.loop-bytes.bytes.now) c.loop-bytes.rest.now).1 =
-    c.after_section-rest.ensures ∙ ap (λ (f : FrameForm). (section_by c.args.left f c.loop-bytes.rest.now).1) c.split_frame.ensures.frame in
+    let taken = rw c.split_frame.ensures.frame at c.after_section-rest.ensures in
     rw (c.split_frame.ensures.after, taken) (record {
       kept = rest_kept c.args.left c.loop-bytes.bytes.now c.loop-bytes.rest.now least c.loop-bytes.invariant.kept;
       same = c.loop-bytes.invariant.same ∙ ap (λ (r : List SectionMeaning × List Meaning). r.1) (each_first c.args.left _ _ least);
