@@ -123,27 +123,33 @@ read_with_files-files_in_body-requires t c =
 pub read_with_files-read_files-requires : goal.read_with_files-read_files-requires
 read_with_files-read_files-requires t c = (omega arith, (c.requires.depth, rw c.as_slice.ensures.value c.in_ok-files.ensures.stored))
 
-pub read_with_files-returns-in_err-files : goal.read_with_files-returns-in_err-files
-read_with_files-returns-in_err-files t c = rw (err_is c.from_residual.ensures.1) (record {
-  read = λ ne. inr (c.in-Ok.read.0, c.in-Ok.read.1, c.in-Ok.ensures.found, inl (c.in_err-files.ensures.read ne));
-  length = tt;
-  files = tt;
-  memory = λ want. (c.in-Ok.read.0, c.in-Ok.read.1, c.in-Ok.ensures.found);
-})
+pub read_with_files-returns-in_err-files-clause-read : goal.read_with_files-returns-in_err-files-clause-read
+read_with_files-returns-in_err-files-clause-read t c =
+    rw (err_is c.from_residual.ensures.1) (λ ne. inr (c.in-Ok.read.0, c.in-Ok.read.1, c.in-Ok.ensures.found, inl (c.in_err-files.ensures.read ne)))
 
-pub read_with_files-returns-in_err-views : goal.read_with_files-returns-in_err-views
-read_with_files-returns-in_err-views t c = rw (err_is c.from_residual-in_err-views.ensures.1) (record {
-  read = λ ne. inr (
-    _,
-    _,
-    c.in-Ok.ensures.found,
-    files_first c.args.at.left (InStream First c.args.at.left) c.in-Ok.read.1 _ _ _ _
-        c.in_ok-files.ensures.read (rw c.as_slice.ensures.value at (c.in_err-views.ensures ne)),
-  );
-  length = tt;
-  files = tt;
-  memory = λ want. (c.in-Ok.read.0, c.in-Ok.read.1, c.in-Ok.ensures.found);
-})
+pub read_with_files-returns-in_err-files-clause-length : goal.read_with_files-returns-in_err-files-clause-length
+read_with_files-returns-in_err-files-clause-length t c = rw (err_is c.from_residual.ensures.1) tt
+
+pub read_with_files-returns-in_err-files-clause-memory : goal.read_with_files-returns-in_err-files-clause-memory
+read_with_files-returns-in_err-files-clause-memory t c =
+    rw (err_is c.from_residual.ensures.1) (λ want. (c.in-Ok.read.0, c.in-Ok.read.1, c.in-Ok.ensures.found))
+
+pub read_with_files-returns-in_err-views-clause-read : goal.read_with_files-returns-in_err-views-clause-read
+read_with_files-returns-in_err-views-clause-read t c =
+    let first = rw c.as_slice.ensures.value at c.in_err-views.ensures in
+    rw (err_is c.from_residual-in_err-views.ensures.1) (λ ne. inr (
+      _,
+      _,
+      c.in-Ok.ensures.found,
+      files_first c.args.at.left (InStream First c.args.at.left) c.in-Ok.read.1 _ _ _ _ c.in_ok-files.ensures.read (first ne),
+    ))
+
+pub read_with_files-returns-in_err-views-clause-length : goal.read_with_files-returns-in_err-views-clause-length
+read_with_files-returns-in_err-views-clause-length t c = rw (err_is c.from_residual-in_err-views.ensures.1) tt
+
+pub read_with_files-returns-in_err-views-clause-memory : goal.read_with_files-returns-in_err-views-clause-memory
+read_with_files-returns-in_err-views-clause-memory t c =
+    rw (err_is c.from_residual-in_err-views.ensures.1) (λ want. (c.in-Ok.read.0, c.in-Ok.read.1, c.in-Ok.ensures.found))
 
 -- the header and the views of the files are the meaning of the volume
 volume_made : (t : ℕ) (c : read_with_files-In_ok-views t) → Denotes c.args.at.left (take c.in-Ok.read.1.length c.args.bytes.now)
