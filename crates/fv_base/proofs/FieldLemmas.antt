@@ -2,14 +2,14 @@
 -- 1. Both parts of a list of bytes (`IsBytes`) are lists of bytes (`bytes_take`, `bytes_drop`), and so are two joined
 --    lists of bytes (`bytes_append`).
 -- 2. Bytes and the number that they spell determine each other (`le_bytes-le`, `field_is`, `le-le_bytes`).
--- 3. A field of a part is a field of the whole (`field-take`, `field-append_front`, `drop-append_behind`).
+-- 3. A field of a part is a field of the whole (`field-take`, `field-append_front`).
 -- 4. The bytes up to a place are the bytes up to an earlier place, and at least one more (`take_past`, `some_between`).
 --    Two places are equal if neither of them is less (`same_place`).
 use Rattle.std.proofs.Common.{◌≡◌, ◌≤◌, ◌<◌, ◌+◌, ◌-◌, ◌*◌, ◌/◌, ◌%◌, ◌^◌, ℕ, [], ◌∷◌, ◌++◌, zero, suc, List, length, take, drop, refl, sym, ap}
 use Rattle.std.proofs.Common.{◌∙◌, subst, arith, length-drop, slice_index, length-take-le}
 use Rattle.std.proofs.lemmas.Grind.{common_steps}
 use Rattle.std.proofs.Math.Nat.{pow-suc}
-use Rattle.std.proofs.Math.Seq.{drop-append-add, take-add}
+use Rattle.std.proofs.Math.Seq.{take-add}
 use Rattle.std.proofs.lemmas.Bool.{cases_lt}
 use Rattle.std.proofs.lemmas.List.{drop-take, take-append-le, drop-append-le}
 use Rattle.fv_base.specs.Words.{IsBytes, le, le_bytes, field}
@@ -44,10 +44,6 @@ le_bytes-le (b ∷ bs) h =
 
     high : (b n : ℕ) → b < 256 → (b + 256 * n) / 256 ≡ n
     high b n small = omega arith
-
-pub length-le_bytes : (k n : ℕ) → length (le_bytes k n) ≡ k
-length-le_bytes zero n = refl
-length-le_bytes (suc k) n = ap suc (length-le_bytes k (n / 256))
 
 -- past the end of a list the byte is 0
 pub none_at : (i : ℕ) → slice_index [] i < 256
@@ -105,12 +101,6 @@ le-le_bytes (suc k) n small =
 -- a field within the first part of a join is a field of this part
 pub field-append_front : (i n : ℕ) (p q : List ℕ) → i + n ≤ length p → field i n (p ++ q) ≡ field i n p
 field-append_front i n p q within = grind (arith, common_steps, drop-append-le, take-append-le, length-drop)
-
--- the bytes of a join from a place after the first part on are bytes of the second part
-pub drop-append_behind : (i : ℕ) (p q : List ℕ) → length p ≤ i → drop i (p ++ q) ≡ drop (i - length p) q
-drop-append_behind i p q past = ap (λ (k : ℕ). drop k (p ++ q)) (split i (length p) past) ∙ drop-append-add p q (i - length p) where
-  split : (i n : ℕ) → n ≤ i → i ≡ n + (i - n)
-  split i n h = omega arith
 
 -- equal lists that are cut at equal lengths have equal parts
 pub same_cut : (a b x y : List ℕ) → length a ≡ length b → a ++ x ≡ b ++ y → (a ≡ b) × (x ≡ y)

@@ -4,8 +4,8 @@
 -- Fields and the numbers that they spell. A field is the same within a cut or a join. Lists of bytes that are cut,
 -- joined or filled are lists of bytes. A number and its bytes determine each other. k bytes spell a number below
 -- 256 ^ k. Equal joins are cut at equal lengths into equal parts.
-pub use Rattle.fv_base.proofs.FieldLemmas.{take-take_le, field-take, field-append_front, drop-append_behind, field_is, le_bytes-le}
-pub use Rattle.fv_base.proofs.FieldLemmas.{le-le_bytes, length-le_bytes, two_bytes, same_cut, none_at, bytes_behind, bytes_cons, bytes_take}
+pub use Rattle.fv_base.proofs.FieldLemmas.{take-take_le, field-take, field-append_front, field_is, le_bytes-le}
+pub use Rattle.fv_base.proofs.FieldLemmas.{le-le_bytes, two_bytes, same_cut, none_at, bytes_behind, bytes_cons, bytes_take}
 pub use Rattle.fv_base.proofs.FieldLemmas.{bytes_drop, bytes_append, bytes_le_bytes}
 pub use Rattle.fv_base.proofs.NumberLaws.{le_below, field_below, bytes_front, bytes_back, bytes_replicate}
 -- Two places are equal if neither of them is less. The bytes up to the later place are the bytes up to the earlier
@@ -22,7 +22,7 @@ pub use Rattle.fv_base.proofs.CheckLemmas.{any_fails, one_fault}
 -- from it, and if it is impossible, the first holds. A fault is out of memory, or it is not.
 pub use Rattle.fv_base.proofs.FaultLemmas.{err_is, or_more, first_only, want_known}
 -- Tests of numbers and of single bits, when they hold and when they do not. A flag is not both true and false.
-pub use Rattle.fv_base.proofs.TestLemmas.{if_true, if_false, not_less, not_at_most, not_equal, one_bit, or_parts, or_both, up_is_not_down}
+pub use Rattle.fv_base.proofs.TestLemmas.{if_true, if_false, not_at_most, not_equal, one_bit, or_parts, or_both, up_is_not_down}
 -- Bytes that are all one byte: how they are joined, cut and filled, and the test for them.
 pub use Rattle.fv_base.proofs.ErasedLemmas.{all_append, all_front, all_behind, all-of_replicate, all_are-true, all-all_are}
 -- Sums of the words of joined bytes.

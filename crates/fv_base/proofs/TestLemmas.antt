@@ -1,6 +1,6 @@
 -- Consequences of tests of numbers and of bits that hold, or that do not hold.
-use Rattle.std.proofs.Common.{◌≡◌, ◌≤◌, ◌<◌, ◌*◌, ℕ, ◌==◌, ◌≢◌, ◌||◌, if◌then◌else◌, arith, Bool, true, false, nat_le, nat_lt}
-use Rattle.std.proofs.Common.{eq-eqb, eqb-true, leb-true, ltb-true}
+use Rattle.std.proofs.Common.{◌≡◌, ◌<◌, ◌*◌, ℕ, ◌==◌, ◌≢◌, ◌||◌, if◌then◌else◌, arith, Bool, true, false, nat_le}
+use Rattle.std.proofs.Common.{eq-eqb, eqb-true, leb-true}
 use Rattle.std.proofs.lemmas.Grind.{common_steps}
 
 pub if_true : {A : Type 0} → (b : Bool) (x y : A) → b ≡ true → (if b then x else y) ≡ x
@@ -8,9 +8,6 @@ if_true b x y h = grind (arith, common_steps)
 
 pub if_false : {A : Type 0} → (b : Bool) (x y : A) → b ≡ false → (if b then x else y) ≡ y
 if_false b x y h = grind (arith, common_steps)
-
-pub not_less : (n m : ℕ) → m ≤ n → nat_lt n m ≡ false
-not_less n m h = grind (arith, common_steps, ltb-true)
 
 pub not_at_most : (n m : ℕ) → m < n → nat_le n m ≡ false
 not_at_most n m h = grind (arith, common_steps, leb-true)

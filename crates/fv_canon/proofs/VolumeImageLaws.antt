@@ -12,7 +12,6 @@ use Rattle.fv_base.proofs.Laws.{ne_eqb, drop_at, common_steps, AllByRecursion, b
 use Rattle.fv_base.proofs.Laws.{data_limit, IsBytes, le, bytes_back, bytes_drop, bytes_front, field-take}
 use Rattle.fv_base.specs.declared.flash.FileSystem.{FileSystem}
 use Rattle.fv_base.specs.declared.flash.Polarity.{Polarity}
-use Rattle.fv_base.specs.declared.guid.Guid.{Guid}
 use Rattle.fv_base.specs.declared.flash.FileSystem.TheVariants.{Ffs3}
 use Rattle.fv_file.specs.Words.{attribute_bits, is_large, is_fixed, without_large, pad_kind, needs_large, with_large, pad_head_of}
 use Rattle.fv_head.specs.Words.{Extension, HeadFields, HasExt, BeginsVolume, extent_of, CanonicalRest, IfRead, canonical_head, canonical_end}

@@ -1,2 +1,1 @@
 pub mod BufferLemmas
-pub mod Laws

@@ -1,6 +1,6 @@
 -- The texts of some items, put one after the other, are the text of all of them.
 use Rattle.std.proofs.Common.{ℕ, ◌+◌, ◌<◌, ◌≤◌, [], ◌∷◌, ◌++◌, ◌≡◌, List, length, drop, get_or, ◌∙◌, sym, ap, subst, take, append_assoc, append-nil}
-use Rattle.fv_base.proofs.Laws.{map, flat_map, flat_map-append, map_more, take_more, drop_more, drop_all, WalkLaws}
+use Rattle.fv_base.proofs.Laws.{flat_map, flat_map-append, take_more, drop_more, drop_all, WalkLaws}
 
 -- a sink took the texts of the first i items, and the text of the others completes the text of all; in `Text n xs
 -- text`, the first item has the number n
@@ -43,8 +43,3 @@ flat_next f xs x = flat_map-append f xs (x ∷ []) ∙ ap (λ l. flat_map f xs +
 pub texts_next : {X A : Type 0} (f : X → List A) (xs : List X) (i : ℕ) (d : X) → i < length xs
     → flat_map f (take (i + 1) xs) ≡ flat_map f (take i xs) ++ f (get_or xs i d)
 texts_next f xs i d l = ap (flat_map f) (take_more xs i d l) ∙ flat_next f (take i xs) (get_or xs i d)
-
--- the texts of the mapped items up to the next index are those up to this index, and the text of the mapped item here
-pub seen_next : {X Y A : Type 0} (f : Y → List A) (see : X → Y) (xs : List X) (i : ℕ) (d : X) → i < length xs
-    → flat_map f (map see (take (i + 1) xs)) ≡ flat_map f (map see (take i xs)) ++ f (see (get_or xs i d))
-seen_next f see xs i d l = ap (flat_map f) (map_more see xs i d l) ∙ flat_next f (map see (take i xs)) (see (get_or xs i d))
