@@ -1,7 +1,7 @@
 -- A file and a pad are cells if they are written as in the canonical image. The steps:
--- 1. A storable file has a header that is read again, and the right file checksum (`sum_is_right`). So with its filler
---    it is a cell (`file_cell`), of a known length (`length-stored`).
--- 2. A pad is a cell too (`pad_cell`, `length-pad`).
+-- 1. A storable file has a header that is read again, and the right file checksum (`sum_is_right`). So the file with
+--    its filler is a cell (`file_cell`). The file without its filler has a known length (`length-stored`).
+-- 2. A pad with its filler is a cell too (`pad_cell`). The pad without its filler has the given size (`length-pad`).
 use Rattle.std.proofs.Common.{◌≡◌, ◌≢◌, ◌≤◌, ◌<◌, ◌+◌, ◌%◌, ℕ, ◌++◌, Bool, true, false, List, length, replicate, refl, sym, ap, ◌∙◌, arith}
 use Rattle.std.proofs.Common.{length-append, append_assoc, slice_index, eq-eqb}
 use Rattle.fv_base.proofs.Laws.{common_steps, length-replicate, erased_byte, bytes_of, data_limit, IsBytes, bytes_append, bytes_replicate}
@@ -31,6 +31,7 @@ pub record Storable (system : FileSystem) (f : StoredFile) : Type 0 where
   pub most : length f.payload ≤ data_limit
   pub payload : IsBytes f.payload
 
+-- the header that is written for a file
 abbrev pub stored_header : Polarity → StoredFile → List ℕ
 stored_header p f = file_head_of f.name f.kind (record { 0 = f.attributes }) (length f.payload) (file_sum_for f.attributes f.payload) p
 
@@ -100,7 +101,7 @@ pub length-pad : (p : Polarity) (size : ℕ) → 24 ≤ size → length (pad_byt
 unfolding pad_bytes
 length-pad p size l = grind (arith, common_steps, length-append, length-pad_head, length-replicate)
 
--- a pad with any data is a cell with its filler
+-- a pad with any data, followed by its filler, is a cell
 pub pad_cell : (system : FileSystem) (p : Polarity) (size : ℕ) (payload filler : List ℕ) → size ≤ 0xffffff → 24 + length payload ≡ size
     → length filler < 8 → (size + length filler) % 8 ≡ 0 → (at : ℕ)
     → IsCell system p (Pad at (pad_fields size (slice_index (pad_head_of size p) 16)) payload) ((pad_head_of size p ++ payload) ++ filler)

@@ -1,4 +1,9 @@
--- No two current files of a body have the same name, and all files of a written body are current.
+-- The names of files. The steps:
+-- 1. No two current files of a body have the same name (`current_apart`). Files with different names have no twins
+--    (`no_twins`).
+-- 2. No file of a written body is marked (`forms_unmarked`), so all these files are current (`all_current`).
+-- 3. Only the last file of a body can be a volume top file (`top_last`). If this is true of a written body, the volume
+--    top file ends where the volume ends (`forms_top`).
 use Rattle.std.proofs.Common.{◌≡◌, ◌+◌, ℕ, [], ◌∷◌, ◌++◌, false, List, refl, ap, map, not, arith, append_assoc}
 use Rattle.fv_base.proofs.Laws.{common_steps, AllByRecursion, filter, list_any, bytes_eq, bytes_of, up_to_8, or_both, or_parts}
 use Rattle.std.proofs.lemmas.Bool.{and_right, false_from_ne_true}
@@ -22,7 +27,7 @@ abbrev pub NamesApart : List (List ℕ) → Type 0
 NamesApart [] = Unit {0}
 NamesApart (n ∷ ns) = (list_any (bytes_eq n) ns ≡ false) × NamesApart ns
 
--- no two of the names of current files are equal
+-- no current file after a current file f has the name of f
 none_named : (fs before : List FileForm) (f : FileForm) (mid xs : List FileForm) → NoTwins fs → current_in fs ≡ before ++ (f ∷ (mid ++ xs))
     → list_any (bytes_eq (bytes_of f.head.name)) (names_in xs) ≡ false
 none_named fs before f mid [] none is = refl
@@ -34,10 +39,12 @@ names_apart : (fs before xs : List FileForm) → NoTwins fs → current_in fs �
 names_apart fs before [] none is = tt
 names_apart fs before (x ∷ xs) none is = (none_named fs before x [] xs none is, names_apart fs (before ++ x ∷ []) xs none (rw append_assoc is))
 
+-- no two of the names of current files are equal
 pub current_apart : (fs : List FileForm) → NoTwins fs → NamesApart (names_in (current_in fs))
 current_apart fs none = names_apart fs [] (current_in fs) none refl
 
 -- ---- files of a written body
+-- no file is marked for update
 abbrev pub NoneMarked : List FileForm → Type 0
 NoneMarked fs = AllByRecursion (λ f. is_marked f.head.state ≡ false) fs
 
@@ -56,6 +63,7 @@ all_kept all (f ∷ fs) none = rw (replaces_none f none.0 all) (ap (λ (xs : Lis
 pub all_current : (xs : List FileForm) → NoneMarked xs → current_in xs ≡ xs
 all_current xs none = all_kept xs xs none
 
+-- a file has no twin among files that do not have its name
 twins_none : (f : FileForm) (xs : List FileForm) → list_any (bytes_eq (bytes_of f.head.name)) (names_in xs) ≡ false
     → list_any (is_twin f) xs ≡ false
 twins_none f [] e = refl
@@ -67,6 +75,7 @@ no_twins [] h = tt
 no_twins (f ∷ fs) h = (twins_none f fs h.0, no_twins fs h.1)
 
 -- ---- the volume top file
+-- only the last name can be the name of the volume top file
 abbrev pub TopLast : List (List ℕ) → Type 0
 TopLast (n ∷ k ∷ ns) = (bytes_eq n top_name ≡ false) × TopLast (k ∷ ns)
 TopLast ns = Unit {0}
@@ -82,6 +91,7 @@ forms_top p total e (f ∷ g ∷ fs) (s ∷ t ∷ ss) h follow = (h.0, forms_top
 forms_top p total e (f ∷ fs) (s ∷ ss) h follow = absurd follow.1
 forms_top p total e fs ss h follow = tt
 
+-- the files of a written body have the names of the stored files
 pub form_names : (p : Polarity) (total e : ℕ) (fs : List StoredFile) (ss : List ℕ) → StartsFollow total e (map stored_item fs) ss
     → names_in (forms_of p fs ss) ≡ names_of fs
 form_names p total e [] ss follow = refl

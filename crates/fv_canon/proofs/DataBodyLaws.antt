@@ -1,6 +1,6 @@
 -- The data of a file can be seen as the body of a section (`data_body`). This body contains the same volumes as the
--- data (`data_volumes`, `data_held`) and has the same image (`data_image`). The file is larger than the body
--- (`data_size`).
+-- data (`data_volumes`, `data_held`), and the same image (`data_image`). The file's size is one more than the
+-- body's size (`data_size`).
 use Rattle.std.proofs.Common.{◌≡◌, ◌+◌, ℕ, List, arith}
 use Rattle.fv_base.proofs.Laws.{common_steps}
 use Rattle.fv_tree.specs.Words.{FileMeaning, content_of, volumes_in_body, volumes_in_content, volumes_in_file}

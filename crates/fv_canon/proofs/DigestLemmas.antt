@@ -1,5 +1,8 @@
 -- In the walk over the rows of a volume, the starts that are left begin with the starts of the files of the volumes
--- that are left.
+-- that are left. The steps:
+-- 1. This remains true after the row of a volume (`volume_next`). At the row of a file, the starts begin with the
+--    starts of the files of the volumes in this file (`file_next`).
+-- 2. A layout covers all rows of a volume (`layout_covers`).
 use Rattle.std.proofs.Common.{◌≡◌, ◌∙◌, ◌+◌, ℕ, List, ◌∷◌, ◌++◌, drop, ap}
 use Rattle.fv_canon.specs.Words.{BeginsWithStarts, AreAllStarts}
 use Rattle.fv_canon.proofs.PartLengthLaws.{begin_all}
@@ -14,7 +17,8 @@ use Rattle.fv_rows.proofs.Laws.{files_volumes, content_volumes, rows_followed, t
 
 -- ---- the next row
 
--- the starts cover the row of a volume, and after this row they cover the rows that follow
+-- if the next row is a volume, the starts begin with the starts of the files of this volume and of the volumes inside
+-- it. Once the starts of the volume's own files are taken, the starts cover the rows that follow
 pub volume_next : (r : Row) (v : Meaning) (rest : List TreeRow) (starts : List ℕ) → part_node r.part ≡ VolumeNode v
     → Followed (row_of r ∷ rest) × BeginsWithStarts (volumes_of (row_of r ∷ rest)) starts
     → (more : List Inside) × BeginsWithStarts (volumes_in v) starts × BeginsWithStarts (volumes_in v ++ more) starts
@@ -28,6 +32,7 @@ volume_next r (Volume h files) rest starts is (((more, follow), others), begins)
       λ after h. rw (volumes, begins_level r.nesting (volumes_in_files files) (volumes_of more) after) h,
     )
 
+-- if the next row is a file, the starts begin with the starts of the files of the volumes in this file
 pub file_next : (r : Row) (f : FileMeaning) (rest : List TreeRow) (starts : List ℕ) → part_node r.part ≡ FileNode f
     → Followed (row_of r ∷ rest) × BeginsWithStarts (volumes_of (row_of r ∷ rest)) starts → BeginsWithStarts (volumes_in_content (content_of f)) starts
 file_next r (File name kind attributes content) rest starts is (((more, follow), others), begins) =

@@ -1,5 +1,5 @@
--- A volume fits exactly if it has a layout, which places its files and the files of each volume inside. It is rejected
--- exactly if it does not fit, with a fault of the layout at offset 0.
+-- A volume that fits has a layout, which places the volume's files and the files of each volume inside. A volume that
+-- does not fit, and no other volume, has a fault of the layout. This fault is at offset 0.
 use Rattle.std.proofs.Common.{◌≡◌, ◌≢◌, ◌⊎◌, inl, inr, ⊎_elim, ◌+◌, ℕ, List, [], ◌∷◌, refl, subst, sym}
 use Rattle.fv_base.proofs.Laws.{arith, common_steps, or_more}
 use Rattle.fv_base.specs.declared.fault.Fault.{Fault}
@@ -45,6 +45,7 @@ here_none : (v : Inside) (depth : ℕ) (f : Fault) → UnfitHere v.volume depth 
 here_none v depth f (inl (off, is)) (own, placed) = top_none _ _ (placement_items v.volume) own off placed.placement.follow
 here_none v depth f (inr (short, is)) (own, placed) = short.none own placed.placement
 
+-- if one of the volumes has a fault of the layout, not all volumes fit
 pub first_none : (vs : List Inside) (depth : ℕ) (f : Fault) → FirstUnplaced vs depth f → AllFit vs → ⊥
 first_none [] depth f un fit = un
 first_none (v ∷ vs) depth f (inl un) (placed, fit) = here_none v _ f un placed
@@ -64,7 +65,7 @@ first_fault (v ∷ vs) depth f g (inl un) (inr (placed, other)) = absurd (here_n
 first_fault (v ∷ vs) depth f g (inr (placed, un)) (inl other) = absurd (here_none v _ g other placed)
 first_fault (v ∷ vs) depth f g (inr (placed, un)) (inr (placed', other)) = first_fault vs depth f g un other
 
--- if the least starts of each volume are a placement, they are the layout
+-- starts that are the least starts of each volume, and a placement of each volume's files, are the layout
 pub least_are : (vs : List Inside) (starts : List ℕ) → StartsOfEach AreLeast vs starts → StartsOfEach AreStarts vs starts
 least_are [] starts laid = laid
 least_are (v ∷ vs) starts (own, inner, text, (least, placed), laid) =
@@ -72,6 +73,7 @@ least_are (v ∷ vs) starts (own, inner, text, (least, placed), laid) =
 
 -- ---- a layout or a fault
 
+-- the volume's own files have a placement, or the volume has a fault of the layout
 here_or : (m : Meaning) (depth : ℕ) → ((starts : List ℕ) × AreStarts m starts) ⊎ ((f : Fault) × UnfitHere m depth f)
 here_or m depth = or_more (placed_or_not (length_of m) (first_edge (head_of m) (head_of m).ext) (placement_items m)) (λ other. elim other [
   | inl off ↦ (layout_fault kinds.TopAlignment depth, inl (off, refl))
@@ -82,7 +84,7 @@ all_or : (vs : List Inside) (depth : ℕ) → AllFit vs ⊎ ((f : Fault) × Firs
 all_or [] depth = inl tt
 all_or (v ∷ vs) depth = grind (arith, common_steps, here_or v.volume (depth + v.depth), all_or vs depth) steps 400000
 
--- a volume either fits or has a fault of the layout
+-- a volume fits or has a fault of the layout
 pub fits_or : (m : Meaning) → Fits m ⊎ ((f : Fault) × Unfit m 0 f)
 fits_or m = all_or (volumes_in m) 0
 

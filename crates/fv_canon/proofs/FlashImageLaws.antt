@@ -1,10 +1,10 @@
 -- The renewed image of a flash image, in which each volume is replaced by its canonical image. The steps:
--- 1. `RenewsFrom` states, place by place, what the walk writes. It implies that each volume has its canonical image,
---    and that every other byte is unchanged (`renewed_is`).
+-- 1. `RenewsFrom` states, place by place, which bytes the walk writes. These bytes contain the canonical image of each
+--    volume, and every other byte is unchanged (`renewed_is`).
 -- 2. The bytes up to a volume, the volume's canonical image and renewed bytes after it are renewed bytes
 --    (`renews_more`).
--- 3. Two renewed images have the same bytes in each volume (`same_inside`) and outside the volumes, so the renewed image
---    is unique (`normalised_one`).
+-- 3. Two renewed images have the same bytes in each volume (`same_inside`) and outside the volumes. So the renewed
+--    image is unique (`normalised_one`).
 -- 4. A volume that has a canonical image is not rejected. So if all volumes have one, the only error is OutOfMemory
 --    (`only_want`).
 use Rattle.std.proofs.Common.{◌≡◌, ◌⊎◌, ◌≤◌, ◌<◌, ◌+◌, ◌-◌, ◌^◌, ℕ, [], ◌∷◌, ◌++◌, List, length, drop, get_or}
@@ -64,6 +64,7 @@ renewed_others from b (p ∷ ps) o (n, least, v, same, to, more) k low none = el
   ]
 ]
 
+-- so each volume is replaced by its canonical image, and every other byte is unchanged
 pub renewed_is : (b places o : List ℕ) → RenewsFrom 0 b places o → length o ≡ length b → NormalisesEach b places o
 renewed_is b places o walk long = record {
   length_is = long;
@@ -94,6 +95,7 @@ same_inside b o other places k all all' (p, i, has, at, low, high) =
     let same = (same_meaning_iff_same_image (field p n b) (field p n b) (field p n o) (field p n other) to image).0 (to.0, to.1, to.1) in
     let below = rw (one_length b p i n at v) at high in cc (field_at o p n k low below, field_at other p n k low below)
 
+-- two images in which the volumes at the same places are renewed are equal
 pub renewed_one : (b places o other : List ℕ) → NormalisesEach b places o → NormalisesEach b places other → o ≡ other
 renewed_one b places o other r s =
     ext_get_or 0 o other (r.length_is ∙ sym s.length_is) (λ k less. unless_apart (get_or o k 0) (get_or other k 0) (λ differ.
@@ -106,7 +108,7 @@ normalised_one b o other (short, places, found, r) (short', places', found', s) 
 
 -- ---- 4. if all volumes have canonical images, none is rejected
 
--- so the only error is out of memory
+-- if all volumes have canonical images, the only error is out of memory
 pub only_want : (b places other : List ℕ) (f : Fault) → Found b places → (f ≡ out_of_memory) ⊎ FirstRejected b places f
     → NormalisesAll b other → f ≡ out_of_memory
 only_want b places other f found why (short, places', found', s) = first_only why (λ stops.

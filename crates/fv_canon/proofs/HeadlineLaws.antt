@@ -1,5 +1,5 @@
--- The headline: two volumes have the same image exactly if they have the same meaning, and an image is its own image.
--- An image has only one meaning.
+-- The headline: two volumes have the same image exactly if they have the same meaning. An image has the length and the
+-- meaning of its volume, and is its own image. An image is the image of only one meaning.
 use Rattle.std.proofs.Common.{◌≡◌, ◌≤◌, ◌+◌, ◌-◌, ℕ, zero, suc, List, [], ◌∷◌, sym, ◌∙◌, subst, arith}
 use Rattle.fv_base.specs.Words.{IsBytes, depth_limit}
 use Rattle.fv_section.specs.Words.{FrameForm}
@@ -12,6 +12,7 @@ use Rattle.fv_canon.proofs.OneImageLaws.{image_length, image_one}
 use Rattle.fv_canon.proofs.VolumeImageLaws.{image_denotes, volume_of}
 
 -- ---- bytes that are a volume at a depth are a volume at every greater depth
+-- if a relation holds for each pair of items of two lists, a weaker relation holds for each pair too
 pub pairs_more : {A B : Type 0} (p q : A → B → Type 0) → ((x : A) (y : B) → p x y → q x y) → (xs : List A) (ys : List B) → Pairwise p xs ys
     → Pairwise q xs ys
 pairs_more p q more [] [] h = tt
@@ -60,16 +61,18 @@ accepted n b m small l d = (small, to_limit (depth_limit - n) n b m (omega (arit
 
 -- ---- one reading
 
--- bytes are a volume of at most one meaning, so two volumes mean the same exactly if their meanings are equal
+-- bytes are a volume of at most one meaning
 pub one_reading : (b : List ℕ) (m k : Meaning) → Accepted b m → Accepted b k → m ≡ k
 one_reading b m k (small, d) (little, e) = one_meaning 8 8 b m k d e
 
+-- so two volumes mean the same exactly if their meanings are equal
 pub same_reading : (a b : List ℕ) (m k : Meaning) → Accepted a m → Accepted b k → (MeanSame a b → m ≡ k) × (m ≡ k → MeanSame a b)
 same_reading a b m k d e =
     (λ (j, of_a, of_b). sym (one_reading a j m of_a d) ∙ one_reading b j k of_b e, λ one. (m, d, rw one e))
 
 -- ---- the headline
 
+-- the image of a meaning that some bytes have is a volume of this meaning
 image_read : (m : Meaning) (a image : List ℕ) → Accepted a m → IsImage m image → Accepted image m
 image_read m a image (small, means) is = let again = image_denotes 8 m a image small means is in (again.1, again.0)
 

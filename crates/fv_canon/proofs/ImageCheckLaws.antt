@@ -24,7 +24,7 @@ use Rattle.fv_base.specs.declared.fault.FaultKind.TheVariants as kinds
 first_or_on : (b : List ℕ) (f g : Fault) → IsFirstOfVolume b f → BytesFollowVolume b g → ⊥
 first_or_on b f g first (m, d, less, is) = fault_refuses First depth_limit (length_of m) f b outermost m (omega (arith, less)) first d.1
 
--- bytes that go on after a volume have one fault, at the end of the volume
+-- bytes that go on after a volume have at most one fault at the end of the volume
 one_end : (b : List ℕ) (f g : Fault) → BytesFollowVolume b f → BytesFollowVolume b g → f ≡ g
 one_end b f g (m, d, less, is) (k, d', less', is') =
     let front = front_of depth_limit (length_of m) b m (omega (arith, less)) d.1 in
@@ -74,10 +74,11 @@ checks_one b xs ys (short, offsets, found, are) (short', offsets', found', are')
 pub ran_out_only : (b : List ℕ) (f : Fault) → (f ≡ out_of_memory) ⊎ NotRead b f → f.kind ≡ kinds.OutOfMemory → f ≡ out_of_memory
 ran_out_only b f why kind = first_only why (λ bad. first_reads b f kinds.OutOfMemory refl bad.first kind)
 
--- if reading fails with a fault of another kind, the bytes are rejected
+-- if reading fails with a fault of another kind, the bytes are not a volume, and the fault is their first fault
 pub is_not_read : (b : List ℕ) (f : Fault) → (f ≡ out_of_memory) ⊎ NotRead b f → f.kind ≢ kinds.OutOfMemory → NotRead b f
 is_not_read b f why other = ⊎_elim (λ want. absurd (other (ap (λ (g : Fault). g.kind) want))) (λ bad. bad) why
 
+-- the outcome is then Rejected, with the fault moved by the volume's place
 pub is_rejected : (at : ℕ) (b : List ℕ) (own f : Fault) → (own ≡ out_of_memory) ⊎ NotRead b own → own.kind ≢ kinds.OutOfMemory
     → (f ≢ out_of_memory → (own ≢ out_of_memory) × (f ≡ moved_fault at own.place.depth own)) → f.kind ≡ own.kind
     → HasOutcome at b (Rejected f)

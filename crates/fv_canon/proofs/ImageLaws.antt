@@ -54,7 +54,7 @@ pub image_told : (m : Meaning) (b starts : List ℕ) (t : Bool) → IsMeaning m 
     → (IsTrue t → b ≡ image_of m starts) × (b ≡ image_of m starts → IsTrue t) → (t ≡ true → IsImage m b) × (IsImage m b → t ≡ true)
 image_told m b starts t is laid (there, back) = grind (arith, common_steps, image_is m starts is laid, image_one) steps 400000
 
--- if the layout of a volume is rejected, and not because memory ran out, no bytes are its image
+-- if the layout of a volume fails, and not because memory ran out, no bytes are the volume's image
 pub none_refused : (m : Meaning) (b : List ℕ) (f : Fault) → (f ≡ out_of_memory) ⊎ Unfit m 0 f → f.kind ≢ kinds.OutOfMemory
     → IsImage m b → ⊥
 none_refused m b f (inl want) other is = other (ap (λ (g : Fault). g.kind) want)

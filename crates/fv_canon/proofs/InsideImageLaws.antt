@@ -17,6 +17,7 @@ use Rattle.fv_canon.proofs.VolumeListLaws.{each_joined, each_deeper, each_weaker
 use Rattle.fv_canon.proofs.StreamImageLaws.{MeantBelow}
 use Rattle.fv_canon.proofs.VolumeImageLaws.{image_denotes}
 
+-- a span that the bytes b contain lies within b
 stands_within : (b : List ℕ) (p : PlacedBytes) → ContainsSpan b p → IsWithin p.bytes b
 stands_within b p (low, is) = grind (arith, common_steps, take-append-drop (length p.bytes) (drop p.at b), take-append-drop p.at b) steps 400000
 
@@ -91,7 +92,7 @@ module _ (whole : List ℕ) where
 all_inside : (m : Meaning) (b : List ℕ) → IsImage m b → AllByRecursion (HasOwnImage b) (volumes_in m)
 all_inside m b is = volume_inside b m b is ([], [], sym (append-nil b))
 
--- each volume inside a volume that has an image has an image, so its own files are placed
+-- a volume that has an image fits, because each volume inside has an image too, so the files of each volume are placed
 pub image_fits : (m : Meaning) (b : List ℕ) → IsImage m b → Fits m
 image_fits m b is =
     each_weaker (HasOwnImage b) IsPlaced (λ v own. placed_of v.volume own.0 own.1) (volumes_in m) (all_inside m b is)

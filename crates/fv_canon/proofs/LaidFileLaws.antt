@@ -29,6 +29,7 @@ file_laid (File name kind attributes content) starts (n, l, f, (system, p, b, sm
     let image = data_made (Stream n) (streams_made n) kind content f.payload starts bytes is begins in
     (image, (data_again n kind (streams_again n) content f.payload (data_of content starts) bytes is image).2)
 
+-- the bytes of the file are its header, for the length that the layout assumed, and then its data
 pub stored_is : (p : Polarity) (m : FileMeaning) (starts : List ℕ) → length (data_of (content_of m) starts) ≡ data_len_of m
     → stored_bytes p (stored_file m starts) ≡ file_head_of (file_name_of m) (file_kind_of m) (record { 0 = attributes_of m })
     (data_len_of m) (file_sum_for (attributes_of m) (data_of (content_of m) starts)) p ++ data_of (content_of m) starts
@@ -50,6 +51,7 @@ pub here_is : (total e : ℕ) (f : FileMeaning) (fs : List FileMeaning) (s : ℕ
     → Here total e f s
 here_is total e f fs s ss placed = grind (arith, common_steps, header_least) steps 400000
 
+-- the files after this file are placed from the first multiple of 8 at or after the end of this file
 pub placed_on : (total e : ℕ) (f : FileMeaning) (fs : List FileMeaning) (s : ℕ) (ss : List ℕ) → ArePlaced total e (f ∷ fs) (s ∷ ss)
     → ArePlaced total (up_to_8 (s + size_for (data_len_of f))) fs ss
 placed_on total e f fs s ss placed = grind (arith, common_steps, here_is)

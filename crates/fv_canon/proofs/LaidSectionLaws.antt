@@ -1,8 +1,9 @@
 -- A walk over the sections of a stream that was read and laid out puts the stream of the canonical image. The steps:
 -- 1. The body of a section fits the form of the section's header (`section_fits`), and has the length that the layout
 --    assumed (`section_laid`).
--- 2. All sections and the tail are the stream (`stream_whole`).
--- 3. The walk puts the filler of each section, its header and its body (`goes_on`, `front_more`).
+-- 2. The bytes of all sections, followed by the tail, are the stream (`stream_whole`).
+-- 3. For each section, the walk puts the filler before the section, the section's header and the section's body
+--    (`goes_on`, `front_more`).
 -- 4. At the end the walk puts the tail (`front_end`), or nothing if there are no sections (`front_none`).
 use Rattle.std.proofs.Common.{◌≡◌, ◌<◌, ◌+◌, ◌-◌, ◌^◌, ℕ, zero, suc, Bool, [], ◌∷◌, ◌++◌, List, length, drop, replicate, sym, ap, ◌∙◌, subst, arith}
 use Rattle.std.proofs.Common.{append_assoc, append-nil, length-drop}
@@ -54,13 +55,16 @@ stream_whole at (Section k e b) (MoreSections t ss) starts tail =
 
 -- ---- the walk over the sections of a stream
 
+-- a section has as many starts as its body
 pub in_body : (s : SectionMeaning) → starts_in (volumes_in_section s) ≡ starts_in (volumes_in_body (body_of s))
 in_body s = ap starts_in (in_section s) ∙ count_deeper (volumes_in_body (body_of s))
 
+-- starts that begin with the starts of a section begin with the starts of its body
 pub body_laid : (s : SectionMeaning) (starts : List ℕ) → BeginsWithStarts (volumes_in_section s) starts
     → BeginsWithStarts (volumes_in_body (body_of s)) starts
 body_laid (Section kind extended body) starts begins = begins_higher (volumes_in_body body) starts begins
 
+-- the bytes that are left at a section are its filler, its header and its body, and then the sections after it
 pub goes_on : (left rest : List SectionMeaning) (s : SectionMeaning) (starts : List ℕ) (gap : ℕ) → left ≡ s ∷ rest
     → length (body_image (body_of s) starts) ≡ body_len (body_of s)
     → sections_bytes gap (sections_from left) starts

@@ -1,10 +1,11 @@
 -- The volumes of a flash image are laid out, and then their images are put one after another. In a renewed image each
 -- volume of the flash image is replaced by its canonical image. The steps:
--- 1. The offset of a volume's fault is the volume's place in the flash image (`told_at`). Volumes that are laid out
---    have images (`laid_images`).
--- 2. If the first volumes are laid out and the next one is rejected, it is the first that is rejected (`lays_stop`).
+-- 1. The fault of a rejected volume is moved by the volume's place in the flash image (`told_at`). Volumes that are
+--    laid out have images (`laid_images`).
+-- 2. If the first volumes are laid out and the next volume is rejected, this volume is the first that is rejected
+--    (`lays_stop`).
 -- 3. The loop keeps `Puts`: the bytes that were put so far, followed by the rest of any renewed image, are a renewed
---    image. It holds at first (`laid_none`) and after each volume (`laid_more`), and at the end all bytes are put
+--    image. `Puts` holds at first (`laid_none`) and after each volume (`laid_more`). At the end all bytes are put
 --    (`laid_all`).
 -- 4. So a flash image whose volumes are laid out has a renewed image (`laid_renewed`).
 use Rattle.std.proofs.Common.{◌≡◌, ◌≢◌, ◌⊎◌, ◌≤◌, ◌<◌, ◌+◌, ◌-◌, ℕ, [], ◌∷◌, ◌++◌, List, length, take, drop, get_or, refl, sym, ap, ◌∙◌, subst, arith}
@@ -25,7 +26,7 @@ use Rattle.fv_canon.proofs.ImageLaws.{image_stays_long}
 
 -- ---- one volume
 
--- the fault of a volume is moved to the volume's place, or memory ran out
+-- memory ran out, or the fault is the volume's own fault, moved by the volume's place
 pub told_at : (b x : List ℕ) (p n : ℕ) (own f : Fault) → VolumeAt b p n → x ≡ field p n b
     → (own ≡ out_of_memory) ⊎ Rejects x own
     → (f ≢ out_of_memory → (own ≢ out_of_memory) × (f ≡ moved_fault p own.place.depth own))
@@ -47,7 +48,7 @@ laid_images : (b : List ℕ) (volumes : List LocatedVolume) → AllByRecursion (
 laid_images b [] all = tt
 laid_images b (v ∷ vs) ((n, at, accepted, image), all) = ((n, image.0, at, (v.laid, accepted, image.1)), laid_images b vs all)
 
--- if the next volume is rejected, it is the first one that is rejected
+-- if the first volumes are laid out and the next volume is rejected, this volume is the first that is rejected
 pub lays_stop : (b : List ℕ) (found : List FoundVolume) (i : ℕ) (d : FoundVolume) (volumes : List LocatedVolume) (f : Fault)
     → AreLaid b (offsets_of (take i found)) volumes → i < length found → (f ≡ out_of_memory) ⊎ RejectedAt b (get_or found i d).offset f
     → (f ≡ out_of_memory) ⊎ FirstRejected b (offsets_of found) f
@@ -70,8 +71,8 @@ laid_ends b volumes i v (short, places, found, (same, all)) less is =
     let at : IsLaid b v = subst (IsLaid b) (sym is) (at_index (IsLaid b) volumes i v all less) in
     omega (arith, short, at_within b v.start at.0 at.1, laid_long b v.start at.0 v.laid at.1 at.2)
 
--- the sink took `bytes`, the first `from` bytes of a renewed image. Followed by bytes in which the volumes that are left
--- are renewed, they make a whole renewed image
+-- the sink took `bytes`, the first `from` bytes of a renewed image. If bytes follow in which the volumes that are left
+-- are renewed, all these bytes are a whole renewed image
 pub record Puts {S : Type 0} (takes : S → List ℕ → S → Type 0) (s t : S) (b : List ℕ) (volumes left : List LocatedVolume) (from : ℕ) : Type 0 where
   pub bytes : List ℕ
   pub taken : takes s bytes t
@@ -91,7 +92,7 @@ module _ {S : Type 0} (takes : S → List ℕ → S → Type 0) (laws : WalkLaws
       → Puts takes s t b volumes left from → left ≡ v ∷ vs → (from ≤ v.start) × (v.start ≤ length b)
   laid_next {t} left from v vs puts' now = grind (arith, common_steps, at_within) steps 400000
 
-  -- the bytes up to the volume and its image are put
+  -- after the bytes up to the next volume and this volume's image are put, `Puts` holds again
   pub laid_more : {t u w : S} (left : List LocatedVolume) (from : ℕ) (v : LocatedVolume) (vs : List LocatedVolume) (gap image : List ℕ)
       → Puts takes s t b volumes left from → left ≡ v ∷ vs → gap ≡ field from (v.start - from) b → takes t gap u
       → IsImage v.laid image → takes u image w → Puts takes s w b volumes vs (v.start + (head_of v.laid).length)
@@ -118,7 +119,7 @@ module _ {S : Type 0} (takes : S → List ℕ → S → Type 0) (laws : WalkLaws
             from p n low volume is puts.long gap_long front_long image_long to (simp append_assoc at after)));
       })
 
-  -- after the last volume, the bytes after it are put, and the renewed image is complete
+  -- after the bytes that follow the last volume are put, the renewed image is complete
   pub laid_all : {t u : S} (left : List LocatedVolume) (from : ℕ) (rest : List ℕ) → IsLaidOut b volumes → Puts takes s t b volumes left from
       → left ≡ [] → rest ≡ drop from b → takes t rest u → (bytes : List ℕ) × NormalisesAll b bytes × takes s bytes u
   laid_all {t} left from rest (short, places, found, (same, all)) puts' none is put =
@@ -140,7 +141,7 @@ nothing s bytes t = Unit {0}
 nothing_by : WalkLaws nothing
 nothing_by = record { none = λ s. tt; joined = λ p q. tt }
 
--- the volumes that are left can be put into this sink
+-- the images of the volumes that are left can be put into this sink, so there is a renewed image
 all_put : (b : List ℕ) (volumes left : List LocatedVolume) (from : ℕ) → IsLaidOut b volumes → Puts nothing tt tt b volumes left from
     → (bytes : List ℕ) × NormalisesAll b bytes
 all_put b volumes [] from laid puts =

@@ -10,15 +10,15 @@ pub use Rattle.fv_canon.proofs.StoredTilingLaws.{PadErased}
 pub use Rattle.fv_canon.proofs.OneImageLaws.{image_length, data_one, body_one}
 -- volumes that are laid out fit
 pub use Rattle.fv_canon.proofs.VolumeListLaws.{laid_fit}
--- bytes that are a volume at a depth within the limit are accepted; what a relation pairs item by item, a weaker
--- relation pairs too, and so what is a section at a depth is a section at the next depth
+-- bytes that are a volume at a depth within the limit are accepted. If a relation holds for each pair of items of two
+-- lists, a weaker relation holds for each pair too. So a section at a depth is a section at the next depth too
 pub use Rattle.fv_canon.proofs.HeadlineLaws.{accepted, pairs_more, stream_more, sections_more}
 -- if all volumes of a flash image are laid out, some bytes are this image with each volume replaced by its canonical
 -- image
 pub use Rattle.fv_canon.proofs.LaidVolumeLaws.{laid_renewed}
--- a list that consists of the starts of the files of some volumes begins with these starts, and no starts follow
+-- a list that consists of the starts of the files of some volumes begins with these starts
 pub use Rattle.fv_canon.proofs.PartLengthLaws.{begin_all}
--- an input that is a volume and does not fit is rejected
+-- a volume that does not fit is rejected
 pub use Rattle.fv_canon.proofs.RejectedInputLaws.{not_placed}
 -- the data of a file that was read, with a short header, are within the limit of a volume's length
 pub use Rattle.fv_canon.proofs.PartBytesLaws.{data_short}

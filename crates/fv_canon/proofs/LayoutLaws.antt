@@ -1,4 +1,5 @@
--- A volume has at most one layout.
+-- A volume has at most one layout. A layout has two parts: the starts of the volume's own files, and the starts of the
+-- files of the volumes inside.
 use Rattle.std.proofs.Common.{◌≡◌, ℕ, List, [], ◌∷◌, ◌++◌, length, take, drop, refl, sym, ap, append-nil, ◌∙◌, subst, take-append-drop}
 use Rattle.std.proofs.Common.{length-take-le, take_at}
 use Rattle.fv_tree.proofs.Laws.{files_list_back}

@@ -1,5 +1,5 @@
--- The two loops over the rows of a part of a volume: one adds the starts of the files of each volume among the rows,
--- the other skips these starts.
+-- Facts for the two loops over the rows of a part of a volume. One loop adds the starts of the files of each volume
+-- among the rows. The other loop skips these starts.
 use Rattle.std.proofs.Common.{◌≡◌, ◌≢◌, ◌<◌, ◌≤◌, ℕ, [], ◌∷◌, ◌++◌, inl, inr, ◌∙◌, suc, List, append_assoc, add-zero, Any}
 use Rattle.fv_base.proofs.Laws.{common_steps, cases_lt, subst, arith, true, false, true≢false, append-nil, length, drop, refl, sym, ap}
 use Rattle.fv_base.specs.declared.fault.Fault.{Fault}
@@ -28,6 +28,7 @@ other_part : (nesting : ℕ) (p : Part) → ((v : _) → p ≡ kinds.Volume v �
 other_part nesting (kinds.Volume v) not = absurd (not v refl)
 other_part nesting p not = refl
 
+-- if the next row is not a volume, the volumes among the rows that are left are the volumes among the rows after it
 pub other_first : (left rest : List TreeRow) (r : Row) → left ≡ row_of r ∷ rest → ((v : _) → r.part ≡ kinds.Volume v → ⊥)
     → volumes_of left ≡ volumes_of rest
 other_first left rest r steps not = ap volumes_of steps ∙ ap (λ vs. vs ++ volumes_of rest) (other_part r.nesting r.part not)
