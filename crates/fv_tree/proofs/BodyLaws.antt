@@ -1,4 +1,5 @@
--- The files of a volume are the files of its cells.
+-- The files of a volume lie within the volume (`files_inside`) and are stored in its bytes (`files_stored`). The first
+-- fault of the first file that is rejected is the first fault of the body (`files_first`).
 use Rattle.std.proofs.Common.{◌≡◌, ◌≤◌, ◌<◌, ℕ, ◌+◌, ◌^◌, [], ◌∷◌, ◌++◌, List, length, drop, ap, ◌∙◌, arith, length-append, not}
 use Rattle.fv_base.proofs.Laws.{AllByRecursion, length-drop, common_steps, list_any, First, volume_limit, IsBytes, all_filter, bytes_back, bytes_drop}
 use Rattle.fv_base.proofs.Laws.{bytes_front}
@@ -25,7 +26,7 @@ pub record LiesBy (end : ℕ) (f : FileForm) : Type 0 where
   pub ends : end_of f ≤ end
   pub agrees : f.head.header_len + length f.payload ≡ f.head.size
 
--- so does each file of the cells that lie within these bytes
+-- each file of cells that lie within the first `end` bytes meets `LiesBy end`
 pub files_lie : (end : ℕ) (cs : List CellForm) → CellsWithin end cs → AllByRecursion (LiesBy end) (files_in cs)
 files_lie end [] within = tt
 files_lie end (Valid at head payload ∷ cs) (lies, agree, rest) = (record { ends = omega (arith, lies); agrees = agree }, files_lie end cs rest)
@@ -36,7 +37,7 @@ pub cells_inside : (e : Extent) (volume : List ℕ) (cs : List CellForm) → e.f
     → Tiles e.file_system e.polarity e.first cs (drop e.first volume) → CellsWithin (length volume) cs
 cells_inside e volume cs first tiles = grind (arith, common_steps, length-drop, all_within) steps 150000
 
--- so each file of a volume lies within it
+-- so each file of a volume lies within the volume
 pub files_inside : (e : Extent) (volume : List ℕ) (fs : List FileForm) → e.first ≤ length volume → AreFilesOf e volume fs
     → AllByRecursion (LiesBy (length volume)) fs
 files_inside e volume fs first stand = grind (arith, common_steps, of_current, files_lie, cells_inside) steps 150000
@@ -50,6 +51,7 @@ files_first n I e volume at fs g stand first = grind (arith, common_steps)
 
 -- ---- the bytes of every file lie in some bytes
 
+-- each file of cells that tile the bytes b is a ready file (`IsReadyFile`)
 pub stored_in : (s : FileSystem) (p : Polarity) (at base end : ℕ) (cs : List CellForm) (b : List ℕ) → IsBytes b
     → length b ≤ volume_limit → base + end < 2 ^ 63 → Tiles s p at cs b → CellsWithin end cs → AllStored base (files_in cs)
 stored_in s p at base end [] b small short fits tiles within = tt
@@ -67,6 +69,7 @@ stored_in s p at base end (_ ∷ cs) b small short fits (x, rest, text, is, plac
     let long = ap length text ∙ length-append x rest in
     stored_in s p (at + length x) base end cs rest (bytes_back x rest (rw text at small)) (omega (arith, long)) fits more others
 
+-- so each file of a volume is a ready file
 pub files_stored : (e : Extent) (volume : List ℕ) (base : ℕ) (cs : List CellForm) (fs : List FileForm) → IsBytes volume
     → length volume ≤ volume_limit → base + length volume < 2 ^ 63
     → Tiles e.file_system e.polarity e.first cs (drop e.first volume) → CellsWithin (length volume) cs → AreCurrent e.length (files_in cs) fs

@@ -1,5 +1,5 @@
 -- The contents of a part that was read nest at most as deep as the part, and one level less deep if the part is a group
--- or an opened volume. The volumes in a section are the volumes in its body.
+-- or an opened volume. The volumes in a section are the volumes in its body, one level deeper.
 use Rattle.std.proofs.Common.{◌≡◌, ℕ, zero, suc, List, [], ◌∷◌, refl}
 use Rattle.std.specs.List.{AllByRecursion}
 use Rattle.fv_section.specs.Words.{FrameForm}
@@ -44,7 +44,7 @@ pub nests_nested : (m : Meaning) (n : ℕ) → NestsBody (Nested m) n → (k : �
 nests_nested m zero (f, kind, extended, (a, b, (c, opens, none))) = absurd none
 nests_nested m (suc k) (f, kind, extended, (a, b, (c, opens, volume))) = (k, refl, (f.body, volume))
 
--- ---- the volumes in a section and in a file
+-- ---- the volumes in a section
 
 pub in_section : (s : SectionMeaning) → volumes_in_section s ≡ deeper (volumes_in_body (body_of s))
 in_section (Section kind extended body) = refl

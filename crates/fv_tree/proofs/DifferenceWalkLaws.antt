@@ -17,7 +17,8 @@ uneven i [] (g ∷ gs) one ne = refl
 uneven i (f ∷ fs) [] one ne = refl
 uneven i (f ∷ fs) (g ∷ gs) one ne = absurd (omega (arith, one))
 
--- if the volumes have different numbers of files, the difference is FileCount
+-- if the search passed all files that both volumes have, and the volumes have different numbers of files, the
+-- difference is FileCount
 pub files_uneven : (fs gs : List FileMeaning) (i : ℕ) → min (length fs) (length gs) ≤ i → i ≤ min (length fs) (length gs)
     → (length fs ≡ length gs → ⊥)
     → files_differ 0 (files_from fs) (files_from gs) ≡ files_differ i (files_from (drop i fs)) (files_from (drop i gs))
@@ -28,7 +29,7 @@ files_uneven fs gs i past within ne e =
 
 -- ---- volumes
 
--- if the headers differ, the difference of the volumes is in the header
+-- if the headers differ, the difference of the headers is the difference of the volumes
 pub volume_word : (v w : Meaning) (h g : HeadFields) (o : Option DifferenceKind) (word : DifferenceKind) → h ≡ head_of v → g ≡ head_of w
     → in_kind o ≡ head_differs h g → o ≡ Some word → difference v w ≡ differ_in word
 volume_word (Volume a fs) (Volume b gs) h g o word x y said is = rw (← x, ← y, ← said, is)

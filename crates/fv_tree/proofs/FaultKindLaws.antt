@@ -1,7 +1,8 @@
 -- The faults of reading have one of the first 21 kinds. The steps:
--- 1. Each check of a cell has a fault of one of these kinds (`state_kinds`).
--- 2. If each fault in a section has one of these kinds, then so has each fault in a body, a stream and a volume
---    (`stored_kind`, `stream_kind`, `volume_kind`).
+-- 1. Each check of a cell that depends on the cell's state has a fault of one of these kinds (`state_kinds`). So each
+--    fault of a cell, or of the files in the cells, has one of these kinds (`stored_kind`).
+-- 2. If each fault in a section has one of these kinds, then so has each fault in a stream and in a volume
+--    (`stream_kind`, `volume_kind`).
 -- 3. By induction on the nesting depth each fault in a section has one of these kinds (`section_kind`), and so has each
 --    fault of bytes (`stands_reading`).
 use Rattle.std.proofs.Common.{arith, ◌≡◌, ◌≢◌, ℕ, ◌+◌, zero, suc, Bool, true, false, List, take, refl, sym, ap, ◌∙◌, inl, inr, nat_le}
@@ -38,7 +39,7 @@ stored_kind x volume f (inl bad) = fails_among Any IsReading _ f (refl, state_ki
 stored_kind x volume f (inr (cells, tiles, inl (g, twin, is))) = rw is
 stored_kind x volume f (inr (cells, tiles, inr (none, g, top, is))) = rw is
 
--- a section, at one level of nesting
+-- at one level of nesting, each fault in a section has one of the first 21 kinds
 abbrev SectionKind : ℕ → Type 0
 SectionKind n = (e : Fault) (f : FrameForm) (at : Place) → InSection Any n e f at → IsReading e
 

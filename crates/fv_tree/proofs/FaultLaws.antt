@@ -1,4 +1,4 @@
--- If bytes have a first fault, its condition holds at its place.
+-- If bytes have a first fault, the condition of this fault holds at the fault's place.
 use Rattle.std.proofs.Common.{ℕ, zero, suc, List, take, drop, inl, inr}
 use Rattle.fv_base.proofs.Laws.{First, Any, depth_limit, any_fails}
 use Rattle.fv_base.specs.declared.fault.Fault.{Fault}
@@ -40,6 +40,6 @@ section_stands zero e f at first = first
 section_stands (suc n) e f at (inl (group, first)) = inl (group, stream_by n (section_stands n) e f.body _ first)
 section_stands (suc n) e f at (inr (kind, opens, first)) = inr (kind, opens, volume_by n (section_stands n) e f.body _ first)
 
--- if bytes have a first fault, its condition holds in them
+-- if bytes have a first fault, the condition of this fault holds in the bytes
 pub fault_stands : (b : List ℕ) (e : Fault) → IsFirstOfVolume b e → FaultHolds b e
 fault_stands b e first = volume_by depth_limit (section_stands depth_limit) e b outermost first

@@ -29,7 +29,7 @@ moved_lies : (P : Fault → Type 0) (at : Place) (len n : ℕ) (e : Fault) → (
     → LiesIn at len n e
 moved_lies P at len n e within (f, first, is) = grind (arith, common_steps)
 
--- a fault of the names of files lies within the bytes in which the files lie
+-- the first fault of the names of files lies within the bytes in which the files lie
 names_within : (end len : ℕ) (fs : List FileForm) (f : Fault) → AllByRecursion (LiesBy end) fs → NamesFault First len fs f
     → f.place.offset ≤ end
 names_within end len fs f all (inl (x, (before, after, cut, none, has), is)) =
@@ -44,7 +44,7 @@ module _ (x : Extent) (v : List ℕ) (within : x.first ≤ length v) where
       let low = body_within x.file_system x.polarity x.first (drop x.first v) f first in omega (arith, low, length-drop x.first v, within)
   stored_within f (inr (cells, tiles, names)) = names_within (length v) x.length _ f (files_lie _ cells (cells_inside x v cells within tiles)) names
 
-  -- and so does out of memory
+  -- so does a fault that is this first fault or out of memory
   pub stopped_within : (f : Fault) → (f ≢ out_of_memory → StoredFault First x v f) → f.place.offset ≤ length v
   stopped_within f first = grind (arith, common_steps, want_known, stored_within) steps 150000
 
@@ -85,11 +85,11 @@ section_lies (suc n) e f at (inr (kind, opens, first)) = omega (arith, volume_by
 
 -- ---- bytes that are passed to a call
 
--- their first fault lies within them or at their end, and at most 8 levels deep
+-- the first fault of these bytes lies within the bytes or at their end, and at most 8 levels deep
 pub first_within : (b : List ℕ) (e : Fault) → IsFirstOfVolume b e → (e.place.offset ≤ length b) × (e.place.depth ≤ depth_limit)
 first_within b e first = omega (arith, volume_by depth_limit (section_lies depth_limit) e outermost b first)
 
--- a fault that is returned lies there too, because it is their first fault or out of memory
+-- a returned fault lies there too, because the fault is the first fault of the bytes or out of memory
 pub refused_within : (b : List ℕ) (e : Fault) → (e ≢ out_of_memory → IsFirstOfVolume b e)
     → (e.place.offset ≤ length b) × (e.place.depth ≤ depth_limit)
 refused_within b e first = elim (want_known e) [ inl want ↦ rw want (omega arith) | inr other ↦ first_within b e (first other) ]

@@ -1,8 +1,9 @@
 -- The path to the first difference of two volumes has at most 18 steps. The proof:
--- 1. Each way to combine differences keeps a bound on the number of steps; a step into a file or a section adds one.
+-- 1. The first of two differences has at most as many steps as the longer one (`most_or`). A step into a file or a
+--    section adds one (`one_under`), and a difference of headers has no steps (`none_head`).
 -- 2. A level of nesting adds at most two steps, one into a file and one into a section, so n levels have at most 2 * n
 --    + 2.
--- 3. A meaning nests at most 8 levels deep.
+-- 3. A meaning nests at most 8 levels deep, so the path has at most 18 steps (`few_steps`).
 use Rattle.std.proofs.Common.{◌≡◌, max, ◌≤◌, ◌+◌, ◌*◌, ℕ, length, arith, Bool, Some, None, IfSome}
 use Rattle.fv_base.proofs.Laws.{common_steps, option_or}
 use Rattle.fv_head.specs.Words.{HeadFields}

@@ -1,4 +1,4 @@
--- A volume has fewer files than bytes.
+-- A volume has at most as many files as bytes (`few_files`), and fewer than 2 ^ 32 files (`few_of`).
 use Rattle.std.proofs.Common.{◌≡◌, ◌≤◌, ◌<◌, ℕ, ◌^◌, [], ◌∷◌, List, length, drop, refl, ap, arith, length-drop}
 use Rattle.std.proofs.lemmas.List.Sums.{count_by-le-length, length-filter}
 use Rattle.fv_file.specs.Words.{CellForm, Valid}
@@ -6,6 +6,7 @@ use Rattle.fv_file.proofs.Laws.{cells_few}
 use Rattle.fv_head.proofs.Laws.{front_lies}
 use Rattle.fv_tree.specs.Words.{Pairwise, Stream, Denotes, MeansFile, IsMeaning, Meaning, files_of, head_of, FileForm, files_in, current_in}
 
+-- cells contain at most as many files as there are cells
 pub files_few : (cs : List CellForm) → length (files_in cs) ≤ length cs
 files_few [] = omega arith
 files_few (Valid at head payload ∷ cs) = omega (arith, files_few cs)

@@ -22,6 +22,7 @@ one_back : (volume : List ℕ) (at : ℕ) (head : FileHead) (payload : List ℕ)
     → filled volume (bare (record { offset = at; head = head; payload = payload })) ≡ record { offset = at; head = head; payload = payload }
 one_back volume at head payload is sum = grind (arith, common_steps) steps 150000
 
+-- so each file of cells gets its own data back
 pub all_back : (volume : List ℕ) (base : ℕ) (cs : List CellForm) → AllByRecursion (IsPayloadIn volume) cs → AllStored base (files_in cs)
     → map (filled volume) (map bare (files_in cs)) ≡ files_in cs
 all_back volume base [] p h = refl

@@ -1,10 +1,10 @@
 -- Bytes have at most one first fault. The steps:
--- 1. The names of files have at most one, and so have the cells of a body with the files in them (`names_once`,
---    `stored_once`), also if the fault is moved (`moved_once`).
--- 2. If each section has at most one, then so have a stream, a body and a volume (`stream_once`, `body_once`,
---    `volume_once`).
--- 3. By induction on the nesting depth each section has at most one (`section_once`), and so has each volume
---    (`first_once`).
+-- 1. The names of files have at most one first fault, and so have the cells of a body with the files in them
+--    (`names_once`, `stored_once`), also if the fault is moved (`moved_once`).
+-- 2. If each section has at most one first fault, then so have a stream, a body and a volume (`stream_once`,
+--    `body_once`, `volume_once`).
+-- 3. By induction on the nesting depth each section has at most one first fault (`section_once`), and so have bytes
+--    that should begin with a volume (`first_once`).
 -- 4. So the result of a reader is determined by the bytes (`only_answer`, `one_answer`, `sound_answer`).
 use Rattle.std.proofs.Common.{◌≡◌, ◌≢◌, ◌≤◌, ℕ, zero, suc, List, length, take, drop, sym, ◌∙◌, inl, inr, Result, Ok, Err, IfOk}
 use Rattle.fv_base.proofs.Laws.{IfErr, First, Any, out_of_memory, depth_limit, none_fails, one_fault}
@@ -30,11 +30,11 @@ use Rattle.fv_section.proofs.Laws as framed
 
 -- ---- one level of nesting
 
--- if bytes have at most one fault of a kind, they have at most one fault of this kind that is moved to a place
+-- if P holds of at most one fault, at most one fault is a fault of which P holds, moved to this place
 moved_once : (P : Fault → Type 0) → ((f g : Fault) → P f → P g → f ≡ g) → (at : Place) (e g : Fault) → Moved at P e → Moved at P g → e ≡ g
 moved_once P once at e g (f, p, is) (f', p', is') = cc (once f f' p p')
 
--- the names of files
+-- the names of files have at most one first fault
 names_once : (len : ℕ) (fs : List FileForm) (e g : Fault) → NamesFault First len fs e → NamesFault First len fs g → e ≡ g
 names_once len fs e g (inl (f, twin, is)) (inl (f', twin', is')) = cc (one_twin f f' fs twin twin')
 names_once len fs e g (inl (f, twin, is)) (inr (none, _, _, _)) = absurd (twin_none First f fs twin none)

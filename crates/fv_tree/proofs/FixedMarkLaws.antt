@@ -17,9 +17,11 @@ module _ (e : Extent) (b o : List ℕ) (same : take e.first o ≡ take e.first b
   field_kept : (at size : ℕ) → at + size ≤ e.first → field at size o ≡ field at size b
   field_kept at size low = sym (field-take at size e.first o low) ∙ ap (field at size) same ∙ field-take at size e.first b low
 
+  -- the first n bytes are the same if they are before the first file
   front_kept : (n : ℕ) → n ≤ e.first → take n o ≡ take n b
   front_kept n low = sym (take-take_le n e.first o low) ∙ ap (take n) same ∙ take-take_le n e.first b low
 
+  -- the extended header is the same, and the header ends before the first file
   ext_kept : (x : Option Extension) → 64 ≤ e.header_len → HasExt x e b → HasExt x e o × (e.header_len ≤ e.first)
   ext_kept None least (none, at) =
       let low : e.header_len ≤ e.first = omega (arith, at) in
@@ -40,7 +42,7 @@ header_kept b o h e front long same =
     let ext = ext_kept e b o same h.ext (front_lies b h e front).least front.ext in
     grind (arith, common_steps, front, front_kept e b o same e.header_len ext.1, ext.0)
 
--- the new body is in its place, and all other bytes are unchanged
+-- the new body is in its place, and the number of bytes and the bytes before the body are unchanged
 record Kept (e : Extent) (b o body : List ℕ) : Type 0 where
   pub length_is : length o ≡ length b
   pub prefix : take e.first o ≡ take e.first b
@@ -78,7 +80,8 @@ body_tiled b o body e cells u tiled = rw (kept b o body e u).body_is at tiled.ti
 
 -- ---- the unfixed volume is unique
 
--- if x is an unfixed volume, then cells tile the new body, and x is the bytes with the new body
+-- if the first fault of the new body is not Fixed and x is an unfixed volume, then cells tile the new body, and x is
+-- the bytes with the new body
 one_unfixed : (b o body : List ℕ) (e : Extent) → Unfixes e b o body → NoneFixed e.file_system e.polarity e.first body
     → (x : List ℕ) → IsUnfixed b x → ((cells : List CellForm) × Tiles e.file_system e.polarity e.first cells body) × (x ≡ o)
 one_unfixed b o body e u end x (f, changed, w, (cells, tiled)) =
@@ -90,6 +93,7 @@ one_unfixed b o body e u end x (f, changed, w, (cells, tiled)) =
     (tiled_unfixed e.file_system e.polarity e.first changed cells tiles) in
     ((cells, rw same at tiles), cc (v.text, u.text, same))
 
+-- bytes have at most one unfixed volume
 pub only_unfixed : (b o x : List ℕ) → IsUnfixed b o → IsUnfixed b x → x ≡ o
 only_unfixed b o x (e, body, u, (cells, tiled)) other =
     (one_unfixed b o body e u (tiled_unfixed e.file_system e.polarity e.first body cells (body_tiled b o body e cells u tiled)) x other).1
@@ -128,7 +132,7 @@ module _ (b : List ℕ) (h : HeadFields) (e : Extent) (front : BeginsVolume h e 
     pub stops_there : (f : Fault) → IsFirstCellFault e.file_system e.polarity e.first body f → f.kind ≢ kinds.Fixed → UnfixStops b f
     stops_there f here kind = inr (e, with_body body, body, in_place, here, kind)
 
--- if cells tile the body of a volume, it is its own unfixed volume
+-- if cells tile the body of a volume, the volume is its own unfixed volume
 pub unchanged : (b : List ℕ) (e : Extent) (cells : List CellForm) → BeginsTiled e cells b → IsUnfixed b b
 unchanged b e cells has =
     let long : e.length ≡ e.first + (e.length - e.first) = omega (arith, (first_lies b has.head e has.begins).1) in

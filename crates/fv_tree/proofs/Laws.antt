@@ -8,11 +8,11 @@ pub use Rattle.fv_tree.proofs.VolumePartLaws.{files_list_back}
 pub use Rattle.fv_tree.proofs.ListPairs.{pairs_push}
 -- a stream, a section, a body and a content have the length of the bytes that they were read from
 pub use Rattle.fv_tree.proofs.LengthLaws.{AsLong, stream_long, section_long, body_long, content_long}
--- a volume has fewer files than bytes
+-- a volume has at most as many files as bytes, and fewer than 2 ^ 32 files
 pub use Rattle.fv_tree.proofs.FileCountLaws.{few_files, few_of}
 -- the contents of a part are smaller than the part
 pub use Rattle.fv_tree.proofs.SizeLaws.{section_falls, section_body_falls, file_falls, content_falls}
--- the volumes in a section are the volumes in its body
+-- the volumes in a section are the volumes in its body, one level deeper
 pub use Rattle.fv_tree.proofs.DepthLaws.{in_section}
 -- the contents of a part nest at most as deep as the part, and one level less deep if it is a group or an opened volume
 pub use Rattle.fv_tree.proofs.DepthLaws.{nests_files, nests_content, nests_sections, nests_body, nests_group, nests_nested}
@@ -33,14 +33,15 @@ pub use Rattle.fv_tree.proofs.RefusalLaws.{fault_refuses}
 pub use Rattle.fv_tree.proofs.FaultLaws.{fault_stands}
 -- bytes either begin with a volume or have a first fault, and an input either is a volume or has a first fault
 pub use Rattle.fv_tree.proofs.DecidedLaws.{volume_decided, input_decided}
--- a first fault lies within the bytes or at their end
+-- a first fault lies within the bytes or at their end, and at most 8 levels deep
 pub use Rattle.fv_tree.proofs.FaultPlaceLaws.{first_within}
 -- the faults of reading have one of the first 21 kinds
 pub use Rattle.fv_tree.proofs.FaultKindLaws.{is_reading, stands_reading, stands_other}
 -- ---- a whole input
 
--- an input is a volume if it ends with the volume that it begins with. It is not one if it begins with none, or if
--- bytes follow the volume
+-- an input that is a volume begins with this volume. An input is a volume, and only this volume, if the input ends with
+-- the volume that it begins with. An input is not a volume if it does not begin with a volume, or if bytes follow the
+-- volume
 pub use Rattle.fv_tree.proofs.WholeInputLaws.{input_prefix, end_found, end_only, volume_refused, end_refused}
 -- an input for which memory ran out begins with the header of a volume
 pub use Rattle.fv_tree.proofs.WholeInputLaws.{ran_out}
@@ -55,7 +56,7 @@ pub use Rattle.fv_tree.proofs.LocatedLaws.{volume_files, one_files, begun_data}
 pub use Rattle.fv_tree.proofs.VolumeCellLaws.{bad_cell, bad_header}
 -- ---- clearing the bits of fixed files
 
--- if all of a vector is overwritten, it has the new items
+-- if all of a vector is overwritten, the vector has the new items
 pub use Rattle.fv_tree.proofs.UnfixedInputLaws.{whole_kept}
 -- ---- the first difference of two meanings
 

@@ -13,6 +13,8 @@ use Rattle.fv_tree.specs.Words.{FileForm}
 abbrev pub AsLong : SectionRelation → Type 0
 AsLong R = (f : FrameForm) (s : SectionMeaning) → R f s → section_len s ≡ frame_len f
 
+-- sections that follow other sections, which end at `end`, and the tail after them end where the bytes b end, if each
+-- section has the length of its frame
 from_long : (R : SectionRelation) → AsLong R → (at end : ℕ) (f : FrameForm) (fs : List FrameForm) (s : SectionMeaning) (ss : SectionMeanings)
     (tail : ℕ) (b : List ℕ) → up_to_4 end ≡ at → SplitsFrom at (f ∷ fs) tail b → Pairwise R (f ∷ fs) (s ∷ sections_list ss)
     → sections_end end (MoreSections s ss) + tail ≡ at + length b

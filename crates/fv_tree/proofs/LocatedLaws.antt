@@ -1,5 +1,5 @@
--- The files of a volume as they are stored: the data of each are in the volume at the data's offset, and there are no
--- other files.
+-- The files of a volume as they are stored: the data of each file are in the volume at the data's offset, and there are
+-- no other files.
 use Rattle.std.proofs.Common.{◌≡◌, ◌≤◌, ℕ, ◌+◌, ◌-◌, [], ◌∷◌, List, length, take, drop, arith, length-take-le}
 use Rattle.fv_base.proofs.Laws.{take_all, common_steps, AllByRecursion, field-take, up_to_8}
 use Rattle.fv_file.specs.Words.{CellForm, Valid, CellsWithin}
@@ -33,6 +33,7 @@ in_front n b (f ∷ fs) w h =
     let within : data_place f + length f.payload ≤ n = omega (arith, h.0.0, length-take-le n b w) in
     ((omega (arith, within, w), rw (field-take (data_place f) (length f.payload) n b within) at h.0.1), in_front n b fs w h.1)
 
+-- the data of each file that bytes begin with are in the bytes
 pub begun_data : (b : List ℕ) (fs : List FileForm) → BeginWithFiles b fs → AllByRecursion (HasDataIn b) fs
 begun_data b fs (h, e, front, stand) =
     let v : List ℕ = take e.length b in
@@ -44,6 +45,7 @@ begun_data b fs (h, e, front, stand) =
 -- ---- the stored files are the only ones
 
 module _ (b : List ℕ) (h : HeadFields) (e : Extent) (front : BeginsVolume h e b) where
+  -- the files that bytes begin with are the files of the volume with the header that the bytes begin with
   pub located_stand : (gs : List FileForm) → BeginWithFiles b gs → AreFilesOf e (take e.length b) gs
   located_stand gs (k, x, other, stand) = rw (one_front b k h x e other front).1 at stand
 

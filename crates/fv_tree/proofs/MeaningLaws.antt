@@ -34,6 +34,7 @@ StreamsOne p q = (ss ts : SectionMeanings) (n k : ℕ) (b : List ℕ) → p (sec
 abbrev VolumesOne : VolumeRelation → VolumeRelation → Type 0
 VolumesOne p q = (b : List ℕ) (m k : Meaning) → p b m → q b k → m ≡ k
 
+-- `files_from` undoes `files_list`, and `sections_from` undoes `sections_list`
 files_back : (fs : FileMeanings) → files_from (files_list fs) ≡ fs
 files_back NoFiles = refl
 files_back (MoreFiles f fs) = ap (λ l. MoreFiles f l) (files_back fs)
@@ -42,6 +43,7 @@ sections_back : (ss : SectionMeanings) → sections_from (sections_list ss) ≡ 
 sections_back NoSections = refl
 sections_back (MoreSections s ss) = ap (λ l. MoreSections s l) (sections_back ss)
 
+-- so sections with the same list are the same
 same_sections : (xs ys : SectionMeanings) → sections_list xs ≡ sections_list ys → xs ≡ ys
 same_sections xs ys e = sym (sections_back xs) ∙ ap sections_from e ∙ sections_back ys
 

@@ -49,7 +49,7 @@ place_named name (f ∷ fs) = rw (place_named name fs)
 pub looked_up : (name : Guid) (fs : List FileMeaning) → position (is_name name) (map file_name_of fs) ≡ position (is_named name) fs
 looked_up name fs = rw (place_named name fs, length-map fs file_name_of)
 
--- the file with this number is the first file with the name
+-- the file at the position of the first file for which a test is true is this first file
 pub file_there : (test : FileMeaning → Bool) (fs : List FileMeaning) → option_and_then (slice_get fs) (position test fs) ≡ find test fs
 file_there test fs = grind (arith, common_steps, lt-ltb, find_at, le-ltb, slice_get_past) steps 150000
 
@@ -80,12 +80,13 @@ all_kept test [] h = refl
 all_kept test (s ∷ ss) h = rw (h.0, all_kept test ss h.1)
 
 module _ (b : List ℕ) where
-  -- if two tests agree on each file, one is true of some file exactly if the other is
+  -- if two tests agree on each file, one is true of some file exactly if the other is true of some file
   same_any : (p : FileForm → Bool) (q : NamedFile → Bool) → ((s : LocatedFile) → p (file_form b s) ≡ q (named_file s))
       → (ss : List LocatedFile) → list_any p (map (file_form b) ss) ≡ list_any q (map named_file ss)
   same_any p q same [] = refl
   same_any p q same (s ∷ ss) = rw (same s, same_any p q same ss)
 
+  -- a file has a twin among some files exactly if its name and mark have a twin among the names and marks of the files
   twins_any : (s : LocatedFile) (ss : List LocatedFile)
       → list_any (is_twin (file_form b s)) (map (file_form b) ss) ≡ list_any (names.is_twin (named_file s)) (map named_file ss)
   twins_any s ss = same_any (is_twin (file_form b s)) (names.is_twin (named_file s)) (λ x. refl) ss
@@ -95,11 +96,12 @@ module _ (b : List ℕ) where
   twins_from [] h = tt
   twins_from (s ∷ ss) h = (twins_any s ss ∙ h.0, twins_from ss h.1)
 
-  -- the same is true of the first n files. If the name and mark of the next file have a twin among them, that file has
-  -- one
+  -- the same is true of the first n files
   pub front_twins : (n : ℕ) (ss : List LocatedFile) → names.NoTwins (take n (map named_file ss)) → NoTwins (take n (map (file_form b) ss))
   front_twins n ss h = rw (take-map (file_form b) n ss) (twins_from (take n ss) (rw (take-map named_file n ss) at h))
 
+  -- if the name and mark of the next file have a twin among the names and marks of the first n files, the next file has
+  -- a twin among the first n files
   pub twin_after : (n : ℕ) (ss : List LocatedFile) → n < length ss
       → list_any (names.is_twin (get_or (map named_file ss) n no_named)) (take n (map named_file ss)) ≡ true
       → list_any (is_twin (file_form b (get_or ss n no_file))) (take n (map (file_form b) ss)) ≡ true

@@ -12,10 +12,12 @@ same_name_back f g h = grind (arith, common_steps, bytes_eq-Decides)
 pub twin_back : (f g : FileForm) → is_twin f g ≡ true → is_twin g f ≡ true
 twin_back f g h = grind (arith, common_steps, and_split, and_join, same_name_back)
 
+-- a test that is true of an item of a list is true of some item of the list
 any_behind : (p : FileForm → Bool) (xs : List FileForm) (f : FileForm) (ys : List FileForm) → p f ≡ true
     → list_any p (xs ++ (f ∷ ys)) ≡ true
 any_behind p xs f ys h = grind (arith, common_steps, list_any_at, length-append, get_or_at)
 
+-- if a file has an earlier twin, some of the files are twins
 twin_not : (before : List FileForm) (f : FileForm) (after : List FileForm) → NoTwins (before ++ (f ∷ after))
     → list_any (is_twin f) before ≡ true → ⊥
 twin_not [] f after none h = cc
@@ -27,6 +29,7 @@ twin_not (g ∷ gs) f after none h = elim (or_cases (is_twin f g) (list_any (is_
 pub twin_none : (which : Which) (f : FileForm) (fs : List FileForm) → HasTwin which f fs → NoTwins fs → ⊥
 twin_none which f fs (before, after, is, none, has) all = twin_not before f after (subst NoTwins is all) has
 
+-- if a volume top file is not the last file or does not end at the end, the files are not the files of a volume
 top_not : (n : ℕ) (before : List FileForm) (f : FileForm) (after : List FileForm) → TopAtEnd n (before ++ (f ∷ after))
     → is_top f ≡ true → (after ≡ [] → end_of f ≡ n → ⊥) → ⊥
 top_not n [] f [] all top off = off refl (all top)

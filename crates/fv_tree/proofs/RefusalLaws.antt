@@ -1,7 +1,9 @@
 -- A part with a fault is not read. This is true of a first fault and of any fault whose condition holds. The steps:
--- 1. If no section with a fault is read, then bytes with a fault are not a stream, not a body and not a volume
---    (`stream_by`, `stored_by`, `file_by`, `volume_by`).
--- 2. By induction on the nesting depth no section with a fault is read (`section_refuses`), so no stream and no volume
+-- 1. If no section with a fault is read, then bytes with a fault are not a stream (`stream_by`).
+-- 2. A body with a fault of a cell, or of the files in the cells, has no files (`stored_by`, `files_refused`).
+-- 3. If bytes with a fault are not a stream, then a file with a fault is not read (`file_by`), and bytes with a fault
+--    do not begin with a volume (`volume_by`).
+-- 4. By induction on the nesting depth no section with a fault is read (`section_refuses`), so no stream and no volume
 --    with a fault is read (`stream_refuses`, `fault_refuses`).
 use Rattle.std.proofs.Common.{◌≤◌, ℕ, zero, suc, List, length, take, drop, inl, inr, arith, take_all}
 use Rattle.fv_base.proofs.Laws.{Which, none_fails}
@@ -40,7 +42,8 @@ module _ (which : Which) where
       one_of_none which (MeansSection n) (λ f. InSection which n e f at) frames ss (λ f s. rejected e f at s) bad
       (rw (one_split 0 others frames t tail b split' split).0 at pairs)
 
-  -- if a body has a fault of a cell or of the files in the cells, there are no cells whose files have the right names
+  -- if a body has a fault of a cell or of the files in the cells, and cells tile the body, then some of the files in
+  -- the cells are twins, or a volume top file is not at the end
   pub stored_by : (x : Extent) (volume : List ℕ) (f : Fault) (cells : List CellForm) → StoredFault which x volume f
       → Tiles x.file_system x.polarity x.first cells (drop x.first volume)
       → NoTwins (files_in cells) × TopAtEnd x.length (current_in (files_in cells)) → ⊥
@@ -49,7 +52,7 @@ module _ (which : Which) where
   stored_by x volume f cells (inr (others, tiles', names)) tiles right =
       names_wrong which x.length (files_in cells) f (rw (only_one x.file_system x.polarity x.first _ cells others tiles tiles') at names) right
 
-  -- so it has no files, also if the fault is moved to where the volume begins
+  -- so no files are the files of this body, also if the fault is moved to the place where the volume begins
   pub files_refused : (x : Extent) (volume : List ℕ) (at : Place) (e : Fault) (files : List FileForm)
       → Moved at (StoredFault which x volume) e → AreFilesOf x volume files → ⊥
   files_refused x volume at e files (f, bad, is) stand =

@@ -1,10 +1,10 @@
 -- The promises of the readers (`SectionRead`, `StreamRead`, `ContentRead`) hold. The steps:
--- 1. If sections are made from some frames and exactly the volumes that were added for them, and the same is true of the
---    next frame, it is true of all these frames and volumes together (`each_push`).
+-- 1. If sections are made from some frames and exactly the volumes that were added for them, and the same is true of
+--    the next frame, the same is true of all these frames and volumes together (`each_push`).
 -- 2. A section is read as its shape says: a leaf adds no volume (`leaf_read`), a group adds the volumes in its body
 --    (`group_read`), and an opened volume adds itself (`volume_read`).
--- 3. A stream is read if all of its frames are (`stream_read`). The data of a file are plain bytes (`plain_read`), or a
---    stream that is read (`sectioned_read`).
+-- 3. A stream is read if all of its frames are read (`stream_read`). The data of a file are plain bytes (`plain_read`),
+--    or a stream that is read (`sectioned_read`).
 use Rattle.std.proofs.lemmas.Grind.{common_steps}
 use Rattle.std.proofs.Common.{arith, ◌≡◌, ℕ, ◌+◌, List, [], ◌∷◌, ◌++◌, true, false, map, refl, sym, ap}
 use Rattle.std.proofs.lemmas.List.{append-nil}

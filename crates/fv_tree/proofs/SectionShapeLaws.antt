@@ -33,7 +33,7 @@ pub list_back : (ss : List SectionMeaning) → sections_list (sections_from ss) 
 list_back [] = refl
 list_back (s ∷ ss) = ap (λ l. s ∷ l) (list_back ss)
 
--- the body of a stored frame is within the limit of a volume's length
+-- the body of a stored frame is at most as long as a volume may be
 pub frame_small : (f : FrameForm) → IsStoredFrame f → length f.body ≤ volume_limit
 frame_small f (b, small, short, stands) = omega (arith, short, stands_within f b f.offset stands)
 

@@ -1,4 +1,5 @@
--- The header length, the size and the file checksum of a valid file in a volume follow from its other fields.
+-- The header length, the size and the file checksum of a valid file in a volume follow from its attributes and data
+-- (`header_follows`), so each cell of a volume is small (`small_cell`).
 use Rattle.std.proofs.Common.{◌≡◌, ◌<◌, ℕ, ◌+◌, ◌^◌, List, [], ◌∷◌, length, true, ap, arith, length-append}
 use Rattle.fv_base.specs.Words.{IsBytes}
 use Rattle.fv_base.specs.declared.flash.FileSystem.{FileSystem}
@@ -28,7 +29,7 @@ header_follows system polarity head payload b small filled sound =
       file_sum = sum_follows (attribute_bits head.attributes) head.file_sum payload (rw fields (in_header 17)) sound.file_sum;
     }
 
--- so each cell that a walk passes in a volume is small
+-- so each cell that a walk passes in a volume is small (`IsSmallCell`)
 pub small_cell : (start left after : CellsLeft) (cs : List CellForm) (c : CellForm) → IsBytes start.rest
     → start.at + length start.rest < 2 ^ 32 → Walked start cs left → Walked left (c ∷ []) after → IsSmallCell c
 small_cell start left after cs c small room w v =

@@ -78,7 +78,7 @@ first_is f r rest begun =
     } in
     (is, rw is here)
 
--- the bytes after a frame and the filler that follows it
+-- if bytes begin with a frame and its filler, the bytes after the frame and the filler are the rest
 cut_filler : (f : FrameForm) (r filler rest : List ℕ) (n : ℕ) → BeginsFrame f r (filler ++ rest) → n ≡ frame_len f + length filler
     → drop n r ≡ rest
 cut_filler f r filler rest n begun is =
@@ -106,14 +106,17 @@ pub record Meets (fs : List FrameForm) (t : ℕ) (starts : List (List ℕ) × Li
   pub tail : length starts.1 ≡ t
   pub framed : AllByRecursion BeginsFramed starts.0
 
+-- fewer than 4 bytes are read as no frames, and are the tail
 meets_none : (t : ℕ) (r : List ℕ) → length r < 4 → length r ≡ t → Meets [] t (starts_of r)
 meets_none t r few is = rw (no_start r few) (record { frames = refl; tail = is; framed = tt })
 
+-- if the bytes after a frame are read as the frames fs, all bytes are read as the frame and fs
 meets_one : (f : FrameForm) (fs : List FrameForm) (t : ℕ) (r behind : List ℕ) → BeginsFrame f r behind → Meets fs t (starts_of (after_first r))
     → Meets (f ∷ fs) t (starts_of r)
 meets_one f fs t r behind begun more =
     grind (arith, common_steps, first_start, first_is f r behind begun, length_begun f r behind begun, size_least f)
 
+-- bytes that split into frames are read as these frames; `at` is the offset of the bytes in their stream
 starts_meet : (at : ℕ) (fs : List FrameForm) (t : ℕ) (r : List ℕ) → at ≡ up_to_4 at → SplitsFrom at fs t r → Meets fs t (starts_of r)
 starts_meet at [] t r multiple (none, z) = meets_none t r (omega (arith, ap length none)) (omega (arith, ap length none, z))
 starts_meet at (f ∷ []) t r multiple (rest, begun, o, l, fit) =

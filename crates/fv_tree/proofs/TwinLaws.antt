@@ -3,7 +3,7 @@
 -- 1. At most one file is the first that has an earlier twin (`one_twin`).
 -- 2. Files without twins still have none if some files are left out (`no_twins_kept`), and two of them at different
 --    places are not twins (`apart`).
--- 3. Of two current files neither replaces the other, so their names differ (`names_differ`).
+-- 3. Neither of two current files replaces the other, so their names differ (`names_differ`).
 -- 4. Volume top files have the same name, so two of them are not both current (`two_tops`), and at most one of them is
 --    not at the end (`one_top`).
 use Rattle.std.proofs.Common.{◌≡◌, ℕ, [], ◌∷◌, ◌++◌, Bool, true, false, List, refl, sym, ◌∙◌, arith, not}

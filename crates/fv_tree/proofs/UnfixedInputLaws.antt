@@ -24,6 +24,6 @@ bytes_follow input o f h e unfixed front other is =
       first = inr ((o, unfixed), (h, e, front, less, is));
     }
 
--- if all of a vector is overwritten, it has the new items
+-- if all of a vector is overwritten, the vector has the new items
 pub whole_kept : (new items : List ℕ) (n : ℕ) → length new ≡ n → take n (new ++ drop (length new) items) ≡ new
 whole_kept new items n e = rw (← e) (take-append_seam new (drop (length new) items))

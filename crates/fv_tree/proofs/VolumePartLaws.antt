@@ -12,7 +12,7 @@ use Rattle.fv_head.proofs.Laws.{front_extent, front_same, one_front}
 use Rattle.fv_tree.specs.Words.{AreFilesOf, Stream, StreamRelation, VolumeOver, Denotes, MeansFile, Opens, Pairwise, FileForm, moved_fault, InVolume, Meaning}
 use Rattle.fv_tree.specs.Words.{Volume, FileMeaning, files_list, head_of, files_of, files_from}
 
--- the volume has some files, and the list contains their meanings
+-- the volume has some files, and the list is the meanings of these files, in order
 abbrev pub HasFiles : StreamRelation → Extent → List ℕ → List FileMeaning → Type 0
 HasFiles is_stream e volume ms = (files : List FileForm) × AreFilesOf e volume files × Pairwise (MeansFile is_stream) files ms
 
@@ -40,6 +40,7 @@ made n b h e ms front (files, stand, pairs) =
 
 -- ---- a volume has a header and files
 
+-- bytes that begin with a volume begin with its header, which states the length of the volume
 pub front_of : (n k : ℕ) (b : List ℕ) (m : Meaning) → k ≤ length b → (d : Denotes n (take k b) m) → BeginsVolume (head_of m) d.extent b
     × (d.extent.length ≡ k)
 front_of n k b m within d =

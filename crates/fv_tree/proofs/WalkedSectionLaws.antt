@@ -1,7 +1,7 @@
 -- Each section that a walk over a file reaches was read (`IsKept`), and so were the sections that are left (`AreKept`).
 -- The steps:
--- 1. The shape of a frame determines how its section is made (`section_is`). If no volume is left, a section takes none
---    (`none_after`). The offset of a frame does not matter (`by_unplaced`).
+-- 1. The shape of a frame determines how its section is made (`section_is`). If no volume is left, a section takes no
+--    volume (`none_after`). The offset of a frame does not matter (`by_unplaced`).
 -- 2. The sections of a stream that was read meet `AreKept` (`stream_kept`). So do the sections after the first
 --    (`rest_kept`), and the first section meets `IsKept` (`first_kept`). Together they are all sections (`each_first`),
 --    with the same tail (`tail_after`). There are fewer than 2 ^ 63 sections (`few_sections`), and none in fewer than 4

@@ -23,17 +23,20 @@ first_rejects b f first = record {
   first = inl first;
 }
 
+-- so an input for which a fault is returned is not a volume, unless memory ran out
 pub volume_refused : (b : List ℕ) (f : Fault) → (f ≢ out_of_memory → IsFirstOfVolume b f) → (f ≡ out_of_memory) ⊎ NotRead b f
 volume_refused b f first = or_more (want_known f) (λ other. first_rejects b f (first other))
 
--- an input that goes on after its volume is not a volume
+-- if the test of the volume's end fails, the volume does not end where the input ends
 not_the_end : (b : List ℕ) (n : ℕ) → (n == length b) ≡ false → n ≢ length b
 not_the_end b n differs same = cc (eq-eqb n (length b) same)
 
+-- so bytes follow the volume
 pub goes_on : (b : List ℕ) (f : Fault) (v : Meaning) (n : ℕ) → Accepted (take n b) v → (n ≡ length_of v) × (n ≤ length b)
     → (n == length b) ≡ false → f ≡ outer_fault kinds.Length n → BytesFollowVolume b f
 goes_on b f v n accepted (own, within) differs is = (v, rw own at accepted, omega (arith, own, within, not_the_end b n differs), rw own at is)
 
+-- an input that goes on after its volume is not a volume
 pub end_refused : (b : List ℕ) (f : Fault) (v : Meaning) (n : ℕ) → Accepted (take n b) v → (n ≡ length_of v) × (n ≤ length b)
     → (n == length b) ≡ false → f ≡ outer_fault kinds.Length n
     → ((k : ℕ) (m : Meaning) → k ≤ length b → Denotes depth_limit (take k b) m → (m ≡ v) × (k ≡ n)) → NotRead b f
@@ -65,8 +68,8 @@ ran_out b f (inr why) front = inr why
 abbrev pub IsOfInput : FaultKind → Type 0
 IsOfInput kind = (kind ≢ kinds.ReadFault) × (kind ≢ kinds.WriteFault)
 
--- to prove this of a fault, it may be assumed that the fault is not out of memory, because OutOfMemory is neither
--- ReadFault nor WriteFault
+-- OutOfMemory is neither ReadFault nor WriteFault. So to prove this of the kind of f, f may be assumed not to be out of
+-- memory
 pub input_kind : (f : Fault) → (f ≢ out_of_memory → IsOfInput f.kind) → IsOfInput f.kind
 input_kind f known = grind (arith, common_steps, want_known)
 
