@@ -1,7 +1,8 @@
 -- A meaning has at most one image. The steps:
--- 1. Two lists of bytes that show the same spans are equal (`shows_one`), and files have at most one first placement
---    (`starts_one` of fv_placement).
--- 2. So by induction on the meaning there is at most one image (`image_one`).
+-- 1. Two lists of bytes that show the same spans are equal (`shows_one` of PositionLaws), and files have at most one
+--    first placement (`starts_one` of fv_placement).
+-- 2. So by induction on the meaning there is at most one image (`image_one`). The same is true of a file's data and of
+--    a section's body (`data_one`, `body_one`).
 use Rattle.std.proofs.Common.{◌≡◌, ◌+◌, ℕ, ◌∷◌, List, length, sym, ◌∙◌, subst}
 use Rattle.fv_base.proofs.Laws.{erased_byte}
 use Rattle.fv_head.specs.Words.{first_edge, polarity_of}
@@ -18,6 +19,7 @@ use Rattle.fv_canon.proofs.PositionLaws.{shows_one}
 pub image_length : (m : Meaning) (image : List ℕ) → IsImage m image → length image ≡ (head_of m).length
 image_length (Volume h files) image (stored, starts, are, placed, shows) = shows.length_is
 
+-- a meaning has at most one image, and the same is true of its files, their data, the frames and their bodies
 mutual
   pub image_one : (m : Meaning) (b c : List ℕ) → IsImage m b → IsImage m c → b ≡ c
   image_one (Volume h files) b c (xs, ss, are, placed, shows) (ys, ts, are', placed', shows') =

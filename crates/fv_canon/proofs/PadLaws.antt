@@ -1,4 +1,5 @@
--- How a gap is split into pads.
+-- A gap is split into pads by the rule `PadsRule` (`pads_rule`). A fact about each pad gives the fact about each gap
+-- (`gap_has`).
 use Rattle.std.proofs.Common.{◌≡◌, ◌≤◌, ◌<◌, ◌-◌, ◌%◌, ℕ, [], ◌++◌, if◌then◌else◌, inl, inr, zero, suc, Bool, List, refl, sym, ap, ◌∙◌, arith}
 use Rattle.fv_base.proofs.Laws.{common_steps, nat_le, le-leb, ne_eqb, cases_lt, if_true, if_false, not_at_most}
 use Rattle.fv_base.specs.declared.flash.Polarity.{Polarity}
@@ -13,6 +14,7 @@ gap_some : (p : Polarity) (gap : ℕ) → 24 ≤ gap → gap_bytes p gap ≡ pad
 unfolding gap_bytes
 gap_some p gap l = ap (λ (b : Bool). if b then [] else pads p gap gap) (ne_eqb gap 0 (λ z. omega (arith, l, z)))
 
+-- a gap of at most 0xfffff8 bytes is one pad; a longer gap begins with a pad of `long_pad` bytes (`pads_more`)
 pads_fit : (p : Polarity) (n gap : ℕ) → gap ≤ 0xfffff8 → pads p n gap ≡ pad_bytes p gap
 pads_fit p zero gap l = refl
 pads_fit p (suc n) gap l = if_true (nat_le gap 0xfffff8) _ _ (le-leb gap 0xfffff8 l)

@@ -1,4 +1,5 @@
--- The facts that the layout uses about the files of a volume that was read.
+-- The facts that the layout uses about the files of a volume that was read: their data are within the limit of a
+-- volume's length (`data_short`), and the files are lawful items of the volume (`parts_fit`).
 use Rattle.std.proofs.Common.{◌≡◌, ◌≤◌, ◌<◌, ◌+◌, ◌*◌, ◌/◌, ◌%◌, ◌^◌, ℕ, [], ◌∷◌, zero, suc, Bool, true, List, length, drop, refl, ◌∙◌, arith}
 use Rattle.fv_base.proofs.Laws.{common_steps, length-drop, All, All-from_recursion, map, nat_le, slice_index, AllByRecursion, alignment_of, and_split}
 use Rattle.fv_base.proofs.Laws.{volume_limit}
@@ -28,6 +29,7 @@ data_short (File name kind attributes content) (n, few, f, (system, p, b, small,
 abbrev exponents : List ℕ
 exponents = 0 ∷ 4 ∷ 7 ∷ 9 ∷ 10 ∷ 12 ∷ 15 ∷ 16 ∷ 17 ∷ 18 ∷ 19 ∷ 20 ∷ 21 ∷ 22 ∷ 23 ∷ 24 ∷ []
 
+-- if all exponents in the list are at most 24, each power of two with one of these exponents is an alignment
 power_at : (ks : List ℕ) (i : ℕ) → list_all (λ k. nat_le k 24) ks ≡ true → i < length ks → IsAlignment (slice_index (map (λ k. 2 ^ k) ks) i)
 power_at [] i small l = absurd (omega arith)
 power_at (k ∷ ks) zero small l = (k, leb-true k 24 (and_split (nat_le k 24) (list_all (λ j. nat_le j 24) ks) small).0, refl)
@@ -36,11 +38,12 @@ power_at (k ∷ ks) (suc i) small l = power_at ks i (and_split (nat_le k 24) (li
 alignment_power : (attributes : ℕ) → IsAlignment (alignment_of attributes)
 alignment_power a = power_at exponents (a / 8 % 8 + 8 * (a / 2 % 2)) refl (omega arith)
 
--- ---- the parts of a volume
+-- ---- the items of a volume
 
 pub head_most : (large : Bool) → file_header_len large ≤ 32
 head_most large = grind arith
 
+-- a file is a lawful item of each volume that has room for a header of 32 bytes and the file's data
 part_is : (total : ℕ) (m : FileMeaning) → 32 + data_len_of m ≤ total → IsLawfulItem total (placement_item m)
 part_is total m l =
     grind (arith, common_steps, head_most (needs_large (data_len_of m)), alignment_power (attributes_of m)) steps 400000

@@ -74,6 +74,7 @@ pub record Writable (h : HeadFields) (fs : List StoredFile) (ss : List ℕ) : Ty
   pub files : AllByRecursion (Storable h.file_system) fs
   pub follow : StartsFollow h.length (first_edge h h.ext) (map stored_item fs) ss
 
+-- the header, and the extended header in its pad, end at the offset `canonical_end`
 pub length-ext_pad : (p : Polarity) (h : HeadFields) (x : Option Extension) (used : ℕ) → IfRead x
     → header_len_of h + length (ext_pad p x used) ≡ canonical_end h x
 unfolding ext_pad
@@ -81,6 +82,7 @@ length-ext_pad p h None used k = omega arith
 length-ext_pad p h (Some x) used k =
     omega (arith, length-append (pad_head_of (24 + ext_len x) p) (ext_spelled x used), length-pad_head (24 + ext_len x) p, (ext_again x used k).1)
 
+-- the first edge is not before the end of these headers, and is a multiple of 8
 pub first_is : (h : HeadFields) (x : Option Extension) → (canonical_end h x ≤ first_edge h x) × (first_edge h x % 8 ≡ 0)
 first_is h x = grind (arith, common_steps)
 
@@ -96,13 +98,14 @@ volume_placed h fs ss k =
     rw files.1 at (two_spans (erased_byte p) h.length 0 (header_len_of h) (canonical_end h h.ext) first (canonical_head h) (ext_pad p h.ext used)
     (placed_files p first fs ss) (omega (arith, length-canonical h k.read)) (length-ext_pad p h h.ext used k.ext) f.0 files.0)
 
--- only one list of bytes shows the volume, and the walk writes this list
+-- bytes that show the volume are the bytes that the walk writes
 pub volume_shows : (h : HeadFields) (fs : List StoredFile) (ss b : List ℕ) → Writable h fs ss
     → ShowsPlaced h.length (erased_byte (polarity_of h.attributes)) (placed_in_volume h fs ss) b → b ≡ volume_bytes h fs ss
 volume_shows h fs ss b k shows =
     let v = volume_placed h fs ss k in
     one_image (erased_byte (polarity_of h.attributes)) h.length (placed_in_volume h fs ss) b v.0 shows ∙ v.1
 
+-- the bytes that the walk writes show the volume
 pub volume_written : (h : HeadFields) (fs : List StoredFile) (ss : List ℕ) → Writable h fs ss
     → ShowsPlaced h.length (erased_byte (polarity_of h.attributes)) (placed_in_volume h fs ss) (volume_bytes h fs ss)
 volume_written h fs ss k =

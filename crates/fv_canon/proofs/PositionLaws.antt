@@ -15,28 +15,30 @@ use Rattle.fv_canon.specs.Words.{PlacedBytes, IsIn, ContainsSpan, ShowsPlaced, p
 pub rest_at : (b : List ℕ) (from k : ℕ) → from ≤ k → get_or (drop from b) (k - from) 0 ≡ get_or b k 0
 rest_at b from k low = grind (arith, common_steps, get_or-drop)
 
--- the bytes from e on begin with n erased bytes, so a byte among these is erased
+-- if the bytes from e on begin with n erased bytes, each byte of these is erased
 erased_at : (b more : List ℕ) (e n k erased : ℕ) → drop e b ≡ replicate n erased ++ more → e ≤ k → k < e + n → get_or b k 0 ≡ erased
 erased_at b more e n k erased is low high =
     sym (rest_at b e k low) ∙ ap (λ l. get_or l (k - e) 0) is ∙ get_or_append_left (replicate n erased) more 0 (k - e) (omega (arith, length-replicate n erased))
     ∙ get_or-replicate n (k - e) erased 0 (omega arith)
 
+-- if the bytes from e on are `front` and then `back`, the bytes from the end of `front` on are `back`
 dropped : (b front back : List ℕ) (e at : ℕ) → drop e b ≡ front ++ back → e + length front ≡ at → drop at b ≡ back
 dropped b front back e at is long =
     rw (← long) (sym (drop-drop (length front) e b) ∙ ap (drop (length front)) is ∙ drop_at front back (length front) refl)
 
+-- the walk writes all bytes from e up to the total length
 pub walk_length : (erased total e : ℕ) (ps : List PlacedBytes) → InOrder total e ps → e + length (painted erased total e ps) ≡ total
 walk_length erased total e [] o = let g = length-replicate (total - e) erased in omega arith
 walk_length erased total e (p ∷ ps) o =
     grind (arith, common_steps, walk_length erased total (p.at + length p.bytes) ps o.1, length-replicate, length-append) steps 400000
 
--- two numbers are equal if they are not apart
+-- to prove that two numbers are equal, it may be assumed that they differ
 pub unless_apart : (a b : ℕ) → ((a ≡ b → ⊥) → a ≡ b) → a ≡ b
 unless_apart a b same = ⊎_elim (λ e. e) same (cases_eq a b)
 
 -- ---- from the walk to the offsets
 
--- if b has `total` bytes and is the bytes that the walk writes from e on, it shows the spans after e, and erased bytes
+-- if b has `total` bytes, and the walk writes the bytes of b from e on, b shows the spans after e, and erased bytes
 -- elsewhere after e
 walk_shows : (erased total e : ℕ) (ps : List PlacedBytes) (b : List ℕ) → length b ≡ total → drop e b ≡ painted erased total e ps
     → InOrder total e ps → AllByRecursion (ContainsSpan b) ps
@@ -58,6 +60,7 @@ walk_shows erased total e (p ∷ ps) b long is o =
       ],
     )
 
+-- so the bytes that the walk writes from the offset 0 on show the spans
 pub shows_walk : (erased total : ℕ) (ps : List PlacedBytes) → InOrder total 0 ps → ShowsPlaced total erased ps (painted erased total 0 ps)
 shows_walk erased total ps o =
     let long : length (painted erased total 0 ps) ≡ total = omega (arith, walk_length erased total 0 ps o) in
@@ -78,6 +81,7 @@ none_in [] b c k sb sc differ = tt
 none_in (p ∷ ps) b c k sb sc differ =
     (λ i. differ (byte_in b p k sb.0 i.0 i.1 ∙ sym (byte_in c p k sc.0 i.0 i.1)), none_in ps b c k sb.1 sc.1 differ)
 
+-- two lists of bytes that show the same spans are equal, because they do not differ in a span or outside the spans
 pub shows_one : (total erased : ℕ) (ps : List PlacedBytes) (b c : List ℕ) → ShowsPlaced total erased ps b → ShowsPlaced total erased ps c
     → b ≡ c
 shows_one total erased ps b c p q =

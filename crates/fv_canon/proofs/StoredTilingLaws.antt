@@ -1,6 +1,6 @@
 -- Files and pads that are written as in the canonical image tile the body. The steps:
 -- 1. Pads tile a gap (`pad_tiles`, `gap_tiles`), and a free cell tiles the erased bytes at the end (`free_tiles`).
--- 2. A file with its filler is a cell. So the body is tiled, gap by gap and file by file (`body_tiles`).
+-- 2. A file with its filler is a cell (`cell_tiles`). So the body is tiled, gap by gap and file by file (`body_tiles`).
 use Rattle.std.proofs.Common.{◌≡◌, ◌≤◌, ◌<◌, ◌⊎◌, ◌+◌, ◌-◌, ◌%◌, ℕ, [], ◌∷◌, ◌++◌, inl, inr, zero, suc, true, false, List, length, replicate, refl}
 use Rattle.std.proofs.Common.{sym, ap, ◌∙◌, subst, arith, length-append, append_assoc, append-nil, map, slice_index}
 use Rattle.fv_base.proofs.Laws.{common_steps, AllByRecursion, length-replicate, alignment_of, AllAre, erased_byte, up_to_8, all-of_replicate}
@@ -95,6 +95,7 @@ free_tiles system p at (suc n) =
 
 -- ---- file by file
 
+-- the gap from an edge to the file after it is empty or has at least 24 bytes, and its length is a multiple of 8
 pub apart : (e s : ℕ) → e % 8 ≡ 0 → s % 8 ≡ 0 → (s ≡ e) ⊎ (e + 24 ≤ s)
     → ((s - e ≡ 0) ⊎ (24 ≤ s - e)) × ((s - e) % 8 ≡ 0) × (e + (s - e) ≡ s)
 apart e s m k (inl a) = (inl (omega arith), omega arith, omega arith)
@@ -104,13 +105,13 @@ apart e s m k (inr a) = (inr (omega arith), omega arith, omega arith)
 pub filler_is : (x : ℕ) → (up_to_8 x - x < 8) × ((x + (up_to_8 x - x)) ≡ up_to_8 x) × (up_to_8 x % 8 ≡ 0)
 filler_is x = (omega arith, omega arith, omega arith)
 
--- setting the large bit does not change the alignment that a file's attributes state
+-- the data of a stored file are aligned, because the large bit does not change the alignment that the attributes state
 data_aligned : (p : Polarity) (f : StoredFile) (s : ℕ) → is_large f.attributes ≡ false
     → (s + (stored_item f).header) % (stored_item f).alignment ≡ 0
     → (s + (stored_head p f).header_len) % alignment_of (attribute_bits (stored_head p f).attributes) ≡ 0
 data_aligned p f s short h = grind (arith, common_steps, alignment_with)
 
--- a file or a pad with the filler after it is a cell, and cells tile the bytes after the filler
+-- if a file or a pad with its filler is a cell, and cells tile the bytes after the filler, cells tile all these bytes
 pub cell_tiles : (system : FileSystem) (p : Polarity) (at end : ℕ) (c : CellForm) (x rest : List ℕ) (cells : List CellForm)
     → at % 8 ≡ 0 → at + length x ≡ end → offset_of c ≡ at → is_free c ≡ false
     → ((filler : List ℕ) → length filler < 8 → (length x + length filler) % 8 ≡ 0 → IsCell system p c (x ++ filler))
@@ -122,6 +123,7 @@ cell_tiles system p at end c x rest cells eighth long place kept cell more =
     let last : at + length (x ++ filler) ≡ up_to_8 end = omega (arith, length-append x filler) in
     (x ++ filler, rest, sym (append_assoc x filler rest), cell filler (omega arith) (omega arith), place, λ e. cc, rw last more)
 
+-- files and pads tile the bytes of the files, of the gaps before them, and of the space after the last file
 pub body_tiles : (system : FileSystem) (p : Polarity) (total e : ℕ) (fs : List StoredFile) (ss : List ℕ) → total % 8 ≡ 0 → e % 8 ≡ 0
     → AllByRecursion (Storable system) fs → StartsFollow total e (map stored_item fs) ss
     → Tiled system p e (files_bytes p total e fs ss) (forms_of p fs ss)

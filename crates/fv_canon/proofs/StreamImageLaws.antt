@@ -1,8 +1,9 @@
 -- A stream that is written as in the canonical image is read again as the same sections. The steps:
 -- 1. The type of a section that was read is a byte (`begun_kind`), so a written frame is a list of bytes if its body is
 --    (`bytes_begun`).
--- 2. The statements about the parts inside: sections, streams and volumes are read again, sections with the same type
---    and form, and each volume inside is the meaning of some bytes (`SectionsAgain`, `StreamsAgain`, `VolumesAgain`).
+-- 2. The statements about the parts inside: sections, streams and volumes are read again, and each volume inside is the
+--    meaning of some bytes (`SectionsAgain`, `StreamsAgain`, `VolumesAgain`). A section is read again with the same
+--    type and form.
 -- 3. A written frame is read again, and is as long as the frame that was read (`frame_again`). So the frames of a
 --    stream are read again (`frames_again`).
 -- 4. So a stream is read again if its sections are (`stream_again`), and a section is read again if the parts inside
@@ -38,19 +39,23 @@ bytes_begun g kind body rest behind = grind (arith, common_steps, bytes_append, 
 abbrev pub MeantBelow : ℕ → Inside → Type 0
 MeantBelow n v = (k : ℕ) × (k < n) × (b : List ℕ) × IsBytes b × Denotes k b v.volume
 
+-- if each volume is the meaning of some bytes, the same is true one level deeper
 meant_deeper : (n : ℕ) (vs : List Inside) → AllByRecursion (MeantBelow n) vs → AllByRecursion (MeantBelow (suc n)) (deeper vs)
 meant_deeper n [] all = tt
 meant_deeper n (v ∷ vs) ((k, less, b, small, d), all) = ((k, omega (arith, less), b, small, d), meant_deeper n vs all)
 
+-- the frame that is written for a section is read again as this section, with the same type and form
 abbrev pub SectionsAgain : ℕ → SectionRelation → Type 0
 SectionsAgain n is_section = (s : SectionMeaning) (f g : FrameForm) → IsBytes f.body → is_section f s → IsFrame s g
     → is_section g s × IsBytes g.body × (g.kind ≡ f.kind) × (g.extended ≡ f.extended) × AllByRecursion (MeantBelow n) (volumes_in_section s)
 
+-- the bytes that are written for a stream are read again as the same sections
 abbrev pub StreamsAgain : ℕ → StreamRelation → Type 0
 StreamsAgain n is_stream = (ss : SectionMeanings) (tail : ℕ) (b o : List ℕ) → IsBytes b → is_stream (sections_list ss) tail b
     → IsBodyImage (Group ss tail) o
     → is_stream (sections_list ss) tail o × IsBytes o × AllByRecursion (MeantBelow n) (volumes_in_sections ss)
 
+-- the image of a volume is read again as the same volume
 abbrev pub VolumesAgain : ℕ → VolumeRelation → Type 0
 VolumesAgain n is_volume = (m : Meaning) (b o : List ℕ) → IsBytes b → is_volume b m → IsImage m o
     → is_volume o m × IsBytes o × Opens o × AllByRecursion (MeantBelow n) (volumes_in m)
@@ -79,6 +84,7 @@ frame_again n again s f g b rest small begun is image =
       meant = a.4;
     }
 
+-- the frames gs that are written for the sections ss of a stream
 record FramesAgain (n at : ℕ) (ss : SectionMeanings) (gs : List FrameForm) (tail : ℕ) : Type 0 where
   placed : InPlace at gs tail
   pairs : Pairwise (MeansSection n) gs (sections_list ss)

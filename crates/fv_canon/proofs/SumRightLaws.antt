@@ -2,8 +2,8 @@
 -- it. The steps:
 -- 1. If cells tile bytes, and the file checksum of each pad is 0xAA, each checksum in the cells is right (`cell_sums`,
 --    `tiles_sums`).
--- 2. The pad that contains the extended header is such a cell, so such cells tile the bytes after the header
---    (`rest_summed`).
+-- 2. The file checksum of the pad that contains the extended header is 0xAA too. So cells of this kind tile all bytes
+--    after the header (`rest_summed`).
 -- 3. So all checksums of an image are right (`sums_are_right`).
 use Rattle.std.proofs.Common.{◌≡◌, ◌+◌, ◌-◌, ℕ, [], ◌∷◌, ◌++◌, List, length, take, drop, replicate, refl, sym, ap, ◌∙◌, arith}
 use Rattle.fv_base.proofs.Laws.{common_steps, AllByRecursion, erased_byte, append_assoc, slice_index, Option, None, Some, drop-drop, drop_at, take_at}
@@ -24,10 +24,12 @@ use Rattle.fv_canon.proofs.VolumeImageLaws.{known, image_front, streams_again}
 
 -- ---- cells that tile bytes
 
+-- the header checksum of a file or a pad is right
 header_sum : (system : FileSystem) (p : Polarity) (head : FileHead) (payload x b rest : List ℕ) → IsFilled system p head payload x
     → b ≡ x ++ rest → header_sum_of (take head.header_len b) ≡ 0
 header_sum system p head payload x b rest filled is = grind (arith, common_steps, append_assoc, take_at)
 
+-- the checksums of a cell are right where the image contains the cell
 cell_sums : (system : FileSystem) (p : Polarity) (c : CellForm) (x rest image : List ℕ) → IsCell system p c x → PadFixed c
     → drop (offset_of c) image ≡ x ++ rest → CellSums image c
 cell_sums system p (Valid at head payload) x rest image (filled, alive, sound) fixed is =
@@ -51,8 +53,8 @@ tiles_sums system p at (c ∷ cs) b image (x, rest, text, cell, place, last, mor
 abbrev Summed : FileSystem → Polarity → ℕ → List ℕ → Type 0
 Summed system p at b = (cells : List CellForm) × Tiles system p at cells b × AllByRecursion PadFixed cells
 
--- after the header come the pad with the extended header, if there is one, and then the files; cells with right
--- checksums tile these bytes
+-- after the header come the pad with the extended header, if there is one, and then the files. If cells tile the files,
+-- and the file checksum of each pad is 0xAA, the same is true of all bytes after the header
 rest_summed : (system : FileSystem) (p : Polarity) (h : HeadFields) (x : Option Extension) (used : ℕ) (files : List ℕ) → IfRead x
     → Summed system p (first_edge h x) files
     → Summed system p (header_len_of h) (ext_pad p x used ++ (replicate (first_edge h x - canonical_end h x) (erased_byte p) ++ files))

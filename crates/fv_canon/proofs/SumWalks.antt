@@ -1,4 +1,5 @@
--- The number that a walk over a file adds to the sum of the file's bytes.
+-- A sink that sums takes only the State of a file with the checksum attribute (`state_adds`), because the other bytes
+-- of the stored file sum to zero (`stored_adds`, `summed_adds`).
 use Rattle.std.proofs.Common.{◌≡◌, ◌+◌, ◌%◌, ℕ, [], ◌∷◌, if◌then◌else◌, Bool, true, false, List, ap, ◌∙◌, arith, sum, ◌++◌}
 use Rattle.fv_base.proofs.Laws.{common_steps, sum_by-append, le_bytes}
 use Rattle.fv_base.specs.declared.flash.Polarity.{Polarity}

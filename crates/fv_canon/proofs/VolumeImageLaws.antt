@@ -3,8 +3,8 @@
 --    (`file_again`).
 -- 2. So all files of a volume can be stored, and the layout uses the same facts about them (`files_again`).
 -- 3. The image begins with the volume's header (`image_front`), and its files and pads tile the rest (`image_tiled`).
--- 4. So the image of a volume is read as its meaning, if the same is true of the parts in its files (`volume_again`).
--- 5. By induction on the nesting depth it is true at every level (`sections_again`), and so of each stream and each
+-- 4. So the image of a volume is read as its meaning, if the streams in its files are read again (`volume_again`).
+-- 5. By induction on the nesting depth each section is read again (`sections_again`), and so is each stream and each
 --    image (`streams_again`, `image_denotes`).
 use Rattle.std.proofs.Common.{◌≡◌, ◌≢◌, ◌≤◌, ◌<◌, ◌+◌, ◌-◌, ◌*◌, ◌/◌, ◌%◌, ℕ, [], ◌∷◌, ◌++◌, zero, suc, Bool, true, false, List, length, take, drop}
 use Rattle.std.proofs.Common.{replicate, refl, sym, ap, ◌∙◌, subst, arith, append_assoc, length-append, length-drop, map, Option, None, Some}
@@ -59,9 +59,11 @@ data_again n kind streams (Sectioned ss tail) payload d small (sectioned, is) im
     let a = streams ss tail payload d small is image in
     ((sectioned, a.0), a.1, sym (stream_long (MeansSection n) (section_long n) ss tail d a.0), a.2)
 
+-- if attributes do not state that a file is fixed, the attributes without the large bit do not state this either
 half_moves : (a : ℕ) → is_fixed a ≡ false → is_fixed (a / 2 * 2) ≡ false
 half_moves a f = grind (arith, common_steps)
 
+-- if the data of a file that was read need a large header, the file system is FFS3
 large_system : (system : FileSystem) (l : Bool) (n : ℕ) → (l ≡ true → system ≡ Ffs3) → (l ≡ false → 24 + n < 16777216)
     → needs_large n ≡ true → system ≡ Ffs3
 large_system system l n h k needs = grind (arith, common_steps) steps 400000
@@ -99,6 +101,7 @@ file_again n streams system limit (File name kind attributes content) f x most r
 
 -- ---- 2. file by file
 
+-- the files that are stored in the canonical image for the files of a volume
 pub record FilesAgain (n : ℕ) (system : FileSystem) (files : FileMeanings) (forms : List FileForm)
     (stored : List StoredFile) : Type 0 where
   pub storable : AllByRecursion (Storable system) stored
@@ -175,6 +178,7 @@ files_read n h files b small d =
     rw (← d.begins.file_system, d.current.files_are) (current_read e.file_system (length body) (files_in d.cells)
     (body_read e.file_system e.polarity (length body) e.first d.cells body (bytes_drop e.first b small) (omega arith) d.tiles))
 
+-- the files that are stored for a volume that was read can be written, and are read again
 pub known : (n : ℕ) → StreamsAgain (suc n) (Stream n) → (h : HeadFields) (files : FileMeanings) (b : List ℕ) → IsBytes b
     → (d : Denotes n b (Volume h files)) (stored : List StoredFile) (starts : List ℕ)
     → AreStored files stored → AreStarts (Volume h files) starts → Known n h files d.files stored starts

@@ -1,9 +1,11 @@
--- Facts about each volume of a list, if two lists are joined or nest one level deeper. The steps:
--- 1. The starts of the files of two lists of volumes can be split (`laid_split`), and do not change one level deeper
---    (`laid_level`). The same is true of the number of these starts (`count_joined`, `count_deeper`).
--- 2. A fact about each volume of two lists is a fact about each volume of the joined list (`each_joined`), and does not
---    depend on the depth (`each_deeper`).
--- 3. A walk that takes starts goes from one list to the next (`passed_on`).
+-- Facts about the volumes of a list, if two lists are joined or are at other depths. The steps:
+-- 1. The starts of the files of two lists of volumes can be split (`laid_split`), and do not depend on the depths of
+--    the volumes (`laid_level`). The same is true of the number of these starts (`count_joined`, `count_deeper`).
+-- 2. Lists that begin with these starts can be split too (`begins_split`, `inside_begins`), and do not depend on the
+--    depths (`begins_level`).
+-- 3. A fact about each volume of two lists is a fact about each volume of the joined list (`each_joined`), and does not
+--    depend on the depth (`each_deeper`). Volumes fit if and only if their files have starts (`laid_fit`, `fit_laid`).
+-- 4. A walk that takes starts goes from one list to the next (`passed_on`).
 use Rattle.std.proofs.Common.{◌≡◌, ◌≤◌, ◌+◌, ℕ, [], ◌∷◌, ◌++◌, List, length, take, drop, refl, ap, ◌∙◌, arith, append_assoc}
 use Rattle.fv_base.proofs.Laws.{common_steps, length-append, drop-drop, drop_at, take_at, AllByRecursion, length-map, append-nil}
 use Rattle.fv_rows.specs.inner.RowVolumes.{deeper_by}
@@ -22,7 +24,7 @@ laid_split own [] ws starts laid = ([], starts, refl, refl, laid)
 laid_split own (v ∷ vs) ws starts (first, inner, text, p, r) =
     grind (arith, common_steps, laid_split own vs ws inner r, append_assoc first (laid_split own vs ws inner r).0 (laid_split own vs ws inner r).1) steps 400000
 
--- the depths of the first of some volumes do not matter
+-- the depths of the volumes of the first list do not matter
 laid_level : (own : Meaning → List ℕ → Type 0) (n : ℕ) (vs ws : List Inside) (starts : List ℕ)
     → StartsOfEach own (deeper_by n vs ++ ws) starts ≡ StartsOfEach own (vs ++ ws) starts
 laid_level own n [] ws starts = refl
@@ -32,7 +34,7 @@ laid_level own n (v ∷ vs) ws starts =
 pub laid_deeper : (own : Meaning → List ℕ → Type 0) (vs : List Inside) (starts : List ℕ) → StartsOfEach own vs starts → StartsOfEach own (deeper vs) starts
 laid_deeper own vs starts laid = rw (← append-nil (deeper vs), laid_level own 1 vs [] starts, append-nil) laid
 
--- a list of the starts of files has one start for each of these files
+-- a list of the starts of a volume's own files has one start for each of these files
 pub own_count : (m : Meaning) (own : List ℕ) → AreStarts m own → length own ≡ length (files_of m)
 own_count m own placed = follow_length _ _ (placement_items m) own placed.placement.follow ∙ length-map (files_of m) placement_item
 
@@ -56,7 +58,7 @@ pub begins_own : (v : Inside) (vs : List Inside) (n : ℕ) (starts : List ℕ) �
 begins_own v vs n starts many (laid, more, whole, (own, inner, text, placed, lays)) =
     grind (arith, common_steps, own_count, append_assoc, length-append, take_at, drop_at)
 
--- the starts of a volume's own files are followed by the starts of the files of the volumes inside it
+-- the starts of a volume's own files are followed by the starts of the files of the volumes inside the volume
 pub inside_begins : (m : Meaning) (fs : List FileMeaning) (more : List Inside) (starts : List ℕ) → m ≡ Volume (head_of m) (files_from fs)
     → BeginsWithStarts (volumes_in m ++ more) starts
     → (length fs ≤ length starts) × BeginsWithStarts (drop 1 (volumes_in m) ++ more) (drop (length fs) starts)
@@ -71,7 +73,7 @@ pub begins_split : (vs ws : List Inside) (starts : List ℕ) → BeginsWithStart
     → BeginsWithStarts vs starts × BeginsWithStarts ws (drop (starts_in vs) starts)
 begins_split vs ws starts (whole, rest, text, laid) = grind (arith, common_steps, laid_split, append_assoc, drop_at, laid_count)
 
--- the depths of the first of some volumes do not matter
+-- the depths of the volumes of the first list do not matter
 pub begins_level : (n : ℕ) (vs ws : List Inside) (starts : List ℕ)
     → BeginsWithStarts (deeper_by n vs ++ ws) starts ≡ BeginsWithStarts (vs ++ ws) starts
 begins_level n vs ws starts = λ i. (laid : List ℕ) × (more : List ℕ) × (starts ≡ laid ++ more) × laid_level AreStarts n vs ws laid i
@@ -94,6 +96,7 @@ pub each_deeper : (P : Meaning → Type 0) (vs : List Inside) → AllByRecursion
 each_deeper P [] p = tt
 each_deeper P (v ∷ vs) p = (p.0, each_deeper P vs p.1)
 
+-- volumes whose files have starts fit, and the files of volumes that fit have starts
 pub laid_fit : (vs : List Inside) (starts : List ℕ) → StartsOfEach AreStarts vs starts → AllFit vs
 laid_fit [] starts laid = tt
 laid_fit (v ∷ vs) starts (own, inner, text, placed, laid) = ((own, placed), laid_fit vs inner laid)
@@ -102,7 +105,7 @@ pub fit_laid : (vs : List Inside) → AllFit vs → (starts : List ℕ) × Start
 fit_laid [] fit = ([], refl)
 fit_laid (v ∷ vs) (own, fit) = let l = fit_laid vs fit in (own.0 ++ l.0, (own.0, l.0, refl, own.1, l.1))
 
--- ---- the volumes in the items of a list
+-- ---- a walk over two lists of volumes
 
 -- a walk that is at the volumes of two lists takes the starts of the files of the first list, and is then at the
 -- volumes of the second list

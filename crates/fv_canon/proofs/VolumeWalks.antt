@@ -1,4 +1,5 @@
--- Facts about a volume that was read and laid out, and the bytes that the walk over it writes.
+-- Facts about a volume that was read and laid out (`volume_laid`), about the bytes that the walk over the volume writes
+-- (`volume_text`), and about the starts that are left (`volume_rest`).
 use Rattle.std.proofs.Common.{◌≡◌, ◌≤◌, ◌<◌, ◌+◌, ◌-◌, ℕ, [], ◌∷◌, ◌++◌, zero, suc, List, length, take, drop, replicate}
 use Rattle.fv_base.proofs.Laws.{common_steps, erased_byte, up_to_8, get_or, refl, sym, ap, ◌∙◌, subst, arith, append_assoc, drop-drop, map, Option}
 use Rattle.fv_head.specs.Words.{Extension, HeadFields, canonical_head, canonical_end, first_edge, polarity_of}
@@ -17,10 +18,12 @@ use Rattle.fv_canon.specs.inner.FileWalks.{ArePlaced, used_by}
 use Rattle.fv_tree.proofs.Laws.{files_list_back}
 
 -- ---- the used size
+-- the used size of a volume is the same for stored files and for their items
 used_stored : (end : ℕ) (fs : List StoredFile) (ss : List ℕ) → used_size end fs ss ≡ used_by end (map stored_item fs) ss
 used_stored end (f ∷ fs) (s ∷ ss) = used_stored (s + stored_len f) fs ss
 used_stored end fs ss = refl
 
+-- the last file ends at the end of the used bytes, within the volume, and has a start
 pub used_last : (total e end : ℕ) (fs : List FileMeaning) (ss : List ℕ) (n : ℕ) (d : FileMeaning) → length fs ≡ suc n
     → StartsFollow total e (map placement_item fs) ss
     → (used_by end (map placement_item fs) ss ≡ get_or ss n 0 + size_for (data_len_of (get_or fs n d)))
@@ -32,6 +35,8 @@ used_last total e end (f ∷ g ∷ fs) (s ∷ ss) (suc n) d l follow =
 used_last total e end fs ss n d l follow = absurd (omega (arith, l))
 
 -- ---- the volume
+-- the facts about a volume that was read, if the list begins with the starts of the volume's own files and the starts
+-- of the files inside
 pub record VolumeLaid (h : HeadFields) (fs : List FileMeaning) (starts : List ℕ) : Type 0 where
   pub enough : length fs ≤ length starts
   pub placed : ArePlaced h.length (first_edge h h.ext) fs (take (length fs) starts)
@@ -79,17 +84,18 @@ pub volume_text : (h : HeadFields) (fs : List FileMeaning) (starts : List ℕ) �
     (take (length fs) starts))
 volume_text h fs starts v = grind (arith, common_steps, files_list_back, append_assoc)
 
--- the same for a meaning whose header and files are given
+-- a meaning whose header and files are given is the volume of this header and these files
 pub volume_is : (m : Meaning) (h : HeadFields) (fs : List FileMeaning) → m ≡ Volume (head_of m) (files_from fs) → h ≡ head_of m
     → m ≡ Volume h (files_from fs)
 volume_is m h fs e f = e ∙ ap (λ (x : HeadFields). Volume x (files_from fs)) (sym f)
 
+-- a meaning whose header and files are given is laid out as this volume
 pub volume_seen : (m : Meaning) (h : HeadFields) (fs : List FileMeaning) (starts : List ℕ) → m ≡ Volume (head_of m) (files_from fs)
     → h ≡ head_of m → IsMeaning m → BeginsWithStarts (volumes_in m) starts → VolumeLaid h fs starts
 volume_seen m h fs starts e f read laid = let is = volume_is m h fs e f in volume_laid h fs starts (rw is at read) (rw is at laid)
 
--- dropping the starts of the files of a volume and of the volumes inside it is dropping the starts of its own files,
--- and then the starts of the files of the volumes inside it
+-- a walk that drops the starts of a volume's own files, and then the starts of the files of the volumes inside, has
+-- dropped all starts of the volume
 pub volume_rest : (m : Meaning) (fs : List FileMeaning) (starts inner rest : List ℕ) → m ≡ Volume (head_of m) (files_from fs)
     → inner ≡ drop (length fs) starts → rest ≡ drop (starts_in (volumes_in_files (files_from fs))) inner
     → rest ≡ drop (starts_in (volumes_in m)) starts

@@ -68,6 +68,7 @@ section_made is_stream is_volume streams volumes (Section kind extended (Nested 
 
 -- ---- file by file
 module _ (is_stream : StreamRelation) (streams : StreamsMade is_stream) where
+  -- the data of a file are written as in the image
   pub data_made : (kind : ℕ) (content : ContentMeaning) (payload starts : List ℕ) → IsBytes payload → MeansContent is_stream kind payload content
       → BeginsWithStarts (volumes_in_content content) starts → IsData content (data_of content starts)
   data_made kind (Plain b) payload starts small is begins = refl

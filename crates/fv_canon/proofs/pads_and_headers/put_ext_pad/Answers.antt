@@ -6,12 +6,14 @@ use Rattle.fv_head.specs.Words.{Extension, HeadFields, header_len_of, canonical_
 use Rattle.fv_canon.specs.Words.{ext_pad}
 use Rattle.fv_canon.proofs.pads_and_headers.put_ext_pad.Goals as goal
 
+-- without an extended header, no bytes are between the header and the files
 none_text : (p : Polarity) (h : HeadFields) (x : Option Extension) (used n : ℕ) → x ≡ None
     → ext_pad p x used ++ replicate (first_edge h x - canonical_end h x) n ≡ []
 unfolding ext_pad
 none_text p h x used n e =
     let none : first_edge h None - canonical_end h None ≡ 0 = omega arith in rw e (ap (λ (m : ℕ). replicate m n) none)
 
+-- an extended header is between the header of its pad and the filler before the files
 some_text : (p : Polarity) (h : HeadFields) (x : Option Extension) (y : Extension) (used n : ℕ) → x ≡ Some y
     → ext_pad p x used ++ replicate (first_edge h x - canonical_end h x) n
     ≡ pad_head_of (24 + ext_len y) p
