@@ -1,5 +1,5 @@
--- Proves that the bytes at the offset of the extended header's FvName are this field of the header that was read
--- (`name_there`; PI specification, volume 3, section 3.2.1.2).
+-- Proves that the FvName of a volume is at the offset in ExtHeaderOffset (`name_there`; PI specification, volume 3,
+-- section 3.2.1.2).
 use Rattle.std.proofs.Common.{◌≡◌, ◌≢◌, ◌≤◌, ◌∙◌, ◌+◌, ℕ, List, ◌++◌, ap, append_assoc, arith, length, length-append, sym}
 use Rattle.std.specs.Prelude.{Option, None, Some}
 use Rattle.std.proofs.lemmas.List.{drop_at, take_at}
@@ -8,7 +8,7 @@ use Rattle.fv_head.specs.Words.{BeginsVolume, Extension, HasExt, HeadFields}
 use Rattle.fv_head.specs.declared.extent.Extent.{Extent}
 use Rattle.fv_c.specs.ReportedHeaders.{volume_name}
 
--- if ExtHeaderOffset is not 0, the name is the first 16 bytes at this offset
+-- if ExtHeaderOffset is not 0, the volume has 16 bytes at this offset, and they are the name
 pub name_there : (h : HeadFields) (e : Extent) (b : List ℕ) (n : ℕ) → BeginsVolume h e b → n ≡ le_at 52 2 b → n ≢ 0
     → (n + 16 ≤ length b) × (field n 16 b ≡ volume_name h.ext)
 name_there h e b n front is some = go h.ext front.ext where

@@ -14,7 +14,7 @@ use Rattle.fv_c.specs.declared.header.FvHeader.{FvHeader}
 abbrev header_offsets : List FvHeader → List ℕ
 header_offsets rows = map (λ (r : FvHeader). r.offset) rows
 
--- each of these volumes has a header
+-- each of these volumes has a header at its offset
 rows_of : (b : List ℕ) (volumes : List FoundVolume) → AllByRecursion (λ v. VolumeAt b v.offset v.length) volumes
     → (rows : List FvHeader) × (header_offsets rows ≡ offsets_of volumes) × AllByRecursion (IsHeaderIn b) rows
 rows_of b [] all = ([], refl, tt)
@@ -23,6 +23,7 @@ rows_of b (v ∷ vs) ((h, e, front, is), all) =
     (reported_header v.offset h e ∷ rest.0, ap (λ l. v.offset ∷ l) rest.1, ((h, e, front, refl), rest.2))
 
 module _ (b : List ℕ) (volumes : List FoundVolume) (headers : List FvHeader) (found : AreFound b volumes) (are : AreHeaders b headers) where
+  -- the headers are at the offsets of the volumes, in the same order
   same_offsets : header_offsets headers ≡ offsets_of volumes
   same_offsets = one_found b _ _ are.found found.0
 
@@ -41,7 +42,7 @@ module _ (b : List ℕ) (volumes : List FoundVolume) (headers : List FvHeader) (
       let same = one_front (drop row.offset b) h k e x front (rw offset other) in
       cc
 
--- the volumes that are found have headers, also if the buffer is too small for them
+-- the volumes that are found have headers, one for each volume
 pub headers_of : (b : List ℕ) (volumes : List FoundVolume) → AreFound b volumes
     → (headers : List FvHeader) × AreHeaders b headers × (length headers ≡ length volumes)
 headers_of b volumes found =

@@ -1,5 +1,5 @@
--- Proves the condition of the clauses on memory: memory can run out only if the bytes begin with a volume header
--- (`header_of`).
+-- Proves that a volume begins with a header (`header_of`). The clauses on memory need this law: if memory runs out
+-- after a volume was read, the bytes begin with a volume header.
 use Rattle.std.proofs.Common.{ℕ, List}
 use Rattle.fv_tree.specs.Words.{Accepted, Meaning, head_of}
 use Rattle.fv_c.specs.Reports.{BeginsWithHeader}

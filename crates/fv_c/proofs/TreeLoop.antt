@@ -1,7 +1,12 @@
--- Proves that the recursion over the parts of a volume adds the rows of its tree (`put_more`, `tree_put`). The steps:
--- 1. A row keeps its properties if rows are added after it (`node_later`).
+-- Proves that the recursion over the parts of a volume adds the rows of its tree (`tree_put`). The steps:
+-- 1. A row still reports its part if rows are added after the row (`node_later`).
 -- 2. If the row of a part is added, then the rows in the part, and then the rows of the parts after it, the rows of all
 --    these parts are added (`part_added`).
+-- 3. `Putting` is the invariant of the loop over the parts in a part. The row of the next part reports this part
+--    (`row_found`) and holds the parts in it (`part_holds`). After this row and the rows in the part are added, the
+--    invariant is true of the parts after it (`put_more`).
+-- 4. The first row of the tree holds the parts of the volume (`whole_holds`). If the rows of these parts are added, the
+--    rows are the tree of the volume (`tree_put`).
 use Rattle.std.proofs.Common.{◌≡◌, ◌∙◌, ℕ, ◌+◌, ◌-◌, List, [], ◌∷◌, ◌++◌, length, drop, Some, refl, sym}
 use Rattle.std.proofs.Common.{append-nil, append_assoc, arith, map, Global, Vec}
 use Rattle.std.specs.List.{AllByRecursion}
@@ -37,20 +42,20 @@ node_later input rows more row r h = record { is = h.is; within = h.within; plac
 
 -- ---- rows that are added
 
--- there are as many rows as depths of rows
+-- each row adds one depth to the depths of the rows before it
 rows_long : (R : FvNode → TreeRow → Type 0) (rows : List FvNode) (walked : List Row) (before : List ℕ)
     → Pairwise R rows (with_parents before walked) → length (depths_after walked before) ≡ length before + length rows
 rows_long R [] [] before are = omega arith
 rows_long R (x ∷ rows) (r ∷ walked) before are = omega (arith, rows_long R rows walked (r.depth ∷ before) are.1)
 rows_long R _ _ before are = absurd are
 
--- no part adds no row
+-- if there is no part, no row is added
 pub none_added : (input : List ℕ) (parent depth number : ℕ) (rows : List FvNode) → AreAdded input parent depth number [] rows rows
 none_added input parent depth number rows =
     record { more = []; joined = sym (append-nil rows); rows = λ nesting walked are is. rw append-nil are }
 
--- the rows of a part and of the parts after it are added, if the row of the part, the rows inside the part, and the rows
--- of the parts after it are added
+-- the rows of a part and of the parts after it are added, if the row of the part, the rows inside the part, and the
+-- rows of the parts after it are added
 part_added : {input : List ℕ} {parent depth number : ℕ} {node : NodeMeaning} {left : List NodeMeaning} {row : FvNode} {rows news new : List FvNode}
     → IsNodeIn input rows row (record { parent = parent; depth = depth; number = number; node = node })
     → AreAdded input (length rows) (depth + 1) 0 (parts_in node) (rows ++ row ∷ []) news
@@ -76,8 +81,9 @@ part_added {input} {parent} {depth} {number} {node} {left} {row} {rows} {news} {
 
 -- ---- the loop
 
--- the rows of the parts before `left` have been added to the rows `old`: if the rows of `left` are added, the rows of all
--- parts have been added. The next part has this number and, if it is a section, this offset
+-- the rows of the parts before `left` have been added to the rows `old`, and `rows` are the rows so far: if the rows of
+-- `left` are added too, the rows of all parts have been added. The next part has this number. If the next part is a
+-- section, `next` is its offset in the bytes of the holder's row
 pub record Putting (input : List ℕ) (holder : Holder) (nodes : List NodeMeaning) (old : List FvNode)
     (left : List NodeMeaning) (number next : ℕ) (rows : List FvNode) : Type 0 where
   pub left_is : drop number nodes ≡ left
@@ -92,7 +98,7 @@ module _ {input : List ℕ} {holder : Holder} {nodes : List NodeMeaning} {old ro
   item : (slice_get nodes number ≡ Some node) × (drop (number + 1) nodes ≡ left)
   item = first_item nodes left number node p.left_is
 
-  -- the part is stored in the holder, and its row is right
+  -- if the part is a file, the holder stores this file. `node_in` returns a row that reports the part
   pub part_lies : IsStored holder number node × IsNodeIn input rows (node_in holder number next node) (row_in holder number node)
   part_lies = lies_in p.held.2 number next p.begins p.held.1 node item.0
 
@@ -100,6 +106,7 @@ module _ {input : List ℕ} {holder : Holder} {nodes : List NodeMeaning} {old ro
     pub row_found : IsNodeIn input rows row (row_in holder number node)
     row_found = rw is part_lies.1
 
+    -- after the row is added, it holds the parts in its part
     pub part_holds : (files : Vec LocatedFile Global) → HasFiles input row files.items → HoldsParts input (rows ++ row ∷ [])
         (record { row = length rows; depth = holder.depth + 1; offset = row.offset; files = files }) (parts_in node)
     part_holds files are = (
@@ -108,6 +115,7 @@ module _ {input : List ℕ} {holder : Holder} {nodes : List NodeMeaning} {old ro
       record { bytes = p.held.2.bytes; inner = omega arith; within = row_found.within; contents = contents row_found; offset = refl; files = are },
     )
 
+    -- the invariant after the row of the next part, and the rows in this part, are added
     pub put_more : (news : List FvNode) → AreAdded input (length rows) (holder.depth + 1) 0 (parts_in node) (rows ++ row ∷ []) news
         → Putting input holder nodes old left (number + 1) (up_to_4 (row.offset - holder.offset + row.length)) news
     put_more news x =
@@ -122,6 +130,7 @@ module _ {input : List ℕ} {holder : Holder} {nodes : List NodeMeaning} {old ro
 -- ---- the whole volume
 
 module _ (input : List ℕ) (m : Meaning) (accepted : Accepted input m) where
+  -- the first row holds the parts of the volume
   pub whole_holds : (files : Vec LocatedFile Global) → BeginWithFiles input (map (file_form input) files.items)
       → HoldsParts input (whole_node m ∷ []) (record { row = 0; depth = 1; offset = 0; files = files }) (parts_in (VolumeNode m))
   whole_holds files begin =
@@ -129,6 +138,7 @@ module _ (input : List ℕ) (m : Meaning) (accepted : Accepted input m) where
       let same = all_bytes input m accepted in
       (whole_node m, refl, record { bytes = accepted.0; inner = omega arith; within = own.within; contents = contents own; offset = refl; files = λ _. rw same begin })
 
+  -- if the rows of these parts are added to the first row, the rows are the tree of the volume
   pub tree_put : (rows : List FvNode) → AreAdded input 0 1 0 (parts_in (VolumeNode m)) (whole_node m ∷ []) rows → HasTreeRows input rows
   tree_put rows added = record {
     meaning = m;

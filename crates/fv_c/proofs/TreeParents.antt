@@ -1,10 +1,10 @@
--- Proves that the rows with the parent n are exactly the parts that row n holds, in order (`held_are`), and that only
--- the first row has no holder (`first_is`). The steps:
--- 1. `held_from` lists the parts that row k holds, if row k is one of some rows. For the rows of a tree, these are the
---    parts that row k holds (`held_at`).
--- 2. `Under` states for the rows of consecutive parts which of them say that row k holds them: these parts, if row k is
---    their parent, and the parts that row k holds, if row k is one of the rows. By recursion this holds for the rows of
---    any parts (`under_nodes`).
+-- Proves that the rows with the parent n are exactly the rows of the parts that row n holds, in order (`held_are`), and
+-- that only the first row has no holder (`first_is`). The steps:
+-- 1. `held_from` lists the rows of the parts that row k holds, if row k is one of some rows. If row k is row i of these
+--    rows, the list is `rows_held` of this row (`held_at`).
+-- 2. `Under` states which of the rows of consecutive parts have the parent k: the rows of these parts, if row k is
+--    their parent, and the rows in `held_from`. `Under` is true of the rows of any parts (`under_nodes`).
+-- 3. So `Under` is true of the rows inside a volume, whose parent is row 0 (`under_volume`).
 use Rattle.std.proofs.Common.{◌≡◌, ◌∙◌, ℕ, ◌+◌, ◌<◌, ◌≤◌, List, [], ◌∷◌, ◌++◌, length, true, false, cond, refl, sym, ap}
 use Rattle.std.proofs.Common.{append-nil, append_assoc, arith, le_refl, length-append, suc, zero}
 use Rattle.std.proofs.lemmas.Bool.{cond_both, eq-eqb, eqb-true, ne_eqb}
@@ -42,11 +42,13 @@ held_joined : (k : ℕ) (before : List ℕ) (a b : List Row)
 held_joined k before [] b = refl
 held_joined k before (r ∷ a) b = rw (held_joined k (r.depth ∷ before) a b) (sym (append_assoc _ (held_from k (r.depth ∷ before) a) _))
 
+-- if row k is before these rows, none of them is row k
 held_none : (k : ℕ) (before : List ℕ) (rows : List Row) → k < length before → held_from k before rows ≡ []
 held_none k before [] l = refl
 held_none k before (r ∷ rows) l =
     rw (ne_eqb (length before) k (λ e. omega arith)) (held_none k (r.depth ∷ before) rows (omega arith))
 
+-- if row k is row i of these rows, `held_from` lists the rows of the parts that row i holds
 held_at : (k i : ℕ) (before : List ℕ) (rows : List Row) → k ≡ length before + i
     → held_from k before rows ≡ rows_held k (slice_get (with_parents before rows) i)
 held_at k i before [] is = refl
@@ -58,15 +60,18 @@ held_at k (suc i) before (r ∷ rows) is =
 
 -- ---- the parents
 
--- deeper rows do not change the parent of a later row
+-- a row at this depth, or deeper, does not change the parent of a later row
 same_above : (depth d : ℕ) (before : List ℕ) → depth ≤ d → parent_of depth (d ∷ before) ≡ parent_of depth before
 same_above depth d before l = rw (ne_eqb (d + 1) depth (λ e. omega arith))
 
--- the parent of a row right after a row that is one less deep
+-- the parent of a row is the row right before it, if that row is one less deep
 pub next_parent : (depth : ℕ) (before : List ℕ) → parent_of (depth + 1) (depth ∷ before) ≡ length before
 next_parent depth before = rw (ne_eqb (depth + 1) 0 (λ e. omega arith), eq-eqb (depth + 1) (depth + 1) refl)
 
--- these are the rows of consecutive parts, at this depth. `before` are the depths of the rows before them
+-- a property of the rows of consecutive parts at this depth. `before` are the depths of the rows before them. The rows
+-- do not change the parent of a later row that is not deeper than the parts (`later`). Each of the rows has a holder
+-- (`first`). The rows with the parent k are the rows of the parts, if k is their parent, and the rows that `held_from`
+-- lists (`held`)
 record Under (depth number : ℕ) (before : List ℕ) (nodes : List NodeMeaning) (rows : List Row) : Type 0 where
   long : length before ≤ length (depths_after rows before)
   later : (d : ℕ) → d ≤ depth → parent_of d (depths_after rows before) ≡ parent_of d before
@@ -74,13 +79,14 @@ record Under (depth number : ℕ) (before : List ℕ) (nodes : List NodeMeaning)
   held : (parent k : ℕ) → 1 ≤ depth → parent_of depth before ≡ parent → parent < length before → filter (is_held_by k) (with_parents before rows)
       ≡ cond (parent == k) (rows_of_parts parent depth number nodes) [] ++ held_from k before rows
 
--- the order of the rows that row k holds, if the first row is followed by its parts (a and b) and by others (c and d)
+-- the order of the rows that row k holds. If row k holds the row r (`t` is true), row k holds none of the rows inside r
+-- (a and b). The rows c and d come after the rows inside r
 in_order : (t : Bool) (r : TreeRow) (a b c d : List TreeRow) → (t ≡ true → (a ≡ []) × (b ≡ []))
     → cond t (r ∷ (a ++ b) ++ (cond t c [] ++ d)) ((a ++ b) ++ (cond t c [] ++ d)) ≡ cond t (r ∷ c) [] ++ (a ++ (b ++ d))
 in_order true r a b c d none = rw ((none refl).0, (none refl).1)
 in_order false r a b c d none = append_assoc a b d
 
--- `most` is at least the number of the rows
+-- `Under` is true of the rows of any parts. `most` is at least the number of the rows
 under_nodes : (most depth nesting number : ℕ) (before : List ℕ) (nodes : List NodeMeaning)
     → length (rows_of_nodes depth nesting number nodes) ≤ most → Under depth number before nodes (rows_of_nodes depth nesting number nodes)
 under_nodes most depth nesting number before [] few = record {

@@ -1,7 +1,8 @@
--- Proves that the row of a part says where the part lies (`lies_in`), where the next section begins (`begins_next`), and
--- that the first row is right (`whole_found`). The steps:
+-- Proves that the row of a part says where the part lies (`lies_in`), that the next section begins at the next multiple
+-- of 4 after the part (`begins_next`), and that the first row reports the volume (`whole_found`). The steps:
 -- 1. A frame of a stream begins at the next multiple of 4 after the frame before it (`next_begins`).
 -- 2. Part number i in a row is a file of a volume, a section of a stream, or the volume of a section (`contents`).
+-- 3. The body of a frame lies in the stream (`frame_in_stream`). Bytes that lie in a part lie in the input (`part_of`).
 use Rattle.std.proofs.Common.{◌≡◌, ◌∙◌, ℕ, zero, suc, ◌+◌, ◌-◌, ◌≤◌, List, [], ◌∷◌, ◌++◌, length, take, drop, Some, refl, sym, ap, subst, arith}
 use Rattle.std.proofs.lemmas.Grind.{common_steps}
 use Rattle.std.proofs.lemmas.Option.{get_or_from_slice_get, gets, slice_get-map, slice_get_within}
@@ -30,7 +31,7 @@ use Rattle.fv_canon.proofs.Laws.{accepted, sections_more, stream_more}
 all_at : {A : Type 0} (P : A → Type 0) (xs : List A) (i : ℕ) (x : A) → AllByRecursion P xs → slice_get xs i ≡ Some x → P x
 all_at P xs i x all is = subst P (get_or_from_slice_get xs i x x is) (at_index P xs i x all (slice_get_within xs i x is))
 
--- item i of a list, and the items after it
+-- if a list without its first i items is x and the items ys, x is item i, and ys are the items after it
 pub first_item : {X : Type 0} (xs ys : List X) (i : ℕ) (x : X) → drop i xs ≡ x ∷ ys → (slice_get xs i ≡ Some x) × (drop (i + 1) xs ≡ ys)
 first_item xs ys i x is =
     let at : slice_get xs i ≡ Some x = grind (arith, common_steps, gets) in
@@ -56,6 +57,7 @@ pair_at R _ _ i y p is = absurd p
 
 -- ---- the frames of a stream
 
+-- the first frame begins at the offset of the stream
 pub first_begins : (at : ℕ) (b : List ℕ) (frames : List FrameForm) (tail : ℕ) (f : FrameForm) → SplitsFrom at frames tail b
     → slice_get frames 0 ≡ Some f → f.offset ≡ at
 first_begins at b [] tail f split is = cc
@@ -85,6 +87,7 @@ module _ {input : List ℕ} {rows : List FvNode} {row : FvNode} {r : TreeRow} (o
     part = λ i node is. let (s, at, same) = get_map SectionNode (sections_list ss) i node is in rw same (k, sections_list ss, tail, stream, at);
   }
 
+  -- a row holds the parts in its part
   pub contents : Contents input row (parts_in r.node)
   contents = go r.node (ap (λ (x : FvNode). x.content) own.is) (ap (λ (x : FvNode). x.length) own.is) own.placed where
     go : (node : NodeMeaning) → row.content ≡ (reported_node row.offset row.header_length r node).content
@@ -106,7 +109,7 @@ module _ {input : List ℕ} {rows : List FvNode} {row : FvNode} {r : TreeRow} (o
           (k, long, λ bytes. accepted 7 (bytes_at input row) m bytes (omega arith) (rw section.body section.means.2.2));
     }
 
--- ---- where it lies
+-- ---- where a part lies
 
 -- the bytes are in the input at this offset
 abbrev LieAt : List ℕ → ℕ → List ℕ → Type 0
@@ -133,13 +136,13 @@ frame_in_stream f b s =
       ap (λ (l : List ℕ). take (length f.body) l) (sym moved ∙ cut) ∙ take-append_seam f.body s.rest,
     )
 
--- the form of a section's header, and the length of its body
+-- a frame has the header form of its section, and its body has the length of the section's body
 section_fits : (f : FrameForm) (s : SectionMeaning) → MeansSection depth_limit f s
     → (section_is_extended s ≡ f.extended) × (length f.body ≡ body_len (body_of s))
 section_fits f (Section kind extended body) means =
     (means.1, body_long depth_limit f kind body (rw means.1 at means))
 
--- section number i of the row begins at this offset
+-- if the row holds sections, section number i begins at this offset in the bytes of the row
 abbrev pub BeginsAt : (input : List ℕ) → FvNode → ℕ → ℕ → Type 0
 BeginsAt input row i next =
     row.content ≡ 2 → (frames : List FrameForm) (tail : ℕ) (f : FrameForm) → Splits frames tail (bytes_at input row) → slice_get frames i ≡ Some f
@@ -151,7 +154,7 @@ module _ {input : List ℕ} {holder : Holder} {nodes : List NodeMeaning} {row : 
   abbrev b : List ℕ
   b = bytes_at input row
 
-  -- part number i has a row, which says where it lies
+  -- if part number i is a file, the holder stores this file. The row `node_in` says where the part lies
   pub lies_in : {rows : List FvNode} → slice_get rows holder.row ≡ Some row → (node : NodeMeaning) → slice_get nodes i ≡ Some node
       → IsStored holder i node × IsNodeIn input rows (node_in holder i next node) (row_in holder i node)
   lies_in at (VolumeNode m) is =
@@ -244,8 +247,9 @@ module _ {input : List ℕ} {holder : Holder} {nodes : List NodeMeaning} {row : 
       next_begins 0 frames tail i b f g split at_frame (rw one at at_next)
       ∙ ap up_to_4 (omega (arith, begins two frames tail f split at_frame, ap section_header_len form, long))
 
--- ---- the volume that the input is
+-- ---- the volume that is the whole input
 
+-- the volume is as long as the input
 whole : (input : List ℕ) (m : Meaning) → Accepted input m → length_of m ≡ length input
 whole input (Volume head files) accepted = sym (accepted.1.length_is ∙ accepted.1.begins.length_is)
 
@@ -253,6 +257,7 @@ module _ (input : List ℕ) (m : Meaning) (accepted : Accepted input m) where
   pub all_bytes : bytes_at input (whole_node m) ≡ input
   all_bytes = take_all (length_of m) input (omega (arith, whole input m accepted))
 
+  -- the first row of a tree reports the volume
   pub whole_found : (rows : List FvNode) → IsNodeIn input rows (whole_node m) (whole_row m)
   whole_found rows = record {
     is = refl;

@@ -1,6 +1,7 @@
 -- Proves that the first fault of an input whose marks of fixed files cannot be taken away has a number of at most 16,
--- and is not Fixed (`kept_number`): the fault of each check of a header or a cell has one of these numbers, or is Fixed,
--- and the first fault is not Fixed.
+-- and is not Fixed (`kept_number`). `IsKept` states this of a fault. `IsKept` is true of the fault of each check of a
+-- header, and of the fault of bytes after the volume. The fault of each check of a cell is Fixed, or `IsKept` is true
+-- of this fault (`IsOfCell`), and the first fault is not Fixed.
 use Rattle.std.proofs.lemmas.Grind.{common_steps}
 use Rattle.std.proofs.Common.{◌≤◌, ◌+◌, ℕ, ◌≢◌, List, Bool, Option, arith, drop, inl, inr, rules, slice_index}
 use Rattle.fv_base.proofs.Laws.{AllByRecursion, Check, First, fault_number, fails_among}
@@ -12,10 +13,11 @@ use Rattle.fv_head.specs.Words.{head_checks}
 use Rattle.fv_tree.specs.Words.{IsFirstOfMarked}
 use Rattle.fv_base.specs.declared.fault.FaultKind.TheVariants as kinds
 
+-- the number is at most 16, and is not 15, the number of Fixed
 abbrev IsKept : Fault → Type 0
 IsKept f = (fault_number f.kind ≤ 16) × (fault_number f.kind ≢ 15)
 
--- the fault is Fixed, or has one of the numbers
+-- the fault is Fixed, or `IsKept` is true of the fault
 abbrev IsOfCell : Fault → Type 0
 IsOfCell f = f.kind ≢ kinds.Fixed → IsKept f
 

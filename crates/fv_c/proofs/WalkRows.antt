@@ -31,6 +31,7 @@ part_found m row o is =
 abbrev pub AreRowDigests : List FvSha256 → List Row → Type 0
 AreRowDigests digests rows = Pairwise (λ (d : FvSha256) (r : Row). IsReportedDigest r.node d.bytes) digests rows
 
+-- digests of the rows of a walk are digests of the same rows with their parents
 pub with_digests : (digests : List FvSha256) (before : List ℕ) (rows : List Row) → AreRowDigests digests rows
     → Pairwise (λ (d : FvSha256) (r : TreeRow). IsReportedDigest r.node d.bytes) digests (with_parents before rows)
 with_digests [] before [] are = tt

@@ -117,8 +117,8 @@ fn put_part(
     }
 }
 
-// Writes the part of row `row` of a volume, or returns 257 if the volume has no such row.
-// `input` is any input that is this volume.
+// Writes the part of row `row` of a volume, or returns 257 if the volume has no such row. In the
+// contract, `input` is any input that is this volume.
 fn put_row(
     alloc: Global,
     volume: &VolumeView<'_>,

@@ -253,8 +253,8 @@ fn put_parts(
     Ok(())
 }
 
-// Returns the number of rows of the tree of a volume. It only says how much memory to reserve, so
-// it has no contract, and a sum that is too large becomes usize::MAX.
+// Returns the number of rows of the tree of a volume. The number only says how much memory to
+// reserve, so the function has no contract, and a sum that is too large becomes usize::MAX.
 fn row_count(volume: &VolumeView<'_>) -> usize {
     let mut count: usize = 1;
     for file in volume.files() {

@@ -1,7 +1,7 @@
 -- The laws of this crate that the crates above may cite.
 -- each row of a volume is followed by the rows of its contents
 pub use Rattle.fv_rows.proofs.RowVolumeLaws.{rows_followed}
--- the volumes among the rows of a volume, of some files and of a file's data are the volumes in them
+-- the volumes among the rows of a volume, of some files, and in a file or a section are the volumes in these parts
 pub use Rattle.fv_rows.proofs.RowVolumeLaws.{files_volumes, content_volumes, tree_volumes, file_inside, section_inside}
 -- the rows in a part are the rows of the parts that it contains, and the rows of a volume are the rows of one part
 pub use Rattle.fv_rows.proofs.RowWalkLaws.{inside_rows, volume_rows}

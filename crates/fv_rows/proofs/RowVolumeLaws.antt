@@ -1,5 +1,6 @@
--- Each row of a volume is followed by the rows of its contents. The volumes among the rows of a part are the volumes in
--- this part.
+-- Proves that each row of a volume is followed by the rows of its contents (`rows_followed`). Proves also that the
+-- volumes among the rows of a volume, and among the rows inside a file or a section, are the volumes in this part
+-- (`tree_volumes`, `file_inside`, `section_inside`).
 use Rattle.std.proofs.Common.{◌≡◌, ◌≤◌, ◌∙◌, ◌+◌, ℕ, zero, suc, List, [], ◌∷◌, ◌++◌, length, refl, sym, ap, subst, arith, append_assoc, append-nil, zero-add}
 use Rattle.std.proofs.Math.Nat.{add-zero}
 use Rattle.std.proofs.lemmas.List.{map-id}
@@ -15,7 +16,7 @@ use Rattle.fv_rows.specs.inner.RowVolumes.{Followed, deeper_by, volumes_of}
 
 -- ---- the rows that follow a row
 
--- `most` is at least the number of the rows
+-- each row of some parts is followed by the rows of its contents. `most` is at least the number of the rows
 followed_nodes : (most d n i : ℕ) (nodes : List NodeMeaning) (more : List TreeRow) → length (rows_of_nodes d n i nodes) ≤ most → Followed more
     → Followed (rows_of_nodes d n i nodes ++ more)
 followed_nodes most d n i [] more few next = next
@@ -37,10 +38,14 @@ rows_followed m =
 
 -- ---- the volumes among the rows
 
+-- one level deeper, and then n levels deeper, is n + 1 levels deeper
 one_deeper : (n : ℕ) (vs : List Inside) → deeper_by n (deeper vs) ≡ deeper_by (n + 1) vs
 one_deeper n [] = refl
 one_deeper n (v ∷ vs) = let same : v.depth + 1 + n ≡ v.depth + (n + 1) = omega arith in rw (same, one_deeper n vs)
 
+-- the volumes among the rows of a part, or of the parts in it, and among the rows `more` after these rows are the
+-- volumes in the part and the volumes among `more`. There are n sections around the part, so its volumes are n levels
+-- deeper
 mutual
   pub volume_volumes : (d n : ℕ) (v : Meaning) (more : List TreeRow)
       → volumes_of (rows_of_volume d n v ++ more) ≡ deeper_by n (volumes_in v) ++ volumes_of more
@@ -79,7 +84,7 @@ mutual
   body_volumes d n (Group ss tail) more = sections_volumes d n 0 ss more
   body_volumes d n (Nested v) more = volume_volumes d n v more
 
--- the volumes among the rows of all parts of a volume, of the contents of a file and of a section
+-- the volumes among all rows of a volume, and among the rows inside a file or a section, are the volumes in this part
 pub tree_volumes : (m : Meaning) → volumes_of (tree_rows m) ≡ volumes_in m
 tree_volumes m = simp (append-nil, add-zero, map-id) at (volume_volumes 0 0 m [])
 

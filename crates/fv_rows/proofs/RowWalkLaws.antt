@@ -1,10 +1,10 @@
 -- A walk over the parts of a volume returns the rows of its meaning, and has room for its levels. The steps:
--- 1. The rows of a list of parts are the rows of each part, one after the other (`files_rows`, `sections_rows`,
---    `inside_rows`).
--- 2. The parts in a part nest only as deep as their level allows (`inside_nests`).
+-- 1. The rows of a volume, of its files and of some sections are the rows of a list of parts (`volume_rows`,
+--    `files_rows`, `sections_rows`). So the rows in a part are the rows of the parts that it contains (`inside_rows`).
+-- 2. The parts in a part nest only as deep as their level allows (`nest_in`, `inside_nests`).
 -- 3. The innermost level is split from the others (`left_more`, `levels_more`, `levels_less`).
--- 4. An empty level is dropped (`none_left`), and the walk takes the next row (`next_fits`, `next_left`, `rest_are`). The
---    contents of its part are one more level (`inside_left`, `inside_are`).
+-- 4. An empty level is dropped (`none_left`), and the walk takes the next row (`next_fits`, `next_left`, `rest_are`).
+--    The contents of its part are one more level (`inside_left`, `inside_are`).
 use Rattle.std.proofs.Common.{◌≡◌, ◌≤◌, ◌<◌, ◌+◌, ◌^◌, ℕ, [], ◌∷◌, ◌++◌, List, length, refl, ap, subst, append-nil, append_assoc}
 use Rattle.fv_base.proofs.Laws.{arith, length-append, map, AllByRecursion}
 use Rattle.fv_tree.specs.Words.{Meaning, Volume, FileMeanings, NoFiles, MoreFiles, File}
@@ -19,6 +19,7 @@ use Rattle.fv_rows.specs.declared.tree_walk.Parts.{Parts}
 
 -- ---- the rows of a list of parts
 
+-- a list of sections is the same after `sections_from` and `sections_list`
 pub sections_list_back : (ss : List SectionMeaning) → sections_list (sections_from ss) ≡ ss
 sections_list_back [] = refl
 sections_list_back (s ∷ ss) = ap (λ l. s ∷ l) (sections_list_back ss)
@@ -51,7 +52,7 @@ all_nest : {X : Type 0} (P : X → Type 0) (depth : ℕ) (form : X → NodeMeani
 all_nest P depth form [] nests all = tt
 all_nest P depth form (x ∷ xs) nests (here, more) = (nests x here, all_nest P depth form xs nests more)
 
--- the parts in a part nest within the limit for each depth up to the one below the part
+-- the parts in a part nest only as deep as depth d allows, for each d up to the depth right below the part
 pub nest_in : (depth d : ℕ) (node : NodeMeaning) → d ≤ depth + 1 → NestsAt depth node → AllByRecursion (NestsAt d) (parts_in node)
 nest_in depth d (VolumeNode (Volume h files)) low (n, fits, b, is) =
     all_nest _ d FileNode (files_list files) (λ f is. (n, omega (arith, fits, low), is.0, is.1)) (nests_files h files n (b, is))
@@ -71,16 +72,19 @@ inside_nests depth node nests = nest_in depth (depth + 1) node (omega arith) nes
 
 -- ---- the innermost level
 
+-- the rows that are left are the rows of the innermost level, and then the rows of the other levels
 left_more : (depth at : ℕ) (levels : List Level) (l : Level) → at ≡ depth + length levels
     → left_in depth (levels ++ l ∷ []) ≡ rows_of_nodes at l.nesting l.number (nodes_of l.parts) ++ left_in depth levels
 left_more depth at [] l is = let same : at ≡ depth = omega (arith, is) in rw (append-nil, same)
 left_more depth at (outer ∷ levels) l is = simp (left_more (depth + 1) at levels l (omega (arith, is)), append_assoc)
 
+-- some levels and a level that fits right below them are levels
 levels_more : (depth at : ℕ) (levels : List Level) (l : Level) → at ≡ depth + length levels → AreLevels depth levels → FitsAt at l
     → AreLevels depth (levels ++ l ∷ [])
 levels_more depth at [] l is are fits = (subst (λ d. FitsAt d l) (omega (arith, is)) fits, tt)
 levels_more depth at (outer ∷ levels) l is (here, more) fits = (here, levels_more (depth + 1) at levels l (omega (arith, is)) more fits)
 
+-- the innermost level fits at its depth, and the other levels fit without it
 pub levels_less : (depth at : ℕ) (levels : List Level) (l : Level) → at ≡ depth + length levels → AreLevels depth (levels ++ l ∷ [])
     → AreLevels depth levels × FitsAt at l
 levels_less depth at [] l is (here, none) = (tt, subst (λ d. FitsAt d l) (omega (arith, is)) here)
@@ -89,6 +93,7 @@ levels_less depth at (outer ∷ levels) l is (here, more) =
 
 -- ---- the next row
 
+-- `left_more` for all levels of a walk: the first of them is at depth 0
 left_at : (levels : List Level) (l : Level)
     → left_in 0 (levels ++ l ∷ []) ≡ rows_of_nodes (length levels) l.nesting l.number (nodes_of l.parts) ++ left_in 0 levels
 left_at levels l = left_more 0 (length levels) levels l (omega arith)
@@ -102,6 +107,7 @@ pub deep : (depth : ℕ) (node : NodeMeaning) → NestsAt depth node → depth �
 deep depth (VolumeNode v) nests = omega (arith, nests.1)
 deep depth node nests = omega (arith, nests.1)
 
+-- the number of sections around the contents of a part is at most their depth
 nesting_small : (depth nesting : ℕ) (node : NodeMeaning) → nesting ≤ depth → nesting_inside nesting node ≤ depth + 1
 nesting_small depth nesting (VolumeNode v) small = omega (arith, small)
 nesting_small depth nesting node small = omega (arith, small)
@@ -110,8 +116,10 @@ nesting_small depth nesting node small = omega (arith, small)
 abbrev pub rest_of : Level → Parts → Level
 rest_of l rest = record { number = l.number + 1; nesting = l.nesting; parts = rest }
 
+-- `node` is the first part of the innermost level `l`, and `rest` are the parts after it
 module _ (levels : List Level) (l : Level) (node : NodeMeaning) (rest : Parts) (is : nodes_of l.parts ≡ node ∷ nodes_of rest)
     (are : AreLevels 0 (levels ++ l ∷ [])) where
+  -- the outer levels fit, and the innermost level fits below them
   apart : AreLevels 0 levels × (AllByRecursion (NestsAt (length levels)) (node ∷ nodes_of rest)
       × (l.number + length (node ∷ nodes_of rest) < 2 ^ 63) × (l.nesting ≤ length levels))
   apart = rw is at (levels_less 0 (length levels) levels l (omega arith) are)
@@ -121,6 +129,7 @@ module _ (levels : List Level) (l : Level) (node : NodeMeaning) (rest : Parts) (
   next_fits =
       let room = deep (length levels) node apart.1.0.0 in (room, omega (arith, apart.1.1), omega (arith, room, apart.1.2))
 
+  -- the levels also fit without this part
   pub rest_are : AreLevels 0 (levels ++ rest_of l rest ∷ [])
   rest_are = levels_more 0 (length levels) levels (rest_of l rest) (omega arith) apart.0 (apart.1.0.1, omega (arith, apart.1.1), apart.1.2)
 
@@ -131,12 +140,13 @@ module _ (levels : List Level) (l : Level) (node : NodeMeaning) (rest : Parts) (
   next_left = rw (left_at levels l, left_at levels (rest_of l rest), is, ← inside_rows _ _ node, append_assoc)
 
   module _ (nesting : ℕ) (parts : Parts) (below : nesting ≡ nesting_inside l.nesting node) (within : nodes_of parts ≡ parts_in node) where
-    -- its contents are one more level
+    -- the contents of the first part are one more level, and the rows that are left begin with its row
     pub inside_left : left_in 0 (levels ++ l ∷ [])
         ≡ record { depth = length levels; nesting = l.nesting; number = l.number; node = node }
         ∷ left_in 0 ((levels ++ rest_of l rest ∷ []) ++ record { number = 0; nesting = nesting; parts = parts } ∷ [])
     inside_left = rw (left_at (levels ++ rest_of l rest ∷ []) _, length-append levels _, below, within) next_left
 
+    -- the levels fit with this level
     pub inside_are : length (nodes_of parts) < 2 ^ 63
         → AreLevels 0 ((levels ++ rest_of l rest ∷ []) ++ record { number = 0; nesting = nesting; parts = parts } ∷ [])
     inside_are few =

@@ -11,8 +11,9 @@ pub record IsWritten {A : Type 0} (rows old new : List A) (result : ℕ) : Type 
   pub room : result ≡ 0 → length rows ≤ length old
   pub only : (result ≡ 0) ⊎ (result ≡ 256)
 
--- the result of a call that extracts the part of a row of a volume: the buffer begins with the part, or it is too short
--- for the part, or the volume has no such row. `after` is then the length of the part, or the length before the call
+-- the result of a call that extracts the part of a row of a volume: the buffer begins with the part (0), or the buffer
+-- is too short for the part (256), or the volume has no such row (257). `after` is the length of the part. If the
+-- volume has no such row, `after` is the length `before` the call
 pub record Extracts (row : ℕ) (input old new : List ℕ) (before after result : ℕ) : Type 0 where
   pub ok : result ≡ 0 → (bytes : List ℕ) × ExtractsTo row input bytes × (after ≡ length bytes) × (new ≡ bytes ++ drop (length bytes) old)
   pub kept : result ≢ 0 → new ≡ old

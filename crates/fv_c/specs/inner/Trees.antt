@@ -25,7 +25,8 @@ abbrev pub HasFiles : (input : List ℕ) (row : FvNode) → List LocatedFile →
 HasFiles input row stored =
     row.content ≡ 0 → BeginWithFiles (bytes_at input row) (map (file_form (bytes_at input row)) stored)
 
--- the row of part number n that the holder's row holds. `next` is the offset of a section
+-- the row of part number n that the holder's row holds (`row_in`), and its report for C (`node_in`). `file_in` is the
+-- report of a file, and `next` is the offset of a section in the bytes of the holder's row
 abbrev pub row_in : Holder → (n : ℕ) → NodeMeaning → TreeRow
 row_in h n node = record { parent = h.row; depth = h.depth; number = n; node = node }
 
@@ -51,7 +52,8 @@ IsWithin most row = row.offset + row.length < most
 
 -- ---- the rows of the parts that a row holds
 
--- the bytes of this row are a volume, a volume with file number i, or a stream with section number i
+-- the bytes of this row hold this part: they are this volume, a volume whose file number i is this file, or a stream
+-- whose section number i is this section
 abbrev pub HoldsAt : (input : List ℕ) (row : FvNode) (i : ℕ) → NodeMeaning → Type 0
 HoldsAt input row i (VolumeNode m) =
     (row.content ≡ 3) × (row.length ≡ length_of m) × (IsBytes (bytes_at input row) → Accepted (bytes_at input row) m)
@@ -60,8 +62,8 @@ HoldsAt input row i (FileNode f) =
 HoldsAt input row i (SectionNode s) =
     (row.content ≡ 2) × (ss : List SectionMeaning) × (tail : ℕ) × Stream depth_limit ss tail (bytes_at input row) × (slice_get ss i ≡ Some s)
 
--- the part of this row holds these parts. If the number for its contents is 0, it is a volume, and if the number is 1,
--- it holds no part
+-- the part of this row holds these parts. If `content` is 0, the bytes of the row are a volume. If `content` is 1, the
+-- part of the row holds no part
 pub record Contents (input : List ℕ) (row : FvNode) (nodes : List NodeMeaning) : Type 0 where
   pub volume : row.content ≡ 0 → (m : Meaning) × Accepted (bytes_at input row) m
   pub none : row.content ≡ 1 → nodes ≡ []
@@ -90,8 +92,8 @@ abbrev pub AreRows : (input : List ℕ) → List Row → List FvNode → Type 0
 AreRows input walked rows = Pairwise (IsNodeIn input rows) rows (with_parents [] walked)
 
 -- `new` are the rows `old` and the rows of these parts at this depth, each followed by the rows inside it. The row
--- `parent` holds the parts, and the first of them has this number. If `old` are the rows of a tree up to these parts,
--- `new` are rows of the tree
+-- `parent` holds the parts, and the first of them has this number. If `old` are a report of the rows `walked` of a
+-- tree, `new` are a report of the rows `walked` and the rows of these parts
 pub record AreAdded (input : List ℕ) (parent depth number : ℕ) (nodes : List NodeMeaning) (old new : List FvNode) : Type 0 where
   pub more : List FvNode
   pub joined : new ≡ old ++ more

@@ -8,6 +8,7 @@ use Rattle.fv_c.proofs.laws.rows_have_their_bytes.Goals as goal
 pub returns-clause-volume : goal.returns-clause-volume
 returns-clause-volume c input rows row r m own is = (rw is at own.placed).0
 
+-- the payload of a file whose data are plain bytes is these bytes
 plain_is : (f : FileForm) (m : FileMeaning) (b : List ℕ) → MeansFile (Stream depth_limit) f m → plain_of (content_of m) ≡ Some b
     → f.payload ≡ b
 plain_is f (File name kind attributes (Plain c)) b (p, q, r, (h, same)) e = cc
@@ -17,6 +18,7 @@ pub returns-clause-file : goal.returns-clause-file
 returns-clause-file c input rows row r m b own is plain =
     let (holder, at, file) = rw is at own.placed in file.payload ∙ plain_is file.file m b file.means plain
 
+-- the body of a frame whose section holds plain bytes is these bytes
 leaf_is : (f : FrameForm) (s : SectionMeaning) (b : List ℕ) → MeansSection depth_limit f s → leaf_of (body_of s) ≡ Some b → f.body ≡ b
 leaf_is f (Section kind extended (Leaf c)) b (p, q, (g, o, same)) e = cc
 leaf_is f (Section kind extended (Group ss tail)) b means e = cc

@@ -8,12 +8,12 @@ use Rattle.fv_c.proofs.TreeLoop.{Putting, none_added, part_holds, part_lies, put
 use Rattle.fv_c.proofs.tree.+put_parts.Goals.{After-node_in-node, In-Some}
 use Rattle.fv_c.proofs.tree.+put_parts.Goals as goal
 
--- the rows so far, and the next part
+-- the invariant, with the next part before the parts that are left
 putting : (t : ℕ) (c : In-Some t) → Putting c.args.input.now c.args.holder.now (nodes_of c.args.parts) c.args.rows.now.items
     (part_node c.in-Some.part ∷ nodes_of c.next_part.new.parts) c.loop-part.number c.loop-part.next c.loop-part.rows.items
 putting t c = rw c.in-Some.ensures.some at c.loop-part.invariant
 
--- the row of the next part
+-- the new row reports the next part
 found : (t : ℕ) (c : After-node_in-node t) → IsNodeIn c.args.input.now c.loop-part.rows.items c.node_in-node.result
     (row_in c.args.holder.now c.loop-part.number (part_node c.in-Some.part))
 found t c = row_found (rw c.in-Some.ensures.some at c.loop-part.invariant) c.node_in-node.result c.node_in-node.ensures

@@ -7,6 +7,7 @@ use Rattle.fv_c.specs.inner.Trees.{whole_node}
 use Rattle.fv_c.proofs.TreeLoop.{none_added, tree_put, whole_holds}
 use Rattle.fv_c.proofs.tree.rows_of.Goals as goal
 
+-- if there are no files, there are no parts
 no_nodes : (fs : List FileMeaning) → length fs ≡ 0 → map FileNode fs ≡ []
 no_nodes fs none = grind (arith, common_steps)
 

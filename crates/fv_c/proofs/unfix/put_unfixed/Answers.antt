@@ -4,7 +4,7 @@ use Rattle.fv_base.specs.declared.fault.Fault.{Fault}
 use Rattle.fv_tree.specs.Words.{IsUnfixed}
 use Rattle.fv_c.proofs.unfix.put_unfixed.Goals as goal
 
--- bytes whose marks can be taken away have lost them
+-- if the marks in the bytes can be taken away, the call has taken them away
 unfixed : {A : Type 0} (r : Result A Fault) (b new o : List ℕ) → IsUnfixed b o → OnOk r (IsUnfixed b new)
     → IfErr r (λ _. (x : List ℕ) → IsUnfixed b x → ⊥) → IsUnfixed b new
 unfixed (Ok x) b new o to done none = done
